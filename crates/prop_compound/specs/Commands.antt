@@ -1,0 +1,23 @@
+-- The commands, as they stand on a line: words, and numbers where a number of the range was read.
+use Rattle.std.specs.Prelude.{ℕ, ℤ, List, Option}
+
+-- a word, or words in braces
+pub data Value : Type 0 where
+  Bare : List ℕ → Value
+  Braces : List (List ℕ) → Value
+
+pub data KindWord : Type 0 where
+  Spans : KindWord
+
+-- what follows `by`
+pub data By : Type 0 where
+  Nothing : By
+  Number : Option ℤ → By
+  Relation : List ℕ → By
+
+pub data Command : Type 0 where
+  Cell : (name : List ℕ) → (kind : KindWord) → Command
+  Attach : (name : List ℕ) → (cells : List (List ℕ)) → (by : By) → Command
+  Fix : (cell : List ℕ) → (value : Value) → Command
+  Settle : Command
+  Ask : (cell : List ℕ) → Command

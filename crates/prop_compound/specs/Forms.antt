@@ -1,0 +1,88 @@
+-- The form of each command: what is read from the tokens after its word.
+use Rattle.std.specs.Prelude.{ℕ, List, [], ◌∷◌, ◌++◌, cond, codes, bytes_eq, Option, Some, None, pos}
+use Rattle.std.specs.Option.{option_map, option_and_then}
+use Rattle.prop_compound.specs.Tokens.{Token, Word, Open, Close}
+use Rattle.prop_compound.specs.Names.{looks_like_number, number_in}
+use Rattle.prop_compound.specs.Commands.{Value, Bare, Braces, KindWord, Spans, By, Command}
+
+-- an item before items, where there are both
+abbrev pub join : {X : Type 0} → Option X → Option (List X) → Option (List X)
+join (Some x) (Some xs) = Some (x ∷ xs)
+join (Some x) None = None
+join None xs = None
+
+-- no tokens
+abbrev pub bare : Command → List Token → Option Command
+bare command [] = Some command
+bare command (t ∷ ts) = None
+
+-- one word
+abbrev pub on_word : (List ℕ → Command) → List Token → Option Command
+on_word command (Word w ∷ []) = Some (command w)
+on_word command ts = None
+
+abbrev pub kind_word : List ℕ → Option KindWord
+kind_word w = cond (bytes_eq w (codes "span")) (Some Spans) None
+
+-- X KIND
+abbrev pub cell : List Token → Option Command
+cell (Word name ∷ Word kind ∷ []) = option_map (Command.Cell name) (kind_word kind)
+cell ts = None
+
+-- a number where the word begins as one, and else a relation
+abbrev pub parameter : List ℕ → By
+parameter w = cond (looks_like_number w) (By.Number (number_in (pos 1) (pos 1_000_000_000) w)) (By.Relation w)
+
+-- what follows `by`: one word
+abbrev pub by_form : List Token → Option By
+by_form (Word p ∷ []) = Some (parameter p)
+by_form ts = None
+
+abbrev pub with_cell : List ℕ → List (List ℕ) × By → List (List ℕ) × By
+with_cell x (xs, by) = (x ∷ xs, by)
+
+-- cells, and what follows the first `by`
+abbrev pub cells_by : List Token → Option (List (List ℕ) × By)
+cells_by [] = Some ([], By.Nothing)
+cells_by (Word w ∷ ts) =
+    cond (bytes_eq w (codes "by")) (option_map (λ by. ([], by)) (by_form ts)) (option_map (with_cell w) (cells_by ts))
+cells_by (t ∷ ts) = None
+
+-- N X.. [by P]: a name, one cell or more, and maybe a parameter
+abbrev pub attach : List Token → Option Command
+attach (Word n ∷ Word x ∷ ts) = option_map (λ rest. Command.Attach n (x ∷ rest.0) rest.1) (cells_by ts)
+attach ts = None
+
+abbrev mutual
+  -- the values that words and braces make
+  pub values : List Token → Option (List Value)
+  values [] = Some []
+  values (Word w ∷ ts) = join (Some (Bare w)) (values ts)
+  values (Open ∷ ts) = in_braces [] ts
+  values (t ∷ ts) = None
+
+  -- the same, where these words stand behind an open brace
+  pub in_braces : List (List ℕ) → List Token → Option (List Value)
+  in_braces ws [] = None
+  in_braces ws (Word w ∷ ts) = in_braces (ws ++ w ∷ []) ts
+  in_braces ws (Close ∷ ts) = join (Some (Braces ws)) (values ts)
+  in_braces ws (t ∷ ts) = None
+
+abbrev pub one_value : List Value → Option Value
+one_value (v ∷ []) = Some v
+one_value vs = None
+
+-- X V
+abbrev pub fix : List Token → Option Command
+fix (Word x ∷ ts) = option_and_then (λ vs. option_map (Command.Fix x) (one_value vs)) (values ts)
+fix ts = None
+
+-- the form of each command, behind its word
+abbrev pub forms : List (List ℕ × (List Token → Option Command))
+forms =
+    (codes "cell", cell)
+    ∷ (codes "attach", attach)
+    ∷ (codes "fix", fix)
+    ∷ (codes "settle", bare Command.Settle)
+    ∷ (codes "ask", on_word Command.Ask)
+    ∷ []

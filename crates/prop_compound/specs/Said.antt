@@ -1,0 +1,43 @@
+-- Commands without where their words lie in memory.
+use Rattle.std.specs.Prelude.{◌≡◌, ◌⊎◌, map, List, ℕ, Option, Some, None, Result, Ok, Err}
+use Rattle.std.specs.Borrow.{Bor}
+use Rattle.prop_lattice.specs.declared.refusal.Refusal.{Refusal}
+use Rattle.prop_lattice.specs.declared.refusal.Refusal.TheVariants.{Memory}
+use Rattle.prop_compound.specs.Commands as commands
+use Rattle.prop_compound.specs.declared.command.Value.{Value}
+use Rattle.prop_compound.specs.declared.command.Value.TheVariants.{Bare, Braces}
+use Rattle.prop_compound.specs.declared.command.KindWord.{KindWord}
+use Rattle.prop_compound.specs.declared.command.KindWord.TheVariants.{Spans}
+use Rattle.prop_compound.specs.declared.command.By.{By}
+use Rattle.prop_compound.specs.declared.command.By.TheVariants as bys
+use Rattle.prop_compound.specs.declared.command.Command.{Command}
+use Rattle.prop_compound.specs.declared.command.Command.TheVariants.{Silent, Cell, Attach, Fix, Settle, Ask}
+
+abbrev pub words : List (Bor (List ℕ)) → List (List ℕ)
+words items = map (λ (w : Bor (List ℕ)). w.now) items
+
+abbrev pub value_of : Value → commands.Value
+value_of (Bare word) = commands.Bare word.now
+value_of (Braces items) = commands.Braces (words items.items)
+
+abbrev pub kind_of : KindWord → commands.KindWord
+kind_of Spans = commands.Spans
+
+abbrev pub by_of : By → commands.By
+by_of bys.Nothing = commands.By.Nothing
+by_of (bys.Number k) = commands.By.Number (Some k)
+by_of (bys.Relation name) = commands.By.Relation name.now
+
+-- what the command says, None where it is silent
+abbrev pub said : Command → Option commands.Command
+said Silent = None
+said (Cell name kind) = Some (commands.Command.Cell name.now (kind_of kind))
+said (Attach name cells by) = Some (commands.Command.Attach name.now (words cells.items) (by_of by))
+said (Fix cell value) = Some (commands.Command.Fix cell.now (value_of value))
+said Settle = Some commands.Command.Settle
+said (Ask cell) = Some (commands.Command.Ask cell.now)
+
+-- What a reader answers is what the grammar reads, and a refusal is the grammar's, unless memory runs out.
+abbrev pub Reads : Result Command Refusal → Result (Option commands.Command) Refusal → Type 0
+Reads (Ok command) read = read ≡ Ok (said command)
+Reads (Err refusal) read = (refusal ≡ Memory) ⊎ (read ≡ Err refusal)

@@ -1,0 +1,33 @@
+//! Commands, as they stand on a line.
+
+/// What stands in a value's place: a word, or words in braces.
+#[derive(Debug, Drop)]
+pub enum Value<'a> {
+    Bare(&'a [u8]),
+    Braces(Vec<&'a [u8]>),
+}
+
+/// The word for a cell's kind.
+#[derive(Clone, Copy, Debug, PartialEq, Eq)]
+pub enum KindWord {
+    Spans,
+}
+
+/// What follows `by`: nothing, a number from 1 to 1,000,000,000, or a relation's name.
+#[derive(Clone, Copy, Debug)]
+pub enum By<'a> {
+    Nothing,
+    Number(i64),
+    Relation(&'a str),
+}
+
+/// A command with its words and numbers as read. `Silent` is a line that gets no reply.
+#[derive(Debug, Drop)]
+pub enum Command<'a> {
+    Silent,
+    Cell(&'a str, KindWord),
+    Attach(&'a str, Vec<&'a str>, By<'a>),
+    Fix(&'a str, Value<'a>),
+    Settle,
+    Ask(&'a str),
+}

@@ -1,0 +1,6 @@
+//! What a line of the workbench's language says.
+#![tactic(auto)]
+
+pub mod command;
+
+pub use command::{By, Command, KindWord, Value};
