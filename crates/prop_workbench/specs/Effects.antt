@@ -1,0 +1,34 @@
+-- What a command that isn't refused does to the state.
+use Rattle.std.specs.Prelude.{ℕ, List, [], ◌∷◌, ◌++◌, Option, None, Result, Ok, Err, unwrap_or}
+use Rattle.std.specs.Option.{option_map_or}
+use Rattle.prop_lattice.specs.declared.info.Info.{Info}
+use Rattle.prop_lattice.specs.declared.info.Info.TheVariants.{Nothing}
+use Rattle.prop_lattice.specs.declared.info.Kind.TheVariants as kinds
+use Rattle.prop_lattice.specs.declared.refusal.Refusal.{Refusal}
+use Rattle.prop_procedures.specs.declared.shape.Kinded.{Kinded}
+use Rattle.prop_procedures.specs.Stored.{Stored, procedure_number, span_kind}
+use Rattle.prop_compound.specs.Commands.{KindWord, Spans, Value, Command}
+use Rattle.prop_cells.specs.Instances.{attached}
+use Rattle.prop_workbench.specs.Names.{number_in, numbers_in}
+use Rattle.prop_workbench.specs.Machine.{State}
+use Rattle.prop_workbench.specs.Refusing.{value_at}
+
+abbrev pub kind_named : KindWord → Kinded
+kind_named Spans = span_kind
+
+abbrev pub info_in : Result Info Refusal → Info
+info_in (Ok info) = info
+info_in (Err refusal) = Nothing
+
+-- the information that the value says at the cell with the name
+abbrev pub info_at : State → List ℕ → Value → Info
+info_at s cell value = option_map_or info_in (value_at s cell value) Nothing
+
+-- the state after the command; a command that runs the network changes nothing here
+abbrev pub effect : List Stored → State → Command → State
+effect library s (Command.Cell name kind) = record s { names = s.names ++ name ∷ []; kinds = s.kinds ++ kind_named kind ∷ [] }
+effect library s (Command.Attach name cells by) =
+    record s { instances = s.instances ++ attached library (unwrap_or (procedure_number library name) 0) (numbers_in s.names cells) }
+effect library s (Command.Fix cell value) =
+    record s { statements = s.statements ++ record { premise = None; cell = unwrap_or (number_in s.names cell) 0; info = info_at s cell value } ∷ [] }
+effect library s command = s

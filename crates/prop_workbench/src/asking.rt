@@ -1,0 +1,86 @@
+//! The commands that run the network and answer what follows.
+ghost use Rattle.std.specs.Prelude.{◌≡◌, ℕ, length};
+
+use crate::reply::Reply;
+use crate::session::Session;
+use crate::texts::{text_reply, value_reply};
+use prop_lattice::Refusal;
+use prop_procedures::Rule;
+use prop_scheduler::{Order, Run, run};
+use std::alloc::AllocError;
+
+impl<R: Rule + Drop, O: Order + Drop> Session<R, O> {
+    ghost use Rattle.std.specs.Prelude.{◌≡◌, ◌≤◌, IfOk};
+    ghost use Rattle.prop_scheduler.specs.Turns.{IsSettled};
+    ghost use Rattle.prop_compound.specs.Commands as commands;
+    ghost use Rattle.prop_workbench.specs.Answers.{answer_of};
+    ghost use Rattle.prop_workbench.specs.Running.{Outcome, outcome_of, MayEnd};
+    ghost use Rattle.prop_workbench.specs.Sessions.{state_of, library_of, IsSound, IsMeant};
+    ghost use Rattle.prop_workbench.specs.Steps.{Obeys};
+
+    /// Runs the network, and tells how that ended and in how many steps.
+    fn run_network(&mut self) -> Result<(Run, u64), AllocError>
+        requires means { IsMeant R.value_of self.old }
+        requires sound { IsSound R.value_of self.old }
+        ensures same { self.new.network.library ≡ self.old.network.library }
+        ensures sound { IsSound R.value_of self.new }
+        ensures names { self.new.names ≡ self.old.names }
+        ensures state { state_of self.new ≡ state_of self.old }
+        ensures ends { IfOk result (λ r. MayEnd (library_of R.value_of self.old) (state_of self.old) (outcome_of r.0)) }
+        ensures settled { IfOk result (λ r. r.0 ≡ Run.Quiet → IsSettled (library_of R.value_of self.old) self.new.network.cells) }
+        ensures within { IfOk result (λ r. r.1 ≤ (state_of self.old).limit) }
+        ensures spent { IfOk result (λ r. r.0 ≡ Run.Spent → r.1 ≡ (state_of self.old).limit) }
+    {
+        run(
+            self.alloc,
+            &mut self.network,
+            &mut self.agenda,
+            &mut self.order,
+            self.limit,
+        )
+    }
+
+    /// What follows for a cell.
+    pub(crate) fn ask(&mut self, name: &str) -> (Reply, u64)
+        requires means { IsMeant R.value_of self.old }
+        requires sound { IsSound R.value_of self.old }
+        ensures same { self.new.network.library ≡ self.old.network.library }
+        ensures sound { IsSound R.value_of self.new }
+        ensures step { Obeys (library_of R.value_of self.old) (state_of self.old) (commands.Command.Ask name.now) (answer_of result.0) (state_of self.new) result.1 }
+    {
+        let cell = match self.names.find(name) {
+            Some(cell) => cell,
+            None => return (Reply::Refused(Refusal::NoSuchCell), 0),
+        };
+        let (end, steps) = match self.run_network() {
+            Ok(ended) => ended,
+            Err(AllocError) => return (Reply::Refused(Refusal::Memory), 0),
+        };
+        self.network.cells().well_made();
+        let info = self.network.cells().info(cell);
+        match end {
+            Run::Quiet => (value_reply(self.alloc, name, info, ""), steps),
+            Run::Clash => (text_reply(self.alloc, "contradiction: no premise"), steps),
+            Run::Spent => (value_reply(self.alloc, name, info, " unsettled"), steps),
+        }
+    }
+
+    /// Whether the network comes to rest.
+    pub(crate) fn settle(&mut self) -> (Reply, u64)
+        requires means { IsMeant R.value_of self.old }
+        requires sound { IsSound R.value_of self.old }
+        ensures same { self.new.network.library ≡ self.old.network.library }
+        ensures sound { IsSound R.value_of self.new }
+        ensures step { Obeys (library_of R.value_of self.old) (state_of self.old) commands.Command.Settle (answer_of result.0) (state_of self.new) result.1 }
+    {
+        let (end, steps) = match self.run_network() {
+            Ok(ended) => ended,
+            Err(AllocError) => return (Reply::Refused(Refusal::Memory), 0),
+        };
+        match end {
+            Run::Quiet => (text_reply(self.alloc, "settled"), steps),
+            Run::Clash => (text_reply(self.alloc, "contradiction: no premise"), steps),
+            Run::Spent => (text_reply(self.alloc, "unsettled"), steps),
+        }
+    }
+}
