@@ -1,17 +1,35 @@
 -- What a command that isn't refused does to the state.
-use Rattle.std.specs.Prelude.{ℕ, List, [], ◌∷◌, ◌++◌, Option, None, Result, Ok, Err, unwrap_or}
-use Rattle.std.specs.Option.{option_map_or}
+use Rattle.std.specs.Prelude.{ℕ, ◌-◌, List, [], ◌∷◌, ◌++◌, Option, None, Result, Ok, Err, length, take, slice_get, slice_index_or, unwrap_or}
+use Rattle.std.specs.Option.{option_map_or, option_and_then}
 use Rattle.prop_lattice.specs.declared.info.Info.{Info}
 use Rattle.prop_lattice.specs.declared.info.Info.TheVariants.{Nothing}
 use Rattle.prop_lattice.specs.declared.info.Kind.TheVariants as kinds
 use Rattle.prop_lattice.specs.declared.refusal.Refusal.{Refusal}
 use Rattle.prop_procedures.specs.declared.shape.Kinded.{Kinded}
 use Rattle.prop_procedures.specs.Stored.{Stored, procedure_number, span_kind}
-use Rattle.prop_compound.specs.Commands.{KindWord, Spans, Value, Command}
-use Rattle.prop_cells.specs.Instances.{attached}
+use Rattle.prop_compound.specs.Commands.{By, KindWord, Spans, Value, Command}
+use Rattle.prop_procedures.specs.declared.shape.Param.TheVariants.{Plain}
+use Rattle.prop_cells.specs.Instances.{Instance, fitting_param}
 use Rattle.prop_workbench.specs.Names.{number_in, numbers_in}
 use Rattle.prop_workbench.specs.Machine.{State}
-use Rattle.prop_workbench.specs.Refusing.{value_at}
+use Rattle.prop_workbench.specs.Refusing.{value_at, given_by}
+
+-- the cells that an instance reads: all but the last
+abbrev pub inputs_of : List ℕ → List ℕ
+inputs_of cells = take (length cells - 1) cells
+
+-- the cell that an instance writes: the last
+abbrev pub output_of : List ℕ → ℕ
+output_of cells = slice_index_or cells (length cells - 1) 0
+
+-- the instance that a use of the procedure of this number makes
+abbrev pub instance_made : List Stored → ℕ → By → List ℕ → Instance
+instance_made library n by cells = record {
+  procedure = n;
+  param = unwrap_or (option_and_then (λ p. fitting_param p.need (given_by by)) (slice_get library n)) Plain;
+  inputs = inputs_of cells;
+  output = output_of cells;
+}
 
 abbrev pub kind_named : KindWord → Kinded
 kind_named Spans = span_kind
@@ -28,7 +46,7 @@ info_at s cell value = option_map_or info_in (value_at s cell value) Nothing
 abbrev pub effect : List Stored → State → Command → State
 effect library s (Command.Cell name kind) = record s { names = s.names ++ name ∷ []; kinds = s.kinds ++ kind_named kind ∷ [] }
 effect library s (Command.Attach name cells by) =
-    record s { instances = s.instances ++ attached library (unwrap_or (procedure_number library name) 0) (numbers_in s.names cells) }
+    record s { instances = s.instances ++ instance_made library (unwrap_or (procedure_number library name) 0) by (numbers_in s.names cells) ∷ [] }
 effect library s (Command.Fix cell value) =
     record s { statements = s.statements ++ record { premise = None; cell = unwrap_or (number_in s.names cell) 0; info = info_at s cell value } ∷ [] }
 effect library s command = s

@@ -1,17 +1,19 @@
 -- For what a command is refused in a state: each condition by itself, and which of them comes first.
-use Rattle.std.specs.Prelude.{ℕ, List, [], ◌∷◌, Bool, true, false, cond, ◌==◌, nat_le, Option, Some, None, Result, Ok, Err, find, length, is_some, is_none, unwrap_or}
+use Rattle.std.specs.Prelude.{ℕ, List, [], ◌∷◌, Bool, true, false, cond, not, ◌+◌, ◌==◌, ◌||◌, nat_le, Option, Some, None, Result, Ok, Err, find, length, is_some, is_none, slice_get}
 use Rattle.std.specs.List.{list_any}
-use Rattle.std.specs.Option.{option_map, option_map_or}
+use Rattle.std.specs.Option.{option_map, option_map_or, option_and_then}
 use Rattle.prop_lattice.specs.declared.info.Info.{Info}
 use Rattle.prop_lattice.specs.declared.refusal.Limit.{Limit}
 use Rattle.prop_lattice.specs.declared.refusal.Limit.TheVariants.{Cells, Instances, Statements}
 use Rattle.prop_lattice.specs.declared.refusal.Refusal.{Refusal}
-use Rattle.prop_lattice.specs.declared.refusal.Refusal.TheVariants.{NotANumber, NameTaken, NoSuchRelation, NoSuchCell, NoSuchProcedure, WrongKind, WrongParameter, EmptyValue, LimitReached}
+use Rattle.prop_lattice.specs.declared.refusal.Refusal.TheVariants.{NotANumber, NameTaken, NoSuchRelation, NoSuchCell, NoSuchProcedure, WrongCount, WrongKind, WrongParameter, EmptyValue, LimitReached}
 use Rattle.prop_lattice.specs.Refusals.{number_of, most}
-use Rattle.prop_procedures.specs.Stored.{Stored, procedure_number}
+use Rattle.prop_procedures.specs.declared.shape.Param.{Param}
+use Rattle.prop_procedures.specs.declared.shape.Param.TheVariants as params
+use Rattle.prop_procedures.specs.Stored.{Stored, procedure_number, are_right}
 use Rattle.prop_compound.specs.Commands.{By, Value, Command}
 use Rattle.prop_compound.specs.Values.{value_said}
-use Rattle.prop_cells.specs.Instances.{kind_at, attach_refusal}
+use Rattle.prop_cells.specs.Instances.{kind_at, places_of, fitting_param}
 use Rattle.prop_workbench.specs.Names.{number_in, numbers_in}
 use Rattle.prop_workbench.specs.Machine.{State}
 
@@ -50,16 +52,32 @@ abbrev pub procedures_in : Command → List (List ℕ)
 procedures_in (Command.Attach name cells by) = name ∷ []
 procedures_in command = []
 
--- why the network refuses the instance
-abbrev pub instance_refusal : List Stored → State → Command → Option Refusal
-instance_refusal library s (Command.Attach name cells by) =
-    attach_refusal library s.kinds (unwrap_or (procedure_number library name) 0) (numbers_in s.names cells)
-instance_refusal library s command = None
+-- the procedure with the name, as the library has it
+abbrev pub procedure_named : List Stored → List ℕ → Option Stored
+procedure_named library name = option_and_then (λ n. slice_get library n) (procedure_number library name)
 
--- a number is given to a procedure that takes none
-abbrev pub is_number_given : Command → Bool
-is_number_given (Command.Attach name cells (By.Number n)) = true
-is_number_given command = false
+-- what a command gives with its procedure
+abbrev pub given_by : By → Option Param
+given_by By.Nothing = None
+given_by (By.Number k) = option_map params.Scale k
+given_by (By.Relation name) = None
+
+-- the procedure has another count of places
+abbrev pub is_count_wrong : List Stored → Command → Bool
+is_count_wrong library (Command.Attach name cells by) = option_map_or (λ p. not (length cells == length p.ins + 1)) (procedure_named library name) false
+is_count_wrong library command = false
+
+-- some cell's kind doesn't fit its place
+abbrev pub is_kind_wrong : List Stored → State → Command → Bool
+is_kind_wrong library s (Command.Attach name cells by) =
+    option_map_or (λ p. not (are_right (places_of p s.kinds (numbers_in s.names cells)))) (procedure_named library name) false
+is_kind_wrong library s command = false
+
+-- a parameter is given where none is taken, or is of the other sort
+abbrev pub is_param_wrong : List Stored → Command → Bool
+is_param_wrong library (Command.Attach name cells by) =
+    option_map_or (λ p. is_none (fitting_param p.need (given_by by))) (procedure_named library name) false
+is_param_wrong library command = false
 
 -- what the command takes one more of, with how many there are
 abbrev pub growing : State → Command → List (Limit × ℕ)
@@ -89,9 +107,9 @@ refusal_of library s command =
     ∷ when NoSuchRelation (is_relation_missing command)
     ∷ when NoSuchCell (list_any (λ name. is_none (number_in s.names name)) (cells_in command))
     ∷ when NoSuchProcedure (list_any (λ name. is_none (procedure_number library name)) (procedures_in command))
-    ∷ instance_refusal library s command
-    ∷ when WrongKind (is_value_refused s command WrongKind)
-    ∷ when WrongParameter (is_number_given command)
+    ∷ when WrongCount (is_count_wrong library command)
+    ∷ when WrongKind (is_value_refused s command WrongKind || is_kind_wrong library s command)
+    ∷ when WrongParameter (is_param_wrong library command)
     ∷ when EmptyValue (is_value_refused s command EmptyValue)
     ∷ option_map LimitReached (limit_reached s command)
     ∷ []
