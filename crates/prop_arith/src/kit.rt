@@ -1,25 +1,27 @@
-//! The rules of the kit.
-ghost use Rattle.std.specs.Prelude.{◌≡◌, codes};
-ghost use Rattle.prop_arith.specs.Kit.{FormOf, value_of, Related, ins_of, out_of, need_of};
+//! The rules of the kit: their names, their forms and what they answer.
+ghost use Rattle.std.specs.Prelude.{◌≡◌};
+ghost use Rattle.prop_arith.specs.Kit.{FormOf, value_of, Related, in_order, name_of, ins_of, out_of, need_of, AddIsNarrowest};
 ghost use Rattle.prop_arith.specs.KitLaws.{kit_monotone, kit_keeps_kind, kit_sound};
 
 use prop_intervals::add;
 use prop_lattice::Info;
 use prop_procedures::{Need, Param, Rule, Shape};
 
-/// The rules of the kit.
+/// The rules that come with the program.
 #[derive(Clone, Copy, Debug, PartialEq, Eq)]
 pub enum Kit {
     /// The output is the sum of the inputs.
     Add,
 }
 
-/// The rules in order.
+/// The rules of the kit, each once, in the order in which a program makes their procedures.
 pub const KITS: [Kit; 1] = [Kit::Add];
 
 impl Kit {
     /// The name that a command uses.
-    pub fn name(self) -> &'static str {
+    pub fn name(self) -> &'static str
+        ensures { result.now ≡ name_of self }
+    {
         match self {
             Kit::Add => "adder",
         }
@@ -43,7 +45,7 @@ impl Kit {
         }
     }
 
-    /// What it needs.
+    /// The parameter that it needs.
     pub fn need(self) -> Need
         ensures { result ≡ need_of self }
     {
@@ -52,7 +54,7 @@ impl Kit {
         }
     }
 
-    /// What the rule answers.
+    /// What the rule answers, `Info::Nothing` where the arguments are not of its inputs' kinds.
     pub fn run(self, param: &Param, args: &[Info]) -> Info
         ensures { result ≡ value_of self param.now args.now }
     {
@@ -64,6 +66,17 @@ impl Kit {
             _ => Info::Nothing,
         }
     }
+
+    /// `KITS` has each rule once, in order.
+    pub fn all_are_listed()
+        ensures { KITS ≡ in_order }
+    {}
+
+    /// Where no sum of their numbers passes `B`, what `Kit::Add` answers to two spans is the
+    /// narrowest information that holds each of those sums.
+    pub fn add_is_narrowest()
+        ensures { AddIsNarrowest }
+    {}
 }
 
 impl Rule for Kit {
