@@ -1,9 +1,8 @@
 -- For what a command is refused in a state: each condition by itself, and which of them comes first.
-use Rattle.std.specs.Prelude.{ℕ, List, [], ◌∷◌, Bool, true, false, cond, not, ◌+◌, ◌==◌, ◌||◌, nat_le, Option, Some, None, Result, Ok, Err, find, length, is_some, is_none, slice_get}
+use Rattle.std.specs.Prelude.{ℕ, List, [], ◌∷◌, Bool, true, false, cond, not, ◌+◌, ◌==◌, ◌||◌, nat_le, Option, Some, None, Result, Ok, Err, length, is_some, is_none, slice_get}
 use Rattle.std.specs.List.{list_any}
 use Rattle.std.specs.Option.{option_map, option_map_or, option_and_then}
 use Rattle.prop_lattice.specs.declared.info.Info.{Info}
-use Rattle.prop_lattice.specs.declared.refusal.Limit.{Limit}
 use Rattle.prop_lattice.specs.declared.refusal.Limit.TheVariants.{Cells, Instances, Statements}
 use Rattle.prop_lattice.specs.declared.refusal.Refusal.{Refusal}
 use Rattle.prop_lattice.specs.declared.refusal.Refusal.TheVariants.{NotANumber, NameTaken, NoSuchRelation, NoSuchCell, NoSuchProcedure, WrongCount, WrongKind, WrongParameter, EmptyValue, LimitReached}
@@ -79,19 +78,15 @@ is_param_wrong library (Command.Attach name cells by) =
     option_map_or (λ p. is_none (fitting_param p.need (given_by by))) (procedure_named library name) false
 is_param_wrong library command = false
 
--- what the command takes one more of, with how many there are
-abbrev pub growing : State → Command → List (Limit × ℕ)
-growing s (Command.Cell name kind) = (Cells, length s.kinds) ∷ []
-growing s (Command.Attach name cells by) = (Instances, length s.instances) ∷ []
-growing s (Command.Fix cell value) = (Statements, length s.statements) ∷ []
-growing s command = []
-
--- the limit that the command would go past
-abbrev pub limit_reached : State → Command → Option Limit
-limit_reached s command = option_map (λ g. g.0) (find (λ g. nat_le (most g.0) g.1) (growing s command))
-
 abbrev pub when : Refusal → Bool → Option Refusal
 when refusal holds = cond holds (Some refusal) None
+
+-- there are as many already as there can be of what the command makes one more of
+abbrev pub limit_refusal : State → Command → Option Refusal
+limit_refusal s (Command.Cell name kind) = when (LimitReached Cells) (nat_le (most Cells) (length s.kinds))
+limit_refusal s (Command.Attach name cells by) = when (LimitReached Instances) (nat_le (most Instances) (length s.instances))
+limit_refusal s (Command.Fix cell value) = when (LimitReached Statements) (nat_le (most Statements) (length s.statements))
+limit_refusal s command = None
 
 abbrev pub first_of : List (Option Refusal) → Option Refusal
 first_of [] = None
@@ -111,6 +106,6 @@ refusal_of library s command =
     ∷ when WrongKind (is_value_refused s command WrongKind || is_kind_wrong library s command)
     ∷ when WrongParameter (is_param_wrong library command)
     ∷ when EmptyValue (is_value_refused s command EmptyValue)
-    ∷ option_map LimitReached (limit_reached s command)
+    ∷ limit_refusal s command
     ∷ []
     )
