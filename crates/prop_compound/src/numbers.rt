@@ -22,7 +22,9 @@ fn unsigned(digits: &[u8]) -> Option<u64>
         if !byte.is_ascii_digit() {
             return None;
         }
-        number = number.checked_mul(10)?.checked_add(u64::from(*byte - b'0'))?;
+        number = number
+            .checked_mul(10)?
+            .checked_add(u64::from(*byte - b'0'))?;
     }
     Some(number)
 }
