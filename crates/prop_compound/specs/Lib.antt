@@ -5,3 +5,4 @@ pub mod Forms
 pub mod Reading
 pub mod Values
 pub mod Said
+pub mod Parts

@@ -2,5 +2,14 @@
 #![tactic(auto)]
 
 pub mod command;
+mod forms;
+mod names;
+mod numbers;
+mod reading;
+mod tokens;
+mod values;
 
 pub use command::{By, Command, KindWord, Value};
+pub use numbers::number_in;
+pub use reading::read_line;
+// pub use values::read_value;

@@ -1,0 +1,95 @@
+-- What the parts of the reader answer.
+use Rattle.std.specs.Prelude.{◌≡◌, ℕ, List, [], ◌∷◌, Bool, true, false, cond, not, nat_le, bytes_eq, codes, ◌||◌, Option, Some, None, is_some, ⊤, Result, Ok, Err}
+use Rattle.std.specs.Option.{option_map, option_and_then}
+use Rattle.std.specs.List.{list_all}
+use Rattle.std.specs.Borrow.{Bor}
+use Rattle.prop_lattice.specs.declared.refusal.Refusal.{Refusal}
+use Rattle.prop_lattice.specs.declared.refusal.Refusal.TheVariants.{UnknownCommand, NotAName, NotANumber}
+use Rattle.prop_compound.specs.Tokens.{Token, Word, Open, Close, Semicolon, Equals, Star, is_blank, mark_of}
+use Rattle.prop_compound.specs.Names.{is_name, digits_number}
+use Rattle.prop_compound.specs.Commands.{Value, By, Command}
+use Rattle.prop_compound.specs.Forms.{bare, on_word, cell, attach, fix, parameter, cells_by, values}
+use Rattle.prop_compound.specs.Reading.{by_names, is_by_in_range, command_in_form}
+use Rattle.prop_compound.specs.declared.tokens.Token as read
+use Rattle.prop_compound.specs.declared.tokens.Token.TheVariants as reads
+use Rattle.prop_compound.specs.declared.reading.CommandWord.{CommandWord}
+use Rattle.prop_compound.specs.declared.reading.CommandWord.TheVariants.{Cell, Attach, Fix, Settle, Ask}
+
+-- a token without where its word lies in memory
+abbrev pub token_of : read.Token → Token
+token_of (reads.Word word) = Word word.now
+token_of reads.Open = Open
+token_of reads.Close = Close
+token_of reads.Semicolon = Semicolon
+token_of reads.Equals = Equals
+token_of reads.Star = Star
+
+-- neither a mark nor a space or tab
+abbrev pub IsInWord : ℕ → Type 0
+IsInWord b = (is_blank b ≡ false) × (mark_of b ≡ None)
+
+-- the bytes are none, or begin with one that doesn't pass
+abbrev pub StartsPast : (ℕ → Bool) → List ℕ → Type 0
+StartsPast p [] = ⊤
+StartsPast p (b ∷ bytes) = p b ≡ false
+
+-- the bytes are none, or begin with what ends a word
+abbrev pub EndsWord : List ℕ → Type 0
+EndsWord [] = ⊤
+EndsWord (b ∷ bytes) = (is_blank b || is_some (mark_of b)) ≡ true
+
+abbrev pub up_to : ℕ → ℕ → Option ℕ
+up_to most n = cond (nat_le n most) (Some n) None
+
+-- the number of these digits, where it is at most this
+abbrev pub number_up_to : ℕ → List ℕ → Option ℕ
+number_up_to most digits = option_and_then (up_to most) (digits_number digits)
+
+-- the first word, and the tokens after it
+abbrev pub front : List Token → Option (List ℕ × List Token)
+front (Word w ∷ ts) = Some (w, ts)
+front ts = None
+
+-- the one word that there is
+abbrev pub one_word : List Token → Option (List ℕ)
+one_word (Word w ∷ []) = Some w
+one_word ts = None
+
+-- what follows the first `by` of an attachment's tokens
+abbrev pub given : List Token → Option By
+given ts = option_map (λ rest. rest.1) (cells_by ts)
+
+-- the words before the first `by`
+abbrev pub before_by : List Token → List (List ℕ)
+before_by (Word w ∷ ts) = cond (bytes_eq w (codes "by")) [] (w ∷ before_by ts)
+before_by ts = []
+
+abbrev pub parameter_said : Option (Bor (List ℕ)) → By
+parameter_said None = By.Nothing
+parameter_said (Some word) = parameter word.now
+
+-- the parameter, where its name is a name and its number in range
+abbrev pub by_in_range : By → Result By Refusal
+by_in_range by =
+    cond (not (list_all is_name (by_names by))) (Err NotAName) (cond (not (is_by_in_range by)) (Err NotANumber) (Ok by))
+
+-- the values, where there are any
+abbrev pub some_values : List Token → Option (List Value)
+some_values [] = None
+some_values (t ∷ ts) = values (t ∷ ts)
+
+-- the form of the command that has this word
+abbrev pub form_of : CommandWord → List Token → Option Command
+form_of Cell = cell
+form_of Attach = attach
+form_of Fix = fix
+form_of Settle = bare Command.Settle
+form_of Ask = on_word Command.Ask
+
+abbrev pub form_entry : Bor (List ℕ) × CommandWord → List ℕ × (List Token → Option Command)
+form_entry (word, command) = (word.now, form_of command)
+
+-- what the form of a command reads, where there is one
+abbrev pub read_by : Option CommandWord → List Token → Result (Option Command) Refusal
+read_by None ts = Err UnknownCommand
+read_by (Some word) ts = command_in_form (form_of word ts)

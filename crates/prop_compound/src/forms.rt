@@ -1,0 +1,192 @@
+//! The form of each command: what is read from the bytes behind its word.
+ghost use Rattle.std.specs.Prelude.{◌≡◌, ◌≢◌, ◌∷◌, [], ◌⊎◌, IfOk, IfErr, OnOk, true, false, Ok, Err, None, Some};
+ghost use Rattle.std.specs.List.{list_all};
+ghost use Rattle.prop_compound.specs.Tokens.{tokens, Word};
+ghost use Rattle.prop_compound.specs.Names.{is_name};
+ghost use Rattle.prop_compound.specs.Forms as forms;
+ghost use Rattle.prop_compound.specs.Commands as commands;
+ghost use Rattle.prop_compound.specs.Reading.{command_in_form};
+ghost use Rattle.prop_compound.specs.Said.{Reads, words, kind_of, by_of, value_of};
+ghost use Rattle.prop_compound.specs.Parts.{front, one_word, given, parameter_said, before_by, by_in_range, some_values};
+
+use crate::command::{By, Command, KindWord, Value};
+use crate::names::name;
+use crate::numbers::{looks_like_number, number_in};
+use crate::tokens::{Token, next_token};
+use prop_lattice::Refusal;
+use std::alloc::Global;
+
+/// The word that the bytes begin with, and what stands behind it.
+fn word(bytes: &[u8]) -> Result<(&[u8], &[u8]), Refusal>
+    ensures ok { IfOk result (λ found. tokens bytes.now ≡ Word found.0.now ∷ tokens found.1.now) }
+    ensures err { IfErr result (λ refusal. (refusal ≡ Refusal.WrongForm) × (front (tokens bytes.now) ≡ None)) }
+{
+    match next_token(bytes) {
+        Some((Token::Word(word), rest)) => Ok((word, rest)),
+        _ => Err(Refusal::WrongForm),
+    }
+}
+
+/// Nothing but spaces and tabs.
+fn end(bytes: &[u8]) -> Result<(), Refusal>
+    ensures ok { OnOk result (tokens bytes.now ≡ []) }
+    ensures err { IfErr result (λ refusal. (refusal ≡ Refusal.WrongForm) × (tokens bytes.now ≢ [])) }
+{
+    match next_token(bytes) {
+        None => Ok(()),
+        Some(_) => Err(Refusal::WrongForm),
+    }
+}
+
+/// One word and no more.
+fn only_word(bytes: &[u8]) -> Result<&[u8], Refusal>
+    ensures ok { IfOk result (λ word. tokens bytes.now ≡ Word word.now ∷ []) }
+    ensures err { IfErr result (λ refusal. (refusal ≡ Refusal.WrongForm) × (one_word (tokens bytes.now) ≡ None)) }
+{
+    let (word, rest) = word(bytes)?;
+    end(rest)?;
+    Ok(word)
+}
+
+fn kind_word(word: &[u8]) -> Result<KindWord, Refusal>
+    ensures ok { IfOk result (λ kind. forms.kind_word word.now ≡ Some (kind_of kind)) }
+    ensures err { IfErr result (λ refusal. (refusal ≡ Refusal.WrongForm) × (forms.kind_word word.now ≡ None)) }
+{
+    if word == b"span".as_slice() {
+        Ok(KindWord::Spans)
+    } else {
+        Err(Refusal::WrongForm)
+    }
+}
+
+/// `cell X KIND`, behind its first word.
+pub fn cell(rest: &[u8]) -> Result<Command<'_>, Refusal>
+    ensures { Reads result (command_in_form (forms.cell (tokens rest.now))) }
+{
+    let (cell, rest) = word(rest)?;
+    let kind = kind_word(only_word(rest)?)?;
+    Ok(Command::Cell(name(cell)?, kind))
+}
+
+/// `settle`, behind its first word.
+pub fn settle(rest: &[u8]) -> Result<Command<'_>, Refusal>
+    ensures { Reads result (command_in_form (forms.bare commands.Command.Settle (tokens rest.now))) }
+{
+    end(rest)?;
+    Ok(Command::Settle)
+}
+
+/// `ask X`, behind its first word.
+pub fn ask(rest: &[u8]) -> Result<Command<'_>, Refusal>
+    ensures { Reads result (command_in_form (forms.on_word commands.Command.Ask (tokens rest.now))) }
+{
+    Ok(Command::Ask(name(only_word(rest)?)?))
+}
+
+/// The word behind the first `by`, if there is a `by`. Before it stand words alone, and behind it that one word.
+fn word_behind_by(bytes: &[u8]) -> Result<Option<&[u8]>, Refusal>
+    ensures ok { IfOk result (λ word. given (tokens bytes.now) ≡ Some (parameter_said word)) }
+    ensures err { IfErr result (λ refusal. (refusal ≡ Refusal.WrongForm) × (given (tokens bytes.now) ≡ None)) }
+{
+    let mut left = bytes;
+    while let Some((token, rest)) = next_token(left) {
+        let Token::Word(word) = token else {
+            return Err(Refusal::WrongForm);
+        };
+        if word == b"by".as_slice() {
+            return Ok(Some(only_word(rest)?));
+        }
+        left = rest;
+    }
+    Ok(None)
+}
+
+/// The first word and those up to a `by`, which are to be names.
+fn names_before_by<'a>(
+    alloc: Global,
+    first: &'a [u8],
+    rest: &'a [u8],
+) -> Result<Vec<&'a str>, Refusal>
+    ensures ok { IfOk result (λ names. (words names.items ≡ first.now ∷ before_by (tokens rest.now)) × (list_all is_name (first.now ∷ before_by (tokens rest.now)) ≡ true)) }
+    ensures err { IfErr result (λ refusal. (refusal ≡ Refusal.Memory) ⊎ ((refusal ≡ Refusal.NotAName) × (list_all is_name (first.now ∷ before_by (tokens rest.now)) ≡ false))) }
+{
+    let mut names = Vec::new(alloc);
+    names.push(name(first)?).map_err(|_| Refusal::Memory)?;
+    let mut left = rest;
+    while let Some((Token::Word(word), rest)) = next_token(left) {
+        if word == b"by".as_slice() {
+            break;
+        }
+        names.push(name(word)?).map_err(|_| Refusal::Memory)?;
+        left = rest;
+    }
+    Ok(names)
+}
+
+/// The parameter that a word behind `by` is: a number from 1 to 1,000,000,000 where it begins as one, and else a name.
+fn parameter(word: Option<&[u8]>) -> Result<By<'_>, Refusal>
+    ensures ok { IfOk result (λ by. by_in_range (parameter_said word.entry) ≡ Ok (by_of by)) }
+    ensures err { IfErr result (λ refusal. by_in_range (parameter_said word.entry) ≡ Err refusal) }
+{
+    match word {
+        None => Ok(By::Nothing),
+        Some(word) if looks_like_number(word) => {
+            let number = number_in(1, 1_000_000_000, word).ok_or(Refusal::NotANumber)?;
+            Ok(By::Number(number))
+        }
+        Some(word) => Ok(By::Relation(name(word)?)),
+    }
+}
+
+/// `attach N X.. [by P]`, behind its first word.
+pub fn attach<'a>(alloc: Global, rest: &'a [u8]) -> Result<Command<'a>, Refusal>
+    ensures { Reads result (command_in_form (forms.attach (tokens rest.now))) }
+{
+    let (procedure, rest) = word(rest)?;
+    let (first, rest) = word(rest)?;
+    let by = word_behind_by(rest)?;
+    let procedure = name(procedure)?;
+    let cells = names_before_by(alloc, first, rest)?;
+    Ok(Command::Attach(procedure, cells, parameter(by)?))
+}
+
+/// The words up to a closing brace, and what stands behind it.
+fn braces<'a>(alloc: Global, bytes: &'a [u8]) -> Result<(Value<'a>, &'a [u8]), Refusal>
+    ensures ok { IfOk result (λ found. forms.in_braces [] (tokens bytes.now) ≡ forms.join (Some (value_of found.0)) (forms.values (tokens found.1.now))) }
+    ensures err { IfErr result (λ refusal. (refusal ≡ Refusal.Memory) ⊎ ((refusal ≡ Refusal.WrongForm) × (forms.in_braces [] (tokens bytes.now) ≡ None))) }
+{
+    let mut words = Vec::new(alloc);
+    let mut left = bytes;
+    loop {
+        match next_token(left) {
+            Some((Token::Word(word), rest)) => {
+                words.push(word).map_err(|_| Refusal::Memory)?;
+                left = rest;
+            }
+            Some((Token::Close, rest)) => return Ok((Value::Braces(words), rest)),
+            _ => return Err(Refusal::WrongForm),
+        }
+    }
+}
+
+/// The value that the bytes begin with, and what stands behind it.
+fn value<'a>(alloc: Global, bytes: &'a [u8]) -> Result<(Value<'a>, &'a [u8]), Refusal>
+    ensures ok { IfOk result (λ found. forms.values (tokens bytes.now) ≡ forms.join (Some (value_of found.0)) (forms.values (tokens found.1.now))) }
+    ensures err { IfErr result (λ refusal. (refusal ≡ Refusal.Memory) ⊎ ((refusal ≡ Refusal.WrongForm) × (some_values (tokens bytes.now) ≡ None))) }
+{
+    match next_token(bytes) {
+        Some((Token::Word(word), rest)) => Ok((Value::Bare(word), rest)),
+        Some((Token::Open, rest)) => braces(alloc, rest),
+        _ => Err(Refusal::WrongForm),
+    }
+}
+
+/// `fix X V`, behind its first word.
+pub fn fix<'a>(alloc: Global, rest: &'a [u8]) -> Result<Command<'a>, Refusal>
+    ensures { Reads result (command_in_form (forms.fix (tokens rest.now))) }
+{
+    let (cell, rest) = word(rest)?;
+    let (value, rest) = value(alloc, rest)?;
+    end(rest)?;
+    Ok(Command::Fix(name(cell)?, value))
+}

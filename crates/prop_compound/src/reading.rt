@@ -1,0 +1,123 @@
+//! What a line asks for.
+ghost use Rattle.std.specs.Prelude.{◌≡◌, List, map, find, bytes_eq};
+ghost use Rattle.prop_compound.specs.Tokens as words;
+ghost use Rattle.prop_compound.specs.Tokens.{tokens};
+ghost use Rattle.prop_compound.specs.Reading.{reading, reading_of, command_of, by_form_of, command_in_form, is_silent, without_return};
+ghost use Rattle.prop_compound.specs.Parts.{form_of, form_entry, read_by};
+ghost use Rattle.prop_compound.specs.Said.{Reads};
+
+use crate::command::Command;
+use crate::forms;
+use crate::tokens::{Token, is_blank, next_token};
+use prop_lattice::Refusal;
+use std::alloc::Global;
+
+/// How many bytes a line may have.
+pub const MOST_BYTES: usize = 4096;
+
+/// The bytes but for one carriage return at their end.
+fn without_return(line: &[u8]) -> &[u8]
+    ensures { result.now ≡ without_return line.now }
+{
+    let Some((last, front)) = line.split_last() else {
+        return line;
+    };
+    if *last == b'\r' { front } else { line }
+}
+
+/// Whether the line gets no reply: it has spaces and tabs alone, or a number sign as its first other byte.
+fn is_silent(text: &[u8]) -> bool
+    ensures { result ≡ is_silent text.now }
+{
+    for byte in text {
+        if !is_blank(*byte) {
+            return *byte == b'#';
+        }
+    }
+    true
+}
+
+/// The first word of a command.
+#[derive(Clone, Copy, Debug, PartialEq, Eq)]
+enum CommandWord {
+    Cell,
+    Attach,
+    Fix,
+    Settle,
+    Ask,
+}
+
+/// The commands by their first words.
+const COMMANDS: [(&[u8], CommandWord); 5] = [
+    (b"cell", CommandWord::Cell),
+    (b"attach", CommandWord::Attach),
+    (b"fix", CommandWord::Fix),
+    (b"settle", CommandWord::Settle),
+    (b"ask", CommandWord::Ask),
+];
+
+/// The first of these commands that has this word.
+fn find_command(commands: &[(&[u8], CommandWord)], word: &[u8]) -> Option<CommandWord>
+    ensures { (ts : List words.Token) → by_form_of (find (λ form. bytes_eq form.0 word.now) (map form_entry commands.now)) ts ≡ read_by result ts }
+{
+    for (known, command) in commands {
+        if *known == word {
+            return Some(*command);
+        }
+    }
+    None
+}
+
+/// The command that begins with this word, by what stands behind the word.
+fn read_form<'a>(
+    alloc: Global,
+    command: CommandWord,
+    rest: &'a [u8],
+) -> Result<Command<'a>, Refusal>
+    ensures { Reads result (command_in_form (form_of command (tokens rest.now))) }
+{
+    match command {
+        CommandWord::Cell => forms::cell(rest),
+        CommandWord::Attach => forms::attach(alloc, rest),
+        CommandWord::Fix => forms::fix(alloc, rest),
+        CommandWord::Settle => forms::settle(rest),
+        CommandWord::Ask => forms::ask(rest),
+    }
+}
+
+/// The command of a line that gets a reply, by its first word.
+fn read_command<'a>(alloc: Global, text: &'a [u8]) -> Result<Command<'a>, Refusal>
+    ensures { Reads result (command_of (tokens text.now)) }
+{
+    let Some((Token::Word(word), rest)) = next_token(text) else {
+        return Err(Refusal::UnknownCommand);
+    };
+    match find_command(&COMMANDS, word) {
+        Some(command) => read_form(alloc, command, rest),
+        None => Err(Refusal::UnknownCommand),
+    }
+}
+
+fn read_text<'a>(alloc: Global, text: &'a [u8]) -> Result<Command<'a>, Refusal>
+    ensures { Reads result (reading_of text.now) }
+{
+    match str::from_utf8(text) {
+        Err(_) => Err(Refusal::NotUtf8),
+        Ok(_) if is_silent(text) => Ok(Command::Silent),
+        Ok(_) => read_command(alloc, text),
+    }
+}
+
+/// What a line, without its line feed, asks for.
+///
+/// The refusal is the first that applies: the line is too long, is not UTF-8, begins with no command, has another form than
+/// its command's, has a word in a name's place that is no name, or a number out of its range. Or it is `Refusal::Memory`,
+/// where there was no memory for the words.
+pub fn read_line<'a>(alloc: Global, line: &'a [u8]) -> Result<Command<'a>, Refusal>
+    ensures { Reads result (reading line.now) }
+{
+    if line.len() > MOST_BYTES {
+        return Err(Refusal::LineTooLong);
+    }
+    read_text(alloc, without_return(line))
+}

@@ -1,0 +1,1 @@
+//! What a value says at a cell.
