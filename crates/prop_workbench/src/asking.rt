@@ -15,7 +15,7 @@ impl<R: Rule + Drop, O: Order + Drop> Session<R, O> {
     ghost use Rattle.prop_compound.specs.Commands as commands;
     ghost use Rattle.prop_workbench.specs.Answers.{answer_of};
     ghost use Rattle.prop_workbench.specs.Running.{Outcome, outcome_of, MayEnd};
-    ghost use Rattle.prop_workbench.specs.Sessions.{state_of, library_of, IsSound, IsMeant};
+    ghost use Rattle.prop_workbench.specs.Sessions.{state_of, steps_of, library_of, IsSound, IsMeant};
     ghost use Rattle.prop_workbench.specs.Steps.{Obeys};
 
     /// Runs the network, and tells how that ended and in how many steps.
@@ -24,6 +24,7 @@ impl<R: Rule + Drop, O: Order + Drop> Session<R, O> {
         requires sound { IsSound R.value_of self.old }
         ensures same { self.new.network.library ≡ self.old.network.library }
         ensures sound { IsSound R.value_of self.new }
+        ensures steps { steps_of self.new ≡ steps_of self.old }
         ensures names { self.new.names ≡ self.old.names }
         ensures state { state_of self.new ≡ state_of self.old }
         ensures ends { IfOk result (λ r. MayEnd (library_of R.value_of self.old) (state_of self.old) (outcome_of r.0)) }
@@ -46,6 +47,7 @@ impl<R: Rule + Drop, O: Order + Drop> Session<R, O> {
         requires sound { IsSound R.value_of self.old }
         ensures same { self.new.network.library ≡ self.old.network.library }
         ensures sound { IsSound R.value_of self.new }
+        ensures steps { steps_of self.new ≡ steps_of self.old }
         ensures step { Obeys (library_of R.value_of self.old) (state_of self.old) (commands.Command.Ask name.now) (answer_of result.0) (state_of self.new) result.1 }
     {
         let cell = match self.names.find(name) {
@@ -71,6 +73,7 @@ impl<R: Rule + Drop, O: Order + Drop> Session<R, O> {
         requires sound { IsSound R.value_of self.old }
         ensures same { self.new.network.library ≡ self.old.network.library }
         ensures sound { IsSound R.value_of self.new }
+        ensures steps { steps_of self.new ≡ steps_of self.old }
         ensures step { Obeys (library_of R.value_of self.old) (state_of self.old) commands.Command.Settle (answer_of result.0) (state_of self.new) result.1 }
     {
         let (end, steps) = match self.run_network() {

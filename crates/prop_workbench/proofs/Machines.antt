@@ -1,0 +1,61 @@
+-- What the engine asks of a machine, and that the workbench has it.
+use Rattle.std.proofs.Common.{◌≡◌, ℕ, ◌≤◌, ◌<◌, List, length, take, refl, sym, ◌∙◌, ap, subst, inl, inr, arith}
+use Rattle.std.specs.Prelude.{Option, Some, None, Result, Ok, Err}
+use Rattle.std.proofs.lemmas.List.{length-take, take_all}
+use Rattle.std.proofs.lemmas.Bool.{cases_lt, lt-ltb}
+use Rattle.prop_lattice.specs.declared.refusal.Refusal.{Refusal}
+use Rattle.prop_lattice.specs.declared.refusal.Refusal.TheVariants.{LineTooLong, Memory}
+use Rattle.prop_procedures.specs.Stored.{Stored}
+use Rattle.prop_compound.specs.Commands.{Command}
+use Rattle.prop_compound.specs.Reading.{reading}
+use Rattle.prop_workbench.specs.Lines.{kept_of}
+use Rattle.prop_workbench.specs.Answers.{Answer, Silent, Refused}
+use Rattle.prop_workbench.specs.Machine.{State}
+use Rattle.prop_workbench.specs.Steps.{Follows}
+use Rattle.prop_workbench.specs.Transcripts.{Machine}
+use Rattle.prop_workbench.specs.Engine.{workbench}
+
+-- a line may be answered as what is kept of it may
+abbrev pub AsksByFront : {S : Type 0} → Machine S → Type 0
+AsksByFront {S = S} machine =
+    (old : S) (line : List ℕ) (answer : Answer) (new : S) → machine old (kept_of line) answer new → machine old line answer new
+
+-- each line may be given some answer that leaves the state as it was
+abbrev pub IsTotal : {S : Type 0} → Machine S → Type 0
+IsTotal {S = S} machine = (old : S) (line : List ℕ) → (answer : Answer) × machine old line answer old
+
+-- a front of limit bytes is the line, or as long as the limit
+front_of_line : (limit : ℕ) (line : List ℕ) → (length line ≤ limit → take limit line ≡ line) × (limit < length line → length (take limit line) ≡ limit)
+front_of_line limit line = (λ h. take_all limit line h, λ h. length-take limit line ∙ omega arith)
+
+too_long : (line : List ℕ) → 4096 < length line → reading line ≡ Err LineTooLong
+too_long line h = rw (lt-ltb 4096 (length line) h) refl
+
+-- what is kept of a line asks for what the line asks for
+pub reading-kept_of : (line : List ℕ) → reading (kept_of line) ≡ reading line
+unfolding kept_of
+reading-kept_of line = elim (cases_lt 4097 (length line)) [
+  | inl h ↦ let e = (front_of_line 4097 line).1 h in too_long (take 4097 line) (omega arith) ∙ sym (too_long line (omega arith))
+  | inr h ↦ ap reading ((front_of_line 4097 line).0 h)
+]
+
+pub workbench_asks_by_front : (library : List Stored) → AsksByFront (workbench library)
+workbench_asks_by_front library old line answer new s = record {
+  steps = s.steps;
+  step = subst (λ (read : Result (Option Command) Refusal). Follows library old read answer new s.steps) (reading-kept_of line) s.step;
+}
+
+-- silence, or want of memory, leaves the state
+follows_somehow : (library : List Stored) (old : State) (read : Result (Option Command) Refusal) → (answer : Answer) × (steps : ℕ) × Follows library old read answer old steps
+follows_somehow library old (Ok None) = (Silent, 0, (refl, refl, refl))
+follows_somehow library old (Ok (Some command)) = (Refused Memory, 0, inr record { answer_is = refl; same = refl })
+follows_somehow library old (Err refusal) = (Refused Memory, 0, inr record { answer_is = refl; same = refl })
+
+pub workbench_is_total : (library : List Stored) → IsTotal (workbench library)
+workbench_is_total library old line =
+    let somehow = follows_somehow library old (reading line) in
+    (somehow.0, record { steps = somehow.1; step = somehow.2 })
+
+-- what a machine over one of two equal things may do, that over the other may
+pub same_step : {A S : Type 0} (machine : A → Machine S) (a b : A) → b ≡ a → (old : S) (line : List ℕ) (answer : Answer) (new : S) → machine b old line answer new → machine a old line answer new
+same_step {A = A} machine a b e old line answer new s = subst (λ (x : A). machine x old line answer new) e s

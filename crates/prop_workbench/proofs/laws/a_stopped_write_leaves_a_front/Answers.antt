@@ -1,0 +1,7 @@
+use Rattle.prop_workbench.specs.Engine.{workbench}
+use Rattle.prop_workbench.proofs.Machines.{workbench_is_total}
+use Rattle.prop_workbench.proofs.Fronts.{write_front}
+use Rattle.prop_workbench.proofs.laws.a_stopped_write_leaves_a_front.Goals as goal
+
+pub returns : goal.returns
+returns c = λ library old input output new. write_front (workbench library) (workbench_is_total library) old input output new
