@@ -1,0 +1,6 @@
+use Rattle.std.proofs.Common.{◌≡◌, ◌++◌, ◌∷◌, [], take, map, zip}
+use Rattle.prop_cells.specs.Instances.{kind_at}
+use Rattle.prop_cells.proofs.attaching.places.Given as goal
+
+abbrev pub invariant-loop-i : goal.invariant-loop-i
+invariant-loop-i l = l.places.items ≡ take l.i (zip (l.shapes ++ l.shape ∷ []) (map (kind_at l.held.kinds) (l.ins ++ l.out ∷ [])))

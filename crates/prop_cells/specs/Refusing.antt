@@ -1,0 +1,54 @@
+-- Why a network refuses a cell, a statement or an instance: the first condition of a list that holds.
+use Rattle.std.specs.Prelude.{ℕ, ◌^◌, ◌/◌, ◌==◌, nat_le, Bool, true, false, not, cond, List, [], ◌∷◌, ◌++◌, Option, Some, None, is_none, length, slice_get}
+use Rattle.std.specs.Option.{option_map_or}
+use Rattle.std.specs.List.{list_any}
+use Rattle.prop_lattice.specs.Refusals.{most}
+use Rattle.prop_lattice.specs.declared.info.Info.{Info}
+use Rattle.prop_lattice.specs.declared.info.Info.TheVariants.{Nothing, Span, Set, Sym}
+use Rattle.prop_lattice.specs.declared.info.Kind.{Kind}
+use Rattle.prop_lattice.specs.declared.info.Kind.TheVariants as kinds
+use Rattle.prop_lattice.specs.declared.refusal.Limit.TheVariants.{Cells, Instances, Statements}
+use Rattle.prop_lattice.specs.declared.refusal.Refusal.{Refusal}
+use Rattle.prop_lattice.specs.declared.refusal.Refusal.TheVariants.{NoSuchCell, WrongCount, WrongKind, WrongParameter, LimitReached}
+use Rattle.prop_procedures.specs.Stored.{Stored, are_right}
+use Rattle.prop_cells.specs.Instances.{kind_at, places_of, param_in}
+use Rattle.prop_cells.specs.Data.{Data}
+
+abbrev pub when : Refusal → Bool → Option Refusal
+when refusal holds = cond holds (Some refusal) None
+
+abbrev pub or_else : Option Refusal → Option Refusal → Option Refusal
+or_else (Some refusal) rest = Some refusal
+or_else None rest = rest
+
+-- why one more cell is refused
+abbrev pub cell_refusal : Data → Option Refusal
+cell_refusal d = when (LimitReached Cells) (nat_le (most Cells) (length d.kinds))
+
+-- the information is of the kind, whose domain has this size, and no contradiction
+abbrev pub may_be_stated : Kind → ℕ → Info → Bool
+may_be_stated kind size Nothing = true
+may_be_stated kinds.Span size (Span s) = true
+may_be_stated (kinds.Set domain) size (Set s) = s.bits / 2 ^ size == 0
+may_be_stated kinds.Symbol size (Sym s) = true
+may_be_stated kind size a = false
+
+-- why an information is not stated at a cell
+abbrev pub state_refusal : Data → ℕ → Info → Option Refusal
+state_refusal d cell info =
+    or_else (when NoSuchCell (nat_le (length d.kinds) cell))
+    (or_else (when WrongKind (not (may_be_stated (kind_at d.kinds cell).kind (kind_at d.kinds cell).size info)))
+    (when (LimitReached Statements) (nat_le (most Statements) (length d.statements))))
+
+-- why a procedure is not attached to cells, with the parameter of a number or without one
+abbrev pub refusal_at : Stored → Data → Option ℕ → List ℕ → ℕ → Option Refusal
+refusal_at p d param ins out =
+    or_else (when NoSuchCell (list_any (λ cell. nat_le (length d.kinds) cell) (ins ++ out ∷ [])))
+    (or_else (when WrongCount (not (length ins == length p.ins)))
+    (or_else (when WrongKind (not (are_right (places_of p d.kinds (ins ++ out ∷ [])))))
+    (or_else (when WrongParameter (is_none (param_in p.need d.params param)))
+    (when (LimitReached Instances) (nat_le (most Instances) (length d.instances))))))
+
+-- the same, by the procedure's number
+abbrev pub attach_refusal : List Stored → Data → ℕ → Option ℕ → List ℕ → ℕ → Option Refusal
+attach_refusal library d n param ins out = option_map_or (λ p. refusal_at p d param ins out) (slice_get library n) None

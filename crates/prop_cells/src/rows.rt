@@ -1,0 +1,32 @@
+//! Which instances each cell has: a row of numbers for each cell.
+ghost use Rattle.std.specs.Prelude.{◌≡◌, ℕ, ◌<◌, ◌==◌, cond, List, [], ◌∷◌, ◌++◌, length, map, All, OnOk, slice_set, slice_index_or};
+ghost use Rattle.std.specs.List.{list_any};
+ghost use Rattle.prop_cells.specs.Rooms.{row_items, HasRoom, Noted};
+
+use std::alloc::AllocError;
+
+/// Makes room for one more number in the rows of these cells. The rows keep their numbers.
+pub(crate) fn make_room(rows: &mut Vec<Vec<usize>>, cells: &[usize]) -> Result<(), AllocError>
+    requires { All (λ cell. cell < length rows.old.items) cells.now }
+    ensures kept { row_items rows.new.items ≡ row_items rows.old.items }
+    ensures ok { OnOk result (All (HasRoom rows.new.items) cells.now) }
+{
+    for cell in cells {
+        rows[*cell].reserve(1)?;
+    }
+    Ok(())
+}
+
+/// Writes a number at the end of the rows of these cells, once in each. It takes no memory.
+pub(crate) fn note(rows: &mut Vec<Vec<usize>>, cells: &[usize], number: usize)
+    requires cells { All (λ cell. cell < length rows.old.items) cells.now }
+    requires room { All (HasRoom rows.old.items) cells.now }
+    ensures { Noted (row_items rows.old.items) (row_items rows.new.items) cells.now number }
+{
+    for i in 0..cells.len() {
+        if cells[..i].contains(&cells[i]) {
+            continue;
+        }
+        let _ = rows[cells[i]].push(number);
+    }
+}
