@@ -1,3 +1,4 @@
 pub mod Lexing
 pub mod Digits
 pub mod Forming
+pub mod Halving

@@ -12,4 +12,4 @@ mod values;
 pub use command::{By, Command, KindWord, Value};
 pub use numbers::number_in;
 pub use reading::read_line;
-// pub use values::read_value;
+pub use values::read_value;
