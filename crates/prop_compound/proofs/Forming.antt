@@ -16,7 +16,7 @@ use Rattle.prop_compound.specs.Parts.{given, before_by, by_in_range}
 -- ---- values
 
 -- the values, where there are any, are one or more
-abbrev Filled : Option (List Value) → Type 0
+abbrev pub Filled : Option (List Value) → Type 0
 Filled None = ⊤
 Filled (Some []) = ⊥
 Filled (Some (v ∷ vs)) = ⊤
@@ -31,7 +31,7 @@ filled_in ws (Word w ∷ ts) = filled_in (ws ++ w ∷ []) ts
 filled_in ws (Close ∷ ts) = filled_join _ (values ts)
 filled_in ws (t ∷ ts) = tt
 
-filled : (ts : List Token) → ts ≢ [] → Filled (values ts)
+pub filled : (ts : List Token) → ts ≢ [] → Filled (values ts)
 filled [] h = absurd (h refl)
 filled (Word w ∷ ts) h = filled_join _ (values ts)
 filled (Open ∷ ts) h = filled_in [] ts

@@ -1,3 +1,6 @@
 pub mod Lexing
 pub mod Digits
 pub mod Forming
+pub mod Halving
+pub mod SpellingLaws
+pub mod RefusalLaws

@@ -6,3 +6,5 @@ pub mod Reading
 pub mod Values
 pub mod Said
 pub mod Parts
+pub mod Spelling
+pub mod Refusals

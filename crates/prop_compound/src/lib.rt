@@ -11,5 +11,5 @@ mod values;
 
 pub use command::{By, Command, KindWord, Value};
 pub use numbers::number_in;
-pub use reading::read_line;
-// pub use values::read_value;
+pub use reading::{read_line, reads_what_is_spelled};
+pub use values::read_value;

@@ -5,6 +5,7 @@ ghost use Rattle.prop_compound.specs.Tokens.{tokens};
 ghost use Rattle.prop_compound.specs.Reading.{reading, reading_of, command_of, by_form_of, command_in_form, is_silent, without_return};
 ghost use Rattle.prop_compound.specs.Parts.{form_of, form_entry, read_by};
 ghost use Rattle.prop_compound.specs.Said.{Reads};
+ghost use Rattle.prop_compound.specs.Refusals.{RefusesTheFirst, ReadsWhatIsSpelled, PassesOverSilence};
 
 use crate::command::Command;
 use crate::forms;
@@ -121,3 +122,10 @@ pub fn read_line<'a>(alloc: Global, line: &'a [u8]) -> Result<Command<'a>, Refus
     }
     read_text(alloc, without_return(line))
 }
+
+/// What `read_line` answers, by the tokens that spell each command and by a condition for each refusal.
+pub fn reads_what_is_spelled()
+    ensures refused { RefusesTheFirst }
+    ensures read { ReadsWhatIsSpelled }
+    ensures silent { PassesOverSilence }
+{}

@@ -1,0 +1,187 @@
+-- A form reads just the commands that the tokens spell.
+use Rattle.std.proofs.Common.{◌≡◌, ◌≢◌, ℕ, List, [], ◌∷◌, ◌++◌, Bool, true, false, cond, refl, sym, ◌∙◌, ap, subst, Some, None, map, append-nil, append_assoc}
+use Rattle.std.specs.Bool.{Decides}
+use Rattle.std.specs.Prelude.{Option, bytes_eq, codes, find, pos}
+use Rattle.std.specs.Option.{option_map, option_and_then}
+use Rattle.std.specs.List.{AllByRecursion}
+use Rattle.std.proofs.lemmas.Slice.Eq.{bytes_eq-Decides}
+use Rattle.std.proofs.lemmas.Bool.{false≢true}
+use Rattle.prop_compound.specs.Tokens.{Token, Word, Open, Close}
+use Rattle.prop_compound.specs.Names.{looks_like_number, number_in}
+use Rattle.prop_compound.specs.Commands.{Value, Bare, Braces, Spans, By, Command}
+use Rattle.prop_compound.specs.Forms.{bare, on_word, cell, parameter, by_form, with_cell, cells_by, attach, join, values, in_braces, one_value, fix, forms}
+use Rattle.prop_compound.proofs.Forming.{Filled, filled}
+use Rattle.prop_compound.specs.Spelling.{Spells, Gives, HaveNoBy, tokens_of_value}
+
+-- what is read from a line's tokens, where there is a form for it
+abbrev pub read_form : List Token → Option Command
+read_form (Word w ∷ ts) = option_and_then (λ form. form.1 ts) (find (λ form. bytes_eq form.0 w) forms)
+read_form ts = None
+
+-- ---- what is spelled is read
+
+other_word : (w : List ℕ) → w ≢ codes "by" → bytes_eq w (codes "by") ≡ false
+other_word w h = by (bytes_eq w (codes "by")) (bytes_eq-Decides w (codes "by"))
+  where
+    by : (b : Bool) → (b ≡ true → w ≡ codes "by") × (w ≡ codes "by" → b ≡ true) → b ≡ false
+    by true d = absurd (h (d.0 refl))
+    by false d = refl
+
+given_read : (by : By) (ts : List Token) → Gives by ts → cells_by ts ≡ Some ([], by)
+given_read By.Nothing ts e = rw e refl
+given_read (By.Number n) ts (p, e, l, m) = rw (e, l, m) refl
+given_read (By.Relation r) ts (e, l) = rw (e, l) refl
+
+cells_read : (xs : List (List ℕ)) (by : By) (ts : List Token) → HaveNoBy xs → Gives by ts → cells_by (map Word xs ++ ts) ≡ Some (xs, by)
+cells_read [] by ts h g = given_read by ts g
+cells_read (x ∷ xs) by ts h g = rw (other_word x h.0, cells_read xs by ts h.1 g) refl
+
+braces_read : (ws us : List (List ℕ)) → in_braces ws (map Word us ++ Close ∷ []) ≡ Some (Braces (ws ++ us) ∷ [])
+braces_read ws [] = ap (λ l. Some (Braces l ∷ [])) (sym (append-nil ws))
+braces_read ws (u ∷ us) = braces_read (ws ++ u ∷ []) us ∙ ap (λ l. Some (Braces l ∷ [])) (append_assoc ws (u ∷ []) us)
+
+value_read : (v : Value) → values (tokens_of_value v) ≡ Some (v ∷ [])
+value_read (Bare w) = refl
+value_read (Braces ws) = braces_read [] ws
+
+pub spelled_is_read : (ts : List Token) (command : Command) → Spells ts command → read_form ts ≡ Some command
+spelled_is_read ts (Command.Cell name Spans) e = rw e refl
+spelled_is_read ts (Command.Attach name [] by) s = absurd s
+spelled_is_read ts (Command.Attach name (x ∷ xs) by) (rest, e, h, g) = rw (e, cells_read xs by rest h g) refl
+spelled_is_read ts (Command.Fix x v) e = rw (e, value_read v) refl
+spelled_is_read ts Command.Settle e = rw e refl
+spelled_is_read ts (Command.Ask x) e = rw e refl
+
+-- ---- what is read is spelled
+
+cell_spelled : (ts : List Token) (command : Command) → cell ts ≡ Some command → Spells (Word (codes "cell") ∷ ts) command
+cell_spelled (Word n ∷ Word k ∷ []) command h = by (bytes_eq k (codes "span")) (bytes_eq-Decides k (codes "span")) h
+  where
+    by : (b : Bool) → Decides b (k ≡ codes "span") → option_map (Command.Cell n) (cond b (Some Spans) None) ≡ Some command → Spells (Word (codes "cell") ∷ Word n ∷ Word k ∷ []) command
+    by true d h =
+        let e : Command.Cell n Spans ≡ command = cc in
+        let s : Spells (Word (codes "cell") ∷ Word n ∷ Word k ∷ []) (Command.Cell n Spans) = ap (λ w. Word (codes "cell") ∷ Word n ∷ Word w ∷ []) (d.0 refl) in
+        subst (Spells (Word (codes "cell") ∷ Word n ∷ Word k ∷ [])) e s
+    by false d h = cc
+cell_spelled ts command h = cc
+
+-- what follows the first cell
+abbrev Follows : List Token → List (List ℕ) × By → Type 0
+Follows ts cells = (rest : List Token) × (ts ≡ map Word cells.0 ++ rest) × HaveNoBy cells.0 × Gives cells.1 rest
+
+given_spelled : (w p : List ℕ) → w ≡ codes "by" → (b : Bool) → looks_like_number p ≡ b → Gives (cond b (By.Number (number_in (pos 1) (pos 1_000_000_000) p)) (By.Relation p)) (Word w ∷ Word p ∷ [])
+given_spelled w p e true l = (p, ap (λ v. Word v ∷ Word p ∷ []) e, l, refl)
+given_spelled w p e false l = (ap (λ v. Word v ∷ Word p ∷ []) e, l)
+
+by_spelled : (w : List ℕ) (ts : List Token) (cells : List (List ℕ) × By) → w ≡ codes "by" → option_map {U = List (List ℕ) × By} (λ by. ([], by)) (by_form ts) ≡ Some cells → Follows (Word w ∷ ts) cells
+by_spelled w (Word p ∷ []) cells e h =
+    let f : Follows (Word w ∷ Word p ∷ []) ([], parameter p) = (Word w ∷ Word p ∷ [], refl, tt, given_spelled w p e (looks_like_number p) refl) in
+    let same : ([], parameter p) ≡ cells = cc in
+    subst (Follows (Word w ∷ Word p ∷ [])) same f
+by_spelled w ts cells e h = cc
+
+more_cells : (w : List ℕ) (ts : List Token) (cells : List (List ℕ) × By) (o : Option (List (List ℕ) × By)) → w ≢ codes "by" → ((r : List (List ℕ) × By) → o ≡ Some r → Follows ts r) → option_map (with_cell w) o ≡ Some cells → Follows (Word w ∷ ts) cells
+more_cells w ts cells None n more h = cc
+more_cells w ts cells (Some r) n more h =
+    let f = more r refl in
+    let g : Follows (Word w ∷ ts) (w ∷ r.0, r.1) = (f.0, ap (λ l. Word w ∷ l) f.1, (n, f.2), f.3) in
+    let same : (w ∷ r.0, r.1) ≡ cells = cc in
+    subst (Follows (Word w ∷ ts)) same g
+
+next_cell : (w : List ℕ) (ts : List Token) (cells : List (List ℕ) × By) (b : Bool) → Decides b (w ≡ codes "by") → ((r : List (List ℕ) × By) → cells_by ts ≡ Some r → Follows ts r) → cond b (option_map {U = List (List ℕ) × By} (λ by. ([], by)) (by_form ts)) (option_map (with_cell w) (cells_by ts)) ≡ Some cells → Follows (Word w ∷ ts) cells
+next_cell w ts cells true d more h = by_spelled w ts cells (d.0 refl) h
+next_cell w ts cells false d more h = more_cells w ts cells (cells_by ts) (λ e. false≢true (d.1 e)) more h
+
+cells_spelled : (ts : List Token) (cells : List (List ℕ) × By) → cells_by ts ≡ Some cells → Follows ts cells
+cells_spelled [] cells h =
+    let same : ([], By.Nothing) ≡ cells = cc in
+    let f : Follows [] ([], By.Nothing) = ([], refl, tt, refl) in
+    subst (Follows []) same f
+cells_spelled (Word w ∷ ts) cells h = next_cell w ts cells (bytes_eq w (codes "by")) (bytes_eq-Decides w (codes "by")) (λ r e. cells_spelled ts r e) h
+cells_spelled (t ∷ ts) cells h = cc
+
+attach_spelled : (ts : List Token) (command : Command) → attach ts ≡ Some command → Spells (Word (codes "attach") ∷ ts) command
+attach_spelled (Word n ∷ Word x ∷ ts) command h = by (cells_by ts) (λ r e. cells_spelled ts r e) h
+  where
+    by : (o : Option (List (List ℕ) × By)) → ((r : List (List ℕ) × By) → o ≡ Some r → Follows ts r) → option_map (λ r. Command.Attach n (x ∷ r.0) r.1) o ≡ Some command → Spells (Word (codes "attach") ∷ Word n ∷ Word x ∷ ts) command
+    by None follows h = cc
+    by (Some r) follows h =
+        let f = follows r refl in
+        let s : Spells (Word (codes "attach") ∷ Word n ∷ Word x ∷ ts) (Command.Attach n (x ∷ r.0) r.1) = (f.0, ap (λ l. Word (codes "attach") ∷ Word n ∷ Word x ∷ l) f.1, f.2, f.3) in
+        let e : Command.Attach n (x ∷ r.0) r.1 ≡ command = cc in
+        subst (Spells (Word (codes "attach") ∷ Word n ∷ Word x ∷ ts)) e s
+attach_spelled ts command h = cc
+
+none_left : (ts : List Token) → values ts ≡ Some [] → ts ≡ []
+none_left [] h = refl
+none_left (t ∷ ts) h = absurd (subst Filled h (filled (t ∷ ts) (λ e. cc)))
+
+-- a value before values is the only one
+only : (u v : Value) (o : Option (List Value)) → join (Some u) o ≡ Some (v ∷ []) → (u ≡ v) × (o ≡ Some [])
+only u v None h = cc
+only u v (Some []) h = (cc, refl)
+only u v (Some (w ∷ ws)) h = cc
+
+braces_spelled : (ws : List (List ℕ)) (ts : List Token) (v : Value) → in_braces ws ts ≡ Some (v ∷ []) → (us : List (List ℕ)) × (v ≡ Braces (ws ++ us)) × (ts ≡ map Word us ++ Close ∷ [])
+braces_spelled ws [] v h = cc
+braces_spelled ws (Word w ∷ ts) v h =
+    let f = braces_spelled (ws ++ w ∷ []) ts v h in
+    (w ∷ f.0, f.1 ∙ ap Braces (append_assoc ws (w ∷ []) f.0), ap (λ l. Word w ∷ l) f.2)
+braces_spelled ws (Close ∷ ts) v h =
+    let f = only (Braces ws) v (values ts) h in
+    ([], sym f.0 ∙ ap Braces (sym (append-nil ws)), ap (λ l. Close ∷ l) (none_left ts f.1))
+braces_spelled ws (t ∷ ts) v h = cc
+
+value_spelled : (ts : List Token) (v : Value) → values ts ≡ Some (v ∷ []) → ts ≡ tokens_of_value v
+value_spelled [] v h = cc
+value_spelled (Word w ∷ ts) v h =
+    let f = only (Bare w) v (values ts) h in
+    ap (λ l. Word w ∷ l) (none_left ts f.1) ∙ ap tokens_of_value f.0
+value_spelled (Open ∷ ts) v h =
+    let f = braces_spelled [] ts v h in
+    ap (λ l. Open ∷ l) f.2 ∙ ap tokens_of_value (sym f.1)
+value_spelled (t ∷ ts) v h = cc
+
+fix_spelled : (ts : List Token) (command : Command) → fix ts ≡ Some command → Spells (Word (codes "fix") ∷ ts) command
+fix_spelled (Word x ∷ ts) command h = by (values ts) (λ v e. value_spelled ts v e) h
+  where
+    by : (o : Option (List Value)) → ((v : Value) → o ≡ Some (v ∷ []) → ts ≡ tokens_of_value v) → option_and_then (λ vs. option_map (Command.Fix x) (one_value vs)) o ≡ Some command → Spells (Word (codes "fix") ∷ Word x ∷ ts) command
+    by None spelled h = cc
+    by (Some []) spelled h = cc
+    by (Some (v ∷ [])) spelled h =
+        let s : Spells (Word (codes "fix") ∷ Word x ∷ ts) (Command.Fix x v) = ap (λ l. Word (codes "fix") ∷ Word x ∷ l) (spelled v refl) in
+        let e : Command.Fix x v ≡ command = cc in
+        subst (Spells (Word (codes "fix") ∷ Word x ∷ ts)) e s
+    by (Some (v ∷ u ∷ us)) spelled h = cc
+fix_spelled ts command h = cc
+
+settle_spelled : (ts : List Token) (command : Command) → bare Command.Settle ts ≡ Some command → Spells (Word (codes "settle") ∷ ts) command
+settle_spelled [] command h =
+    let e : Command.Settle ≡ command = cc in
+    subst (Spells (Word (codes "settle") ∷ [])) e refl
+settle_spelled (t ∷ ts) command h = cc
+
+ask_spelled : (ts : List Token) (command : Command) → on_word Command.Ask ts ≡ Some command → Spells (Word (codes "ask") ∷ ts) command
+ask_spelled (Word x ∷ []) command h =
+    let e : Command.Ask x ≡ command = cc in
+    subst (Spells (Word (codes "ask") ∷ Word x ∷ [])) e refl
+ask_spelled ts command h = cc
+
+-- what the form reads is spelled, behind its word
+abbrev ReadsSpelled : List ℕ × (List Token → Option Command) → Type 0
+ReadsSpelled form = (ts : List Token) (command : Command) → form.1 ts ≡ Some command → Spells (Word form.0 ∷ ts) command
+
+forms_spelled : AllByRecursion ReadsSpelled forms
+forms_spelled = (cell_spelled, (attach_spelled, (fix_spelled, (settle_spelled, (ask_spelled, tt)))))
+
+found_spelled : (known : List (List ℕ × (List Token → Option Command))) (w : List ℕ) (ts : List Token) (command : Command) → AllByRecursion ReadsSpelled known → option_and_then (λ form. form.1 ts) (find (λ form. bytes_eq form.0 w) known) ≡ Some command → Spells (Word w ∷ ts) command
+found_spelled [] w ts command all h = cc
+found_spelled (form ∷ known) w ts command all h = by (bytes_eq form.0 w) (bytes_eq-Decides form.0 w) (λ e. found_spelled known w ts command all.1 e) h
+  where
+    by : (b : Bool) → Decides b (form.0 ≡ w) → (option_and_then (λ f. f.1 ts) (find (λ f. bytes_eq f.0 w) known) ≡ Some command → Spells (Word w ∷ ts) command) → option_and_then (λ f. f.1 ts) (cond b (Some form) (find (λ f. bytes_eq f.0 w) known)) ≡ Some command → Spells (Word w ∷ ts) command
+    by true d later h = subst (λ v. Spells (Word v ∷ ts) command) (d.0 refl) (all.0 ts command h)
+    by false d later h = later h
+
+pub read_is_spelled : (ts : List Token) (command : Command) → read_form ts ≡ Some command → Spells ts command
+read_is_spelled (Word w ∷ ts) command h = found_spelled forms w ts command forms_spelled h
+read_is_spelled ts command h = cc
