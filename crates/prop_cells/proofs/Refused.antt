@@ -8,7 +8,8 @@ use Rattle.std.proofs.lemmas.Bool.Decides.{same_from_decides}
 use Rattle.std.proofs.lemmas.List.Folds.{list_any_at, list_any-append}
 use Rattle.prop_lattice.specs.Refusals.{most}
 use Rattle.prop_lattice.specs.Rank.{IsOf}
-use Rattle.prop_lattice.specs.Parts.{AllBelow, below_test, below_top}
+use Rattle.prop_lattice.specs.Parts.{AllBelow}
+use Rattle.prop_lattice.proofs.PartLemmas.{below_test, below_top}
 use Rattle.prop_lattice.specs.declared.elements.Elements as sets
 use Rattle.prop_lattice.specs.declared.info.Info.{Info}
 use Rattle.prop_lattice.specs.declared.info.Info.TheVariants.{Nothing, Span, Set, Sym, Contradiction}

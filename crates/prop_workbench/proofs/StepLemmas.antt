@@ -1,15 +1,15 @@
 -- Steps of the machine from what its parts were tested for.
-use Rattle.std.proofs.Common.{◌≡◌, ◌∙◌, ℕ, List, [], ◌∷◌, Option, Some, None, ◌⊎◌, inl, inr, refl, sym, ap, subst}
+use Rattle.std.proofs.Common.{◌≡◌, ◌∙◌, ℕ, List, [], ◌∷◌, Option, Some, None, Result, Ok, Err, ◌⊎◌, inl, inr, refl, sym, ap, subst}
 use Rattle.prop_lattice.specs.declared.refusal.Refusal.{Refusal}
 use Rattle.prop_lattice.specs.declared.refusal.Refusal.TheVariants.{Memory}
 use Rattle.prop_procedures.specs.Stored.{Stored}
 use Rattle.prop_compound.specs.Commands as commands
 use Rattle.prop_compound.specs.Commands.{KindWord, Command}
-use Rattle.prop_workbench.specs.Answers.{Answer, Done, Refused}
+use Rattle.prop_workbench.specs.Answers.{Answer, Silent, Done, Text, Refused}
 use Rattle.prop_workbench.specs.Machine.{State}
 use Rattle.prop_workbench.specs.Names.{number_in}
 use Rattle.prop_workbench.specs.Refusing.{refusal_of, limit_refusal, first_of}
-use Rattle.prop_workbench.specs.Steps.{Obeys, Carries, CarriesUnless}
+use Rattle.prop_workbench.specs.Steps.{Obeys, Carries, CarriesUnless, Follows}
 
 pub first_of-one : (r : Option Refusal) → first_of (r ∷ []) ≡ r
 first_of-one None = refl
@@ -38,3 +38,22 @@ refuses_or_lacks library old new command refusal (inr m) same =
 pub cell_rows : (library : List Stored) (s : State) (name : List ℕ) (kind : KindWord) → number_in s.names name ≡ None →
     refusal_of library s (commands.Command.Cell name kind) ≡ limit_refusal s (commands.Command.Cell name kind)
 cell_rows library s name kind none = rw none (first_of-one (limit_refusal s (commands.Command.Cell name kind)))
+
+-- ---- want of memory
+
+same_if_memory : (o : Option Refusal) (library : List Stored) (old new : State) (command : Command) (answer : Answer) (steps : ℕ) → answer ≡ Refused Memory → CarriesUnless o library old command answer new steps → new ≡ old
+same_if_memory (Some refusal) library old new command answer steps e r = r.same
+same_if_memory None library old new (commands.Command.Cell name kind) answer steps e r = let f : Refused Memory ≡ Done = sym e ∙ r.answer_is in cc
+same_if_memory None library old new (commands.Command.Attach name cells by) answer steps e r = let f : Refused Memory ≡ Done = sym e ∙ r.answer_is in cc
+same_if_memory None library old new (commands.Command.Fix cell value) answer steps e r = let f : Refused Memory ≡ Done = sym e ∙ r.answer_is in cc
+same_if_memory None library old new commands.Command.Settle answer steps e r = let f : Refused Memory ≡ Text r.text = sym e ∙ r.answer_is in cc
+same_if_memory None library old new (commands.Command.Ask cell) answer steps e r = let f : Refused Memory ≡ Text r.text = sym e ∙ r.answer_is in cc
+
+-- where memory was refused, any number of steps may have been taken
+pub still_lacks : (library : List Stored) (old new : State) (read : Result (Option Command) Refusal) (answer : Answer) (steps others : ℕ) → answer ≡ Refused Memory → Follows library old read answer new steps → Follows library old read answer new others
+still_lacks library old new (Ok None) answer steps others e f = let g : Refused Memory ≡ Silent = sym e ∙ f.0 in cc
+still_lacks library old new (Err refusal) answer steps others e (inl r) = inr (record { answer_is = e; same = r.same })
+still_lacks library old new (Err refusal) answer steps others e (inr l) = inr l
+still_lacks library old new (Ok (Some command)) answer steps others e (inl c) =
+    inr (record { answer_is = e; same = same_if_memory (refusal_of library old command) library old new command answer steps e c })
+still_lacks library old new (Ok (Some command)) answer steps others e (inr l) = inr l

@@ -1,5 +1,5 @@
 -- What a value says at a cell, and why it is refused.
-use Rattle.std.proofs.Common.{◌≡◌, ◌∙◌, ℕ, ℤ, pos, neg_ℤ, ◌≤ℤ◌, Bool, true, false, cond, ◌&&◌, ◌||◌, List, [], ◌∷◌, Option, Some, None, Result, Ok, Err, is_none, ◌⊎◌, inl, inr, refl, sym, ap, arith}
+use Rattle.std.proofs.Common.{◌≡◌, ◌∙◌, ℕ, ℤ, pos, neg_ℤ, ◌≤ℤ◌, ◌<◌, nat_le, length, Bool, true, false, cond, ◌&&◌, ◌||◌, List, [], ◌∷◌, Option, Some, None, Result, Ok, Err, is_none, ◌⊎◌, inl, inr, refl, sym, ap, arith}
 use Rattle.std.specs.Prelude.{int_le, int_lt}
 use Rattle.std.specs.Option.{option_map_or, option_and_then}
 use Rattle.std.proofs.lemmas.Int.{ints}
@@ -7,11 +7,15 @@ use Rattle.prop_lattice.specs.declared.info.Info.{Info}
 use Rattle.prop_lattice.specs.declared.info.Kind.{Kind}
 use Rattle.prop_lattice.specs.declared.info.Kind.TheVariants as kinds
 use Rattle.prop_lattice.specs.declared.refusal.Refusal.{Refusal}
-use Rattle.prop_lattice.specs.declared.refusal.Refusal.TheVariants.{NotANumber, NoSuchCell, WrongKind, EmptyValue}
+use Rattle.prop_lattice.specs.declared.refusal.Refusal.TheVariants.{NotANumber, NoSuchCell, WrongKind, EmptyValue, LimitReached}
 use Rattle.prop_lattice.specs.Ends.{AreEnds, ends_or_not, span_if, span_from}
 use Rattle.prop_procedures.specs.Stored.{Stored}
 use Rattle.prop_cells.specs.Instances.{kind_at}
-use Rattle.prop_cells.specs.Refusing.{may_be_stated}
+use Rattle.prop_cells.specs.Refusing.{may_be_stated, state_refusal}
+use Rattle.prop_cells.specs.Data.{Data}
+use Rattle.prop_lattice.specs.Refusals.{most}
+use Rattle.prop_lattice.specs.declared.refusal.Limit.TheVariants.{Statements}
+use Rattle.std.proofs.lemmas.Bool.{lt-leb}
 use Rattle.prop_compound.specs.Commands as commands
 use Rattle.prop_compound.specs.Commands.{Value, Bare, Braces}
 use Rattle.prop_compound.specs.Names.{number_in as number_within, whole_number}
@@ -101,8 +105,8 @@ value_may_be kinds.Symbol size value info h = cc
 -- the rows of the refusals that a statement can meet
 abbrev fix_rows : Option (Result Info Refusal) → Option ℕ → Option Refusal → Option Refusal
 fix_rows said cell limit =
-    first_of (when NotANumber (option_map_or (is_error NotANumber) said false) ∷ when NoSuchCell (is_none cell || false) ∷ when WrongKind (option_map_or (is_error WrongKind) said false || false)
-    ∷ when EmptyValue (option_map_or (is_error EmptyValue) said false) ∷ limit ∷ [])
+    first_of (when NotANumber (option_map_or (is_error NotANumber) said false) ∷ None ∷ None ∷ when NoSuchCell (is_none cell || false) ∷ None ∷ None ∷ when WrongKind (option_map_or (is_error WrongKind) said false || false)
+    ∷ None ∷ when EmptyValue (option_map_or (is_error EmptyValue) said false) ∷ limit ∷ [])
 
 by_rows : (library : List Stored) (s : State) (name : List ℕ) (value : Value) (cell : ℕ) → number_in s.names name ≡ Some cell →
     refusal_of library s (commands.Command.Fix name value) ≡ fix_rows (Some (value_said (kind_at s.kinds cell).kind value)) (Some cell) (limit_refusal s (commands.Command.Fix name value))
@@ -126,3 +130,8 @@ pub fix_limited : (library : List Stored) (s : State) (name : List ℕ) (value :
 fix_limited library s name value cell info found said =
     by_rows library s name value cell found ∙ ap (λ (r : Result Info Refusal). fix_rows (Some r) (Some cell) (limit_refusal s (commands.Command.Fix name value))) said
     ∙ first_of-one (limit_refusal s (commands.Command.Fix name value))
+
+-- a network refuses a statement that fits for the limit alone
+pub state_limited : (d : Data) (cell : ℕ) (info : Info) → cell < length d.kinds → may_be_stated (kind_at d.kinds cell).kind (kind_at d.kinds cell).size info ≡ true →
+    state_refusal d cell info ≡ when (LimitReached Statements) (nat_le (most Statements) (length d.statements))
+state_limited d cell info l fits = rw (lt-leb cell (length d.kinds) l, fits) refl

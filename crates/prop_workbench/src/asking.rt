@@ -58,8 +58,8 @@ impl<R: Rule + Drop, O: Order + Drop> Session<R, O> {
             Ok(ended) => ended,
             Err(AllocError) => return (Reply::Refused(Refusal::Memory), 0),
         };
-        self.network.cells().well_made();
-        let info = self.network.cells().info(cell);
+        self.network.data().well_made();
+        let info = self.network.belief(cell);
         match end {
             Run::Quiet => (value_reply(self.alloc, name, info, ""), steps),
             Run::Clash => (text_reply(self.alloc, "contradiction: no premise"), steps),

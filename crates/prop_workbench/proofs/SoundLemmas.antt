@@ -1,0 +1,83 @@
+-- What a session keeps.
+use Rattle.std.proofs.Common.{◌≡◌, ◌∙◌, ◌<◌, ℕ, Bool, true, false, List, [], ◌∷◌, ◌++◌, Some, All, Contains, map, length, slice_get, ◌⊎◌, refl, sym, ap, arith, inl, inr}
+use Rattle.std.proofs.lemmas.List.Elements.{All-weaker, All-push, All-contains, Contains-append_left, Contains-push}
+use Rattle.std.proofs.lemmas.List.{length-append, map-append, length-map}
+use Rattle.std.proofs.lemmas.Option.{slice_get_within}
+use Rattle.prop_lattice.specs.declared.info.Info.TheVariants.{Nothing}
+use Rattle.prop_procedures.specs.declared.shape.Kinded.{Kinded}
+use Rattle.prop_procedures.specs.Stored.{Stored}
+use Rattle.prop_cells.specs.declared.instance.Statement.{Statement}
+use Rattle.prop_cells.specs.Problems.{OthersMeet, Constraint, Meets, Assignment}
+use Rattle.prop_cells.specs.Instances.{Instance, constraint_of}
+use Rattle.prop_cells.specs.Data.{Data, IsKept, Merges, AreReaders, beliefs}
+use Rattle.prop_cells.proofs.Lists.{slice_get-push_cases}
+use Rattle.prop_cells.proofs.Making.{beliefs-push}
+use Rattle.prop_cells.proofs.Fixpoint.{others_meet-step}
+use Rattle.prop_scheduler.specs.Agendas.{Alerted, AllAlerted}
+use Rattle.prop_scheduler.specs.Turns.{IsUnderWay}
+use Rattle.prop_scheduler.proofs.Steps.{from_map, all_alerted}
+
+pub under_way_cell : (library : List Stored) (d new : Data) (line : List ℕ) (k : Kinded) → IsUnderWay library d line → IsKept library new →
+    new ≡ record d { kinds = d.kinds ++ k ∷ []; infos = d.infos ++ Nothing ∷ [] } → IsUnderWay library new line
+under_way_cell library d new line k u kept e = record {
+  kept = kept;
+  line_below = rw e u.line_below;
+  met = rw (e, beliefs-push d.infos) u.met;
+}
+
+at_one : (constraints : List Constraint) (new : Constraint) (line line' : List ℕ) (a : Assignment) → OthersMeet constraints line a → ((k : ℕ) → Contains line k → Contains line' k) → Contains line' (length constraints) →
+    OthersMeet (constraints ++ new ∷ []) line' a
+at_one constraints new line line' a o kept waits = record {
+  met = λ j c at idle.
+      elim (slice_get-push_cases constraints new c j at) as (λ _. Meets a c) [
+        | inl old ↦ o.met j c old (λ w. idle (kept j w))
+        | inr here ↦ absurd (idle (rw here.0 waits))
+      ];
+}
+
+alerted_kept : (old new : List ℕ) (j k : ℕ) → Alerted old new j → Contains old k → Contains new k
+alerted_kept old new j k (inl h) c = rw h.1 c
+alerted_kept old new j k (inr h) c = rw h.1 (Contains-append_left old (j ∷ []) k c)
+
+alerted_here : (old new : List ℕ) (j : ℕ) → Alerted old new j → Contains new j
+alerted_here old new j (inl h) = rw h.1 h.0
+alerted_here old new j (inr h) = rw h.1 (Contains-push old j)
+
+alerted_below : (old new : List ℕ) (j n : ℕ) → Alerted old new j → j < n → All (λ k. k < n) old → All (λ k. k < n) new
+alerted_below old new j n (inl h) l all = rw h.1 all
+alerted_below old new j n (inr h) l all = rw h.1 (All-push (λ k. k < n) old j all l)
+
+-- a statement was merged: the readers wait, where the cell changed
+merged_state : (library : List Stored) (d new : Data) (line line' : List ℕ) (s : Statement) (grown : Bool) → IsUnderWay library d line → IsKept library new →
+    new ≡ record d { statements = d.statements ++ s ∷ []; infos = new.infos } → Merges (beliefs d.infos) (beliefs new.infos) s.cell s.info grown →
+    ((k : ℕ) → Contains line k → Contains line' k) → All (λ k. k < length d.instances) line' →
+    (grown ≡ true → (j : ℕ) (y : Instance) → slice_get d.instances j ≡ Some y → Contains y.inputs s.cell → Contains line' j) → IsUnderWay library new line'
+merged_state library d new line line' s grown u kept e m keep below readers =
+    let same : new.instances ≡ d.instances = ap (λ n. n.instances) e in
+    record {
+      kept = kept;
+      line_below = rw same below;
+      met = rw same (others_meet-step (map (constraint_of library) d.instances) line line' (beliefs d.infos) (beliefs new.infos) (length (map (constraint_of library) d.instances)) s.cell s.info grown
+          (λ c at. absurd (omega (arith, slice_get_within (map (constraint_of library) d.instances) (length (map (constraint_of library) d.instances)) c at)))
+          m.at m.unchanged
+          (record {
+            kept = λ j c ne. keep j c;
+            readers = λ g j c at_j reads. let y = from_map (constraint_of library) d.instances j c at_j in readers g j y.0 y.1 (rw y.2 at reads);
+          })
+          u.met);
+    }
+
+pub under_way_same : (library : List Stored) (d new : Data) (line line' : List ℕ) (s : Statement) (grown : Bool) → IsUnderWay library d line → IsKept library new →
+    new ≡ record d { statements = d.statements ++ s ∷ []; infos = new.infos } → Merges (beliefs d.infos) (beliefs new.infos) s.cell s.info grown → line' ≡ line → grown ≡ false → IsUnderWay library new line'
+under_way_same library d new line line' s grown u kept e m same no_more =
+    merged_state library d new line line' s grown u kept e m (λ k c. rw same c) (rw same u.line_below) (λ g. let t : true ≡ false = sym g ∙ no_more in cc)
+
+pub under_way_grown : (library : List Stored) (d new : Data) (line mid line' row : List ℕ) (s : Statement) (grown : Bool) → IsUnderWay library d line → IsKept library new →
+    new ≡ record d { statements = d.statements ++ s ∷ []; infos = new.infos } → Merges (beliefs d.infos) (beliefs new.infos) s.cell s.info grown → mid ≡ line → AllAlerted mid line' row → AreReaders d.instances s.cell row →
+    IsUnderWay library new line'
+under_way_grown library d new line mid line' row s grown u kept e m same all are =
+    merged_state library d new line line' s grown u kept e m (λ k c. all.kept k (rw same c)) (all_alerted (λ k. k < length d.instances) row mid line' are.below (rw same u.line_below) all)
+    (λ g j y at_j reads. All-contains (Contains line') row j all.alerted (are.covers j y at_j reads))
+
+pub under_way_line : (library : List Stored) (d new : Data) (line line' : List ℕ) → IsUnderWay library d line → new ≡ d → line' ≡ line → IsUnderWay library new line'
+under_way_line library d new line line' u e f = rw (e, f) u
