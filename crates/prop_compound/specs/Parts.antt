@@ -1,5 +1,5 @@
 -- What the parts of the reader answer.
-use Rattle.std.specs.Prelude.{◌≡◌, ℕ, List, [], ◌∷◌, ◌++◌, Bool, true, false, cond, not, nat_le, bytes_eq, codes, ◌||◌, Option, Some, None, is_some, ⊤, Result, Ok, Err}
+use Rattle.std.specs.Prelude.{◌≡◌, ℕ, List, [], ◌∷◌, ◌++◌, Bool, true, false, cond, not, nat_le, bytes_eq, codes, ◌||◌, Option, Some, None, is_some, ⊤, Contains, Result, Ok, Err}
 use Rattle.std.specs.Option.{option_map, option_and_then}
 use Rattle.std.specs.List.{list_all}
 use Rattle.std.specs.Borrow.{Bor}
@@ -97,3 +97,24 @@ read_by (Some word) ts = command_in_form (form_of word ts)
 -- these bytes before what stands before two dots
 abbrev pub behind_front : List ℕ → List ℕ × Option (List ℕ) → List ℕ × Option (List ℕ)
 behind_front front (left, right) = (front ++ left, right)
+
+abbrev pub BeginsOpen : List Token → Type 0
+BeginsOpen (Open ∷ ts) = ⊤
+BeginsOpen ts = ⊥
+
+-- the command keeps a list of the words in these tokens
+abbrev pub KeepsWordsOf : CommandWord → List Token → Type 0
+KeepsWordsOf Attach ts = ⊤
+KeepsWordsOf Fix ts = Contains ts Open
+KeepsWordsOf command ts = ⊥
+
+abbrev pub word_of : CommandWord → List ℕ
+word_of Cell = codes "cell"
+word_of Attach = codes "attach"
+word_of Fix = codes "fix"
+word_of Settle = codes "settle"
+word_of Ask = codes "ask"
+
+-- the command has its own word
+abbrev pub is_worded : Bor (List ℕ) × CommandWord → Bool
+is_worded (word, command) = bytes_eq word.now (word_of command)

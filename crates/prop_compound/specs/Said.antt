@@ -1,8 +1,9 @@
 -- Commands without where their words lie in memory.
-use Rattle.std.specs.Prelude.{◌≡◌, ◌⊎◌, map, List, ℕ, Option, Some, None, Result, Ok, Err}
+use Rattle.std.specs.Prelude.{◌≡◌, ◌⊎◌, map, List, ◌∷◌, ℕ, codes, Contains, Option, Some, None, Result, Ok, Err}
 use Rattle.std.specs.Borrow.{Bor}
 use Rattle.prop_lattice.specs.declared.refusal.Refusal.{Refusal}
 use Rattle.prop_lattice.specs.declared.refusal.Refusal.TheVariants.{Memory}
+use Rattle.prop_compound.specs.Tokens.{Token, Word, Open}
 use Rattle.prop_compound.specs.Commands as commands
 use Rattle.prop_compound.specs.declared.command.Value.{Value}
 use Rattle.prop_compound.specs.declared.command.Value.TheVariants.{Bare, Braces}
@@ -41,3 +42,8 @@ said (Ask cell) = Some (commands.Command.Ask cell.now)
 abbrev pub Reads : Result Command Refusal → Result (Option commands.Command) Refusal → Type 0
 Reads (Ok command) read = read ≡ Ok (said command)
 Reads (Err refusal) read = (refusal ≡ Memory) ⊎ (read ≡ Err refusal)
+
+-- The command keeps a list of words, its cells or those in braces: for another line there is no want of memory.
+abbrev pub KeepsWords : List Token → Type 0
+KeepsWords (Word w ∷ ts) = (w ≡ codes "attach") ⊎ ((w ≡ codes "fix") × Contains ts Open)
+KeepsWords ts = ⊥

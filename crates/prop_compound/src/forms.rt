@@ -1,13 +1,13 @@
 //! The form of each command: what is read from the bytes behind its word.
-ghost use Rattle.std.specs.Prelude.{◌≡◌, ◌≢◌, ◌∷◌, [], ◌⊎◌, IfOk, IfErr, OnOk, true, false, Ok, Err, None, Some};
+ghost use Rattle.std.specs.Prelude.{◌≡◌, ◌≢◌, ◌∷◌, [], ◌⊎◌, IfOk, IfErr, OnOk, true, false, Contains, Ok, Err, None, Some};
 ghost use Rattle.std.specs.List.{list_all};
-ghost use Rattle.prop_compound.specs.Tokens.{tokens, Word};
+ghost use Rattle.prop_compound.specs.Tokens.{tokens, Word, Open};
 ghost use Rattle.prop_compound.specs.Names.{is_name};
 ghost use Rattle.prop_compound.specs.Forms as forms;
 ghost use Rattle.prop_compound.specs.Commands as commands;
 ghost use Rattle.prop_compound.specs.Reading.{command_in_form};
 ghost use Rattle.prop_compound.specs.Said.{Reads, words, kind_of, by_of, value_of};
-ghost use Rattle.prop_compound.specs.Parts.{front, one_word, given, parameter_said, before_by, by_in_range, some_values};
+ghost use Rattle.prop_compound.specs.Parts.{front, one_word, given, parameter_said, before_by, by_in_range, some_values, BeginsOpen};
 
 use crate::command::{By, Command, KindWord, Value};
 use crate::names::name;
@@ -61,7 +61,8 @@ fn kind_word(word: &[u8]) -> Result<KindWord, Refusal>
 
 /// `cell X KIND`, behind its first word.
 pub fn cell(rest: &[u8]) -> Result<Command<'_>, Refusal>
-    ensures { Reads result (command_in_form (forms.cell (tokens rest.now))) }
+    ensures read { Reads result (command_in_form (forms.cell (tokens rest.now))) }
+    ensures memory { result ≢ Err Refusal.Memory }
 {
     let (cell, rest) = word(rest)?;
     let kind = kind_word(only_word(rest)?)?;
@@ -70,7 +71,8 @@ pub fn cell(rest: &[u8]) -> Result<Command<'_>, Refusal>
 
 /// `settle`, behind its first word.
 pub fn settle(rest: &[u8]) -> Result<Command<'_>, Refusal>
-    ensures { Reads result (command_in_form (forms.bare commands.Command.Settle (tokens rest.now))) }
+    ensures read { Reads result (command_in_form (forms.bare commands.Command.Settle (tokens rest.now))) }
+    ensures memory { result ≢ Err Refusal.Memory }
 {
     end(rest)?;
     Ok(Command::Settle)
@@ -78,7 +80,8 @@ pub fn settle(rest: &[u8]) -> Result<Command<'_>, Refusal>
 
 /// `ask X`, behind its first word.
 pub fn ask(rest: &[u8]) -> Result<Command<'_>, Refusal>
-    ensures { Reads result (command_in_form (forms.on_word commands.Command.Ask (tokens rest.now))) }
+    ensures read { Reads result (command_in_form (forms.on_word commands.Command.Ask (tokens rest.now))) }
+    ensures memory { result ≢ Err Refusal.Memory }
 {
     Ok(Command::Ask(name(only_word(rest)?)?))
 }
@@ -173,6 +176,7 @@ fn braces<'a>(alloc: Global, bytes: &'a [u8]) -> Result<(Value<'a>, &'a [u8]), R
 fn value<'a>(alloc: Global, bytes: &'a [u8]) -> Result<(Value<'a>, &'a [u8]), Refusal>
     ensures ok { IfOk result (λ found. forms.values (tokens bytes.now) ≡ forms.join (Some (value_of found.0)) (forms.values (tokens found.1.now))) }
     ensures err { IfErr result (λ refusal. (refusal ≡ Refusal.Memory) ⊎ ((refusal ≡ Refusal.WrongForm) × (some_values (tokens bytes.now) ≡ None))) }
+    ensures memory { (result ≡ Err Refusal.Memory) → BeginsOpen (tokens bytes.now) }
 {
     match next_token(bytes) {
         Some((Token::Word(word), rest)) => Ok((Value::Bare(word), rest)),
@@ -183,7 +187,8 @@ fn value<'a>(alloc: Global, bytes: &'a [u8]) -> Result<(Value<'a>, &'a [u8]), Re
 
 /// `fix X V`, behind its first word.
 pub fn fix<'a>(alloc: Global, rest: &'a [u8]) -> Result<Command<'a>, Refusal>
-    ensures { Reads result (command_in_form (forms.fix (tokens rest.now))) }
+    ensures read { Reads result (command_in_form (forms.fix (tokens rest.now))) }
+    ensures memory { (result ≡ Err Refusal.Memory) → Contains (tokens rest.now) Open }
 {
     let (cell, rest) = word(rest)?;
     let (value, rest) = value(alloc, rest)?;

@@ -13,3 +13,6 @@ pub use command::{By, Command, KindWord, Value};
 pub use numbers::number_in;
 pub use reading::{read_line, reads_what_is_spelled};
 pub use values::read_value;
+
+#[cfg(test)]
+mod tests;

@@ -1,10 +1,11 @@
 //! What a line asks for.
-ghost use Rattle.std.specs.Prelude.{◌≡◌, List, map, find, bytes_eq};
+ghost use Rattle.std.specs.Prelude.{◌≡◌, List, map, find, bytes_eq, IfSome, IsTrue};
+ghost use Rattle.std.specs.List.{list_all};
 ghost use Rattle.prop_compound.specs.Tokens as words;
 ghost use Rattle.prop_compound.specs.Tokens.{tokens};
 ghost use Rattle.prop_compound.specs.Reading.{reading, reading_of, command_of, by_form_of, command_in_form, is_silent, without_return};
-ghost use Rattle.prop_compound.specs.Parts.{form_of, form_entry, read_by};
-ghost use Rattle.prop_compound.specs.Said.{Reads};
+ghost use Rattle.prop_compound.specs.Parts.{form_of, form_entry, read_by, word_of, is_worded, KeepsWordsOf};
+ghost use Rattle.prop_compound.specs.Said.{Reads, KeepsWords};
 ghost use Rattle.prop_compound.specs.Refusals.{RefusesTheFirst, ReadsWhatIsSpelled, PassesOverSilence};
 
 use crate::command::Command;
@@ -59,7 +60,8 @@ const COMMANDS: [(&[u8], CommandWord); 5] = [
 
 /// The first of these commands that has this word.
 fn find_command(commands: &[(&[u8], CommandWord)], word: &[u8]) -> Option<CommandWord>
-    ensures { (ts : List words.Token) → by_form_of (find (λ form. bytes_eq form.0 word.now) (map form_entry commands.now)) ts ≡ read_by result ts }
+    ensures read { (ts : List words.Token) → by_form_of (find (λ form. bytes_eq form.0 word.now) (map form_entry commands.now)) ts ≡ read_by result ts }
+    ensures word { IfSome result (λ command. IsTrue (list_all is_worded commands.now) → word.now ≡ word_of command) }
 {
     for (known, command) in commands {
         if *known == word {
@@ -75,7 +77,8 @@ fn read_form<'a>(
     command: CommandWord,
     rest: &'a [u8],
 ) -> Result<Command<'a>, Refusal>
-    ensures { Reads result (command_in_form (form_of command (tokens rest.now))) }
+    ensures read { Reads result (command_in_form (form_of command (tokens rest.now))) }
+    ensures memory { (result ≡ Err Refusal.Memory) → KeepsWordsOf command (tokens rest.now) }
 {
     match command {
         CommandWord::Cell => forms::cell(rest),
@@ -88,7 +91,8 @@ fn read_form<'a>(
 
 /// The command of a line that gets a reply, by its first word.
 fn read_command<'a>(alloc: Global, text: &'a [u8]) -> Result<Command<'a>, Refusal>
-    ensures { Reads result (command_of (tokens text.now)) }
+    ensures read { Reads result (command_of (tokens text.now)) }
+    ensures memory { (result ≡ Err Refusal.Memory) → KeepsWords (tokens text.now) }
 {
     let Some((Token::Word(word), rest)) = next_token(text) else {
         return Err(Refusal::UnknownCommand);
@@ -100,7 +104,8 @@ fn read_command<'a>(alloc: Global, text: &'a [u8]) -> Result<Command<'a>, Refusa
 }
 
 fn read_text<'a>(alloc: Global, text: &'a [u8]) -> Result<Command<'a>, Refusal>
-    ensures { Reads result (reading_of text.now) }
+    ensures read { Reads result (reading_of text.now) }
+    ensures memory { (result ≡ Err Refusal.Memory) → KeepsWords (tokens text.now) }
 {
     match str::from_utf8(text) {
         Err(_) => Err(Refusal::NotUtf8),
@@ -115,7 +120,8 @@ fn read_text<'a>(alloc: Global, text: &'a [u8]) -> Result<Command<'a>, Refusal>
 /// its command's, has a word in a name's place that is no name, or a number out of its range. Or it is `Refusal::Memory`,
 /// where there was no memory for the words.
 pub fn read_line<'a>(alloc: Global, line: &'a [u8]) -> Result<Command<'a>, Refusal>
-    ensures { Reads result (reading line.now) }
+    ensures read { Reads result (reading line.now) }
+    ensures memory { (result ≡ Err Refusal.Memory) → KeepsWords (tokens (without_return line.now)) }
 {
     if line.len() > MOST_BYTES {
         return Err(Refusal::LineTooLong);

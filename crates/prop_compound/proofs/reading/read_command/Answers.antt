@@ -1,13 +1,29 @@
-use Rattle.std.proofs.Common.{inr}
-use Rattle.prop_compound.specs.Tokens.{tokens}
+use Rattle.std.proofs.Common.{◌≡◌, ℕ, List, ◌∷◌, inl, inr, refl}
+use Rattle.prop_compound.specs.Tokens.{Token, Word, tokens}
+use Rattle.prop_compound.specs.Said.{KeepsWords}
+use Rattle.prop_compound.specs.Parts.{KeepsWordsOf, word_of}
+use Rattle.prop_compound.specs.declared.reading.CommandWord.{CommandWord}
+use Rattle.prop_compound.specs.declared.reading.CommandWord.TheVariants.{Cell, Attach, Fix, Settle, Ask}
 use Rattle.prop_compound.proofs.reading.read_command.Goals as goal
 
-pub returns-in-Some : goal.returns-in-Some
-returns-in-Some c =
-    let e = rw c.in-Some-Word-default.field-0-0-is at c.in-Some-Word-default.ensures.found in
-    rw (e, c.in-Some.ensures (tokens c.in-Some-Word-default.rest.now)) c.read_form.ensures
+keeps : (command : CommandWord) (w : List ℕ) (ts : List Token) → w ≡ word_of command → KeepsWordsOf command ts → KeepsWords (Word w ∷ ts)
+keeps Cell w ts e h = absurd h
+keeps Attach w ts e h = inl e
+keeps Fix w ts e h = inr (e, h)
+keeps Settle w ts e h = absurd h
+keeps Ask w ts e h = absurd h
 
-pub returns-in-None : goal.returns-in-None
-returns-in-None c =
+pub returns-in-Some-clause-read : goal.returns-in-Some-clause-read
+returns-in-Some-clause-read c =
     let e = rw c.in-Some-Word-default.field-0-0-is at c.in-Some-Word-default.ensures.found in
-    inr (rw e (c.in-None.ensures (tokens c.in-Some-Word-default.rest.now)))
+    rw (e, c.in-Some.ensures.read (tokens c.in-Some-Word-default.rest.now)) c.read_form.ensures.read
+
+pub returns-in-Some-clause-memory : goal.returns-in-Some-clause-memory
+returns-in-Some-clause-memory c =
+    let e = rw c.in-Some-Word-default.field-0-0-is at c.in-Some-Word-default.ensures.found in
+    λ none. rw e (keeps c.in-Some.command _ _ (c.in-Some.ensures.word refl) (c.read_form.ensures.memory none))
+
+pub returns-in-None-clause-read : goal.returns-in-None-clause-read
+returns-in-None-clause-read c =
+    let e = rw c.in-Some-Word-default.field-0-0-is at c.in-Some-Word-default.ensures.found in
+    inr (rw e (c.in-None.ensures.read (tokens c.in-Some-Word-default.rest.now)))
