@@ -7,7 +7,7 @@ use Rattle.prop_lattice.specs.declared.info.Info.{Info}
 use Rattle.prop_lattice.specs.declared.info.Kind.{Kind}
 use Rattle.prop_lattice.specs.declared.info.Kind.TheVariants as kinds
 use Rattle.prop_lattice.specs.declared.refusal.Refusal.{Refusal}
-use Rattle.prop_lattice.specs.declared.refusal.Refusal.TheVariants.{NotANumber, NoSuchCell, WrongKind, EmptyValue, LimitReached}
+use Rattle.prop_lattice.specs.declared.refusal.Refusal.TheVariants.{NotANumber, NoSuchCell, WrongKind, EmptyValue, LimitReached, Memory}
 use Rattle.prop_lattice.specs.Ends.{AreEnds, ends_or_not, span_if, span_from}
 use Rattle.prop_procedures.specs.Stored.{Stored}
 use Rattle.prop_cells.specs.Instances.{kind_at}
@@ -21,6 +21,7 @@ use Rattle.prop_compound.specs.Commands.{Value, Bare, Braces}
 use Rattle.prop_compound.specs.Names.{number_in as number_within, whole_number}
 use Rattle.prop_compound.specs.Values.{value_said, span_value, ends_value, bounded_number, halves}
 use Rattle.prop_workbench.specs.Machine.{State}
+use Rattle.prop_workbench.specs.Sessions.{state_from}
 use Rattle.prop_workbench.specs.Names.{number_in}
 use Rattle.prop_workbench.specs.Refusing.{refusal_of, limit_refusal, first_of, when, value_at, is_error}
 use Rattle.prop_workbench.proofs.StepLemmas.{first_of-one}
@@ -135,3 +136,12 @@ fix_limited library s name value cell info found said =
 pub state_limited : (d : Data) (cell : ℕ) (info : Info) → cell < length d.kinds → may_be_stated (kind_at d.kinds cell).kind (kind_at d.kinds cell).size info ≡ true →
     state_refusal d cell info ≡ when (LimitReached Statements) (nat_le (most Statements) (length d.statements))
 state_limited d cell info l fits = rw (lt-leb cell (length d.kinds) l, fits) refl
+
+-- why the network stops a statement whose value fits is why the machine does
+pub fix_stopped : (library : List Stored) (names : List (List ℕ)) (d : Data) (limit : ℕ) (name : List ℕ) (value : Value) (cell : ℕ) (info : Info) (e : Refusal) → number_in names name ≡ Some cell → cell < length d.kinds →
+    value_said (kind_at d.kinds cell).kind value ≡ Ok info → (state_refusal d cell info ≡ Some e) ⊎ (e ≡ Memory) → (refusal_of library (state_from names d limit) (commands.Command.Fix name value) ≡ Some e) ⊎ (e ≡ Memory)
+fix_stopped library names d limit name value cell info e found l said (inl h) =
+    let s : State = state_from names d limit in
+    let fits = value_may_be (kind_at d.kinds cell).kind (kind_at d.kinds cell).size value info said in
+    inl (fix_limited library s name value cell info found said ∙ sym (state_limited d cell info l fits) ∙ h)
+fix_stopped library names d limit name value cell info e found l said (inr m) = inr m

@@ -1,5 +1,5 @@
 -- What a command that isn't refused does to the state.
-use Rattle.std.specs.Prelude.{ℕ, ◌-◌, List, [], ◌∷◌, ◌++◌, Option, None, Result, Ok, Err, length, take, slice_get, slice_index_or, unwrap_or}
+use Rattle.std.specs.Prelude.{ℕ, List, [], ◌∷◌, ◌++◌, Option, None, Result, Ok, Err, slice_get, unwrap_or}
 use Rattle.std.specs.Option.{option_map_or, option_and_then}
 use Rattle.prop_lattice.specs.declared.info.Info.{Info}
 use Rattle.prop_lattice.specs.declared.info.Info.TheVariants.{Nothing}
@@ -16,11 +16,15 @@ use Rattle.prop_workbench.specs.Refusing.{value_at, given_by}
 
 -- the cells that an instance reads: all but the last
 abbrev pub inputs_of : List ℕ → List ℕ
-inputs_of cells = take (length cells - 1) cells
+inputs_of [] = []
+inputs_of (cell ∷ []) = []
+inputs_of (cell ∷ next ∷ cells) = cell ∷ inputs_of (next ∷ cells)
 
 -- the cell that an instance writes: the last
 abbrev pub output_of : List ℕ → ℕ
-output_of cells = slice_index_or cells (length cells - 1) 0
+output_of [] = 0
+output_of (cell ∷ []) = cell
+output_of (cell ∷ next ∷ cells) = output_of (next ∷ cells)
 
 -- the instance that a use of the procedure of this number makes
 abbrev pub instance_made : List Stored → ℕ → By → List ℕ → Instance

@@ -93,6 +93,17 @@ first_of [] = None
 first_of (None ∷ rest) = first_of rest
 first_of (Some refusal ∷ rest) = Some refusal
 
+-- why an instance of the procedure on these cells, with what is given, is refused
+abbrev pub placing_refusal : Stored → State → By → List ℕ → Option Refusal
+placing_refusal p s by cells =
+    first_of (
+    when WrongCount (not (length cells == length p.ins + 1))
+    ∷ when WrongKind (not (are_right (places_of p s.kinds cells)))
+    ∷ when WrongParameter (is_none (fitting_param p.need (given_by by)))
+    ∷ when (LimitReached Instances) (nat_le (most Instances) (length s.instances))
+    ∷ []
+    )
+
 -- why the command is refused in the state, where it is: the first that applies
 abbrev pub refusal_of : List Stored → State → Command → Option Refusal
 refusal_of library s command =
