@@ -1,0 +1,20 @@
+-- How many steps a run can take.
+use Rattle.std.specs.Prelude.{ℕ, ◌+◌, List, length, sum_by, flat_map, Option, Some, None, slice_get}
+use Rattle.prop_lattice.specs.declared.info.Info.{Info}
+use Rattle.prop_lattice.specs.Rank.{rank_of}
+use Rattle.prop_procedures.specs.declared.shape.Kinded.{Kinded}
+use Rattle.prop_cells.specs.Problems.{Problem, Assignment}
+
+-- the rank of the information in a cell of this kind
+abbrev pub rank_in : Option Kinded → Info → ℕ
+rank_in None v = 0
+rank_in (Some k) v = rank_of k.kind k.size v
+
+-- the cells at the input places of the instances, one for each place
+abbrev pub input_places : Problem → List ℕ
+input_places problem = flat_map (λ c. c.inputs) problem.constraints
+
+-- the waiting instances, and the ranks of what is believed at the input places
+abbrev pub potential : Problem → Assignment → List ℕ → ℕ
+potential problem believed waiting =
+    length waiting + sum_by (λ cell. rank_in (slice_get problem.cells cell) (believed cell)) (input_places problem)
