@@ -33,9 +33,12 @@ silent_tokens (b ∷ bytes) h = by (silent_tokens bytes) (is_blank b) refl h
     by rest true e s = rw e (rest s)
     by rest false e s = begins (eqb-true b 35 s)
 
+heads : {a b : ℕ} {xs ys : List ℕ} → a ∷ xs ≡ b ∷ ys → a ≡ b
+heads e = cc
+
 keeps_no_comment : (w : List ℕ) (ts : List Token) → KeepsWords (Word (35 ∷ w) ∷ ts) → ⊥
-keeps_no_comment w ts (inl e) = let h : 35 ≡ 97 = cc in omega (arith, h)
-keeps_no_comment w ts (inr p) = let e = p.0 in let h : 35 ≡ 102 = cc in omega (arith, h)
+keeps_no_comment w ts (inl e) = let h : 35 ≡ 97 = heads e in omega (arith, h)
+keeps_no_comment w ts (inr p) = let h : 35 ≡ 102 = heads p.0 in omega (arith, h)
 
 heard_words : (text : List ℕ) → KeepsWords (tokens text) → is_silent text ≡ true → ⊥
 heard_words text keeps h = by (silent_tokens text h)

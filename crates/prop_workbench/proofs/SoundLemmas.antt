@@ -15,7 +15,7 @@ use Rattle.prop_cells.proofs.Making.{beliefs-push}
 use Rattle.prop_cells.proofs.Fixpoint.{others_meet-step}
 use Rattle.prop_scheduler.specs.Agendas.{Alerted, AllAlerted}
 use Rattle.prop_scheduler.specs.Turns.{IsUnderWay}
-use Rattle.prop_scheduler.proofs.Steps.{from_map, all_alerted}
+use Rattle.prop_scheduler.proofs.Steps.{from_map, all_after_alerts}
 
 pub under_way_cell : (library : List Stored) (d new : Data) (line : List ℕ) (k : Kinded) → IsUnderWay library d line → IsKept library new →
     new ≡ record d { kinds = d.kinds ++ k ∷ []; infos = d.infos ++ Nothing ∷ [] } → IsUnderWay library new line
@@ -76,8 +76,24 @@ pub under_way_grown : (library : List Stored) (d new : Data) (line mid line' row
     new ≡ record d { statements = d.statements ++ s ∷ []; infos = new.infos } → Merges (beliefs d.infos) (beliefs new.infos) s.cell s.info grown → mid ≡ line → AllAlerted mid line' row → AreReaders d.instances s.cell row →
     IsUnderWay library new line'
 under_way_grown library d new line mid line' row s grown u kept e m same all are =
-    merged_state library d new line line' s grown u kept e m (λ k c. all.kept k (rw same c)) (all_alerted (λ k. k < length d.instances) row mid line' are.below (rw same u.line_below) all)
+    merged_state library d new line line' s grown u kept e m (λ k c. all.kept k (rw same c)) (all_after_alerts (λ k. k < length d.instances) row mid line' are.below (rw same u.line_below) all)
     (λ g j y at_j reads. All-contains (Contains line') row j all.alerted (are.covers j y at_j reads))
 
 pub under_way_line : (library : List Stored) (d new : Data) (line line' : List ℕ) → IsUnderWay library d line → new ≡ d → line' ≡ line → IsUnderWay library new line'
 under_way_line library d new line line' u e f = rw (e, f) u
+
+pub under_way_attach : (library : List Stored) (d new : Data) (line line' : List ℕ) (x : Instance) (j : ℕ) → IsUnderWay library d line → IsKept library new →
+    new ≡ record d { instances = d.instances ++ x ∷ [] } → j ≡ length d.instances → Alerted line line' j → IsUnderWay library new line'
+under_way_attach library d new line line' x j u kept e here alerted =
+    let more = length-append d.instances (x ∷ []) in
+    let place : j ≡ length (map (constraint_of library) d.instances) = here ∙ sym (length-map d.instances (constraint_of library)) in
+    record {
+      kept = kept;
+      line_below = rw e (alerted_below line line' j (length (d.instances ++ x ∷ [])) alerted (omega (arith, here, more))
+          (All-weaker (λ k. k < length d.instances) (λ k. k < length (d.instances ++ x ∷ [])) (λ k h. omega (arith, h, more)) line u.line_below));
+      met = rw (e, map-append) (at_one (map (constraint_of library) d.instances) (constraint_of library x) line line' (beliefs d.infos) u.met (λ k c. alerted_kept line line' j k alerted c) (rw (← place) (alerted_here line line' j alerted)));
+    }
+
+-- parameters bear on nothing that is under way
+pub under_way_params : (library : List Stored) (d new : Data) (line : List ℕ) → IsUnderWay library d line → IsKept library new → new ≡ record d { params = new.params } → IsUnderWay library new line
+under_way_params library d new line u kept e = record { kept = kept; line_below = rw e u.line_below; met = rw e u.met }

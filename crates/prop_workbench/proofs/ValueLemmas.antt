@@ -135,7 +135,7 @@ fix_limited library s name value cell info found said =
 -- a network refuses a statement that fits for the limit alone
 pub state_limited : (d : Data) (cell : ℕ) (info : Info) → cell < length d.kinds → may_be_stated (kind_at d.kinds cell).kind (kind_at d.kinds cell).size info ≡ true →
     state_refusal d cell info ≡ when (LimitReached Statements) (nat_le (most Statements) (length d.statements))
-state_limited d cell info l fits = rw (lt-leb cell (length d.kinds) l, fits) refl
+state_limited d cell info l fits = rw (lt-leb (length d.kinds) cell l, fits) refl
 
 -- why the network stops a statement whose value fits is why the machine does
 pub fix_stopped : (library : List Stored) (names : List (List ℕ)) (d : Data) (limit : ℕ) (name : List ℕ) (value : Value) (cell : ℕ) (info : Info) (e : Refusal) → number_in names name ≡ Some cell → cell < length d.kinds →

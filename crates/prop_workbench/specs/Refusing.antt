@@ -34,9 +34,15 @@ abbrev pub is_taken : State → Command → Bool
 is_taken s (Command.Cell name kind) = is_some (number_in s.names name)
 is_taken s command = false
 
+-- what is given is a relation
+abbrev pub is_relation : By → Bool
+is_relation By.Nothing = false
+is_relation (By.Number k) = false
+is_relation (By.Relation name) = true
+
 -- a relation is named, of which there is none
 abbrev pub is_relation_missing : Command → Bool
-is_relation_missing (Command.Attach name cells (By.Relation relation)) = true
+is_relation_missing (Command.Attach name cells by) = is_relation by
 is_relation_missing command = false
 
 -- the names that stand for cells

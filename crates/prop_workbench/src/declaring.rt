@@ -1,6 +1,7 @@
 //! The commands that make cells and put procedures between them.
 ghost use Rattle.std.specs.Prelude.{◌≡◌, ℕ, length};
-ghost use Rattle.prop_compound.specs.Said.{kind_of};
+ghost use Rattle.prop_compound.specs.Said.{kind_of, by_of};
+ghost use Rattle.prop_workbench.specs.Refusing.{is_relation};
 ghost use Rattle.prop_workbench.specs.Effects.{kind_named};
 
 use crate::reply::Reply;
@@ -18,6 +19,16 @@ fn kind_named(word: KindWord) -> Kinded
 {
     match word {
         KindWord::Spans => span_kinded(),
+    }
+}
+
+/// Whether a relation is given.
+fn is_relation(by: By) -> bool
+    ensures { result ≡ is_relation (by_of by.entry) }
+{
+    match by {
+        By::Nothing | By::Number(_) => false,
+        By::Relation(_) => true,
     }
 }
 
@@ -70,9 +81,8 @@ impl<R: Rule + Drop, O: Order + Drop> Session<R, O> {
         ensures steps { steps_of self.new ≡ steps_of self.old }
         ensures step { Obeys (library_of R.value_of self.old) (state_of self.old) (commands.Command.Attach name.now (words cells.now) (by_of by.entry)) (answer_of result) (state_of self.new) 0 }
     {
-        match by {
-            By::Relation(_) => return Reply::Refused(Refusal::NoSuchRelation),
-            By::Nothing | By::Number(_) => {}
+        if is_relation(by) {
+            return Reply::Refused(Refusal::NoSuchRelation);
         }
         if self.names.is_missing(cells) {
             return Reply::Refused(Refusal::NoSuchCell);
@@ -105,16 +115,19 @@ impl<R: Rule + Drop, O: Order + Drop> Session<R, O> {
         ensures err_same { OnErr result (state_of self.new ≡ state_of self.old) }
     {
         let (out, ins) = match cells.split_last() {
-            Some(parts) => parts,
+            Some((out, ins)) => (*out, ins),
             None => return Err(Refusal::WrongCount),
         };
-        match self.agenda.reserve(1) {
+        let next = self.network.instances();
+        let Some(count) = next.checked_add(1) else {
+            return Err(Refusal::Memory);
+        };
+        match self.agenda.room(count) {
             Ok(()) => {}
-            Err(_) => return Err(Refusal::Memory),
+            Err(AllocError) => return Err(Refusal::Memory),
         }
         let param = self.given(by)?;
-        let next = self.network.instances();
-        match self.network.attach(self.alloc, procedure, param, ins, *out) {
+        match self.network.attach(self.alloc, procedure, param, ins, out) {
             Ok(()) => {
                 self.agenda.alert(next);
                 Ok(())

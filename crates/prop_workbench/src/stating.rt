@@ -32,10 +32,6 @@ impl<R: Rule + Drop, O: Order + Drop> Session<R, O> {
             Ok(info) => info,
             Err(refusal) => return Reply::Refused(refusal),
         };
-        match self.agenda.reserve(self.network.readers(cell).len()) {
-            Ok(()) => {}
-            Err(_) => return Reply::Refused(Refusal::Memory),
-        }
         match self.network.state(cell, info) {
             Ok(grown) => {
                 if grown {
