@@ -5,6 +5,7 @@ use Rattle.std.specs.Option.{option_map_or}
 use Rattle.std.specs.Bool.{Decides}
 use Rattle.std.proofs.lemmas.Bool.{cases_lt, le-leb, lt-leb, eq-eqb, ne_eqb, both_ways}
 use Rattle.std.proofs.lemmas.Bool.Decides.{same_from_decides}
+use Rattle.std.proofs.lemmas.Option.{slice_get_cases}
 use Rattle.std.proofs.lemmas.List.Folds.{list_any_at, list_any-append}
 use Rattle.prop_lattice.specs.Refusals.{most}
 use Rattle.prop_lattice.specs.Rank.{IsOf}
@@ -21,7 +22,7 @@ use Rattle.prop_lattice.specs.declared.refusal.Refusal.TheVariants.{NoSuchCell, 
 use Rattle.prop_procedures.specs.declared.shape.Param.{Param}
 use Rattle.prop_procedures.specs.declared.shape.Need.{Need}
 use Rattle.prop_procedures.specs.Stored.{Stored, are_right}
-use Rattle.prop_cells.specs.Instances.{kind_at, places_of, param_in, instance_of, attached}
+use Rattle.prop_cells.specs.Instances.{Instance, kind_at, places_of, param_in, instance_of, attached}
 use Rattle.prop_cells.specs.Data.{Data}
 use Rattle.prop_cells.specs.Problems.{is_contradiction}
 use Rattle.prop_cells.proofs.RowLemmas.{or_none}
@@ -122,3 +123,31 @@ module _ (library : List Stored) (n : ℕ) (p : Stored) (d : Data) (param : Opti
     attached_is given he =
         ap (λ o. option_map_or (λ q. option_map_or (λ fitting. instance_of n ins out fitting ∷ []) (param_in q.need d.params param) []) o []) at ∙
         ap (λ o. option_map_or (λ fitting. instance_of n ins out fitting ∷ []) o []) he
+
+some_of : (o : Option Param) → is_none o ≡ false → (given : Param) × (o ≡ Some given)
+some_of None e = cc
+some_of (Some given) e = (given, refl)
+
+fifth_of_table : (a b c e f : Bool) → table a b c e f ≡ None → e ≡ false
+fifth_of_table true b c e f h = cc
+fifth_of_table false false c e f h = cc
+fifth_of_table false true false e f h = cc
+fifth_of_table false true true true f h = cc
+fifth_of_table false true true false f h = refl
+
+-- what is attached where nothing refuses it is one instance
+pub attached_one : (library : List Stored) (n : ℕ) (d : Data) (param : Option ℕ) (ins : List ℕ) (out : ℕ) → n < length library → attach_refusal library d n param ins out ≡ None →
+    (x : Instance) × (attached library d.params n param ins out ≡ x ∷ [])
+attached_one library n d param ins out l h =
+    elim (slice_get_cases library n).1 as (λ _. (x : Instance) × (attached library d.params n param ins out ≡ x ∷ [])) [
+      | inl at ↦
+          (let p = at.0 in
+          let at_n : slice_get library n ≡ Some p = at.2 in
+          let same = ap (λ o. option_map_or (λ q. refusal_at q d param ins out) o None) at_n in
+          let fits = fifth_of_table (list_any (λ cell. nat_le (length d.kinds) cell) (ins ++ out ∷ [])) (length ins == length p.ins) (are_right (places_of p d.kinds (ins ++ out ∷ []))) (is_none (param_in p.need d.params param))
+          (nat_le (most Instances) (length d.instances)) (sym same ∙ h) in
+          let given = some_of (param_in p.need d.params param) fits in
+          (instance_of n ins out given.0, ap (λ o. option_map_or (λ q. option_map_or (λ fitting. instance_of n ins out fitting ∷ []) (param_in q.need d.params param) []) o []) at_n ∙
+          ap (λ o. option_map_or (λ fitting. instance_of n ins out fitting ∷ []) o []) given.1))
+      | inr past ↦ absurd (omega (arith, past.0, l))
+    ]
