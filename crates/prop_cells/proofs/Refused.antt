@@ -146,8 +146,10 @@ attached_one library n d param ins out l h =
           let same = ap (λ o. option_map_or (λ q. refusal_at q d param ins out) o None) at_n in
           let fits = fifth_of_table (list_any (λ cell. nat_le (length d.kinds) cell) (ins ++ out ∷ [])) (length ins == length p.ins) (are_right (places_of p d.kinds (ins ++ out ∷ []))) (is_none (param_in p.need d.params param))
           (nat_le (most Instances) (length d.instances)) (sym same ∙ h) in
-          let given = some_of (param_in p.need d.params param) fits in
-          (instance_of n ins out given.0, ap (λ o. option_map_or (λ q. option_map_or (λ fitting. instance_of n ins out fitting ∷ []) (param_in q.need d.params param) []) o []) at_n ∙
-          ap (λ o. option_map_or (λ fitting. instance_of n ins out fitting ∷ []) o []) given.1))
+          let given = some_of (param_in p.need d.params param) fits in (
+            instance_of n ins out given.0,
+            ap (λ o. option_map_or (λ q. option_map_or (λ fitting. instance_of n ins out fitting ∷ []) (param_in q.need d.params param) []) o []) at_n ∙
+                ap (λ o. option_map_or (λ fitting. instance_of n ins out fitting ∷ []) o []) given.1,
+          ))
       | inr past ↦ absurd (omega (arith, past.0, l))
     ]

@@ -107,7 +107,7 @@ attached_is library n p s params by given ins out at param fits = with_fitting (
     with_fitting None e =
         absurd (never_none (not (length (ins ++ out ∷ []) == (length p.ins + 1))) (not (are_right (places_of p s.kinds (ins ++ out ∷ [])))) (when (LimitReached Instances) (nat_le (most Instances) (length s.instances)))
         (subst (λ (f : Option Param). first_of (when WrongCount (not (length (ins ++ out ∷ []) == (length p.ins + 1))) ∷ when WrongKind (not (are_right (places_of p s.kinds (ins ++ out ∷ [])))) ∷ when WrongParameter (is_none f)
-            ∷ when (LimitReached Instances) (nat_le (most Instances) (length s.instances)) ∷ []) ≡ None) e fits))
+        ∷ when (LimitReached Instances) (nat_le (most Instances) (length s.instances)) ∷ []) ≡ None) e fits))
     with_fitting (Some f) e =
         of_library (slice_get library n) at ∙ ap (λ (x : Option Param). option_map_or (λ g. instance_of n ins out g ∷ []) x []) e ∙ ap (λ (x : Instance). x ∷ []) (sym (made f e))
 

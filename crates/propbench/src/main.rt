@@ -1,56 +1,73 @@
-//! A program that makes procedures, hands them to a session and runs commands.
+//! The workbench over standard input and output.
 #![tactic(auto)]
 
-ghost use Rattle.std.specs.Prelude.{◌≡◌};
-ghost use Rattle.prop_arith.specs.Kit.{value_of};
+mod chosen;
+mod fault;
+mod options;
+mod running;
+#[cfg(test)]
+mod tests;
 
-use prop_arith::KITS;
-use prop_cells::Network;
-use prop_lattice::{Info, Span};
-use prop_procedures::fitting::span_kinded;
-use prop_procedures::{Library, Need, Param, Procedure, Shape};
-use prop_scheduler::Fifo;
-use prop_workbench::{Command, Reply, Session};
-use smallvec::SmallVec;
+use chosen::Options;
+use clap::error::ErrorKind;
+use fault::Fault;
+use prop_workbench::{EngineFault, Watched};
+use running::run;
+use std::alloc::{AllocError, AllocGlobal};
+use std::env::Env;
+use std::process::ExitCode;
+use std::{env, io};
 
-fn main(rt: HostRuntime) -> anyhow::Result<()> {
-    let alloc = rt.alloc();
-    let mut procedures = Vec::new(alloc);
-    for rule in KITS {
-        let ins = SmallVec::<Shape, 8>::from_slice(alloc, rule.ins())?;
-        let run = Box::new(
-            alloc,
-            move |param: &Param, args: &[Info]| -> Info
-                ensures { result ≡ value_of rule param.now args.now }
-            { rule.run(param, args) },
-        )?;
-        procedures.push(Procedure::new(rule.name(), ins, rule.out(), rule.need(), rule, run))?;
+fn main(rt: HostRuntime) -> ExitCode {
+    let options = match chosen_options(&rt) {
+        Ok(options) => options,
+        Err(status) => return status,
+    };
+    let mut reader = Watched::new(rt.stdin());
+    let mut writer = Watched::new(rt.stdout());
+    match run(rt.alloc(), options, &mut reader, &mut writer) {
+        Ok(_) => ExitCode::SUCCESS,
+        Err(fault) => stopped(&rt, fault),
     }
-    let mut session = Session::new(
-        alloc,
-        Network::new(alloc, Library::new(procedures)),
-        Fifo,
-        1000,
-    );
-    let commands = [
-        Command::Cell("x", span_kinded()),
-        Command::Cell("y", span_kinded()),
-        Command::Cell("z", span_kinded()),
-        Command::Attach("adder", &["x", "y", "z"]),
-        Command::Fix("x", 3, 5),
-        Command::Fix("y", 10, 10),
-        Command::Ask("z"),
-    ];
-    for command in commands {
-        let (reply, _) = session.command(alloc, command);
-        match (command, reply) {
-            (_, Reply::Done) => println!(rt; "ok")?,
-            (Command::Ask(name), Reply::Value(Info::Span(span))) => {
-                println!(rt; "{name} = {}..{}", span.lo(), span.hi())?
-            }
-            (_, Reply::Contradiction) => println!(rt; "contradiction")?,
-            _ => println!(rt; "refused")?,
+}
+
+/// The options of the command line, or the status to end with.
+fn chosen_options(rt: &(impl AllocGlobal + Env + Print + Eprint)) -> Result<Options, ExitCode> {
+    let words = match words(rt) {
+        Ok(words) => words,
+        Err(error) if error.kind() == io::ErrorKind::OutOfMemory => {
+            return Err(stopped(rt, Fault::Memory(AllocError)));
         }
+        Err(_) => {
+            let _ = rt.eprintln("propbench: the arguments are not UTF-8");
+            return Err(ExitCode::from(1));
+        }
+    };
+    options::options(rt.alloc(), &words).map_err(|error| refused(rt, &error))
+}
+
+/// The words of the command line, the first of which is the program's name.
+fn words(rt: &(impl AllocGlobal + Env)) -> io::Result<Vec<String>> {
+    Ok(env::args(rt)?.collect::<Vec<String>>(rt.alloc())?)
+}
+
+/// Says what the option reader says, and gives the status to end with: help is no fault.
+fn refused(rt: &(impl Print + Eprint), error: &clap::Error) -> ExitCode {
+    if error.kind() == ErrorKind::OutOfMemory {
+        return stopped(rt, Fault::Memory(AllocError));
     }
-    Ok(())
+    let printed = error.print(rt);
+    if error.use_stderr() {
+        return ExitCode::from(1);
+    }
+    match printed {
+        Ok(()) => ExitCode::SUCCESS,
+        Err(_) => stopped(rt, Fault::Engine(EngineFault::Write)),
+    }
+}
+
+/// Says why the program ends before its input does, and gives the status to end with.
+fn stopped(rt: &impl Eprint, fault: Fault) -> ExitCode {
+    let _ = rt.eprintln(format_args!("propbench: {fault}"));
+    ExitCode::from(fault.status())
 }

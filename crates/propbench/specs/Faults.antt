@@ -1,0 +1,11 @@
+-- The statuses of a program that ends before its input does.
+use Rattle.std.specs.Prelude.{ℕ}
+use Rattle.prop_workbench.specs.declared.outcome.EngineFault.TheVariants.{Read, Write, Reads}
+use Rattle.propbench.specs.declared.fault.Fault.{Fault}
+use Rattle.propbench.specs.declared.fault.Fault.TheVariants.{Engine, Memory}
+
+abbrev pub status_of : Fault → ℕ
+status_of (Engine Read) = 2
+status_of (Engine Write) = 2
+status_of (Engine Reads) = 3
+status_of (Memory e) = 4

@@ -1,0 +1,24 @@
+-- What the program writes, by the rules of the kit.
+use Rattle.std.specs.Prelude.{ℕ, List, Option, map}
+use Rattle.prop_procedures.specs.Stored.{Stored}
+use Rattle.prop_arith.specs.Kit.{in_order, name_of, ins_of, out_of, need_of, value_of}
+use Rattle.prop_arith.specs.declared.kit.Kit.{Kit}
+use Rattle.prop_workbench.specs.declared.outcome.Counts.{Counts}
+use Rattle.prop_workbench.specs.Machine.{State, new_state}
+use Rattle.prop_workbench.specs.Engine.{workbench, WritesTranscript, WritesFront}
+
+-- the procedure of a rule
+abbrev pub stored_kit : Kit → Stored
+stored_kit rule = record { name = name_of rule; ins = ins_of rule; out = out_of rule; need = need_of rule; value = value_of rule }
+
+-- the procedures of the kit, in order
+abbrev pub kit_library : List Stored
+kit_library = map stored_kit in_order
+
+-- a writer got a transcript of all that the reader had left, where that is known, of a session that began without cells
+abbrev pub IsAnswered : Option (List ℕ) → Option (List ℕ) → Option (List ℕ) → ℕ → Counts → Type 0
+IsAnswered left held held' limit counts = (new : State) × WritesTranscript (workbench kit_library) left held held' counts (new_state limit) new
+
+-- a writer got the front of such a transcript
+abbrev pub IsAnsweredInFront : Option (List ℕ) → Option (List ℕ) → Option (List ℕ) → ℕ → Type 0
+IsAnsweredInFront left held held' limit = WritesFront (workbench kit_library) left held held' (new_state limit)

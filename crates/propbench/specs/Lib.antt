@@ -1,0 +1,3 @@
+pub mod Program
+pub mod Faults
+pub mod Kits

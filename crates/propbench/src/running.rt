@@ -1,0 +1,48 @@
+//! A session with the kit's procedures, over a reader and a writer.
+ghost use Rattle.std.specs.Prelude.{◌≡◌, IfOk, OnErr};
+ghost use Rattle.prop_arith.specs.Kit.{value_of};
+ghost use Rattle.prop_workbench.specs.Watched.{device, IsFresh};
+ghost use Rattle.propbench.specs.Kits.{IsAnswered, IsAnsweredInFront};
+
+use crate::chosen::Options;
+use crate::fault::Fault;
+use prop_arith::KITS;
+use prop_cells::Network;
+use prop_lattice::Info;
+use prop_procedures::{Library, Param, Procedure, Shape};
+use prop_scheduler::Fifo;
+use prop_workbench::{Counts, Session, Watched};
+use smallvec::SmallVec;
+use std::alloc::Global;
+use std::io::{Read, Write};
+
+/// How often the program reads at most.
+const READS: u64 = 1 << 32;
+
+/// Makes the kit's procedures and runs a session with them.
+pub fn run<Rd: Read, W: Write>(
+    alloc: Global,
+    options: Options,
+    reader: &mut Watched<Rd>,
+    writer: &mut Watched<W>,
+) -> Result<Counts, Fault>
+    requires reader { IsFresh reader.old }
+    requires writer { IsFresh writer.old }
+    ensures ok { IfOk result (IsAnswered (Rd.remaining (device reader.old)) (W.contents (device writer.old)) (W.contents (device writer.new)) options.limit) }
+    ensures err { OnErr result (IsAnsweredInFront (Rd.remaining (device reader.old)) (W.contents (device writer.old)) (W.contents (device writer.new)) options.limit) }
+{
+    let mut procedures = Vec::new(alloc);
+    for rule in KITS {
+        let ins = SmallVec::<Shape, 8>::from_slice(alloc, rule.ins())?;
+        let call = Box::new(
+            alloc,
+            move |param: &Param, args: &[Info]| -> Info
+                ensures { result ≡ value_of rule param.now args.now }
+            { rule.run(param, args) },
+        )?;
+        procedures.push(Procedure::new(rule.name(), ins, rule.out(), rule.need(), rule, call))?;
+    }
+    let network = Network::new(alloc, Library::new(procedures));
+    let mut session = Session::new(alloc, network, Fifo, options.limit);
+    Ok(session.run_session(reader, writer, READS)?)
+}

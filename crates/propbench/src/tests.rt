@@ -1,0 +1,4 @@
+mod devices;
+mod engine;
+mod faults;
+mod options;
