@@ -2,3 +2,4 @@ mod devices;
 mod engine;
 mod faults;
 mod options;
+mod sessions;

@@ -1,0 +1,60 @@
+//! Whole sessions over the kit, from bytes to bytes.
+
+use crate::chosen::Options;
+use crate::running::run;
+use prop_workbench::Watched;
+use std::test::Fail;
+
+/// A limit on steps, an input and what is written for it.
+type Case = (u64, &'static str, &'static str);
+
+const CASES: [Case; 9] = [
+    (1000, "", ""),
+    (1000, "# note\n\n  \n", ""),
+    (
+        1000,
+        "cell x span\ncell y span\nattach adder x x y\nfix x -2..3\nask y\n",
+        "ok\nok\nok\nok\ny = -4..6\n",
+    ),
+    (
+        1000,
+        "cell x span\nfix x 1\nfix x 2\nask x\n",
+        "ok\nok\nok\ncontradiction: no premise\n",
+    ),
+    (
+        3,
+        "cell x span\ncell one span\nattach adder x one x\nfix one 1\nfix x 0..10\nask x\nask x\nask x\nask x\n",
+        "ok\nok\nok\nok\nok\nx = 3..10 unsettled\nx = 6..10 unsettled\nx = 9..10 unsettled\ncontradiction: no premise\n",
+    ),
+    (
+        1000,
+        "cell x span\nattach adder x x x by 3\nattach adder x x x by r\nattach adder x n x\nfix x {}\nfix x 5..3\nbring p\n",
+        "ok\nerror 14: wrong parameter\nerror 19: no such relation\nerror 9: no such cell\nerror 13: wrong kind\nerror 18: empty value\nerror 3: unknown command\n",
+    ),
+    (
+        1000,
+        "cell x truth\ncell x by\ncell span span\ncell x\n",
+        "error 4: wrong form\nerror 4: wrong form\nerror 5: not a name\nerror 4: wrong form\n",
+    ),
+    (
+        1000,
+        "cell x span\ncell x span\nattach adder x x\nattach nope x\nask nope\nsettle now\ngo\nask x",
+        "ok\nerror 7: name taken\nerror 12: wrong count of cells\nerror 11: no such procedure\nerror 9: no such cell\nerror 4: wrong form\nerror 3: unknown command\nx = nothing\n",
+    ),
+    (
+        0,
+        "cell x span\nfix x 001..-0\nfix x 001\nask x\n",
+        "ok\nerror 18: empty value\nok\nx = 1\n",
+    ),
+];
+
+#[test]
+fn answers_whole_sessions(rt: HostRuntime) -> Result<(), Fail> {
+    for (limit, input, output) in CASES {
+        let mut reader = Watched::new(input.as_bytes());
+        let mut writer = Watched::new(Vec::new(rt.alloc()));
+        run(rt.alloc(), Options { limit }, &mut reader, &mut writer)?;
+        assert_eq!(rt; writer.into_inner().as_slice(), output.as_bytes());
+    }
+    Ok(())
+}
