@@ -1,0 +1,2 @@
+pub mod WideLemmas
+pub mod ClipLemmas

@@ -2,7 +2,11 @@
 #![tactic(auto)]
 
 pub mod clipping;
+pub mod products;
 pub mod sums;
+mod wide;
+mod zero;
 
 pub use clipping::clipped;
-pub use sums::add;
+pub use products::{mul, square};
+pub use sums::{add, sub};
