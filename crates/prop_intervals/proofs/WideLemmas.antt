@@ -1,8 +1,10 @@
 -- How large products and quotients are.
 use lib.IntN.{*ℤ_comm}
-use Rattle.std.proofs.Common.{refl, ◌<◌, ◌+◌, ◌≡◌, ◌∙◌, ℕ, ◌^◌, ◌≤◌, ℤ, pos, neg_ℤ, ◌*ℤ◌, ◌≤ℤ◌, ◌<ℤ◌, FitsSigned, w64, arith, unsigned_abs, to_z, of_z}
+use Rattle.std.proofs.Common.{refl, ◌*◌, ◌<◌, ◌+◌, ◌-ℤ◌, ◌≡◌, ◌∙◌, ℕ, ◌^◌, ◌≤◌, ℤ, pos, neg_ℤ, ◌*ℤ◌, ◌≤ℤ◌, ◌<ℤ◌, FitsSigned, w64, arith, unsigned_abs, to_z, of_z}
 use Rattle.std.specs.Int.{w128}
 use lib.Signed.{mag}
+use Rattle.std.specs.Prelude.{Bool, true, false, int_lt, if◌then◌else◌}
+use Rattle.prop_intervals.specs.Spans.{least_factor}
 use Rattle.std.specs.Int.{int_min, int_max}
 use Rattle.prop_lattice.specs.declared.span.Span as spans
 use Rattle.std.proofs.lemmas.Int.{ints, clamps, unsigned_abs-mul, to_z-of_z}
@@ -10,17 +12,21 @@ use Rattle.std.proofs.lemmas.Nat.{mul-le}
 use Rattle.prop_intervals.specs.Quotients.{int_div_floor, int_div_ceil}
 use Rattle.prop_intervals.specs.QuotientLaws.{le-floor, floor-lt, product-le, product-ge}
 
+-- a product of two numbers of these sizes
+pub product_of_sizes : (a b : ℤ) (m n : ℕ) → unsigned_abs a ≤ m → unsigned_abs b ≤ n → (neg_ℤ (pos (m * n)) ≤ℤ (a *ℤ b)) × ((a *ℤ b) ≤ℤ pos (m * n))
+product_of_sizes a b m n h k =
+    let size : unsigned_abs (a *ℤ b) ≤ m * n = omega (arith, unsigned_abs-mul a b, mul-le (unsigned_abs a) (unsigned_abs b) m n h k) in
+    between (a *ℤ b) (m * n) size
+  where
+    between : (c : ℤ) (m : ℕ) → unsigned_abs c ≤ m → (neg_ℤ (pos m) ≤ℤ c) × (c ≤ℤ pos m)
+    between c m h = (omega (arith, ints), omega (arith, ints))
+
 -- a product of two numbers of 64 bits
 pub product_within : (a b : ℤ) → FitsSigned w64 a → FitsSigned w64 b → (neg_ℤ (pos (2 ^ 126)) ≤ℤ (a *ℤ b)) × ((a *ℤ b) ≤ℤ pos (2 ^ 126))
-product_within a b f g =
-    let size : unsigned_abs (a *ℤ b) ≤ 2 ^ 126 = omega (arith, unsigned_abs-mul a b, mul-le (unsigned_abs a) (unsigned_abs b) (2 ^ 63) (2 ^ 63) (size_of a f) (size_of b g)) in
-    between (a *ℤ b) (2 ^ 126) size
+product_within a b f g = product_of_sizes a b (2 ^ 63) (2 ^ 63) (size_of a f) (size_of b g)
   where
     size_of : (a : ℤ) → FitsSigned w64 a → unsigned_abs a ≤ 2 ^ 63
     size_of a f = omega (arith, ints)
-
-    between : (c : ℤ) (m : ℕ) → unsigned_abs c ≤ m → (neg_ℤ (pos m) ≤ℤ c) × (c ≤ℤ pos m)
-    between c m h = (omega (arith, ints), omega (arith, ints))
 
 -- the same of the bits in which it comes back
 pub product_least : (a b x y : ℤ) → FitsSigned w64 a → FitsSigned w64 b → x ≡ a → y ≡ b → neg_ℤ (pos (2 ^ 126)) ≤ℤ to_z w128 (of_z w128 (x *ℤ y))
@@ -91,3 +97,33 @@ hi_fits s = omega (arith, ints)
 
 pub greatest_under : (p q r m : ℤ) → mag p < 2 ^ 127 → mag q < 2 ^ 127 → r ≡ int_max (to_z w128 (of_z w128 p)) (to_z w128 (of_z w128 q)) → p ≤ℤ m → q ≤ℤ m → r ≤ℤ m
 greatest_under p q r m f g e i j = rw (greatest_of_back p q p q r f g e refl refl) (omega (arith, ints, clamps))
+
+-- the product of a scale and a number that is at most one unit out of range
+pub scaled_parts : (a b k v p : ℤ) → p ≡ to_z w64 (of_z w64 a) *ℤ to_z w64 (of_z w64 b) → a ≡ k → b ≡ v → pos 1 ≤ℤ k → k ≤ℤ pos 1_000_000_000 → neg_ℤ (pos 1_000_000_000_000_000_001) ≤ℤ v → v ≤ℤ pos 1_000_000_000_000_000_001 → (p ≡ k *ℤ v) × (neg_ℤ (pos (2 ^ 90)) ≤ℤ p) × (p ≤ℤ pos (2 ^ 90))
+scaled_parts a b k v p e q r k_least k_greatest v_least v_greatest =
+    let is : p ≡ k *ℤ v = product_of_ends a b k v p e q r (omega (arith, ints)) (omega (arith, ints)) in
+    let within : (neg_ℤ (pos (2 ^ 90)) ≤ℤ (k *ℤ v)) × ((k *ℤ v) ≤ℤ pos (2 ^ 90)) = product_of_sizes k v (2 ^ 30) (2 ^ 60) (omega (arith, ints)) (omega (arith, ints)) in
+    (is, rw is within.0, rw is within.1)
+
+-- an opposite, which comes back too
+pub opposite_128 : (z a : ℤ) → neg_ℤ (pos (2 ^ 120)) ≤ℤ z → z ≤ℤ pos (2 ^ 120) → z ≡ a → to_z w128 (of_z w128 (pos 0 -ℤ to_z w128 (of_z w128 z))) ≡ neg_ℤ a
+opposite_128 z a h k e = omega (arith, ints)
+
+pub opposite_64 : (z a : ℤ) → z ≡ a → neg_ℤ (pos 1_000_000_000_000_000_000) ≤ℤ a → a ≤ℤ pos 1_000_000_000_000_000_000 → to_z w64 (of_z w64 (pos 0 -ℤ to_z w64 (of_z w64 z))) ≡ neg_ℤ a
+opposite_64 z a e h k = omega (arith, ints)
+
+-- ---- the cases of a least factor
+
+pub factor_above : (a lo hi : ℤ) → pos 0 <ℤ a → int_div_ceil a hi ≡ least_factor a lo hi
+factor_above a lo hi h = by (int_lt (pos 0) a) refl
+  where
+    by : (t : Bool) → int_lt (pos 0) a ≡ t → int_div_ceil a hi ≡ (if t then int_div_ceil a hi else int_div_ceil a lo)
+    by true e = refl
+    by false e = absurd (omega (arith, ints))
+
+pub factor_not_above : (a lo hi : ℤ) → a ≤ℤ pos 0 → int_div_ceil a lo ≡ least_factor a lo hi
+factor_not_above a lo hi h = by (int_lt (pos 0) a) refl
+  where
+    by : (t : Bool) → int_lt (pos 0) a ≡ t → int_div_ceil a lo ≡ (if t then int_div_ceil a hi else int_div_ceil a lo)
+    by true e = absurd (omega (arith, ints))
+    by false e = refl
