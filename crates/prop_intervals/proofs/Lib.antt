@@ -1,3 +1,4 @@
 pub mod WideLemmas
 pub mod ClipLemmas
 pub mod QuotientLemmas
+pub mod RootLemmas

@@ -2,4 +2,10 @@ pub mod Clip
 pub mod ClipLaws
 pub mod Quotients
 pub mod QuotientLaws
+pub mod Roots
 pub mod Spans
+pub mod Narrowest
+pub mod NarrowestLaws
+pub mod RootLaws
+pub mod Comparisons
+pub mod ComparisonLaws
