@@ -9,3 +9,6 @@ pub mod NarrowestLaws
 pub mod RootLaws
 pub mod Comparisons
 pub mod ComparisonLaws
+pub mod Relations
+pub mod SumLaws
+pub mod ProductLaws
