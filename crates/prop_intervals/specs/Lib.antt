@@ -12,3 +12,4 @@ pub mod ComparisonLaws
 pub mod Relations
 pub mod SumLaws
 pub mod ProductLaws
+pub mod SquareLaws
