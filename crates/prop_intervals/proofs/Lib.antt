@@ -1,4 +1,3 @@
 pub mod WideLemmas
 pub mod ClipLemmas
-pub mod QuotientLemmas
 pub mod RootLemmas

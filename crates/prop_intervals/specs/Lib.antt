@@ -13,3 +13,4 @@ pub mod Relations
 pub mod SumLaws
 pub mod ProductLaws
 pub mod SquareLaws
+pub mod DivisionLaws

@@ -77,7 +77,8 @@ floor-below a b d p h = le-floor b d (int_div_floor a d) p (through _ a b (floor
     through : (s a b : ℤ) → s ≤ℤ a → a ≤ℤ b → s ≤ℤ b
     through s a b h i = omega (arith, ints)
 
-neg-product : (v d : ℤ) → (neg_ℤ v *ℤ d) ≡ neg_ℤ (v *ℤ d)
+-- an opposite times a number
+pub neg-product : (v d : ℤ) → (neg_ℤ v *ℤ d) ≡ neg_ℤ (v *ℤ d)
 neg-product v d = same_in _ _ (omega (arith, product_is (neg_ℤ v) d, product_is v d, neg_is v, neg_is (v *ℤ d), ap (λ t. t * up d) (neg_is v).0, ap (λ t. t * down d) (neg_is v).0, ap (λ t. t * up d) (neg_is v).1, ap (λ t. t * down d) (neg_is v).1))
 
 -- a quotient that rounds up, and what is left of it

@@ -45,12 +45,17 @@ zero_out x e = by (int_le x.lo (pos 0)) refl (int_le (pos 0) x.hi) refl
         clash : true ≡ false → ⊥
         clash p = cc
 
-pub zero_from_in : (x : spans.Span) → Holds (Span x) (Number (pos 0)) → holds_zero x ≡ true
-zero_from_in x h = by (holds_zero x) refl
+-- what holds no zero and is not above it is below it
+pub below_zero : (x : spans.Span) → holds_zero x ≡ false → x.lo ≤ℤ pos 0 → x.hi <ℤ pos 0
+below_zero x e h = elim (zero_out x e) [ inl l ↦ absurd (omega (arith, ints)) | inr l ↦ l ]
+
+pub zero_from_out : (x : spans.Span) → (pos 0 <ℤ x.lo) ⊎ (x.hi <ℤ pos 0) → holds_zero x ≡ false
+zero_from_out x l = by (holds_zero x) refl l
   where
-    by : (t : Bool) → holds_zero x ≡ t → t ≡ true
-    by true e = refl
-    by false e = elim (zero_out x e) [ inl l ↦ absurd (omega (arith, ints)) | inr l ↦ absurd (omega (arith, ints)) ]
+    by : (t : Bool) → holds_zero x ≡ t → (pos 0 <ℤ x.lo) ⊎ (x.hi <ℤ pos 0) → t ≡ false
+    by false e l = refl
+    by true e (inl l) = let h = zero_in x e in absurd (omega (arith, ints))
+    by true e (inr l) = let h = zero_in x e in absurd (omega (arith, ints))
 
 -- ---- squares
 
