@@ -11,9 +11,15 @@ use Rattle.std.proofs.lemmas.Int.{clamps}
 use Rattle.prop_lattice.specs.Ends.{span_from}
 use Rattle.prop_lattice.specs.OrderLaws.{to_top}
 use Rattle.prop_lattice.specs.declared.span.Span as spans
-use Rattle.prop_lattice.specs.declared.info.Info.TheVariants.{Contradiction}
+use Rattle.prop_lattice.specs.declared.info.Info.TheVariants.{Span, Contradiction}
+use Rattle.prop_lattice.specs.Order.{Below}
+use Rattle.prop_lattice.specs.Points.{Number, Holds}
+use Rattle.prop_lattice.specs.Rank.{IsOf}
+use Rattle.prop_lattice.specs.declared.info.Kind.TheVariants as kinds
+use Rattle.prop_intervals.specs.ClipLaws.{span_from_of_span}
+use Rattle.prop_intervals.specs.Relations.{IsSquare}
 use Rattle.prop_intervals.specs.Narrowest.{IsNarrowest}
-use Rattle.prop_intervals.specs.NarrowestLaws.{narrowest_same, span_narrowest, none_narrowest}
+use Rattle.prop_intervals.specs.NarrowestLaws.{narrowest_below, narrowest_same, span_narrowest, none_narrowest}
 use Rattle.prop_intervals.specs.Roots.{root_floor, least_root, greatest_root, first_of, last_of, IsRoot, span_at_distance, root_of}
 
 -- its square and the next one lie on both sides of n, and it is no larger than n
@@ -117,3 +123,29 @@ root_of-narrowest y x = by (int_lt y.hi (pos 0)) refl
             under : (s : ℤ) (n : ℕ) → s ≤ℤ y.hi → s ≡ pos n → ⊥
             under s n h g = omega (arith, ints)
     by false e = narrowest_same (IsAtDistance (least_root y.lo) (greatest_root y.hi) (first_of x) (last_of x)) (IsRoot y x) _ (span_at_distance-narrowest (least_root y.lo) (greatest_root y.hi) (first_of x) (last_of x) (first_in x) (last_in x)) (λ v r. (r.from, r.to, least_root-from y.lo v r.square_from, greatest_root-from y.hi v r.square_to)) (λ v d. record { from = d.0; to = d.1; square_from = least_root-to y.lo v d.2; square_to = greatest_root-to y.hi v (omega (arith, ints)) d.3 })
+
+-- ---- the laws of roots
+
+pub root_monotone : (y y' : spans.Span) (x x' : Option spans.Span) → Below (Span y) (Span y') → first_of x ≤ℤ first_of x' → last_of x' ≤ℤ last_of x → Below (root_of y x) (root_of y' x')
+root_monotone y y' x x' p q r = narrowest_below (IsRoot y x) (IsRoot y' x') (root_of y x) (root_of y' x') (root_of-narrowest y x) (root_of-narrowest y' x') wider
+  where
+    through : (a b c : ℤ) → a ≤ℤ b → b ≤ℤ c → a ≤ℤ c
+    through a b c h k = omega (arith, ints)
+
+    wider : (v : ℤ) → IsRoot y' x' v → IsRoot y x v
+    wider v h = record {
+      from = through (first_of x) (first_of x') v q h.from;
+      to = through v (last_of x') (last_of x) h.to r;
+      square_from = through y.lo y'.lo (v *ℤ v) p.0 h.square_from;
+      square_to = through (v *ℤ v) y'.hi y.hi h.square_to p.1;
+    }
+
+pub root_kind : (size : ℕ) (y : spans.Span) (x : Option spans.Span) → IsOf kinds.Span size (root_of y x)
+root_kind size y x = by (int_lt y.hi (pos 0))
+  where
+    by : (t : Bool) → IsOf kinds.Span size (if t then Contradiction else span_at_distance (pos (least_root y.lo)) (pos (greatest_root y.hi)) (first_of x) (last_of x))
+    by true = tt
+    by false = span_from_of_span size _ _
+
+pub root_sound : (y : spans.Span) (x : Option spans.Span) (w v : ℤ) → Holds (Span y) (Number w) → first_of x ≤ℤ v → v ≤ℤ last_of x → IsSquare v w → Holds (root_of y x) (Number v)
+root_sound y x w v h p q e = (root_of-narrowest y x).holds v (record { from = p; to = q; square_from = rw (← e) h.0; square_to = rw (← e) h.1 })
