@@ -1,8 +1,8 @@
 -- What is known of comparing spans.
-use Rattle.std.specs.Prelude.{ℕ, ◌+◌, ◌<◌, ◌≤◌, ◌≡◌, ◌↔◌, ◌≢◌, ◌^◌, ◌/◌, ℤ, pos, neg_ℤ, ◌+ℤ◌, ◌-ℤ◌, ◌≤ℤ◌, ◌<ℤ◌, Bool, true, false, ◌==◌, int_lt, int_le, if◌then◌else◌}
+use Rattle.std.specs.Prelude.{ℕ, ◌<◌, ◌≡◌, ◌≢◌, ◌^◌, ◌/◌, ℤ, pos, neg_ℤ, ◌+ℤ◌, ◌-ℤ◌, ◌<ℤ◌, Bool, true, false, ◌==◌, int_lt, int_le, if◌then◌else◌}
 use Rattle.std.specs.Int.{bit_at}
 use Rattle.std.specs.Ordering.{int_eq}
-use Rattle.std.proofs.Common.{arith, refl, subst, sym, ap, ◌∙◌, eqb-true, inl, inr}
+use Rattle.std.proofs.Common.{arith, refl, subst, sym, eqb-true, inl, inr}
 use Rattle.std.proofs.lemmas.Int.{ints, by_lt_z}
 use Rattle.std.proofs.lemmas.Bool.{cases_lt}
 use Rattle.std.proofs.lemmas.Bool.Decides.{nat_tests}
@@ -10,12 +10,11 @@ use Rattle.std.proofs.lemmas.Nat.{and_le_l}
 use Rattle.prop_lattice.specs.Ends.{span_from, span_is, elements_from, elements_from-bits}
 use Rattle.prop_lattice.specs.Order.{HasElement, Below}
 use Rattle.prop_lattice.specs.OrderLaws.{info_laws}
-use Rattle.prop_lattice.specs.Parts.{HasBitsOf, AllBelow, and_from_part, below_from_shr}
+use Rattle.prop_lattice.specs.Parts.{HasBitsOf, and_from_part, below_from_shr}
 use Rattle.prop_lattice.specs.Points.{Number, Element, Holds}
 use Rattle.prop_lattice.specs.Rank.{IsOf}
 use Rattle.prop_lattice.specs.declared.elements.Elements as sets
 use Rattle.prop_lattice.specs.declared.span.Span as spans
-use Rattle.prop_lattice.specs.declared.info.Info.{Info}
 use Rattle.prop_lattice.specs.declared.info.Info.TheVariants.{Nothing, Span, Set}
 use Rattle.prop_lattice.specs.declared.info.Kind.TheVariants as kinds
 use Rattle.prop_intervals.specs.ClipLaws.{span_from_below, span_from_of_span, span_from_holds}

@@ -1,5 +1,5 @@
 -- What is known of quotients of spans.
-use Rattle.std.specs.Prelude.{ℕ, ℤ, ◌≡◌, ◌⊎◌, pos, neg_ℤ, ◌+ℤ◌, ◌-ℤ◌, ◌*ℤ◌, ◌≤ℤ◌, ◌<ℤ◌, Bool, true, false, int_lt, int_le, if◌then◌else◌}
+use Rattle.std.specs.Prelude.{ℕ, ℤ, ◌≡◌, pos, neg_ℤ, ◌+ℤ◌, ◌-ℤ◌, ◌*ℤ◌, ◌≤ℤ◌, ◌<ℤ◌, Bool, true, false, int_lt, int_le, if◌then◌else◌}
 use Rattle.std.specs.Int.{int_max, int_min}
 use Rattle.std.proofs.Common.{arith, ap, subst, inl, inr, refl, sym, ◌∙◌}
 use Rattle.std.proofs.lemmas.Int.{ints, clamps, by_lt_z}
@@ -7,7 +7,6 @@ use Rattle.prop_lattice.specs.Order.{Below}
 use Rattle.prop_lattice.specs.Points.{Number, Holds}
 use Rattle.prop_lattice.specs.Rank.{IsOf}
 use Rattle.prop_lattice.specs.declared.span.Span as spans
-use Rattle.prop_lattice.specs.declared.info.Info.{Info}
 use Rattle.prop_lattice.specs.declared.info.Info.TheVariants.{Nothing, Span}
 use Rattle.prop_lattice.specs.declared.info.Kind.TheVariants as kinds
 use Rattle.prop_intervals.specs.ClipLaws.{clip_below, clip_of_span, clip_holds}

@@ -1,7 +1,7 @@
 -- What is known of products of spans.
-use Rattle.std.specs.Prelude.{ℕ, ℤ, ◌≡◌, ◌⊎◌, pos, neg_ℤ, ◌+ℤ◌, ◌-ℤ◌, ◌*ℤ◌, ◌≤ℤ◌, ◌<ℤ◌, Bool, true, false, int_lt, if◌then◌else◌}
+use Rattle.std.specs.Prelude.{ℕ, ℤ, ◌≡◌, ◌⊎◌, pos, neg_ℤ, ◌+ℤ◌, ◌-ℤ◌, ◌*ℤ◌, ◌≤ℤ◌, ◌<ℤ◌}
 use Rattle.std.specs.Int.{int_max, int_min}
-use Rattle.std.proofs.Common.{arith, inl, inr, refl, sym, ◌∙◌}
+use Rattle.std.proofs.Common.{arith, inl, inr, ◌∙◌}
 use Rattle.std.proofs.lemmas.Int.{ints, clamps, by_lt_z}
 use Rattle.prop_lattice.specs.Ends.{AreEnds}
 use Rattle.prop_lattice.specs.Order.{Below}
@@ -26,8 +26,7 @@ pub product_within : (x y : spans.Span) (u v : ℤ) → Holds (Span x) (Number u
 product_within x y u v p q =
     let across = product-between u y.lo y.hi v q.0 q.1 in
     let low = product-between y.lo x.lo x.hi u p.0 p.1 in
-    let high = product-between y.hi x.lo x.hi u p.0 p.1 in
-    (
+    let high = product-between y.hi x.lo x.hi u p.0 p.1 in (
       least (x.lo *ℤ y.lo) (x.lo *ℤ y.hi) (x.hi *ℤ y.lo) (x.hi *ℤ y.hi) (u *ℤ y.lo) (u *ℤ y.hi) (u *ℤ v) across.0 (rw (*ℤ_comm x.lo y.lo, *ℤ_comm x.hi y.lo, *ℤ_comm u y.lo) low.0) (rw (*ℤ_comm x.lo y.hi, *ℤ_comm x.hi y.hi, *ℤ_comm u y.hi) high.0),
       greatest (x.lo *ℤ y.lo) (x.lo *ℤ y.hi) (x.hi *ℤ y.lo) (x.hi *ℤ y.hi) (u *ℤ y.lo) (u *ℤ y.hi) (u *ℤ v) across.1 (rw (*ℤ_comm x.lo y.lo, *ℤ_comm x.hi y.lo, *ℤ_comm u y.lo) low.1) (rw (*ℤ_comm x.lo y.hi, *ℤ_comm x.hi y.hi, *ℤ_comm u y.hi) high.1),
     )
@@ -104,8 +103,7 @@ product_kind size x y k = clip_of_span size (int_div_floor (least_product x y) k
 -- what a product's unit holds lies between the rounded ends
 between_rounded : (x y : spans.Span) (k u v z : ℤ) → pos 1 ≤ℤ k → Holds (Span x) (Number u) → Holds (Span y) (Number v) → IsProduct k u v z → (int_div_floor (least_product x y) k ≤ℤ z) × (z ≤ℤ int_div_ceil (greatest_product x y) k)
 between_rounded x y k u v z s p q r =
-    let within = product_within x y u v p q in
-    (
+    let within = product_within x y u v p q in (
       before (int_div_floor (least_product x y) k) z (floor-lt (least_product x y) k (z +ℤ pos 1) (omega (arith, ints)) (rw (*ℤ_comm (z +ℤ pos 1) k) (under (least_product x y) (u *ℤ v) (k *ℤ (z +ℤ pos 1)) within.0 r.1))),
       after (int_div_ceil (greatest_product x y) k) z (lt-ceil (greatest_product x y) k (z -ℤ pos 1) (omega (arith, ints)) (rw (*ℤ_comm (z -ℤ pos 1) k) (over (k *ℤ (z -ℤ pos 1)) (u *ℤ v) (greatest_product x y) r.0 within.1))),
     )

@@ -1,6 +1,10 @@
 //! Products and squares of spans.
 ghost use Rattle.std.specs.Prelude.{◌≡◌, ◌^◌, pos, neg_ℤ, ◌≤ℤ◌};
-ghost use Rattle.prop_intervals.specs.Spans.{least_product, greatest_product, product_of, least_square, square_of};
+ghost use Rattle.prop_lattice.specs.Ends.{AreEnds};
+ghost use Rattle.prop_intervals.specs.Narrowest.{IsNarrowest};
+ghost use Rattle.prop_intervals.specs.Quotients.{int_div_floor, int_div_ceil};
+ghost use Rattle.prop_intervals.specs.Relations.{IsProduct, IsSquare, BelongsToOne, BelongsToTwo};
+ghost use Rattle.prop_intervals.specs.Spans.{least_product, greatest_product, product_of, least_square, greatest_square, square_of};
 
 use crate::clipping::clipped;
 use crate::wide::{div_ceil, div_floor, product};
@@ -11,7 +15,11 @@ use prop_lattice::{Info, Span};
 /// such units; a contradiction where none is in range.
 pub fn mul(x: Span, y: Span, k: i64) -> Info
     requires { (pos 1 ≤ℤ k) × (k ≤ℤ pos 1_000_000_000) }
-    ensures { result ≡ product_of x y k }
+    ensures value { result ≡ product_of x y k }
+
+    // Where each of them is in range, no narrower information holds them all.
+    ensures narrowest { AreEnds (int_div_floor (least_product x y) k) (int_div_ceil (greatest_product x y) k)
+        → IsNarrowest (BelongsToTwo (IsProduct k) x y) result }
 {
     let low = div_floor(smallest_product(x, y), i128::from(k));
     let high = div_ceil(largest_product(x, y), i128::from(k));
@@ -40,7 +48,11 @@ fn largest_product(x: Span, y: Span) -> i128
 
 /// The squares of the numbers of `x`, as a span; a contradiction where none is in range.
 pub fn square(x: Span) -> Info
-    ensures { result ≡ square_of x }
+    ensures value { result ≡ square_of x }
+
+    // Where each square is in range, no narrower information holds them all.
+    ensures narrowest { AreEnds (least_square x) (greatest_square x)
+        → IsNarrowest (BelongsToOne IsSquare x) result }
 {
     let low = product(x.lo(), x.lo());
     let high = product(x.hi(), x.hi());
