@@ -18,3 +18,6 @@ pub use quotients::div;
 pub use removal::without;
 pub use roots::root;
 pub use sums::{add, sub};
+
+#[cfg(test)]
+mod tests;
