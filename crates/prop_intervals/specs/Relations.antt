@@ -20,7 +20,7 @@ IsSquare x y = y ≡ x *ℤ x
 abbrev pub SaysLess : ℤ → ℤ → ℕ → Type 0
 SaysLess x y t = (t ≡ 0) ↔ (x <ℤ y)
 
--- the number is one that the span and a computation can have
+-- v is no larger in magnitude than numbers may be
 abbrev pub IsInRange : ℤ → Type 0
 IsInRange v =
     (neg_ℤ (pos 1_000_000_000_000_000_000) ≤ℤ v) × (v ≤ℤ pos 1_000_000_000_000_000_000)

@@ -4,6 +4,7 @@ ghost use Rattle.prop_intervals.specs.Spans.{holds_zero};
 
 use prop_lattice::Span;
 
+/// Whether zero is a number of `x`.
 pub(crate) fn has_zero(x: Span) -> bool
     ensures { result ≡ holds_zero x }
 {
