@@ -1,0 +1,4 @@
+pub mod SetLemmas
+pub mod MergeLemmas
+pub mod FlagLemmas
+pub mod OriginLemmas
