@@ -2,3 +2,4 @@ pub mod SetLemmas
 pub mod MergeLemmas
 pub mod FlagLemmas
 pub mod OriginLemmas
+pub mod WithinLemmas

@@ -1,15 +1,17 @@
 -- Sets of premises, as tests and as lists of numbers.
-use Rattle.std.proofs.Common.{◌≡◌, ◌∙◌, ℕ, ◌-◌, ◌<◌, ◌≤◌, Bool, true, false, not, ◌||◌, ◌&&◌, ◌==◌, cond, List, [], ◌∷◌, length, get_or, refl, sym, ap, arith, inl, inr, All, filter, Result, Ok, Err, is_ok}
+use Rattle.std.proofs.Common.{◌≡◌, ◌∙◌, ℕ, ◌-◌, ◌<◌, ◌≤◌, Bool, true, false, not, ◌||◌, ◌&&◌, ◌==◌, cond, List, [], ◌∷◌, length, get_or, refl, sym, ap, arith, inl, inr, All, filter, nat_lt, Result, Ok, Err, is_ok}
+use Rattle.std.specs.List.{list_all}
 use Rattle.std.specs.List.Sorted.{IsStrictlyIncreasing, IsBinarySearchResult}
 use Rattle.std.specs.Ordering.{nat_cmp}
 use Rattle.std.specs.Result.{MatchResult}
 use Rattle.std.proofs.lemmas.Bool.{cases_lt}
 use Rattle.std.proofs.lemmas.Bool.Decides.{eqb_tells, nat_tests}
 use Rattle.std.proofs.lemmas.List.{get_or_default}
-use Rattle.std.proofs.lemmas.List.Folds.{list_any_at, list_any_none}
+use Rattle.std.proofs.lemmas.List.Elements.{All-head, All-tail}
+use Rattle.std.proofs.lemmas.List.Folds.{list_any_at, list_any_none, list_all_at}
 use Rattle.std.proofs.lemmas.List.Kept.{AllPairs-from_increasing}
 use Rattle.std.proofs.lemmas.List.Sorted.{searched}
-use Rattle.prop_premises.specs.Sets.{set_of, without, IsSame}
+use Rattle.prop_premises.specs.Sets.{is_below, set_of, without, IsSame}
 
 -- numbers in order: an earlier one is no greater
 rises : (xs : List ℕ) → IsStrictlyIncreasing xs → (i j d : ℕ) → i ≤ j → j < length xs → get_or xs i d ≤ get_or xs j d
@@ -37,13 +39,23 @@ from_search xs p (Err i) h = sym (list_any_none (λ q. q == p) xs (λ k d l. eli
 pub found_in_order : (xs : List ℕ) (p : ℕ) (r : Result ℕ ℕ) → IsStrictlyIncreasing xs → IsBinarySearchResult (λ y. nat_cmp y p) xs r → is_ok r ≡ set_of xs p
 found_in_order xs p r up result = from_search xs p r (searched xs p r result (λ i j le l. rises xs up i j 0 le l))
 
--- all are below a bound where the last is
-pub below_last : (xs : List ℕ) (n : ℕ) → IsStrictlyIncreasing xs → ((d : ℕ) → 0 < length xs → get_or xs (length xs - 1) d < n) → All (λ p. p < n) xs
-below_last xs n up last k d l =
-    let some : 0 < length xs = omega arith in
-    let end : length xs - 1 < length xs = omega arith in
-    let before : k ≤ length xs - 1 = omega arith in
-    omega (arith, rises xs up k (length xs - 1) d before end, last d some)
+all_pass : (t : ℕ → Bool) (xs : List ℕ) → All (λ p. t p ≡ true) xs → list_all t xs ≡ true
+all_pass t [] h = refl
+all_pass t (x ∷ xs) h = rw (All-head (λ p. t p ≡ true) x xs h) (all_pass t xs (All-tail (λ p. t p ≡ true) x xs h))
+
+-- all are below a bound just where the last is
+pub is_below-last : (xs : List ℕ) (n last : ℕ) → IsStrictlyIncreasing xs → 0 < length xs → ((d : ℕ) → last ≡ get_or xs (length xs - 1) d) → nat_lt last n ≡ is_below n xs
+is_below-last xs n last up some at = by (nat_lt last n) refl
+  where
+    end : length xs - 1 < length xs
+    end = omega arith
+    by : (b : Bool) → nat_lt last n ≡ b → nat_lt last n ≡ is_below n xs
+    by true e = e ∙ sym (all_pass (λ p. nat_lt p n) xs (λ k d l.
+      let least = rises xs up k (length xs - 1) d (omega arith) end in
+      let is = at d in
+      let below : get_or xs k d < n = grind (arith, nat_tests) in
+      grind (arith, nat_tests)))
+    by false e = e ∙ sym (list_all_at (λ p. nat_lt p n) xs (length xs - 1) 0 end (rw (← at 0) e))
 
 same_test : (t : ℕ → Bool) (x p : ℕ) → (x == p) ≡ true → t p ≡ t x
 same_test t x p h = elim (eqb_tells x p) [ inl e ↦ ap t (sym e.1) | inr e ↦ cc (e.0, h) ]

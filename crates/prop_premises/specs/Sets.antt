@@ -1,5 +1,5 @@
 -- Sets of premises, as tests of which numbers are in them.
-use Rattle.std.specs.Prelude.{◌≡◌, ℕ, Bool, ◌==◌, ◌||◌, ◌&&◌, not, IsTrue, List}
+use Rattle.std.specs.Prelude.{◌≡◌, ℕ, Bool, ◌==◌, ◌||◌, ◌&&◌, not, nat_lt, IsTrue, List}
 use Rattle.std.specs.List.{list_any, list_all}
 
 abbrev pub Members : Type 0
@@ -28,3 +28,7 @@ IsSame s t = (p : ℕ) → s p ≡ t p
 -- whether each of these numbers is in the set
 abbrev pub is_within : Members → List ℕ → Bool
 is_within s ps = list_all s ps
+
+-- whether each of these numbers is below n
+abbrev pub is_below : ℕ → List ℕ → Bool
+is_below n ps = list_all (λ p. nat_lt p n) ps

@@ -1,7 +1,7 @@
 //! Sets of premises.
 ghost use Rattle.std.specs.Prelude.{◌≡◌, ◌↔◌, ◌<◌, List, ℕ, [], ◌∷◌, All, IsTrue, IfOk};
 ghost use Rattle.std.specs.List.Sorted.{IsStrictlyIncreasing};
-ghost use Rattle.prop_premises.specs.Sets.{set_of, union, without, is_within, IsSame};
+ghost use Rattle.prop_premises.specs.Sets.{set_of, union, without, is_below, is_within, IsSame};
 
 use crate::numbers::Numbers;
 use crate::order::{all_but, merged};
@@ -87,7 +87,7 @@ impl PremiseSet {
 
     /// Whether each premise of the set has a number below the bound. It takes no memory.
     pub fn is_below(&self, bound: usize) -> bool
-        ensures { IsTrue result ↔ All (λ p. p < bound) self.now }
+        ensures { result ≡ is_below bound self.now }
     {
         match self.numbers.last() {
             Some(last) => usize::from(*last) < bound,
