@@ -49,12 +49,13 @@ is_below-last xs n last up some at = by (nat_lt last n) refl
   where
     end : length xs - 1 < length xs
     end = omega arith
+
     by : (b : Bool) → nat_lt last n ≡ b → nat_lt last n ≡ is_below n xs
     by true e = e ∙ sym (all_pass (λ p. nat_lt p n) xs (λ k d l.
-      let least = rises xs up k (length xs - 1) d (omega arith) end in
-      let is = at d in
-      let below : get_or xs k d < n = grind (arith, nat_tests) in
-      grind (arith, nat_tests)))
+        let least = rises xs up k (length xs - 1) d (omega arith) end in
+        let is = at d in
+        let below : get_or xs k d < n = grind (arith, nat_tests) in
+        grind (arith, nat_tests)))
     by false e = e ∙ sym (list_all_at (λ p. nat_lt p n) xs (length xs - 1) 0 end (rw (← at 0) e))
 
 same_test : (t : ℕ → Bool) (x p : ℕ) → (x == p) ≡ true → t p ≡ t x

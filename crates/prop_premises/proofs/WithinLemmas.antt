@@ -1,5 +1,5 @@
 -- Numbers that are in a set.
-use Rattle.std.proofs.Common.{◌≡◌, ◌∙◌, ℕ, Bool, true, false, ◌||◌, ◌&&◌, ◌==◌, List, [], ◌∷◌, refl, sym, inl, inr, ◌⊎◌, IsTrue, ◌↔◌}
+use Rattle.std.proofs.Common.{◌≡◌, ℕ, Bool, true, false, ◌||◌, ◌&&◌, ◌==◌, List, [], ◌∷◌, refl, inl, inr, ◌⊎◌, IsTrue, ◌↔◌}
 use Rattle.std.proofs.lemmas.Bool.Decides.{eqb_tells}
 use Rattle.prop_premises.specs.Sets.{Members, set_of, is_within, IsPart}
 
@@ -30,8 +30,8 @@ pub within_has : (s : Members) (ns : List ℕ) (p : ℕ) → is_within s ns ≡ 
 within_has s [] p w h = cc
 within_has s (n ∷ ns) p w h =
     elim (or_cases (n == p) (set_of ns p) h) as (λ _. s p ≡ true) [
-    | inl e ↦ rw (same n p e) at (and_first (s n) (is_within s ns) w)
-    | inr e ↦ within_has s ns p (and_second (s n) (is_within s ns) w) e
+      | inl e ↦ rw (same n p e) at (and_first (s n) (is_within s ns) w)
+      | inr e ↦ within_has s ns p (and_second (s n) (is_within s ns) w) e
     ]
 
 -- the list is in the set where each of its numbers is

@@ -1,4 +1,3 @@
-use Rattle.std.proofs.Common.{sym, ◌∙◌, ap, nat_lt}
 use Rattle.prop_premises.proofs.SetLemmas.{is_below-last}
 use Rattle.prop_premises.proofs.premise_set.PremiseSet.is_below.Goals as goal
 
