@@ -1,5 +1,5 @@
 -- What a network between runs keeps, as cells, instances and statements are added.
-use Rattle.std.proofs.Common.{◌≡◌, ◌∙◌, ◌<◌, ℕ, Bool, true, false, List, [], ◌∷◌, ◌++◌, Option, Some, None, All, Contains, map, length, slice_get, refl, sym, ap, arith, inl, inr}
+use Rattle.std.proofs.Common.{◌≡◌, ◌∙◌, ◌+◌, ◌<◌, ℕ, Bool, true, false, List, [], ◌∷◌, ◌++◌, Option, Some, None, All, Contains, map, length, slice_get, refl, sym, ap, arith, inl, inr}
 use Rattle.std.proofs.lemmas.List.Elements.{All-weaker, All-push, All-contains, Contains-append_left, Contains-push}
 use Rattle.std.proofs.lemmas.List.{length-append, map-append, length-map}
 use Rattle.std.proofs.lemmas.Option.{slice_get_within}
@@ -118,3 +118,10 @@ under_way_grown library d new line line' row s grown u kept e m all is_row =
     let alerted : AllAlerted line line' (readers_of d.instances s.cell) = rw row_is at all in
     merged_state library d new line line' s grown u kept e m (λ k c. alerted.kept k c) (all_after_alerts (λ k. k < length d.instances) (readers_of d.instances s.cell) line line' are.below u.line_below alerted)
     (λ g j y at_j reads. All-contains (Contains line') (readers_of d.instances s.cell) j alerted.alerted (are.covers j y at_j reads))
+
+-- an attachment adds one instance
+pub attached_more : (library : List Stored) (d new : Data) (n : ℕ) (param : Option ℕ) (ins : List ℕ) (out : ℕ) → n < length library → attach_refusal library d n param ins out ≡ None →
+    new ≡ record d { instances = d.instances ++ attached library d.params n param ins out } → length new.instances ≡ length d.instances + 1
+attached_more library d new n param ins out l fits e =
+    let one = attached_one library n d param ins out l fits in
+    ap (λ x. length x.instances) e ∙ ap (λ xs. length (d.instances ++ xs)) one.1 ∙ length-append d.instances (one.0 ∷ [])
