@@ -6,3 +6,6 @@ pub mod kit;
 
 pub use functions::{adder, copier, divider, multiplier, rooter, squarer, subtracter};
 pub use kit::{KITS, Kit};
+
+#[cfg(test)]
+mod tests;
