@@ -98,13 +98,7 @@ impl<R: Rule + Drop> Trial<R> {
         requires { IsReady R.value_of self.old }
         ensures { IsReady R.value_of self.new }
     {
-        run(
-            alloc,
-            &mut self.network,
-            &mut self.agenda,
-            order,
-            budget,
-        )
+        run(alloc, &mut self.network, &mut self.agenda, order, budget)
     }
 
     /// What is known of a cell.
