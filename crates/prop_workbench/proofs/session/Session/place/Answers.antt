@@ -73,7 +73,7 @@ returns-in-Ok-attach-clause-sound g c =
     let count : length new.instances ≡ length old.instances + 1 = ap (λ (d : Data). length d.instances) e ∙ length-append old.instances (x ∷ []) in
     let room : c.alert.new.self.room ≡ max s.agenda.room c.in-Some-checked_add.count = c.alert.ensures.room ∙ ap (λ a. a.room) c.given.ensures.line ∙ ap (λ a. a.room) c.in-Ok.ensures.ok in
     record {
-      under_way = rw (c.attach.ensures.same, c.given.ensures.same) (under_way_attach library old new mid.agenda.line c.alert.new.self.line x c.instances-next.result way kept e (c.instances-next.ensures ∙ sym instances) c.alert.ensures.alerted);
+      under_way = rw (c.attach.ensures.same, c.given.ensures.same) (under_way_attach library old new mid.agenda.line c.alert.new.self.line x c.instances-next.result way kept e (c.instances-next.ensures.count ∙ sym instances) c.alert.ensures.alerted);
       named = c.given.ensures.sound.named ∙ sym (ap (λ (d : Data). length d.kinds) e);
-      roomy = omega (arith, count, instances, room, c.in-Some-checked_add.ensures.1, c.instances-next.ensures);
+      roomy = omega (arith, count, instances, room, c.in-Some-checked_add.ensures.1, c.instances-next.ensures.count);
     }
