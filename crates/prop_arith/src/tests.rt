@@ -20,7 +20,10 @@ fn worked_values(rt: HostRuntime) {
         (Kit::Root.run(&plain, &[s(9, 20), s(-3, 2)]), s(-3, -3)),
         (Kit::Root.run(&plain, &[s(9, 20), unknown]), s(-4, 4)),
         (Kit::Root.run(&plain, &[unknown, s(9, 20)]), unknown),
-        (Kit::Root.run(&plain, &[s(2, 3), unknown]), Info::Contradiction),
+        (
+            Kit::Root.run(&plain, &[s(2, 3), unknown]),
+            Info::Contradiction,
+        ),
         (Kit::Copy.run(&plain, &[yes]), yes),
         (Kit::Copy.run(&plain, &[Info::Sym(4)]), Info::Sym(4)),
         (Kit::Add.run(&plain, &[s(3, 5), unknown]), unknown),
