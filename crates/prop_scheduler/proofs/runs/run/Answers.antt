@@ -1,5 +1,6 @@
 use Rattle.std.proofs.Common.{◌∙◌, refl, arith}
 use Rattle.std.proofs.lemmas.List.{nil_from_length}
+use Rattle.prop_premises.specs.Sets.{set_of}
 use Rattle.prop_procedures.specs.Kept.{stored_of}
 use Rattle.prop_cells.specs.Data.{IsWellMade}
 use Rattle.prop_scheduler.specs.Turns.{Turn}
@@ -28,10 +29,10 @@ returns-then-clash-2-clause-turns g c = more c.loop-steps.steps c.loop-steps.net
 pub loop-steps-preserved : goal.loop-steps-preserved
 loop-steps-preserved g c =
     let library = stored_of g.R.Rule.value_of c.args.network.now.library in
-    let turn : Turn library c.loop-steps.network.cells c.turn.new.network.cells c.loop-steps.agenda.line c.turn.new.agenda.line = rw c.loop-steps.invariant.same at c.in_ok-clash.ensures.turn in
+    let turn : Turn library (set_of c.args.worldview.now) c.loop-steps.network.cells c.turn.new.network.cells c.loop-steps.agenda.line c.turn.new.agenda.line = rw c.loop-steps.invariant.same at c.in_ok-clash.ensures.turn in
     record {
       same = c.turn.ensures.same ∙ c.loop-steps.invariant.same;
-      rest = turn.calls.rest ∙ (λ i. record (c.loop-steps.invariant.rest i) { infos = c.turn.new.network.cells.infos });
+      rest = turn.calls.rest ∙ (λ i. record (c.loop-steps.invariant.rest i) { contents = c.turn.new.network.cells.contents });
       under_way = c.turn.ensures.under_way;
       room = c.turn.ensures.room ∙ c.loop-steps.invariant.room;
       free = c.in_ok-clash.ensures.free c.if-clash-2.false;
@@ -43,5 +44,5 @@ loop-steps-preserved g c =
 pub returns-then-waiting-eq0-clause-quiet : goal.returns-then-waiting-eq0-clause-quiet
 returns-then-waiting-eq0-clause-quiet g c = λ quiet.
     let made : IsWellMade c.loop-steps.network.cells = rw c.data.ensures at c.well_made.ensures in
-    settled (stored_of g.R.Rule.value_of c.loop-steps.network.library) c.loop-steps.network.cells c.loop-steps.agenda.line made c.loop-steps.invariant.under_way
+    settled (stored_of g.R.Rule.value_of c.loop-steps.network.library) (set_of c.args.worldview.now) c.loop-steps.network.cells c.loop-steps.agenda.line made c.loop-steps.invariant.under_way
     (nil_from_length c.loop-steps.agenda.line (omega (arith, c.waiting-2.ensures.waiting, c.if-waiting-eq0.true))) c.loop-steps.invariant.free

@@ -12,7 +12,7 @@ use Rattle.prop_cells.proofs.network.Network.fitting_instance.Goals as goal
 pub places-requires-clause-cells : goal.places-requires-clause-cells
 places-requires-clause-cells g c =
     let d = c.args.self.now.cells in
-    let strange : list_any (λ cell. nat_le (length d.kinds) cell) (c.args.ins.now ++ c.args.out ∷ []) ≡ false = rw c.len.ensures at (sym c.if-is_strange.ensures) in
+    let strange : list_any (λ cell. nat_le (length d.kinds) cell) (c.args.ins.now ++ c.args.out ∷ []) ≡ false = rw c.len.ensures.count at (sym c.if-is_strange.ensures) in
     no_strangers (length d.kinds) (c.args.ins.now ++ c.args.out ∷ []) strange
 
 pub returns-then-is_strange-clause-err : goal.returns-then-is_strange-clause-err
@@ -20,7 +20,7 @@ returns-then-is_strange-clause-err g c =
     let library = stored_of g.R.Rule.value_of c.args.self.now.library in
     let p = stored_as g.R.Rule.value_of c.get-p.result.now in
     let d = c.args.self.now.cells in
-    let strange : list_any (λ cell. nat_le (length d.kinds) cell) (c.args.ins.now ++ c.args.out ∷ []) ≡ true = rw c.len.ensures at (sym c.if-is_strange.ensures) in
+    let strange : list_any (λ cell. nat_le (length d.kinds) cell) (c.args.ins.now ++ c.args.out ∷ []) ≡ true = rw c.len.ensures.count at (sym c.if-is_strange.ensures) in
     inl (refused_9 library c.args.procedure p d c.args.param c.args.ins.now c.args.out c.get-p.ensures strange)
 
 pub returns-then-ins-clause-err : goal.returns-then-ins-clause-err
@@ -28,7 +28,7 @@ returns-then-ins-clause-err g c =
     let library = stored_of g.R.Rule.value_of c.args.self.now.library in
     let p = stored_as g.R.Rule.value_of c.get-p.result.now in
     let d = c.args.self.now.cells in
-    let strange : list_any (λ cell. nat_le (length d.kinds) cell) (c.args.ins.now ++ c.args.out ∷ []) ≡ false = rw c.len.ensures at (sym c.if-is_strange.ensures) in
+    let strange : list_any (λ cell. nat_le (length d.kinds) cell) (c.args.ins.now ++ c.args.out ∷ []) ≡ false = rw c.len.ensures.count at (sym c.if-is_strange.ensures) in
     inl (refused_12 library c.args.procedure p d c.args.param c.args.ins.now c.args.out c.get-p.ensures strange (λ e. c.if-ins.true (e ∙ sym (ap length c.ins.ensures))))
 
 pub returns-then-not-are_right-clause-err : goal.returns-then-not-are_right-clause-err
@@ -36,7 +36,7 @@ returns-then-not-are_right-clause-err g c =
     let library = stored_of g.R.Rule.value_of c.args.self.now.library in
     let p = stored_as g.R.Rule.value_of c.get-p.result.now in
     let d = c.args.self.now.cells in
-    let strange : list_any (λ cell. nat_le (length d.kinds) cell) (c.args.ins.now ++ c.args.out ∷ []) ≡ false = rw c.len.ensures at (sym c.if-is_strange.ensures) in
+    let strange : list_any (λ cell. nat_le (length d.kinds) cell) (c.args.ins.now ++ c.args.out ∷ []) ≡ false = rw c.len.ensures.count at (sym c.if-is_strange.ensures) in
     let count : length c.args.ins.now ≡ length p.ins = c.if-ins.false ∙ ap length c.ins.ensures in
     let places : c.deref.result.now ≡ places_of p d.kinds (c.args.ins.now ++ c.args.out ∷ []) =
     c.deref.ensures.value ∙ c.in-Ok.ensures ∙ (λ i. zip (c.ins-2.ensures i ++ c.out.ensures i ∷ []) (map (kind_at d.kinds) (c.args.ins.now ++ c.args.out ∷ []))) in
@@ -48,7 +48,7 @@ returns-in_default-param_in-clause-err g c =
     let library = stored_of g.R.Rule.value_of c.args.self.now.library in
     let p = stored_as g.R.Rule.value_of c.get-p.result.now in
     let d = c.args.self.now.cells in
-    let strange : list_any (λ cell. nat_le (length d.kinds) cell) (c.args.ins.now ++ c.args.out ∷ []) ≡ false = rw c.len.ensures at (sym c.if-is_strange.ensures) in
+    let strange : list_any (λ cell. nat_le (length d.kinds) cell) (c.args.ins.now ++ c.args.out ∷ []) ≡ false = rw c.len.ensures.count at (sym c.if-is_strange.ensures) in
     let count : length c.args.ins.now ≡ length p.ins = c.if-ins.false ∙ ap length c.ins.ensures in
     let places : c.deref.result.now ≡ places_of p d.kinds (c.args.ins.now ++ c.args.out ∷ []) =
     c.deref.ensures.value ∙ c.in-Ok.ensures ∙ (λ i. zip (c.ins-2.ensures i ++ c.out.ensures i ∷ []) (map (kind_at d.kinds) (c.args.ins.now ++ c.args.out ∷ []))) in
@@ -60,12 +60,12 @@ returns-then-instance_count-ge-MOST_INSTANCES-clause-err g c =
     let library = stored_of g.R.Rule.value_of c.args.self.now.library in
     let p = stored_as g.R.Rule.value_of c.get-p.result.now in
     let d = c.args.self.now.cells in
-    let strange : list_any (λ cell. nat_le (length d.kinds) cell) (c.args.ins.now ++ c.args.out ∷ []) ≡ false = rw c.len.ensures at (sym c.if-is_strange.ensures) in
+    let strange : list_any (λ cell. nat_le (length d.kinds) cell) (c.args.ins.now ++ c.args.out ∷ []) ≡ false = rw c.len.ensures.count at (sym c.if-is_strange.ensures) in
     let count : length c.args.ins.now ≡ length p.ins = c.if-ins.false ∙ ap length c.ins.ensures in
     let places : c.deref.result.now ≡ places_of p d.kinds (c.args.ins.now ++ c.args.out ∷ []) =
     c.deref.ensures.value ∙ c.in-Ok.ensures ∙ (λ i. zip (c.ins-2.ensures i ++ c.out.ensures i ∷ []) (map (kind_at d.kinds) (c.args.ins.now ++ c.args.out ∷ []))) in
     let right : are_right (places_of p d.kinds (c.args.ins.now ++ c.args.out ∷ [])) ≡ true = sym (ap are_right places) ∙ sym c.are_right.ensures ∙ c.if-not-are_right.false in
-    let full : most Instances ≤ length d.instances = rw c.instance_count.ensures at c.if-instance_count-ge-MOST_INSTANCES.true in
+    let full : most Instances ≤ length d.instances = rw c.instance_count.ensures.count at c.if-instance_count-ge-MOST_INSTANCES.true in
     inl (refused_16 library c.args.procedure p d c.args.param c.args.ins.now c.args.out c.get-p.ensures strange count right c.in-Some.param (param_in_same c.need.result p.need c.params.result.now d.params c.args.param c.param_in.result c.need.ensures c.params.ensures c.param_in.ensures ∙ c.in-Some.is) full)
 
 pub returns-in-Ok-from_slice-clause-fitting : goal.returns-in-Ok-from_slice-clause-fitting
@@ -86,10 +86,10 @@ returns-in-Ok-from_slice-clause-fits g c =
     let library = stored_of g.R.Rule.value_of c.args.self.now.library in
     let p = stored_as g.R.Rule.value_of c.get-p.result.now in
     let d = c.args.self.now.cells in
-    let strange : list_any (λ cell. nat_le (length d.kinds) cell) (c.args.ins.now ++ c.args.out ∷ []) ≡ false = rw c.len.ensures at (sym c.if-is_strange.ensures) in
+    let strange : list_any (λ cell. nat_le (length d.kinds) cell) (c.args.ins.now ++ c.args.out ∷ []) ≡ false = rw c.len.ensures.count at (sym c.if-is_strange.ensures) in
     let count : length c.args.ins.now ≡ length p.ins = c.if-ins.false ∙ ap length c.ins.ensures in
     let places : c.deref.result.now ≡ places_of p d.kinds (c.args.ins.now ++ c.args.out ∷ []) =
     c.deref.ensures.value ∙ c.in-Ok.ensures ∙ (λ i. zip (c.ins-2.ensures i ++ c.out.ensures i ∷ []) (map (kind_at d.kinds) (c.args.ins.now ++ c.args.out ∷ []))) in
     let right : are_right (places_of p d.kinds (c.args.ins.now ++ c.args.out ∷ [])) ≡ true = sym (ap are_right places) ∙ sym c.are_right.ensures ∙ c.if-not-are_right.false in
-    let room : length d.instances < most Instances = rw c.instance_count.ensures at c.if-instance_count-ge-MOST_INSTANCES.false in
+    let room : length d.instances < most Instances = rw c.instance_count.ensures.count at c.if-instance_count-ge-MOST_INSTANCES.false in
     not_refused library c.args.procedure p d c.args.param c.args.ins.now c.args.out c.get-p.ensures strange count right c.in-Some.param (param_in_same c.need.result p.need c.params.result.now d.params c.args.param c.param_in.result c.need.ensures c.params.ensures c.param_in.ensures ∙ c.in-Some.is) room

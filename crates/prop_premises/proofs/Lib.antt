@@ -1,0 +1,5 @@
+pub mod SetLemmas
+pub mod MergeLemmas
+pub mod FlagLemmas
+pub mod OriginLemmas
+pub mod WithinLemmas

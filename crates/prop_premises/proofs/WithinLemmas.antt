@@ -1,0 +1,51 @@
+-- Numbers that are in a set.
+use Rattle.std.proofs.Common.{◌≡◌, ℕ, Bool, true, false, ◌||◌, ◌&&◌, ◌==◌, List, [], ◌∷◌, refl, inl, inr, ◌⊎◌, IsTrue, ◌↔◌}
+use Rattle.std.proofs.lemmas.Bool.Decides.{eqb_tells}
+use Rattle.prop_premises.specs.Sets.{Members, set_of, is_within, IsPart}
+
+and_first : (b c : Bool) → (b && c) ≡ true → b ≡ true
+and_first true c h = refl
+and_first false c h = cc
+
+and_second : (b c : Bool) → (b && c) ≡ true → c ≡ true
+and_second true c h = h
+and_second false c h = cc
+
+and_both : (b c : Bool) → b ≡ true → c ≡ true → (b && c) ≡ true
+and_both true c p q = q
+and_both false c p q = cc
+
+or_cases : (b c : Bool) → (b || c) ≡ true → (b ≡ true) ⊎ (c ≡ true)
+or_cases true c h = inl refl
+or_cases false c h = inr h
+
+same : (n p : ℕ) → (n == p) ≡ true → n ≡ p
+same n p h = elim (eqb_tells n p) [ inl e ↦ e.1 | inr e ↦ cc (e.0, h) ]
+
+same_test : (p : ℕ) → (p == p) ≡ true
+same_test p = elim (eqb_tells p p) [ inl e ↦ e.0 | inr e ↦ absurd (e.1 refl) ]
+
+-- a number of the list is in the set
+pub within_has : (s : Members) (ns : List ℕ) (p : ℕ) → is_within s ns ≡ true → set_of ns p ≡ true → s p ≡ true
+within_has s [] p w h = cc
+within_has s (n ∷ ns) p w h =
+    elim (or_cases (n == p) (set_of ns p) h) as (λ _. s p ≡ true) [
+      | inl e ↦ rw (same n p e) at (and_first (s n) (is_within s ns) w)
+      | inr e ↦ within_has s ns p (and_second (s n) (is_within s ns) w) e
+    ]
+
+-- the list is in the set where each of its numbers is
+pub within_from : (s : Members) (ns : List ℕ) → ((p : ℕ) → set_of ns p ≡ true → s p ≡ true) → is_within s ns ≡ true
+within_from s [] h = refl
+within_from s (n ∷ ns) h = and_both (s n) (is_within s ns) (h n (rw (same_test n) refl)) (within_from s ns (λ p t. h p (or_second (n == p) (set_of ns p) t)))
+  where
+    or_second : (b c : Bool) → c ≡ true → (b || c) ≡ true
+    or_second true c e = refl
+    or_second false c e = e
+
+pub is_within-trans : (s : Members) (ns ms : List ℕ) → is_within s ms ≡ true → is_within (set_of ms) ns ≡ true → is_within s ns ≡ true
+is_within-trans s ns ms w h = within_from s ns (λ p t. within_has s ms p w (within_has (set_of ms) ns p h t))
+
+-- a list is in a set just where its numbers are part of it
+pub is_within-IsPart : (s : Members) (ns : List ℕ) → IsTrue (is_within s ns) ↔ IsPart (set_of ns) s
+is_within-IsPart s ns = (λ w p t. within_has s ns p w t, λ h. within_from s ns h)

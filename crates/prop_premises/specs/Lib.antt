@@ -1,0 +1,4 @@
+pub mod Sets
+pub mod Flags
+pub mod Origins
+pub mod Named

@@ -1,0 +1,34 @@
+-- Sets of premises, as tests of which numbers are in them.
+use Rattle.std.specs.Prelude.{◌≡◌, ℕ, Bool, ◌==◌, ◌||◌, ◌&&◌, not, nat_lt, IsTrue, List}
+use Rattle.std.specs.List.{list_any, list_all}
+
+abbrev pub Members : Type 0
+Members = ℕ → Bool
+
+-- the set of these numbers
+abbrev pub set_of : List ℕ → Members
+set_of ps p = list_any (λ q. q == p) ps
+
+-- what is in one or the other
+abbrev pub union : Members → Members → Members
+union s t p = s p || t p
+
+-- the set, but for one premise
+abbrev pub without : Members → ℕ → Members
+without s q p = s p && not (q == p)
+
+-- each premise of the first is in the second
+abbrev pub IsPart : Members → Members → Type 0
+IsPart s t = (p : ℕ) → IsTrue (s p) → IsTrue (t p)
+
+-- the same premises are in both
+abbrev pub IsSame : Members → Members → Type 0
+IsSame s t = (p : ℕ) → s p ≡ t p
+
+-- whether each of these numbers is in the set
+abbrev pub is_within : Members → List ℕ → Bool
+is_within s ps = list_all s ps
+
+-- whether each of these numbers is below n
+abbrev pub is_below : ℕ → List ℕ → Bool
+is_below n ps = list_all (λ p. nat_lt p n) ps

@@ -1,0 +1,16 @@
+//! Premises by name, sets of them, and which of them are believed.
+#![tactic(auto)]
+
+pub mod numbers;
+mod order;
+pub mod premise_set;
+pub mod premises;
+pub mod worldview;
+
+pub use numbers::Numbers;
+pub use premise_set::{Premise, PremiseSet};
+pub use premises::Premises;
+pub use worldview::Worldview;
+
+#[cfg(test)]
+mod tests;

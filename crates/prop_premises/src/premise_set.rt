@@ -1,0 +1,111 @@
+//! Sets of premises.
+ghost use Rattle.std.specs.Prelude.{◌≡◌, ◌↔◌, ◌<◌, List, ℕ, [], ◌∷◌, All, IsTrue, IfOk};
+ghost use Rattle.std.specs.List.Sorted.{IsStrictlyIncreasing};
+ghost use Rattle.prop_premises.specs.Sets.{set_of, union, without, is_below, is_within, IsSame};
+
+use crate::numbers::Numbers;
+use crate::order::{all_but, merged};
+use std::alloc::{AllocError, Global};
+use std::marker::Model;
+
+/// A premise, by its number. Premises are numbered from 0 on, in the order in which their names first appeared.
+pub type Premise = u16;
+
+/// A set of premises.
+#[derive(Drop)]
+pub struct PremiseSet {
+    numbers: Vec<Premise>,
+}
+
+impl Model for PremiseSet {
+    ghost Value = { List ℕ };
+
+    ghost view = { λ s. s.numbers.items };
+
+    ghost invariant = { λ s. IsStrictlyIncreasing s.numbers.items };
+}
+
+impl PremiseSet {
+    /// The set of no premises. It takes no memory.
+    pub fn empty(alloc: Global) -> PremiseSet
+        ensures { result ≡ [] }
+    {
+        PremiseSet {
+            numbers: Vec::new(alloc),
+        }
+    }
+
+    /// The set of one premise.
+    pub fn single(alloc: Global, premise: Premise) -> Result<PremiseSet, AllocError>
+        ensures { IfOk result (λ s. s ≡ premise ∷ []) }
+    {
+        let mut numbers = Vec::new(alloc);
+        numbers.push(premise)?;
+        Ok(PremiseSet { numbers })
+    }
+
+    /// The premises of both sets.
+    pub fn union(&self, other: &PremiseSet) -> Result<PremiseSet, AllocError>
+        ensures { IfOk result (λ s. IsSame (set_of s) (union (set_of self.now) (set_of other.now))) }
+    {
+        let alloc = *self.numbers.allocator();
+        let numbers = merged(alloc, &self.numbers, &other.numbers)?;
+        Ok(PremiseSet { numbers })
+    }
+
+    /// The set, but for one premise.
+    pub fn without(&self, premise: Premise) -> Result<PremiseSet, AllocError>
+        ensures { IfOk result (λ s. IsSame (set_of s) (without (set_of self.now) premise)) }
+    {
+        let alloc = *self.numbers.allocator();
+        let numbers = all_but(alloc, &self.numbers, premise)?;
+        Ok(PremiseSet { numbers })
+    }
+
+    /// The same set again.
+    pub fn copy(&self) -> Result<PremiseSet, AllocError>
+        ensures { IfOk result (λ s. s ≡ self.now) }
+    {
+        Ok(PremiseSet {
+            numbers: self.numbers.clone()?,
+        })
+    }
+
+    /// Whether each premise of this set is in the other. It takes no memory.
+    pub fn is_subset(&self, other: &PremiseSet) -> bool
+        ensures { result ≡ is_within (set_of other.now) self.now }
+    {
+        self.numbers.iter().all(|p| other.contains(*p))
+    }
+
+    /// Whether the premise is in the set. It takes no memory.
+    pub fn contains(&self, premise: Premise) -> bool
+        ensures { result ≡ set_of self.now premise }
+    {
+        self.numbers.binary_search(&premise).is_ok()
+    }
+
+    /// Whether each premise of the set has a number below the bound. It takes no memory.
+    pub fn is_below(&self, bound: usize) -> bool
+        ensures { result ≡ is_below bound self.now }
+    {
+        match self.numbers.last() {
+            Some(last) => usize::from(*last) < bound,
+            None => true,
+        }
+    }
+
+    pub(crate) fn numbers(&self) -> &[Premise]
+        ensures { result.now ≡ self.now }
+    {
+        &self.numbers
+    }
+
+    /// The premises in order of number.
+    pub fn iter(&self) -> Numbers<'_>
+        ensures all { result ≡ self.now }
+        ensures ordered { IsStrictlyIncreasing self.now }
+    {
+        Numbers::new(&self.numbers)
+    }
+}

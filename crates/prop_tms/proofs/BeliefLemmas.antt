@@ -1,0 +1,146 @@
+-- What entries say in each worldview, in any order of information.
+use Rattle.std.proofs.Common.{◌≡◌, ◌∙◌, ◌<◌, ℕ, Bool, true, false, List, [], ◌∷◌, ◌++◌, length, get_or, take, ◌+◌, refl, sym, ap, inl, inr, Contains, filter, cond, if◌then◌else◌, append-nil}
+use Rattle.std.specs.List.{AllByRecursion}
+use Rattle.std.proofs.lemmas.List.{take_more}
+use Rattle.std.proofs.lemmas.List.Elements.{All-contains, All-from_recursion, recursion_from_All, Contains-get_or, Contains-append_left, Contains-push, Contains-push_cases, filter-append}
+use Rattle.std.proofs.lemmas.List.Quantifiers.{all_pairs_push}
+use Rattle.prop_lattice.specs.Laws.{IsInformationOrder}
+use Rattle.prop_premises.specs.Sets.{Members, is_within}
+use Rattle.prop_premises.proofs.WithinLemmas.{is_within-trans}
+use Rattle.prop_tms.specs.Beliefs.{merge_of_all, believed_of, belief_of, Subsumes, NoneSubsumed, IsNeedless, Adds}
+use Rattle.prop_tms.specs.Kept.{IsLeftWithout}
+use Rattle.prop_tms.specs.declared.supported.Supported.{Supported}
+use Rattle.prop_tms.proofs.MergedLemmas.{first_below, second_below, join_below, merged_below, below_merged, merge_of_all-push, join-above}
+use Rattle.prop_tms.proofs.KeptLemmas.{left_only, left_kept, left_none, left_pairs}
+
+filtered : {X : Type 0} (t : X → Bool) (P : X → Type 0) (xs : List X) → AllByRecursion (λ x. t x ≡ true → P x) xs → AllByRecursion P (filter t xs)
+filtered t P [] h = tt
+filtered t P (x ∷ xs) h = by (t x) refl (filtered t P xs h.1)
+  where
+    by : (b : Bool) → t x ≡ b → AllByRecursion P (filter t xs) → AllByRecursion P (cond b (x ∷ filter t xs) (filter t xs))
+    by true e rest = (h.0 e, rest)
+    by false e rest = rest
+
+unfiltered : {X : Type 0} (t : X → Bool) (P : X → Type 0) (xs : List X) → AllByRecursion P (filter t xs) → AllByRecursion (λ x. t x ≡ true → P x) xs
+unfiltered t P [] h = tt
+unfiltered t P (x ∷ xs) h = by (t x) refl h (λ k. unfiltered t P xs k)
+  where
+    by : (b : Bool) → t x ≡ b → AllByRecursion P (cond b (x ∷ filter t xs) (filter t xs)) → (AllByRecursion P (filter t xs) → AllByRecursion (λ y. t y ≡ true → P y) xs) →
+        (t x ≡ true → P x) × AllByRecursion (λ y. t y ≡ true → P y) xs
+    by true e k rest = (λ sure. k.0, rest k.1)
+    by false e k rest = (λ sure. absurd (cc (e, sure)), rest k)
+
+module _ {V : Type 0} {below : V → V → Type 0} {bottom top : V} {join : V → V → V} (laws : IsInformationOrder below bottom top join) where
+  -- a belief is the least value above those of the believed entries
+  pub belief_below : (w : Members) (es : List (Supported V)) (z : V) → ((x : Supported V) → Contains es x → is_within w x.support ≡ true → below x.value z) → below (belief_of bottom join w es) z
+  belief_below w es z h =
+      merged_below laws (believed_of w es) z (filtered (λ x. is_within w x.support) (λ x. below x.value z) es
+      (recursion_from_All (λ x. is_within w x.support ≡ true → below x.value z) es (λ k d l. h (get_or es k d) (Contains-get_or es k d l))))
+
+  pub below_belief : (w : Members) (es : List (Supported V)) (x : Supported V) → Contains es x → is_within w x.support ≡ true → below x.value (belief_of bottom join w es)
+  below_belief w es x =
+      let z = belief_of bottom join w es in
+      All-contains (λ y. is_within w y.support ≡ true → below y.value z) es x
+      (All-from_recursion (λ y. is_within w y.support ≡ true → below y.value z) es
+      (unfiltered (λ y. is_within w y.support) (λ y. below y.value z) es (below_merged laws (believed_of w es))))
+
+  believed_too : (w : Members) (a b : Supported V) → Subsumes below a b → is_within w b.support ≡ true → is_within w a.support ≡ true
+  believed_too w a b s h = is_within-trans w a.support b.support h s.support
+
+  -- an entry joins those that are left, and those that it subsumes are gone
+  belief-joined : (w : Members) (old rest : List (Supported V)) (e : Supported V) → IsLeftWithout (Subsumes below e) old rest → (b : Bool) → is_within w e.support ≡ b →
+      belief_of bottom join w (rest ++ e ∷ []) ≡ (if b then join (belief_of bottom join w old) e.value else belief_of bottom join w old)
+  belief-joined w old rest e left b at = laws.antisymmetric now then_ less more
+    where
+      before : V
+      before = belief_of bottom join w old
+
+      now : V
+      now = belief_of bottom join w (rest ++ e ∷ [])
+
+      then_ : V
+      then_ = if b then join before e.value else before
+
+      stays : (c : Bool) → below before (if c then join before e.value else before)
+      stays true = first_below laws before e.value
+      stays false = laws.reflexive before
+
+      joins : (c : Bool) → c ≡ true → below e.value (if c then join before e.value else before)
+      joins true h = second_below laws before e.value
+      joins false h = cc
+
+      less : below now then_
+      less = belief_below w (rest ++ e ∷ []) then_ (λ x c sure. elim (Contains-push_cases rest e x c) [
+        | inl there ↦ laws.transitive x.value before then_ (below_belief w old x (left_only (Subsumes below e) old rest x left there) sure) (stays b)
+        | inr is ↦ rw (← is) (joins b (sym at ∙ (rw (← is) at sure)))
+      ])
+
+      here : is_within w e.support ≡ true → below e.value now
+      here sure = below_belief w (rest ++ e ∷ []) e (Contains-push rest e) sure
+
+      kept : below before now
+      kept = belief_below w old now (λ x c sure. elim (left_kept (Subsumes below e) old rest x left c) [
+        | inl there ↦ below_belief w (rest ++ e ∷ []) x (Contains-append_left rest (e ∷ []) x there) sure
+        | inr gone ↦ laws.transitive x.value e.value now gone.value (here (believed_too w e x gone sure))
+      ])
+
+      both : (c : Bool) → (c ≡ true → below e.value now) → below (if c then join before e.value else before) now
+      both true h = join_below laws before e.value now kept (h refl)
+      both false h = kept
+
+      more : below then_ now
+      more = both b (λ t. here (at ∙ t))
+
+  pub adds_joined : (old rest : List (Supported V)) (e : Supported V) → IsLeftWithout (Subsumes below e) old rest → Adds bottom join old (rest ++ e ∷ []) e
+  adds_joined old rest e left = record {
+    beliefs = λ w. belief-joined w old rest e left (is_within w e.support) refl;
+    only = λ x c. elim (Contains-push_cases rest e x c) [ inl there ↦ inl (left_only (Subsumes below e) old rest x left there) | inr is ↦ inr (sym is) ];
+  }
+
+  needless_below : (w : Members) (es : List (Supported V)) (e : Supported V) → IsNeedless below bottom es e → is_within w e.support ≡ true → below e.value (belief_of bottom join w es)
+  needless_below w es e (inl none) sure = rw none (laws.from_bottom (belief_of bottom join w es))
+  needless_below w es e (inr some) sure =
+      let x = some.1 in
+      laws.transitive e.value x.value (belief_of bottom join w es) some.4.value
+      (below_belief w es x (some.0, some.2, some.3) (believed_too w x e some.4 sure))
+
+  pub adds_needless : (es : List (Supported V)) (e : Supported V) → IsNeedless below bottom es e → Adds bottom join es es e
+  adds_needless es e needless = record {
+    beliefs = λ w. by w (is_within w e.support) (needless_below w es e needless);
+    only = λ x c. inl c;
+  }
+    where
+      by : (w : Members) (b : Bool) → (b ≡ true → below e.value (belief_of bottom join w es)) → belief_of bottom join w es ≡ (if b then join (belief_of bottom join w es) e.value else belief_of bottom join w es)
+      by w true h = sym (join-above laws (belief_of bottom join w es) e.value (h refl))
+      by w false h = refl
+
+  -- what is left, and an entry that was needed, do not subsume one another
+  pub none_subsumed-joined : (old rest : List (Supported V)) (e : Supported V) → IsLeftWithout (Subsumes below e) old rest → ¬ (IsNeedless below bottom old e) → NoneSubsumed below old → NoneSubsumed below (rest ++ e ∷ [])
+  none_subsumed-joined old rest e left needed apart =
+      all_pairs_push (λ a b. ¬ (Subsumes below a b) × ¬ (Subsumes below b a)) rest e
+      (left_pairs (Subsumes below e) (λ a b. ¬ (Subsumes below a b) × ¬ (Subsumes below b a)) old rest left apart)
+      (λ k d l. (
+        (λ s. let c = left_only (Subsumes below e) old rest (get_or rest k d) left (Contains-get_or rest k d l) in needed (inr (c.0, get_or rest k d, c.1, c.2, s))),
+        (λ s. left_none (Subsumes below e) old rest left k d l s),
+      ))
+
+  -- nothing is needless but what is least, or is subsumed
+  pub needless_nothing : (es : List (Supported V)) (e : Supported V) → below e.value bottom → IsNeedless below bottom es e
+  needless_nothing es e h = inl (laws.antisymmetric e.value bottom h (laws.from_bottom e.value))
+
+  -- ---- one more entry
+
+  pub belief-push : (w : Members) (es : List (Supported V)) (e : Supported V) (b : Bool) → is_within w e.support ≡ b →
+      belief_of bottom join w (es ++ e ∷ []) ≡ (if b then join (belief_of bottom join w es) e.value else belief_of bottom join w es)
+  belief-push w es e b at = ap (merge_of_all bottom join) (filter-append (λ x. is_within w x.support) es (e ∷ [])) ∙ by b at
+    where
+      by : (b : Bool) → is_within w e.support ≡ b →
+          merge_of_all bottom join (believed_of w es ++ cond (is_within w e.support) (e ∷ []) []) ≡ (if b then join (belief_of bottom join w es) e.value else belief_of bottom join w es)
+      by true h = rw h (merge_of_all-push laws (believed_of w es) e)
+      by false h = rw (h, append-nil (believed_of w es)) refl
+
+  pub belief-more : (w : Members) (es : List (Supported V)) (i : ℕ) (e : Supported V) (b : Bool) → i < length es → e ≡ get_or es i e → is_within w e.support ≡ b →
+      belief_of bottom join w (take (i + 1) es) ≡ (if b then join (belief_of bottom join w (take i es)) e.value else belief_of bottom join w (take i es))
+  belief-more w es i e b l is at =
+      let bigger : take (i + 1) es ≡ take i es ++ e ∷ [] = rw (take_more es i e l, ← is) refl in
+      rw bigger (belief-push w (take i es) e b at)

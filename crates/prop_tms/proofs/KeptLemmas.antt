@@ -1,0 +1,89 @@
+-- Lists from which some elements were dropped.
+use Rattle.std.proofs.Common.{◌≡◌, ◌<◌, ℕ, zero, suc, Bool, true, false, List, [], ◌∷◌, length, get_or, refl, arith, inl, inr, ◌⊎◌, Contains, All, AllPairs, Any, IsTrue, ◌↔◌}
+use Rattle.std.specs.Bool.{MatchBool}
+use Rattle.std.specs.List.{items_where_true, HoldsAt, AllWithin}
+use Rattle.std.proofs.lemmas.List.{get_or_default}
+use Rattle.std.specs.List.Retain.{IsFiltered, ReturnsInTurn}
+use Rattle.std.proofs.lemmas.List.Elements.{All-nil, All-cons, All-head, All-tail, All-contains, All-contains_itself}
+use Rattle.std.proofs.lemmas.List.Kept.{AllPairs-cons}
+use Rattle.prop_tms.specs.Kept.{IsLeftWithout}
+
+pub contains_here : {X : Type 0} (x : X) (xs : List X) → Contains (x ∷ xs) x
+contains_here x xs = (0, omega arith, refl)
+
+pub contains_there : {X : Type 0} (x y : X) (xs : List X) → Contains xs y → Contains (x ∷ xs) y
+contains_there x y xs h = (suc h.0, omega (arith, h.1), h.2)
+
+pub contains_cases : {X : Type 0} (x y : X) (xs : List X) → Contains (x ∷ xs) y → (x ≡ y) ⊎ Contains xs y
+contains_cases x y xs h = by h.0 h.1 h.2
+  where
+    by : (k : ℕ) → k < length (x ∷ xs) → get_or (x ∷ xs) k y ≡ y → (x ≡ y) ⊎ Contains xs y
+    by zero l e = inl e
+    by (suc k) l e = inr (k, omega (arith, l), e)
+
+module _ {X : Type 0} (D : X → Type 0) where
+  in_turn : {F : Type 0} (R : F → X → Bool → F → Type 0) (f : F) → ((x : X) (b : Bool) (f' : F) → R f x b f' → (b ≡ false → D x) × (b ≡ true → ¬ (D x)) × (f' ≡ f)) →
+      (bs : List Bool) (xs : List X) (g : F) → length bs ≡ length xs → ReturnsInTurn R f bs xs g → IsLeftWithout D xs (items_where_true bs xs)
+  in_turn R f h [] [] g len t = refl
+  in_turn R f h [] (x ∷ xs) g len t = absurd (omega (arith, len))
+  in_turn R f h (b ∷ bs) [] g len t = absurd (omega (arith, len))
+  in_turn R f h (true ∷ bs) (x ∷ xs) g len t =
+      let told = h x true t.0 t.1 in
+      let rest = rw told.2 at t.2 in
+      inr (told.1 refl, (items_where_true bs xs, refl, in_turn R f h bs xs g (omega (arith, len)) rest))
+  in_turn R f h (false ∷ bs) (x ∷ xs) g len t =
+      let told = h x false t.0 t.1 in
+      let rest = rw told.2 at t.2 in
+      inl (told.0 refl, in_turn R f h bs xs g (omega (arith, len)) rest)
+
+  -- what `retain` leaves, where the closure says `false` just of what is to go
+  pub left_from_retain : {F : Type 0} (R : F → X → Bool → F → Type 0) (f : F) → ((x : X) (b : Bool) (f' : F) → R f x b f' → (b ≡ false → D x) × (b ≡ true → ¬ (D x)) × (f' ≡ f)) →
+      (xs ys : List X) → IsFiltered R f xs ys → IsLeftWithout D xs ys
+  left_from_retain R f h xs ys t = rw t.4 (in_turn R f h t.0 xs t.1 t.2 t.3)
+
+  -- what holds of all holds of those that stay
+  pub left_all : (P : X → Type 0) (xs ys : List X) → IsLeftWithout D xs ys → All P xs → All P ys
+  left_all P [] ys h k = rw h (All-nil P)
+  left_all P (x ∷ xs) ys (inl h) k = left_all P xs ys h.1 (All-tail P x xs k)
+  left_all P (x ∷ xs) ys (inr h) k = rw h.1.1 (All-cons P x h.1.0 (All-head P x xs k) (left_all P xs h.1.0 h.1.2 (All-tail P x xs k)))
+
+  pub left_only : (xs ys : List X) (y : X) → IsLeftWithout D xs ys → Contains ys y → Contains xs y
+  left_only xs ys y h k = All-contains (Contains xs) ys y (left_all (Contains xs) xs ys h (All-contains_itself xs)) k
+
+  -- the fact holds of none that stays
+  pub left_none : (xs ys : List X) → IsLeftWithout D xs ys → All (λ y. ¬ (D y)) ys
+  left_none [] ys h = rw h (All-nil (λ y. ¬ (D y)))
+  left_none (x ∷ xs) ys (inl h) = left_none xs ys h.1
+  left_none (x ∷ xs) ys (inr h) = rw h.1.1 (All-cons (λ y. ¬ (D y)) x h.1.0 h.0 (left_none xs h.1.0 h.1.2))
+
+  -- each element stays, or the fact holds of it
+  pub left_kept : (xs ys : List X) (y : X) → IsLeftWithout D xs ys → Contains xs y → Contains ys y ⊎ D y
+  left_kept [] ys y h k = absurd (omega (arith, k.1))
+  left_kept (x ∷ xs) ys y (inl h) k = elim (contains_cases x y xs k) [
+    | inl e ↦ inr (rw e at h.0)
+    | inr there ↦ left_kept xs ys y h.1 there
+  ]
+  left_kept (x ∷ xs) ys y (inr h) k = elim (contains_cases x y xs k) [
+    | inl e ↦ inl (rw (h.1.1, ← e) (contains_here x h.1.0))
+    | inr there ↦ elim (left_kept xs h.1.0 y h.1.2 there) [
+      | inl stays ↦ inl (rw h.1.1 (contains_there x y h.1.0 stays))
+      | inr gone ↦ inr gone
+    ]
+  ]
+
+  pub left_pairs : (R : X → X → Type 0) (xs ys : List X) → IsLeftWithout D xs ys → AllPairs R xs → AllPairs R ys
+  left_pairs R [] ys h k = rw h k
+  left_pairs R (x ∷ xs) ys (inl h) k = left_pairs R xs ys h.1 (λ i j d lt l. k (suc i) (suc j) d (omega (arith, lt)) (omega (arith, l)))
+  left_pairs R (x ∷ xs) ys (inr h) k =
+      let first : All (R x) xs = λ j d l. k 0 (suc j) d (omega arith) (omega (arith, l)) in
+      rw h.1.1 (AllPairs-cons R x h.1.0 (left_all (R x) xs h.1.0 h.1.2 first)
+      (left_pairs R xs h.1.0 h.1.2 (λ i j d lt l. k (suc i) (suc j) d (omega (arith, lt)) (omega (arith, l)))))
+
+-- what `any` tells
+pub known_from_any : {X : Type 0} (P : X → Type 0) (xs : List X) (r : Bool) → MatchBool r ((k : ℕ) × (k < length xs) × HoldsAt P xs k) (AllWithin (λ x. ¬ (P x)) xs 0 (length xs)) → IsTrue r ↔ Any P xs
+known_from_any P [] true h = absurd (omega (arith, h.1))
+known_from_any P (x ∷ xs) true h = (λ t. (h.0, get_or (x ∷ xs) h.0 x, h.1, at h.0 h.1, h.2 x), λ t. refl)
+  where
+    at : (k : ℕ) → k < length (x ∷ xs) → get_or (x ∷ xs) k (get_or (x ∷ xs) k x) ≡ get_or (x ∷ xs) k x
+    at k l = get_or_default (x ∷ xs) k (get_or (x ∷ xs) k x) x l
+known_from_any P xs false h = (λ t. cc, λ some. absurd (h some.0 some.1 (omega arith) some.2 (rw some.3 some.4)))

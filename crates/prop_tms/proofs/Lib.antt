@@ -1,0 +1,5 @@
+pub mod MergedLemmas
+pub mod KeptLemmas
+pub mod BeliefLemmas
+pub mod LeanLemmas
+pub mod LeanUses

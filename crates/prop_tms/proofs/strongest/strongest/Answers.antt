@@ -1,0 +1,53 @@
+use Rattle.std.proofs.Common.{◌++◌, ◌∷◌, [], All, Contains, IsTrue}
+use Rattle.prop_premises.specs.Sets.{set_of, is_within}
+use Rattle.prop_tms.specs.Beliefs.{merge_of_all}
+use Rattle.prop_tms.specs.Gains.{AreGains, gained_of}
+use Rattle.prop_tms.proofs.LeanLemmas.{IsThinned, IsThinned-skip, IsThinned-keep, AreGains-front, AreGains-last, gained_of-push, All-front, All-last}
+use Rattle.prop_tms.proofs.strongest.strongest.Goals as goal
+
+pub loop-gain-preserved-then-not-implies : goal.loop-gain-preserved-then-not-implies
+loop-gain-preserved-then-not-implies g c =
+    let laws = g.met.V.Partial.laws in
+    let es = c.args.entries.now in
+    let w = set_of c.args.worldview.now in
+    let left = c.pop.new.self.items in
+    let gain = c.in-Some.gain in
+    let e = gain.entry.now in
+    let kept = c.loop-gain.invariant in
+    let items = c.in-Some.ensures.items in
+    let gains : AreGains g.V.Partial.join g.V.Partial.bottom (left ++ gain ∷ []) = rw items at kept.gains in
+    let among : All (Contains es) (gained_of left ++ e ∷ []) = rw (items, gained_of-push left gain) at kept.among in
+    let believed : All (λ x. IsTrue (is_within w x.support)) (gained_of left ++ e ∷ []) = rw (items, gained_of-push left gain) at kept.believed in
+    let thinned : IsThinned g.V.Partial.bottom g.V.Partial.join es w c.belief-value.result (gained_of left ++ e ∷ []) c.loop-gain.after c.loop-gain.support = rw (items, gained_of-push left gain) at kept.thinned in
+    let before = AreGains-last laws left gain gains in
+    let needed : ¬ (g.V.Partial.below c.belief-value.result (g.V.Partial.join (merge_of_all g.V.Partial.bottom g.V.Partial.join (gained_of left)) c.loop-gain.after)) = λ h. cc (c.implies.ensures.1 (rw (c.merge.ensures, before) h), c.if-not-implies.true) in
+    record {
+      gains = AreGains-front laws g.V.Partial.bottom left gain gains;
+      among = All-front (Contains es) (gained_of left) e among;
+      believed = All-front (λ x. IsTrue (is_within w x.support)) (gained_of left) e believed;
+      thinned = rw c.merge-after.ensures (IsThinned-keep laws es w c.belief-value.result (gained_of left) e c.loop-gain.after c.loop-gain.support c.in_ok-support.support thinned needed
+          (All-last (Contains es) (gained_of left) e among) (All-last (λ x. IsTrue (is_within w x.support)) (gained_of left) e believed) c.in_ok-support.ensures);
+    }
+
+pub loop-gain-preserved : goal.loop-gain-preserved
+loop-gain-preserved g c =
+    let laws = g.met.V.Partial.laws in
+    let es = c.args.entries.now in
+    let w = set_of c.args.worldview.now in
+    let left = c.pop.new.self.items in
+    let gain = c.in-Some.gain in
+    let e = gain.entry.now in
+    let kept = c.loop-gain.invariant in
+    let items = c.in-Some.ensures.items in
+    let gains : AreGains g.V.Partial.join g.V.Partial.bottom (left ++ gain ∷ []) = rw items at kept.gains in
+    let among : All (Contains es) (gained_of left ++ e ∷ []) = rw (items, gained_of-push left gain) at kept.among in
+    let believed : All (λ x. IsTrue (is_within w x.support)) (gained_of left ++ e ∷ []) = rw (items, gained_of-push left gain) at kept.believed in
+    let thinned : IsThinned g.V.Partial.bottom g.V.Partial.join es w c.belief-value.result (gained_of left ++ e ∷ []) c.loop-gain.after c.loop-gain.support = rw (items, gained_of-push left gain) at kept.thinned in
+    let before = AreGains-last laws left gain gains in
+    let reached = rw (c.merge.ensures, before) at (c.implies.ensures.0 c.if-not-implies.false) in
+    record {
+      gains = AreGains-front laws g.V.Partial.bottom left gain gains;
+      among = All-front (Contains es) (gained_of left) e among;
+      believed = All-front (λ x. IsTrue (is_within w x.support)) (gained_of left) e believed;
+      thinned = IsThinned-skip laws es w c.belief-value.result (gained_of left) e c.loop-gain.after c.loop-gain.support thinned reached;
+    }

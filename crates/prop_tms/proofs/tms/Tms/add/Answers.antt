@@ -1,0 +1,46 @@
+use Rattle.std.proofs.Common.{refl}
+use Rattle.prop_tms.specs.Beliefs.{IsNeedless}
+use Rattle.prop_tms.specs.declared.supported.Supported.{Supported}
+use Rattle.prop_tms.proofs.BeliefLemmas.{adds_joined, adds_needless, none_subsumed-joined}
+use Rattle.prop_tms.proofs.tms.Tms.add.Goals as goal
+
+pub returns-then-is_needless-clause-adds : goal.returns-then-is_needless-clause-adds
+returns-then-is_needless-clause-adds g c =
+    let e : Supported _ = record { value = c.args.value; support = c.args.support } in
+    let needless : IsNeedless g.V.Partial.below g.V.Partial.bottom c.args.self.now e = rw (← c.self.view_is) (rw c.deref.ensures.value at (c.is_needless.ensures.0 c.if-is_needless.true)) in
+    adds_needless g.met.V.Partial.laws c.args.self.now e needless
+
+pub returns-then-is_needless-clause-same : goal.returns-then-is_needless-clause-same
+returns-then-is_needless-clause-same g c =
+    let e : Supported _ = record { value = c.args.value; support = c.args.support } in
+    let needless : IsNeedless g.V.Partial.below g.V.Partial.bottom c.args.self.now e = rw (← c.self.view_is) (rw c.deref.ensures.value at (c.is_needless.ensures.0 c.if-is_needless.true)) in
+    (λ t. needless, λ n. refl)
+
+pub invariant_of-self-2 : goal.invariant_of-self-2
+invariant_of-self-2 g c =
+    let e : Supported _ = record { value = c.args.value; support = c.args.support } in
+    let pushed = c.in_ok-push.ensures.items in
+    let left = rw c.in_ok-reserve.ensures.items at c.drop_subsumed.ensures.kept in
+    let needed : ¬ (IsNeedless g.V.Partial.below g.V.Partial.bottom c.self.inside.entries.items e) = λ n. cc (c.if-is_needless.false, c.is_needless.ensures.1 (rw c.deref.ensures.value n)) in
+    rw pushed (none_subsumed-joined g.met.V.Partial.laws c.self.inside.entries.items c.drop_subsumed.new.entries.items e left needed c.self.invariant)
+
+pub returns-clause-adds : goal.returns-clause-adds
+returns-clause-adds g c =
+    let e : Supported _ = record { value = c.args.value; support = c.args.support } in
+    let pushed = c.in_ok-push.ensures.items in
+    let left = rw c.in_ok-reserve.ensures.items at c.drop_subsumed.ensures.kept in
+    rw (pushed, ← c.self.view_is) (adds_joined g.met.V.Partial.laws c.self.inside.entries.items c.drop_subsumed.new.entries.items e left)
+
+pub returns-clause-same : goal.returns-clause-same
+returns-clause-same g c =
+    let e : Supported _ = record { value = c.args.value; support = c.args.support } in
+    let needed : ¬ (IsNeedless g.V.Partial.below g.V.Partial.bottom c.self.inside.entries.items e) = λ n. cc (c.if-is_needless.false, c.is_needless.ensures.1 (rw c.deref.ensures.value n)) in
+    (λ t. cc, λ n. absurd (needed (rw c.self.view_is n)))
+
+pub returns-clause-apart : goal.returns-clause-apart
+returns-clause-apart g c =
+    let e : Supported _ = record { value = c.args.value; support = c.args.support } in
+    let pushed = c.in_ok-push.ensures.items in
+    let left = rw c.in_ok-reserve.ensures.items at c.drop_subsumed.ensures.kept in
+    let needed : ¬ (IsNeedless g.V.Partial.below g.V.Partial.bottom c.self.inside.entries.items e) = λ n. cc (c.if-is_needless.false, c.is_needless.ensures.1 (rw c.deref.ensures.value n)) in
+    rw pushed (none_subsumed-joined g.met.V.Partial.laws c.self.inside.entries.items c.drop_subsumed.new.entries.items e left needed c.self.invariant)

@@ -1,0 +1,45 @@
+-- What values with supports say in each worldview.
+use Rattle.std.specs.Prelude.{◌≡◌, ◌≢◌, ℕ, ◌<◌, IsTrue, List, [], ◌∷◌, length, filter, All, AllPairs, Any, Contains, remove, ◌⊎◌, if◌then◌else◌}
+use Rattle.std.specs.List.{list_any}
+use Rattle.prop_premises.specs.Sets.{Members, set_of, is_within, IsSame}
+use Rattle.prop_tms.specs.declared.supported.Supported.{Supported}
+
+-- the least value above those of all these
+abbrev pub merge_of_all : {V : Type 0} → V → (V → V → V) → List (Supported V) → V
+merge_of_all bottom join [] = bottom
+merge_of_all bottom join (e ∷ es) = join e.value (merge_of_all bottom join es)
+
+-- the entries whose premises are all in the worldview
+abbrev pub believed_of : {V : Type 0} → Members → List (Supported V) → List (Supported V)
+believed_of w entries = filter (λ e. is_within w e.support) entries
+
+-- what the believed entries say together
+abbrev pub belief_of : {V : Type 0} → V → (V → V → V) → Members → List (Supported V) → V
+belief_of bottom join w entries = merge_of_all bottom join (believed_of w entries)
+
+-- the first entry knows all that the second does, on no other premises
+pub record Subsumes {V : Type 0} (below : V → V → Type 0) (a b : Supported V) : Type 0 where
+  pub value : below b.value a.value
+  pub support : IsTrue (is_within (set_of b.support) a.support)
+
+-- no entry subsumes another
+abbrev pub NoneSubsumed : {V : Type 0} → (V → V → Type 0) → List (Supported V) → Type 0
+NoneSubsumed below entries = AllPairs (λ a b. ¬ (Subsumes below a b) × ¬ (Subsumes below b a)) entries
+
+-- the entry says nothing new
+abbrev pub IsNeedless : {V : Type 0} → (V → V → Type 0) → V → List (Supported V) → Supported V → Type 0
+IsNeedless below bottom entries e = (e.value ≡ bottom) ⊎ Any (λ x. Subsumes below x e) entries
+
+-- An entry was added: in each worldview that believes it, its value is merged with the belief, and no other belief changes.
+pub record Adds {V : Type 0} (bottom : V) (join : V → V → V) (old new : List (Supported V)) (e : Supported V) : Type 0 where
+  pub beliefs : (w : Members) → belief_of bottom join w new ≡ (if is_within w e.support then join (belief_of bottom join w old) e.value else belief_of bottom join w old)
+  pub only : (x : Supported V) → Contains new x → Contains old x ⊎ (x ≡ e)
+
+-- The support is that of believed entries whose merge is the value, none of which can be left out.
+pub record IsLean {V : Type 0} (bottom : V) (join : V → V → V) (entries : List (Supported V)) (w : Members) (v : V) (support : List ℕ) : Type 0 where
+  pub chosen : List (Supported V)
+  pub among : All (Contains entries) chosen
+  pub believed : All (λ e. IsTrue (is_within w e.support)) chosen
+  pub merged : merge_of_all bottom join chosen ≡ v
+  pub needed : (k : ℕ) → k < length chosen → merge_of_all bottom join (remove chosen k) ≢ v
+  pub joined : IsSame (set_of support) (λ p. list_any (λ e. set_of e.support p) chosen)

@@ -1,0 +1,8 @@
+-- Lists from which some elements were dropped.
+use Rattle.std.specs.Prelude.{◌≡◌, List, [], ◌∷◌, ◌⊎◌}
+
+-- the second list has the elements of the first of which the fact does not hold, in their order
+abbrev pub IsLeftWithout : {X : Type 0} → (X → Type 0) → List X → List X → Type 0
+IsLeftWithout Dropped [] ys = ys ≡ []
+IsLeftWithout {X} Dropped (x ∷ xs) ys =
+    (Dropped x × IsLeftWithout Dropped xs ys) ⊎ (¬ (Dropped x) × ((zs : List X) × (ys ≡ x ∷ zs) × IsLeftWithout Dropped xs zs))

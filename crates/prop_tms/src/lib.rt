@@ -1,0 +1,13 @@
+//! Values with the premises that they rest on.
+#![tactic(auto)]
+
+mod gain;
+mod strongest;
+pub mod supported;
+pub mod tms;
+
+pub use supported::Supported;
+pub use tms::{Change, Tms};
+
+#[cfg(test)]
+mod tests;

@@ -1,0 +1,122 @@
+//! The entries of one value.
+ghost use Rattle.std.specs.Prelude.{◌≡◌, ◌↔◌, ◌≤◌, Any, List, [], length, filter, vec_capacity, vec_len, IsTrue, IfOk, OnOk, OnErr};
+ghost use Rattle.prop_premises.specs.Sets.{set_of, is_below};
+ghost use Rattle.prop_tms.specs.Beliefs.{belief_of, Subsumes, NoneSubsumed, IsNeedless, Adds, IsLean};
+ghost use Rattle.prop_tms.specs.Kept.{IsLeftWithout};
+ghost use Rattle.prop_tms.specs.declared.supported.Supported.{Supported};
+
+use crate::strongest::{belief, strongest};
+use crate::supported::Supported;
+use prop_lattice::Partial;
+use prop_premises::{PremiseSet, Worldview};
+use std::alloc::{AllocError, Global};
+use std::marker::Model;
+
+/// Whether an addition said something new.
+#[derive(Clone, Copy, Debug, PartialEq, Eq)]
+pub enum Change {
+    Same,
+    Grown,
+}
+
+/// What is known of one thing: values, each with the premises that it rests on, none of which subsumes another.
+#[derive(Drop)]
+pub struct Tms<V: Partial> {
+    entries: Vec<Supported<V>>,
+}
+
+impl<V: Partial> Model for Tms<V> {
+    ghost Value = { List (Supported V) };
+
+    ghost view = { λ t. t.entries.items };
+
+    ghost invariant = { λ t. NoneSubsumed V.below t.entries.items };
+}
+
+/// Whether the first entry knows all that the second does, on no other premises.
+fn is_subsumed<V: Partial>(by: &Supported<V>, entry: &Supported<V>) -> bool
+    ensures { IsTrue result ↔ Subsumes V.below by.now entry.now }
+{
+    by.value.implies(entry.value) && by.support.is_subset(&entry.support)
+}
+
+/// Whether some entry subsumes this one.
+fn is_known<V: Partial>(entries: &[Supported<V>], entry: &Supported<V>) -> bool
+    ensures { IsTrue result ↔ Any (λ x. Subsumes V.below x entry.now) entries.now }
+{
+    entries.iter().any(|x| is_subsumed(x, entry))
+}
+
+/// Whether the entry says nothing new.
+fn is_needless<V: Partial>(entries: &[Supported<V>], entry: &Supported<V>) -> bool
+    ensures { IsTrue result ↔ IsNeedless V.below V.bottom entries.now entry.now }
+{
+    V::nothing().implies(entry.value) || is_known(entries, entry)
+}
+
+/// Drops the entries that this one subsumes.
+fn drop_subsumed<V: Partial>(entries: &mut Vec<Supported<V>>, entry: &Supported<V>)
+    ensures kept { IsLeftWithout (Subsumes V.below entry.now) entries.old.items entries.new.items }
+    ensures capacity { vec_capacity entries.new ≡ vec_capacity entries.old }
+    ensures len { vec_len entries.new ≤ vec_len entries.old }
+{
+    entries.retain(|x| !is_subsumed(entry, x));
+}
+
+impl<V: Partial> Tms<V> {
+    /// No entries. It takes no memory.
+    pub fn new(alloc: Global) -> Tms<V>
+        ensures { result ≡ [] }
+    {
+        Tms {
+            entries: Vec::new(alloc),
+        }
+    }
+
+    /// How many entries there are.
+    pub fn len(&self) -> usize
+        ensures { result ≡ length self.now }
+    {
+        self.entries.len()
+    }
+
+    /// Adds a value that is known where the support is believed. After want of memory nothing has changed.
+    pub fn add(&mut self, value: V, support: PremiseSet) -> Result<Change, AllocError>
+        ensures adds { OnOk result (Adds V.bottom V.join self.old self.new (record { value = value; support = support })) }
+        ensures same { IfOk result (λ change. (change ≡ Change.Same) ↔ IsNeedless V.below V.bottom self.old (record { value = value; support = support })) }
+        ensures unchanged { IfOk result (λ change. change ≡ Change.Same → self.new ≡ self.old) }
+        ensures apart { NoneSubsumed V.below self.new }
+        ensures err { OnErr result (self.new ≡ self.old) }
+    {
+        let entry = Supported { value, support };
+        if is_needless(&self.entries, &entry) {
+            return Ok(Change::Same);
+        }
+        self.entries.reserve(1)?;
+        drop_subsumed(&mut self.entries, &entry);
+        self.entries.push(entry)?;
+        Ok(Change::Grown)
+    }
+
+    /// What the believed entries say together. It takes no memory.
+    pub fn believed_value(&self, worldview: &Worldview) -> V
+        ensures { result ≡ belief_of V.bottom V.join (set_of worldview.now) self.now }
+    {
+        belief(&self.entries, worldview)
+    }
+
+    /// What the believed entries say together, with the support of believed entries that say so, none of which can be left out.
+    pub fn strongest(&self, worldview: &Worldview) -> Result<Supported<V>, AllocError>
+        ensures value { IfOk result (λ e. e.value ≡ belief_of V.bottom V.join (set_of worldview.now) self.now) }
+        ensures lean { IfOk result (λ e. IsLean V.bottom V.join self.now (set_of worldview.now) e.value e.support) }
+    {
+        strongest(*self.entries.allocator(), &self.entries, worldview)
+    }
+
+    /// Drops the entries whose support holds a premise with a number of `count` or more. It takes no memory.
+    pub fn back(&mut self, count: usize)
+        ensures { self.new ≡ filter (λ e. is_below count e.support) self.old }
+    {
+        self.entries.retain(|e| e.support.is_below(count));
+    }
+}
