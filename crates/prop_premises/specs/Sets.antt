@@ -1,5 +1,5 @@
 -- Sets of premises, as tests of which numbers are in them.
-use Rattle.std.specs.Prelude.{◌≡◌, ℕ, Bool, ◌==◌, ◌||◌, ◌&&◌, not, nat_lt, IsTrue, List}
+use Rattle.std.specs.Prelude.{◌≡◌, ℕ, Bool, ◌==◌, ◌||◌, ◌&&◌, not, nat_lt, ◌<◌, IsTrue, List}
 use Rattle.std.specs.List.{list_any, list_all}
 
 abbrev pub Members : Type 0
@@ -24,6 +24,10 @@ IsPart s t = (p : ℕ) → IsTrue (s p) → IsTrue (t p)
 -- the same premises are in both
 abbrev pub IsSame : Members → Members → Type 0
 IsSame s t = (p : ℕ) → s p ≡ t p
+
+-- each premise of the set has a number below n
+abbrev pub IsBelow : ℕ → Members → Type 0
+IsBelow n s = (p : ℕ) → IsTrue (s p) → p < n
 
 -- whether each of these numbers is in the set
 abbrev pub is_within : Members → List ℕ → Bool

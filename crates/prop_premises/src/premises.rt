@@ -2,7 +2,7 @@
 ghost use Rattle.std.specs.Prelude.{◌≡◌, ◌≤◌, ◌<◌, ◌+◌, ◌↔◌, ◌⊎◌, List, [], ◌∷◌, ◌++◌, length, map, take, Some, None, Ok, Err, true, false, unwrap_or, slice_get, option_map, IsTrue, IfOk, IfErr, OnOk, OnErr, MatchResult};
 ghost use Rattle.indexmap.specs.IndexMap.{values};
 ghost use Rattle.prop_lattice.specs.Refusals.{most};
-ghost use Rattle.prop_premises.specs.Sets.{set_of, IsSame};
+ghost use Rattle.prop_premises.specs.Sets.{set_of, union, without, IsSame};
 ghost use Rattle.prop_premises.specs.Origins.{Origin, User, name_of, is_user_at, premise_number, believed_in, with_belief_at, with_name};
 ghost use Rattle.prop_premises.specs.Named.{origin_of};
 
@@ -62,7 +62,8 @@ impl Premises {
 
     /// How many premises there are.
     pub fn len(&self) -> usize
-        ensures { result ≡ length self.now }
+        ensures len { result ≡ length self.now }
+        ensures bound { result ≤ most Limit.Premises }
     {
         self.beliefs.len()
     }
@@ -81,7 +82,7 @@ impl Premises {
         ensures ok { OnOk result (self.new ≡ with_name self.old name.now) }
         ensures user { IfOk result (λ p. IsTrue (is_user_at self.new p)) }
         ensures err { OnErr result (self.new ≡ self.old) }
-        ensures full { (result ≡ Err (Refusal.LimitReached Limit.Premises)) ↔ ((premise_number self.old name.now ≡ None) × (length self.old ≡ most Limit.Premises)) }
+        ensures full { (result ≡ Err (Refusal.LimitReached Limit.Premises)) ↔ ((premise_number self.old name.now ≡ None) × (most Limit.Premises ≤ length self.old)) }
         ensures why { IfErr result (λ e. (premise_number self.old name.now ≡ None) × ((e ≡ Refusal.LimitReached Limit.Premises) ⊎ (e ≡ Refusal.Memory))) }
     {
         match self.find(name) {
@@ -122,7 +123,8 @@ impl Premises {
     /// The premise is no longer believed, and nothing else changes. It takes no memory.
     pub fn kick(&mut self, premise: Premise)
         requires { IsTrue (is_user_at self.old premise) }
-        ensures { self.new ≡ with_belief_at self.old premise false }
+        ensures only { self.new ≡ with_belief_at self.old premise false }
+        ensures beliefs { IsSame (believed_in self.new) (without (believed_in self.old) premise) }
     {
         self.set_belief(premise, false);
     }
@@ -130,7 +132,8 @@ impl Premises {
     /// The premise is believed from now on, and nothing else changes. It takes no memory.
     pub fn bring(&mut self, premise: Premise)
         requires { IsTrue (is_user_at self.old premise) }
-        ensures { self.new ≡ with_belief_at self.old premise true }
+        ensures only { self.new ≡ with_belief_at self.old premise true }
+        ensures beliefs { IsSame (believed_in self.new) (union (believed_in self.old) (set_of (premise ∷ []))) }
     {
         self.set_belief(premise, true);
     }

@@ -2,7 +2,17 @@
 
 use crate::{Premise, PremiseSet, Premises, Worldview};
 use prop_lattice::Refusal;
+use std::alloc::{AllocError, Global};
 use std::test::Fail;
+
+/// The set of these premises, put together in this order.
+fn set_of(alloc: Global, premises: &[Premise]) -> Result<PremiseSet, AllocError> {
+    let mut set = PremiseSet::empty(alloc);
+    for premise in premises {
+        set = set.union(&PremiseSet::single(alloc, *premise)?)?;
+    }
+    Ok(set)
+}
 
 /// Whether the premises of the set are these, in this order.
 fn has_just(set: &PremiseSet, premises: &[Premise]) -> bool {
@@ -10,27 +20,32 @@ fn has_just(set: &PremiseSet, premises: &[Premise]) -> bool {
 }
 
 #[test]
-fn combines_sets(rt: HostRuntime) -> Result<(), Fail> {
-    let a = PremiseSet::single(rt.alloc(), 7)?;
-    let b = PremiseSet::single(rt.alloc(), 3)?;
-    let both = a.union(&b)?;
-    assert!(rt; has_just(&both, &[3, 7]));
-    assert!(rt; has_just(&both.union(&a)?, &[3, 7]));
-    assert!(rt; has_just(&both.without(3)?, &[7]));
-    assert!(rt; has_just(&both.copy()?, &[3, 7]));
-    assert!(rt; has_just(&PremiseSet::empty(rt.alloc()), &[]));
-    assert!(rt; a.is_subset(&both) && !both.is_subset(&a));
-    assert!(rt; both.contains(3) && !both.contains(4));
-    assert!(rt; both.is_below(8) && !both.is_below(7));
+fn joins_and_leaves_out(rt: HostRuntime) -> Result<(), Fail> {
+    let table: [(&[Premise], &[Premise], &[Premise], Premise, &[Premise]); 5] = [
+        (&[0], &[1], &[0, 1], 1, &[0]),
+        (&[7], &[3], &[3, 7], 3, &[7]),
+        (&[2, 5], &[5, 2], &[2, 5], 4, &[2, 5]),
+        (&[], &[9, 1, 4], &[1, 4, 9], 4, &[1, 9]),
+        (&[], &[], &[], 0, &[]),
+    ];
+    for (a, b, both, out, rest) in table {
+        let union = set_of(rt.alloc(), a)?.union(&set_of(rt.alloc(), b)?)?;
+        assert!(rt; has_just(&union, both));
+        assert!(rt; has_just(&union.copy()?, both));
+        assert!(rt; has_just(&union.without(out)?, rest));
+    }
     Ok(())
 }
 
 #[test]
-fn believes_a_set(rt: HostRuntime) -> Result<(), Fail> {
-    let a = PremiseSet::single(rt.alloc(), 2)?;
-    let both = a.union(&PremiseSet::single(rt.alloc(), 5)?)?;
+fn tells_what_is_in(rt: HostRuntime) -> Result<(), Fail> {
+    let a = set_of(rt.alloc(), &[7])?;
+    let both = set_of(rt.alloc(), &[7, 3])?;
+    assert!(rt; a.is_subset(&both) && !both.is_subset(&a));
+    assert!(rt; both.contains(3) && !both.contains(4));
+    assert!(rt; both.is_below(8) && !both.is_below(7));
     let world = Worldview::of(rt.alloc(), &a)?;
-    assert!(rt; world.has(2) && !world.has(0) && !world.has(5));
+    assert!(rt; world.has(7) && !world.has(0) && !world.has(3));
     assert!(rt; world.believes(&a) && !world.believes(&both));
     Ok(())
 }

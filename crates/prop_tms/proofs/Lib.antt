@@ -2,4 +2,4 @@ pub mod MergedLemmas
 pub mod KeptLemmas
 pub mod BeliefLemmas
 pub mod LeanLemmas
-pub mod LeanUses
+pub mod BeliefUses

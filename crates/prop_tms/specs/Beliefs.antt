@@ -17,6 +17,11 @@ believed_of w entries = filter (λ e. is_within w e.support) entries
 abbrev pub belief_of : {V : Type 0} → V → (V → V → V) → Members → List (Supported V) → V
 belief_of bottom join w entries = merge_of_all bottom join (believed_of w entries)
 
+-- the least value that says all that each believed entry says
+pub record IsLeastBelief {V : Type 0} (below : V → V → Type 0) (w : Members) (entries : List (Supported V)) (v : V) : Type 0 where
+  pub above : (e : Supported V) → Contains entries e → IsTrue (is_within w e.support) → below e.value v
+  pub least : (z : V) → ((e : Supported V) → Contains entries e → IsTrue (is_within w e.support) → below e.value z) → below v z
+
 -- the first entry knows all that the second does, on no other premises
 pub record Subsumes {V : Type 0} (below : V → V → Type 0) (a b : Supported V) : Type 0 where
   pub value : below b.value a.value

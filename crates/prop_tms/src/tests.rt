@@ -2,45 +2,77 @@
 
 use crate::{Change, Tms};
 use prop_lattice::Info;
-use prop_premises::{PremiseSet, Worldview};
+use prop_premises::{Premise, PremiseSet, Worldview};
+use std::alloc::{AllocError, Global};
 use std::test::Fail;
+
+const A: Premise = 0;
+
+const B: Premise = 1;
+
+const C: Premise = 2;
+
+/// The set of these premises.
+fn set_of(alloc: Global, premises: &[Premise]) -> Result<PremiseSet, AllocError> {
+    let mut set = PremiseSet::empty(alloc);
+    for premise in premises {
+        set = set.union(&PremiseSet::single(alloc, *premise)?)?;
+    }
+    Ok(set)
+}
 
 #[test]
 fn keeps_no_subsumed_entry(rt: HostRuntime) -> Result<(), Fail> {
-    let a = PremiseSet::single(rt.alloc(), 0)?;
-    let b = PremiseSet::single(rt.alloc(), 1)?;
-    let both = a.union(&b)?;
+    let table: [(Info, &[Premise], Change, usize); 6] = [
+        (Info::between(0, 10), &[A], Change::Grown, 1),
+        (Info::between(0, 20), &[B], Change::Grown, 2),
+        (Info::between(0, 20), &[A, B], Change::Same, 2),
+        (Info::Nothing, &[], Change::Same, 2),
+        (Info::between(0, 10), &[], Change::Grown, 1),
+        (Info::between(0, 10), &[C], Change::Same, 1),
+    ];
     let mut tms = Tms::new(rt.alloc());
-    assert_eq!(rt; tms.add(Info::between(0, 10), a)?, Change::Grown);
-    assert_eq!(rt; tms.add(Info::between(0, 20), b)?, Change::Grown);
-    assert_eq!(rt; tms.len(), 2);
-    assert_eq!(rt; tms.add(Info::between(0, 20), both)?, Change::Same);
-    assert_eq!(rt; tms.len(), 2);
-    assert_eq!(rt;
-        tms.add(Info::between(0, 10), PremiseSet::empty(rt.alloc()))?,
-        Change::Grown
-    );
-    assert_eq!(rt; tms.len(), 1);
+    for (value, premises, change, len) in table {
+        let support = set_of(rt.alloc(), premises)?;
+        assert_eq!(rt; tms.add(value, support)?, change);
+        assert_eq!(rt; tms.len(), len);
+    }
     Ok(())
 }
 
 #[test]
 fn says_what_is_believed_and_why(rt: HostRuntime) -> Result<(), Fail> {
-    let a = PremiseSet::single(rt.alloc(), 0)?;
-    let b = PremiseSet::single(rt.alloc(), 1)?;
-    let c = PremiseSet::single(rt.alloc(), 2)?;
-    let all = Worldview::of(rt.alloc(), &a.union(&b)?.union(&c)?)?;
-    let one = Worldview::of(rt.alloc(), &b)?;
     let mut tms = Tms::new(rt.alloc());
-    tms.add(Info::between(0, 20), c)?;
-    tms.add(Info::between(0, 10), a)?;
-    tms.add(Info::between(5, 20), b)?;
-    let strongest = tms.strongest(&all)?;
-    assert_eq!(rt; strongest.value, Info::between(5, 10));
-    assert!(rt; strongest.support.iter().eq([0, 1].iter().copied()));
-    assert_eq!(rt; tms.believed_value(&one), Info::between(5, 20));
+    tms.add(Info::between(0, 20), set_of(rt.alloc(), &[C])?)?;
+    tms.add(Info::between(0, 10), set_of(rt.alloc(), &[A])?)?;
+    tms.add(Info::between(5, 20), set_of(rt.alloc(), &[B])?)?;
+    let table: [(&[Premise], Info, &[Premise]); 5] = [
+        (&[A, B, C], Info::between(5, 10), &[A, B]),
+        (&[B, C], Info::between(5, 20), &[B]),
+        (&[C], Info::between(0, 20), &[C]),
+        (&[3], Info::Nothing, &[]),
+        (&[], Info::Nothing, &[]),
+    ];
+    for (premises, value, support) in table {
+        let world = Worldview::of(rt.alloc(), &set_of(rt.alloc(), premises)?)?;
+        let strongest = tms.strongest(&world)?;
+        assert_eq!(rt; tms.believed_value(&world), value);
+        assert_eq!(rt; strongest.value, value);
+        assert!(rt; strongest.support.iter().eq(support.iter().copied()));
+    }
+    Ok(())
+}
+
+#[test]
+fn names_what_a_contradiction_rests_on(rt: HostRuntime) -> Result<(), Fail> {
+    let mut tms = Tms::new(rt.alloc());
+    tms.add(Info::between(1, 1), set_of(rt.alloc(), &[A])?)?;
+    tms.add(Info::between(2, 2), set_of(rt.alloc(), &[B])?)?;
+    let world = Worldview::of(rt.alloc(), &set_of(rt.alloc(), &[A, B, C])?)?;
+    let strongest = tms.strongest(&world)?;
+    assert_eq!(rt; strongest.value, Info::Contradiction);
+    assert!(rt; strongest.support.iter().eq([A, B].iter().copied()));
     tms.back(1);
-    assert_eq!(rt; tms.len(), 1);
-    assert_eq!(rt; tms.believed_value(&all), Info::between(0, 10));
+    assert_eq!(rt; tms.believed_value(&world), Info::between(1, 1));
     Ok(())
 }

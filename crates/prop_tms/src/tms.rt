@@ -1,7 +1,7 @@
 //! The entries of one value.
-ghost use Rattle.std.specs.Prelude.{◌≡◌, ◌↔◌, ◌≤◌, Any, List, [], length, filter, vec_capacity, vec_len, IsTrue, IfOk, OnOk, OnErr};
-ghost use Rattle.prop_premises.specs.Sets.{set_of, is_below};
-ghost use Rattle.prop_tms.specs.Beliefs.{belief_of, Subsumes, NoneSubsumed, IsNeedless, Adds, IsLean};
+ghost use Rattle.std.specs.Prelude.{◌≡◌, ◌↔◌, ◌≤◌, ◌+◌, Any, List, [], length, filter, vec_capacity, vec_len, IsTrue, IfOk, OnOk, OnErr};
+ghost use Rattle.prop_premises.specs.Sets.{Members, set_of, is_within, is_below, IsBelow};
+ghost use Rattle.prop_tms.specs.Beliefs.{belief_of, IsLeastBelief, Subsumes, NoneSubsumed, IsNeedless, Adds, IsLean};
 ghost use Rattle.prop_tms.specs.Kept.{IsLeftWithout};
 ghost use Rattle.prop_tms.specs.declared.supported.Supported.{Supported};
 
@@ -86,6 +86,7 @@ impl<V: Partial> Tms<V> {
         ensures same { IfOk result (λ change. (change ≡ Change.Same) ↔ IsNeedless V.below V.bottom self.old (record { value = value; support = support })) }
         ensures unchanged { IfOk result (λ change. change ≡ Change.Same → self.new ≡ self.old) }
         ensures apart { NoneSubsumed V.below self.new }
+        ensures len { length self.new ≤ length self.old + 1 }
         ensures err { OnErr result (self.new ≡ self.old) }
     {
         let entry = Supported { value, support };
@@ -100,7 +101,8 @@ impl<V: Partial> Tms<V> {
 
     /// What the believed entries say together. It takes no memory.
     pub fn believed_value(&self, worldview: &Worldview) -> V
-        ensures { result ≡ belief_of V.bottom V.join (set_of worldview.now) self.now }
+        ensures value { result ≡ belief_of V.bottom V.join (set_of worldview.now) self.now }
+        ensures least { IsLeastBelief V.below (set_of worldview.now) self.now result }
     {
         belief(&self.entries, worldview)
     }
@@ -109,13 +111,16 @@ impl<V: Partial> Tms<V> {
     pub fn strongest(&self, worldview: &Worldview) -> Result<Supported<V>, AllocError>
         ensures value { IfOk result (λ e. e.value ≡ belief_of V.bottom V.join (set_of worldview.now) self.now) }
         ensures lean { IfOk result (λ e. IsLean V.bottom V.join self.now (set_of worldview.now) e.value e.support) }
+        ensures believed { IfOk result (λ e. IsTrue (is_within (set_of worldview.now) e.support)) }
+        ensures enough { IfOk result (λ e. belief_of V.bottom V.join (set_of e.support) self.now ≡ e.value) }
     {
         strongest(*self.entries.allocator(), &self.entries, worldview)
     }
 
     /// Drops the entries whose support holds a premise with a number of `count` or more. It takes no memory.
     pub fn back(&mut self, count: usize)
-        ensures { self.new ≡ filter (λ e. is_below count e.support) self.old }
+        ensures beliefs { (w : Members) → IsBelow count w → belief_of V.bottom V.join w self.new ≡ belief_of V.bottom V.join w self.old }
+        ensures left { self.new ≡ filter (λ e. is_below count e.support) self.old }
     {
         self.entries.retain(|e| e.support.is_below(count));
     }
