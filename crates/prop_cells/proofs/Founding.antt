@@ -12,7 +12,7 @@ use Rattle.prop_premises.specs.Sets.{set_of, is_within, union, IsPart, IsSame}
 use Rattle.prop_premises.proofs.WithinLemmas.{within_has, within_from}
 use Rattle.prop_tms.specs.Beliefs.{belief_of, IsLean}
 use Rattle.prop_tms.proofs.BeliefLemmas.{belief_below}
-use Rattle.prop_tms.proofs.LeanUses.{within_lean, lean_is_enough}
+use Rattle.prop_tms.proofs.BeliefUses.{within_lean, lean_is_enough}
 use Rattle.prop_procedures.specs.Stored.{Stored}
 use Rattle.prop_cells.specs.Problems.{Problem, Premises, Assignment, IsSolution, Satisfies, Entails, IsContradictory, is_member}
 use Rattle.prop_cells.specs.Reach.{Reaches, IsRelatedAt, Explains, IsConflict}
