@@ -1,11 +1,23 @@
--- The narrowest information that a rule can answer.
-use Rattle.std.specs.Prelude.{ℕ, List}
+-- The narrowest information that a rule can answer, and where it is answered.
+use Rattle.std.specs.Prelude.{ℕ, ℤ, neg_ℤ, ◌+ℤ◌, ◌-ℤ◌, ◌≤ℤ◌, List, [], ◌∷◌}
+use Rattle.prop_intervals.specs.Quotients.{int_div_floor, int_div_ceil}
+use Rattle.prop_intervals.specs.Spans.{least_product, greatest_product, least_square, greatest_square}
 use Rattle.prop_lattice.specs.Order.{Below}
 use Rattle.prop_lattice.specs.Points.{Point, Holds}
 use Rattle.prop_lattice.specs.Rank.{IsOf}
 use Rattle.prop_lattice.specs.declared.info.Info.{Info}
+use Rattle.prop_lattice.specs.declared.info.Info.TheVariants.{Nothing, Span}
 use Rattle.prop_lattice.specs.declared.info.Kind.{Kind}
+use Rattle.prop_lattice.specs.declared.info.Kind.TheVariants as kinds
+use Rattle.prop_lattice.specs.declared.span.Span as spans
+use Rattle.prop_lattice.specs.declared.span.TheConstants.{B}
+use Rattle.prop_procedures.specs.declared.shape.Param.{Param}
+use Rattle.prop_procedures.specs.declared.shape.Param.TheVariants.{Scale}
 use Rattle.prop_procedures.specs.Rules.{EachHolds}
+use Rattle.prop_arith.specs.Functions.{IsScale}
+use Rattle.prop_arith.specs.Kit.{value_of, Related}
+use Rattle.prop_arith.specs.declared.kit.Kit.{Kit}
+use Rattle.prop_arith.specs.declared.kit.Kit.TheVariants.{Add, Sub, Mul, Square, Root}
 
 -- the information holds each point that belongs to points of the arguments
 abbrev pub HoldsRelated : (List Point → Point → Type 0) → List Info → Info → Type 0
@@ -17,3 +29,35 @@ pub record IsNarrowest (related : List Point → Point → Type 0) (kind : Kind)
   pub of_kind : IsOf kind size v
   pub holds : HoldsRelated related args v
   pub highest : (other : Info) → IsOf kind size other → HoldsRelated related args other → Below other v
+
+-- ---- where a rule's answer is the narrowest
+
+-- the answer to these arguments is the narrowest span
+abbrev pub AnswersNarrowest : Kit → Param → List Info → Type 0
+AnswersNarrowest rule param args =
+    IsNarrowest (Related rule param) kinds.Span 0 args (value_of rule param args)
+
+-- nothing needs to be cut off
+abbrev pub AreInRange : ℤ → ℤ → Type 0
+AreInRange lo hi = (neg_ℤ B ≤ℤ lo) × (hi ≤ℤ B)
+
+abbrev pub AddIsNarrowest : Type 0
+AddIsNarrowest =
+    (param : Param) (x y : spans.Span) → AreInRange (x.lo +ℤ y.lo) (x.hi +ℤ y.hi) → AnswersNarrowest Add param (Span x ∷ Span y ∷ [])
+
+abbrev pub SubIsNarrowest : Type 0
+SubIsNarrowest =
+    (param : Param) (z x : spans.Span) → AreInRange (z.lo -ℤ x.hi) (z.hi -ℤ x.lo) → AnswersNarrowest Sub param (Span z ∷ Span x ∷ [])
+
+abbrev pub MulIsNarrowest : Type 0
+MulIsNarrowest =
+    (k : ℤ) (x y : spans.Span) → IsScale k → AreInRange (int_div_floor (least_product x y) k) (int_div_ceil (greatest_product x y) k) → AnswersNarrowest Mul (Scale k) (Span x ∷ Span y ∷ [])
+
+abbrev pub SquareIsNarrowest : Type 0
+SquareIsNarrowest =
+    (param : Param) (x : spans.Span) → AreInRange (least_square x) (greatest_square x) → AnswersNarrowest Square param (Span x ∷ [])
+
+-- whether or not anything is known of the root
+abbrev pub RootIsNarrowest : Type 0
+RootIsNarrowest =
+    (param : Param) (y x : spans.Span) → AnswersNarrowest Root param (Span y ∷ Span x ∷ []) × AnswersNarrowest Root param (Span y ∷ Nothing ∷ [])

@@ -1,0 +1,3 @@
+pub mod WideLemmas
+pub mod ClipLemmas
+pub mod RootLemmas

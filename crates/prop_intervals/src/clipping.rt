@@ -6,9 +6,14 @@ use prop_lattice::Info;
 use prop_lattice::span::B;
 
 /// The numbers from `lo` to `hi` of magnitude at most `B`, a contradiction where there are none.
-#[tactic(auto, unfolding(crate::specs::Clip::clip))]
-pub fn clipped(lo: i64, hi: i64) -> Info
+pub fn clipped(lo: i128, hi: i128) -> Info
     ensures { result ≡ clip lo hi }
 {
-    Info::between(lo.max(-B), hi.min(B))
+    let lo = lo.max(i128::from(-B));
+    let hi = hi.min(i128::from(B));
+    if lo <= hi {
+        Info::between(lo as i64, hi as i64)
+    } else {
+        Info::Contradiction
+    }
 }

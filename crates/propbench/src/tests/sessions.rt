@@ -8,7 +8,7 @@ use std::test::Fail;
 /// A limit on steps, an input and what is written for it.
 type Case = (u64, &'static str, &'static str);
 
-const CASES: [Case; 9] = [
+const CASES: [Case; 12] = [
     (1000, "", ""),
     (1000, "# note\n\n  \n", ""),
     (
@@ -45,6 +45,21 @@ const CASES: [Case; 9] = [
         0,
         "cell x span\nfix x 001..-0\nfix x 001\nask x\n",
         "ok\nerror 18: empty value\nok\nx = 1\n",
+    ),
+    (
+        100_000,
+        "cell barometer span\ncell barometer_shadow span\ncell shadow span\ncell height span\ncell cross span\nattach multiplier barometer shadow cross\nattach divider cross shadow barometer\nattach divider cross barometer shadow\nattach multiplier barometer_shadow height cross\nattach divider cross height barometer_shadow\nattach divider cross barometer_shadow height\nfix barometer 300..320\nfix barometer_shadow 360..370\nfix shadow 54900..55100\nask height\ncell time span\ncell squared span\ncell gravity span\ncell twice span\ncell two span\nattach squarer time squared\nattach rooter squared time time\nattach multiplier gravity squared twice by 1000000\nattach divider twice squared gravity by 1000000\nattach divider twice gravity squared by 1000000\nattach multiplier two height twice\nattach divider twice height two\nattach divider twice two height\nfix gravity 9789..9832\nfix two 2\nfix time 2900..3100\nask height\nask barometer\nask time\n",
+        "ok\nok\nok\nok\nok\nok\nok\nok\nok\nok\nok\nok\nok\nok\nheight = 44514..48977\nok\nok\nok\nok\nok\nok\nok\nok\nok\nok\nok\nok\nok\nok\nok\nok\nheight = 44514..47243\nbarometer = 300..318\ntime = 3010..3100\n",
+    ),
+    (
+        1000,
+        "cell x span\ncell y span\ncell z span\nattach multiplier x y z\nattach divider z y x\nattach divider z x y\nfix y -1..1\nfix z 6\nask x\nfix x 0\nask x\n",
+        "ok\nok\nok\nok\nok\nok\nok\nok\nx = nothing\nok\ncontradiction: no premise\n",
+    ),
+    (
+        1000,
+        "cell x span\ncell y span\nattach copier x y by 1\nattach squarer x y by 2\nattach divider x y y by 0\nattach divider x y y by 1000000001\nattach multiplier x x y by 1000000000\nfix x -3000000000\nask y\n",
+        "ok\nok\nerror 14: wrong parameter\nerror 14: wrong parameter\nerror 6: not a number in range\nerror 6: not a number in range\nok\nok\ny = 9000000000\n",
     ),
 ];
 

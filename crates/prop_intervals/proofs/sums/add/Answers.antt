@@ -1,7 +1,15 @@
-use Rattle.std.proofs.Common.{arith}
+use Rattle.std.proofs.Common.{arith, ◌≡◌}
 use Rattle.std.proofs.lemmas.Int.{ints}
 use Rattle.prop_intervals.specs.ClipLaws.{clip_is}
+use Rattle.prop_intervals.specs.Spans.{sum_of}
+use Rattle.prop_intervals.specs.SumLaws.{sum_narrowest}
 use Rattle.prop_intervals.proofs.sums.add.Goals as goal
 
-pub returns : goal.returns
-returns c = clip_is _ _ _ _ _ c.clipped.ensures (omega (arith, ints)) (omega (arith, ints))
+value : (c : goal.After-clipped) → c.clipped.result ≡ sum_of c.args.a c.args.b
+value c = clip_is _ _ _ _ _ c.clipped.ensures (omega (arith, ints)) (omega (arith, ints))
+
+pub returns-clause-value : goal.returns-clause-value
+returns-clause-value c = value c
+
+pub returns-clause-narrowest : goal.returns-clause-narrowest
+returns-clause-narrowest c e = rw (value c) (sum_narrowest c.args.a c.args.b e)

@@ -1,0 +1,119 @@
+//! A network of spans with its agenda, as a test works on it.
+ghost use Rattle.std.specs.Prelude.{◌≡◌, ◌<◌, [], length};
+
+use prop_cells::Network;
+use prop_lattice::{Info, Kind, Refusal};
+use prop_procedures::Rule;
+use prop_scheduler::{Agenda, Order, Run, run};
+use std::alloc::{AllocError, Global};
+
+/// The one that was alerted last.
+#[derive(Clone, Copy, Debug, PartialEq, Eq)]
+pub struct Lifo;
+
+impl Order for Lifo {
+    fn pick(&mut self, waiting: usize) -> usize {
+        waiting - 1
+    }
+}
+
+/// A network whose first procedure is attached between cells of numbers.
+#[derive(Drop)]
+pub struct Trial<R> {
+    network: Network<R>,
+    agenda: Agenda,
+}
+
+impl<R: Rule + Drop> Trial<R> {
+    ghost use Rattle.std.specs.Prelude.{◌≡◌, ◌<◌, [], length};
+    ghost use Rattle.prop_cells.specs.Data.{no_data, IsKept};
+    ghost use Rattle.prop_procedures.specs.Kept.{AllMean, stored_of};
+    ghost use Rattle.prop_run_tests.specs.Trials.{IsReady};
+
+    pub fn new(alloc: Global, network: Network<R>) -> Trial<R>
+        requires means { AllMean R.value_of network.library.procedures.items }
+        requires some { 0 < length (stored_of R.value_of network.library) }
+        requires empty { network.cells ≡ no_data }
+        requires kept { IsKept (stored_of R.value_of network.library) network.cells }
+        ensures { IsReady R.value_of result }
+    {
+        Trial {
+            network,
+            agenda: Agenda::new(alloc),
+        }
+    }
+
+    /// One more cell of numbers.
+    pub fn cell(&mut self) -> Result<(), Refusal>
+        requires { IsReady R.value_of self.old }
+        ensures { IsReady R.value_of self.new }
+    {
+        match self.network.new_cell(Kind::Span, 0) {
+            Ok(()) => Ok(()),
+            Err(refusal) => Err(refusal),
+        }
+    }
+
+    /// Puts the first procedure between cells; the new instance waits.
+    pub fn attach(&mut self, alloc: Global, ins: &[usize], out: usize) -> Result<(), Refusal>
+        requires { IsReady R.value_of self.old }
+        ensures { IsReady R.value_of self.new }
+    {
+        let next = self.network.instances();
+        match self.agenda.room(next + 1) {
+            Ok(()) => {}
+            Err(_) => return Err(Refusal::Memory),
+        }
+        match self.network.attach(alloc, 0, None, ins, out) {
+            Ok(()) => {
+                self.agenda.alert(next);
+                Ok(())
+            }
+            Err(refusal) => Err(refusal),
+        }
+    }
+
+    /// States that a cell's number lies between two numbers; the cell's readers wait.
+    pub fn fix(&mut self, cell: usize, lo: i64, hi: i64) -> Result<(), Refusal>
+        requires { IsReady R.value_of self.old }
+        ensures { IsReady R.value_of self.new }
+    {
+        match self.network.state(cell, Info::between(lo, hi)) {
+            Ok(true) => {
+                self.agenda.alert_all(self.network.readers(cell));
+                Ok(())
+            }
+            Ok(false) => Ok(()),
+            Err(refusal) => Err(refusal),
+        }
+    }
+
+    /// Runs the network.
+    pub fn settle<O: Order>(
+        &mut self,
+        alloc: Global,
+        order: &mut O,
+        budget: u64,
+    ) -> Result<(Run, u64), AllocError>
+        requires { IsReady R.value_of self.old }
+        ensures { IsReady R.value_of self.new }
+    {
+        run(alloc, &mut self.network, &mut self.agenda, order, budget)
+    }
+
+    /// What is known of a cell.
+    pub fn belief(&self, cell: usize) -> Option<Info> {
+        if cell < self.network.cells() {
+            Some(self.network.belief(cell))
+        } else {
+            None
+        }
+    }
+
+    /// The network.
+    pub fn network(&self) -> &Network<R>
+        ensures { result.now ≡ self.now.network }
+    {
+        &self.network
+    }
+}
