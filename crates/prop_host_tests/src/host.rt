@@ -20,7 +20,10 @@ pub enum Host {
 fn larger_of(a: Span, b: Span) -> Info
     ensures { result ≡ clip (int_max a.lo b.lo) (int_max a.hi b.hi) }
 {
-    clipped(a.lo().max(b.lo()), a.hi().max(b.hi()))
+    clipped(
+        i128::from(a.lo().max(b.lo())),
+        i128::from(a.hi().max(b.hi())),
+    )
 }
 
 impl Host {
