@@ -79,7 +79,7 @@ module _ (p : Problem) (s : Premises) (contents : List (List Entry)) (founded : 
   parts_entail u (c ∷ cs) (part ∷ parts) z h =
       All-cons (λ k. Entails p u k (beliefs s contents k)) c cs
       (entails_more p (set_of part) u c (beliefs s contents c) (λ q t. h q (or_first (set_of part q) (list_any (λ other. set_of other q) parts) t))
-        (lean_explains p s c (content_of contents c) (beliefs s contents c) part (founded c) z.0).entails)
+      (lean_explains p s c (content_of contents c) (beliefs s contents c) part (founded c) z.0).entails)
       (parts_entail u cs parts z.1 (λ q t. h q (or_second (set_of part q) (list_any (λ other. set_of other q) parts) t)))
 
   -- a premise of one of the supports reaches that cell
@@ -92,6 +92,7 @@ module _ (p : Problem) (s : Premises) (contents : List (List Entry)) (founded : 
     where
       later : (k : ℕ) × Contains cs k × Reaches p q k → (k : ℕ) × Contains (c ∷ cs) k × Reaches p q k
       later (k, (i, l, e), r) = (k, (suc i, omega (arith, l), e), r)
+
       by : (b : Bool) → set_of part q ≡ b → (b || list_any (λ other. set_of other q) parts) ≡ true → (list_any (λ other. set_of other q) parts ≡ true → (k : ℕ) × Contains cs k × Reaches p q k) →
           (k : ℕ) × Contains (c ∷ cs) k × Reaches p q k
       by true e h more = (c, (0, omega arith, refl), (lean_explains p s c (content_of contents c) (beliefs s contents c) part (founded c) z.0).related q e)

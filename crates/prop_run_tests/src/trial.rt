@@ -103,7 +103,14 @@ impl<R: Rule + Drop> Trial<R> {
         requires { IsReady R.value_of self.old }
         ensures { IsReady R.value_of self.new }
     {
-        run(alloc, &mut self.network, &self.worldview, &mut self.agenda, order, budget)
+        run(
+            alloc,
+            &mut self.network,
+            &self.worldview,
+            &mut self.agenda,
+            order,
+            budget,
+        )
     }
 
     /// What is known of a cell.

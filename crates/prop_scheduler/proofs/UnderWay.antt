@@ -98,10 +98,13 @@ states_merge s d new x states = by (is_within s (support_of x.premise)) refl
 
     by : (b : Bool) → is_within s (support_of x.premise) ≡ b → (v : Info) × MergesAt (beliefs s d.contents) (beliefs s new.contents) x.cell v
     by true on = (x.info, adds_merges d.contents new.contents x.cell e states.adds s on)
-    by false off = (Nothing, record {
-      merged = adds_same d.contents new.contents x.cell e states.adds s off x.cell ∙ sym (join-bottom info_laws (beliefs s d.contents x.cell));
-      others = λ c ne. adds_same d.contents new.contents x.cell e states.adds s off c;
-    })
+    by false off = (
+      Nothing,
+      record {
+        merged = adds_same d.contents new.contents x.cell e states.adds s off x.cell ∙ sym (join-bottom info_laws (beliefs s d.contents x.cell));
+        others = λ c ne. adds_same d.contents new.contents x.cell e states.adds s off c;
+      },
+    )
 
 under_way_states : (library : List Stored) (s : Premises) (d new : Data) (line line' : List ℕ) (x : Statement) (grown : Bool) → IsUnderWay library s d line → IsKept library new → States d new x →
     (grown ≡ false → beliefs s new.contents x.cell ≡ beliefs s d.contents x.cell) → ((k : ℕ) → Contains line k → Contains line' k) → All (λ k. k < length d.instances) line' →

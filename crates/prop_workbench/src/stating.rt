@@ -177,7 +177,14 @@ impl<R: Rule + Drop, O: Order + Drop> Session<R, O> {
                 return Err(Refusal::Memory);
             }
         };
-        match state_in(&mut self.network, &mut self.agenda, &worldview, Some(premise), cell, info) {
+        match state_in(
+            &mut self.network,
+            &mut self.agenda,
+            &worldview,
+            Some(premise),
+            cell,
+            info,
+        ) {
             Ok(()) => {
                 self.worldview = worldview;
                 Ok(())

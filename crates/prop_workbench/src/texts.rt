@@ -81,7 +81,11 @@ fn premises_text(alloc: Global, premises: &Premises, set: &PremiseSet) -> Result
 }
 
 /// The names of the premises that something rests on.
-fn support_text(alloc: Global, premises: &Premises, support: &PremiseSet) -> Result<String, AllocError>
+fn support_text(
+    alloc: Global,
+    premises: &Premises,
+    support: &PremiseSet,
+) -> Result<String, AllocError>
     requires { All (λ p. p < length premises.now) support.now }
     ensures text { IfOk result (λ text. string_bytes text ≡ support_text premises.now support.now) }
     ensures in_order { IsStrictlyIncreasing support.now }
