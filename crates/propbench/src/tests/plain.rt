@@ -52,8 +52,14 @@ impl Random {
             .wrapping_add(1_442_695_040_888_963_407);
         (self.state >> 33) % bound.max(1)
     }
+
+    /// The same as a signed number.
+    fn below_signed(&mut self, bound: u64) -> i64 {
+        i64::try_from(self.below(bound)).unwrap_or(0)
+    }
 }
 
+/// What is known of a cell.
 fn at(values: &[Info], cell: u64) -> Info {
     values.get(cell as usize).copied().unwrap_or(Info::Nothing)
 }
@@ -159,8 +165,8 @@ fn line(
     let bit = 1 << (premise % 64);
     match random.below(9) {
         0 | 1 | 2 => {
-            let low = (random.below(12) as i64).wrapping_sub(6);
-            let high = low.wrapping_add(random.below(6) as i64);
+            let low = random.below_signed(12).wrapping_sub(6);
+            let high = low.wrapping_add(random.below_signed(6));
             plain.told.push(Told {
                 premise: Some(premise),
                 cell,
@@ -173,7 +179,7 @@ fn line(
             format!(in alloc; "tell p{premise} c{cell} {low}..{high}\n")
         }
         3 => {
-            let low = (random.below(20) as i64).wrapping_sub(20);
+            let low = random.below_signed(20).wrapping_sub(20);
             plain.told.push(Told {
                 premise: None,
                 cell,
@@ -265,7 +271,7 @@ fn answers_as_a_plain_evaluation(rt: HostRuntime) -> Result<(), Fail> {
             &mut writer,
         )?;
         let output = writer.into_inner();
-        let replies = core::str::from_utf8(&output).unwrap_or("");
+        let replies = std::str::from_utf8(&output).unwrap_or("");
         let reply = replies.lines().last().unwrap_or("");
         assert!(rt; is_right(alloc, &plain, cell, explained, reply)?);
     }
