@@ -1,17 +1,17 @@
 -- What the parts of a form make together.
-use Rattle.std.proofs.Common.{◌≡◌, ℕ, List, [], ◌∷◌, ◌++◌, Bool, true, false, cond, refl, sym, ◌∙◌, ap, Some, None, Ok, Err, inl, inr}
-use Rattle.std.specs.Prelude.{Option, Result, ⊤, ◌⊎◌, ◌≢◌, bytes_eq, codes, not, ◌&&◌}
+use Rattle.std.proofs.Common.{◌≡◌, ℕ, List, [], ◌∷◌, ◌++◌, Bool, true, false, cond, refl, sym, ◌∙◌, ap, arith, Some, None, Ok, Err, inl, inr}
+use Rattle.std.specs.Prelude.{Option, Result, ⊤, ◌⊎◌, ◌≢◌, Contains, bytes_eq, codes, not, ◌&&◌}
 use Rattle.std.specs.Option.{option_map, option_and_then}
 use Rattle.std.specs.List.{list_all}
 use Rattle.std.proofs.lemmas.List.Folds.{list_all-append}
 use Rattle.prop_lattice.specs.declared.refusal.Refusal.{Refusal}
-use Rattle.prop_lattice.specs.declared.refusal.Refusal.TheVariants.{NotAName, NotANumber, WrongForm, Memory}
+use Rattle.prop_lattice.specs.declared.refusal.Refusal.TheVariants.{NotAName, NotANumber, Memory}
 use Rattle.prop_compound.specs.Tokens.{Token, Word, Open, Close}
 use Rattle.prop_compound.specs.Names.{is_name}
 use Rattle.prop_compound.specs.Commands.{Value, By, Command}
-use Rattle.prop_compound.specs.Forms.{join, values, in_braces, one_value, cells_by, by_form, attach, fix, with_cell}
+use Rattle.prop_compound.specs.Forms.{join, values, in_braces, one_value, only_value, cells_by, by_form, attach, with_cell}
 use Rattle.prop_compound.specs.Reading.{by_names, is_by_in_range, command_in_range, command_in_form}
-use Rattle.prop_compound.specs.Parts.{given, before_by, by_in_range}
+use Rattle.prop_compound.specs.Parts.{given, before_by, by_in_range, BeginsOpen}
 
 -- ---- values
 
@@ -38,14 +38,22 @@ filled (Open ∷ ts) h = filled_in [] ts
 filled (t ∷ ts) h = tt
 
 -- a value and more is not one value
-two : (made : Value → Command) (v : Value) (vs : Option (List Value)) → Filled vs → option_and_then (λ us. option_map made (one_value us)) (join (Some v) vs) ≡ None
-two made v None h = refl
-two made v (Some []) h = absurd h
-two made v (Some (u ∷ vs)) h = refl
+two : (v : Value) (vs : Option (List Value)) → Filled vs → option_and_then one_value (join (Some v) vs) ≡ None
+two v None h = refl
+two v (Some []) h = absurd h
+two v (Some (u ∷ vs)) h = refl
 
-pub more_than_one : (ts ts' rest : List Token) (x : List ℕ) (v : Value) (refusal : Refusal) → ts ≡ Word x ∷ ts' → values ts' ≡ join (Some v) (values rest) → (refusal ≡ WrongForm) × (rest ≢ []) → command_in_form (fix ts) ≡ Err refusal
-more_than_one ts ts' rest x v refusal e f h =
-    rw (e, f, two (Command.Fix x) v (values rest) (filled rest h.1), h.0) refl
+pub more_than_one : (ts rest : List Token) (v : Value) → values ts ≡ join (Some v) (values rest) → rest ≢ [] → only_value ts ≡ None
+more_than_one ts rest v e h = ap (option_and_then one_value) e ∙ two v (values rest) (filled rest h)
+
+-- ---- open braces
+
+opened : (t u : Token) (ts : List Token) → BeginsOpen ts → Contains (t ∷ u ∷ ts) Open
+opened t u (Open ∷ ts) h = (2, omega arith, refl)
+opened t u ts h = absurd h
+
+pub opened_behind : (ts ts' rest : List Token) (p x : List ℕ) → ts ≡ Word p ∷ ts' → ts' ≡ Word x ∷ rest → BeginsOpen rest → Contains ts Open
+opened_behind ts ts' rest p x e f h = rw (e, f) (opened (Word p) (Word x) rest h)
 
 -- ---- names
 

@@ -9,7 +9,7 @@ use Rattle.std.proofs.lemmas.Bool.{false≢true}
 use Rattle.prop_compound.specs.Tokens.{Token, Word, Open, Close}
 use Rattle.prop_compound.specs.Names.{looks_like_number, number_in}
 use Rattle.prop_compound.specs.Commands.{Value, Bare, Braces, Spans, By, Command}
-use Rattle.prop_compound.specs.Forms.{bare, on_word, cell, parameter, by_form, with_cell, cells_by, attach, join, values, in_braces, one_value, fix, forms}
+use Rattle.prop_compound.specs.Forms.{bare, on_word, cell, parameter, by_form, with_cell, cells_by, attach, join, values, in_braces, one_value, only_value, fix, tell, forms}
 use Rattle.prop_compound.proofs.Forming.{Filled, filled}
 use Rattle.prop_compound.specs.Spelling.{Spells, Gives, HaveNoBy, tokens_of_value}
 
@@ -49,8 +49,13 @@ spelled_is_read ts (Command.Cell name Spans) e = rw e refl
 spelled_is_read ts (Command.Attach name [] by) s = absurd s
 spelled_is_read ts (Command.Attach name (x ∷ xs) by) (rest, e, h, g) = rw (e, cells_read xs by rest h g) refl
 spelled_is_read ts (Command.Fix x v) e = rw (e, value_read v) refl
+spelled_is_read ts (Command.Tell p x v) e = rw (e, value_read v) refl
+spelled_is_read ts (Command.Kick p) e = rw e refl
+spelled_is_read ts (Command.Bring p) e = rw e refl
 spelled_is_read ts Command.Settle e = rw e refl
 spelled_is_read ts (Command.Ask x) e = rw e refl
+spelled_is_read ts (Command.Why x) e = rw e refl
+spelled_is_read ts Command.Worldview e = rw e refl
 
 -- ---- what is read is spelled
 
@@ -142,37 +147,78 @@ value_spelled (Open ∷ ts) v h =
     ap (λ l. Open ∷ l) f.2 ∙ ap tokens_of_value (sym f.1)
 value_spelled (t ∷ ts) v h = cc
 
+one_spelled : (ts : List Token) (v : Value) (vs : Option (List Value)) → values ts ≡ vs → option_and_then one_value vs ≡ Some v → ts ≡ tokens_of_value v
+one_spelled ts v None e h = cc
+one_spelled ts v (Some []) e h = cc
+one_spelled ts v (Some (u ∷ [])) e h =
+    let same : u ≡ v = cc in
+    value_spelled ts v (e ∙ ap (λ w. Some (w ∷ [])) same)
+one_spelled ts v (Some (u ∷ w ∷ vs)) e h = cc
+
+-- a command that ends in a value, behind these tokens
+ends_in_value : (made : Value → Command) (front ts : List Token) (command : Command) (o : Option Value) → ((v : Value) → Spells (front ++ tokens_of_value v) (made v)) → only_value ts ≡ o → option_map made o ≡ Some command → Spells (front ++ ts) command
+ends_in_value made front ts command None spelled e h = cc
+ends_in_value made front ts command (Some v) spelled e h =
+    let s : Spells (front ++ ts) (made v) = subst (λ l. Spells (front ++ l) (made v)) (sym (one_spelled ts v (values ts) refl e)) (spelled v) in
+    let same : made v ≡ command = cc in
+    subst (Spells (front ++ ts)) same s
+
 fix_spelled : (ts : List Token) (command : Command) → fix ts ≡ Some command → Spells (Word (codes "fix") ∷ ts) command
-fix_spelled (Word x ∷ ts) command h = by (values ts) (λ v e. value_spelled ts v e) h
-  where
-    by : (o : Option (List Value)) → ((v : Value) → o ≡ Some (v ∷ []) → ts ≡ tokens_of_value v) → option_and_then (λ vs. option_map (Command.Fix x) (one_value vs)) o ≡ Some command → Spells (Word (codes "fix") ∷ Word x ∷ ts) command
-    by None spelled h = cc
-    by (Some []) spelled h = cc
-    by (Some (v ∷ [])) spelled h =
-        let s : Spells (Word (codes "fix") ∷ Word x ∷ ts) (Command.Fix x v) = ap (λ l. Word (codes "fix") ∷ Word x ∷ l) (spelled v refl) in
-        let e : Command.Fix x v ≡ command = cc in
-        subst (Spells (Word (codes "fix") ∷ Word x ∷ ts)) e s
-    by (Some (v ∷ u ∷ us)) spelled h = cc
+fix_spelled (Word x ∷ ts) command h = ends_in_value (Command.Fix x) (Word (codes "fix") ∷ Word x ∷ []) ts command (only_value ts) (λ v. refl) refl h
 fix_spelled ts command h = cc
 
-settle_spelled : (ts : List Token) (command : Command) → bare Command.Settle ts ≡ Some command → Spells (Word (codes "settle") ∷ ts) command
-settle_spelled [] command h =
-    let e : Command.Settle ≡ command = cc in
-    subst (Spells (Word (codes "settle") ∷ [])) e refl
-settle_spelled (t ∷ ts) command h = cc
+tell_spelled : (ts : List Token) (command : Command) → tell ts ≡ Some command → Spells (Word (codes "tell") ∷ ts) command
+tell_spelled (Word p ∷ Word x ∷ ts) command h =
+    ends_in_value (Command.Tell p x) (Word (codes "tell") ∷ Word p ∷ Word x ∷ []) ts command (only_value ts) (λ v. refl) refl h
+tell_spelled ts command h = cc
 
-ask_spelled : (ts : List Token) (command : Command) → on_word Command.Ask ts ≡ Some command → Spells (Word (codes "ask") ∷ ts) command
-ask_spelled (Word x ∷ []) command h =
-    let e : Command.Ask x ≡ command = cc in
-    subst (Spells (Word (codes "ask") ∷ Word x ∷ [])) e refl
-ask_spelled ts command h = cc
+-- a command that is its word alone
+bare_spelled : (word : List ℕ) (spelled : Command) → Spells (Word word ∷ []) spelled → (ts : List Token) (command : Command) → bare spelled ts ≡ Some command → Spells (Word word ∷ ts) command
+bare_spelled word spelled s [] command h =
+    let e : spelled ≡ command = cc in
+    subst (Spells (Word word ∷ [])) e s
+bare_spelled word spelled s (t ∷ ts) command h = cc
+
+-- a command of its word and another
+on_word_spelled : (word : List ℕ) (made : List ℕ → Command) → ((w : List ℕ) → Spells (Word word ∷ Word w ∷ []) (made w)) → (ts : List Token) (command : Command) → on_word made ts ≡ Some command → Spells (Word word ∷ ts) command
+on_word_spelled word made s (Word w ∷ []) command h =
+    let e : made w ≡ command = cc in
+    subst (Spells (Word word ∷ Word w ∷ [])) e (s w)
+on_word_spelled word made s ts command h = cc
 
 -- what the form reads is spelled, behind its word
 abbrev ReadsSpelled : List ℕ × (List Token → Option Command) → Type 0
 ReadsSpelled form = (ts : List Token) (command : Command) → form.1 ts ≡ Some command → Spells (Word form.0 ∷ ts) command
 
 forms_spelled : AllByRecursion ReadsSpelled forms
-forms_spelled = (cell_spelled, (attach_spelled, (fix_spelled, (settle_spelled, (ask_spelled, tt)))))
+forms_spelled = (
+  cell_spelled,
+  (
+    attach_spelled,
+    (
+      fix_spelled,
+      (
+        tell_spelled,
+        (
+          on_word_spelled (codes "kick") Command.Kick (λ w. refl),
+          (
+            on_word_spelled (codes "bring") Command.Bring (λ w. refl),
+            (
+              bare_spelled (codes "settle") Command.Settle refl,
+              (
+                on_word_spelled (codes "ask") Command.Ask (λ w. refl),
+                (
+                  on_word_spelled (codes "why") Command.Why (λ w. refl),
+                  (bare_spelled (codes "worldview") Command.Worldview refl, tt),
+                ),
+              ),
+            ),
+          ),
+        ),
+      ),
+    ),
+  ),
+)
 
 found_spelled : (known : List (List ℕ × (List Token → Option Command))) (w : List ℕ) (ts : List Token) (command : Command) → AllByRecursion ReadsSpelled known → option_and_then (λ form. form.1 ts) (find (λ form. bytes_eq form.0 w) known) ≡ Some command → Spells (Word w ∷ ts) command
 found_spelled [] w ts command all h = cc

@@ -19,5 +19,10 @@ pub data Command : Type 0 where
   Cell : (name : List ℕ) → (kind : KindWord) → Command
   Attach : (name : List ℕ) → (cells : List (List ℕ)) → (by : By) → Command
   Fix : (cell : List ℕ) → (value : Value) → Command
+  Tell : (premise : List ℕ) → (cell : List ℕ) → (value : Value) → Command
+  Kick : (premise : List ℕ) → Command
+  Bring : (premise : List ℕ) → Command
   Settle : Command
   Ask : (cell : List ℕ) → Command
+  Why : (cell : List ℕ) → Command
+  Worldview : Command

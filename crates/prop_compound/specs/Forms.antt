@@ -72,10 +72,19 @@ abbrev pub one_value : List Value → Option Value
 one_value (v ∷ []) = Some v
 one_value vs = None
 
+-- V: one value and no more
+abbrev pub only_value : List Token → Option Value
+only_value ts = option_and_then one_value (values ts)
+
 -- X V
 abbrev pub fix : List Token → Option Command
-fix (Word x ∷ ts) = option_and_then (λ vs. option_map (Command.Fix x) (one_value vs)) (values ts)
+fix (Word x ∷ ts) = option_map (Command.Fix x) (only_value ts)
 fix ts = None
+
+-- P X V
+abbrev pub tell : List Token → Option Command
+tell (Word p ∷ Word x ∷ ts) = option_map (Command.Tell p x) (only_value ts)
+tell ts = None
 
 -- the form of each command, behind its word
 abbrev pub forms : List (List ℕ × (List Token → Option Command))
@@ -83,6 +92,11 @@ forms =
     (codes "cell", cell)
     ∷ (codes "attach", attach)
     ∷ (codes "fix", fix)
+    ∷ (codes "tell", tell)
+    ∷ (codes "kick", on_word Command.Kick)
+    ∷ (codes "bring", on_word Command.Bring)
     ∷ (codes "settle", bare Command.Settle)
     ∷ (codes "ask", on_word Command.Ask)
+    ∷ (codes "why", on_word Command.Why)
+    ∷ (codes "worldview", bare Command.Worldview)
     ∷ []

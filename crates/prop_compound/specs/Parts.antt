@@ -8,12 +8,12 @@ use Rattle.prop_lattice.specs.declared.refusal.Refusal.TheVariants.{UnknownComma
 use Rattle.prop_compound.specs.Tokens.{Token, Word, Open, Close, Semicolon, Equals, Star, is_blank, mark_of}
 use Rattle.prop_compound.specs.Names.{is_name, digits_number}
 use Rattle.prop_compound.specs.Commands.{Value, By, Command}
-use Rattle.prop_compound.specs.Forms.{bare, on_word, cell, attach, fix, parameter, cells_by, values}
+use Rattle.prop_compound.specs.Forms.{bare, on_word, cell, attach, fix, tell, parameter, cells_by, values}
 use Rattle.prop_compound.specs.Reading.{by_names, is_by_in_range, command_in_form}
 use Rattle.prop_compound.specs.declared.tokens.Token as read
 use Rattle.prop_compound.specs.declared.tokens.Token.TheVariants as reads
 use Rattle.prop_compound.specs.declared.reading.CommandWord.{CommandWord}
-use Rattle.prop_compound.specs.declared.reading.CommandWord.TheVariants.{Cell, Attach, Fix, Settle, Ask}
+use Rattle.prop_compound.specs.declared.reading.CommandWord.TheVariants.{Cell, Attach, Fix, Tell, Kick, Bring, Settle, Ask, Why, Worldview}
 
 -- a token without where its word lies in memory
 abbrev pub token_of : read.Token → Token
@@ -83,8 +83,13 @@ abbrev pub form_of : CommandWord → List Token → Option Command
 form_of Cell = cell
 form_of Attach = attach
 form_of Fix = fix
+form_of Tell = tell
+form_of Kick = on_word Command.Kick
+form_of Bring = on_word Command.Bring
 form_of Settle = bare Command.Settle
 form_of Ask = on_word Command.Ask
+form_of Why = on_word Command.Why
+form_of Worldview = bare Command.Worldview
 
 abbrev pub form_entry : Bor (List ℕ) × CommandWord → List ℕ × (List Token → Option Command)
 form_entry (word, command) = (word.now, form_of command)
@@ -106,14 +111,20 @@ BeginsOpen ts = ⊥
 abbrev pub KeepsWordsOf : CommandWord → List Token → Type 0
 KeepsWordsOf Attach ts = ⊤
 KeepsWordsOf Fix ts = Contains ts Open
+KeepsWordsOf Tell ts = Contains ts Open
 KeepsWordsOf command ts = ⊥
 
 abbrev pub word_of : CommandWord → List ℕ
 word_of Cell = codes "cell"
 word_of Attach = codes "attach"
 word_of Fix = codes "fix"
+word_of Tell = codes "tell"
+word_of Kick = codes "kick"
+word_of Bring = codes "bring"
 word_of Settle = codes "settle"
 word_of Ask = codes "ask"
+word_of Why = codes "why"
+word_of Worldview = codes "worldview"
 
 -- the command has its own word
 abbrev pub is_worded : Bor (List ℕ) × CommandWord → Bool

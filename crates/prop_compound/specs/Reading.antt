@@ -29,8 +29,13 @@ abbrev pub names_in : Command → List (List ℕ)
 names_in (Command.Cell name kind) = name ∷ []
 names_in (Command.Attach name cells by) = name ∷ cells ++ by_names by
 names_in (Command.Fix cell value) = cell ∷ []
-names_in (Command.Ask cell) = cell ∷ []
+names_in (Command.Tell premise cell value) = premise ∷ cell ∷ []
+names_in (Command.Kick premise) = premise ∷ []
+names_in (Command.Bring premise) = premise ∷ []
 names_in Command.Settle = []
+names_in (Command.Ask cell) = cell ∷ []
+names_in (Command.Why cell) = cell ∷ []
+names_in Command.Worldview = []
 
 abbrev pub is_by_in_range : By → Bool
 is_by_in_range (By.Number n) = is_some n

@@ -12,7 +12,7 @@ use Rattle.prop_compound.specs.declared.command.KindWord.TheVariants.{Spans}
 use Rattle.prop_compound.specs.declared.command.By.{By}
 use Rattle.prop_compound.specs.declared.command.By.TheVariants as bys
 use Rattle.prop_compound.specs.declared.command.Command.{Command}
-use Rattle.prop_compound.specs.declared.command.Command.TheVariants.{Silent, Cell, Attach, Fix, Settle, Ask}
+use Rattle.prop_compound.specs.declared.command.Command.TheVariants.{Silent, Cell, Attach, Fix, Tell, Kick, Bring, Settle, Ask, Why, Worldview}
 
 abbrev pub words : List (Bor (List ℕ)) → List (List ℕ)
 words items = map (λ (w : Bor (List ℕ)). w.now) items
@@ -35,8 +35,13 @@ said Silent = None
 said (Cell name kind) = Some (commands.Command.Cell name.now (kind_of kind))
 said (Attach name cells by) = Some (commands.Command.Attach name.now (words cells.items) (by_of by))
 said (Fix cell value) = Some (commands.Command.Fix cell.now (value_of value))
+said (Tell premise cell value) = Some (commands.Command.Tell premise.now cell.now (value_of value))
+said (Kick premise) = Some (commands.Command.Kick premise.now)
+said (Bring premise) = Some (commands.Command.Bring premise.now)
 said Settle = Some commands.Command.Settle
 said (Ask cell) = Some (commands.Command.Ask cell.now)
+said (Why cell) = Some (commands.Command.Why cell.now)
+said Worldview = Some commands.Command.Worldview
 
 -- What a reader answers is what the grammar reads, and a refusal is the grammar's, unless memory runs out.
 abbrev pub Reads : Result Command Refusal → Result (Option commands.Command) Refusal → Type 0
@@ -45,5 +50,5 @@ Reads (Err refusal) read = (refusal ≡ Memory) ⊎ (read ≡ Err refusal)
 
 -- The command keeps a list of words, its cells or those in braces: for another line there is no want of memory.
 abbrev pub KeepsWords : List Token → Type 0
-KeepsWords (Word w ∷ ts) = (w ≡ codes "attach") ⊎ ((w ≡ codes "fix") × Contains ts Open)
+KeepsWords (Word w ∷ ts) = (w ≡ codes "attach") ⊎ (((w ≡ codes "fix") ⊎ (w ≡ codes "tell")) × Contains ts Open)
 KeepsWords ts = ⊥

@@ -7,7 +7,8 @@ use Rattle.prop_compound.specs.Commands.{Value, Bare, Braces, KindWord, Spans, B
 
 -- the first words of the commands
 abbrev pub command_words : List (List ℕ)
-command_words = codes "cell" ∷ codes "attach" ∷ codes "fix" ∷ codes "settle" ∷ codes "ask" ∷ []
+command_words =
+    codes "cell" ∷ codes "attach" ∷ codes "fix" ∷ codes "tell" ∷ codes "kick" ∷ codes "bring" ∷ codes "settle" ∷ codes "ask" ∷ codes "why" ∷ codes "worldview" ∷ []
 
 abbrev pub word_of_kind : KindWord → List ℕ
 word_of_kind Spans = codes "span"
@@ -34,5 +35,10 @@ Spells ts (Command.Attach name [] by) = ⊥
 Spells ts (Command.Attach name (x ∷ xs) by) =
     (rest : List Token) × (ts ≡ Word (codes "attach") ∷ Word name ∷ Word x ∷ map Word xs ++ rest) × HaveNoBy xs × Gives by rest
 Spells ts (Command.Fix cell value) = ts ≡ Word (codes "fix") ∷ Word cell ∷ tokens_of_value value
+Spells ts (Command.Tell premise cell value) = ts ≡ Word (codes "tell") ∷ Word premise ∷ Word cell ∷ tokens_of_value value
+Spells ts (Command.Kick premise) = ts ≡ Word (codes "kick") ∷ Word premise ∷ []
+Spells ts (Command.Bring premise) = ts ≡ Word (codes "bring") ∷ Word premise ∷ []
 Spells ts Command.Settle = ts ≡ Word (codes "settle") ∷ []
 Spells ts (Command.Ask cell) = ts ≡ Word (codes "ask") ∷ Word cell ∷ []
+Spells ts (Command.Why cell) = ts ≡ Word (codes "why") ∷ Word cell ∷ []
+Spells ts Command.Worldview = ts ≡ Word (codes "worldview") ∷ []

@@ -21,13 +21,19 @@ pub enum By<'a> {
     Relation(&'a str),
 }
 
-/// A command with its words and numbers as read. `Silent` is a line that gets no reply.
+/// A command with its words and numbers as read, in the order in which they stand on the line: of `Tell` the premise, then the
+/// cell. `Silent` is a line that gets no reply.
 #[derive(Debug, Drop)]
 pub enum Command<'a> {
     Silent,
     Cell(&'a str, KindWord),
     Attach(&'a str, Vec<&'a str>, By<'a>),
     Fix(&'a str, Value<'a>),
+    Tell(&'a str, &'a str, Value<'a>),
+    Kick(&'a str),
+    Bring(&'a str),
     Settle,
     Ask(&'a str),
+    Why(&'a str),
+    Worldview,
 }

@@ -78,12 +78,45 @@ pub fn settle(rest: &[u8]) -> Result<Command<'_>, Refusal>
     Ok(Command::Settle)
 }
 
+/// `kick P`, behind its first word.
+pub fn kick(rest: &[u8]) -> Result<Command<'_>, Refusal>
+    ensures read { Reads result (command_in_form (forms.on_word commands.Command.Kick (tokens rest.now))) }
+    ensures memory { result ≢ Err Refusal.Memory }
+{
+    Ok(Command::Kick(name(only_word(rest)?)?))
+}
+
+/// `bring P`, behind its first word.
+pub fn bring(rest: &[u8]) -> Result<Command<'_>, Refusal>
+    ensures read { Reads result (command_in_form (forms.on_word commands.Command.Bring (tokens rest.now))) }
+    ensures memory { result ≢ Err Refusal.Memory }
+{
+    Ok(Command::Bring(name(only_word(rest)?)?))
+}
+
 /// `ask X`, behind its first word.
 pub fn ask(rest: &[u8]) -> Result<Command<'_>, Refusal>
     ensures read { Reads result (command_in_form (forms.on_word commands.Command.Ask (tokens rest.now))) }
     ensures memory { result ≢ Err Refusal.Memory }
 {
     Ok(Command::Ask(name(only_word(rest)?)?))
+}
+
+/// `why X`, behind its first word.
+pub fn why(rest: &[u8]) -> Result<Command<'_>, Refusal>
+    ensures read { Reads result (command_in_form (forms.on_word commands.Command.Why (tokens rest.now))) }
+    ensures memory { result ≢ Err Refusal.Memory }
+{
+    Ok(Command::Why(name(only_word(rest)?)?))
+}
+
+/// `worldview`, behind its first word.
+pub fn worldview(rest: &[u8]) -> Result<Command<'_>, Refusal>
+    ensures read { Reads result (command_in_form (forms.bare commands.Command.Worldview (tokens rest.now))) }
+    ensures memory { result ≢ Err Refusal.Memory }
+{
+    end(rest)?;
+    Ok(Command::Worldview)
 }
 
 /// The word behind the first `by`, if there is a `by`. Before it stand words alone, and behind it that one word.
@@ -185,13 +218,34 @@ fn value<'a>(alloc: Global, bytes: &'a [u8]) -> Result<(Value<'a>, &'a [u8]), Re
     }
 }
 
+/// One value and no more.
+fn only_value<'a>(alloc: Global, bytes: &'a [u8]) -> Result<Value<'a>, Refusal>
+    ensures ok { IfOk result (λ value. forms.only_value (tokens bytes.now) ≡ Some (value_of value)) }
+    ensures err { IfErr result (λ refusal. (refusal ≡ Refusal.Memory) ⊎ ((refusal ≡ Refusal.WrongForm) × (forms.only_value (tokens bytes.now) ≡ None))) }
+    ensures memory { (result ≡ Err Refusal.Memory) → BeginsOpen (tokens bytes.now) }
+{
+    let (value, rest) = value(alloc, bytes)?;
+    end(rest)?;
+    Ok(value)
+}
+
 /// `fix X V`, behind its first word.
 pub fn fix<'a>(alloc: Global, rest: &'a [u8]) -> Result<Command<'a>, Refusal>
     ensures read { Reads result (command_in_form (forms.fix (tokens rest.now))) }
     ensures memory { (result ≡ Err Refusal.Memory) → Contains (tokens rest.now) Open }
 {
     let (cell, rest) = word(rest)?;
-    let (value, rest) = value(alloc, rest)?;
-    end(rest)?;
+    let value = only_value(alloc, rest)?;
     Ok(Command::Fix(name(cell)?, value))
+}
+
+/// `tell P X V`, behind its first word.
+pub fn tell<'a>(alloc: Global, rest: &'a [u8]) -> Result<Command<'a>, Refusal>
+    ensures read { Reads result (command_in_form (forms.tell (tokens rest.now))) }
+    ensures memory { (result ≡ Err Refusal.Memory) → Contains (tokens rest.now) Open }
+{
+    let (premise, rest) = word(rest)?;
+    let (cell, rest) = word(rest)?;
+    let value = only_value(alloc, rest)?;
+    Ok(Command::Tell(name(premise)?, name(cell)?, value))
 }

@@ -45,17 +45,27 @@ enum CommandWord {
     Cell,
     Attach,
     Fix,
+    Tell,
+    Kick,
+    Bring,
     Settle,
     Ask,
+    Why,
+    Worldview,
 }
 
 /// The commands by their first words.
-const COMMANDS: [(&[u8], CommandWord); 5] = [
+const COMMANDS: [(&[u8], CommandWord); 10] = [
     (b"cell", CommandWord::Cell),
     (b"attach", CommandWord::Attach),
     (b"fix", CommandWord::Fix),
+    (b"tell", CommandWord::Tell),
+    (b"kick", CommandWord::Kick),
+    (b"bring", CommandWord::Bring),
     (b"settle", CommandWord::Settle),
     (b"ask", CommandWord::Ask),
+    (b"why", CommandWord::Why),
+    (b"worldview", CommandWord::Worldview),
 ];
 
 /// The first of these commands that has this word.
@@ -84,8 +94,13 @@ fn read_form<'a>(
         CommandWord::Cell => forms::cell(rest),
         CommandWord::Attach => forms::attach(alloc, rest),
         CommandWord::Fix => forms::fix(alloc, rest),
+        CommandWord::Tell => forms::tell(alloc, rest),
+        CommandWord::Kick => forms::kick(rest),
+        CommandWord::Bring => forms::bring(rest),
         CommandWord::Settle => forms::settle(rest),
         CommandWord::Ask => forms::ask(rest),
+        CommandWord::Why => forms::why(rest),
+        CommandWord::Worldview => forms::worldview(rest),
     }
 }
 

@@ -4,8 +4,8 @@ use crate::{number_in, read_line, read_value};
 use prop_lattice::{Info, Kind, Refusal};
 use std::test::Fail;
 
-/// Each line with the command that it asks for, or its refusal.
-const LINES: [(&[u8], &str); 77] = [
+/// Each line with what it asks for.
+const READ: [(&[u8], &str); 36] = [
     (b"", "Ok(Silent)"),
     (b" \t ", "Ok(Silent)"),
     (b"# note", "Ok(Silent)"),
@@ -38,75 +38,181 @@ const LINES: [(&[u8], &str); 77] = [
     (b"fix x --1", "Ok(Fix(\"x\", Bare([45, 45, 49])))"),
     (b"fix x {}", "Ok(Fix(\"x\", Braces([])))"),
     (b"fix x{a b}", "Ok(Fix(\"x\", Braces([[97], [98]])))"),
+    (
+        b"tell p x 3..5",
+        "Ok(Tell(\"p\", \"x\", Bare([51, 46, 46, 53])))",
+    ),
+    (
+        b"tell x x --1",
+        "Ok(Tell(\"x\", \"x\", Bare([45, 45, 49])))",
+    ),
+    (b"tell p x{}", "Ok(Tell(\"p\", \"x\", Braces([])))"),
+    (
+        b"tell p x {a b}",
+        "Ok(Tell(\"p\", \"x\", Braces([[97], [98]])))",
+    ),
+    (
+        b"tell p x yes",
+        "Ok(Tell(\"p\", \"x\", Bare([121, 101, 115])))",
+    ),
+    (b"kick p", "Ok(Kick(\"p\"))"),
+    (b"kick kick", "Ok(Kick(\"kick\"))"),
+    (b"bring p", "Ok(Bring(\"p\"))"),
+    (b" bring\tp ", "Ok(Bring(\"p\"))"),
+    (b"why x", "Ok(Why(\"x\"))"),
+    (b"why why\r", "Ok(Why(\"why\"))"),
+    (b"worldview", "Ok(Worldview)"),
+    (b"worldview \r", "Ok(Worldview)"),
     (b"settle", "Ok(Settle)"),
     (b"ask x", "Ok(Ask(\"x\"))"),
     (b"ask x\r", "Ok(Ask(\"x\"))"),
     (b"ask _", "Ok(Ask(\"_\"))"),
     (b"ask h\xc3\xb6lle2", "Ok(Ask(\"hölle2\"))"),
     (b"ask like", "Ok(Ask(\"like\"))"),
-    (b"\xff", "Err(NotUtf8)"),
-    (b"#\xff", "Err(NotUtf8)"),
-    (b"ask \xc3", "Err(NotUtf8)"),
-    (b"go", "Err(UnknownCommand)"),
-    (b"bring p", "Err(UnknownCommand)"),
-    (b"Settle", "Err(UnknownCommand)"),
-    (b"asks x", "Err(UnknownCommand)"),
-    (b"{ask x}", "Err(UnknownCommand)"),
-    (b"= x", "Err(UnknownCommand)"),
-    (b"settle\r\r", "Err(UnknownCommand)"),
-    (b"settle now", "Err(WrongForm)"),
-    (b"settle ;", "Err(WrongForm)"),
-    (b"cell x", "Err(WrongForm)"),
-    (b"cell x span y", "Err(WrongForm)"),
-    (b"cell x truth", "Err(WrongForm)"),
-    (b"cell span truth", "Err(WrongForm)"),
-    (b"cell x {span}", "Err(WrongForm)"),
-    (b"ask", "Err(WrongForm)"),
-    (b"ask x y", "Err(WrongForm)"),
-    (b"ask {x}", "Err(WrongForm)"),
-    (b"ask 1x y", "Err(WrongForm)"),
-    (b"attach nope", "Err(WrongForm)"),
-    (b"attach n x by", "Err(WrongForm)"),
-    (b"attach n x by *", "Err(WrongForm)"),
-    (b"attach n x by 3 4", "Err(WrongForm)"),
-    (b"attach n x = y", "Err(WrongForm)"),
-    (b"fix x", "Err(WrongForm)"),
-    (b"fix x 5 6", "Err(WrongForm)"),
-    (b"fix x {5", "Err(WrongForm)"),
-    (b"fix x 5}", "Err(WrongForm)"),
-    (b"fix x {a} b", "Err(WrongForm)"),
-    (b"fix x {a {b}}", "Err(WrongForm)"),
-    (b"fix {x} 5", "Err(WrongForm)"),
-    (b"cell span span", "Err(NotAName)"),
-    (b"ask by", "Err(NotAName)"),
-    (b"ask nothing", "Err(NotAName)"),
-    (b"ask 1x", "Err(NotAName)"),
-    (b"ask x-y", "Err(NotAName)"),
-    (b"ask x.y", "Err(NotAName)"),
-    (b"ask +3", "Err(NotAName)"),
-    (b"ask x\r\r", "Err(NotAName)"),
-    (b"attach n by p", "Err(NotAName)"),
-    (b"attach n x by by", "Err(NotAName)"),
-    (b"attach n x by +3", "Err(NotAName)"),
-    (b"attach n x by \xd9\xa3", "Err(NotAName)"),
-    (b"attach n x 2 by 0", "Err(NotAName)"),
-    (b"attach 1n x", "Err(NotAName)"),
-    (b"fix 1 1", "Err(NotAName)"),
-    (b"attach n x by 0", "Err(NotANumber)"),
-    (b"attach n x by -", "Err(NotANumber)"),
-    (b"attach n x by -0", "Err(NotANumber)"),
-    (b"attach n x by 3x", "Err(NotANumber)"),
-    (b"attach n x by 1000000001", "Err(NotANumber)"),
-    (b"attach n x by 18446744073709551617", "Err(NotANumber)"),
 ];
 
 #[test]
 fn reads_lines(rt: HostRuntime) -> Result<(), Fail> {
-    for (line, wanted) in LINES {
+    for (line, wanted) in READ {
         let told = format!(in rt.alloc(); "{:?}", read_line(rt.alloc(), line))?;
         assert_eq!(rt; told.as_str(), wanted, "at {line:?}");
     }
     Ok(())
+}
+
+/// Lines that are refused for their form, or before it.
+const MISFORMED: [(&[u8], Refusal); 69] = [
+    (b"\xff", Refusal::NotUtf8),
+    (b"#\xff", Refusal::NotUtf8),
+    (b"ask \xc3", Refusal::NotUtf8),
+    (b"go", Refusal::UnknownCommand),
+    (b"domain d a", Refusal::UnknownCommand),
+    (b"relation r d d = a b", Refusal::UnknownCommand),
+    (b"choose c x 1 or 2", Refusal::UnknownCommand),
+    (b"core x", Refusal::UnknownCommand),
+    (b"nogoods", Refusal::UnknownCommand),
+    (b"limit 3", Refusal::UnknownCommand),
+    (b"define n x = n x", Refusal::UnknownCommand),
+    (b"forget p", Refusal::UnknownCommand),
+    (b"kicks p", Refusal::UnknownCommand),
+    (b"Why x", Refusal::UnknownCommand),
+    (b"worldviews", Refusal::UnknownCommand),
+    (b"Settle", Refusal::UnknownCommand),
+    (b"asks x", Refusal::UnknownCommand),
+    (b"{ask x}", Refusal::UnknownCommand),
+    (b"= x", Refusal::UnknownCommand),
+    (b"settle\r\r", Refusal::UnknownCommand),
+    (b"settle now", Refusal::WrongForm),
+    (b"settle ;", Refusal::WrongForm),
+    (b"cell x", Refusal::WrongForm),
+    (b"cell x span y", Refusal::WrongForm),
+    (b"cell x truth", Refusal::WrongForm),
+    (b"cell span truth", Refusal::WrongForm),
+    (b"cell x {span}", Refusal::WrongForm),
+    (b"ask", Refusal::WrongForm),
+    (b"ask x y", Refusal::WrongForm),
+    (b"ask {x}", Refusal::WrongForm),
+    (b"ask 1x y", Refusal::WrongForm),
+    (b"attach nope", Refusal::WrongForm),
+    (b"attach n x by", Refusal::WrongForm),
+    (b"attach n x by *", Refusal::WrongForm),
+    (b"attach n x by 3 4", Refusal::WrongForm),
+    (b"attach n x = y", Refusal::WrongForm),
+    (b"fix x", Refusal::WrongForm),
+    (b"fix x 5 6", Refusal::WrongForm),
+    (b"fix x {5", Refusal::WrongForm),
+    (b"fix x 5}", Refusal::WrongForm),
+    (b"fix x {a} b", Refusal::WrongForm),
+    (b"fix x {a {b}}", Refusal::WrongForm),
+    (b"fix {x} 5", Refusal::WrongForm),
+    (b"tell", Refusal::WrongForm),
+    (b"tell p", Refusal::WrongForm),
+    (b"tell a x", Refusal::WrongForm),
+    (b"tell p x 1 2", Refusal::WrongForm),
+    (b"tell p x {1} 2", Refusal::WrongForm),
+    (b"tell p x {1", Refusal::WrongForm),
+    (b"tell p x 1}", Refusal::WrongForm),
+    (b"tell p {x} 1", Refusal::WrongForm),
+    (b"tell p x = 1", Refusal::WrongForm),
+    (b"tell p x {}{}", Refusal::WrongForm),
+    (b"tell{p x 1}", Refusal::WrongForm),
+    (b"tell by x", Refusal::WrongForm),
+    (b"kick", Refusal::WrongForm),
+    (b"kick a b", Refusal::WrongForm),
+    (b"kick {a}", Refusal::WrongForm),
+    (b"kick *", Refusal::WrongForm),
+    (b"kick 3 4", Refusal::WrongForm),
+    (b"bring", Refusal::WrongForm),
+    (b"bring a b", Refusal::WrongForm),
+    (b"bring ;", Refusal::WrongForm),
+    (b"why", Refusal::WrongForm),
+    (b"why a b", Refusal::WrongForm),
+    (b"why {x}", Refusal::WrongForm),
+    (b"why 3 x", Refusal::WrongForm),
+    (b"worldview now", Refusal::WrongForm),
+    (b"worldview {}", Refusal::WrongForm),
+];
+
+#[test]
+fn refuses_forms(rt: HostRuntime) {
+    for (line, refusal) in MISFORMED {
+        assert_eq!(rt;
+            read_line(rt.alloc(), line).err(),
+            Some(refusal),
+            "at {line:?}"
+        );
+    }
+}
+
+/// Lines that are refused for one of their words.
+const MISNAMED: [(&[u8], Refusal); 36] = [
+    (b"cell span span", Refusal::NotAName),
+    (b"ask by", Refusal::NotAName),
+    (b"ask nothing", Refusal::NotAName),
+    (b"ask 1x", Refusal::NotAName),
+    (b"ask x-y", Refusal::NotAName),
+    (b"ask x.y", Refusal::NotAName),
+    (b"ask +3", Refusal::NotAName),
+    (b"ask x\r\r", Refusal::NotAName),
+    (b"attach n by p", Refusal::NotAName),
+    (b"attach n x by by", Refusal::NotAName),
+    (b"attach n x by +3", Refusal::NotAName),
+    (b"attach n x by \xd9\xa3", Refusal::NotAName),
+    (b"attach n x 2 by 0", Refusal::NotAName),
+    (b"attach 1n x", Refusal::NotAName),
+    (b"fix 1 1", Refusal::NotAName),
+    (b"tell by x 3", Refusal::NotAName),
+    (b"tell p by 3", Refusal::NotAName),
+    (b"tell 1 x 3", Refusal::NotAName),
+    (b"tell p 1 3", Refusal::NotAName),
+    (b"tell yes x 1", Refusal::NotAName),
+    (b"kick 3", Refusal::NotAName),
+    (b"kick by", Refusal::NotAName),
+    (b"kick -", Refusal::NotAName),
+    (b"kick no", Refusal::NotAName),
+    (b"bring 3", Refusal::NotAName),
+    (b"bring truth", Refusal::NotAName),
+    (b"bring x-y", Refusal::NotAName),
+    (b"why 1x", Refusal::NotAName),
+    (b"why nothing", Refusal::NotAName),
+    (b"why \xd9\xa3", Refusal::NotAName),
+    (b"attach n x by 0", Refusal::NotANumber),
+    (b"attach n x by -", Refusal::NotANumber),
+    (b"attach n x by -0", Refusal::NotANumber),
+    (b"attach n x by 3x", Refusal::NotANumber),
+    (b"attach n x by 1000000001", Refusal::NotANumber),
+    (b"attach n x by 18446744073709551617", Refusal::NotANumber),
+];
+
+#[test]
+fn refuses_words(rt: HostRuntime) {
+    for (line, refusal) in MISNAMED {
+        assert_eq!(rt;
+            read_line(rt.alloc(), line).err(),
+            Some(refusal),
+            "at {line:?}"
+        );
+    }
 }
 
 /// The length of a line of a number sign and letters, what ends it, and whether it is too long.

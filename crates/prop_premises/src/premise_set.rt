@@ -101,6 +101,13 @@ impl PremiseSet {
         &self.numbers
     }
 
+    /// Whether the set has no premise. It takes no memory.
+    pub fn is_empty(&self) -> bool
+        ensures { IsTrue result ↔ (self.now ≡ []) }
+    {
+        self.numbers.is_empty()
+    }
+
     /// The premises in order of number.
     pub fn iter(&self) -> Numbers<'_>
         ensures all { result ≡ self.now }

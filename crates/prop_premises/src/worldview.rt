@@ -1,5 +1,5 @@
 //! What is believed.
-ghost use Rattle.std.specs.Prelude.{◌≡◌, List, ℕ, false, slice_index_or, IfOk};
+ghost use Rattle.std.specs.Prelude.{◌≡◌, List, [], ℕ, false, slice_index_or, IfOk};
 ghost use Rattle.prop_premises.specs.Sets.{set_of, is_within};
 ghost use Rattle.prop_premises.specs.Flags.{numbers_from};
 
@@ -27,6 +27,15 @@ fn flag_at(flags: &[bool], place: usize) -> bool
 }
 
 impl Worldview {
+    /// The worldview that believes nothing. It takes no memory.
+    pub fn empty(alloc: Global) -> Worldview
+        ensures { result ≡ [] }
+    {
+        Worldview {
+            beliefs: Vec::new(alloc),
+        }
+    }
+
     /// The worldview that believes just the premises of the set.
     pub fn of(alloc: Global, premises: &PremiseSet) -> Result<Worldview, AllocError>
         ensures { IfOk result (λ w. w ≡ premises.now) }

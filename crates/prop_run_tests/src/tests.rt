@@ -31,7 +31,7 @@ fn a_cell_may_stand_in_two_places(rt: HostRuntime) -> Result<(), Fail> {
     trial.attach(alloc, &[0, 0], 1)?;
     trial.fix(0, -2, 3)?;
     let (end, steps) = trial.settle(alloc, &mut Fifo, 10)?;
-    assert_eq!(rt; end, Run::Quiet);
+    assert!(rt; matches!(end, Run::Quiet));
     assert_eq!(rt; steps, 1);
     assert_eq!(rt; trial.belief(1), Some(Info::between(-4, 6)));
     Ok(())
@@ -45,7 +45,7 @@ fn two_numbers_for_one_cell_clash(rt: HostRuntime) -> Result<(), Fail> {
     trial.fix(0, 1, 1)?;
     trial.fix(0, 2, 2)?;
     let (end, steps) = trial.settle(alloc, &mut Fifo, 10)?;
-    assert_eq!(rt; end, Run::Clash);
+    assert!(rt; matches!(end, Run::Clash(_)));
     assert_eq!(rt; steps, 0);
     Ok(())
 }
@@ -59,21 +59,21 @@ fn a_stopped_run_goes_on(rt: HostRuntime) -> Result<(), Fail> {
     trial.attach(alloc, &[0, 1], 0)?;
     trial.fix(1, 1, 1)?;
     trial.fix(0, 0, 10)?;
-    assert_eq!(rt; trial.settle(alloc, &mut Fifo, 3)?, (Run::Spent, 3));
+    assert!(rt; matches!(trial.settle(alloc, &mut Fifo, 3)?, (Run::Spent, 3)));
     assert_eq!(rt; trial.belief(0), Some(Info::between(3, 10)));
-    assert_eq!(rt; trial.settle(alloc, &mut Fifo, 3)?, (Run::Spent, 3));
+    assert!(rt; matches!(trial.settle(alloc, &mut Fifo, 3)?, (Run::Spent, 3)));
     assert_eq!(rt; trial.belief(0), Some(Info::between(6, 10)));
-    assert_eq!(rt; trial.settle(alloc, &mut Fifo, 3)?, (Run::Spent, 3));
+    assert!(rt; matches!(trial.settle(alloc, &mut Fifo, 3)?, (Run::Spent, 3)));
     assert_eq!(rt; trial.belief(0), Some(Info::between(9, 10)));
     let (end, steps) = trial.settle(alloc, &mut Fifo, 3)?;
-    assert_eq!(rt; end, Run::Clash);
+    assert!(rt; matches!(end, Run::Clash(_)));
     assert_eq!(rt; steps, 2);
     Ok(())
 }
 
-/// How a run ends, what is then known of the last cell, and in how many steps, where a sum of a sum is attached
+/// Whether a run ends quiet, what is then known of the last cell, and in how many steps, where a sum of a sum is attached
 /// before the sum.
-fn run_in<O: Order>(rt: &HostRuntime, order: &mut O) -> Result<(Run, Option<Info>, u64), Fail> {
+fn run_in<O: Order>(rt: &HostRuntime, order: &mut O) -> Result<(bool, Option<Info>, u64), Fail> {
     let alloc = rt.alloc();
     let mut trial = adders!(alloc);
     trial.cell()?;
@@ -85,13 +85,13 @@ fn run_in<O: Order>(rt: &HostRuntime, order: &mut O) -> Result<(Run, Option<Info
     trial.fix(0, 3, 5)?;
     trial.fix(1, 10, 10)?;
     let (end, steps) = trial.settle(alloc, order, 10)?;
-    Ok((end, trial.belief(3), steps))
+    Ok((matches!(end, Run::Quiet), trial.belief(3), steps))
 }
 
 #[test]
 fn two_orders_end_alike(rt: HostRuntime) -> Result<(), Fail> {
     let sum = Some(Info::between(23, 25));
-    assert_eq!(rt; run_in(&rt, &mut Fifo)?, (Run::Quiet, sum, 3));
-    assert_eq!(rt; run_in(&rt, &mut Lifo)?, (Run::Quiet, sum, 2));
+    assert_eq!(rt; run_in(&rt, &mut Fifo)?, (true, sum, 3));
+    assert_eq!(rt; run_in(&rt, &mut Lifo)?, (true, sum, 2));
     Ok(())
 }

@@ -2,7 +2,8 @@
 ghost use Rattle.std.specs.Prelude.{◌≡◌, ◌<◌, [], length};
 
 use prop_cells::Network;
-use prop_lattice::{Info, Kind, Refusal};
+use prop_lattice::{Info, Kind, Partial, Refusal};
+use prop_premises::Worldview;
 use prop_procedures::Rule;
 use prop_scheduler::{Agenda, Order, Run, run};
 use std::alloc::{AllocError, Global};
@@ -17,11 +18,12 @@ impl Order for Lifo {
     }
 }
 
-/// A network whose first procedure is attached between cells of numbers.
+/// A network whose first procedure is attached between cells of numbers. Nothing is stated under a premise.
 #[derive(Drop)]
 pub struct Trial<R> {
     network: Network<R>,
     agenda: Agenda,
+    worldview: Worldview,
 }
 
 impl<R: Rule + Drop> Trial<R> {
@@ -40,6 +42,7 @@ impl<R: Rule + Drop> Trial<R> {
         Trial {
             network,
             agenda: Agenda::new(alloc),
+            worldview: Worldview::empty(alloc),
         }
     }
 
@@ -78,14 +81,16 @@ impl<R: Rule + Drop> Trial<R> {
         requires { IsReady R.value_of self.old }
         ensures { IsReady R.value_of self.new }
     {
-        match self.network.state(cell, Info::between(lo, hi)) {
-            Ok(true) => {
-                self.agenda.alert_all(self.network.readers(cell));
-                Ok(())
-            }
-            Ok(false) => Ok(()),
-            Err(refusal) => Err(refusal),
+        if cell >= self.network.cells() {
+            return Err(Refusal::NoSuchCell);
         }
+        let before = self.network.belief(cell, &self.worldview);
+        self.network.state_under(None, cell, Info::between(lo, hi))?;
+        let after = self.network.belief(cell, &self.worldview);
+        if !before.implies(after) {
+            self.agenda.alert_all(self.network.readers(cell));
+        }
+        Ok(())
     }
 
     /// Runs the network.
@@ -98,13 +103,20 @@ impl<R: Rule + Drop> Trial<R> {
         requires { IsReady R.value_of self.old }
         ensures { IsReady R.value_of self.new }
     {
-        run(alloc, &mut self.network, &mut self.agenda, order, budget)
+        run(
+            alloc,
+            &mut self.network,
+            &self.worldview,
+            &mut self.agenda,
+            order,
+            budget,
+        )
     }
 
     /// What is known of a cell.
     pub fn belief(&self, cell: usize) -> Option<Info> {
         if cell < self.network.cells() {
-            Some(self.network.belief(cell))
+            Some(self.network.belief(cell, &self.worldview))
         } else {
             None
         }

@@ -7,9 +7,9 @@ use Rattle.prop_lattice.specs.declared.info.Info.{Info}
 use Rattle.prop_lattice.proofs.RankLemmas.{rank_falls}
 use Rattle.prop_procedures.specs.declared.shape.Kinded.{Kinded}
 use Rattle.prop_procedures.specs.Stored.{Stored, span_kind}
-use Rattle.prop_cells.specs.Problems.{Assignment, AreOfKinds, MergesAt}
+use Rattle.prop_cells.specs.Problems.{Premises, Assignment, AreOfKinds, MergesAt}
 use Rattle.prop_cells.specs.Instances.{Instance, readers_of, kind_at}
-use Rattle.prop_cells.specs.Data.{Data, Merges, beliefs, problem_of}
+use Rattle.prop_cells.specs.Data.{Data, Entry, Merges, beliefs, problem_of}
 use Rattle.prop_cells.proofs.Fixpoint.{merges_grow}
 use Rattle.prop_cells.proofs.Reading.{few_readers}
 use Rattle.prop_scheduler.specs.Potential.{rank_in, input_places, potential}
@@ -51,16 +51,16 @@ pub same_everywhere : (a b : Assignment) (cell : ℕ) (v : Info) → MergesAt a 
 same_everywhere a b cell v m e k = elim (eqb_tells k cell) [ inl h ↦ rw h.1 e | inr h ↦ m.others k h.1 ]
 
 -- The called instance no longer waits, and each reader that now waits is paid for by its places.
-pub turn_falls : (library : List Stored) (d : Data) (infos : List Info) (x : Instance) (v : Info) (grown : Bool) (line rest after : List ℕ) →
-    AreOfKinds d.kinds (beliefs d.infos) → AreOfKinds d.kinds (beliefs infos) → x.output < length d.kinds → Merges (beliefs d.infos) (beliefs infos) x.output v grown →
+pub turn_falls : (library : List Stored) (s : Premises) (d : Data) (contents : List (List Entry)) (x : Instance) (v : Info) (grown : Bool) (line rest after : List ℕ) →
+    AreOfKinds d.kinds (beliefs s d.contents) → AreOfKinds d.kinds (beliefs s contents) → x.output < length d.kinds → Merges (beliefs s d.contents) (beliefs s contents) x.output v grown →
     length rest + 1 ≡ length line → (grown ≡ false → length after ≤ length rest) → (grown ≡ true → length after ≤ length rest + length (readers_of d.instances x.output)) →
-    potential (problem_of library (record d { infos = infos })) (beliefs infos) after + 1 ≤ potential (problem_of library d) (beliefs d.infos) line
-turn_falls library d infos x v true line rest after ha hb within m one quiet few =
+    potential (problem_of library (record d { contents = contents })) (beliefs s contents) after + 1 ≤ potential (problem_of library d) (beliefs s d.contents) line
+turn_falls library s d contents x v true line rest after ha hb within m one quiet few =
     let f = few refl in
-    let r = ranks_fall d.kinds (beliefs d.infos) (beliefs infos) x.output v m.at within ha hb (m.changed refl) (input_places (problem_of library d)) in
+    let r = ranks_fall d.kinds (beliefs s d.contents) (beliefs s contents) x.output v m.at within ha hb (m.changed refl) (input_places (problem_of library d)) in
     let n = few_readers library x.output 0 d.instances in
     omega (arith, f, r, n, one)
-turn_falls library d infos x v false line rest after ha hb within m one quiet few =
+turn_falls library s d contents x v false line rest after ha hb within m one quiet few =
     let q = quiet refl in
-    let e = ranks_same d.kinds (beliefs d.infos) (beliefs infos) (same_everywhere (beliefs d.infos) (beliefs infos) x.output v m.at (m.unchanged refl)) (input_places (problem_of library d)) in
+    let e = ranks_same d.kinds (beliefs s d.contents) (beliefs s contents) (same_everywhere (beliefs s d.contents) (beliefs s contents) x.output v m.at (m.unchanged refl)) (input_places (problem_of library d)) in
     omega (arith, q, e, one)

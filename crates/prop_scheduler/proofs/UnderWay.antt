@@ -3,14 +3,19 @@ use Rattle.std.proofs.Common.{◌≡◌, ◌∙◌, ◌+◌, ◌<◌, ℕ, Bool,
 use Rattle.std.proofs.lemmas.List.Elements.{All-weaker, All-push, All-contains, Contains-append_left, Contains-push}
 use Rattle.std.proofs.lemmas.List.{length-append, map-append, length-map}
 use Rattle.std.proofs.lemmas.Option.{slice_get_within}
+use Rattle.prop_lattice.specs.declared.info.Info.{Info}
 use Rattle.prop_lattice.specs.declared.info.Info.TheVariants.{Nothing}
+use Rattle.prop_lattice.specs.OrderLaws.{info_laws}
+use Rattle.prop_premises.specs.Sets.{is_within}
+use Rattle.prop_tms.proofs.MergedLemmas.{join-bottom}
 use Rattle.prop_procedures.specs.declared.shape.Kinded.{Kinded}
 use Rattle.prop_procedures.specs.declared.shape.Param.{Param}
 use Rattle.prop_procedures.specs.Stored.{Stored}
 use Rattle.prop_cells.specs.declared.instance.Statement.{Statement}
-use Rattle.prop_cells.specs.Problems.{OthersMeet, Constraint, Meets, Assignment}
+use Rattle.prop_cells.specs.Problems.{Premises, OthersMeet, Constraint, Meets, Assignment, MergesAt}
 use Rattle.prop_cells.specs.Instances.{Instance, constraint_of, attached, readers_of}
-use Rattle.prop_cells.specs.Data.{Data, IsKept, Merges, beliefs, no_data}
+use Rattle.prop_cells.specs.Data.{Data, Entry, IsKept, States, beliefs, support_of, no_data}
+use Rattle.prop_cells.proofs.Adding.{adds_merges, adds_same}
 use Rattle.prop_cells.specs.Refusing.{attach_refusal}
 use Rattle.prop_cells.proofs.Lists.{slice_get-push_cases}
 use Rattle.prop_cells.proofs.Making.{beliefs-push}
@@ -23,8 +28,8 @@ use Rattle.prop_scheduler.proofs.Steps.{from_map, all_after_alerts}
 
 -- ---- nothing yet
 
-pub under_way_new : (library : List Stored) (d : Data) (line : List ℕ) → IsKept library d → d ≡ no_data → line ≡ [] → IsUnderWay library d line
-under_way_new library d line kept e f = record {
+pub under_way_new : (library : List Stored) (s : Premises) (d : Data) (line : List ℕ) → IsKept library d → d ≡ no_data → line ≡ [] → IsUnderWay library s d line
+under_way_new library s d line kept e f = record {
   kept = kept;
   line_below = rw f (λ k x l. absurd (omega (arith, l)));
   met = rw (e, f) (record { met = λ j c at idle. cc });
@@ -32,16 +37,16 @@ under_way_new library d line kept e f = record {
 
 -- ---- one more cell or parameter
 
-pub under_way_cell : (library : List Stored) (d new : Data) (line : List ℕ) (k : Kinded) → IsUnderWay library d line → IsKept library new →
-    new ≡ record d { kinds = d.kinds ++ k ∷ []; infos = d.infos ++ Nothing ∷ [] } → IsUnderWay library new line
-under_way_cell library d new line k u kept e = record {
+pub under_way_cell : (library : List Stored) (s : Premises) (d new : Data) (line : List ℕ) (k : Kinded) → IsUnderWay library s d line → IsKept library new →
+    new ≡ record d { kinds = d.kinds ++ k ∷ []; contents = d.contents ++ [] ∷ [] } → IsUnderWay library s new line
+under_way_cell library s d new line k u kept e = record {
   kept = kept;
   line_below = rw e u.line_below;
-  met = rw (e, beliefs-push d.infos) u.met;
+  met = rw (e, beliefs-push s d.contents) u.met;
 }
 
-pub under_way_param : (library : List Stored) (d new : Data) (line : List ℕ) (param : Param) → IsUnderWay library d line → IsKept library new → new ≡ record d { params = d.params ++ param ∷ [] } → IsUnderWay library new line
-under_way_param library d new line param u kept e = record { kept = kept; line_below = rw e u.line_below; met = rw e u.met }
+pub under_way_param : (library : List Stored) (s : Premises) (d new : Data) (line : List ℕ) (param : Param) → IsUnderWay library s d line → IsKept library new → new ≡ record d { params = d.params ++ param ∷ [] } → IsUnderWay library s new line
+under_way_param library s d new line param u kept e = record { kept = kept; line_below = rw e u.line_below; met = rw e u.met }
 
 -- ---- one more instance, which waits
 
@@ -67,9 +72,9 @@ alerted_below : (old new : List ℕ) (j n : ℕ) → Alerted old new j → j < n
 alerted_below old new j n (inl h) l all = rw h.1 all
 alerted_below old new j n (inr h) l all = rw h.1 (All-push (λ k. k < n) old j all l)
 
-pub under_way_attach : (library : List Stored) (d new : Data) (line line' : List ℕ) (n : ℕ) (param : Option ℕ) (ins : List ℕ) (out j : ℕ) → IsUnderWay library d line → IsKept library new → n < length library →
-    attach_refusal library d n param ins out ≡ None → new ≡ record d { instances = d.instances ++ attached library d.params n param ins out } → j ≡ length d.instances → Alerted line line' j → IsUnderWay library new line'
-under_way_attach library d new line line' n param ins out j u kept l fits e here alerted =
+pub under_way_attach : (library : List Stored) (s : Premises) (d new : Data) (line line' : List ℕ) (n : ℕ) (param : Option ℕ) (ins : List ℕ) (out j : ℕ) → IsUnderWay library s d line → IsKept library new → n < length library →
+    attach_refusal library d n param ins out ≡ None → new ≡ record d { instances = d.instances ++ attached library d.params n param ins out } → j ≡ length d.instances → Alerted line line' j → IsUnderWay library s new line'
+under_way_attach library s d new line line' n param ins out j u kept l fits e here alerted =
     let one = attached_one library n d param ins out l fits in
     let x = one.0 in
     let e' : new ≡ record d { instances = d.instances ++ x ∷ [] } = e ∙ (λ i. record d { instances = d.instances ++ one.1 i }) in
@@ -79,23 +84,40 @@ under_way_attach library d new line line' n param ins out j u kept l fits e here
       kept = kept;
       line_below = rw e' (alerted_below line line' j (length (d.instances ++ x ∷ [])) alerted (omega (arith, here, more))
           (All-weaker (λ k. k < length d.instances) (λ k. k < length (d.instances ++ x ∷ [])) (λ k h. omega (arith, h, more)) line u.line_below));
-      met = rw (e', map-append) (at_one (map (constraint_of library) d.instances) (constraint_of library x) line line' (beliefs d.infos) u.met (λ k c. alerted_kept line line' j k alerted c) (rw (← place) (alerted_here line line' j alerted)));
+      met = rw (e', map-append) (at_one (map (constraint_of library) d.instances) (constraint_of library x) line line' (beliefs s d.contents) u.met (λ k c. alerted_kept line line' j k alerted c) (rw (← place) (alerted_here line line' j alerted)));
     }
 
--- ---- one more statement: the readers of its cell wait, where the cell changed
+-- ---- one more statement: the readers of its cell wait, where what is believed of the cell changed
 
-merged_state : (library : List Stored) (d new : Data) (line line' : List ℕ) (s : Statement) (grown : Bool) → IsUnderWay library d line → IsKept library new →
-    new ≡ record d { statements = d.statements ++ s ∷ []; infos = new.infos } → Merges (beliefs d.infos) (beliefs new.infos) s.cell s.info grown →
-    ((k : ℕ) → Contains line k → Contains line' k) → All (λ k. k < length d.instances) line' →
-    (grown ≡ true → (j : ℕ) (y : Instance) → slice_get d.instances j ≡ Some y → Contains y.inputs s.cell → Contains line' j) → IsUnderWay library new line'
-merged_state library d new line line' s grown u kept e m keep below readers =
-    let same : new.instances ≡ d.instances = ap (λ n. n.instances) e in
+-- whatever its premise, something was merged into its cell
+states_merge : (s : Premises) (d new : Data) (x : Statement) → States d new x → (v : Info) × MergesAt (beliefs s d.contents) (beliefs s new.contents) x.cell v
+states_merge s d new x states = by (is_within s (support_of x.premise)) refl
+  where
+    e : Entry
+    e = record { value = x.info; support = support_of x.premise }
+
+    by : (b : Bool) → is_within s (support_of x.premise) ≡ b → (v : Info) × MergesAt (beliefs s d.contents) (beliefs s new.contents) x.cell v
+    by true on = (x.info, adds_merges d.contents new.contents x.cell e states.adds s on)
+    by false off = (
+      Nothing,
+      record {
+        merged = adds_same d.contents new.contents x.cell e states.adds s off x.cell ∙ sym (join-bottom info_laws (beliefs s d.contents x.cell));
+        others = λ c ne. adds_same d.contents new.contents x.cell e states.adds s off c;
+      },
+    )
+
+under_way_states : (library : List Stored) (s : Premises) (d new : Data) (line line' : List ℕ) (x : Statement) (grown : Bool) → IsUnderWay library s d line → IsKept library new → States d new x →
+    (grown ≡ false → beliefs s new.contents x.cell ≡ beliefs s d.contents x.cell) → ((k : ℕ) → Contains line k → Contains line' k) → All (λ k. k < length d.instances) line' →
+    (grown ≡ true → (j : ℕ) (y : Instance) → slice_get d.instances j ≡ Some y → Contains y.inputs x.cell → Contains line' j) → IsUnderWay library s new line'
+under_way_states library s d new line line' x grown u kept states same_belief keep below readers =
+    let same : new.instances ≡ d.instances = ap (λ n. n.instances) states.rest in
+    let merge = states_merge s d new x states in
     record {
       kept = kept;
       line_below = rw same below;
-      met = rw same (others_meet-step (map (constraint_of library) d.instances) line line' (beliefs d.infos) (beliefs new.infos) (length (map (constraint_of library) d.instances)) s.cell s.info grown
+      met = rw same (others_meet-step (map (constraint_of library) d.instances) line line' (beliefs s d.contents) (beliefs s new.contents) (length (map (constraint_of library) d.instances)) x.cell merge.0 grown
           (λ c at. absurd (omega (arith, slice_get_within (map (constraint_of library) d.instances) (length (map (constraint_of library) d.instances)) c at)))
-          m.at m.unchanged
+          merge.1 same_belief
           (record {
             kept = λ j c ne. keep j c;
             readers = λ g j c at_j reads. let y = from_map (constraint_of library) d.instances j c at_j in readers g j y.0 y.1 (rw y.2 at reads);
@@ -103,21 +125,36 @@ merged_state library d new line line' s grown u kept e m keep below readers =
           u.met);
     }
 
-pub under_way_same : (library : List Stored) (d new : Data) (line line' : List ℕ) (s : Statement) (grown : Bool) → IsUnderWay library d line → IsKept library new →
-    new ≡ record d { statements = d.statements ++ s ∷ []; infos = new.infos } → Merges (beliefs d.infos) (beliefs new.infos) s.cell s.info grown → line' ≡ line → grown ≡ false → IsUnderWay library new line'
-under_way_same library d new line line' s grown u kept e m same no_more =
-    merged_state library d new line line' s grown u kept e m (λ k c. rw same c) (rw same u.line_below) (λ g. let t : true ≡ false = sym g ∙ no_more in cc)
+pub under_way_same : (library : List Stored) (s : Premises) (d new : Data) (line : List ℕ) (x : Statement) → IsUnderWay library s d line → IsKept library new → States d new x →
+    beliefs s new.contents x.cell ≡ beliefs s d.contents x.cell → IsUnderWay library s new line
+under_way_same library s d new line x u kept states same =
+    under_way_states library s d new line line x false u kept states (λ f. same) (λ k c. c) u.line_below (λ g. let t : true ≡ false = sym g in cc)
 
-pub under_way_grown : (library : List Stored) (d new : Data) (line line' row : List ℕ) (s : Statement) (grown : Bool) → IsUnderWay library d line → IsKept library new →
-    new ≡ record d { statements = d.statements ++ s ∷ []; infos = new.infos } → Merges (beliefs d.infos) (beliefs new.infos) s.cell s.info grown → AllAlerted line line' row → row ≡ readers_of new.instances s.cell →
-    IsUnderWay library new line'
-under_way_grown library d new line line' row s grown u kept e m all is_row =
-    let same : new.instances ≡ d.instances = ap (λ n. n.instances) e in
-    let are = readers_are d.instances s.cell in
-    let row_is : row ≡ readers_of d.instances s.cell = is_row ∙ ap (λ xs. readers_of xs s.cell) same in
-    let alerted : AllAlerted line line' (readers_of d.instances s.cell) = rw row_is at all in
-    merged_state library d new line line' s grown u kept e m (λ k c. alerted.kept k c) (all_after_alerts (λ k. k < length d.instances) (readers_of d.instances s.cell) line line' are.below u.line_below alerted)
-    (λ g j y at_j reads. All-contains (Contains line') (readers_of d.instances s.cell) j alerted.alerted (are.covers j y at_j reads))
+pub under_way_grown : (library : List Stored) (s : Premises) (d new : Data) (line line' row : List ℕ) (x : Statement) → IsUnderWay library s d line → IsKept library new → States d new x →
+    AllAlerted line line' row → row ≡ readers_of new.instances x.cell → IsUnderWay library s new line'
+under_way_grown library s d new line line' row x u kept states all is_row =
+    let same : new.instances ≡ d.instances = ap (λ n. n.instances) states.rest in
+    let are = readers_are d.instances x.cell in
+    let row_is : row ≡ readers_of d.instances x.cell = is_row ∙ ap (λ xs. readers_of xs x.cell) same in
+    let alerted : AllAlerted line line' (readers_of d.instances x.cell) = rw row_is at all in
+    under_way_states library s d new line line' x true u kept states (λ f. let t : true ≡ false = f in cc) (λ k c. alerted.kept k c)
+    (all_after_alerts (λ k. k < length d.instances) (readers_of d.instances x.cell) line line' are.below u.line_below alerted)
+    (λ g j y at_j reads. All-contains (Contains line') (readers_of d.instances x.cell) j alerted.alerted (are.covers j y at_j reads))
+
+-- ---- another worldview
+
+-- where every instance waits, any worldview is under way
+pub under_way_all : (library : List Stored) (s : Premises) (d : Data) (line : List ℕ) → IsKept library d → All (λ j. j < length d.instances) line → ((j : ℕ) → j < length d.instances → Contains line j) →
+    IsUnderWay library s d line
+under_way_all library s d line kept below all = record {
+  kept = kept;
+  line_below = below;
+  met = record { met = λ j c at idle. let x = from_map (constraint_of library) d.instances j c at in absurd (idle (all j (slice_get_within d.instances j x.0 x.1))) };
+}
+
+-- where another worldview believes the same of every cell, it is as far
+pub under_way_believed : (library : List Stored) (s t : Premises) (d : Data) (line : List ℕ) → beliefs t d.contents ≡ beliefs s d.contents → IsUnderWay library s d line → IsUnderWay library t d line
+under_way_believed library s t d line same u = record { kept = u.kept; line_below = u.line_below; met = rw same u.met }
 
 -- an attachment adds one instance
 pub attached_more : (library : List Stored) (d new : Data) (n : ℕ) (param : Option ℕ) (ins : List ℕ) (out : ℕ) → n < length library → attach_refusal library d n param ins out ≡ None →

@@ -1,59 +1,101 @@
 -- What is answered when the network was run for a cell.
-use Rattle.std.proofs.Common.{◌≡◌, ◌∙◌, ℕ, ◌<◌, ◌≤◌, List, [], Option, Some, None, All, length, codes, ◌⊎◌, inl, inr, refl, sym, ap, subst}
+use Rattle.std.proofs.Common.{◌≡◌, ℕ, ◌<◌, ◌≤◌, List, Option, Some, None, All, length, ◌∙◌, Result, Ok, Err, IfOk, ◌⊎◌, inl, inr, refl, sym, subst}
+use Rattle.std.specs.List.Sorted.{IsStrictlyIncreasing}
 use Rattle.std.proofs.lemmas.Option.{slice_get-get_or}
 use Rattle.prop_lattice.specs.declared.info.Info.{Info}
 use Rattle.prop_lattice.specs.declared.refusal.Refusal.{Refusal}
+use Rattle.prop_premises.specs.Sets.{set_of, IsSame}
+use Rattle.prop_premises.specs.Origins.{Origin, believed_in}
 use Rattle.prop_procedures.specs.Stored.{Stored, span_kind}
-use Rattle.prop_cells.specs.Data.{Data, IsWellMade, beliefs}
+use Rattle.prop_cells.specs.Problems.{Problem, Premises}
+use Rattle.prop_cells.specs.Reach.{IsConflict, Explains}
+use Rattle.prop_cells.specs.Data.{Data, IsKept, IsWellMade, beliefs, problem_of}
 use Rattle.prop_cells.specs.Instances.{kind_at}
-use Rattle.prop_scheduler.specs.Turns.{IsUnderWay, IsSettled}
+use Rattle.prop_cells.proofs.Founding.{believed_entailed}
+use Rattle.prop_scheduler.specs.Turns.{IsSettled}
+use Rattle.prop_scheduler.specs.Ends.{IfClash}
+use Rattle.prop_scheduler.specs.declared.outcome.Run.{Run}
+use Rattle.prop_scheduler.specs.declared.outcome.Run.TheVariants.{Quiet, Clash, Spent}
 use Rattle.prop_compound.specs.Commands as commands
+use Rattle.prop_compound.specs.Commands.{Command}
 use Rattle.prop_workbench.specs.Answers.{Answer, Says, Text}
 use Rattle.prop_workbench.specs.Machine.{State}
 use Rattle.prop_workbench.specs.Names.{number_in}
 use Rattle.prop_workbench.specs.Refusing.{refusal_of}
-use Rattle.prop_workbench.specs.Running.{Outcome, Settled, Unsettled, MayEnd, Replies, IsValue, IsValueReply}
-use Rattle.prop_workbench.specs.Sessions.{state_from}
-use Rattle.prop_workbench.specs.Steps.{Obeys, CarriesUnless, LacksMemory, Runs}
-use Rattle.prop_workbench.specs.Texts.{equation}
+use Rattle.prop_workbench.specs.Running.{Outcome, Settled, Contradiction, outcome_of, MayEnd, Replies, Explained, IsValue, IsSettledValue, IsUnsettledValue, IsExplainedReply}
+use Rattle.prop_workbench.specs.Sessions.{state_from, AreKnown}
+use Rattle.prop_workbench.specs.Steps.{Obeys, Carries, CarriesUnless, Runs}
+use Rattle.prop_workbench.specs.Texts.{equation, because}
 use Rattle.prop_workbench.proofs.Lookups.{number_below}
+use Rattle.prop_workbench.proofs.PremiseLemmas.{support_known, same_set}
 
 -- a cell that is there is not refused
-asked : (library : List Stored) (s : State) (name : List ℕ) (cell : ℕ) → number_in s.names name ≡ Some cell → refusal_of library s (commands.Command.Ask name) ≡ None
+pub asked : (library : List Stored) (s : State) (name : List ℕ) (cell : ℕ) → number_in s.names name ≡ Some cell → refusal_of library s (commands.Command.Ask name) ≡ None
 asked library s name cell found = rw found refl
 
--- the run ended so, and the answer is the text for that or want of memory
-pub ran : (library : List Stored) (old new : State) (name : List ℕ) (cell : ℕ) (outcome : Outcome) (text : List ℕ) (answer : Answer) (steps : ℕ) → number_in old.names name ≡ Some cell → MayEnd library old outcome →
-    Replies library old (commands.Command.Ask name) outcome steps text → Says answer text → new ≡ old → steps ≤ old.limit → Obeys library old (commands.Command.Ask name) answer new steps
-ran library old new name cell outcome text answer steps found ends replies (inl e) same within =
-    inl (subst (λ (r : Option Refusal). CarriesUnless r library old (commands.Command.Ask name) answer new steps) (sym (asked library old name cell found))
-    (record { outcome = outcome; ends = ends; text = text; replies = replies; answer_is = e; same = same; within = within }))
-ran library old new name cell outcome text answer steps found ends replies (inr m) same within = inr (record { answer_is = m; same = same })
+pub asked_why : (library : List Stored) (s : State) (name : List ℕ) (cell : ℕ) → number_in s.names name ≡ Some cell → refusal_of library s (commands.Command.Why name) ≡ None
+asked_why library s name cell found = rw found refl
 
--- what is known of a cell of a network at rest is its settled value
-pub settled_reply : (library : List Stored) (names : List (List ℕ)) (d : Data) (limit cell : ℕ) (name : List ℕ) (v : Info) → number_in names name ≡ Some cell → IsSettled library d → v ≡ beliefs d.infos cell →
-    IsValueReply library (state_from names d limit) Settled name [] (equation name v [])
-settled_reply library names d limit cell name v found rest is_v = record {
-  cell = cell;
-  cell_is = found;
-  v = v;
-  value = record { solution = beliefs d.infos; rest = record { least = rest.least; free = rest.free }; value = is_v };
-  text_is = refl;
+-- the run ended so, and the answer is the text for that or want of memory
+pub ran : (library : List Stored) (old new : State) (command : Command) (outcome : Outcome) (text : List ℕ) (answer : Answer) (steps : ℕ) → (Runs library old command answer new steps → Carries library old command answer new steps) →
+    refusal_of library old command ≡ None → MayEnd library old outcome → Replies library old command outcome steps text → Says answer text → new ≡ old → steps ≤ old.limit → Obeys library old command answer new steps
+ran library old new command outcome text answer steps carries free ends replies (inl e) same within =
+    inl (subst (λ (r : Option Refusal). CarriesUnless r library old command answer new steps) (sym free)
+    (carries (record { outcome = outcome; ends = ends; text = text; replies = replies; answer_is = e; same = same; within = within })))
+ran library old new command outcome text answer steps carries free ends replies (inr m) same within = inr (record { answer_is = m; same = same })
+
+-- the same, where the answer explains a value
+pub ran_explained : (library : List Stored) (old new : State) (name : List ℕ) (cell : ℕ) (outcome : Outcome) (v : Info) (mark : List ℕ) (answer : Answer) (steps : ℕ) → number_in old.names name ≡ Some cell → MayEnd library old outcome →
+    IsValue library old outcome cell v → ((text : List ℕ) → IsExplainedReply library old outcome name mark text → Replies library old (commands.Command.Why name) outcome steps text) →
+    Explained library old cell v name mark answer → new ≡ old → steps ≤ old.limit → Obeys library old (commands.Command.Why name) answer new steps
+ran_explained library old new name cell outcome v mark answer steps found ends value replies (inl (ps, in_order, explains, e)) same within =
+    ran library old new (commands.Command.Why name) outcome (equation name v (because old.premises mark ps)) answer steps (λ r. r) (asked_why library old name cell found) ends
+    (replies (equation name v (because old.premises mark ps)) (record { cell = cell; cell_is = found; v = v; value = value; premises = ps; in_order = in_order; explains = explains; text_is = refl })) (inl e) same within
+ran_explained library old new name cell outcome v mark answer steps found ends value replies (inr m) same within = inr (record { answer_is = m; same = same })
+
+-- what is believed of a cell of a network at rest is its settled value
+pub settled_value : (library : List Stored) (names : List (List ℕ)) (premises : List Origin) (d : Data) (limit cell : ℕ) (v : Info) → IsSettled library (believed_in premises) d → v ≡ beliefs (believed_in premises) d.contents cell →
+    IsSettledValue library (state_from names premises d limit) cell v
+settled_value library names premises d limit cell v settled is_v = record {
+  solution = beliefs (believed_in premises) d.contents;
+  rest = record { least = settled.least; free = settled.free };
+  value = is_v;
 }
 
--- what is known of a cell at any time is entailed, and has all that is stated
-pub unsettled_reply : (library : List Stored) (names : List (List ℕ)) (d : Data) (limit cell : ℕ) (line : List ℕ) (name : List ℕ) (v : Info) → number_in names name ≡ Some cell → length names ≡ length d.kinds →
-    IsUnderWay library d line → IsWellMade d → v ≡ beliefs d.infos cell → IsValueReply library (state_from names d limit) Unsettled name (codes " unsettled") (equation name v (codes " unsettled"))
-unsettled_reply library names d limit cell line name v found named u made is_v =
+pub unsettled_value : (library : List Stored) (names : List (List ℕ)) (premises : List Origin) (d : Data) (limit cell : ℕ) (name : List ℕ) (v : Info) → number_in names name ≡ Some cell → length names ≡ length d.kinds →
+    IsKept library d → IsWellMade d → v ≡ beliefs (believed_in premises) d.contents cell → IsUnsettledValue library (state_from names premises d limit) cell v
+unsettled_value library names premises d limit cell name v found named kept made is_v =
     let l : cell < length d.kinds = rw (← named) (number_below names name cell found) in
     record {
-      cell = cell;
-      cell_is = found;
-      v = v;
-      value = record {
-        of_kind = rw is_v (made.of_kinds.of_kind cell (kind_at d.kinds cell) (slice_get-get_or d.kinds cell span_kind l));
-        entailed = rw is_v (u.kept.entailed cell);
-        stated = λ k s m here. rw (is_v, ← here) (made.stated k s m).1;
-      };
-      text_is = refl;
+      of_kind = rw is_v ((made.of_kinds (believed_in premises)).of_kind cell (kind_at d.kinds cell) (slice_get-get_or d.kinds cell span_kind l));
+      entailed = rw is_v (believed_entailed library d (believed_in premises) kept cell);
+      stated = λ k x m believed here. rw (is_v, ← here) ((made.stated k x m).below (believed_in premises) believed);
     }
+
+-- the premises of a conflict are known
+pub conflict_known : (problem : Problem) (believed : Premises) (n : ℕ) (ps : List ℕ) → AreKnown n problem.statements → IsConflict problem believed (set_of ps) → All (λ p. p < n) ps
+conflict_known problem believed n ps known conflict = support_known problem n conflict.cell ps known conflict.related
+
+-- the same state, where a run changed entries alone
+pub state_run : (names : List (List ℕ)) (premises : List Origin) (d new : Data) (limit : ℕ) → new ≡ record d { contents = new.contents } → state_from names premises new limit ≡ state_from names premises d limit
+state_run names premises d new limit rest = λ i. record { names = names; kinds = (rest i).kinds; premises = premises; statements = (rest i).statements; instances = (rest i).instances; limit = limit }
+
+-- how a run ended is how one may end
+pub may_end : {E : Type 0} (library : List Stored) (s : State) (names : List (List ℕ)) (premises : List Origin) (d : Data) (limit : ℕ) (w : Premises) → IsSame w (believed_in premises) → state_from names premises d limit ≡ s →
+    (r : Result (Run × ℕ) E) → IfOk r (λ x. x.0 ≡ Quiet → IsSettled library w d) → IfOk r (λ x. IfClash x.0 (λ p. IsConflict (problem_of library d) w (set_of p))) → IfOk r (λ x. MayEnd library s (outcome_of x.0))
+may_end library s names premises d limit w same e (Err x) quiet clash = tt
+may_end library s names premises d limit w same e (Ok (Quiet, n)) quiet clash =
+    let settled : IsSettled library (believed_in premises) d = rw (same_set w (believed_in premises) same) at (quiet refl) in
+    subst (λ (t : State). MayEnd library t Settled) e (beliefs (believed_in premises) d.contents, record { least = settled.least; free = settled.free })
+may_end library s names premises d limit w same e (Ok (Spent, n)) quiet clash = tt
+may_end library s names premises d limit w same e (Ok (Clash support, n)) quiet clash =
+    let conflict : IsConflict (problem_of library d) (believed_in premises) (set_of support) = rw (same_set w (believed_in premises) same) at clash in
+    subst (λ (t : State). MayEnd library t (Contradiction support)) e conflict
+
+-- what is answered explains
+pub explained_by : (library : List Stored) (names : List (List ℕ)) (premises : List Origin) (d : Data) (limit cell : ℕ) (v : Info) (name mark support text : List ℕ) (answer : Answer) → v ≡ beliefs (believed_in premises) d.contents cell →
+    IsStrictlyIncreasing support → Explains (problem_of library d) (believed_in premises) cell v (set_of support) → text ≡ because premises mark support → Says answer (equation name v text) →
+    Explained library (state_from names premises d limit) cell (beliefs (believed_in premises) d.contents cell) name mark answer
+explained_by library names premises d limit cell v name mark support text answer is_v in_order explains is_text (inl e) =
+    inl (support, in_order, rw is_v at explains, e ∙ (λ i. Text (equation name (is_v i) (is_text i))))
+explained_by library names premises d limit cell v name mark support text answer is_v in_order explains is_text (inr m) = inr m

@@ -38,7 +38,8 @@ heads e = cc
 
 keeps_no_comment : (w : List ℕ) (ts : List Token) → KeepsWords (Word (35 ∷ w) ∷ ts) → ⊥
 keeps_no_comment w ts (inl e) = let h : 35 ≡ 97 = heads e in omega (arith, h)
-keeps_no_comment w ts (inr p) = let h : 35 ≡ 102 = heads p.0 in omega (arith, h)
+keeps_no_comment w ts (inr (inl e, more)) = let h : 35 ≡ 102 = heads e in omega (arith, h)
+keeps_no_comment w ts (inr (inr e, more)) = let h : 35 ≡ 116 = heads e in omega (arith, h)
 
 heard_words : (text : List ℕ) → KeepsWords (tokens text) → is_silent text ≡ true → ⊥
 heard_words text keeps h = by (silent_tokens text h)

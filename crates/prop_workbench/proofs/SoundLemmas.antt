@@ -3,26 +3,22 @@ use Rattle.std.proofs.Common.{◌≡◌, ◌∙◌, ◌<◌, ℕ, Bool, true, fa
 use Rattle.std.proofs.lemmas.List.Elements.{All-weaker, All-push, All-contains, Contains-append_left, Contains-push}
 use Rattle.std.proofs.lemmas.List.{length-append, map-append, length-map}
 use Rattle.std.proofs.lemmas.Option.{slice_get_within}
-use Rattle.prop_lattice.specs.declared.info.Info.TheVariants.{Nothing}
 use Rattle.prop_procedures.specs.declared.shape.Kinded.{Kinded}
 use Rattle.prop_procedures.specs.Stored.{Stored}
-use Rattle.prop_cells.specs.declared.instance.Statement.{Statement}
-use Rattle.prop_cells.specs.Problems.{OthersMeet, Constraint, Meets, Assignment}
+use Rattle.prop_cells.specs.Problems.{Premises, OthersMeet, Constraint, Meets, Assignment}
 use Rattle.prop_cells.specs.Instances.{Instance, constraint_of}
-use Rattle.prop_cells.specs.Data.{Data, IsKept, Merges, AreReaders, beliefs}
+use Rattle.prop_cells.specs.Data.{Data, IsKept, beliefs}
 use Rattle.prop_cells.proofs.Lists.{slice_get-push_cases}
 use Rattle.prop_cells.proofs.Making.{beliefs-push}
-use Rattle.prop_cells.proofs.Fixpoint.{others_meet-step}
 use Rattle.prop_scheduler.specs.Agendas.{Alerted, AllAlerted}
 use Rattle.prop_scheduler.specs.Turns.{IsUnderWay}
-use Rattle.prop_scheduler.proofs.Steps.{from_map, all_after_alerts}
 
-pub under_way_cell : (library : List Stored) (d new : Data) (line : List ℕ) (k : Kinded) → IsUnderWay library d line → IsKept library new →
-    new ≡ record d { kinds = d.kinds ++ k ∷ []; infos = d.infos ++ Nothing ∷ [] } → IsUnderWay library new line
-under_way_cell library d new line k u kept e = record {
+pub under_way_cell : (library : List Stored) (s : Premises) (d new : Data) (line : List ℕ) (k : Kinded) → IsUnderWay library s d line → IsKept library new →
+    new ≡ record d { kinds = d.kinds ++ k ∷ []; contents = d.contents ++ [] ∷ [] } → IsUnderWay library s new line
+under_way_cell library s d new line k u kept e = record {
   kept = kept;
   line_below = rw e u.line_below;
-  met = rw (e, beliefs-push d.infos) u.met;
+  met = rw (e, beliefs-push s d.contents) u.met;
 }
 
 at_one : (constraints : List Constraint) (new : Constraint) (line line' : List ℕ) (a : Assignment) → OthersMeet constraints line a → ((k : ℕ) → Contains line k → Contains line' k) → Contains line' (length constraints) →
@@ -47,53 +43,21 @@ alerted_below : (old new : List ℕ) (j n : ℕ) → Alerted old new j → j < n
 alerted_below old new j n (inl h) l all = rw h.1 all
 alerted_below old new j n (inr h) l all = rw h.1 (All-push (λ k. k < n) old j all l)
 
--- a statement was merged: the readers wait, where the cell changed
-merged_state : (library : List Stored) (d new : Data) (line line' : List ℕ) (s : Statement) (grown : Bool) → IsUnderWay library d line → IsKept library new →
-    new ≡ record d { statements = d.statements ++ s ∷ []; infos = new.infos } → Merges (beliefs d.infos) (beliefs new.infos) s.cell s.info grown →
-    ((k : ℕ) → Contains line k → Contains line' k) → All (λ k. k < length d.instances) line' →
-    (grown ≡ true → (j : ℕ) (y : Instance) → slice_get d.instances j ≡ Some y → Contains y.inputs s.cell → Contains line' j) → IsUnderWay library new line'
-merged_state library d new line line' s grown u kept e m keep below readers =
-    let same : new.instances ≡ d.instances = ap (λ n. n.instances) e in
-    record {
-      kept = kept;
-      line_below = rw same below;
-      met = rw same (others_meet-step (map (constraint_of library) d.instances) line line' (beliefs d.infos) (beliefs new.infos) (length (map (constraint_of library) d.instances)) s.cell s.info grown
-          (λ c at. absurd (omega (arith, slice_get_within (map (constraint_of library) d.instances) (length (map (constraint_of library) d.instances)) c at)))
-          m.at m.unchanged
-          (record {
-            kept = λ j c ne. keep j c;
-            readers = λ g j c at_j reads. let y = from_map (constraint_of library) d.instances j c at_j in readers g j y.0 y.1 (rw y.2 at reads);
-          })
-          u.met);
-    }
+pub under_way_line : (library : List Stored) (s : Premises) (d new : Data) (line line' : List ℕ) → IsUnderWay library s d line → new ≡ d → line' ≡ line → IsUnderWay library s new line'
+under_way_line library s d new line line' u e f = rw (e, f) u
 
-pub under_way_same : (library : List Stored) (d new : Data) (line line' : List ℕ) (s : Statement) (grown : Bool) → IsUnderWay library d line → IsKept library new →
-    new ≡ record d { statements = d.statements ++ s ∷ []; infos = new.infos } → Merges (beliefs d.infos) (beliefs new.infos) s.cell s.info grown → line' ≡ line → grown ≡ false → IsUnderWay library new line'
-under_way_same library d new line line' s grown u kept e m same no_more =
-    merged_state library d new line line' s grown u kept e m (λ k c. rw same c) (rw same u.line_below) (λ g. let t : true ≡ false = sym g ∙ no_more in cc)
-
-pub under_way_grown : (library : List Stored) (d new : Data) (line mid line' row : List ℕ) (s : Statement) (grown : Bool) → IsUnderWay library d line → IsKept library new →
-    new ≡ record d { statements = d.statements ++ s ∷ []; infos = new.infos } → Merges (beliefs d.infos) (beliefs new.infos) s.cell s.info grown → mid ≡ line → AllAlerted mid line' row → AreReaders d.instances s.cell row →
-    IsUnderWay library new line'
-under_way_grown library d new line mid line' row s grown u kept e m same all are =
-    merged_state library d new line line' s grown u kept e m (λ k c. all.kept k (rw same c)) (all_after_alerts (λ k. k < length d.instances) row mid line' are.below (rw same u.line_below) all)
-    (λ g j y at_j reads. All-contains (Contains line') row j all.alerted (are.covers j y at_j reads))
-
-pub under_way_line : (library : List Stored) (d new : Data) (line line' : List ℕ) → IsUnderWay library d line → new ≡ d → line' ≡ line → IsUnderWay library new line'
-under_way_line library d new line line' u e f = rw (e, f) u
-
-pub under_way_attach : (library : List Stored) (d new : Data) (line line' : List ℕ) (x : Instance) (j : ℕ) → IsUnderWay library d line → IsKept library new →
-    new ≡ record d { instances = d.instances ++ x ∷ [] } → j ≡ length d.instances → Alerted line line' j → IsUnderWay library new line'
-under_way_attach library d new line line' x j u kept e here alerted =
+pub under_way_attach : (library : List Stored) (s : Premises) (d new : Data) (line line' : List ℕ) (x : Instance) (j : ℕ) → IsUnderWay library s d line → IsKept library new →
+    new ≡ record d { instances = d.instances ++ x ∷ [] } → j ≡ length d.instances → Alerted line line' j → IsUnderWay library s new line'
+under_way_attach library s d new line line' x j u kept e here alerted =
     let more = length-append d.instances (x ∷ []) in
     let place : j ≡ length (map (constraint_of library) d.instances) = here ∙ sym (length-map d.instances (constraint_of library)) in
     record {
       kept = kept;
       line_below = rw e (alerted_below line line' j (length (d.instances ++ x ∷ [])) alerted (omega (arith, here, more))
           (All-weaker (λ k. k < length d.instances) (λ k. k < length (d.instances ++ x ∷ [])) (λ k h. omega (arith, h, more)) line u.line_below));
-      met = rw (e, map-append) (at_one (map (constraint_of library) d.instances) (constraint_of library x) line line' (beliefs d.infos) u.met (λ k c. alerted_kept line line' j k alerted c) (rw (← place) (alerted_here line line' j alerted)));
+      met = rw (e, map-append) (at_one (map (constraint_of library) d.instances) (constraint_of library x) line line' (beliefs s d.contents) u.met (λ k c. alerted_kept line line' j k alerted c) (rw (← place) (alerted_here line line' j alerted)));
     }
 
 -- parameters bear on nothing that is under way
-pub under_way_params : (library : List Stored) (d new : Data) (line : List ℕ) → IsUnderWay library d line → IsKept library new → new ≡ record d { params = new.params } → IsUnderWay library new line
-under_way_params library d new line u kept e = record { kept = kept; line_below = rw e u.line_below; met = rw e u.met }
+pub under_way_params : (library : List Stored) (s : Premises) (d new : Data) (line : List ℕ) → IsUnderWay library s d line → IsKept library new → new ≡ record d { params = new.params } → IsUnderWay library s new line
+under_way_params library s d new line u kept e = record { kept = kept; line_below = rw e u.line_below; met = rw e u.met }

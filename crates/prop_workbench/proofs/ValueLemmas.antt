@@ -1,14 +1,16 @@
 -- What a value says at a cell, and why it is refused.
-use Rattle.std.proofs.Common.{◌≡◌, ◌∙◌, ℕ, ℤ, pos, neg_ℤ, ◌≤ℤ◌, ◌<◌, nat_le, length, Bool, true, false, cond, ◌&&◌, ◌||◌, List, [], ◌∷◌, Option, Some, None, Result, Ok, Err, is_none, ◌⊎◌, inl, inr, refl, sym, ap, arith}
+use Rattle.std.proofs.Common.{◌≡◌, ◌∙◌, ℕ, ℤ, pos, neg_ℤ, ◌≤ℤ◌, ◌<◌, nat_le, length, Bool, true, false, cond, ◌&&◌, ◌||◌, List, [], ◌∷◌, Option, Some, None, Result, Ok, Err, is_none, unwrap_or, ◌++◌, ◌⊎◌, inl, inr, refl, sym, ap, arith}
 use Rattle.std.specs.Prelude.{int_le, int_lt}
-use Rattle.std.specs.Option.{option_map_or, option_and_then}
+use Rattle.std.specs.Option.{option_map, option_map_or, option_and_then}
 use Rattle.std.proofs.lemmas.Int.{ints}
 use Rattle.prop_lattice.specs.declared.info.Info.{Info}
+use Rattle.prop_lattice.specs.declared.info.Info.TheVariants.{Nothing}
 use Rattle.prop_lattice.specs.declared.info.Kind.{Kind}
 use Rattle.prop_lattice.specs.declared.info.Kind.TheVariants as kinds
 use Rattle.prop_lattice.specs.declared.refusal.Refusal.{Refusal}
 use Rattle.prop_lattice.specs.declared.refusal.Refusal.TheVariants.{NotANumber, NoSuchCell, WrongKind, EmptyValue, LimitReached, Memory}
 use Rattle.prop_lattice.specs.Ends.{AreEnds, ends_or_not, span_if, span_from}
+use Rattle.prop_premises.specs.Origins.{Origin, premise_number, with_name}
 use Rattle.prop_procedures.specs.Stored.{Stored}
 use Rattle.prop_cells.specs.Instances.{kind_at}
 use Rattle.prop_cells.specs.Refusing.{may_be_stated, state_refusal}
@@ -23,8 +25,11 @@ use Rattle.prop_compound.specs.Values.{value_said, span_value, ends_value, bound
 use Rattle.prop_workbench.specs.Machine.{State}
 use Rattle.prop_workbench.specs.Sessions.{state_from}
 use Rattle.prop_workbench.specs.Names.{number_in}
-use Rattle.prop_workbench.specs.Refusing.{refusal_of, limit_refusal, first_of, when, value_at, is_error}
-use Rattle.prop_workbench.proofs.StepLemmas.{first_of-one}
+use Rattle.prop_workbench.specs.Refusing.{refusal_of, limit_refusal, telling_limit, first_of, when, value_at, is_error}
+use Rattle.prop_workbench.specs.Answers.{Done}
+use Rattle.prop_workbench.specs.Steps.{Obeys}
+use Rattle.prop_workbench.specs.Effects.{info_at, info_in, number_given}
+use Rattle.prop_workbench.proofs.StepLemmas.{first_of-one, obeys}
 
 -- ---- the refusals of values
 
@@ -106,7 +111,7 @@ value_may_be kinds.Symbol size value info h = cc
 -- the rows of the refusals that a statement can meet
 abbrev fix_rows : Option (Result Info Refusal) → Option ℕ → Option Refusal → Option Refusal
 fix_rows said cell limit =
-    first_of (when NotANumber (option_map_or (is_error NotANumber) said false) ∷ None ∷ None ∷ when NoSuchCell (is_none cell || false) ∷ None ∷ None ∷ when WrongKind (option_map_or (is_error WrongKind) said false || false)
+    first_of (when NotANumber (option_map_or (is_error NotANumber) said false) ∷ None ∷ None ∷ when NoSuchCell (is_none cell || false) ∷ None ∷ None ∷ None ∷ when WrongKind (option_map_or (is_error WrongKind) said false || false)
     ∷ None ∷ when EmptyValue (option_map_or (is_error EmptyValue) said false) ∷ limit ∷ [])
 
 by_rows : (library : List Stored) (s : State) (name : List ℕ) (value : Value) (cell : ℕ) → number_in s.names name ≡ Some cell →
@@ -117,6 +122,15 @@ error_rows : (e : Refusal) (cell : ℕ) (limit : Option Refusal) → IsValueRefu
 error_rows e cell limit (inl h) = rw h refl
 error_rows e cell limit (inr (inl h)) = rw h refl
 error_rows e cell limit (inr (inr h)) = rw h refl
+
+-- the statement that a command makes, by what its words say
+pub made_statement : (s : State) (name : List ℕ) (value : Value) (cell : ℕ) (info : Info) (premise : Option ℕ) → number_in s.names name ≡ Some cell → value_said (kind_at s.kinds cell).kind value ≡ Ok info →
+    record s { statements = s.statements ++ record { premise = premise; cell = cell; info = info } ∷ [] } ≡
+    record s { statements = s.statements ++ record { premise = premise; cell = unwrap_or (number_in s.names name) 0; info = info_at s name value } ∷ [] }
+made_statement s name value cell info premise found said =
+    let at : unwrap_or (number_in s.names name) 0 ≡ cell = ap (λ (o : Option ℕ). unwrap_or o 0) found in
+    let says : info_at s name value ≡ info = ap (λ (o : Option ℕ). option_map_or info_in (option_map (λ n. value_said (kind_at s.kinds n).kind value) o) Nothing) found ∙ ap info_in said in
+    λ i. record s { statements = s.statements ++ record { premise = premise; cell = sym at i; info = sym says i } ∷ [] }
 
 -- a value that is refused is refused first
 pub fix_refused : (library : List Stored) (s : State) (name : List ℕ) (value : Value) (cell : ℕ) (e : Refusal) → number_in s.names name ≡ Some cell → value_said (kind_at s.kinds cell).kind value ≡ Err e →
@@ -138,10 +152,67 @@ pub state_limited : (d : Data) (cell : ℕ) (info : Info) → cell < length d.ki
 state_limited d cell info l fits = rw (lt-leb (length d.kinds) cell l, fits) refl
 
 -- why the network stops a statement whose value fits is why the machine does
-pub fix_stopped : (library : List Stored) (names : List (List ℕ)) (d : Data) (limit : ℕ) (name : List ℕ) (value : Value) (cell : ℕ) (info : Info) (e : Refusal) → number_in names name ≡ Some cell → cell < length d.kinds →
-    value_said (kind_at d.kinds cell).kind value ≡ Ok info → (state_refusal d cell info ≡ Some e) ⊎ (e ≡ Memory) → (refusal_of library (state_from names d limit) (commands.Command.Fix name value) ≡ Some e) ⊎ (e ≡ Memory)
-fix_stopped library names d limit name value cell info e found l said (inl h) =
-    let s : State = state_from names d limit in
+pub fix_stopped : (library : List Stored) (names : List (List ℕ)) (premises : List Origin) (d : Data) (limit : ℕ) (name : List ℕ) (value : Value) (cell : ℕ) (info : Info) (e : Refusal) → number_in names name ≡ Some cell →
+    cell < length d.kinds → value_said (kind_at d.kinds cell).kind value ≡ Ok info → (state_refusal d cell info ≡ Some e) ⊎ (e ≡ Memory) →
+    (refusal_of library (state_from names premises d limit) (commands.Command.Fix name value) ≡ Some e) ⊎ (e ≡ Memory)
+fix_stopped library names premises d limit name value cell info e found l said (inl h) =
+    let s : State = state_from names premises d limit in
     let fits = value_may_be (kind_at d.kinds cell).kind (kind_at d.kinds cell).size value info said in
     inl (fix_limited library s name value cell info found said ∙ sym (state_limited d cell info l fits) ∙ h)
-fix_stopped library names d limit name value cell info e found l said (inr m) = inr m
+fix_stopped library names premises d limit name value cell info e found l said (inr m) = inr m
+
+-- what the network states is what the machine does
+pub fix_done : (library : List Stored) (names : List (List ℕ)) (premises : List Origin) (d : Data) (limit : ℕ) (new : State) (name : List ℕ) (value : Value) (cell : ℕ) (info : Info) → number_in names name ≡ Some cell →
+    cell < length d.kinds → value_said (kind_at d.kinds cell).kind value ≡ Ok info → state_refusal d cell info ≡ None →
+    new ≡ record (state_from names premises d limit) { statements = d.statements ++ record { premise = None; cell = cell; info = info } ∷ [] } →
+    Obeys library (state_from names premises d limit) (commands.Command.Fix name value) Done new 0
+fix_done library names premises d limit new name value cell info found l said fits e =
+    let s : State = state_from names premises d limit in
+    let may = value_may_be (kind_at d.kinds cell).kind (kind_at d.kinds cell).size value info said in
+    let free : refusal_of library s (commands.Command.Fix name value) ≡ None = fix_limited library s name value cell info found said ∙ sym (state_limited d cell info l may) ∙ fits in
+    obeys library s new (commands.Command.Fix name value) Done 0 free (record { answer_is = refl; new_is = e ∙ made_statement s name value cell info None found said; no_steps = refl })
+
+-- ---- the same under a premise
+
+tell_by_rows : (library : List Stored) (s : State) (premise name : List ℕ) (value : Value) (cell : ℕ) → number_in s.names name ≡ Some cell →
+    refusal_of library s (commands.Command.Tell premise name value) ≡ fix_rows (Some (value_said (kind_at s.kinds cell).kind value)) (Some cell) (telling_limit s premise)
+tell_by_rows library s premise name value cell found = rw found refl
+
+pub tell_refused : (library : List Stored) (s : State) (premise name : List ℕ) (value : Value) (cell : ℕ) (e : Refusal) → number_in s.names name ≡ Some cell → value_said (kind_at s.kinds cell).kind value ≡ Err e →
+    refusal_of library s (commands.Command.Tell premise name value) ≡ Some e
+tell_refused library s premise name value cell e found said =
+    tell_by_rows library s premise name value cell found ∙ ap (λ (r : Result Info Refusal). fix_rows (Some r) (Some cell) (telling_limit s premise)) said
+    ∙ error_rows e cell (telling_limit s premise) (value_refusal (kind_at s.kinds cell).kind value e said)
+
+pub tell_limited : (library : List Stored) (s : State) (premise name : List ℕ) (value : Value) (cell : ℕ) (info : Info) → number_in s.names name ≡ Some cell → value_said (kind_at s.kinds cell).kind value ≡ Ok info →
+    refusal_of library s (commands.Command.Tell premise name value) ≡ telling_limit s premise
+tell_limited library s premise name value cell info found said =
+    tell_by_rows library s premise name value cell found ∙ ap (λ (r : Result Info Refusal). fix_rows (Some r) (Some cell) (telling_limit s premise)) said ∙ first_of-one (telling_limit s premise)
+
+-- under a premise that there is, the limit of statements alone bears on it
+known_limit : (s : State) (premise : List ℕ) (p : ℕ) → premise_number s.premises premise ≡ Some p → telling_limit s premise ≡ when (LimitReached Statements) (nat_le (most Statements) (length s.statements))
+known_limit s premise p known = rw known (first_of-one (when (LimitReached Statements) (nat_le (most Statements) (length s.statements))))
+
+pub told_limit : (names : List (List ℕ)) (premises : List Origin) (d : Data) (limit : ℕ) (premise : List ℕ) (value : Value) (cell : ℕ) (info : Info) (p : ℕ) → premise_number premises premise ≡ Some p → cell < length d.kinds →
+    value_said (kind_at d.kinds cell).kind value ≡ Ok info → telling_limit (state_from names premises d limit) premise ≡ state_refusal d cell info
+told_limit names premises d limit premise value cell info p known l said =
+    let s : State = state_from names premises d limit in
+    known_limit s premise p known ∙ sym (state_limited d cell info l (value_may_be (kind_at d.kinds cell).kind (kind_at d.kinds cell).size value info said))
+
+-- what a session states under a premise is what the machine does
+pub tell_done : (library : List Stored) (s new : State) (premise name : List ℕ) (value : Value) (cell : ℕ) (info : Info) → number_in s.names name ≡ Some cell → value_said (kind_at s.kinds cell).kind value ≡ Ok info →
+    telling_limit s premise ≡ None → new ≡ record s { premises = with_name s.premises premise; statements = s.statements ++ record { premise = Some (number_given s.premises premise); cell = cell; info = info } ∷ [] } →
+    Obeys library s (commands.Command.Tell premise name value) Done new 0
+tell_done library s new premise name value cell info found said fits e =
+    let at : unwrap_or (number_in s.names name) 0 ≡ cell = ap (λ (o : Option ℕ). unwrap_or o 0) found in
+    let says : info_at s name value ≡ info = ap (λ (o : Option ℕ). option_map_or info_in (option_map (λ n. value_said (kind_at s.kinds n).kind value) o) Nothing) found ∙ ap info_in said in
+    obeys library s new (commands.Command.Tell premise name value) Done 0 (tell_limited library s premise name value cell info found said ∙ fits) (record {
+      answer_is = refl;
+      new_is = e ∙ (λ i. record s { premises = with_name s.premises premise; statements = s.statements ++ record { premise = Some (number_given s.premises premise); cell = sym at i; info = sym says i } ∷ [] });
+      no_steps = refl;
+    })
+
+pub tell_stopped : (library : List Stored) (s : State) (premise name : List ℕ) (value : Value) (cell : ℕ) (info : Info) (e : Refusal) → number_in s.names name ≡ Some cell → value_said (kind_at s.kinds cell).kind value ≡ Ok info →
+    (telling_limit s premise ≡ Some e) ⊎ (e ≡ Memory) → (refusal_of library s (commands.Command.Tell premise name value) ≡ Some e) ⊎ (e ≡ Memory)
+tell_stopped library s premise name value cell info e found said (inl h) = inl (tell_limited library s premise name value cell info found said ∙ h)
+tell_stopped library s premise name value cell info e found said (inr m) = inr m

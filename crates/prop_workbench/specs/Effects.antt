@@ -1,10 +1,11 @@
 -- What a command that isn't refused does to the state.
-use Rattle.std.specs.Prelude.{ℕ, List, [], ◌∷◌, ◌++◌, Option, None, Result, Ok, Err, slice_get, unwrap_or}
+use Rattle.std.specs.Prelude.{ℕ, List, [], ◌∷◌, ◌++◌, Option, Some, None, true, false, length, Result, Ok, Err, slice_get, unwrap_or}
 use Rattle.std.specs.Option.{option_map_or, option_and_then}
 use Rattle.prop_lattice.specs.declared.info.Info.{Info}
 use Rattle.prop_lattice.specs.declared.info.Info.TheVariants.{Nothing}
 use Rattle.prop_lattice.specs.declared.info.Kind.TheVariants as kinds
 use Rattle.prop_lattice.specs.declared.refusal.Refusal.{Refusal}
+use Rattle.prop_premises.specs.Origins.{Origin, premise_number, with_name, with_belief_at}
 use Rattle.prop_procedures.specs.declared.shape.Kinded.{Kinded}
 use Rattle.prop_procedures.specs.Stored.{Stored, procedure_number, span_kind}
 use Rattle.prop_compound.specs.Commands.{By, KindWord, Spans, Value, Command}
@@ -46,6 +47,10 @@ info_in (Err refusal) = Nothing
 abbrev pub info_at : State → List ℕ → Value → Info
 info_at s cell value = option_map_or info_in (value_at s cell value) Nothing
 
+-- the number of the premise with the name: the next one where the name is new
+abbrev pub number_given : List Origin → List ℕ → ℕ
+number_given premises name = unwrap_or (premise_number premises name) (length premises)
+
 -- the state after the command; a command that runs the network changes nothing here
 abbrev pub effect : List Stored → State → Command → State
 effect library s (Command.Cell name kind) = record s { names = s.names ++ name ∷ []; kinds = s.kinds ++ kind_named kind ∷ [] }
@@ -53,4 +58,10 @@ effect library s (Command.Attach name cells by) =
     record s { instances = s.instances ++ instance_made library (unwrap_or (procedure_number library name) 0) by (numbers_in s.names cells) ∷ [] }
 effect library s (Command.Fix cell value) =
     record s { statements = s.statements ++ record { premise = None; cell = unwrap_or (number_in s.names cell) 0; info = info_at s cell value } ∷ [] }
+effect library s (Command.Tell premise cell value) = record s {
+  premises = with_name s.premises premise;
+  statements = s.statements ++ record { premise = Some (number_given s.premises premise); cell = unwrap_or (number_in s.names cell) 0; info = info_at s cell value } ∷ [];
+}
+effect library s (Command.Kick premise) = record s { premises = with_belief_at s.premises (number_given s.premises premise) false }
+effect library s (Command.Bring premise) = record s { premises = with_belief_at s.premises (number_given s.premises premise) true }
 effect library s command = s

@@ -1,12 +1,13 @@
 -- For what a command is refused in a state: each condition by itself, and which of them comes first.
-use Rattle.std.specs.Prelude.{ℕ, List, [], ◌∷◌, Bool, true, false, cond, not, ◌+◌, ◌==◌, ◌||◌, nat_le, Option, Some, None, Result, Ok, Err, length, is_some, is_none, slice_get}
+use Rattle.std.specs.Prelude.{ℕ, List, [], ◌∷◌, Bool, true, false, cond, not, ◌+◌, ◌==◌, ◌||◌, ◌&&◌, nat_le, Option, Some, None, Result, Ok, Err, length, is_some, is_none, slice_get}
 use Rattle.std.specs.List.{list_any}
 use Rattle.std.specs.Option.{option_map, option_map_or, option_and_then}
 use Rattle.prop_lattice.specs.declared.info.Info.{Info}
-use Rattle.prop_lattice.specs.declared.refusal.Limit.TheVariants.{Cells, Instances, Statements}
+use Rattle.prop_lattice.specs.declared.refusal.Limit.TheVariants.{Cells, Instances, Premises, Statements}
 use Rattle.prop_lattice.specs.declared.refusal.Refusal.{Refusal}
-use Rattle.prop_lattice.specs.declared.refusal.Refusal.TheVariants.{NotANumber, NameTaken, NoSuchRelation, NoSuchCell, NoSuchProcedure, WrongCount, WrongKind, WrongParameter, EmptyValue, LimitReached}
+use Rattle.prop_lattice.specs.declared.refusal.Refusal.TheVariants.{NotANumber, NameTaken, NoSuchRelation, NoSuchCell, NoSuchPremise, NoSuchProcedure, WrongCount, WrongKind, WrongParameter, EmptyValue, LimitReached}
 use Rattle.prop_lattice.specs.Refusals.{number_of, most}
+use Rattle.prop_premises.specs.Origins.{premise_number}
 use Rattle.prop_procedures.specs.declared.shape.Param.{Param}
 use Rattle.prop_procedures.specs.declared.shape.Param.TheVariants as params
 use Rattle.prop_procedures.specs.Stored.{Stored, procedure_number, are_right}
@@ -27,6 +28,7 @@ is_error refusal (Err other) = number_of other == number_of refusal
 -- the command's value is refused so at its cell
 abbrev pub is_value_refused : State → Command → Refusal → Bool
 is_value_refused s (Command.Fix cell value) refusal = option_map_or (is_error refusal) (value_at s cell value) false
+is_value_refused s (Command.Tell premise cell value) refusal = option_map_or (is_error refusal) (value_at s cell value) false
 is_value_refused s command refusal = false
 
 -- the declared name exists in its space
@@ -49,8 +51,16 @@ is_relation_missing command = false
 abbrev pub cells_in : Command → List (List ℕ)
 cells_in (Command.Attach name cells by) = cells
 cells_in (Command.Fix cell value) = cell ∷ []
+cells_in (Command.Tell premise cell value) = cell ∷ []
 cells_in (Command.Ask cell) = cell ∷ []
+cells_in (Command.Why cell) = cell ∷ []
 cells_in command = []
+
+-- a belief is to change of a premise that there is not
+abbrev pub is_premise_missing : State → Command → Bool
+is_premise_missing s (Command.Kick premise) = is_none (premise_number s.premises premise)
+is_premise_missing s (Command.Bring premise) = is_none (premise_number s.premises premise)
+is_premise_missing s command = false
 
 -- the name of the procedure that is attached
 abbrev pub procedures_in : Command → List (List ℕ)
@@ -87,17 +97,27 @@ is_param_wrong library command = false
 abbrev pub when : Refusal → Bool → Option Refusal
 when refusal holds = cond holds (Some refusal) None
 
+abbrev pub first_of : List (Option Refusal) → Option Refusal
+first_of [] = None
+first_of (None ∷ rest) = first_of rest
+first_of (Some refusal ∷ rest) = Some refusal
+
+-- there are as many premises as there can be and the name is of a new one, or as many statements
+abbrev pub telling_limit : State → List ℕ → Option Refusal
+telling_limit s premise =
+    first_of (
+    when (LimitReached Premises) (is_none (premise_number s.premises premise) && nat_le (most Premises) (length s.premises))
+    ∷ when (LimitReached Statements) (nat_le (most Statements) (length s.statements))
+    ∷ []
+    )
+
 -- there are as many already as there can be of what the command makes one more of
 abbrev pub limit_refusal : State → Command → Option Refusal
 limit_refusal s (Command.Cell name kind) = when (LimitReached Cells) (nat_le (most Cells) (length s.kinds))
 limit_refusal s (Command.Attach name cells by) = when (LimitReached Instances) (nat_le (most Instances) (length s.instances))
 limit_refusal s (Command.Fix cell value) = when (LimitReached Statements) (nat_le (most Statements) (length s.statements))
+limit_refusal s (Command.Tell premise cell value) = telling_limit s premise
 limit_refusal s command = None
-
-abbrev pub first_of : List (Option Refusal) → Option Refusal
-first_of [] = None
-first_of (None ∷ rest) = first_of rest
-first_of (Some refusal ∷ rest) = Some refusal
 
 -- why an instance of the procedure on these cells, with what is given, is refused
 abbrev pub placing_refusal : Stored → State → By → List ℕ → Option Refusal
@@ -118,6 +138,7 @@ refusal_of library s command =
     ∷ when NameTaken (is_taken s command)
     ∷ when NoSuchRelation (is_relation_missing command)
     ∷ when NoSuchCell (list_any (λ name. is_none (number_in s.names name)) (cells_in command))
+    ∷ when NoSuchPremise (is_premise_missing s command)
     ∷ when NoSuchProcedure (list_any (λ name. is_none (procedure_number library name)) (procedures_in command))
     ∷ when WrongCount (is_count_wrong library command)
     ∷ when WrongKind (is_value_refused s command WrongKind || is_kind_wrong library s command)

@@ -144,6 +144,8 @@ impl<R: Rule + Drop, O: Order + Drop> Session<R, O> {
         ensures steps { steps_of self.new ≡ steps_of self.old }
         ensures line { self.new.agenda ≡ self.old.agenda }
         ensures names { self.new.names ≡ self.old.names }
+        ensures premises { self.new.premises ≡ self.old.premises }
+        ensures worldview { self.new.worldview ≡ self.old.worldview }
         ensures limit { self.new.limit ≡ self.old.limit }
         ensures cells { self.new.network.cells ≡ record self.old.network.cells { params = self.new.network.cells.params } }
         ensures param { IfOk result (λ param. (need : Need) → param_in need self.new.network.cells.params param ≡ fitting_param need (given_by (by_of by.entry))) }

@@ -2,4 +2,5 @@ mod devices;
 mod engine;
 mod faults;
 mod options;
+mod plain;
 mod sessions;

@@ -8,7 +8,7 @@ use std::test::Fail;
 /// A limit on steps, an input and what is written for it.
 type Case = (u64, &'static str, &'static str);
 
-const CASES: [Case; 12] = [
+const CASES: [Case; 16] = [
     (1000, "", ""),
     (1000, "# note\n\n  \n", ""),
     (
@@ -29,7 +29,7 @@ const CASES: [Case; 12] = [
     (
         1000,
         "cell x span\nattach adder x x x by 3\nattach adder x x x by r\nattach adder x n x\nfix x {}\nfix x 5..3\nbring p\n",
-        "ok\nerror 14: wrong parameter\nerror 19: no such relation\nerror 9: no such cell\nerror 13: wrong kind\nerror 18: empty value\nerror 3: unknown command\n",
+        "ok\nerror 14: wrong parameter\nerror 19: no such relation\nerror 9: no such cell\nerror 13: wrong kind\nerror 18: empty value\nerror 10: no such premise\n",
     ),
     (
         1000,
@@ -60,6 +60,26 @@ const CASES: [Case; 12] = [
         1000,
         "cell x span\ncell y span\nattach copier x y by 1\nattach squarer x y by 2\nattach divider x y y by 0\nattach divider x y y by 1000000001\nattach multiplier x x y by 1000000000\nfix x -3000000000\nask y\n",
         "ok\nok\nerror 14: wrong parameter\nerror 14: wrong parameter\nerror 6: not a number in range\nerror 6: not a number in range\nok\nok\ny = 9000000000\n",
+    ),
+    (
+        1000,
+        "cell x span\ncell y span\ncell z span\nattach adder x y z\ntell a x 3..5\ntell b y 10\nwhy z\ntell c z 14..20\nwhy z\nkick a\nask z\nask x\nbring a\nask z\nworldview\n",
+        "ok\nok\nok\nok\nok\nok\nz = 13..15 because a b\nok\nz = 14..15 because a b c\nok\nz = 14..20\nx = nothing\nok\nz = 14..15\nin: a b c\nout:\n",
+    ),
+    (
+        1000,
+        "cell x span\ntell p x 1\ntell q x 2\nask x\nkick q\nask x\nworldview\nkick r\n",
+        "ok\nok\nok\ncontradiction: p q\nok\nx = 1\nin: p\nout: q\nerror 10: no such premise\n",
+    ),
+    (
+        1000,
+        "cell x span\ntell p x 1..9\nkick p\ntell p x 2..8\nask x\nfix x 0..5\nwhy x\nbring p\nwhy x\nwhy y\ntell q y 1\ntell q x 1..\nkick q\ntell x x 3\nwhy x\nworldview\n",
+        "ok\nok\nok\nok\nx = nothing\nok\nx = 0..5 because no premise\nok\nx = 2..5 because p\nerror 9: no such cell\nerror 9: no such cell\nerror 6: not a number in range\nerror 10: no such premise\nok\nx = 3 because x\nin: p x\nout:\n",
+    ),
+    (
+        0,
+        "cell x span\ncell y span\ncell z span\nattach adder x y z\ntell a x 1\nwhy x\nwhy z\nworldview\nsettle\n",
+        "ok\nok\nok\nok\nok\nx = 1 unsettled because a\nz = nothing unsettled because no premise\nunsettled\nunsettled\n",
     ),
 ];
 

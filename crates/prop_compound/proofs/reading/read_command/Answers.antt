@@ -3,15 +3,20 @@ use Rattle.prop_compound.specs.Tokens.{Token, Word, tokens}
 use Rattle.prop_compound.specs.Said.{KeepsWords}
 use Rattle.prop_compound.specs.Parts.{KeepsWordsOf, word_of}
 use Rattle.prop_compound.specs.declared.reading.CommandWord.{CommandWord}
-use Rattle.prop_compound.specs.declared.reading.CommandWord.TheVariants.{Cell, Attach, Fix, Settle, Ask}
+use Rattle.prop_compound.specs.declared.reading.CommandWord.TheVariants.{Cell, Attach, Fix, Tell, Kick, Bring, Settle, Ask, Why, Worldview}
 use Rattle.prop_compound.proofs.reading.read_command.Goals as goal
 
 keeps : (command : CommandWord) (w : List ℕ) (ts : List Token) → w ≡ word_of command → KeepsWordsOf command ts → KeepsWords (Word w ∷ ts)
 keeps Cell w ts e h = absurd h
 keeps Attach w ts e h = inl e
-keeps Fix w ts e h = inr (e, h)
+keeps Fix w ts e h = inr (inl e, h)
+keeps Tell w ts e h = inr (inr e, h)
+keeps Kick w ts e h = absurd h
+keeps Bring w ts e h = absurd h
 keeps Settle w ts e h = absurd h
 keeps Ask w ts e h = absurd h
+keeps Why w ts e h = absurd h
+keeps Worldview w ts e h = absurd h
 
 pub returns-in-Some-clause-read : goal.returns-in-Some-clause-read
 returns-in-Some-clause-read c =

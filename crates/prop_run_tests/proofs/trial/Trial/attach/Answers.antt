@@ -1,4 +1,5 @@
 use Rattle.std.proofs.Common.{◌≡◌, ap, max, None, arith, ◌+◌}
+use Rattle.prop_premises.specs.Sets.{set_of}
 use Rattle.prop_procedures.specs.Kept.{stored_of}
 use Rattle.prop_scheduler.specs.Agendas.{Alerted}
 use Rattle.prop_scheduler.proofs.UnderWay.{under_way_attach, attached_more}
@@ -17,7 +18,7 @@ returns-in-Ok-attach g c =
     record {
       means = rw same c.requires.means;
       some = rw same c.requires.some;
-      under_way = rw same (under_way_attach library old.network.cells c.attach.new.self.cells old.agenda.line c.alert.new.self.line 0 None c.args.ins.now c.args.out c.instances-next.result c.requires.under_way
+      under_way = rw same (under_way_attach library (set_of old.worldview) old.network.cells c.attach.new.self.cells old.agenda.line c.alert.new.self.line 0 None c.args.ins.now c.args.out c.instances-next.result c.requires.under_way
           (rw same at c.attach.ensures.kept) c.requires.some c.in-Ok-attach.ensures.fits made c.instances-next.ensures.count alerted);
       room = omega (arith, more, room, c.alert.ensures.room, c.requires.room, c.instances-next.ensures.count);
     }

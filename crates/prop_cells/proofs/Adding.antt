@@ -1,0 +1,77 @@
+-- What an added entry changes, in each worldview.
+use Rattle.std.proofs.Common.{◌≡◌, ◌≢◌, ◌∙◌, ℕ, Bool, true, false, IsTrue, ◌&&◌, if◌then◌else◌, List, [], ◌∷◌, refl, sym, ap, Option, Some, None, inl, inr, slice_get}
+use Rattle.std.proofs.lemmas.Bool.Decides.{eqb_tells}
+use Rattle.std.proofs.lemmas.Option.{get_or_from_slice_get}
+use Rattle.prop_lattice.specs.declared.info.Info.{Info}
+use Rattle.prop_lattice.specs.declared.info.Info.TheVariants.{Nothing}
+use Rattle.prop_lattice.specs.Order.{Below, merge_of}
+use Rattle.prop_lattice.specs.OrderLaws.{info_laws}
+use Rattle.prop_lattice.specs.Rank.{IsOf}
+use Rattle.prop_premises.specs.Sets.{is_within}
+use Rattle.prop_tms.specs.Beliefs.{belief_of}
+use Rattle.prop_procedures.specs.declared.shape.Kinded.{Kinded}
+use Rattle.prop_procedures.specs.Stored.{span_kind}
+use Rattle.prop_cells.specs.Problems.{Premises, Assignment, AreOfKinds, MergesAt, is_member}
+use Rattle.prop_cells.specs.Instances.{kind_at}
+use Rattle.prop_cells.specs.Data.{Entry, AddsAt, Merges, beliefs, content_of, support_of}
+use Rattle.prop_cells.proofs.Fitted.{merge_of_kind}
+use Rattle.prop_cells.proofs.Fixpoint.{merges_grow}
+
+pub merged_of_kinds : (kinds : List Kinded) (a b : Assignment) (cell : ℕ) (v : Info) → IsOf (kind_at kinds cell).kind (kind_at kinds cell).size v → MergesAt a b cell v → AreOfKinds kinds a → AreOfKinds kinds b
+merged_of_kinds kinds a b cell v of_kind m h = record {
+  of_kind = λ c k e.
+      elim (eqb_tells c cell) as (λ _. IsOf k.kind k.size (b c)) [
+        | inl same ↦
+            (let at_cell : slice_get kinds cell ≡ Some k = rw same.1 at e in
+            let k_is : kind_at kinds cell ≡ k = get_or_from_slice_get kinds cell k span_kind at_cell in
+            let of_k : IsOf k.kind k.size v = rw k_is at of_kind in
+            let old : IsOf k.kind k.size (a cell) = h.of_kind cell k at_cell in
+            rw (same.1, m.merged) (merge_of_kind k.kind k.size (a cell) v old of_k))
+        | inr other ↦ rw (m.others c other.1) (h.of_kind c k e)
+      ];
+}
+
+module _ (old new : List (List Entry)) (cell : ℕ) (e : Entry) (a : AddsAt old new cell e) where
+  -- to one who believes its premises, its value was merged into the cell
+  pub adds_merges : (t : Premises) → is_within t e.support ≡ true → MergesAt (beliefs t old) (beliefs t new) cell e.value
+  adds_merges t on = record {
+    merged = a.adds.beliefs t ∙ ap (λ b. if b then merge_of (beliefs t old cell) e.value else beliefs t old cell) on;
+    others = λ c ne. ap (belief_of Nothing merge_of t) (a.others c ne);
+  }
+
+  -- and to others nothing changed
+  pub adds_same : (t : Premises) → is_within t e.support ≡ false → (c : ℕ) → beliefs t new c ≡ beliefs t old c
+  adds_same t off c =
+      elim (eqb_tells c cell) as (λ _. beliefs t new c ≡ beliefs t old c) [
+        | inl same ↦ rw same.1 (a.adds.beliefs t ∙ ap (λ b. if b then merge_of (beliefs t old cell) e.value else beliefs t old cell) off)
+        | inr other ↦ ap (belief_of Nothing merge_of t) (a.others c other.1)
+      ]
+
+  pub adds_grow : (t : Premises) (c : ℕ) → Below (beliefs t old c) (beliefs t new c)
+  adds_grow t c = by (is_within t e.support) refl
+    where
+      by : (b : Bool) → is_within t e.support ≡ b → Below (beliefs t old c) (beliefs t new c)
+      by true on = merges_grow (beliefs t old) (beliefs t new) cell e.value (adds_merges t on) c
+      by false off = rw (adds_same t off c) (info_laws.reflexive (beliefs t old c))
+
+  pub adds_of_kinds : (kinds : List Kinded) (t : Premises) → IsOf (kind_at kinds cell).kind (kind_at kinds cell).size e.value → AreOfKinds kinds (beliefs t old) → AreOfKinds kinds (beliefs t new)
+  adds_of_kinds kinds t of_kind h = by (is_within t e.support) refl
+    where
+      by : (b : Bool) → is_within t e.support ≡ b → AreOfKinds kinds (beliefs t new)
+      by true on = merged_of_kinds kinds (beliefs t old) (beliefs t new) cell e.value of_kind (adds_merges t on) h
+      by false off = record { of_kind = λ c k at. rw (adds_same t off c) (h.of_kind c k at) }
+
+-- whoever believes the premise of a statement believes its entry
+pub within_own : (t : Premises) (o : Option ℕ) → IsTrue (is_member t o) → is_within t (support_of o) ≡ true
+within_own t None m = refl
+within_own t (Some p) m = rw m refl
+
+-- what knows the value already stays as it is, and what does not changes
+pub merges_as : (old new : Assignment) (cell : ℕ) (v : Info) (grown : Bool) → MergesAt old new cell v → (grown ≡ false → Below v (old cell)) → (grown ≡ true → ¬ (Below v (old cell))) → Merges old new cell v grown
+merges_as old new cell v grown m known unknown = record {
+  at = m;
+  unchanged = λ f.
+      let least = info_laws.least_above (old cell) v in
+      m.merged ∙ info_laws.antisymmetric _ _ (least.least (old cell) (info_laws.reflexive _) (known f)) least.above_first;
+  changed = λ t same. unknown t (rw (sym m.merged ∙ same) at (info_laws.least_above (old cell) v).above_second);
+}

@@ -1,0 +1,117 @@
+//! The entries of cells, in one worldview.
+ghost use Rattle.std.specs.Prelude.{◌≡◌, ◌≢◌, ◌<◌, ℕ, List, [], length, map, All, IfOk, IfSome, OnOk, OnErr, None};
+ghost use Rattle.std.specs.List.{list_any};
+ghost use Rattle.prop_premises.specs.Sets.{set_of};
+ghost use Rattle.prop_cells.specs.Problems.{is_contradiction};
+ghost use Rattle.prop_cells.specs.Data.{beliefs, support_of, IsSupport, IsLeanAt, AddsAt};
+
+use prop_lattice::{Info, Partial};
+use prop_premises::{Premise, PremiseSet, Worldview};
+use prop_tms::{Supported, Tms};
+use std::alloc::{AllocError, Global};
+
+/// What is believed of a cell.
+pub(crate) fn belief_of(contents: &[Tms<Info>], cell: usize, worldview: &Worldview) -> Info
+    requires { cell < length contents.now }
+    ensures { result ≡ beliefs (set_of worldview.now) contents.now cell }
+{
+    contents[cell].believed_value(worldview)
+}
+
+/// What is believed of a cell, with a lean support.
+pub(crate) fn strongest_of(
+    contents: &[Tms<Info>],
+    cell: usize,
+    worldview: &Worldview,
+) -> Result<Supported<Info>, AllocError>
+    requires { cell < length contents.now }
+    ensures value { IfOk result (λ e. e.value ≡ beliefs (set_of worldview.now) contents.now cell) }
+    ensures lean { IfOk result (λ e. IsLeanAt (set_of worldview.now) contents.now cell e.support) }
+{
+    contents[cell].strongest(worldview)
+}
+
+/// The first cell that is believed to hold a contradiction.
+pub(crate) fn first_clash(contents: &[Tms<Info>], worldview: &Worldview) -> Option<usize>
+    ensures found { IfSome result (λ cell. (cell < length contents.now) × (beliefs (set_of worldview.now) contents.now cell ≡ Info.Contradiction)) }
+    ensures none { result ≡ None → (cell : ℕ) → beliefs (set_of worldview.now) contents.now cell ≢ Info.Contradiction }
+{
+    for cell in 0..contents.len() {
+        if belief_of(contents, cell, worldview).is_contradiction() {
+            return Some(cell);
+        }
+    }
+    None
+}
+
+/// Whether one of them is a contradiction.
+pub(crate) fn has_contradiction(infos: &[Info]) -> bool
+    ensures { result ≡ list_any is_contradiction infos.now }
+{
+    infos.iter().any(
+        |info| -> bool
+            ensures { result ≡ is_contradiction info.now }
+        { matches!(info, Info::Contradiction) },
+    )
+}
+
+/// What is believed of these cells.
+pub(crate) fn gather(
+    alloc: Global,
+    contents: &[Tms<Info>],
+    cells: &[usize],
+    worldview: &Worldview,
+) -> Result<Vec<Info>, AllocError>
+    requires { All (λ c. c < length contents.now) cells.now }
+    ensures { IfOk result (λ v. v.items ≡ map (beliefs (set_of worldview.now) contents.now) cells.now) }
+{
+    let mut args = Vec::new(alloc);
+    for c in cells {
+        args.push(belief_of(contents, *c, worldview))?;
+    }
+    Ok(args)
+}
+
+/// The premises of a lean support for each of these cells.
+pub(crate) fn supports(
+    alloc: Global,
+    contents: &[Tms<Info>],
+    cells: &[usize],
+    worldview: &Worldview,
+) -> Result<PremiseSet, AllocError>
+    requires { All (λ c. c < length contents.now) cells.now }
+    ensures { IfOk result (IsSupport (set_of worldview.now) contents.now cells.now) }
+{
+    let mut support = PremiseSet::empty(alloc);
+    for c in cells {
+        let entry = strongest_of(contents, *c, worldview)?;
+        support = support.union(&entry.support)?;
+    }
+    Ok(support)
+}
+
+/// The premise of a statement, or none.
+pub(crate) fn support_of(alloc: Global, premise: Option<Premise>) -> Result<PremiseSet, AllocError>
+    ensures { IfOk result (λ s. s ≡ support_of premise) }
+{
+    match premise {
+        None => Ok(PremiseSet::empty(alloc)),
+        Some(premise) => PremiseSet::single(alloc, premise),
+    }
+}
+
+/// Adds an entry to a cell.
+pub(crate) fn add_to(
+    contents: &mut Vec<Tms<Info>>,
+    cell: usize,
+    value: Info,
+    support: PremiseSet,
+) -> Result<(), AllocError>
+    requires { cell < length contents.old.items }
+    ensures ok { OnOk result (AddsAt contents.old.items contents.new.items cell (record { value = value; support = support })) }
+    ensures same_length { length contents.new.items ≡ length contents.old.items }
+    ensures err { OnErr result (contents.new.items ≡ contents.old.items) }
+{
+    contents[cell].add(value, support)?;
+    Ok(())
+}

@@ -1,0 +1,56 @@
+use Rattle.std.proofs.Common.{◌≡◌, ◌∙◌, ◌<◌, ℕ, Bool, true, false, not, All, Contains, ap, sym, length, arith, rules, ◌⊎◌, inl, inr}
+use Rattle.std.proofs.lemmas.List.Elements.{All-contains}
+use Rattle.prop_premises.specs.Origins.{believed_in, with_belief_at}
+use Rattle.prop_procedures.specs.Kept.{stored_of}
+use Rattle.prop_cells.proofs.Fixpoint.{All-from_contains}
+use Rattle.prop_scheduler.proofs.UnderWay.{under_way_all}
+use Rattle.prop_workbench.specs.Sessions.{state_from}
+use Rattle.prop_workbench.proofs.PremiseLemmas.{with_belief_same, with_belief_back, user_still, length-with_belief_at, beq_same, beq_other}
+use Rattle.prop_workbench.proofs.session.Session.believe.Goals as goal
+
+pub returns-then-is_in-believed-clause-ok : goal.returns-then-is_in-believed-clause-ok
+returns-then-is_in-believed-clause-ok g c =
+    let s = c.args.self.now in
+    let p = c.in_ok-premise.premise in
+    let is_so : believed_in s.premises p ≡ c.args.believed = sym c.is_in.ensures ∙ beq_same c.is_in.result c.args.believed c.if-is_in-believed.true in
+    (p, c.in_ok-premise.ensures.found, ap (λ premises. state_from s.names premises s.network.cells s.limit) (sym (with_belief_same s.premises p c.args.believed c.in_ok-premise.ensures.user is_so)))
+
+pub set_belief-requires-in-Err : goal.set_belief-requires-in-Err
+set_belief-requires-in-Err g c = rw c.set_belief.ensures (user_still c.args.self.now.premises c.in_ok-premise.premise c.args.believed c.in_ok-premise.ensures.user)
+
+pub returns-in-Ok-clause-sound : goal.returns-in-Ok-clause-sound
+returns-in-Ok-clause-sound g c =
+    let s = c.args.self.now in
+    let library = stored_of g.R.Rule.value_of s.network.library in
+    let n = length s.network.cells.instances in
+    let line = c.alert_first.new.self.line in
+    let first = c.alert_first.ensures.alerted in
+    let count = c.instances.ensures.count in
+    let same : length c.set_belief.new.premises ≡ length s.premises = ap length c.set_belief.ensures ∙ length-with_belief_at s.premises c.in_ok-premise.premise c.args.believed in
+    let below : (j : ℕ) → Contains line j → j < n = λ j k. elim (first.only j k) as (λ _. j < n) [ inl was ↦ All-contains (λ i. i < n) s.agenda.line j c.requires.sound.under_way.line_below was | inr l ↦ omega (arith, l, count) ] in
+    record {
+      under_way = under_way_all library (believed_in c.set_belief.new.premises) s.network.cells line c.requires.sound.under_way.kept (All-from_contains (λ j. j < n) line below) (λ j l. first.alerted j (omega (arith, l, count)));
+      worldview = c.in-Ok.ensures;
+      known = rw same c.requires.sound.known;
+      named = c.requires.sound.named;
+      roomy = rw c.alert_first.ensures.room c.requires.sound.roomy;
+    }
+
+pub returns-in-Err-clause-sound : goal.returns-in-Err-clause-sound
+returns-in-Err-clause-sound g c =
+    let s = c.args.self.now in
+    let p = c.in_ok-premise.premise in
+    let was : believed_in s.premises p ≡ not c.args.believed = sym c.is_in.ensures ∙ beq_other c.is_in.result c.args.believed c.if-is_in-believed.false in
+    let back : c.set_belief-in-Err.new.premises ≡ s.premises = c.set_belief-in-Err.ensures ∙ ap (λ ps. with_belief_at ps p (not c.args.believed)) c.set_belief.ensures
+    ∙ with_belief_back s.premises p c.args.believed (not c.args.believed) c.in_ok-premise.ensures.user was in
+    let sound = c.requires.sound in
+    record { under_way = rw back sound.under_way; worldview = rw back sound.worldview; known = rw back sound.known; named = sound.named; roomy = sound.roomy }
+
+pub returns-in-Err-clause-err_same : goal.returns-in-Err-clause-err_same
+returns-in-Err-clause-err_same g c =
+    let s = c.args.self.now in
+    let p = c.in_ok-premise.premise in
+    let was : believed_in s.premises p ≡ not c.args.believed = sym c.is_in.ensures ∙ beq_other c.is_in.result c.args.believed c.if-is_in-believed.false in
+    let back : c.set_belief-in-Err.new.premises ≡ s.premises = c.set_belief-in-Err.ensures ∙ ap (λ ps. with_belief_at ps p (not c.args.believed)) c.set_belief.ensures
+    ∙ with_belief_back s.premises p c.args.believed (not c.args.believed) c.in_ok-premise.ensures.user was in
+    ap (λ premises. state_from s.names premises s.network.cells s.limit) back

@@ -1,0 +1,24 @@
+use Rattle.std.proofs.Common.{◌≡◌, ◌∙◌, ap, sym, length, arith, rules}
+use Rattle.prop_premises.specs.Sets.{set_of}
+use Rattle.prop_premises.specs.Origins.{believed_in}
+use Rattle.prop_procedures.specs.Kept.{stored_of}
+use Rattle.prop_workbench.proofs.PremiseLemmas.{under_way_at, known_more}
+use Rattle.prop_workbench.proofs.session.Session.state.Goals as goal
+
+pub state_in-requires-clause-under_way : goal.state_in-requires-clause-under_way
+state_in-requires-clause-under_way g c =
+    let s = c.args.self.now in
+    under_way_at (stored_of g.R.Rule.value_of s.network.library) (believed_in s.premises) (set_of s.worldview) s.network.cells s.agenda.line (λ p. sym (c.requires.sound.worldview p)) c.requires.sound.under_way
+
+pub returns-clause-sound : goal.returns-clause-sound
+returns-clause-sound g c =
+    let s = c.args.self.now in
+    let n = length s.premises in
+    let rest = c.in_ok-state_in.ensures.ok.rest in
+    record {
+      under_way = under_way_at (stored_of g.R.Rule.value_of c.state_in.new.network.library) (set_of s.worldview) (believed_in s.premises) c.state_in.new.network.cells c.state_in.new.agenda.line c.requires.sound.worldview c.state_in.ensures.under_way;
+      worldview = c.requires.sound.worldview;
+      known = rw (ap (λ d. d.statements) rest) (known_more n n s.network.cells.statements _ (omega arith) c.requires.sound.known c.requires.known);
+      named = c.requires.sound.named ∙ sym (ap (λ d. length d.kinds) rest);
+      roomy = rw (c.state_in.ensures.room, ap (λ d. d.instances) rest) c.requires.sound.roomy;
+    }

@@ -1,0 +1,47 @@
+use Rattle.std.proofs.Common.{◌≡◌, ◌∙◌, ◌∷◌, [], ◌++◌, ◌+◌, ◌<◌, true, ap, sym, length, take, unwrap_or, arith, rules}
+use Rattle.std.proofs.lemmas.List.{length-append}
+use Rattle.prop_premises.specs.Sets.{set_of}
+use Rattle.prop_premises.specs.Origins.{User, believed_in}
+use Rattle.prop_procedures.specs.Kept.{stored_of}
+use Rattle.prop_workbench.proofs.PremiseLemmas.{under_way_at, under_way_new, with_new_name, known_more, back_to}
+use Rattle.prop_workbench.proofs.session.Session.state_under_new.Goals as goal
+
+pub state_in-requires-clause-under_way : goal.state_in-requires-clause-under_way
+state_in-requires-clause-under_way g c =
+    let s = c.args.self.now in
+    let library = stored_of g.R.Rule.value_of s.network.library in
+    let made : c.intern.new.self ≡ s.premises ++ User c.args.name.now true ∷ [] = c.in_ok-premise.ensures.ok ∙ with_new_name s.premises c.args.name.now c.requires.new in
+    under_way_at library (believed_in c.intern.new.self) (set_of c.in-Ok.worldview) s.network.cells s.agenda.line (λ p. sym (c.in-Ok.ensures p))
+    (rw made (under_way_new library s.network.cells s.agenda.line s.premises (User c.args.name.now true) c.requires.sound.known c.requires.sound.under_way))
+
+pub returns-in-Ok-state_in-clause-sound : goal.returns-in-Ok-state_in-clause-sound
+returns-in-Ok-state_in-clause-sound g c =
+    let s = c.args.self.now in
+    let made : c.intern.new.self ≡ s.premises ++ User c.args.name.now true ∷ [] = c.in_ok-premise.ensures.ok ∙ with_new_name s.premises c.args.name.now c.requires.new in
+    let more : length c.intern.new.self ≡ length s.premises + 1 = ap length made ∙ length-append s.premises (User c.args.name.now true ∷ []) in
+    let number : c.in_ok-premise.premise ≡ length s.premises = c.in_ok-premise.ensures.number ∙ ap (λ o. unwrap_or o (length s.premises)) c.requires.new in
+    let rest = c.in-Ok-state_in.ensures.ok.rest in
+    record {
+      under_way = under_way_at (stored_of g.R.Rule.value_of c.state_in.new.network.library) (set_of c.in-Ok.worldview) (believed_in c.intern.new.self) c.state_in.new.network.cells c.state_in.new.agenda.line c.in-Ok.ensures c.state_in.ensures.under_way;
+      worldview = c.in-Ok.ensures;
+      known = rw (ap (λ d. d.statements) rest) (known_more (length s.premises) (length c.intern.new.self) s.network.cells.statements _ (omega (arith, more)) c.requires.sound.known
+          (λ q e. let same : c.in_ok-premise.premise ≡ q = cc in omega (arith, same, more, number)));
+      named = c.requires.sound.named ∙ sym (ap (λ d. length d.kinds) rest);
+      roomy = rw (c.state_in.ensures.room, ap (λ d. d.instances) rest) c.requires.sound.roomy;
+    }
+
+pub returns-in-Err-state_in-clause-sound : goal.returns-in-Err-state_in-clause-sound
+returns-in-Err-state_in-clause-sound g c =
+    let s = c.args.self.now in
+    let sound = c.requires.sound in
+    let n = c.len-count.result in
+    let back : c.back-in-Err-state_in.new.self ≡ s.premises = c.back-in-Err-state_in.ensures ∙ ap (take n) c.in_ok-premise.ensures.ok ∙ back_to s.premises c.args.name.now n c.len-count.ensures.len c.requires.new in
+    let cells = c.in-Err-state_in.ensures.err_same in
+    let line = c.in-Err-state_in.ensures.err_line in
+    record {
+      under_way = rw (back, c.state_in.ensures.same, cells, line) sound.under_way;
+      worldview = rw back sound.worldview;
+      known = rw (back, cells) sound.known;
+      named = rw cells sound.named;
+      roomy = rw (cells, line) sound.roomy;
+    }

@@ -1,0 +1,36 @@
+use Rattle.std.proofs.Common.{◌≡◌, ◌<◌, ap, sym, length, arith, rules}
+use Rattle.std.proofs.lemmas.List.Elements.{All-weaker}
+use Rattle.prop_lattice.specs.Order.{Below}
+use Rattle.prop_lattice.specs.OrderLaws.{info_laws}
+use Rattle.prop_premises.specs.Sets.{set_of}
+use Rattle.prop_procedures.specs.Kept.{stored_of}
+use Rattle.prop_cells.specs.Instances.{readers_of}
+use Rattle.prop_cells.specs.Data.{IsKept, beliefs, support_of}
+use Rattle.prop_cells.proofs.Reading.{readers_are}
+use Rattle.prop_cells.proofs.Adding.{adds_grow}
+use Rattle.prop_scheduler.proofs.UnderWay.{under_way_same, under_way_grown}
+use Rattle.prop_workbench.proofs.stating.state_in.Goals as goal
+
+pub alert_all-requires : goal.alert_all-requires
+alert_all-requires g c =
+    let new = c.state_under.new.self.cells in
+    let same = ap (λ d. length d.instances) c.in_ok-state_under.ensures.ok.rest in
+    rw c.readers.ensures (All-weaker (λ j. j < length new.instances) (λ j. j < c.args.agenda.now.room) (λ j h. let r = c.requires.room in omega (arith, h, same, r)) (readers_of new.instances c.args.cell) (readers_are new.instances c.args.cell).below)
+
+pub returns-then-not-implies-clause-under_way : goal.returns-then-not-implies-clause-under_way
+returns-then-not-implies-clause-under_way g c =
+    let library = stored_of g.R.Rule.value_of c.args.network.now.library in
+    let new = c.state_under.new.self.cells in
+    let kept : IsKept library new = rw c.state_under.ensures.same at c.state_under.ensures.kept in
+    rw c.state_under.ensures.same (under_way_grown library (set_of c.args.worldview.now) c.args.network.now.cells new c.args.agenda.now.line c.alert_all.new.self.line c.readers.result.now _ c.requires.under_way kept c.in_ok-state_under.ensures.ok c.alert_all.ensures.alerted c.readers.ensures)
+
+pub returns-else-not-implies-clause-under_way : goal.returns-else-not-implies-clause-under_way
+returns-else-not-implies-clause-under_way g c =
+    let library = stored_of g.R.Rule.value_of c.args.network.now.library in
+    let s = set_of c.args.worldview.now in
+    let old = c.args.network.now.cells in
+    let new = c.state_under.new.self.cells in
+    let kept : IsKept library new = rw c.state_under.ensures.same at c.state_under.ensures.kept in
+    let less : Below (beliefs s new.contents c.args.cell) (beliefs s old.contents c.args.cell) = rw (c.belief-after.ensures, c.belief-before.ensures) at (c.implies.ensures.0 c.if-not-implies.false) in
+    let same = info_laws.antisymmetric (beliefs s new.contents c.args.cell) (beliefs s old.contents c.args.cell) less (adds_grow old.contents new.contents c.args.cell _ c.in_ok-state_under.ensures.ok.adds s c.args.cell) in
+    rw c.state_under.ensures.same (under_way_same library s old new c.args.agenda.now.line _ c.requires.under_way kept c.in_ok-state_under.ensures.ok same)
