@@ -27,7 +27,7 @@ use Rattle.prop_procedures.specs.Rules.{kind_of, ArePointsOf, EachHolds}
 use Rattle.prop_procedures.specs.Stored.{Stored, is_same, span_kind}
 use Rattle.prop_cells.specs.Problems.{Premises, AreOfKinds, Meets, IsSolution, is_contradiction}
 use Rattle.prop_cells.specs.Instances.{Instance, IsFitting, IsWithin, kind_at, constraint_of}
-use Rattle.prop_cells.specs.Points.{AreSoundBy, Attached, problem_of, ArePoints, EntailedHoldsPoints, PointsAreConsistent}
+use Rattle.prop_cells.specs.Points.{AreSoundBy, Attached, AreFitting, problem_of, ArePoints, EntailedHoldsPoints, PointsAreConsistent}
 use Rattle.prop_cells.proofs.Fitted.{and_both, same_kinded, any_at, is_call_at}
 
 -- ---- the information that holds one point
@@ -180,7 +180,7 @@ points_of any (s ∷ ss) out kinds points (c ∷ cs) o l e h k =
     let rest = points_of any ss out kinds points cs o (omega (arith, l)) both.1 (All-tail (IsPointAt kinds points) c cs h) k in
     ((subst P (same_kinded _ _ both.0) here, rest.0), rest.1)
 
-module _ (library : List Stored) (related : ℕ → Param → List Point → Point → Type 0) (sound : AreSoundBy library related) (n : Attached library) (s : Premises) (points : ℕ → Point) (p : ArePoints library n related s points) where
+module _ (library : List Stored) (related : ℕ → Param → List Point → Point → Type 0) (sound : AreSoundBy library related) (n : Attached) (s : Premises) (points : ℕ → Point) (fit : AreFitting library n) (p : ArePoints related n s points) where
   in_range : (c : ℕ) → c < length n.kinds → IsPointAt n.kinds points c
   in_range c l = p.of_kind c (kind_at n.kinds c) (slice_get-get_or n.kinds c span_kind l)
 
@@ -201,16 +201,16 @@ module _ (library : List Stored) (related : ℕ → Param → List Point → Poi
     kinds = singles_are_of_kinds;
     statements = λ k d l h. single_above _ _ (p.stated k d l h);
     instances = All-map (Meets (λ c. single (points c))) (constraint_of library) n.instances
-        (λ k d l. met (get_or n.instances k d) (n.fitting k d l) (n.within k d l) (p.together k d l));
+        (λ k d l. met (get_or n.instances k d) (fit.fitting k d l) (fit.within k d l) (p.together k d l));
   }
 
 pub entailed_holds : (library : List Stored) (related : ℕ → Param → List Point → Point → Type 0) → AreSoundBy library related → EntailedHoldsPoints library related
-entailed_holds library related sound n s points p cell v e =
-    single_holding v (points cell) (e.below (λ c. single (points c)) (solved library related sound n s points p))
+entailed_holds library related sound n s points fit p cell v e =
+    single_holding v (points cell) (e.below (λ c. single (points c)) (solved library related sound n s points fit p))
 
 pub points_consistent : (library : List Stored) (related : ℕ → Param → List Point → Point → Type 0) → AreSoundBy library related → PointsAreConsistent library related
-points_consistent library related sound n s points p = record {
+points_consistent library related sound n s points fit p = record {
   solution = λ c. single (points c);
-  solves = solved library related sound n s points p;
+  solves = solved library related sound n s points fit p;
   free = λ c. not_contradiction (single (points c)) (single_clear (points c));
 }

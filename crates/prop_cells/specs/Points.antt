@@ -16,18 +16,21 @@ AreSoundBy library related =
     (n : ℕ) (p : Stored) → slice_get library n ≡ Some p → IsSound p.value (related n) p.ins p.out p.need
 
 -- cells, what was stated of them and what is attached to them
-pub record Attached (library : List Stored) : Type 0 where
+pub record Attached : Type 0 where
   pub kinds : List Kinded
   pub statements : List Statement
   pub instances : List Instance
-  pub fitting : All (IsFitting library kinds) instances
-  pub within : All (IsWithin (length kinds)) instances
 
-abbrev pub problem_of : (library : List Stored) → Attached library → Problem
+abbrev pub problem_of : List Stored → Attached → Problem
 problem_of library n = record { cells = n.kinds; statements = n.statements; constraints = map (constraint_of library) n.instances }
 
+-- each instance is one of the library's procedures, on cells that are there and fit it
+pub record AreFitting (library : List Stored) (n : Attached) : Type 0 where
+  pub fitting : All (IsFitting library n.kinds) n.instances
+  pub within : All (IsWithin (length n.kinds)) n.instances
+
 -- a point for each cell, of its kind, that lies in each statement of the set; the points of each instance belong together
-pub record ArePoints (library : List Stored) (n : Attached library) (related : ℕ → Param → List Point → Point → Type 0) (s : Premises) (points : ℕ → Point) : Type 0 where
+pub record ArePoints (related : ℕ → Param → List Point → Point → Type 0) (n : Attached) (s : Premises) (points : ℕ → Point) : Type 0 where
   pub of_kind : (cell : ℕ) (k : Kinded) → slice_get n.kinds cell ≡ Some k → IsPointOf k.kind k.size (points cell)
   pub stated : All (λ x. IsTrue (is_member s x.premise) → Holds x.info (points x.cell)) n.statements
   pub together : All (λ x. related x.procedure x.param (map points x.inputs) (points x.output)) n.instances
@@ -35,9 +38,9 @@ pub record ArePoints (library : List Stored) (n : Attached library) (related : �
 -- what a set entails holds such points
 abbrev pub EntailedHoldsPoints : List Stored → (ℕ → Param → List Point → Point → Type 0) → Type 0
 EntailedHoldsPoints library related =
-    (n : Attached library) (s : Premises) (points : ℕ → Point) → ArePoints library n related s points → (cell : ℕ) (v : Info) → Entails (problem_of library n) s cell v → Holds v (points cell)
+    (n : Attached) (s : Premises) (points : ℕ → Point) → AreFitting library n → ArePoints related n s points → (cell : ℕ) (v : Info) → Entails (problem_of library n) s cell v → Holds v (points cell)
 
 -- a set that has such points is consistent
 abbrev pub PointsAreConsistent : List Stored → (ℕ → Param → List Point → Point → Type 0) → Type 0
 PointsAreConsistent library related =
-    (n : Attached library) (s : Premises) (points : ℕ → Point) → ArePoints library n related s points → IsConsistent (problem_of library n) s
+    (n : Attached) (s : Premises) (points : ℕ → Point) → AreFitting library n → ArePoints related n s points → IsConsistent (problem_of library n) s

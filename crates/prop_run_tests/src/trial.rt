@@ -27,8 +27,9 @@ pub struct Trial<R> {
 }
 
 impl<R: Rule + Drop> Trial<R> {
-    ghost use Rattle.std.specs.Prelude.{◌≡◌, ◌<◌, [], length};
-    ghost use Rattle.prop_cells.specs.Data.{no_data, IsKept};
+    ghost use Rattle.std.specs.Prelude.{◌≡◌, ◌<◌, ◌≤◌, [], length, IfSome, None};
+    ghost use Rattle.prop_premises.specs.Sets.{set_of};
+    ghost use Rattle.prop_cells.specs.Data.{no_data, beliefs, IsKept};
     ghost use Rattle.prop_procedures.specs.Kept.{AllMean, stored_of};
     ghost use Rattle.prop_run_tests.specs.Trials.{IsReady};
 
@@ -113,8 +114,11 @@ impl<R: Rule + Drop> Trial<R> {
         )
     }
 
-    /// What is known of a cell.
-    pub fn belief(&self, cell: usize) -> Option<Info> {
+    /// What is known of a cell; `None` where there is no cell of this number.
+    pub fn belief(&self, cell: usize) -> Option<Info>
+        ensures known { IfSome result (λ v. v ≡ beliefs (set_of self.now.worldview) self.now.network.cells.contents cell) }
+        ensures none { result ≡ None → length self.now.network.cells.kinds ≤ cell }
+    {
         if cell < self.network.cells() {
             Some(self.network.belief(cell, &self.worldview))
         } else {

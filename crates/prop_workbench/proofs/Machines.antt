@@ -1,15 +1,17 @@
 -- What the engine asks of a machine, and that the workbench has it.
-use Rattle.std.proofs.Common.{◌≡◌, ℕ, ◌≤◌, ◌<◌, List, length, take, refl, sym, ◌∙◌, ap, subst, inl, inr, arith}
+use Rattle.std.proofs.Common.{◌≡◌, ◌≢◌, ℕ, ◌≤◌, ◌<◌, List, length, take, refl, sym, ◌∙◌, ap, subst, inl, inr, arith}
 use Rattle.std.specs.Prelude.{Option, Some, None, Result, Ok, Err}
 use Rattle.std.proofs.lemmas.List.{length-take, take_all}
 use Rattle.std.proofs.lemmas.Bool.{cases_lt, lt-ltb}
 use Rattle.prop_lattice.specs.declared.refusal.Refusal.{Refusal}
 use Rattle.prop_lattice.specs.declared.refusal.Refusal.TheVariants.{LineTooLong, Memory}
+use Rattle.prop_lattice.specs.Points.{Point}
+use Rattle.prop_procedures.specs.declared.shape.Param.{Param}
 use Rattle.prop_procedures.specs.Stored.{Stored}
 use Rattle.prop_compound.specs.Commands.{Command}
 use Rattle.prop_compound.specs.Reading.{reading}
 use Rattle.prop_workbench.specs.Lines.{kept_of}
-use Rattle.prop_workbench.specs.Answers.{Answer, Silent, Refused}
+use Rattle.prop_workbench.specs.Answers.{Answer, Silent, Text, Refused}
 use Rattle.prop_workbench.specs.Machine.{State}
 use Rattle.prop_workbench.specs.Steps.{Follows}
 use Rattle.prop_workbench.specs.Transcripts.{Machine}
@@ -39,22 +41,28 @@ reading-kept_of line = elim (cases_lt 4097 (length line)) [
   | inr h ↦ ap reading ((front_of_line 4097 line).0 h)
 ]
 
-pub workbench_asks_by_front : (library : List Stored) → AsksByFront (workbench library)
-workbench_asks_by_front library old line answer new s = record {
+pub workbench_asks_by_front : (library : List Stored) (related : ℕ → Param → List Point → Point → Type 0) → AsksByFront (workbench library related)
+workbench_asks_by_front library related old line answer new s = record {
   steps = s.steps;
+  points = λ sound points command text p read e. s.points sound points command text p (reading-kept_of line ∙ read) e;
   step = subst (λ (read : Result (Option Command) Refusal). Follows library old read answer new s.steps) (reading-kept_of line) s.step;
 }
 
--- silence, or want of memory, leaves the state
-follows_somehow : (library : List Stored) (old : State) (read : Result (Option Command) Refusal) → (answer : Answer) × (steps : ℕ) × Follows library old read answer old steps
-follows_somehow library old (Ok None) = (Silent, 0, (refl, refl, refl))
-follows_somehow library old (Ok (Some command)) = (Refused Memory, 0, inr record { answer_is = refl; same = refl })
-follows_somehow library old (Err refusal) = (Refused Memory, 0, inr record { answer_is = refl; same = refl })
+-- silence, or want of memory, leaves the state and says no value
+pub record SaysNothing (library : List Stored) (old : State) (read : Result (Option Command) Refusal) (answer : Answer) : Type 0 where
+  pub steps : ℕ
+  pub follows : Follows library old read answer old steps
+  pub no_text : (text : List ℕ) → answer ≢ Text text
 
-pub workbench_is_total : (library : List Stored) → IsTotal (workbench library)
-workbench_is_total library old line =
+follows_somehow : (library : List Stored) (old : State) (read : Result (Option Command) Refusal) → (answer : Answer) × SaysNothing library old read answer
+follows_somehow library old (Ok None) = (Silent, record { steps = 0; follows = (refl, refl, refl); no_text = λ text e. cc })
+follows_somehow library old (Ok (Some command)) = (Refused Memory, record { steps = 0; follows = inr record { answer_is = refl; same = refl }; no_text = λ text e. cc })
+follows_somehow library old (Err refusal) = (Refused Memory, record { steps = 0; follows = inr record { answer_is = refl; same = refl }; no_text = λ text e. cc })
+
+pub workbench_is_total : (library : List Stored) (related : ℕ → Param → List Point → Point → Type 0) → IsTotal (workbench library related)
+workbench_is_total library related old line =
     let somehow = follows_somehow library old (reading line) in
-    (somehow.0, record { steps = somehow.1; step = somehow.2 })
+    (somehow.0, record { steps = somehow.1.steps; step = somehow.1.follows; points = λ sound points command text p read e. absurd (somehow.1.no_text text e) })
 
 -- what a machine over one of two equal things may do, that over the other may
 pub same_step : {A S : Type 0} (machine : A → Machine S) (a b : A) → b ≡ a → (old : S) (line : List ℕ) (answer : Answer) (new : S) → machine b old line answer new → machine a old line answer new

@@ -4,6 +4,8 @@ use Rattle.std.specs.Io.KnownBytes.{IsAtEnd, Appends}
 use Rattle.prop_lattice.specs.declared.info.Info.{Info}
 use Rattle.prop_procedures.specs.declared.shape.Param.{Param}
 use Rattle.prop_procedures.specs.Stored.{Stored}
+use Rattle.prop_lattice.specs.Points.{Point}
+use Rattle.prop_cells.specs.Points.{AreSoundBy}
 use Rattle.prop_workbench.specs.declared.session.Session.{Session}
 use Rattle.prop_workbench.specs.declared.outcome.EngineFault.{EngineFault}
 use Rattle.prop_workbench.specs.declared.outcome.EngineFault.TheVariants as faults
@@ -11,21 +13,24 @@ use Rattle.prop_workbench.specs.declared.outcome.Counts.{Counts}
 use Rattle.prop_workbench.specs.Answers.{Answer}
 use Rattle.prop_workbench.specs.Machine.{State}
 use Rattle.prop_workbench.specs.Steps.{Step}
-use Rattle.prop_workbench.specs.Sessions.{library_of}
+use Rattle.prop_workbench.specs.Points.{HoldsPoints}
+use Rattle.prop_workbench.specs.Sessions.{library_of, related_in}
 use Rattle.prop_workbench.specs.Transcripts.{Machine, IsTranscript, IsFrontOfTranscript, WriteStopped, ReadStopped}
 
--- the line may be given this answer, after some number of steps
-pub record Gives (library : List Stored) (old : State) (line : List ℕ) (answer : Answer) (new : State) : Type 0 where
+-- the line may be given this answer, after some number of steps; where the procedures' answers hold the points that belong
+-- together, points that satisfy all that is believed bear it out
+pub record Gives (library : List Stored) (related : ℕ → Param → List Point → Point → Type 0) (old : State) (line : List ℕ) (answer : Answer) (new : State) : Type 0 where
   pub steps : ℕ
   pub step : Step library old line answer new steps
+  pub points : AreSoundBy library related → HoldsPoints related old line answer
 
--- the workbench over a library of procedures, as a machine
-abbrev pub workbench : List Stored → Machine State
-workbench library = Gives library
+-- the workbench over a library of procedures and the points that belong together at each, as a machine
+abbrev pub workbench : List Stored → (ℕ → Param → List Point → Point → Type 0) → Machine State
+workbench library related = Gives library related
 
 -- the machine that a session is
-abbrev pub machine_of : {R O : Type 0} {X : Type 0} {F : X → Type 0} {g : _} → (R → Param → List Info → Info) → Session R O X F g → Machine State
-machine_of value s = workbench (library_of value s)
+abbrev pub machine_of : {R O : Type 0} {X : Type 0} {F : X → Type 0} {g : _} → (R → Param → List Info → Info) → (R → Param → List Point → Point → Type 0) → Session R O X F g → Machine State
+machine_of value related s = workbench (library_of value s) (related_in related s)
 
 -- more may be what a reader with these bytes left, where they are known, still gives: nothing where it told the end
 abbrev pub MayFollow : Option (List ℕ) → Bool → List ℕ → Type 0

@@ -10,12 +10,14 @@ use prop_scheduler::{Order, Run, run};
 use std::alloc::AllocError;
 
 impl<R: Rule + Drop, O: Order + Drop> Session<R, O> {
-    ghost use Rattle.std.specs.Prelude.{◌≡◌, ◌≤◌, ◌<◌, IfOk, length};
+    ghost use Rattle.std.specs.Prelude.{◌≡◌, ◌≤◌, ◌<◌, ℕ, List, IfOk, length};
     ghost use Rattle.prop_premises.specs.Origins.{believed_in};
-    ghost use Rattle.prop_cells.specs.Data.{beliefs};
+    ghost use Rattle.prop_cells.specs.Data.{beliefs, IsClash};
+    ghost use Rattle.prop_scheduler.specs.Ends.{IfClash};
     ghost use Rattle.prop_scheduler.specs.Turns.{IsSettled};
     ghost use Rattle.prop_compound.specs.Commands as commands;
-    ghost use Rattle.prop_workbench.specs.Answers.{answer_of};
+    ghost use Rattle.prop_workbench.specs.Answers.{answer_of, Text};
+    ghost use Rattle.prop_workbench.specs.Reasons.{IsLeanExplanation, IsLeanReply};
     ghost use Rattle.prop_workbench.specs.Running.{Outcome, outcome_of, MayEnd, Explained};
     ghost use Rattle.prop_workbench.specs.Sessions.{state_of, steps_of, library_of, IsSound, IsMeant};
     ghost use Rattle.prop_workbench.specs.Steps.{Obeys};
@@ -32,6 +34,7 @@ impl<R: Rule + Drop, O: Order + Drop> Session<R, O> {
         ensures worldview { self.new.worldview ≡ self.old.worldview }
         ensures state { state_of self.new ≡ state_of self.old }
         ensures ends { IfOk result (λ r. MayEnd (library_of R.value_of self.old) (state_of self.old) (outcome_of r.0)) }
+        ensures clash { IfOk result (λ r. IfClash r.0 (IsClash (believed_in self.old.premises) self.new.network.cells)) }
         ensures settled { IfOk result (λ r. r.0 ≡ Run.Quiet → IsSettled (library_of R.value_of self.old) (believed_in self.old.premises) self.new.network.cells) }
         ensures within { IfOk result (λ r. r.1 ≤ (state_of self.old).limit) }
         ensures spent { IfOk result (λ r. r.0 ≡ Run.Spent → r.1 ≡ (state_of self.old).limit) }
@@ -106,6 +109,7 @@ impl<R: Rule + Drop, O: Order + Drop> Session<R, O> {
         ensures sound { IsSound R.value_of self.new }
         ensures steps { steps_of self.new ≡ steps_of self.old }
         ensures step { Obeys (library_of R.value_of self.old) (state_of self.old) (commands.Command.Why name.now) (answer_of result.0) (state_of self.new) result.1 }
+        ensures lean { (text : List ℕ) → answer_of result.0 ≡ Text text → IsLeanReply self.new.network.cells (state_of self.old) name.now text }
     {
         let cell = match self.names.find(name) {
             Some(cell) => cell,
@@ -130,7 +134,8 @@ impl<R: Rule + Drop, O: Order + Drop> Session<R, O> {
     fn explained(&self, cell: usize, name: &str, mark: &str) -> Reply
         requires sound { IsSound R.value_of self.now }
         requires cell { cell < length self.now.network.cells.kinds }
-        ensures { Explained (library_of R.value_of self.now) (state_of self.now) cell (beliefs (believed_in self.now.premises) self.now.network.cells.contents cell) name.now mark.now (answer_of result) }
+        ensures explained { Explained (library_of R.value_of self.now) (state_of self.now) cell (beliefs (believed_in self.now.premises) self.now.network.cells.contents cell) name.now mark.now (answer_of result) }
+        ensures lean { (text : List ℕ) → answer_of result ≡ Text text → IsLeanExplanation self.now.network.cells (state_of self.now) cell name.now mark.now text }
     {
         let why = match self.network.explanation(cell, &self.worldview) {
             Ok(why) => why,

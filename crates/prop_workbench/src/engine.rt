@@ -32,7 +32,7 @@ impl<R: Rule + Drop, O: Order + Drop> Session<R, O> {
         requires refused { counts.old.refused < 2 ^ 127 }
         ensures same { self.new.network.library ≡ self.old.network.library }
         ensures sound { IsSound R.value_of self.new }
-        ensures step { (answer : Answer) × machine_of R.value_of self.old (state_of self.old) line.now answer (state_of self.new) × MatchResult result
+        ensures step { (answer : Answer) × machine_of R.value_of R.related self.old (state_of self.old) line.now answer (state_of self.new) × MatchResult result
             (λ _. Appends (W.contents (device writer.old)) (W.contents (device writer.new)) (text_written answer) × CountsAnswer counts.old counts.new answer)
             (λ _. AppendsFront (W.contents (device writer.old)) (W.contents (device writer.new)) (text_written answer)) }
         ensures fault { IfErr result (λ e. (e ≡ EngineFault.Write) × IsFaulty writer.new) }
@@ -62,9 +62,9 @@ impl<R: Rule + Drop, O: Order + Drop> Session<R, O> {
         ensures same { self.new.network.library ≡ self.old.network.library }
         ensures sound { IsSound R.value_of self.new }
         ensures ok { OnOk result ((output : List ℕ) × Appends (W.contents (device writer.old)) (W.contents (device writer.new)) output
-            × Advances (machine_of R.value_of self.old) (state_of self.old) pending.old counts.old piece.now output (state_of self.new) pending.new counts.new) }
+            × Advances (machine_of R.value_of R.related self.old) (state_of self.old) pending.old counts.old piece.now output (state_of self.new) pending.new counts.new) }
         ensures err { OnErr result ((output : List ℕ) × Appends (W.contents (device writer.old)) (W.contents (device writer.new)) output
-            × Stops (machine_of R.value_of self.old) (state_of self.old) pending.old counts.old piece.now output (state_of self.new)) }
+            × Stops (machine_of R.value_of R.related self.old) (state_of self.old) pending.old counts.old piece.now output (state_of self.new)) }
         ensures bounded { OnOk result (GrowsAtMost counts.old counts.new (length piece.now)) }
         ensures fault { IfErr result (λ e. (e ≡ EngineFault.Write) × IsFaulty writer.new) }
         ensures fresh { OnOk result (IsFresh writer.old → IsFresh writer.new) }
@@ -97,16 +97,16 @@ impl<R: Rule + Drop, O: Order + Drop> Session<R, O> {
         ensures sound { IsSound R.value_of self.new }
 
         // What was written is a transcript of all that the reader had left.
-        ensures transcript { IfOk result (λ counts. WritesTranscript (machine_of R.value_of self.old) (Rd.remaining (device reader.old))
+        ensures transcript { IfOk result (λ counts. WritesTranscript (machine_of R.value_of R.related self.old) (Rd.remaining (device reader.old))
             (W.contents (device writer.old)) (W.contents (device writer.new)) counts (state_of self.old) (state_of self.new)) }
         // At a fault it is the front of an allowed one.
-        ensures front { OnErr result (WritesFront (machine_of R.value_of self.old) (Rd.remaining (device reader.old))
+        ensures front { OnErr result (WritesFront (machine_of R.value_of R.related self.old) (Rd.remaining (device reader.old))
             (W.contents (device writer.old)) (W.contents (device writer.new)) (state_of self.old)) }
         // Which lines were carried out, by what the reads gave.
         ensures told { (input : List ℕ) × (output : List ℕ)
             × Consumes (Rd.remaining (device reader.old)) (Rd.remaining (device reader.new)) input
             × Appends (W.contents (device writer.old)) (W.contents (device writer.new)) output
-            × Tells (machine_of R.value_of self.old) result (Rd.remaining (device reader.new)) (has_stopped reader.new) (state_of self.old) input output (state_of self.new) }
+            × Tells (machine_of R.value_of R.related self.old) result (Rd.remaining (device reader.new)) (has_stopped reader.new) (state_of self.old) input output (state_of self.new) }
 
         // When each fault comes.
         ensures read { IsErrOf result EngineFault.Read ↔ (has_failed reader.new ≡ true) }
@@ -135,7 +135,7 @@ impl<R: Rule + Drop, O: Order + Drop> Session<R, O> {
         ensures told { (input : List ℕ) × (output : List ℕ)
             × Consumes (Rd.remaining (device reader.old)) (Rd.remaining (device reader.new)) input
             × Appends (W.contents (device writer.old)) (W.contents (device writer.new)) output
-            × Tells (machine_of R.value_of self.old) result (Rd.remaining (device reader.new)) (has_stopped reader.new) (state_of self.old) input output (state_of self.new) }
+            × Tells (machine_of R.value_of R.related self.old) result (Rd.remaining (device reader.new)) (has_stopped reader.new) (state_of self.old) input output (state_of self.new) }
         ensures read { IsErrOf result EngineFault.Read ↔ (has_failed reader.new ≡ true) }
         ensures write { IsErrOf result EngineFault.Write → IsFaulty writer.new }
         ensures reads { IsErrOf result EngineFault.Reads → (has_stopped reader.new ≡ false) × (calls reader.new ≡ min (calls reader.old + reads) u64.MAX) }

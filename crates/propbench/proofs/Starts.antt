@@ -1,23 +1,32 @@
 -- How a session begins.
-use Rattle.std.proofs.Common.{◌≡◌, ℕ, ◌+◌, ◌<◌, ◌≤◌, ap, List, [], ◌∷◌, ◌++◌, length, map, take, get_or, refl}
+use Rattle.std.proofs.Common.{◌≡◌, ℕ, zero, suc, ◌+◌, ◌<◌, ◌≤◌, ap, List, [], ◌∷◌, ◌++◌, length, map, take, get_or, refl}
 use Rattle.std.proofs.lemmas.List.{take_more, take_all, map-append}
-use Rattle.std.specs.Prelude.{Option, Some, None}
+use Rattle.std.specs.Prelude.{Option, Some, None, slice_get, IsSomeAnd}
+use Rattle.std.proofs.lemmas.Option.{none-some, same_Some}
+use Rattle.prop_lattice.specs.Points.{Point}
+use Rattle.prop_procedures.specs.declared.shape.Param.{Param}
+use Rattle.prop_procedures.specs.Rules.{IsSound}
+use Rattle.prop_procedures.specs.Stored.{Stored}
+use Rattle.prop_procedures.specs.Kept.{related_of}
+use Rattle.prop_procedures.specs.declared.library.Library.{Library}
+use Rattle.prop_cells.specs.Points.{AreSoundBy}
 use Rattle.prop_procedures.specs.Kept.{stored_as}
 use Rattle.prop_procedures.specs.declared.procedure.Procedure.{Procedure}
-use Rattle.prop_arith.specs.Kit.{in_order, name_of, ins_of, out_of, need_of, value_of}
+use Rattle.prop_arith.specs.Kit.{in_order, name_of, ins_of, out_of, need_of, value_of, Related}
+use Rattle.prop_arith.specs.KitLaws.{kit_sound}
 use Rattle.prop_arith.specs.declared.kit.Kit.{Kit}
 use Rattle.prop_workbench.specs.Machine.{new_state}
 use Rattle.prop_workbench.specs.Engine.{workbench}
 use Rattle.prop_workbench.proofs.Io.{appends_none}
 use Rattle.prop_workbench.proofs.Machines.{workbench_is_total}
 use Rattle.prop_workbench.proofs.Fronts.{read_front}
-use Rattle.propbench.specs.Kits.{stored_kit, kit_library, IsAnsweredInFront}
+use Rattle.propbench.specs.Kits.{stored_kit, kit_library, kit_related, IsAnsweredInFront}
 
 -- where nothing was read nor written, nothing is the front of a transcript
 pub nothing_yet : (left held : Option (List ℕ)) (limit : ℕ) → IsAnsweredInFront left held held limit
 nothing_yet None held limit = tt
 nothing_yet (Some input) held limit =
-    ([], appends_none held, read_front (workbench kit_library) (workbench_is_total kit_library) (new_state limit) [] [] input (new_state limit) record { answers = []; run = refl; output_is = refl })
+    ([], appends_none held, read_front (workbench kit_library kit_related) (workbench_is_total kit_library kit_related) (new_state limit) [] [] input (new_state limit) record { answers = []; run = refl; output_is = refl })
 
 -- a procedure with the name, the form and the value of a rule
 pub stored_is : {X : Type 0} {F : X → Type 0} {g : _} → (p : Procedure Kit X F g) (k : Kit) → p.name.now ≡ name_of k → p.ins.items ≡ ins_of k → p.out ≡ out_of k → p.need ≡ need_of k → p.rule ≡ k → stored_as value_of p ≡ stored_kit k
@@ -31,3 +40,27 @@ listed_more items all p rules i d e h s l =
 -- where each rule had its turn, the whole kit is listed
 pub all_listed : (n : ℕ) → length in_order ≤ n → map stored_kit (take n in_order) ≡ kit_library
 all_listed n l = ap (map stored_kit) (take_all n in_order l)
+
+-- ---- the points that belong together
+
+-- each rule's answers hold the points that it relates
+pub kit_is_sound : AreSoundBy kit_library kit_related
+kit_is_sound n p at = by in_order n p at
+  where
+    by : (rules : List Kit) (n : ℕ) (p : Stored) → slice_get (map stored_kit rules) n ≡ Some p → IsSound p.value (λ param points point. IsSomeAnd (slice_get rules n) (λ rule. Related rule param points point)) p.ins p.out p.need
+    by [] n p at = absurd (none-some p at)
+    by (rule ∷ rest) zero p at = let same : stored_kit rule ≡ p = same_Some (stored_kit rule) p at in rw (← same) (kit_sound rule (ins_of rule) (out_of rule) (need_of rule) (refl, refl, refl))
+    by (rule ∷ rest) (suc k) p at = by rest k p at
+
+-- what the procedures relate is what their rules do
+pub related_by_rules : {X : Type 0} {F : X → Type 0} {g : _} → (library : Library Kit X F g) → map (λ p. p.rule) library.procedures.items ≡ in_order → related_of Related library ≡ kit_related
+related_by_rules {X} {F} {g} library e = (λ i n param points point. by library.procedures.items n param points point i) ∙ (λ i n param points point. IsSomeAnd (slice_get (e i) n) (λ rule. Related rule param points point))
+  where
+    by : (items : List (Procedure Kit X F g)) (n : ℕ) (param : Param) (points : List Point) (point : Point) → IsSomeAnd (slice_get items n) (λ p. Related p.rule param points point) ≡ IsSomeAnd (slice_get (map (λ p. p.rule) items) n) (λ rule. Related rule param points point)
+    by [] n param points point = refl
+    by (p ∷ rest) zero param points point = refl
+    by (p ∷ rest) (suc k) param points point = by rest k param points point
+
+-- one more procedure is of one more rule
+pub ruled_more : {X : Type 0} {F : X → Type 0} {g : _} → (items all : List (Procedure Kit X F g)) (p : Procedure Kit X F g) (rules : List Kit) (i : ℕ) (d : Kit) → all ≡ items ++ p ∷ [] → i < length rules → p.rule ≡ get_or rules i d → map (λ q. q.rule) items ≡ take i rules → map (λ q. q.rule) all ≡ take (i + 1) rules
+ruled_more items all p rules i d e h s l = rw (e, map-append (λ q. q.rule) items (p ∷ []), l, s, take_more rules i d h) refl

@@ -1,7 +1,9 @@
 -- What the program writes, by the rules of the kit.
-use Rattle.std.specs.Prelude.{ℕ, List, Option, map}
+use Rattle.std.specs.Prelude.{ℕ, List, Option, map, slice_get, IsSomeAnd}
+use Rattle.prop_lattice.specs.Points.{Point}
+use Rattle.prop_procedures.specs.declared.shape.Param.{Param}
 use Rattle.prop_procedures.specs.Stored.{Stored}
-use Rattle.prop_arith.specs.Kit.{in_order, name_of, ins_of, out_of, need_of, value_of}
+use Rattle.prop_arith.specs.Kit.{in_order, name_of, ins_of, out_of, need_of, value_of, Related}
 use Rattle.prop_arith.specs.declared.kit.Kit.{Kit}
 use Rattle.prop_workbench.specs.declared.outcome.Counts.{Counts}
 use Rattle.prop_workbench.specs.Machine.{State, new_state}
@@ -15,10 +17,14 @@ stored_kit rule = record { name = name_of rule; ins = ins_of rule; out = out_of 
 abbrev pub kit_library : List Stored
 kit_library = map stored_kit in_order
 
+-- the points that belong together at the procedure of this number
+abbrev pub kit_related : ℕ → Param → List Point → Point → Type 0
+kit_related n param points point = IsSomeAnd (slice_get in_order n) (λ rule. Related rule param points point)
+
 -- a writer got a transcript of all that the reader had left, where that is known, of a session that began without cells
 abbrev pub IsAnswered : Option (List ℕ) → Option (List ℕ) → Option (List ℕ) → ℕ → Counts → Type 0
-IsAnswered left held held' limit counts = (new : State) × WritesTranscript (workbench kit_library) left held held' counts (new_state limit) new
+IsAnswered left held held' limit counts = (new : State) × WritesTranscript (workbench kit_library kit_related) left held held' counts (new_state limit) new
 
 -- a writer got the front of such a transcript
 abbrev pub IsAnsweredInFront : Option (List ℕ) → Option (List ℕ) → Option (List ℕ) → ℕ → Type 0
-IsAnsweredInFront left held held' limit = WritesFront (workbench kit_library) left held held' (new_state limit)
+IsAnsweredInFront left held held' limit = WritesFront (workbench kit_library kit_related) left held held' (new_state limit)

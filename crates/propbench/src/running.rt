@@ -2,7 +2,8 @@
 ghost use Rattle.std.specs.Prelude.{◌≡◌, IfOk, OnErr};
 ghost use Rattle.prop_arith.specs.Kit.{value_of};
 ghost use Rattle.prop_workbench.specs.Watched.{device, IsFresh};
-ghost use Rattle.propbench.specs.Kits.{IsAnswered, IsAnsweredInFront};
+ghost use Rattle.propbench.specs.Kits.{kit_library, kit_related, IsAnswered, IsAnsweredInFront};
+ghost use Rattle.prop_cells.specs.Points.{AreSoundBy};
 
 use crate::chosen::Options;
 use crate::fault::Fault;
@@ -30,6 +31,8 @@ pub fn run<Rd: Read, W: Write>(
     requires writer { IsFresh writer.old }
     ensures ok { IfOk result (IsAnswered (Rd.remaining (device reader.old)) (W.contents (device writer.old)) (W.contents (device writer.new)) options.limit) }
     ensures err { OnErr result (IsAnsweredInFront (Rd.remaining (device reader.old)) (W.contents (device writer.old)) (W.contents (device writer.new)) options.limit) }
+    // So values that satisfy all that is believed lie in each answer.
+    ensures points { AreSoundBy kit_library kit_related }
 {
     let mut procedures = Vec::new(alloc);
     for rule in KITS {

@@ -4,4 +4,4 @@ use Rattle.prop_workbench.proofs.Fronts.{write_front}
 use Rattle.prop_workbench.proofs.laws.a_stopped_write_leaves_a_front.Goals as goal
 
 pub returns : goal.returns
-returns c = λ library old input output new. write_front (workbench library) (workbench_is_total library) old input output new
+returns g c = λ old input output new. write_front _ (workbench_is_total _ _) old input output new

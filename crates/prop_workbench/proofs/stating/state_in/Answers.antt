@@ -1,11 +1,11 @@
-use Rattle.std.proofs.Common.{◌≡◌, ◌<◌, ap, sym, length, arith, rules}
+use Rattle.std.proofs.Common.{◌<◌, ap, length, arith}
 use Rattle.std.proofs.lemmas.List.Elements.{All-weaker}
 use Rattle.prop_lattice.specs.Order.{Below}
 use Rattle.prop_lattice.specs.OrderLaws.{info_laws}
 use Rattle.prop_premises.specs.Sets.{set_of}
 use Rattle.prop_procedures.specs.Kept.{stored_of}
 use Rattle.prop_cells.specs.Instances.{readers_of}
-use Rattle.prop_cells.specs.Data.{IsKept, beliefs, support_of}
+use Rattle.prop_cells.specs.Data.{IsKept, beliefs}
 use Rattle.prop_cells.proofs.Reading.{readers_are}
 use Rattle.prop_cells.proofs.Adding.{adds_grow}
 use Rattle.prop_scheduler.proofs.UnderWay.{under_way_same, under_way_grown}

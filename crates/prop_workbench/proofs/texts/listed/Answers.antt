@@ -1,4 +1,4 @@
-use Rattle.std.proofs.Common.{◌≡◌, ◌<◌, ◌∙◌, ◌∷◌, ◌++◌, ◌+◌, [], ap, sym, take, length, not, if◌then◌else◌, arith, append_assoc, rules}
+use Rattle.std.proofs.Common.{◌≡◌, ◌<◌, ◌∙◌, ◌∷◌, ◌++◌, ◌+◌, [], ap, sym, take, length, not, if◌then◌else◌, append_assoc}
 use Rattle.std.specs.String.{string_bytes}
 use Rattle.prop_workbench.specs.Texts.{listed}
 use Rattle.prop_workbench.proofs.TextLemmas.{listed_more, listed_same}

@@ -1,11 +1,12 @@
 use Rattle.std.proofs.Common.{◌∙◌, ◌≡◌, ap, sym, map, arith, rules}
 use Rattle.prop_workbench.specs.Engine.{workbench, machine_of}
 use Rattle.prop_workbench.specs.Sessions.{state_of}
-use Rattle.propbench.specs.Kits.{kit_library}
+use Rattle.propbench.specs.Kits.{kit_library, kit_related}
 use Rattle.prop_workbench.proofs.Io.{on_err}
 use Rattle.prop_procedures.specs.Kept.{AllMean-push, stored_as, stored_of}
-use Rattle.prop_arith.specs.Kit.{value_of}
-use Rattle.propbench.proofs.Starts.{nothing_yet, stored_is, listed_more, all_listed}
+use Rattle.std.proofs.lemmas.List.{take_all}
+use Rattle.prop_arith.specs.Kit.{in_order, value_of, Related}
+use Rattle.propbench.proofs.Starts.{nothing_yet, stored_is, listed_more, all_listed, ruled_more, related_by_rules, kit_is_sound}
 use Rattle.propbench.proofs.running.run.Goals as goal
 
 pub returns-in_err-call-clause-err : goal.returns-in_err-call-clause-err
@@ -20,16 +21,19 @@ loop-rule-preserved g c =
     let stored = stored_is c.new-in-loop-rule.result _ (p.name ∙ c.name.ensures) (p.ins ∙ c.in_ok-ins.ensures.ok ∙ c.ins.ensures) (p.out ∙ c.out.ensures) (p.need ∙ c.need.ensures) p.rule in record {
       means = AllMean-push value_of _ _ _ c.in_ok-push.ensures.items c.loop-rule.invariant.means p.means;
       listed = listed_more _ _ _ _ _ _ c.in_ok-push.ensures.items c.loop-rule-test.true stored c.loop-rule.invariant.listed;
+      ruled = ruled_more _ _ _ _ _ _ c.in_ok-push.ensures.items c.loop-rule-test.true p.rule c.loop-rule.invariant.ruled;
     }
 
 pub returns-clause-ok : goal.returns-clause-ok
 returns-clause-ok g c =
     let library : stored_of value_of c.new-session.result.network.library ≡ kit_library = ap (stored_of value_of) (c.new-session.ensures.library ∙ c.new-network.ensures.library) ∙ ap (λ procedures. map (stored_as value_of) procedures.items) c.new-2.ensures ∙ c.loop-rule.invariant.listed ∙ all_listed c.loop-rule.rule-index (let past = c.loop-rule-test.false in omega (arith, past)) in
-    let machine : machine_of value_of c.new-session.result ≡ workbench kit_library = ap workbench library in
+    let ruled = related_by_rules c.new-session.result.network.library (ap (λ l. map (λ p. p.rule) l.procedures.items) (c.new-session.ensures.library ∙ c.new-network.ensures.library) ∙ ap (λ procedures. map (λ p. p.rule) procedures.items) c.new-2.ensures ∙ c.loop-rule.invariant.ruled ∙ take_all c.loop-rule.rule-index in_order (let past = c.loop-rule-test.false in omega (arith, past))) in
+    let machine : machine_of value_of Related c.new-session.result ≡ workbench kit_library kit_related = λ i. workbench (library i) (ruled i) in
     (state_of c.run_session.new.self, rw (machine, c.new-session.ensures.state) at c.in_ok-run_session.ensures.transcript)
 
 pub returns-in_err-run_session-clause-err : goal.returns-in_err-run_session-clause-err
 returns-in_err-run_session-clause-err g c =
     let library : stored_of value_of c.new-session.result.network.library ≡ kit_library = ap (stored_of value_of) (c.new-session.ensures.library ∙ c.new-network.ensures.library) ∙ ap (λ procedures. map (stored_as value_of) procedures.items) c.new-2.ensures ∙ c.loop-rule.invariant.listed ∙ all_listed c.loop-rule.rule-index (let past = c.loop-rule-test.false in omega (arith, past)) in
-    let machine : machine_of value_of c.new-session.result ≡ workbench kit_library = ap workbench library in
+    let ruled = related_by_rules c.new-session.result.network.library (ap (λ l. map (λ p. p.rule) l.procedures.items) (c.new-session.ensures.library ∙ c.new-network.ensures.library) ∙ ap (λ procedures. map (λ p. p.rule) procedures.items) c.new-2.ensures ∙ c.loop-rule.invariant.ruled ∙ take_all c.loop-rule.rule-index in_order (let past = c.loop-rule-test.false in omega (arith, past))) in
+    let machine : machine_of value_of Related c.new-session.result ≡ workbench kit_library kit_related = λ i. workbench (library i) (ruled i) in
     on_err _ _ (rw (machine, c.new-session.ensures.state) at c.in_err-run_session.ensures.front)

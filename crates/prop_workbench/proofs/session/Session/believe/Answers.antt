@@ -1,4 +1,4 @@
-use Rattle.std.proofs.Common.{◌≡◌, ◌∙◌, ◌<◌, ℕ, Bool, true, false, not, All, Contains, ap, sym, length, arith, rules, ◌⊎◌, inl, inr}
+use Rattle.std.proofs.Common.{◌≡◌, ◌∙◌, ◌<◌, ℕ, not, Contains, ap, sym, length, arith, inl, inr}
 use Rattle.std.proofs.lemmas.List.Elements.{All-contains}
 use Rattle.prop_premises.specs.Origins.{believed_in, with_belief_at}
 use Rattle.prop_procedures.specs.Kept.{stored_of}

@@ -11,7 +11,7 @@ invariant-loop-byte g l = record {
   same : l.self.network.library ≡ l.fn.self.network.library;
   sound : IsSound g.R.Rule.value_of l.self;
   so_far : (output : List ℕ) × Appends (g.W.Write.contents (device l.fn.writer)) (g.W.Write.contents (device l.writer)) output
-      × Advances (machine_of g.R.Rule.value_of l.fn.self) (state_of l.fn.self) l.fn.pending l.fn.counts (take l.byte-index l.piece) output (state_of l.self) l.pending l.counts;
+      × Advances (machine_of g.R.Rule.value_of g.R.Rule.related l.fn.self) (state_of l.fn.self) l.fn.pending l.fn.counts (take l.byte-index l.piece) output (state_of l.self) l.pending l.counts;
   bounded : GrowsAtMost l.fn.counts l.counts l.byte-index;
   fresh : IsFresh l.fn.writer → IsFresh l.writer;
 }

@@ -1,7 +1,7 @@
 use Rattle.std.proofs.Common.{◌≡◌, ◌<◌, ◌∙◌, length, true, refl, sym, arith}
 use Rattle.std.proofs.lemmas.Result.{err_from_is_err_and}
 use Rattle.std.proofs.lemmas.Bool.{false≢true}
-use Rattle.prop_procedures.specs.Kept.{stored_of}
+use Rattle.prop_procedures.specs.Kept.{stored_of, related_of}
 use Rattle.prop_workbench.specs.Watched.{has_stopped}
 use Rattle.prop_workbench.specs.Sessions.{state_of}
 use Rattle.prop_workbench.specs.Engine.{machine_of, workbench}
@@ -30,25 +30,25 @@ pub returns-in_err-answer-clause-told : goal.returns-in_err-answer-clause-told
 returns-in_err-answer-clause-told g c =
     let p = err_from_is_err_and c.from_residual.result c.from_residual.ensures.1 in
     let s = c.in_err-answer.ensures.step in
-    let step : machine_of g.R.Rule.value_of c.loop-turn.self (state_of c.loop-turn.self) c.loop-turn.pending s.0 (state_of c.answer.new.self) = rw (← c.as_slice.ensures) s.1 in
-    let step' = same_step (λ l. workbench (stored_of g.R.Rule.value_of l)) _ _ c.loop-turn.invariant.same _ _ _ _ step in
+    let step : machine_of g.R.Rule.value_of g.R.Rule.related c.loop-turn.self (state_of c.loop-turn.self) c.loop-turn.pending s.0 (state_of c.answer.new.self) = rw (← c.as_slice.ensures) s.1 in
+    let step' = same_step (λ l. workbench (stored_of g.R.Rule.value_of l) (related_of g.R.Rule.related l)) _ _ c.loop-turn.invariant.same _ _ _ _ step in
     let consumed = rw c.if-count-eq0.true at c.in-Ok.ensures.bytes.0 in
     let room : 0 < length c.read.new.buffer = omega (arith, c.read.auto.buffer) in
     let told : has_stopped c.read.new.self ≡ true = at_end _ _ _ _ c.if-count-eq0.true room c.in-Ok.ensures.stopped in
     let end = c.in-Ok.ensures.bytes.1 c.if-count-eq0.true room in
     told_by _ _ _ _ _ _ _ _ _ _ p.1 (p.2 ∙ c.in_err-answer.ensures.fault.0)
-    (ended_fault _ (workbench_asks_by_front _) _ _ _ _ _ _ _ _ _ _ _ s.0 _ c.loop-turn.invariant.so_far (λ e. false≢true (sym c.if-not-is_empty.true ∙ c.is_empty.ensures.1 e)) consumed end told step' s.2)
+    (ended_fault _ (workbench_asks_by_front _ _) _ _ _ _ _ _ _ _ _ _ _ s.0 _ c.loop-turn.invariant.so_far (λ e. false≢true (sym c.if-not-is_empty.true ∙ c.is_empty.ensures.1 e)) consumed end told step' s.2)
 
 pub returns-in_ok-answer-clause-told : goal.returns-in_ok-answer-clause-told
 returns-in_ok-answer-clause-told g c =
     let s = c.in_ok-answer.ensures.step in
-    let step : machine_of g.R.Rule.value_of c.loop-turn.self (state_of c.loop-turn.self) c.loop-turn.pending s.0 (state_of c.answer.new.self) = rw (← c.as_slice.ensures) s.1 in
-    let step' = same_step (λ l. workbench (stored_of g.R.Rule.value_of l)) _ _ c.loop-turn.invariant.same _ _ _ _ step in
+    let step : machine_of g.R.Rule.value_of g.R.Rule.related c.loop-turn.self (state_of c.loop-turn.self) c.loop-turn.pending s.0 (state_of c.answer.new.self) = rw (← c.as_slice.ensures) s.1 in
+    let step' = same_step (λ l. workbench (stored_of g.R.Rule.value_of l) (related_of g.R.Rule.related l)) _ _ c.loop-turn.invariant.same _ _ _ _ step in
     let consumed = rw c.if-count-eq0.true at c.in-Ok.ensures.bytes.0 in
     let room : 0 < length c.read.new.buffer = omega (arith, c.read.auto.buffer) in
     let told : has_stopped c.read.new.self ≡ true = at_end _ _ _ _ c.if-count-eq0.true room c.in-Ok.ensures.stopped in
     let end = c.in-Ok.ensures.bytes.1 c.if-count-eq0.true room in
-    ended_line _ (workbench_asks_by_front _) _ _ _ _ _ _ _ _ _ _ _ s.0 _ _ c.loop-turn.invariant.so_far (λ e. false≢true (sym c.if-not-is_empty.true ∙ c.is_empty.ensures.1 e)) consumed end told step' s.2.0 s.2.1
+    ended_line _ (workbench_asks_by_front _ _) _ _ _ _ _ _ _ _ _ _ _ s.0 _ _ c.loop-turn.invariant.so_far (λ e. false≢true (sym c.if-not-is_empty.true ∙ c.is_empty.ensures.1 e)) consumed end told step' s.2.0 s.2.1
 
 pub returns-else-not-is_empty-clause-told : goal.returns-else-not-is_empty-clause-told
 returns-else-not-is_empty-clause-told g c =
@@ -61,13 +61,13 @@ returns-else-not-is_empty-clause-told g c =
 pub returns-in_err-feed-clause-told : goal.returns-in_err-feed-clause-told
 returns-in_err-feed-clause-told g c =
     let p = err_from_is_err_and c.from_residual-in_err-feed.result c.from_residual-in_err-feed.ensures.1 in
-    let stopped = same_stop (λ l. workbench (stored_of g.R.Rule.value_of l)) _ _ c.loop-turn.invariant.same _ _ _ _ _ _ _ c.in_err-feed.ensures.err in
+    let stopped = same_stop (λ l. workbench (stored_of g.R.Rule.value_of l) (related_of g.R.Rule.related l)) _ _ c.loop-turn.invariant.same _ _ _ _ _ _ _ c.in_err-feed.ensures.err in
     told_by _ _ _ _ _ _ _ _ _ _ p.1 (p.2 ∙ c.in_err-feed.ensures.fault.0)
     (feed_fault _ _ _ _ _ _ _ _ _ _ _ _ _ _ c.loop-turn.invariant.so_far (not_stopped _ _ _ _ c.if-count-eq0.false c.in-Ok.ensures.stopped ∙ c.loop-turn.invariant.reader.not_stopped) c.in-Ok.ensures.bytes.0 stopped)
 
 pub loop-turn-preserved : goal.loop-turn-preserved
 loop-turn-preserved g c =
-    let advanced = same_advance (λ l. workbench (stored_of g.R.Rule.value_of l)) _ _ c.loop-turn.invariant.same _ _ _ _ _ _ _ _ _ c.in_ok-feed.ensures.ok in record {
+    let advanced = same_advance (λ l. workbench (stored_of g.R.Rule.value_of l) (related_of g.R.Rule.related l)) _ _ c.loop-turn.invariant.same _ _ _ _ _ _ _ _ _ c.in_ok-feed.ensures.ok in record {
       same = c.in_ok-feed.ensures.same ∙ c.loop-turn.invariant.same;
       sound = c.in_ok-feed.ensures.sound;
       so_far = fed _ _ _ _ _ _ _ _ _ _ _ _ _ _ _ c.loop-turn.invariant.so_far c.in-Ok.ensures.bytes.0 advanced;

@@ -13,7 +13,7 @@ invariant-loop-turn g l = record {
   so_far : (input : List ℕ) × (output : List ℕ)
       × Consumes (g.Rd.Read.remaining (device l.fn.reader)) (g.Rd.Read.remaining (device l.reader)) input
       × Appends (g.W.Write.contents (device l.fn.writer)) (g.W.Write.contents (device l.writer)) output
-      × Progress (machine_of g.R.Rule.value_of l.fn.self) (state_of l.fn.self) input l.pending output l.counts (state_of l.self);
+      × Progress (machine_of g.R.Rule.value_of g.R.Rule.related l.fn.self) (state_of l.fn.self) input l.pending output l.counts (state_of l.self);
   lines : l.counts.lines ≤ 4096 * l._turn;
   refused : l.counts.refused ≤ 4096 * l._turn;
   reader : IsFresh l.reader;

@@ -1,4 +1,4 @@
-use Rattle.std.proofs.Common.{◌≡◌, ◌∙◌, ap, sym, length, rules}
+use Rattle.std.proofs.Common.{◌∙◌, ap, sym, length}
 use Rattle.prop_premises.specs.Sets.{set_of}
 use Rattle.prop_premises.specs.Origins.{believed_in}
 use Rattle.prop_procedures.specs.Kept.{stored_of}
@@ -35,3 +35,8 @@ pub returns-clause-settled : goal.returns-clause-settled
 returns-clause-settled g c =
     let s = c.args.self.now in
     rw (c.run.ensures.same, same_set (set_of s.worldview) (believed_in s.premises) c.requires.sound.worldview) at c.run.ensures.quiet
+
+pub returns-clause-clash : goal.returns-clause-clash
+returns-clause-clash g c =
+    let s = c.args.self.now in
+    rw (same_set (set_of s.worldview) (believed_in s.premises) c.requires.sound.worldview) at c.run.ensures.clash

@@ -3,4 +3,4 @@ use Rattle.prop_workbench.proofs.Pieces.{front_of_whole_input}
 use Rattle.prop_workbench.proofs.session.Session.run_session.Goals as goal
 
 pub returns-clause-front : goal.returns-clause-front
-returns-clause-front g c = front_of_whole_input _ (workbench_is_total _) _ _ _ _ _ _ _ _ c.run.ensures.told
+returns-clause-front g c = front_of_whole_input _ (workbench_is_total _ _) _ _ _ _ _ _ _ _ c.run.ensures.told

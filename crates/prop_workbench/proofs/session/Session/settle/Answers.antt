@@ -1,4 +1,4 @@
-use Rattle.std.proofs.Common.{length, rules}
+use Rattle.std.proofs.Common.{length}
 use Rattle.prop_premises.specs.Origins.{believed_in}
 use Rattle.prop_procedures.specs.Kept.{stored_of}
 use Rattle.prop_workbench.specs.Machine.{problem_in}

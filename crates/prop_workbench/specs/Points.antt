@@ -1,0 +1,43 @@
+-- Single values of the cells, and what they bear out of an answer.
+use Rattle.std.specs.Prelude.{◌≡◌, ℕ, List, [], codes, Some, Ok, ◌⊎◌, ⊤}
+use Rattle.prop_lattice.specs.Points.{Point, Holds}
+use Rattle.prop_lattice.specs.declared.info.Info.{Info}
+use Rattle.prop_procedures.specs.declared.shape.Param.{Param}
+use Rattle.prop_cells.specs.Points.{Attached, ArePoints}
+use Rattle.prop_compound.specs.Commands.{Command}
+use Rattle.prop_compound.specs.Reading.{reading}
+use Rattle.prop_workbench.specs.Answers.{Answer, Text}
+use Rattle.prop_workbench.specs.Names.{number_in}
+use Rattle.prop_workbench.specs.Machine.{State, worldview_of}
+use Rattle.prop_workbench.specs.Texts.{equation, because, worldview_text}
+
+-- the cells of a state, what is stated of them and what is attached to them
+abbrev pub attached_in : State → Attached
+attached_in s = record { kinds = s.kinds; statements = s.statements; instances = s.instances }
+
+-- a point for each cell that lies in all that is believed of it, where the points of each instance belong together
+abbrev pub Satisfy : (ℕ → Param → List Point → Point → Type 0) → State → (ℕ → Point) → Type 0
+Satisfy related s points = ArePoints related (attached_in s) (worldview_of s) points
+
+-- the text says a value of the cell with the name that holds the cell's point, and then the mark
+pub record SaysPoint (s : State) (points : ℕ → Point) (name mark text : List ℕ) : Type 0 where
+  pub cell : ℕ
+  pub cell_is : number_in s.names name ≡ Some cell
+  pub v : Info
+  pub holds : Holds v (points cell)
+  pub text_is : text ≡ equation name v mark
+
+-- what a command that runs the network may answer where there are such points: a value holds its cell's point, settled or not,
+-- and no contradiction is said
+abbrev pub BearsOut : State → (ℕ → Point) → Command → List ℕ → Type 0
+BearsOut s points Command.Settle text = (text ≡ codes "settled") ⊎ (text ≡ codes "unsettled")
+BearsOut s points (Command.Ask x) text = SaysPoint s points x [] text ⊎ SaysPoint s points x (codes " unsettled") text
+BearsOut s points (Command.Why x) text =
+    (ps : List ℕ) × (SaysPoint s points x (because s.premises [] ps) text ⊎ SaysPoint s points x (because s.premises (codes " unsettled") ps) text)
+BearsOut s points Command.Worldview text = (text ≡ worldview_text s.premises) ⊎ (text ≡ codes "unsettled")
+BearsOut s points command text = ⊤
+
+-- points that satisfy a state bear out what a line is answered
+abbrev pub HoldsPoints : (ℕ → Param → List Point → Point → Type 0) → State → List ℕ → Answer → Type 0
+HoldsPoints related s line answer =
+    (points : ℕ → Point) (command : Command) (text : List ℕ) → Satisfy related s points → reading line ≡ Ok (Some command) → answer ≡ Text text → BearsOut s points command text

@@ -1,0 +1,32 @@
+-- What an explanation rests on among what the cells of a session hold.
+use Rattle.std.specs.Prelude.{◌≡◌, ℕ, List, [], codes, Option, Some, Result, Ok, ◌⊎◌, ⊤}
+use Rattle.prop_lattice.specs.declared.refusal.Refusal.{Refusal}
+use Rattle.prop_cells.specs.Data.{Data, beliefs, IsLeanAt, IsClash}
+use Rattle.prop_compound.specs.Commands.{Command}
+use Rattle.prop_workbench.specs.Answers.{Answer, Text}
+use Rattle.prop_workbench.specs.Names.{number_in}
+use Rattle.prop_workbench.specs.Machine.{State, worldview_of}
+use Rattle.prop_workbench.specs.Texts.{equation, because, contradiction_text}
+
+-- the text says what is believed of the cell, the mark, and the premises of believed entries of the cell that say it together,
+-- none of which can be left out
+pub record IsLeanExplanation (d : Data) (s : State) (cell : ℕ) (name mark text : List ℕ) : Type 0 where
+  pub premises : List ℕ
+  pub lean : IsLeanAt (worldview_of s) d.contents cell premises
+  pub text_is : text ≡ equation name (beliefs (worldview_of s) d.contents cell) (because s.premises mark premises)
+
+-- the text names the premises of such entries of a cell that is believed to hold a contradiction
+pub record IsLeanContradiction (d : Data) (s : State) (text : List ℕ) : Type 0 where
+  pub premises : List ℕ
+  pub clash : IsClash (worldview_of s) d premises
+  pub text_is : text ≡ contradiction_text s.premises premises
+
+-- what is explained of the cell with the name, settled or not, or the contradiction that is said in its place
+abbrev pub IsLeanReply : Data → State → List ℕ → List ℕ → Type 0
+IsLeanReply d s name text =
+    ((cell : ℕ) × (number_in s.names name ≡ Some cell) × (IsLeanExplanation d s cell name [] text ⊎ IsLeanExplanation d s cell name (codes " unsettled") text)) ⊎ IsLeanContradiction d s text
+
+-- what a line that was read so is answered: nothing is named that is not needed where it asks why
+abbrev pub IsLeanAnswer : Data → State → Result (Option Command) Refusal → Answer → Type 0
+IsLeanAnswer d s (Ok (Some (Command.Why name))) (Text text) = IsLeanReply d s name text
+IsLeanAnswer d s read answer = ⊤
