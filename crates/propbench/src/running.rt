@@ -21,6 +21,7 @@ use std::io::{Read, Write};
 const READS: u64 = 1 << 32;
 
 /// Makes the kit's procedures and runs a session with them.
+#[tactic(auto, using(crate::proofs::Starts::kit_is_sound))]
 pub fn run<Rd: Read, W: Write>(
     alloc: Global,
     options: Options,

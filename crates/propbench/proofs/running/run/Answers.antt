@@ -6,7 +6,7 @@ use Rattle.prop_workbench.proofs.Io.{on_err}
 use Rattle.prop_procedures.specs.Kept.{AllMean-push, stored_as, stored_of}
 use Rattle.std.proofs.lemmas.List.{take_all}
 use Rattle.prop_arith.specs.Kit.{in_order, value_of, Related}
-use Rattle.propbench.proofs.Starts.{nothing_yet, stored_is, listed_more, all_listed, ruled_more, related_by_rules, kit_is_sound}
+use Rattle.propbench.proofs.Starts.{nothing_yet, stored_is, listed_more, all_listed, ruled_more, related_by_rules}
 use Rattle.propbench.proofs.running.run.Goals as goal
 
 pub returns-in_err-call-clause-err : goal.returns-in_err-call-clause-err
