@@ -1,0 +1,3 @@
+pub mod ImageLemmas
+pub mod UnionLemmas
+pub mod TieLemmas

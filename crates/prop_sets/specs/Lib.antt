@@ -1,0 +1,9 @@
+pub mod Chosen
+pub mod ChosenLaws
+pub mod Images
+pub mod ImageLaws
+pub mod Narrowest
+pub mod NarrowestLaws
+pub mod Relation
+pub mod Ties
+pub mod Words
