@@ -1,3 +1,4 @@
 pub mod ImageLemmas
+pub mod TruthLemmas
 pub mod UnionLemmas
 pub mod TieLemmas

@@ -6,6 +6,10 @@ use Rattle.std.proofs.lemmas.List.{get_or_past}
 use Rattle.std.proofs.lemmas.Nat.{and_le_l}
 use Rattle.std.proofs.lemmas.Nat.Bits.{bit_at-zero, bit_at-lt, bit_at_above, bit_at_and, bit_at_or, bit_at_clear_same, bit_at_clear_other, bit_at-trailing_zeros}
 use Rattle.prop_lattice.specs.Parts.{HasBitsOf}
+use Rattle.prop_lattice.specs.Ends.{elements_from}
+use Rattle.prop_lattice.specs.declared.elements.Elements as sets
+use Rattle.prop_sets.specs.Others.{IsOther, without_of}
+use Rattle.prop_sets.specs.OtherLaws.{without_from_bits}
 use Rattle.prop_sets.specs.Words.{IsUnionOf}
 
 -- the union has what the chosen words have but those of the rest
@@ -38,14 +42,15 @@ abbrev pub cleared : ℕ → ℕ → ℕ
 cleared rest k = bit_and rest (bit_not w64 (1 * 2 ^ k % 2 ^ 64))
 
 -- a bit other than k of a word of 64 bits stays
-stays : (rest k i : ℕ) → rest < 2 ^ 64 → k < 64 → i ≢ k → bit_at rest i ≡ 1 → bit_at (cleared rest k) i ≡ 1
+pub stays : (rest k i : ℕ) → rest < 2 ^ 64 → k < 64 → i ≢ k → bit_at rest i ≡ 1 → bit_at (cleared rest k) i ≡ 1
 stays rest k i fits l other h = by (cases_lt i 64)
   where
     by : (i < 64) ⊎ (64 ≤ i) → bit_at (cleared rest k) i ≡ 1
     by (inl low) = rw (bit_at_clear_other w64 rest k l i low other) h
     by (inr high) = absurd (omega (arith, h, bit_at_above rest 64 i fits high))
 
-was : (rest k i : ℕ) → bit_at (cleared rest k) i ≡ 1 → bit_at rest i ≡ 1
+-- and a bit that is there was there before
+pub was : (rest k i : ℕ) → bit_at (cleared rest k) i ≡ 1 → bit_at rest i ≡ 1
 was rest k i h = omega (arith, bit_at_and rest (bit_not w64 (1 * 2 ^ k % 2 ^ 64)) i, h, bit_at-lt rest i)
 
 -- the rest gets smaller
@@ -79,3 +84,10 @@ joined words chosen union rest k word fits l here is p = record {
       | inl old ↦ inl (omega (arith, bit_at_or union word j, bit_at-lt word j))
       | inr there ↦ inr (stays rest k i fits l other there)
     ]
+
+-- the elements other than x are those that stay
+pub without_cleared : (y : sets.Elements) (x : ℕ) → x < 64 → elements_from (cleared y.bits x) ≡ without_of y x
+without_cleared y x l = without_from_bits y x (cleared y.bits x) only (λ j p. stays y.bits x j y.fits l p.1 p.0)
+  where
+    only : (j : ℕ) → bit_at (cleared y.bits x) j ≡ 1 → IsOther y x j
+    only j h = (was y.bits x j h, λ same. absurd (omega (arith, bit_at_clear_same w64 y.bits x l, rw same at h)))

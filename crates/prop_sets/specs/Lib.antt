@@ -4,6 +4,10 @@ pub mod Images
 pub mod ImageLaws
 pub mod Narrowest
 pub mod NarrowestLaws
+pub mod Others
+pub mod OtherLaws
 pub mod Relation
 pub mod Ties
+pub mod Truth
+pub mod TruthLaws
 pub mod Words
