@@ -2,6 +2,7 @@ pub mod Chosen
 pub mod ChosenLaws
 pub mod Images
 pub mod ImageLaws
+pub mod Laws
 pub mod Names
 pub mod Narrowest
 pub mod NarrowestLaws

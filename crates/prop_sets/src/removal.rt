@@ -1,5 +1,6 @@
 //! A set without one element.
-ghost use Rattle.std.specs.Prelude.{◌≡◌, ◌<◌};
+ghost use Rattle.std.specs.Prelude.{◌≡◌, ◌<◌, ℕ};
+ghost use Rattle.prop_sets.specs.Laws.{IsMonotone};
 ghost use Rattle.prop_sets.specs.Narrowest.{IsNarrowest};
 ghost use Rattle.prop_sets.specs.Others.{IsOther, without_of};
 
@@ -13,3 +14,8 @@ pub fn without(y: Elements, x: u8) -> Info
 {
     Info::from_bits(y.bits() & !(1 << x))
 }
+
+/// A law: of fewer elements there are fewer others, so who knows more is answered more.
+pub fn others_are_monotone()
+    ensures { (x : ℕ) → IsMonotone (λ y. without_of y x) }
+{}

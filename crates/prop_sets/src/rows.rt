@@ -1,6 +1,7 @@
 //! Relations between two domains.
 ghost use Rattle.std.specs.Prelude.{◌≡◌, ◌<◌, IfOk};
-ghost use Rattle.prop_sets.specs.Relation.{no_pairs, with_pair, AddsPair};
+ghost use Rattle.prop_sets.specs.Laws.{SamePairsAreOne, IsMonotone, ImageIsNarrowest, CoimageIsNarrowest};
+ghost use Rattle.prop_sets.specs.Relation.{Relation, IsWhole, no_pairs, with_pair, AddsPair};
 ghost use Rattle.prop_sets.specs.Images.{image_of, coimage_of, IsInImage, IsInCoimage, HoldsJust};
 
 use crate::side::Side;
@@ -46,7 +47,8 @@ impl Rows {
 
     /// The first domain.
     pub fn from(&self) -> Side
-        ensures { result ≡ self.now.from }
+        ensures from { result ≡ self.now.from }
+        ensures whole { IsWhole self.now }
     {
         self.from
     }
@@ -98,4 +100,21 @@ impl Rows {
     {
         Info::from_bits(union_of(&self.columns, y.bits()))
     }
+
+    /// A law: of more elements both images have more, so who knows more is answered more.
+    pub fn images_are_monotone()
+        ensures image { (m : Relation) → IsMonotone (image_of m) }
+        ensures coimage { (m : Relation) → IsMonotone (coimage_of m) }
+    {}
+
+    /// A law: no information that holds all partners says more than the image.
+    pub fn images_are_narrowest()
+        ensures image { ImageIsNarrowest }
+        ensures coimage { CoimageIsNarrowest }
+    {}
+
+    /// A law: two relations between the same domains with the same pairs are one.
+    pub fn same_pairs_are_one()
+        ensures { SamePairsAreOne }
+    {}
 }

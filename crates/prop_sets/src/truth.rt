@@ -1,6 +1,7 @@
 //! The functions of truth, on informations. Truth is the set kind over the domain 0: element 0 is `yes`, element 1 is `no`.
 ghost use Rattle.std.specs.Prelude.{◌≡◌, ◌↔◌, ◌⊎◌, ◌+◌, ◌*◌, ◌<◌, ◌||◌, cond, true, IsTrue};
 ghost use Rattle.prop_sets.specs.Images.{is_set};
+ghost use Rattle.prop_sets.specs.Laws.{IsMonotoneInOne, IsMonotoneInTwo, IsSoundInOne, IsSoundInTwo};
 ghost use Rattle.prop_sets.specs.Truth.{IsAnd, IsOr, IsNot, IsLeftByOne, IsLeftByTwo, LeavesJust, leaves, is_nothing, told, and_of, and_back_of, or_of, or_back_of, not_of};
 
 use prop_lattice::{Elements, Info};
@@ -125,3 +126,21 @@ pub fn not2(x: Info) -> Info
     };
     told(truths, is_unknown(x))
 }
+
+/// A law: who knows more is answered more.
+pub fn truths_are_monotone()
+    ensures and { IsMonotoneInTwo and_of }
+    ensures and_back { IsMonotoneInTwo and_back_of }
+    ensures or { IsMonotoneInTwo or_of }
+    ensures or_back { IsMonotoneInTwo or_back_of }
+    ensures not { IsMonotoneInOne not_of }
+{}
+
+/// A law: each truth that belongs to truths of the arguments is in the answer.
+pub fn truths_are_sound()
+    ensures and { IsSoundInTwo IsAnd and_of }
+    ensures and_back { IsSoundInTwo (λ z y x. IsAnd x y z) and_back_of }
+    ensures or { IsSoundInTwo IsOr or_of }
+    ensures or_back { IsSoundInTwo (λ z y x. IsOr x y z) or_back_of }
+    ensures not { IsSoundInOne IsNot not_of }
+{}
