@@ -5,7 +5,7 @@ use Rattle.prop_lattice.specs.Ends.{elements_from}
 use Rattle.prop_lattice.specs.declared.elements.Elements as sets
 use Rattle.prop_sets.specs.Images.{IsInImage, IsInCoimage, image_of, coimage_of}
 use Rattle.prop_sets.specs.ImageLaws.{image_from_bits, coimage_from_bits}
-use Rattle.prop_sets.specs.Relation.{Relation, HasPair}
+use Rattle.prop_sets.specs.Relation.{Relation}
 use Rattle.prop_sets.specs.Ties.{AreTied}
 use Rattle.prop_sets.specs.Words.{IsUnionOf}
 use Rattle.prop_sets.proofs.TieLemmas.{tied_within}

@@ -1,5 +1,5 @@
 -- Names in order, and the set of strings that keeps them.
-use Rattle.std.proofs.Common.{◌≡◌, ℕ, zero, suc, ◌+◌, ◌<◌, ◌⊎◌, Bool, true, false, ◌||◌, List, [], ◌∷◌, ◌++◌, length, get_or, map, take, position, slice_get, Some, None, cond, String, string_bytes, bytes_eq, refl, sym, ap, ◌∙◌, arith, inl, inr}
+use Rattle.std.proofs.Common.{◌≡◌, ℕ, zero, suc, ◌+◌, ◌<◌, ◌⊎◌, Bool, true, false, ◌||◌, List, [], ◌∷◌, ◌++◌, length, get_or, take, position, slice_get, Some, String, string_bytes, bytes_eq, refl, sym, ap, ◌∙◌, arith, inl, inr}
 use Rattle.std.specs.List.{list_any, position_or_len}
 use Rattle.std.specs.String.{string_eq}
 use Rattle.std.proofs.lemmas.Bool.{or_parts, or_cases, or_from, or_left, or_right, lt-ltb}

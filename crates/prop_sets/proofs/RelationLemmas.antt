@@ -1,5 +1,5 @@
 -- Relations are told apart by their pairs.
-use Rattle.std.proofs.Common.{◌≡◌, ◌↔◌, ℕ, List, length, get_or, arith, ◌∙◌, sym, ap}
+use Rattle.std.proofs.Common.{◌≡◌, ◌↔◌, ℕ, List, get_or, arith, ◌∙◌, sym, ap}
 use Rattle.std.specs.Int.{bit_at}
 use Rattle.std.proofs.lemmas.Grind.{same_number_lists}
 use Rattle.prop_lattice.specs.PartLaws.{same_parts}

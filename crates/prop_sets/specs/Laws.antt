@@ -1,16 +1,13 @@
 -- The laws of this crate's functions.
-use Rattle.std.specs.Prelude.{◌≡◌, ◌≢◌, ◌↔◌, ℕ, ◌<◌, length, slice_index}
-use Rattle.std.specs.Int.{bit_at}
-use Rattle.prop_lattice.specs.Order.{Below, HasElement}
+use Rattle.std.specs.Prelude.{◌≡◌, ◌↔◌, ℕ, ◌<◌}
+use Rattle.prop_lattice.specs.Order.{Below}
 use Rattle.prop_lattice.specs.Points.{Element, Holds}
 use Rattle.prop_lattice.specs.declared.elements.Elements as sets
 use Rattle.prop_lattice.specs.declared.info.Info.{Info}
 use Rattle.prop_lattice.specs.declared.info.Info.TheVariants.{Set}
 use Rattle.prop_sets.specs.Images.{IsInImage, IsInCoimage, image_of, coimage_of}
 use Rattle.prop_sets.specs.Narrowest.{IsNarrowest}
-use Rattle.prop_sets.specs.Others.{without_of}
 use Rattle.prop_sets.specs.Relation.{Relation, HasPair, IsWhole}
-use Rattle.prop_sets.specs.Truth.{IsAnd, IsOr, IsNot, and_of, and_back_of, or_of, or_back_of, not_of}
 
 -- ---- relations
 

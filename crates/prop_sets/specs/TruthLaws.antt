@@ -1,5 +1,5 @@
 -- The laws of the functions of truth.
-use Rattle.std.specs.Prelude.{◌≡◌, ◌≢◌, ◌↔◌, ◌⊎◌, ℕ, zero, suc, ◌<◌, ◌^◌, Bool, true, false, not, ◌&&◌, ◌||◌, ◌==◌, if◌then◌else◌}
+use Rattle.std.specs.Prelude.{◌≡◌, ◌↔◌, ◌⊎◌, ℕ, zero, suc, ◌<◌, ◌^◌, Bool, true, false, not, ◌&&◌, ◌||◌, ◌==◌, if◌then◌else◌}
 use Rattle.std.specs.Bool.{Decides}
 use Rattle.std.specs.Int.{bit_at}
 use Rattle.std.proofs.Common.{arith, refl, inl, inr, rules, eqb-true}
@@ -13,7 +13,7 @@ use Rattle.prop_lattice.specs.Rank.{IsOf}
 use Rattle.prop_lattice.specs.declared.info.Info.{Info}
 use Rattle.prop_lattice.specs.declared.info.Info.TheVariants.{Nothing, Span, Set, Sym, Contradiction}
 use Rattle.prop_lattice.specs.declared.info.Kind.TheVariants as kinds
-use Rattle.prop_sets.specs.Chosen.{bits_where, any_below}
+use Rattle.prop_sets.specs.Chosen.{any_below}
 use Rattle.prop_sets.specs.ChosenLaws.{bits_where-lt, bits_where-passes, bits_where-has, any_below-Decides}
 use Rattle.prop_sets.specs.NarrowestLaws.{elements_hold, bit_from_held, elements_below, elements_of_kind}
 use Rattle.prop_sets.specs.Truth.{IsAnd, IsOr, IsNot, agree, is_and, is_or, is_not, leaves, is_nothing, outputs_of_one, outputs_of, told, truth_of, and_of, and_back_of, or_of, or_back_of, not_of, IsLeftByOne, IsLeftByTwo, LeavesJust}

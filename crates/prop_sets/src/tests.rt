@@ -8,6 +8,7 @@ use std::process::Abort;
 use std::test::Fail;
 
 const YES: u64 = 1;
+
 const NO: u64 = 2;
 
 fn elements(rt: &impl Abort, bits: u64) -> Elements {
@@ -136,10 +137,7 @@ fn truths_are_what_enumeration_finds(rt: HostRuntime) {
 
 #[test]
 fn relations_have_their_pairs(rt: HostRuntime) -> Result<(), Fail> {
-    let side = Side {
-        domain: 1,
-        size: 2,
-    };
+    let side = Side { domain: 1, size: 2 };
     let mut rows = Rows::new(rt.alloc(), side, side)?;
     rows.set(0, 1);
     let copy = rows.copy(rt.alloc())?;
@@ -154,16 +152,7 @@ fn relations_have_their_pairs(rt: HostRuntime) -> Result<(), Fail> {
 
 #[test]
 fn images_are_what_enumeration_finds(rt: HostRuntime) -> Result<(), Fail> {
-    let (two, three) = (
-        Side {
-            domain: 1,
-            size: 2,
-        },
-        Side {
-            domain: 2,
-            size: 3,
-        },
-    );
+    let (two, three) = (Side { domain: 1, size: 2 }, Side { domain: 2, size: 3 });
     for pairs in 0u64..64 {
         let rows = rows_of(rt.alloc(), pairs, two, three)?;
         for x in 1u64..8 {

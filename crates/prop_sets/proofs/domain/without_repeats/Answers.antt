@@ -1,4 +1,4 @@
-use Rattle.std.proofs.Common.{◌≡◌, ◌<◌, ◌∙◌, refl, inl, inr, length, arith}
+use Rattle.std.proofs.Common.{◌<◌, inl, inr, length, arith}
 use Rattle.std.proofs.lemmas.Result.{err_from_is_err_and}
 use Rattle.prop_sets.specs.Names.{names_of}
 use Rattle.prop_sets.proofs.NameLemmas.{no_repeat-push, kept_more, repeat_from_kept}

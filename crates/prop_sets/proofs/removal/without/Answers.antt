@@ -1,4 +1,3 @@
-use Rattle.std.proofs.Common.{◌∙◌}
 use Rattle.prop_sets.specs.OtherLaws.{without_narrowest}
 use Rattle.prop_sets.proofs.UnionLemmas.{without_cleared}
 use Rattle.prop_sets.proofs.removal.without.Goals as goal
