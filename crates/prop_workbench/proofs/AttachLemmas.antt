@@ -25,10 +25,11 @@ use Rattle.prop_cells.specs.Instances.{Instance, places_of, param_in, fitting_pa
 use Rattle.prop_cells.specs.Refusing.{refusal_at, attach_refusal, or_else}
 use Rattle.prop_compound.specs.Commands as commands
 use Rattle.prop_compound.specs.Commands.{By}
+use Rattle.prop_vocabulary.specs.Vocabulary.{Vocabulary}
 use Rattle.prop_workbench.specs.Answers.{Done, Refused}
 use Rattle.prop_workbench.specs.Effects.{inputs_of, output_of, instance_made}
 use Rattle.prop_workbench.specs.Machine.{State}
-use Rattle.prop_workbench.specs.Names.{number_in, numbers_in, is_missing}
+use Rattle.prop_vocabulary.specs.Names.{number_in, numbers_in, is_missing}
 use Rattle.prop_workbench.specs.Refusing.{refusal_of, placing_refusal, limit_refusal, first_of, when, given_by, is_relation, procedure_named}
 use Rattle.prop_workbench.specs.Sessions.{state_from}
 use Rattle.prop_workbench.specs.Steps.{Obeys}
@@ -62,10 +63,10 @@ in_rows count kind param limit =
     (or_first (when WrongKind kind) _ (when WrongParameter param ∷ limit ∷ []) (or_first (when WrongParameter param) limit (limit ∷ []) (sym (first_of-one limit))))
 
 -- what the network refuses for is what the machine says
-pub placed : (p : Stored) (names : List (List ℕ)) (premises : List Origin) (d : Data) (limit : ℕ) (params : List Param) (by : By) (given : Option ℕ) (ins : List ℕ) (out : ℕ) → All (λ c. c < length d.kinds) (ins ++ out ∷ []) →
-    param_in p.need params given ≡ fitting_param p.need (given_by by) → refusal_at p (record d { params = params }) given ins out ≡ placing_refusal p (state_from names premises d limit) by (ins ++ out ∷ [])
+pub placed : (p : Stored) (names : List (List ℕ)) (words : Vocabulary) (premises : List Origin) (d : Data) (limit : ℕ) (params : List Param) (by : By) (given : Option ℕ) (ins : List ℕ) (out : ℕ) → All (λ c. c < length d.kinds) (ins ++ out ∷ []) →
+    param_in p.need params given ≡ fitting_param p.need (given_by by) → refusal_at p (record d { params = params }) given ins out ≡ placing_refusal p (state_from names words premises d limit) by (ins ++ out ∷ [])
 unfolding network_rows
-placed p names premises d limit params by given ins out below param =
+placed p names words premises d limit params by given ins out below param =
     let kind = not (are_right (places_of p d.kinds (ins ++ out ∷ []))) in
     let full = when (LimitReached Instances) (nat_le (most Instances) (length d.instances)) in
     let strange = ap (λ (b : Bool). or_else (when NoSuchCell b) (network_rows (not (length ins == length p.ins)) kind (is_none (param_in p.need params given)) full)) (none_strange (length d.kinds) (ins ++ out ∷ []) below) in
@@ -170,19 +171,19 @@ unattached_step library s new name cells by n numbers refusal found (inr m) same
 
 -- ---- what the network answered, as the machine says it
 
-pub fits_as : (library : List Stored) (names : List (List ℕ)) (premises : List Origin) (d : Data) (limit : ℕ) (params : List Param) (by : By) (given : Option ℕ) (ins : List ℕ) (out n : ℕ) (r : Option Refusal) → All (λ c. c < length d.kinds) (ins ++ out ∷ []) →
+pub fits_as : (library : List Stored) (names : List (List ℕ)) (words : Vocabulary) (premises : List Origin) (d : Data) (limit : ℕ) (params : List Param) (by : By) (given : Option ℕ) (ins : List ℕ) (out n : ℕ) (r : Option Refusal) → All (λ c. c < length d.kinds) (ins ++ out ∷ []) →
     ((need : Need) → param_in need params given ≡ fitting_param need (given_by by)) → attach_refusal library (record d { params = params }) n given ins out ≡ r →
-    (p : Stored) → slice_get library n ≡ Some p → placing_refusal p (state_from names premises d limit) by (ins ++ out ∷ []) ≡ r
-fits_as library names premises d limit params by given ins out n r below param e p at =
-    sym (placed p names premises d limit params by given ins out below (param p.need))
+    (p : Stored) → slice_get library n ≡ Some p → placing_refusal p (state_from names words premises d limit) by (ins ++ out ∷ []) ≡ r
+fits_as library names words premises d limit params by given ins out n r below param e p at =
+    sym (placed p names words premises d limit params by given ins out below (param p.need))
     ∙ sym (ap (λ (o : Option Stored). option_map_or (λ q. refusal_at q (record d { params = params }) given ins out) o None) at) ∙ e
 
-pub made_one : (library : List Stored) (names : List (List ℕ)) (premises : List Origin) (d : Data) (limit : ℕ) (params : List Param) (by : By) (given : Option ℕ) (ins : List ℕ) (out n : ℕ) → n < length library → All (λ c. c < length d.kinds) (ins ++ out ∷ []) →
+pub made_one : (library : List Stored) (names : List (List ℕ)) (words : Vocabulary) (premises : List Origin) (d : Data) (limit : ℕ) (params : List Param) (by : By) (given : Option ℕ) (ins : List ℕ) (out n : ℕ) → n < length library → All (λ c. c < length d.kinds) (ins ++ out ∷ []) →
     ((need : Need) → param_in need params given ≡ fitting_param need (given_by by)) → attach_refusal library (record d { params = params }) n given ins out ≡ None →
     attached library params n given ins out ≡ instance_made library n by (ins ++ out ∷ []) ∷ []
-made_one library names premises d limit params by given ins out n l below param e =
+made_one library names words premises d limit params by given ins out n l below param e =
     let p = in_library library n l in
-    attached_is library n p.0 (state_from names premises d limit) params by given ins out p.1 (param p.0.need) (fits_as library names premises d limit params by given ins out n None below param e p.0 p.1)
+    attached_is library n p.0 (state_from names words premises d limit) params by given ins out p.1 (param p.0.need) (fits_as library names words premises d limit params by given ins out n None below param e p.0 p.1)
 
 pub procedure_below : (library : List Stored) (name : List ℕ) (n : ℕ) → procedure_number library name ≡ Some n → n < length library
 procedure_below library name n e = (position-Some (λ p. bytes_eq p.name name) library n (record { name = []; ins = []; out = shapes.Span; need = needs.Nothing; value = λ p a. Nothing }) e).0
@@ -199,29 +200,29 @@ refused_over : (library : List Stored) (d mid : Data) (given : Option ℕ) (ins 
     attach_refusal library (record d { params = mid.params }) n given ins out ≡ r
 refused_over library d mid given ins out n r e h = sym (ap (λ (x : Data). attach_refusal library x n given ins out) e) ∙ h
 
-pub fits_at : (library : List Stored) (names : List (List ℕ)) (premises : List Origin) (d mid : Data) (limit : ℕ) (by : By) (given : Option ℕ) (ins : List ℕ) (out n : ℕ) (cells : List ℕ) (r : Option Refusal) → IsPlaced names d mid by given ins out cells →
-    attach_refusal library mid n given ins out ≡ r → (p : Stored) → slice_get library n ≡ Some p → placing_refusal p (state_from names premises d limit) by cells ≡ r
-fits_at library names premises d mid limit by given ins out n cells r placed_so h p at =
+pub fits_at : (library : List Stored) (names : List (List ℕ)) (words : Vocabulary) (premises : List Origin) (d mid : Data) (limit : ℕ) (by : By) (given : Option ℕ) (ins : List ℕ) (out n : ℕ) (cells : List ℕ) (r : Option Refusal) → IsPlaced names d mid by given ins out cells →
+    attach_refusal library mid n given ins out ≡ r → (p : Stored) → slice_get library n ≡ Some p → placing_refusal p (state_from names words premises d limit) by cells ≡ r
+fits_at library names words premises d mid limit by given ins out n cells r placed_so h p at =
     let below = subst (λ (l : List ℕ). All (λ c. c < length d.kinds) l) placed_so.cells_are placed_so.below in
-    ap (λ (l : List ℕ). placing_refusal p (state_from names premises d limit) by l) placed_so.cells_are
-    ∙ fits_as library names premises d limit mid.params by given ins out n r below placed_so.param (refused_over library d mid given ins out n r placed_so.params_alone h) p at
+    ap (λ (l : List ℕ). placing_refusal p (state_from names words premises d limit) by l) placed_so.cells_are
+    ∙ fits_as library names words premises d limit mid.params by given ins out n r below placed_so.param (refused_over library d mid given ins out n r placed_so.params_alone h) p at
 
-pub made_at : (library : List Stored) (names : List (List ℕ)) (premises : List Origin) (d mid : Data) (limit : ℕ) (by : By) (given : Option ℕ) (ins : List ℕ) (out n : ℕ) (cells : List ℕ) → IsPlaced names d mid by given ins out cells → n < length library →
+pub made_at : (library : List Stored) (names : List (List ℕ)) (words : Vocabulary) (premises : List Origin) (d mid : Data) (limit : ℕ) (by : By) (given : Option ℕ) (ins : List ℕ) (out n : ℕ) (cells : List ℕ) → IsPlaced names d mid by given ins out cells → n < length library →
     attach_refusal library mid n given ins out ≡ None → attached library mid.params n given ins out ≡ instance_made library n by cells ∷ []
-made_at library names premises d mid limit by given ins out n cells placed_so l h =
+made_at library names words premises d mid limit by given ins out n cells placed_so l h =
     let below = subst (λ (x : List ℕ). All (λ c. c < length d.kinds) x) placed_so.cells_are placed_so.below in
-    made_one library names premises d limit mid.params by given ins out n l below placed_so.param (refused_over library d mid given ins out n None placed_so.params_alone h)
+    made_one library names words premises d limit mid.params by given ins out n l below placed_so.param (refused_over library d mid given ins out n None placed_so.params_alone h)
     ∙ ap (λ (x : List ℕ). instance_made library n by x ∷ []) (sym placed_so.cells_are)
 
-pub err_at : (library : List Stored) (names : List (List ℕ)) (premises : List Origin) (d mid : Data) (limit : ℕ) (by : By) (given : Option ℕ) (ins : List ℕ) (out n : ℕ) (cells : List ℕ) (e : Refusal) → IsPlaced names d mid by given ins out cells →
-    (attach_refusal library mid n given ins out ≡ Some e) ⊎ (e ≡ Memory) → ((p : Stored) → slice_get library n ≡ Some p → placing_refusal p (state_from names premises d limit) by cells ≡ Some e) ⊎ (e ≡ Memory)
-err_at library names premises d mid limit by given ins out n cells e placed_so (inl h) = inl (fits_at library names premises d mid limit by given ins out n cells (Some e) placed_so h)
-err_at library names premises d mid limit by given ins out n cells e placed_so (inr m) = inr m
+pub err_at : (library : List Stored) (names : List (List ℕ)) (words : Vocabulary) (premises : List Origin) (d mid : Data) (limit : ℕ) (by : By) (given : Option ℕ) (ins : List ℕ) (out n : ℕ) (cells : List ℕ) (e : Refusal) → IsPlaced names d mid by given ins out cells →
+    (attach_refusal library mid n given ins out ≡ Some e) ⊎ (e ≡ Memory) → ((p : Stored) → slice_get library n ≡ Some p → placing_refusal p (state_from names words premises d limit) by cells ≡ Some e) ⊎ (e ≡ Memory)
+err_at library names words premises d mid limit by given ins out n cells e placed_so (inl h) = inl (fits_at library names words premises d mid limit by given ins out n cells (Some e) placed_so h)
+err_at library names words premises d mid limit by given ins out n cells e placed_so (inr m) = inr m
 
-pub state_attached : (names names' : List (List ℕ)) (premises premises' : List Origin) (d mid new : Data) (limit limit' : ℕ) (xs : List Instance) (x : Instance) → names' ≡ names → premises' ≡ premises → limit' ≡ limit →
-    mid ≡ record d { params = mid.params } → new ≡ record mid { instances = mid.instances ++ xs } → xs ≡ x ∷ [] → state_from names' premises' new limit' ≡ record (state_from names premises d limit) { instances = d.instances ++ x ∷ [] }
-state_attached names names' premises premises' d mid new limit limit' xs x n q l e f one =
+pub state_attached : (names names' : List (List ℕ)) (words words' : Vocabulary) (premises premises' : List Origin) (d mid new : Data) (limit limit' : ℕ) (xs : List Instance) (x : Instance) → names' ≡ names → words' ≡ words → premises' ≡ premises → limit' ≡ limit →
+    mid ≡ record d { params = mid.params } → new ≡ record mid { instances = mid.instances ++ xs } → xs ≡ x ∷ [] → state_from names' words' premises' new limit' ≡ record (state_from names words premises d limit) { instances = d.instances ++ x ∷ [] }
+state_attached names names' words words' premises premises' d mid new limit limit' xs x n w q l e f one =
     let kinds = ap (λ (y : Data). y.kinds) f ∙ ap (λ (y : Data). y.kinds) e in
     let statements = ap (λ (y : Data). y.statements) f ∙ ap (λ (y : Data). y.statements) e in
     let instances = ap (λ (y : Data). y.instances) f ∙ ap (λ (y : Data). y.instances ++ xs) e ∙ ap (λ (ys : List Instance). d.instances ++ ys) one in
-    λ i. record { names = n i; kinds = kinds i; premises = q i; statements = statements i; instances = instances i; limit = l i }
+    λ i. record { names = n i; words = w i; kinds = kinds i; premises = q i; statements = statements i; instances = instances i; limit = l i }

@@ -20,7 +20,7 @@ returns-in-Ok-attach-clause-fits g c =
       below = c.requires.cells;
       param = c.in_ok-param.ensures.param;
     } in
-    fits_at library s.names s.premises s.network.cells c.given.new.self.network.cells s.limit (by_of c.args.by) c.in_ok-param.param c.in-Some.ins.now c.in-Some.out.now c.args.procedure c.args.cells.now None placed
+    fits_at library s.names s.words s.premises s.network.cells c.given.new.self.network.cells s.limit (by_of c.args.by) c.in_ok-param.param c.in-Some.ins.now c.in-Some.out.now c.args.procedure c.args.cells.now None placed
     (rw c.given.ensures.same at c.in-Ok-attach.ensures.fits)
 
 pub returns-in-Err-attach-clause-err : goal.returns-in-Err-attach-clause-err
@@ -33,7 +33,7 @@ returns-in-Err-attach-clause-err g c =
       below = c.requires.cells;
       param = c.in_ok-param.ensures.param;
     } in
-    err_at library s.names s.premises s.network.cells c.given.new.self.network.cells s.limit (by_of c.args.by) c.in_ok-param.param c.in-Some.ins.now c.in-Some.out.now c.args.procedure c.args.cells.now c.in-Err-attach.refusal placed
+    err_at library s.names s.words s.premises s.network.cells c.given.new.self.network.cells s.limit (by_of c.args.by) c.in_ok-param.param c.in-Some.ins.now c.in-Some.out.now c.args.procedure c.args.cells.now c.in-Err-attach.refusal placed
     (rw c.given.ensures.same at c.in-Err-attach.ensures.err)
 
 pub returns-in-Ok-attach-clause-ok : goal.returns-in-Ok-attach-clause-ok
@@ -47,8 +47,8 @@ returns-in-Ok-attach-clause-ok g c =
       below = c.requires.cells;
       param = c.in_ok-param.ensures.param;
     } in
-    let made = made_at library s.names s.premises s.network.cells mid.network.cells s.limit (by_of c.args.by) c.in_ok-param.param c.in-Some.ins.now c.in-Some.out.now c.args.procedure c.args.cells.now placed c.requires.procedure (rw c.given.ensures.same at c.in-Ok-attach.ensures.fits) in
-    state_attached s.names mid.names s.premises mid.premises s.network.cells mid.network.cells c.attach.new.self.cells s.limit mid.limit _ (instance_made library c.args.procedure (by_of c.args.by) c.args.cells.now) c.given.ensures.names c.given.ensures.premises c.given.ensures.limit c.given.ensures.cells
+    let made = made_at library s.names s.words s.premises s.network.cells mid.network.cells s.limit (by_of c.args.by) c.in_ok-param.param c.in-Some.ins.now c.in-Some.out.now c.args.procedure c.args.cells.now placed c.requires.procedure (rw c.given.ensures.same at c.in-Ok-attach.ensures.fits) in
+    state_attached s.names mid.names s.premises mid.premises s.network.cells mid.network.cells c.attach.new.self.cells s.limit mid.limit _ (instance_made library c.args.procedure (by_of c.args.by) c.args.cells.now) c.given.ensures.names c.given.ensures.words c.given.ensures.premises c.given.ensures.limit c.given.ensures.cells
     (rw c.given.ensures.same at c.in-Ok-attach.ensures.ok) made
 
 pub returns-in-Ok-attach-clause-sound : goal.returns-in-Ok-attach-clause-sound
@@ -62,7 +62,7 @@ returns-in-Ok-attach-clause-sound g c =
       below = c.requires.cells;
       param = c.in_ok-param.ensures.param;
     } in
-    let made = made_at library s.names s.premises s.network.cells mid.network.cells s.limit (by_of c.args.by) c.in_ok-param.param c.in-Some.ins.now c.in-Some.out.now c.args.procedure c.args.cells.now placed c.requires.procedure (rw c.given.ensures.same at c.in-Ok-attach.ensures.fits) in
+    let made = made_at library s.names s.words s.premises s.network.cells mid.network.cells s.limit (by_of c.args.by) c.in_ok-param.param c.in-Some.ins.now c.in-Some.out.now c.args.procedure c.args.cells.now placed c.requires.procedure (rw c.given.ensures.same at c.in-Ok-attach.ensures.fits) in
     let x = instance_made library c.args.procedure (by_of c.args.by) c.args.cells.now in
     let old : Data = mid.network.cells in
     let new : Data = c.attach.new.self.cells in

@@ -14,7 +14,7 @@ pub returns-in-Err-clause-step : goal.returns-in-Err-clause-step
 returns-in-Err-clause-step g c =
     let s = c.args.self.now in
     let library = stored_of g.R.Rule.value_of s.network.library in
-    let state = state_from s.names s.premises s.network.cells s.limit in
+    let state = state_from s.names s.words s.premises s.network.cells s.limit in
     let kind : kind_at s.network.cells.kinds c.in-Some.cell ≡ c.kind.result = sym (c.kind.ensures ∙ ap (λ d. kind_at d.kinds c.in-Some.cell) c.data.ensures) in
     let said = ap (λ (k : Kinded). value_said k.kind (value_of c.args.value.now)) kind ∙ sym c.read_value.ensures ∙ c.in-Err.is in
     refuses library state state (commands.Command.Tell c.args.premise.now c.args.name.now (value_of c.args.value.now)) c.in-Err.refusal
@@ -33,14 +33,14 @@ returns-in-Ok-state_told-clause-step g c =
     let library = stored_of g.R.Rule.value_of s.network.library in
     let kind : kind_at s.network.cells.kinds c.in-Some.cell ≡ c.kind.result = sym (c.kind.ensures ∙ ap (λ d. kind_at d.kinds c.in-Some.cell) c.data.ensures) in
     let said = ap (λ (k : Kinded). value_said k.kind (value_of c.args.value.now)) kind ∙ sym c.read_value.ensures ∙ c.in-Ok.is in
-    tell_done library (state_from s.names s.premises s.network.cells s.limit) _ c.args.premise.now c.args.name.now (value_of c.args.value.now) c.in-Some.cell c.in-Ok.info (sym c.in-Some.ensures) said
+    tell_done library (state_from s.names s.words s.premises s.network.cells s.limit) _ c.args.premise.now c.args.name.now (value_of c.args.value.now) c.in-Some.cell c.in-Ok.info (sym c.in-Some.ensures) said
     c.in-Ok-state_told.ensures.fits c.in-Ok-state_told.ensures.ok
 
 pub returns-in-Err-state_told-clause-step : goal.returns-in-Err-state_told-clause-step
 returns-in-Err-state_told-clause-step g c =
     let s = c.args.self.now in
     let library = stored_of g.R.Rule.value_of s.network.library in
-    let state = state_from s.names s.premises s.network.cells s.limit in
+    let state = state_from s.names s.words s.premises s.network.cells s.limit in
     let kind : kind_at s.network.cells.kinds c.in-Some.cell ≡ c.kind.result = sym (c.kind.ensures ∙ ap (λ d. kind_at d.kinds c.in-Some.cell) c.data.ensures) in
     let said = ap (λ (k : Kinded). value_said k.kind (value_of c.args.value.now)) kind ∙ sym c.read_value.ensures ∙ c.in-Ok.is in
     refuses_or_lacks library state _ (commands.Command.Tell c.args.premise.now c.args.name.now (value_of c.args.value.now)) c.in-Err-state_told.refusal
