@@ -1,5 +1,5 @@
 -- What a value says at a cell, and why it is refused.
-use Rattle.std.proofs.Common.{◌≡◌, ◌∙◌, ℕ, ℤ, pos, neg_ℤ, ◌≤ℤ◌, ◌<◌, ◌^◌, ◌/◌, nat_le, length, Bool, true, false, cond, ◌&&◌, ◌||◌, List, [], ◌∷◌, Option, Some, None, Result, Ok, Err, is_none, unwrap_or, IsTrue, ◌++◌, ◌⊎◌, inl, inr, refl, sym, ap, subst, arith, slice_index_or, eq-eqb}
+use Rattle.std.proofs.Common.{◌≡◌, ◌∙◌, ℕ, ℤ, pos, neg_ℤ, ◌≤ℤ◌, ◌<◌, ◌≤◌, ◌^◌, ◌/◌, zero, suc, bytes_eq, nat_le, length, Bool, true, false, cond, ◌&&◌, ◌||◌, List, [], ◌∷◌, Option, Some, None, Result, Ok, Err, is_none, unwrap_or, IsTrue, ◌++◌, ◌⊎◌, inl, inr, refl, sym, ap, subst, arith, slice_index_or, eq-eqb}
 use Rattle.std.specs.Prelude.{int_le, int_lt}
 use Rattle.core.specs.Result.{result_unwrap_or}
 use Rattle.std.specs.Option.{option_map, option_map_or, option_and_then}
@@ -18,7 +18,12 @@ use Rattle.prop_lattice.specs.Refusals.{most}
 use Rattle.prop_premises.specs.Origins.{Origin, premise_number}
 use Rattle.prop_procedures.specs.Stored.{Stored}
 use Rattle.prop_procedures.specs.declared.shape.Kinded.{Kinded}
-use Rattle.prop_sets.specs.ChosenLaws.{bits_where-lt}
+use Rattle.std.proofs.Math.Pow.{pow_mono}
+use Rattle.std.proofs.Math.Nat.{div-eq_of_lt}
+use Rattle.std.specs.Int.{bit_at}
+use Rattle.std.proofs.lemmas.Nat.Bits.{bit_at-zero}
+use Rattle.std.proofs.lemmas.Slice.Eq.{bytes_eq-Decides}
+use Rattle.prop_sets.specs.ChosenLaws.{bits_where-lt, bits_where-has}
 use Rattle.prop_cells.specs.Instances.{kind_at}
 use Rattle.prop_cells.specs.Refusing.{may_be_stated, state_refusal}
 use Rattle.prop_cells.specs.Data.{Data}
@@ -128,27 +133,58 @@ span_value_may_be : (size : ℕ) (parts : List ℕ × Option (List ℕ)) (info :
 span_value_may_be size (word, None) info h = ends_may_be size (bounded_number word) (bounded_number word) info (bounded word) (bounded word) h
 span_value_may_be size (left, Some right) info h = ends_may_be size (bounded_number left) (bounded_number right) info (bounded left) (bounded right) h
 
+-- the place of a name among names
+among_at : (names : List (List ℕ)) (w : List ℕ) → is_among names w ≡ true → (i : ℕ) × (i < length names) × (slice_index_or names i [] ≡ w)
+among_at [] w h = cc
+among_at (n ∷ names) w h = by (bytes_eq n w) refl h
+  where
+    by : (t : Bool) → bytes_eq n w ≡ t → (t || is_among names w) ≡ true → (i : ℕ) × (i < length (n ∷ names)) × (slice_index_or (n ∷ names) i [] ≡ w)
+    by true e k = (0, omega arith, (bytes_eq-Decides n w).0 e)
+    by false e k = let rest = among_at names w k in (suc rest.0, omega (arith, rest.1.0), rest.1.1)
+
+-- the first of the words is found, so that a bit is set
+bit_named : (names words : List (List ℕ)) (w : List ℕ) → is_among names w ≡ true → 0 < bits_named names (w ∷ words)
+bit_named names words w h =
+    let at = among_at names w h in
+    let same : bytes_eq w (slice_index_or names at.0 []) ≡ true = rw at.1.1 ((bytes_eq-Decides w w).1 refl) in
+    let bit = bits_where-has (length names) (λ i. is_among (w ∷ words) (slice_index_or names i [])) at.0 at.1.0 (rw same refl) in
+    by (bits_named names (w ∷ words)) at.0 bit
+  where
+    by : (bits i : ℕ) → bit_at bits i ≡ 1 → 0 < bits
+    by zero i e = absurd (omega (arith, e, bit_at-zero i))
+    by (suc n) i e = omega arith
+
 -- bits below a size are of it
-below_may_be : (d size bits : ℕ) → bits < 2 ^ size → may_be_stated (kinds.Set d) size (elements_from bits) ≡ true
+below_may_be : (d size bits : ℕ) → bits < 2 ^ size → 0 < bits → bits < 2 ^ 64 → may_be_stated (kinds.Set d) size (elements_from bits) ≡ true
 unfolding elements_from
-below_may_be d size bits l = by (some_or_not bits)
+below_may_be d size bits l z k = by (some_or_not bits)
   where
     by : (t : AreSome bits ⊎ ¬ (AreSome bits)) → may_be_stated (kinds.Set d) size (elements_if bits t) ≡ true
-    by (inl some) = eq-eqb (bits / 2 ^ size) 0 (div_small bits (2 ^ size) l)
-    by (inr none) = search rules
+    by (inl some) = eq-eqb (bits / 2 ^ size) 0 (div-eq_of_lt l)
+    by (inr none) = absurd (none (z, k))
+
+first_of_all : (p : List ℕ → Bool) (w : List ℕ) (words : List (List ℕ)) → list_all p (w ∷ words) ≡ true → p w ≡ true
+first_of_all p w words h = by (p w) h
+  where
+    by : (t : Bool) → (t && list_all p words) ≡ true → t ≡ true
+    by true k = refl
+    by false k = cc
 
 -- the set of named elements of a domain of this size may be stated at its cells
-set_may_be : (d size : ℕ) (names words : List (List ℕ)) (info : Info) → size ≡ length names → set_value names words ≡ Ok info → may_be_stated (kinds.Set d) size info ≡ true
-set_may_be d size names [] info same h = cc
-set_may_be d size names (w ∷ words) info same h = by (list_all (is_among names) (w ∷ words)) h
+set_may_be : (d size : ℕ) (names words : List (List ℕ)) (info : Info) → size ≡ length names → length names ≤ 64 → set_value names words ≡ Ok info → may_be_stated (kinds.Set d) size info ≡ true
+set_may_be d size names [] info same few h = cc
+set_may_be d size names (w ∷ words) info same few h = by (list_all (is_among names) (w ∷ words)) refl h
   where
-    by : (t : Bool) → cond t (Ok (elements_from (bits_named names (w ∷ words)))) (Err NotInTheDomain) ≡ Ok info → may_be_stated (kinds.Set d) size info ≡ true
-    by true e =
-        let bits = bits_named names (w ∷ words) in
+    bits : ℕ
+    bits = bits_named names (w ∷ words)
+
+    by : (t : Bool) → list_all (is_among names) (w ∷ words) ≡ t → cond t (Ok (elements_from bits)) (Err NotInTheDomain) ≡ Ok info → may_be_stated (kinds.Set d) size info ≡ true
+    by true all e =
         let found : elements_from bits ≡ info = cc in
-        let below : bits < 2 ^ size = rw same (bits_where-lt (length names) (λ i. is_among (w ∷ words) (slice_index_or names i []))) in
-        rw (← found) (below_may_be d size bits below)
-    by false e = cc
+        let below : bits < 2 ^ length names = bits_where-lt (length names) (λ i. is_among (w ∷ words) (slice_index_or names i [])) in
+        let most : 2 ^ length names ≤ 2 ^ 64 = pow_mono few in
+        rw (← found) (below_may_be d size bits (rw same below) (bit_named names words w (first_of_all (is_among names) w words all)) (omega (arith, below, most)))
+    by false all e = cc
 
 symbol_known : (t : Bool) (word : List ℕ) (info : Info) → cond t (Ok (Name word)) (Err NotAName) ≡ Ok (Known info) → ⊥
 symbol_known true word info h = cc
@@ -162,16 +198,16 @@ known_names : (r : Result Info Refusal) (symbol : List ℕ) → known r ≡ Ok (
 known_names (Ok other) symbol h = cc
 known_names (Err e) symbol h = cc
 
-pub value_may_be : (k : Kinded) (names : List (List ℕ)) (value : Value) (meant : Meant) → k.size ≡ length names → value_said k.kind names value ≡ Ok meant → MayMean k meant
-value_may_be k names value meant same h = by k.kind refl value meant h
+pub value_may_be : (k : Kinded) (names : List (List ℕ)) (value : Value) (meant : Meant) → k.size ≡ length names → length names ≤ 64 → value_said k.kind names value ≡ Ok meant → MayMean k meant
+value_may_be k names value meant same few h = by k.kind refl value meant h
   where
     by : (kind : Kind) → k.kind ≡ kind → (value : Value) (meant : Meant) → value_said kind names value ≡ Ok meant → MayMean k meant
     by kinds.Span e (Bare word) (Known info) h = rw e (span_value_may_be k.size (halves word) info (known_is (span_value (halves word)) info h))
     by kinds.Span e (Bare word) (Name symbol) h = absurd (known_names (span_value (halves word)) symbol h)
     by kinds.Span e (Braces words) meant h = cc
-    by (kinds.Set d) e (Bare word) (Known info) h = rw e (set_may_be d k.size names (word ∷ []) info same (known_is (set_value names (word ∷ [])) info h))
+    by (kinds.Set d) e (Bare word) (Known info) h = rw e (set_may_be d k.size names (word ∷ []) info same few (known_is (set_value names (word ∷ [])) info h))
     by (kinds.Set d) e (Bare word) (Name symbol) h = absurd (known_names (set_value names (word ∷ [])) symbol h)
-    by (kinds.Set d) e (Braces words) (Known info) h = rw e (set_may_be d k.size names words info same (known_is (set_value names words) info h))
+    by (kinds.Set d) e (Braces words) (Known info) h = rw e (set_may_be d k.size names words info same few (known_is (set_value names words) info h))
     by (kinds.Set d) e (Braces words) (Name symbol) h = absurd (known_names (set_value names words) symbol h)
     by kinds.Symbol e (Bare word) (Known info) h = absurd (symbol_known (is_name word) word info h)
     by kinds.Symbol e (Bare word) (Name symbol) h = e
