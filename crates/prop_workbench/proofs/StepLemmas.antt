@@ -8,7 +8,8 @@ use Rattle.prop_compound.specs.Commands.{KindWord, Command}
 use Rattle.prop_workbench.specs.Answers.{Answer, Silent, Done, Text, Refused}
 use Rattle.prop_workbench.specs.Machine.{State}
 use Rattle.prop_vocabulary.specs.Names.{number_in}
-use Rattle.prop_workbench.specs.Refusing.{refusal_of, limit_refusal, first_of}
+use Rattle.prop_workbench.specs.Refusing.{refusal_of, limit_refusal}
+use Rattle.prop_vocabulary.specs.Refusing.{first_of}
 use Rattle.prop_workbench.specs.Steps.{Obeys, Carries, CarriesUnless, Follows}
 
 pub first_of-one : (r : Option Refusal) → first_of (r ∷ []) ≡ r

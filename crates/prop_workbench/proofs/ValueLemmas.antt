@@ -33,8 +33,10 @@ use Rattle.prop_compound.specs.Commands.{Value, Bare, Braces}
 use Rattle.prop_compound.specs.Names.{number_in as number_within, whole_number, is_name, is_among}
 use Rattle.prop_compound.specs.Values.{Meant, Known, Name, known, value_said, span_value, set_value, bits_named, ends_value, bounded_number, halves}
 use Rattle.prop_vocabulary.specs.Names.{number_in}
+use Rattle.prop_vocabulary.specs.Texts.{elements_of_kind}
 use Rattle.prop_workbench.specs.Machine.{State}
-use Rattle.prop_workbench.specs.Refusing.{refusal_of, telling_limit, stating_limit, stating_limit_at, first_of, when, meaning_at, elements_at, is_error}
+use Rattle.prop_workbench.specs.Refusing.{refusal_of, telling_limit, stating_limit, stating_limit_at, meaning_at, is_error}
+use Rattle.prop_vocabulary.specs.Refusing.{first_of, when}
 use Rattle.prop_workbench.specs.Answers.{Done}
 use Rattle.prop_workbench.specs.Steps.{Obeys, Carries}
 use Rattle.prop_workbench.specs.Effects.{stated, stating, meant_at, words_at, info_at, with_meant, info_meant, MayMean}
@@ -238,7 +240,7 @@ pub value_refused : (library : List Stored) (s : State) (premise : Option (List 
     refusal_of library s (stating premise name value) ≡ Some e
 value_refused library s premise name value cell e found said =
     by_rows library s premise name value cell found ∙ ap (λ (r : Result Meant Refusal). value_rows (Some r) (Some cell) (stating_limit_at s premise (Some r))) said
-    ∙ error_rows e cell None (value_refusal (kind_at s.kinds cell).kind (elements_at s.words (kind_at s.kinds cell).kind) value e said)
+    ∙ error_rows e cell None (value_refusal (kind_at s.kinds cell).kind (elements_of_kind s.words (kind_at s.kinds cell).kind) value e said)
 
 -- and one that is not, for the limits alone
 pub value_limited : (library : List Stored) (s : State) (premise : Option (List ℕ)) (name : List ℕ) (value : Value) (cell : ℕ) (meant : Meant) → number_in s.names name ≡ Some cell → meaning_at s.words (kind_at s.kinds cell).kind value ≡ Ok meant →

@@ -3,7 +3,6 @@ use Rattle.std.specs.Prelude.{ℕ, List, [], ◌∷◌, Bool, true, false, cond,
 use Rattle.std.specs.List.{list_any}
 use Rattle.std.specs.Option.{option_map, option_map_or, option_and_then}
 use Rattle.prop_lattice.specs.declared.info.Kind.{Kind}
-use Rattle.prop_lattice.specs.declared.info.Kind.TheVariants as kinds
 use Rattle.prop_lattice.specs.declared.refusal.Limit.TheVariants.{Cells, Instances, Premises, Statements}
 use Rattle.prop_lattice.specs.declared.refusal.Refusal.{Refusal}
 use Rattle.prop_lattice.specs.declared.refusal.Refusal.TheVariants.{NotAName, NotANumber, NameTaken, NoSuchDomain, NoSuchRelation, NoSuchCell, NoSuchPremise, NoSuchProcedure, WrongCount, WrongKind, WrongParameter, NotInTheDomain, EmptyValue, LimitReached}
@@ -16,17 +15,14 @@ use Rattle.prop_compound.specs.Commands.{By, KindWord, Named, Value, Command}
 use Rattle.prop_compound.specs.Values.{Meant, Name, value_said}
 use Rattle.prop_cells.specs.Instances.{kind_at, kinds_fit, fitting_param}
 use Rattle.prop_vocabulary.specs.Names.{number_in, numbers_in}
-use Rattle.prop_vocabulary.specs.Vocabulary.{Vocabulary, domain_number, elements_of, relation_named, domain_refusal, relation_refusal, symbol_refusal}
+use Rattle.prop_vocabulary.specs.Vocabulary.{Vocabulary, domain_number, relation_named}
+use Rattle.prop_vocabulary.specs.Texts.{elements_of_kind}
+use Rattle.prop_vocabulary.specs.Refusing.{when, first_of, domain_refusal, relation_refusal, symbol_refusal}
 use Rattle.prop_workbench.specs.Machine.{State}
-
--- the names of the elements of a kind's domain
-abbrev pub elements_at : Vocabulary → Kind → List (List ℕ)
-elements_at words (kinds.Set domain) = elements_of words domain
-elements_at words kind = []
 
 -- what the value means at a cell of the kind
 abbrev pub meaning_at : Vocabulary → Kind → Value → Result Meant Refusal
-meaning_at words kind value = value_said kind (elements_at words kind) value
+meaning_at words kind value = value_said kind (elements_of_kind words kind) value
 
 -- what the value means at the cell with the name, where there is such a cell
 abbrev pub value_at : State → List ℕ → Value → Option (Result Meant Refusal)
@@ -113,14 +109,6 @@ abbrev pub is_param_wrong : List Stored → State → Command → Bool
 is_param_wrong library s (Command.Attach name cells by) =
     option_map_or (λ p. is_none (fitting_param p.need (given_by s.words by))) (procedure_named library name) false
 is_param_wrong library s command = false
-
-abbrev pub when : Refusal → Bool → Option Refusal
-when refusal holds = cond holds (Some refusal) None
-
-abbrev pub first_of : List (Option Refusal) → Option Refusal
-first_of [] = None
-first_of (None ∷ rest) = first_of rest
-first_of (Some refusal ∷ rest) = Some refusal
 
 -- there are as many premises as there can be and the name is of a new one, or as many statements
 abbrev pub telling_limit : State → List ℕ → Option Refusal

@@ -3,6 +3,7 @@ ghost use Rattle.std.specs.Prelude.{◌≡◌, ◌<◌, ℕ, length, None, IfSom
 ghost use Rattle.prop_compound.specs.Said.{kind_of, by_of};
 ghost use Rattle.prop_workbench.specs.Refusing.{is_unknown, is_nowhere};
 ghost use Rattle.prop_workbench.specs.Effects.{domain_kind, kind_named};
+ghost use Rattle.prop_workbench.specs.Sessions.{IsSized};
 
 use crate::reply::Reply;
 use crate::session::Session;
@@ -17,7 +18,8 @@ use std::alloc::AllocError;
 /// The kind of a domain.
 fn domain_kinded(words: &Vocabulary, number: u16) -> Kinded
     requires { number < length words.now.domains }
-    ensures { result ≡ domain_kind words.now number }
+    ensures kind { result ≡ domain_kind words.now number }
+    ensures sized { IsSized words.now result }
 {
     Kinded {
         kind: Kind::Set(number),
@@ -30,6 +32,7 @@ fn kind_named(words: &Vocabulary, word: KindWord) -> Option<Kinded>
     ensures known { IfSome result (λ kind. kind ≡ kind_named words.now (kind_of word)) }
     ensures none { result ≡ None → is_nowhere words.now (kind_of word) ≡ true }
     ensures some { IfSome result (λ kind. is_nowhere words.now (kind_of word) ≡ false) }
+    ensures sized { IfSome result (IsSized words.now) }
 {
     match word {
         KindWord::Spans => Some(span_kinded()),

@@ -171,7 +171,7 @@ impl<R: Rule + Drop, O: Order + Drop> Session<R, O> {
         match self.state_said(premise, cell, Info::Sym(number)) {
             Ok(()) => Ok(()),
             Err(refusal) => {
-                self.words.back(count);
+                self.words.keep_symbols(count);
                 Err(refusal)
             }
         }

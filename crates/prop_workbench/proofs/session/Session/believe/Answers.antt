@@ -32,6 +32,7 @@ returns-in-Ok-clause-sound g c =
       under_way = under_way_all library (believed_in c.set_belief.new.premises) s.network.cells line c.requires.sound.under_way.kept (All-from_contains (λ j. j < n) line below) (λ j l. first.alerted j (omega (arith, l, count)));
       worldview = c.in-Ok.ensures;
       known = rw same c.requires.sound.known;
+      sized = c.requires.sound.sized;
       named = c.requires.sound.named;
       roomy = rw c.alert_first.ensures.room c.requires.sound.roomy;
     }
@@ -44,7 +45,7 @@ returns-in-Err-clause-sound g c =
     let back : c.set_belief-in-Err.new.premises ≡ s.premises = c.set_belief-in-Err.ensures ∙ ap (λ ps. with_belief_at ps p (not c.args.believed)) c.set_belief.ensures
     ∙ with_belief_back s.premises p c.args.believed (not c.args.believed) c.in_ok-premise.ensures.user was in
     let sound = c.requires.sound in
-    record { under_way = rw back sound.under_way; worldview = rw back sound.worldview; known = rw back sound.known; named = sound.named; roomy = sound.roomy }
+    record { under_way = rw back sound.under_way; worldview = rw back sound.worldview; known = rw back sound.known; sized = sound.sized; named = sound.named; roomy = sound.roomy }
 
 pub returns-in-Err-clause-err_same : goal.returns-in-Err-clause-err_same
 returns-in-Err-clause-err_same g c =

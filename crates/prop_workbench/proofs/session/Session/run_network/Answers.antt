@@ -20,6 +20,7 @@ returns-clause-sound g c =
       under_way = under_way_at (stored_of g.R.Rule.value_of c.run.new.network.library) (set_of s.worldview) (believed_in s.premises) c.run.new.network.cells c.run.new.agenda.line c.requires.sound.worldview c.run.ensures.under_way;
       worldview = c.requires.sound.worldview;
       known = rw (ap (λ d. d.statements) rest) c.requires.sound.known;
+      sized = rw (ap (λ d. d.kinds) rest) c.requires.sound.sized;
       named = c.requires.sound.named ∙ sym (ap (λ d. length d.kinds) rest);
       roomy = rw (c.run.ensures.room, ap (λ d. d.instances) rest) c.requires.sound.roomy;
     }
