@@ -1,5 +1,5 @@
 -- The laws of the functions that compare.
-use Rattle.std.specs.Prelude.{◌≡◌, ◌≢◌, ◌↔◌, ◌⊎◌, ℕ, ℤ, ◌<◌, ◌^◌, Bool, true, false, ◌==◌, ◌&&◌, if◌then◌else◌, List, [], ◌∷◌, count_ones, bit_and}
+use Rattle.std.specs.Prelude.{◌≡◌, ◌≢◌, ◌↔◌, ℕ, ℤ, ◌<◌, Bool, true, false, ◌==◌, ◌&&◌, if◌then◌else◌, List, [], ◌∷◌, count_ones, bit_and}
 use Rattle.std.specs.Int.{int_max, int_min}
 use Rattle.std.specs.Ordering.{int_eq}
 use Rattle.std.proofs.Common.{arith, refl, rules, ap, sym, subst, ◌∙◌, inl, inr, eqb-true, eq-eqb}
@@ -33,7 +33,7 @@ use Rattle.prop_sets.specs.NarrowestLaws.{elements_hold, elements_of_kind}
 use Rattle.prop_sets.specs.OtherLaws as others
 use Rattle.prop_sets.specs.Others as element_others
 use Rattle.prop_arith.specs.Arguments.{at_two, at_three}
-use Rattle.prop_arith.specs.Comparing.{on_truth, lesser_of, is_contradiction, is_single, told_alike, comparer_of, first_element, other_numbers, other_elements, other_symbol, others_of, parter_of}
+use Rattle.prop_arith.specs.Comparing.{on_truth, lesser_of, is_contradiction, is_single, told_alike, comparer_of, first_element, other_symbol, others_of, parter_of}
 use Rattle.prop_arith.specs.Logic.{is_just}
 use Rattle.prop_arith.specs.Points.{RelatesToTruth, RelatesByTruth, RelatesAlike, RelatesApart}
 use Rattle.prop_arith.specs.SingleLaws.{never, single_element, single_stays, single_points, just_stays, no_single, no_element}

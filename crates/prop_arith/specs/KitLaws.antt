@@ -1,5 +1,5 @@
 -- The laws of the rules of the kit.
-use Rattle.std.specs.Prelude.{◌≡◌, List, [], ◌∷◌}
+use Rattle.std.specs.Prelude.{List, [], ◌∷◌}
 use Rattle.std.proofs.Common.{rules}
 use Rattle.prop_intervals.specs.Relations.{IsSum, IsProduct, IsSquare, SaysLess}
 use Rattle.prop_intervals.specs.Spans.{sum_of, difference_of, product_of, quotient_of, square_of}

@@ -1,18 +1,18 @@
 -- The laws of the functions that go along a relation.
-use Rattle.std.specs.Prelude.{◌≡◌, ◌≢◌, ℕ, List, [], ◌∷◌}
+use Rattle.std.specs.Prelude.{◌≢◌, ℕ, List, [], ◌∷◌}
 use Rattle.std.proofs.Common.{refl, rules, subst, sym}
 use Rattle.prop_lattice.specs.Order.{Below, HasElement}
 use Rattle.prop_lattice.specs.Points.{Point, Element, Holds}
 use Rattle.prop_lattice.specs.Rank.{IsOf}
 use Rattle.prop_lattice.specs.declared.elements.Elements as sets
 use Rattle.prop_lattice.specs.declared.info.Info.{Info}
-use Rattle.prop_lattice.specs.declared.info.Info.TheVariants.{Nothing, Span, Set, Sym, Contradiction}
+use Rattle.prop_lattice.specs.declared.info.Info.TheVariants.{Set, Contradiction}
 use Rattle.prop_lattice.specs.declared.info.Kind.{Kind}
 use Rattle.prop_lattice.specs.declared.info.Kind.TheVariants as kinds
 use Rattle.prop_procedures.specs.declared.shape.Kinded.{Kinded}
 use Rattle.prop_procedures.specs.declared.shape.Param.{Param}
 use Rattle.prop_procedures.specs.declared.shape.Param.TheVariants.{Plain, Scale, Rows}
-use Rattle.prop_procedures.specs.Rules.{AreSides, EachBelow, EachHolds, AreClear, side_kind}
+use Rattle.prop_procedures.specs.Rules.{AreSides, EachBelow, EachHolds, AreClear}
 use Rattle.prop_sets.specs.ImageLaws.{image_kind, coimage_kind}
 use Rattle.prop_sets.specs.Images.{image_of, coimage_of}
 use Rattle.prop_sets.specs.Relation.{Relation}

@@ -7,7 +7,6 @@ use Rattle.prop_lattice.specs.Points.{Point, Element, Holds, IsPointOf}
 use Rattle.prop_lattice.specs.Rank.{IsOf}
 use Rattle.prop_lattice.specs.declared.info.Info.{Info}
 use Rattle.prop_lattice.specs.declared.info.Info.TheVariants.{Nothing, Contradiction}
-use Rattle.prop_lattice.specs.declared.info.Kind.{Kind}
 use Rattle.prop_lattice.specs.declared.info.Kind.TheVariants as kinds
 use Rattle.prop_procedures.specs.declared.shape.Kinded.{Kinded}
 use Rattle.prop_procedures.specs.declared.shape.Shape.TheVariants.{Truth, Any}

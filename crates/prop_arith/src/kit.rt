@@ -261,14 +261,8 @@ impl Rule for Kit {
                 (ins, out, need),
                 ([Shape::Truth, Shape::Truth], Shape::Truth, Need::Nothing)
             ),
-            Kit::Image => matches!(
-                (ins, out, need),
-                ([Shape::From], Shape::To, Need::Rows)
-            ),
-            Kit::Coimage => matches!(
-                (ins, out, need),
-                ([Shape::To], Shape::From, Need::Rows)
-            ),
+            Kit::Image => matches!((ins, out, need), ([Shape::From], Shape::To, Need::Rows)),
+            Kit::Coimage => matches!((ins, out, need), ([Shape::To], Shape::From, Need::Rows)),
         }
     }
 

@@ -1,7 +1,8 @@
 //! Worked values, names and forms of the rules, and truths and comparisons against plain enumeration.
 use crate::{
-    KITS, Kit, above, adder, below, coimager, comparer, conjoin_back, conjoiner, copier, disjoin_back, disjoiner,
-    divider, imager, inverter, lesser, multiplier, parter, passer, rooter, squarer, subtracter,
+    KITS, Kit, above, adder, below, coimager, comparer, conjoin_back, conjoiner, copier,
+    disjoin_back, disjoiner, divider, imager, inverter, lesser, multiplier, parter, passer, rooter,
+    squarer, subtracter,
 };
 use prop_intervals::comparisons::{NO, YES};
 use prop_lattice::{B, Info};
@@ -260,14 +261,27 @@ fn comparisons_are_what_enumeration_finds(rt: HostRuntime) {
         for b in 1u64..8 {
             let (x, y) = (Info::from_bits(a), Info::from_bits(b));
             let truths = truths_of_equality(x, y);
-            assert_eq!(rt; comparer(x, y), if truths == (YES | NO) { Info::Nothing } else { Info::from_bits(truths) });
+            assert_eq!(rt;
+                comparer(x, y),
+                if truths == (YES | NO) {
+                    Info::Nothing
+                } else {
+                    Info::from_bits(truths)
+                }
+            );
             let is_one = a == 1 || a == 2 || a == 4;
             let apart = Info::from_bits(elements_apart(x, y));
-            assert_eq!(rt; parter(no, x, y), if is_one { apart } else { Info::Nothing });
+            assert_eq!(rt;
+                parter(no, x, y),
+                if is_one { apart } else { Info::Nothing }
+            );
             assert_eq!(rt; parter(yes, x, y), Info::Nothing);
             assert_eq!(rt; parter(Info::Nothing, x, y), Info::Nothing);
         }
         assert_eq!(rt; comparer(Info::from_bits(a), Info::Nothing), Info::Nothing);
-        assert_eq!(rt; parter(no, Info::from_bits(a), Info::Nothing), Info::Nothing);
+        assert_eq!(rt;
+            parter(no, Info::from_bits(a), Info::Nothing),
+            Info::Nothing
+        );
     }
 }
