@@ -1,4 +1,6 @@
 //! Worked values, names and forms of the rules, and truths and comparisons against plain enumeration.
+ghost use Rattle.std.specs.Prelude.{◌<◌};
+
 use crate::{
     KITS, Kit, above, adder, below, coimager, comparer, conjoin_back, conjoiner, copier,
     disjoin_back, disjoiner, divider, imager, inverter, lesser, multiplier, parter, passer, rooter,
