@@ -372,11 +372,18 @@ fn reads_sets(rt: HostRuntime) -> Result<(), Fail> {
             return Err("each line is a statement".into());
         };
         let wanted = wanted.map(|bits| Meant::Known(Info::from_bits(bits)));
-        assert_eq!(rt; read_value(&value, Kind::Set(1), &letters), wanted, "at {line:?}");
+        assert_eq!(rt;
+            read_value(&value, Kind::Set(1), &letters),
+            wanted,
+            "at {line:?}"
+        );
     }
     let truths = domain_of(rt.alloc(), &["yes", "no"])?;
     let yes = Ok(Meant::Known(Info::from_bits(0b01)));
-    assert_eq!(rt; read_value(&Value::Bare(b"yes"), Kind::Set(0), &truths), yes);
+    assert_eq!(rt;
+        read_value(&Value::Bare(b"yes"), Kind::Set(0), &truths),
+        yes
+    );
     assert_eq!(rt;
         read_value(&Value::Bare(b"\xff"), Kind::Set(0), &truths),
         Err(Refusal::NotInTheDomain)

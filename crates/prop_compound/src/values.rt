@@ -112,11 +112,7 @@ fn read_set(domain: &Domain, chosen: &[&[u8]]) -> Result<Info, Refusal>
 /// Refused are a value of another kind's form, and of the right form: at a span an end that is no number of the largest
 /// magnitude at most and then ends that leave no number, at a set a word that is no element and then braces without a word, at a
 /// symbol a word that is no name.
-pub fn read_value<'a>(
-    value: &Value<'a>,
-    kind: Kind,
-    domain: &Domain,
-) -> Result<Meant<'a>, Refusal>
+pub fn read_value<'a>(value: &Value<'a>, kind: Kind, domain: &Domain) -> Result<Meant<'a>, Refusal>
     ensures ok { IfOk result (λ meant. value_said kind domain.now (value_of value.now) ≡ Ok (meant_of meant)) }
     ensures err { IfErr result (λ refusal. value_said kind domain.now (value_of value.now) ≡ Err refusal) }
 {

@@ -1,4 +1,4 @@
-use Rattle.std.proofs.Common.{◌≡◌, ◌≤◌, drop, length}
+use Rattle.std.proofs.Common.{◌≡◌, drop}
 use Rattle.prop_compound.specs.Names.{is_among}
 use Rattle.prop_compound.proofs.values.is_element.Given as goal
 
