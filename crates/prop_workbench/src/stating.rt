@@ -183,10 +183,10 @@ impl<R: Rule + Drop, O: Order + Drop> Session<R, O> {
         ensures { result ≡ statement_limit (state_of self.now) (name_of premise) }
     {
         match premise {
-            Some(name) if self.premises.find(name).is_err() && self.premises.len() >= MOST_PREMISES => {
+            Some(name) if self.premises.find(name).is_err() && self.premises.len() >= Limit::Premises.most() => {
                 Some(Refusal::LimitReached(Limit::Premises))
             }
-            _ if self.network.data().statement_count() >= MOST_STATEMENTS => {
+            _ if self.network.data().statement_count() >= Limit::Statements.most() => {
                 Some(Refusal::LimitReached(Limit::Statements))
             }
             _ => None,
