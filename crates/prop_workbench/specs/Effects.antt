@@ -1,7 +1,8 @@
 -- What a command that isn't refused does to the state.
 use Rattle.std.specs.Prelude.{◌≡◌, ℕ, IsTrue, List, [], ◌∷◌, ◌++◌, Option, Some, None, true, false, length, Result, Ok, Err, slice_get, unwrap_or}
 use Rattle.core.specs.Result.{result_unwrap_or}
-use Rattle.std.specs.Option.{option_map_or, option_and_then}
+use Rattle.std.specs.Borrow.{Bor}
+use Rattle.std.specs.Option.{option_map, option_map_or, option_and_then}
 use Rattle.prop_lattice.specs.declared.info.Info.{Info}
 use Rattle.prop_lattice.specs.declared.info.Info.TheVariants.{Nothing, Sym}
 use Rattle.prop_lattice.specs.declared.info.Kind.TheVariants as kinds
@@ -99,6 +100,10 @@ stated s premise cell words info = record s {
   premises = with_told s.premises premise;
   statements = s.statements ++ record { premise = premise_given s.premises premise; cell = cell; info = info } ∷ [];
 }
+
+-- the name of a premise, where one is given
+abbrev pub name_of : Option (Bor (List ℕ)) → Option (List ℕ)
+name_of premise = option_map (λ (name : Bor (List ℕ)). name.now) premise
 
 -- the command that states so
 abbrev pub stating : Option (List ℕ) → List ℕ → Value → Command

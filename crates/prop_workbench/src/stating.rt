@@ -1,11 +1,15 @@
 //! The commands that state what is known.
-ghost use Rattle.std.specs.Prelude.{◌≡◌, ◌<◌, ◌≤◌, ◌++◌, ◌∷◌, [], ℕ, ◌⊎◌, None, Some, OnOk, OnErr, IfErr, length};
+ghost use Rattle.std.specs.Prelude.{◌≡◌, ◌<◌, ◌≤◌, ◌++◌, ◌∷◌, [], ℕ, ◌⊎◌, None, Some, Ok, Err, OnOk, OnErr, IfOk, IfErr, length};
 ghost use Rattle.prop_lattice.specs.declared.refusal.Refusal.TheVariants.{Memory};
 ghost use Rattle.prop_premises.specs.Sets.{set_of};
 ghost use Rattle.prop_procedures.specs.Kept.{stored_of};
 ghost use Rattle.prop_cells.specs.Data.{States};
 ghost use Rattle.prop_cells.specs.Refusing.{state_refusal};
 ghost use Rattle.prop_scheduler.specs.Turns.{IsUnderWay};
+ghost use Rattle.prop_compound.specs.Said.{value_of, meant_of};
+ghost use Rattle.prop_vocabulary.specs.Texts.{elements_of_kind};
+ghost use Rattle.prop_workbench.specs.Refusing.{meaning_at};
+ghost use Rattle.prop_workbench.specs.Sessions.{IsKnown};
 
 use crate::reply::Reply;
 use crate::session::Session;
@@ -53,6 +57,7 @@ fn meaning<'a>(words: &Vocabulary, kind: Kind, value: &Value<'a>) -> Result<Mean
     requires { IsKnown words.now kind }
     ensures ok { IfOk result (λ meant. meaning_at words.now kind (value_of value.now) ≡ Ok (meant_of meant)) }
     ensures err { IfErr result (λ e. meaning_at words.now kind (value_of value.now) ≡ Err e) }
+    ensures few { OnOk result (length (elements_of_kind words.now kind) ≤ 64) }
 {
     let domain = match kind {
         Kind::Set(number) => words.domain(number),
@@ -70,8 +75,11 @@ impl<R: Rule + Drop, O: Order + Drop> Session<R, O> {
     ghost use Rattle.prop_cells.specs.Instances.{kind_at};
     ghost use Rattle.prop_cells.specs.Refusing.{may_be_stated, state_refusal};
     ghost use Rattle.prop_workbench.specs.Answers.{answer_of};
-    ghost use Rattle.prop_workbench.specs.Effects.{number_given};
-    ghost use Rattle.prop_workbench.specs.Refusing.{telling_limit};
+    ghost use Rattle.prop_workbench.specs.Effects.{number_given, name_of, stating, stated, with_meant, info_meant, MayMean};
+    ghost use Rattle.prop_compound.specs.Said.{meant_of};
+    ghost use Rattle.prop_compound.specs.Values.{Name};
+    ghost use Rattle.prop_vocabulary.specs.Vocabulary.{with_symbol, symbol_number};
+    ghost use Rattle.prop_workbench.specs.Refusing.{telling_limit, statement_limit, stating_limit};
     ghost use Rattle.prop_workbench.specs.Sessions.{state_of, steps_of, library_of, IsSound, IsMeant};
     ghost use Rattle.prop_workbench.specs.Steps.{Obeys};
 
