@@ -50,7 +50,13 @@ impl Vocabulary {
         ensures why { IfErr result (λ e. (domain_refusal self.old name.now (texts_of elements.now) ≡ Some e) ⊎ (e ≡ Refusal.Memory)) }
     {
         let domain = self.domain_to_declare(name, elements)?;
-        match push_named(self.alloc, &mut self.domain_names, &mut self.domains, name, domain) {
+        match push_named(
+            self.alloc,
+            &mut self.domain_names,
+            &mut self.domains,
+            name,
+            domain,
+        ) {
             Ok(()) => Ok(()),
             Err(AllocError) => Err(Refusal::Memory),
         }

@@ -42,7 +42,13 @@ impl Vocabulary {
         ensures why { IfErr result (λ e. (relation_refusal self.old name.now from.now to.now (texts_of_pairs pairs.now) ≡ Some e) ⊎ (e ≡ Refusal.Memory)) }
     {
         let rows = self.relation_to_declare(name, from, to, pairs)?;
-        match push_named(self.alloc, &mut self.relation_names, &mut self.relations, name, rows) {
+        match push_named(
+            self.alloc,
+            &mut self.relation_names,
+            &mut self.relations,
+            name,
+            rows,
+        ) {
             Ok(()) => Ok(()),
             Err(AllocError) => Err(Refusal::Memory),
         }

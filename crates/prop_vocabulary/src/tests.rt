@@ -71,9 +71,13 @@ fn relations_are_refused(rt: HostRuntime) -> Result<(), Fail> {
     assert_eq!(rt; taken, Some(Refusal::NameTaken));
     let no_domain = words.declare_relation("s", "d", "e", &[("q", "a")]).err();
     assert_eq!(rt; no_domain, Some(Refusal::NoSuchDomain));
-    let truth = words.declare_relation("s", "truth", "d", &[("yes", "a")]).err();
+    let truth = words
+        .declare_relation("s", "truth", "d", &[("yes", "a")])
+        .err();
     assert_eq!(rt; truth, Some(Refusal::NoSuchDomain));
-    let outside = words.declare_relation("s", "d", "d", &[("a", "b"), ("a", "q")]).err();
+    let outside = words
+        .declare_relation("s", "d", "d", &[("a", "b"), ("a", "q")])
+        .err();
     assert_eq!(rt; outside, Some(Refusal::NotInTheDomain));
     assert!(rt; words.relation("s").is_none());
     Ok(())
@@ -111,7 +115,10 @@ fn values_have_texts(rt: HostRuntime) -> Result<(), Fail> {
         (Kind::Symbol, Info::Contradiction, "contradiction"),
     ];
     for (kind, info, text) in table {
-        assert!(rt; words.value_text(rt.alloc(), kind, info)?.as_str() == text, "of {text}");
+        assert!(rt;
+            words.value_text(rt.alloc(), kind, info)?.as_str() == text,
+            "of {text}"
+        );
     }
     Ok(())
 }
