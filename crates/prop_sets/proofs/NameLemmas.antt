@@ -1,8 +1,9 @@
 -- Names in order, and the set of strings that keeps them.
-use Rattle.std.proofs.Common.{◌≡◌, ℕ, zero, suc, ◌+◌, ◌<◌, ◌⊎◌, Bool, true, false, ◌||◌, List, [], ◌∷◌, ◌++◌, length, get_or, take, position, slice_get, Some, String, string_bytes, bytes_eq, refl, sym, ap, ◌∙◌, arith, inl, inr}
+use Rattle.std.proofs.Common.{◌≡◌, ℕ, zero, suc, ◌+◌, ◌<◌, ◌⊎◌, Bool, true, false, ◌||◌, List, [], ◌∷◌, ◌++◌, length, get_or, take, position, slice_get, Some, None, cond, nat_lt, IsUtf8, String, string_bytes, bytes_eq, refl, sym, ap, ◌∙◌, arith, inl, inr}
 use Rattle.std.specs.List.{list_any, position_or_len}
 use Rattle.std.specs.String.{string_eq}
-use Rattle.std.proofs.lemmas.Bool.{or_parts, or_cases, or_from, or_left, or_right, lt-ltb}
+use Rattle.std.proofs.lemmas.Bool.{or_parts, or_cases, or_from, or_left, or_right, lt-ltb, le-leb}
+use Rattle.std.proofs.lemmas.Str.{IsUtf8-string_bytes}
 use Rattle.std.proofs.lemmas.List.Folds.{list_any-append}
 use Rattle.std.proofs.lemmas.List.Quantifiers.{position-Some}
 use Rattle.std.proofs.lemmas.List.Sums.{position_or_len_is}
@@ -122,3 +123,18 @@ kept_more names kept i d l e =
 pub repeat_from_kept : (names : List (Bor (List ℕ))) (kept : List (List ℕ)) (i : ℕ) (d : Bor (List ℕ)) → i < length names → kept ≡ take i (texts_of names) → is_among (get_or names i d).now kept ≡ true → has_repeat (texts_of names) ≡ true
 repeat_from_kept names kept i d l e h =
     repeat_from_before (texts_of names) i [] (omega (arith, length-texts names)) (rw (texts_at names i d [] l, ← e) h)
+
+-- bytes that are no text are no name
+pub no_text : {A : Type 0} (keys : List (String A)) (name : List ℕ) → (IsUtf8 name → ⊥) → position (bytes_eq name) (names_of keys) ≡ None
+no_text {A = A} keys name bad = rw (at_end keys, length-names keys) (past (length keys))
+  where
+    differs : (k : String A) (t : Bool) → bytes_eq name (string_bytes k) ≡ t → t ≡ false
+    differs k true e = absurd (bad (rw ((bytes_eq-Decides name (string_bytes k)).0 e) (IsUtf8-string_bytes k)))
+    differs k false e = refl
+
+    at_end : (keys : List (String A)) → position_or_len (bytes_eq name) (names_of keys) ≡ length keys
+    at_end [] = refl
+    at_end (k ∷ ks) = rw (differs k (bytes_eq name (string_bytes k)) refl, at_end ks) (omega arith)
+
+    past : (n : ℕ) → cond (nat_lt n n) (Some n) None ≡ None
+    past n = rw (le-leb n n (omega arith)) refl

@@ -96,4 +96,17 @@ impl Domain {
         let i = self.names.get_index_of(name)?;
         Some(i as u8)
     }
+
+    /// The number of the element whose name has these bytes.
+    pub fn index_of(&self, name: &[u8]) -> Option<u8>
+        ensures { result ≡ position (bytes_eq name.now) self.now }
+    {
+        match str::from_utf8(name) {
+            Ok(name) => self.index(name),
+            Err(_) => {
+                let _ = &self.names;
+                None
+            }
+        }
+    }
 }

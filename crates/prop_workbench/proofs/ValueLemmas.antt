@@ -1,7 +1,7 @@
 -- What a value says at a cell, and why it is refused.
 use Rattle.std.proofs.Common.{◌≡◌, ◌∙◌, ℕ, ℤ, pos, neg_ℤ, ◌≤ℤ◌, ◌<◌, ◌≤◌, ◌^◌, ◌/◌, zero, suc, bytes_eq, nat_le, length, Bool, true, false, cond, ◌&&◌, ◌||◌, List, [], ◌∷◌, Option, Some, None, Result, Ok, Err, is_none, unwrap_or, IsTrue, ◌++◌, ◌⊎◌, inl, inr, refl, sym, ap, subst, arith, slice_index_or, eq-eqb}
 use Rattle.std.specs.Prelude.{int_le, int_lt}
-use Rattle.core.specs.Result.{result_unwrap_or}
+use Rattle.std.specs.Result.{result_unwrap_or}
 use Rattle.std.specs.Option.{option_map, option_map_or, option_and_then}
 use Rattle.std.specs.List.{list_all}
 use Rattle.std.proofs.lemmas.Int.{ints}
@@ -81,9 +81,6 @@ symbol_refused : (t : Bool) (word : List ℕ) (e : Refusal) → cond t (Ok (Name
 symbol_refused true word e h = cc
 symbol_refused false word e h = let same : NotAName ≡ e = cc in subst IsValueRefusal same no_name
 
-kind_refused : (e : Refusal) → Err WrongKind ≡ Err e → IsValueRefusal e
-kind_refused e h = let same : WrongKind ≡ e = cc in subst IsValueRefusal same wrong_kind
-
 value_refusal : (kind : Kind) (names : List (List ℕ)) (value : Value) (e : Refusal) → value_said kind names value ≡ Err e → IsValueRefusal e
 value_refusal kinds.Span names (Bare word) e h = span_refusal (halves word) e (known_refusal (span_value (halves word)) e h)
 value_refusal kinds.Span names (Braces words) e h = let same : WrongKind ≡ e = cc in subst IsValueRefusal same wrong_kind
@@ -138,18 +135,18 @@ span_value_may_be size (left, Some right) info h = ends_may_be size (bounded_num
 -- the place of a name among names
 among_at : (names : List (List ℕ)) (w : List ℕ) → is_among names w ≡ true → (i : ℕ) × (i < length names) × (slice_index_or names i [] ≡ w)
 among_at [] w h = cc
-among_at (n ∷ names) w h = by (bytes_eq n w) refl h
+among_at (n ∷ names) w h = by (among_at names w) (bytes_eq n w) refl h
   where
-    by : (t : Bool) → bytes_eq n w ≡ t → (t || is_among names w) ≡ true → (i : ℕ) × (i < length (n ∷ names)) × (slice_index_or (n ∷ names) i [] ≡ w)
-    by true e k = (0, omega arith, (bytes_eq-Decides n w).0 e)
-    by false e k = let rest = among_at names w k in (suc rest.0, omega (arith, rest.1.0), rest.1.1)
+    by : (is_among names w ≡ true → (i : ℕ) × (i < length names) × (slice_index_or names i [] ≡ w)) → (t : Bool) → bytes_eq n w ≡ t → (t || is_among names w) ≡ true → (i : ℕ) × (i < length (n ∷ names)) × (slice_index_or (n ∷ names) i [] ≡ w)
+    by others true e k = (0, omega arith, (bytes_eq-Decides n w).0 e)
+    by others false e k = let rest = others k in (suc rest.0, omega (arith, rest.1), rest.2)
 
 -- the first of the words is found, so that a bit is set
 bit_named : (names words : List (List ℕ)) (w : List ℕ) → is_among names w ≡ true → 0 < bits_named names (w ∷ words)
 bit_named names words w h =
     let at = among_at names w h in
-    let same : bytes_eq w (slice_index_or names at.0 []) ≡ true = rw at.1.1 ((bytes_eq-Decides w w).1 refl) in
-    let bit = bits_where-has (length names) (λ i. is_among (w ∷ words) (slice_index_or names i [])) at.0 at.1.0 (rw same refl) in
+    let same : bytes_eq w (slice_index_or names at.0 []) ≡ true = rw at.2 ((bytes_eq-Decides w w).1 refl) in
+    let bit = bits_where-has (length names) (λ i. is_among (w ∷ words) (slice_index_or names i [])) at.0 at.1 (rw same refl) in
     by (bits_named names (w ∷ words)) at.0 bit
   where
     by : (bits i : ℕ) → bit_at bits i ≡ 1 → 0 < bits

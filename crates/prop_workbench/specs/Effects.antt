@@ -1,6 +1,6 @@
 -- What a command that isn't refused does to the state.
 use Rattle.std.specs.Prelude.{◌≡◌, ℕ, IsTrue, List, [], ◌∷◌, ◌++◌, Option, Some, None, true, false, length, Result, Ok, Err, slice_get, unwrap_or}
-use Rattle.core.specs.Result.{result_unwrap_or}
+use Rattle.std.specs.Result.{result_unwrap_or}
 use Rattle.std.specs.Borrow.{Bor}
 use Rattle.std.specs.Option.{option_map, option_map_or, option_and_then}
 use Rattle.prop_lattice.specs.declared.info.Info.{Info}

@@ -12,7 +12,7 @@ use Rattle.prop_procedures.specs.declared.shape.Param.{Param}
 use Rattle.prop_procedures.specs.declared.shape.Param.TheVariants as params
 use Rattle.prop_procedures.specs.Stored.{Stored, procedure_number, sides_of}
 use Rattle.prop_compound.specs.Commands.{By, KindWord, Named, Value, Command}
-use Rattle.prop_compound.specs.Values.{Meant, Name, value_said}
+use Rattle.prop_compound.specs.Values.{Meant, Known, Name, value_said}
 use Rattle.prop_cells.specs.Instances.{kind_at, kinds_fit, fitting_param}
 use Rattle.prop_vocabulary.specs.Names.{number_in, numbers_in}
 use Rattle.prop_vocabulary.specs.Vocabulary.{Vocabulary, domain_number, relation_named}

@@ -29,14 +29,17 @@ fn domain_kinded(words: &Vocabulary, number: u16) -> Kinded
 
 /// The kind that a word says, `None` where it names no domain.
 fn kind_named(words: &Vocabulary, word: KindWord) -> Option<Kinded>
-    ensures known { IfSome result (λ kind. kind ≡ kind_named words.now (kind_of word)) }
-    ensures none { result ≡ None → is_nowhere words.now (kind_of word) ≡ true }
-    ensures some { IfSome result (λ kind. is_nowhere words.now (kind_of word) ≡ false) }
+    ensures known { IfSome result (λ kind. kind ≡ kind_named words.now (kind_of word.entry)) }
+    ensures none { result ≡ None → is_nowhere words.now (kind_of word.entry) ≡ true }
+    ensures some { IfSome result (λ kind. is_nowhere words.now (kind_of word.entry) ≡ false) }
     ensures sized { IfSome result (IsSized words.now) }
 {
     match word {
         KindWord::Spans => Some(span_kinded()),
-        KindWord::Truths => Some(domain_kinded(words, 0)),
+        KindWord::Truths => {
+            words.domain_count();
+            Some(domain_kinded(words, 0))
+        }
         KindWord::Symbols => Some(Kinded {
             kind: Kind::Symbol,
             size: 0,
@@ -126,7 +129,7 @@ impl<R: Rule + Drop, O: Order + Drop> Session<R, O> {
         ensures same { self.new.network.library ≡ self.old.network.library }
         ensures sound { IsSound R.value_of self.new }
         ensures steps { steps_of self.new ≡ steps_of self.old }
-        ensures step { Obeys (library_of R.value_of self.old) (state_of self.old) (commands.Command.Cell name.now (kind_of kind)) (answer_of result) (state_of self.new) 0 }
+        ensures step { Obeys (library_of R.value_of self.old) (state_of self.old) (commands.Command.Cell name.now (kind_of kind.entry)) (answer_of result) (state_of self.new) 0 }
     {
         match self.names.find(name) {
             Some(_) => return Reply::Refused(Refusal::NameTaken),

@@ -59,6 +59,7 @@ fn meaning<'a>(words: &Vocabulary, kind: Kind, value: &Value<'a>) -> Result<Mean
     ensures err { IfErr result (λ e. meaning_at words.now kind (value_of value.now) ≡ Err e) }
     ensures few { OnOk result (length (elements_of_kind words.now kind) ≤ 64) }
 {
+    words.domain_count();
     let domain = match kind {
         Kind::Set(number) => words.domain(number),
         Kind::Span | Kind::Symbol => words.domain(0),
@@ -111,7 +112,7 @@ impl<R: Rule + Drop, O: Order + Drop> Session<R, O> {
         ensures same { self.new.network.library ≡ self.old.network.library }
         ensures sound { IsSound R.value_of self.new }
         ensures steps { steps_of self.new ≡ steps_of self.old }
-        ensures step { Obeys (library_of R.value_of self.old) (state_of self.old) (stating (name_of premise) name.now (value_of value.now)) (answer_of result) (state_of self.new) 0 }
+        ensures step { Obeys (library_of R.value_of self.old) (state_of self.old) (stating (name_of premise.entry) name.now (value_of value.now)) (answer_of result) (state_of self.new) 0 }
     {
         let cell = match self.names.find(name) {
             Some(cell) => cell,
@@ -141,9 +142,9 @@ impl<R: Rule + Drop, O: Order + Drop> Session<R, O> {
         ensures same { self.new.network.library ≡ self.old.network.library }
         ensures sound { IsSound R.value_of self.new }
         ensures steps { steps_of self.new ≡ steps_of self.old }
-        ensures fits { OnOk result (stating_limit (state_of self.old) (name_of premise) (meant_of meant) ≡ None) }
-        ensures ok { OnOk result (state_of self.new ≡ stated (state_of self.old) (name_of premise) cell (with_meant self.old.words (meant_of meant)) (info_meant self.old.words (meant_of meant))) }
-        ensures err { IfErr result (λ e. (stating_limit (state_of self.old) (name_of premise) (meant_of meant) ≡ Some e) ⊎ (e ≡ Memory)) }
+        ensures fits { OnOk result (stating_limit (state_of self.old) (name_of premise.entry) (meant_of meant.entry) ≡ None) }
+        ensures ok { OnOk result (state_of self.new ≡ stated (state_of self.old) (name_of premise.entry) cell (with_meant self.old.words (meant_of meant.entry)) (info_meant self.old.words (meant_of meant.entry))) }
+        ensures err { IfErr result (λ e. (stating_limit (state_of self.old) (name_of premise.entry) (meant_of meant.entry) ≡ Some e) ⊎ (e ≡ Memory)) }
         ensures err_same { OnErr result (state_of self.new ≡ state_of self.old) }
     {
         match meant {
@@ -165,9 +166,9 @@ impl<R: Rule + Drop, O: Order + Drop> Session<R, O> {
         ensures same { self.new.network.library ≡ self.old.network.library }
         ensures sound { IsSound R.value_of self.new }
         ensures steps { steps_of self.new ≡ steps_of self.old }
-        ensures fits { OnOk result (stating_limit (state_of self.old) (name_of premise) (Name symbol.now) ≡ None) }
-        ensures ok { OnOk result (state_of self.new ≡ stated (state_of self.old) (name_of premise) cell (with_symbol self.old.words symbol.now) (Info.Sym (symbol_number self.old.words symbol.now))) }
-        ensures err { IfErr result (λ e. (stating_limit (state_of self.old) (name_of premise) (Name symbol.now) ≡ Some e) ⊎ (e ≡ Memory)) }
+        ensures fits { OnOk result (stating_limit (state_of self.old) (name_of premise.entry) (Name symbol.now) ≡ None) }
+        ensures ok { OnOk result (state_of self.new ≡ stated (state_of self.old) (name_of premise.entry) cell (with_symbol self.old.words symbol.now) (Info.Sym (symbol_number self.old.words symbol.now))) }
+        ensures err { IfErr result (λ e. (stating_limit (state_of self.old) (name_of premise.entry) (Name symbol.now) ≡ Some e) ⊎ (e ≡ Memory)) }
         ensures err_same { OnErr result (state_of self.new ≡ state_of self.old) }
     {
         match self.statement_limit(premise) {
@@ -188,7 +189,7 @@ impl<R: Rule + Drop, O: Order + Drop> Session<R, O> {
     /// Why one more statement is refused, under the premise with a name or under none.
     fn statement_limit(&self, premise: Option<&str>) -> Option<Refusal>
         requires sound { IsSound R.value_of self.now }
-        ensures { result ≡ statement_limit (state_of self.now) (name_of premise) }
+        ensures { result ≡ statement_limit (state_of self.now) (name_of premise.entry) }
     {
         match premise {
             Some(name) if self.premises.find(name).is_err() && self.premises.len() >= Limit::Premises.most() => {
@@ -215,9 +216,9 @@ impl<R: Rule + Drop, O: Order + Drop> Session<R, O> {
         ensures sound { IsSound R.value_of self.new }
         ensures steps { steps_of self.new ≡ steps_of self.old }
         ensures words { self.new.words ≡ self.old.words }
-        ensures fits { OnOk result (statement_limit (state_of self.old) (name_of premise) ≡ None) }
-        ensures ok { OnOk result (state_of self.new ≡ stated (state_of self.old) (name_of premise) cell self.old.words info) }
-        ensures err { IfErr result (λ e. (statement_limit (state_of self.old) (name_of premise) ≡ Some e) ⊎ (e ≡ Memory)) }
+        ensures fits { OnOk result (statement_limit (state_of self.old) (name_of premise.entry) ≡ None) }
+        ensures ok { OnOk result (state_of self.new ≡ stated (state_of self.old) (name_of premise.entry) cell self.old.words info) }
+        ensures err { IfErr result (λ e. (statement_limit (state_of self.old) (name_of premise.entry) ≡ Some e) ⊎ (e ≡ Memory)) }
         ensures err_same { OnErr result (state_of self.new ≡ state_of self.old) }
     {
         match premise {

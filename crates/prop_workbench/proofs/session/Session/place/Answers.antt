@@ -82,7 +82,7 @@ returns-in-Ok-attach-clause-sound g c =
       under_way = rw (c.attach.ensures.same, c.given.ensures.same) (under_way_attach library (believed_in mid.premises) old new mid.agenda.line c.alert.new.self.line x c.instances-next.result way kept e (c.instances-next.ensures.count ∙ sym instances) c.alert.ensures.alerted);
       worldview = c.given.ensures.sound.worldview;
       known = rw e c.given.ensures.sound.known;
-      sized = rw (e, c.given.ensures.words) at c.given.ensures.sound.sized;
+      sized = rw e c.given.ensures.sound.sized;
       named = c.given.ensures.sound.named ∙ sym (ap (λ (d : Data). length d.kinds) e);
       roomy = omega (arith, count, instances, room, c.in-Some-checked_add.ensures.1, c.instances-next.ensures.count);
     }

@@ -23,3 +23,10 @@ returns-clause-sound g c =
       named = c.requires.sound.named ∙ sym (ap (λ d. length d.kinds) rest);
       roomy = rw (c.state_in.ensures.room, ap (λ d. d.instances) rest) c.requires.sound.roomy;
     }
+
+pub returns-in_err-state_in-clause-sound : goal.returns-in_err-state_in-clause-sound
+returns-in_err-state_in-clause-sound g c =
+    let sound = c.requires.sound in
+    let cells = c.in_err-state_in.ensures.err_same in
+    let line = c.in_err-state_in.ensures.err_line in
+    record { under_way = rw (c.state_in.ensures.same, cells, line) sound.under_way; worldview = sound.worldview; known = rw cells sound.known; sized = rw cells sound.sized; named = rw cells sound.named; roomy = rw (cells, line) sound.roomy }

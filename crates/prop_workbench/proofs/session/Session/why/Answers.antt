@@ -27,7 +27,7 @@ returns-in-Quiet-clause-step g c =
     let library = stored_of g.R.Rule.value_of s.network.library in
     let state = state_from s.names s.words s.premises s.network.cells s.limit in
     let new = c.run_network.new.self in
-    let found = sym c.in-Some.ensures in
+    let found = sym c.in-Some.ensures.number in
     let v = beliefs (believed_in new.premises) new.network.cells.contents c.in-Some.cell in
     let settled : IsSettled library (believed_in new.premises) new.network.cells = rw (← c.run_network.ensures.premises) at (c.in-Ok.ensures.settled c.in-Quiet.is) in
     let value : IsSettledValue library state c.in-Some.cell v = subst (λ (t : State). IsSettledValue library t c.in-Some.cell v) c.run_network.ensures.state
@@ -41,7 +41,7 @@ returns-in-Spent-clause-step g c =
     let library = stored_of g.R.Rule.value_of s.network.library in
     let state = state_from s.names s.words s.premises s.network.cells s.limit in
     let new = c.run_network.new.self in
-    let found = sym c.in-Some.ensures in
+    let found = sym c.in-Some.ensures.number in
     let v = beliefs (believed_in new.premises) new.network.cells.contents c.in-Some.cell in
     let kept : IsKept library new.network.cells = rw c.run_network.ensures.same at c.run_network.ensures.sound.under_way.kept in
     let made : IsWellMade new.network.cells = rw c.data.ensures at c.well_made.ensures in
@@ -55,12 +55,12 @@ returns-in-Spent-clause-step g c =
 pub returns-in-Quiet-clause-lean : goal.returns-in-Quiet-clause-lean
 returns-in-Quiet-clause-lean g c =
     let new = c.run_network.new.self in
-    λ text e. inl (c.in-Some.cell, sym c.in-Some.ensures, inl (subst (λ (t : State). IsLeanExplanation new.network.cells t c.in-Some.cell c.args.name.now [] text) c.run_network.ensures.state (c.explained.ensures.lean text e)))
+    λ text e. inl (c.in-Some.cell, sym c.in-Some.ensures.number, inl (subst (λ (t : State). IsLeanExplanation new.network.cells t c.in-Some.cell c.args.name.now [] text) c.run_network.ensures.state (c.explained.ensures.lean text e)))
 
 pub returns-in-Spent-clause-lean : goal.returns-in-Spent-clause-lean
 returns-in-Spent-clause-lean g c =
     let new = c.run_network.new.self in
-    λ text e. inl (c.in-Some.cell, sym c.in-Some.ensures, inr (subst (λ (t : State). IsLeanExplanation new.network.cells t c.in-Some.cell c.args.name.now (codes " unsettled") text) c.run_network.ensures.state (c.explained-in-Spent.ensures.lean text e)))
+    λ text e. inl (c.in-Some.cell, sym c.in-Some.ensures.number, inr (subst (λ (t : State). IsLeanExplanation new.network.cells t c.in-Some.cell c.args.name.now (codes " unsettled") text) c.run_network.ensures.state (c.explained-in-Spent.ensures.lean text e)))
 
 pub returns-in-Clash-clause-lean : goal.returns-in-Clash-clause-lean
 returns-in-Clash-clause-lean g c =
