@@ -1,11 +1,11 @@
 -- A relation that is made of pairs of names has just these pairs.
-use Rattle.std.proofs.Common.{◌≡◌, ◌∙◌, ◌↔◌, ◌⊎◌, ℕ, ◌+◌, ◌<◌, ◌≤◌, ◌^◌, Bool, true, false, ◌||◌, List, [], ◌∷◌, Option, Some, None, length, get_or, replicate, bit_or, is_none, unwrap_or, inl, inr, refl, sym, ap, arith, length-set, lit≤}
+use Rattle.std.proofs.Common.{◌≡◌, ◌∙◌, ◌↔◌, ◌⊎◌, ℕ, ◌<◌, ◌≤◌, ◌^◌, false, List, [], ◌∷◌, Option, Some, None, length, get_or, replicate, bit_or, is_none, unwrap_or, inl, inr, refl, sym, ap, arith, length-set, lit≤}
 use Rattle.std.specs.Int.{bit_at}
 use Rattle.std.proofs.lemmas.Bool.{or_parts, cases_lt}
 use Rattle.std.proofs.lemmas.List.{get_or_past, get_or-replicate, length-replicate}
 use Rattle.std.proofs.lemmas.Nat.Bits.{bit_at-zero}
 use Rattle.std.proofs.lemmas.Option.{slice_get_past}
-use Rattle.prop_sets.specs.Relation.{Relation, HasPair, no_pairs, with_bit, with_pair}
+use Rattle.prop_sets.specs.Relation.{Relation, HasPair, no_pairs, with_pair}
 use Rattle.prop_sets.specs.declared.side.Side as sides
 use Rattle.prop_sets.proofs.TieLemmas.{adds-pair}
 use Rattle.prop_vocabulary.specs.Names.{number_in}

@@ -1,5 +1,5 @@
 -- Pairs of elements, one more at a time.
-use Rattle.std.proofs.Common.{◌≡◌, ◌∙◌, ℕ, zero, suc, ◌+◌, ◌<◌, Bool, true, false, ◌||◌, List, [], ◌∷◌, ◌++◌, Option, Some, None, length, take, get_or, map, fold, is_none, unwrap_or, refl, sym, ap, arith}
+use Rattle.std.proofs.Common.{◌≡◌, ◌∙◌, ℕ, zero, suc, ◌+◌, ◌<◌, Bool, true, false, ◌||◌, List, [], ◌∷◌, ◌++◌, Some, None, length, take, get_or, map, fold, is_none, unwrap_or, refl, sym, ap, arith}
 use Rattle.std.specs.Borrow.{Bor}
 use Rattle.std.specs.List.{list_any}
 use Rattle.std.proofs.lemmas.Bool.{or_from, or_left, or_right}
@@ -11,7 +11,7 @@ use Rattle.prop_sets.specs.Relation.{Relation, with_pair, no_pairs}
 use Rattle.prop_vocabulary.specs.Names.{number_in}
 use Rattle.prop_vocabulary.specs.Pairs.{texts_of_pairs, with_named_pair, with_pairs, is_pair_outside, is_outside}
 use Rattle.prop_vocabulary.specs.Refusing.{is_word_outside, pairs_refusal}
-use Rattle.prop_vocabulary.specs.Vocabulary.{Vocabulary, domain_number, elements_of, side_at, relation_between, relation_of, IsSideOf, HasSides}
+use Rattle.prop_vocabulary.specs.Vocabulary.{Vocabulary, domain_number, elements_of, side_at, relation_between, relation_of, HasSides}
 use Rattle.prop_vocabulary.proofs.RefusalLemmas.{word_outside, pairs_allowed}
 
 texts_more : (pairs : List (Bor (List ℕ) × Bor (List ℕ))) (i : ℕ) (d : Bor (List ℕ) × Bor (List ℕ)) → i < length pairs →

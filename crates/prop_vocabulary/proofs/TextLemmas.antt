@@ -1,11 +1,9 @@
 -- The texts of names.
-use Rattle.std.proofs.Common.{◌≡◌, ◌∙◌, ℕ, zero, suc, ◌+◌, ◌<◌, Bool, true, false, ◌==◌, if◌then◌else◌, List, [], ◌∷◌, ◌++◌, Option, Some, None, length, get_or, map, slice_get, unwrap_or, flat_map, codes, refl, sym, ap, arith, append-nil}
+use Rattle.std.proofs.Common.{◌≡◌, ℕ, List, [], ◌∷◌, ◌++◌, length, flat_map, codes, refl, ap}
 use Rattle.std.specs.Borrow.{Bor}
-use Rattle.std.specs.Int.{bit_at}
 use Rattle.std.specs.List.{join_by}
-use Rattle.std.proofs.lemmas.List.{map-append}
 use Rattle.prop_sets.specs.Names.{texts_of}
-use Rattle.prop_vocabulary.specs.Texts.{name_at, names_below, in_braces}
+use Rattle.prop_vocabulary.specs.Texts.{in_braces}
 
 flat_map-texts : (names : List (Bor (List ℕ))) → flat_map (λ (y : Bor (List ℕ)). codes " " ++ y.now) names ≡ flat_map (λ (y : List ℕ). codes " " ++ y) (texts_of names)
 flat_map-texts [] = refl

@@ -1,15 +1,15 @@
 -- What is true of every vocabulary stays true.
-use Rattle.std.proofs.Common.{◌≡◌, ◌∙◌, ℕ, zero, suc, ◌+◌, ◌<◌, ◌≤◌, List, [], ◌∷◌, ◌++◌, All, Option, Some, length, get_or, slice_get, unwrap_or, refl, sym, ap, arith, lit≤, lit<}
+use Rattle.std.proofs.Common.{◌≡◌, ◌∙◌, ℕ, ◌+◌, ◌<◌, List, [], ◌∷◌, ◌++◌, Some, length, get_or, slice_get, sym, ap, arith}
 use Rattle.std.proofs.Math.ListN.{get_or-append}
 use Rattle.std.proofs.lemmas.List.{length-append}
-use Rattle.std.proofs.lemmas.List.Elements.{All-push, All-nil, All-cons}
-use Rattle.std.proofs.lemmas.Option.{unwrap_or-slice_get, slice_get-get_or, slice_get_within}
+use Rattle.std.proofs.lemmas.List.Elements.{All-push}
+use Rattle.std.proofs.lemmas.Option.{unwrap_or-slice_get}
 use Rattle.prop_lattice.specs.Refusals.{most}
-use Rattle.prop_lattice.specs.declared.refusal.Limit.TheVariants.{Domains, Relations, Symbols}
+use Rattle.prop_lattice.specs.declared.refusal.Limit.TheVariants.{Domains, Relations}
 use Rattle.prop_sets.specs.Names.{AreElements}
 use Rattle.prop_sets.specs.Relation.{Relation}
 use Rattle.prop_sets.specs.declared.side.Side as sides
-use Rattle.prop_vocabulary.specs.Vocabulary.{Vocabulary, truth_elements, start_vocabulary, elements_at, with_domain, with_new_relation, IsSideOf, HasSides, IsWhole}
+use Rattle.prop_vocabulary.specs.Vocabulary.{Vocabulary, truth_elements, elements_at, with_domain, with_new_relation, IsSideOf, HasSides, IsWhole}
 
 -- what a domain has stays, with one domain more
 elements_at-more : (domains : List (List (List ℕ))) (more : List (List ℕ)) (d : ℕ) → d < length domains → elements_at (domains ++ more ∷ []) d ≡ elements_at domains d

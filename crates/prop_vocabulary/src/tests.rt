@@ -1,7 +1,9 @@
 //! What is declared and refused, and the texts of values.
 
 use crate::Vocabulary;
-use prop_lattice::{Info, Kind, Limit, Refusal};
+use prop_lattice::{Elements, Info, Kind, Limit, Refusal};
+use prop_sets::Rows;
+use std::alloc::{AllocError, Global};
 use std::test::Fail;
 
 /// A text of 65 letters, whose first parts are names.
@@ -43,21 +45,37 @@ fn domains_are_refused(rt: HostRuntime) -> Result<(), Fail> {
     Ok(())
 }
 
+/// The bits of what the relation pairs with the elements of these bits.
+fn partners(rows: &Rows, bits: u64) -> u64 {
+    match Elements::new(bits) {
+        Some(elements) => match rows.image(elements) {
+            Info::Set(others) => others.bits(),
+            _ => 0,
+        },
+        None => 0,
+    }
+}
+
+/// Two domains, a relation between the first and itself, and a symbol.
+fn sample(alloc: Global) -> Result<Vocabulary, Refusal> {
+    let Ok(mut words) = Vocabulary::new(alloc) else {
+        return Err(Refusal::Memory);
+    };
+    words.declare_domain("c", &["q"])?;
+    words.declare_domain("d", &["e", "f", "g"])?;
+    words.declare_relation("r", "d", "d", &[("e", "g"), ("g", "e"), ("e", "g")])?;
+    words.add_symbol("red")?;
+    Ok(words)
+}
+
 #[test]
 fn relations_have_just_their_pairs(rt: HostRuntime) -> Result<(), Fail> {
-    let mut words = Vocabulary::new(rt.alloc())?;
-    assert!(rt; words.declare_domain("d", &["a", "b", "c"]).is_ok());
-    assert!(rt; words.declare_domain("e", &["x", "y"]).is_ok());
-    let pairs = [("a", "y"), ("c", "x"), ("a", "y")];
-    assert!(rt; words.declare_relation("r", "d", "e", &pairs).is_ok());
-    let Info::Set(first) = Info::from_bits(0b001) else {
-        return Err("a bit is set".into());
-    };
+    let words = sample(rt.alloc())?;
     let rows = words.relation("r").ok_or("it is declared")?;
-    assert_eq!(rt; rows.from().domain, 1);
-    assert_eq!(rt; rows.to().domain, 2);
-    assert_eq!(rt; rows.image(first), Info::from_bits(0b10));
-    assert_eq!(rt; rows.coimage(first), Info::from_bits(0b100));
+    assert_eq!(rt; rows.from().domain, 2);
+    assert_eq!(rt; partners(rows, 0b001), 0b100);
+    assert_eq!(rt; partners(rows, 0b010), 0);
+    assert_eq!(rt; partners(rows, 0b100), 0b001);
     assert!(rt; words.relation("d").is_none());
     Ok(())
 }
@@ -97,28 +115,49 @@ fn symbols_keep_their_numbers(rt: HostRuntime) -> Result<(), Fail> {
     Ok(())
 }
 
-#[test]
-fn values_have_texts(rt: HostRuntime) -> Result<(), Fail> {
-    let mut words = Vocabulary::new(rt.alloc())?;
-    assert!(rt; words.declare_domain("d", &["e", "f", "g"]).is_ok());
-    assert_eq!(rt; words.add_symbol("red"), Ok(0));
-    let table = [
-        (Kind::Set(1), Info::from_bits(0b011), "{e f}"),
-        (Kind::Set(1), Info::from_bits(0b101), "{e g}"),
-        (Kind::Set(1), Info::from_bits(0b001), "e"),
-        (Kind::Set(0), Info::from_bits(0b11), "{yes no}"),
-        (Kind::Set(0), Info::from_bits(0b01), "yes"),
-        (Kind::Symbol, Info::Sym(0), "red"),
-        (Kind::Span, Info::between(-3, 10), "-3..10"),
-        (Kind::Span, Info::between(7, 7), "7"),
-        (Kind::Span, Info::Nothing, "nothing"),
-        (Kind::Symbol, Info::Contradiction, "contradiction"),
-    ];
-    for (kind, info, text) in table {
-        assert!(rt;
-            words.value_text(rt.alloc(), kind, info)?.as_str() == text,
-            "of {text}"
-        );
+/// Whether the value has the text.
+fn reads(words: &Vocabulary, alloc: Global, kind: Kind, info: Info, text: &str) -> bool {
+    match words.value_text(alloc, kind, info) {
+        Ok(written) => written.as_str() == text,
+        Err(AllocError) => false,
     }
+}
+
+#[test]
+fn elements_have_texts(rt: HostRuntime) -> Result<(), Fail> {
+    let words = sample(rt.alloc())?;
+    let (truth, d) = (Kind::Set(0), Kind::Set(2));
+    assert!(rt; reads(&words, rt.alloc(), d, Info::from_bits(0b011), "{e f}"));
+    assert!(rt; reads(&words, rt.alloc(), d, Info::from_bits(0b101), "{e g}"));
+    assert!(rt; reads(&words, rt.alloc(), d, Info::from_bits(0b001), "e"));
+    assert!(rt; reads(&words, rt.alloc(), truth, Info::from_bits(0b11), "{yes no}"));
+    assert!(rt; reads(&words, rt.alloc(), truth, Info::from_bits(0b01), "yes"));
+    Ok(())
+}
+
+#[test]
+fn other_values_have_texts(rt: HostRuntime) -> Result<(), Fail> {
+    let words = sample(rt.alloc())?;
+    assert!(rt; reads(&words, rt.alloc(), Kind::Symbol, Info::Sym(0), "red"));
+    assert!(rt;
+        reads(
+            &words,
+            rt.alloc(),
+            Kind::Span,
+            Info::between(-3, 10),
+            "-3..10"
+        )
+    );
+    assert!(rt; reads(&words, rt.alloc(), Kind::Span, Info::between(7, 7), "7"));
+    assert!(rt; reads(&words, rt.alloc(), Kind::Span, Info::Nothing, "nothing"));
+    assert!(rt;
+        reads(
+            &words,
+            rt.alloc(),
+            Kind::Symbol,
+            Info::Contradiction,
+            "contradiction"
+        )
+    );
     Ok(())
 }

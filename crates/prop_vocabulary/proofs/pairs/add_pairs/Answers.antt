@@ -1,4 +1,4 @@
-use Rattle.std.proofs.Common.{◌≡◌, ◌∙◌, refl, sym, ap}
+use Rattle.std.proofs.Common.{◌∙◌, refl, sym, ap}
 use Rattle.prop_sets.specs.Relation.{Relation}
 use Rattle.prop_vocabulary.proofs.PairLemmas.{pairs_more, inside_more, first_outside, second_outside}
 use Rattle.prop_vocabulary.proofs.pairs.add_pairs.Goals as goal

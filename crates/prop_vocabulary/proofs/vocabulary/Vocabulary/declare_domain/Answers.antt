@@ -1,4 +1,3 @@
-use Rattle.std.proofs.Common.{◌≡◌}
 use Rattle.prop_sets.specs.Names.{texts_of}
 use Rattle.prop_vocabulary.specs.Vocabulary.{Vocabulary}
 use Rattle.prop_vocabulary.proofs.RefusalLemmas.{domains_room}

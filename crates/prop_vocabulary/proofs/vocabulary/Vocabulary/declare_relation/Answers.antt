@@ -1,4 +1,3 @@
-use Rattle.std.proofs.Common.{◌≡◌}
 use Rattle.prop_vocabulary.specs.Pairs.{texts_of_pairs}
 use Rattle.prop_vocabulary.specs.Vocabulary.{Vocabulary, HasSides}
 use Rattle.prop_vocabulary.proofs.RefusalLemmas.{relations_room}
