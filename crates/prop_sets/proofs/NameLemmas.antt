@@ -2,7 +2,8 @@
 use Rattle.std.proofs.Common.{◌≡◌, ℕ, zero, suc, ◌+◌, ◌<◌, ◌⊎◌, Bool, true, false, ◌||◌, List, [], ◌∷◌, ◌++◌, length, get_or, take, position, slice_get, Some, None, cond, nat_lt, IsUtf8, String, string_bytes, bytes_eq, refl, sym, ap, ◌∙◌, arith, inl, inr}
 use Rattle.std.specs.List.{list_any, position_or_len}
 use Rattle.std.specs.String.{string_eq}
-use Rattle.std.proofs.lemmas.Bool.{or_parts, or_cases, or_from, or_left, or_right, lt-ltb, le-leb}
+use Rattle.std.proofs.lemmas.Bool.{or_parts, or_cases, or_from, or_left, or_right, lt-ltb}
+use Rattle.std.proofs.lemmas.Bool.Decides.{nat_tests}
 use Rattle.std.proofs.lemmas.Str.{IsUtf8-string_bytes}
 use Rattle.std.proofs.lemmas.List.Folds.{list_any-append}
 use Rattle.std.proofs.lemmas.List.Quantifiers.{position-Some}
@@ -137,4 +138,4 @@ no_text {A = A} keys name bad = rw (at_end keys, length-names keys) (past (lengt
     at_end (k ∷ ks) = rw (differs k (bytes_eq name (string_bytes k)) refl, at_end ks) (omega arith)
 
     past : (n : ℕ) → cond (nat_lt n n) (Some n) None ≡ None
-    past n = rw (le-leb n n (omega arith)) refl
+    past n = let f : nat_lt n n ≡ false = grind (arith, nat_tests) in rw f refl

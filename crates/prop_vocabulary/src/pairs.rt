@@ -10,7 +10,7 @@ pub(crate) fn add_pairs(
     rows: &mut Rows,
     first: &Domain,
     second: &Domain,
-    pairs: &[(&str, &str)],
+    pairs: &[(&[u8], &[u8])],
 ) -> Result<(), Refusal>
     requires first { rows.old.from.size ≡ length first.now }
     requires second { rows.old.to.size ≡ length second.now }
@@ -21,10 +21,10 @@ pub(crate) fn add_pairs(
     ensures why { IfErr result (λ e. (e ≡ Refusal.NotInTheDomain) × (is_outside first.now second.now (texts_of_pairs pairs.now) ≡ true)) }
 {
     for pair in pairs {
-        let Some(i) = first.index(pair.0) else {
+        let Some(i) = first.index_of(pair.0) else {
             return Err(Refusal::NotInTheDomain);
         };
-        let Some(j) = second.index(pair.1) else {
+        let Some(j) = second.index_of(pair.1) else {
             return Err(Refusal::NotInTheDomain);
         };
         rows.set(i, j);

@@ -34,7 +34,7 @@ impl Vocabulary {
         name: &str,
         from: &str,
         to: &str,
-        pairs: &[(&str, &str)],
+        pairs: &[(&[u8], &[u8])],
     ) -> Result<(), Refusal>
         ensures ok { OnOk result (self.new ≡ with_relation self.old name.now from.now to.now (texts_of_pairs pairs.now)) }
         ensures allowed { OnOk result (relation_refusal self.old name.now from.now to.now (texts_of_pairs pairs.now) ≡ None) }
@@ -60,7 +60,7 @@ impl Vocabulary {
         name: &str,
         from: &str,
         to: &str,
-        pairs: &[(&str, &str)],
+        pairs: &[(&[u8], &[u8])],
     ) -> Result<Rows, Refusal>
         ensures ok { MatchResult result (λ m. (m ≡ relation_of self.now from.now to.now (texts_of_pairs pairs.now)) × HasSides self.now.domains m) (λ e. (relation_refusal self.now name.now from.now to.now (texts_of_pairs pairs.now) ≡ Some e) ⊎ (e ≡ Refusal.Memory)) }
         ensures allowed { OnOk result (relation_refusal self.now name.now from.now to.now (texts_of_pairs pairs.now) ≡ None) }
@@ -77,7 +77,7 @@ impl Vocabulary {
 
     /// The relation between two declared domains with these pairs.
     #[tactic(auto, using(crate::proofs::PairLemmas::made_of, crate::proofs::PairLemmas::words_inside, crate::proofs::PairLemmas::words_outside, crate::proofs::PairLemmas::same_sides, crate::proofs::RefusalLemmas::no_from, crate::proofs::RefusalLemmas::no_to))]
-    fn rows_of(&self, from: &str, to: &str, pairs: &[(&str, &str)]) -> Result<Rows, Refusal>
+    fn rows_of(&self, from: &str, to: &str, pairs: &[(&[u8], &[u8])]) -> Result<Rows, Refusal>
         ensures ok { MatchResult result (λ m. (m ≡ relation_of self.now from.now to.now (texts_of_pairs pairs.now)) × HasSides self.now.domains m) (λ e. (pairs_refusal self.now from.now to.now (texts_of_pairs pairs.now) ≡ Some e) ⊎ (e ≡ Refusal.Memory)) }
         ensures allowed { OnOk result (pairs_refusal self.now from.now to.now (texts_of_pairs pairs.now) ≡ None) }
     {

@@ -63,7 +63,7 @@ fn sample(alloc: Global) -> Result<Vocabulary, Refusal> {
     };
     words.declare_domain("c", &["q"])?;
     words.declare_domain("d", &["e", "f", "g"])?;
-    words.declare_relation("r", "d", "d", &[("e", "g"), ("g", "e"), ("e", "g")])?;
+    words.declare_relation("r", "d", "d", &[(b"e", b"g"), (b"g", b"e"), (b"e", b"g")])?;
     words.add_symbol("red")?;
     Ok(words)
 }
@@ -84,17 +84,21 @@ fn relations_have_just_their_pairs(rt: HostRuntime) -> Result<(), Fail> {
 fn relations_are_refused(rt: HostRuntime) -> Result<(), Fail> {
     let mut words = Vocabulary::new(rt.alloc())?;
     assert!(rt; words.declare_domain("d", &["a", "b"]).is_ok());
-    assert!(rt; words.declare_relation("r", "d", "d", &[("a", "b")]).is_ok());
-    let taken = words.declare_relation("r", "e", "d", &[("q", "q")]).err();
+    assert!(rt;
+        words
+            .declare_relation("r", "d", "d", &[(b"a", b"b")])
+            .is_ok()
+    );
+    let taken = words.declare_relation("r", "e", "d", &[(b"q", b"q")]).err();
     assert_eq!(rt; taken, Some(Refusal::NameTaken));
-    let no_domain = words.declare_relation("s", "d", "e", &[("q", "a")]).err();
+    let no_domain = words.declare_relation("s", "d", "e", &[(b"q", b"a")]).err();
     assert_eq!(rt; no_domain, Some(Refusal::NoSuchDomain));
     let truth = words
-        .declare_relation("s", "truth", "d", &[("yes", "a")])
+        .declare_relation("s", "truth", "d", &[(b"yes", b"a")])
         .err();
     assert_eq!(rt; truth, Some(Refusal::NoSuchDomain));
     let outside = words
-        .declare_relation("s", "d", "d", &[("a", "b"), ("a", "q")])
+        .declare_relation("s", "d", "d", &[(b"a", b"b"), (b"a", b"q")])
         .err();
     assert_eq!(rt; outside, Some(Refusal::NotInTheDomain));
     assert!(rt; words.relation("s").is_none());

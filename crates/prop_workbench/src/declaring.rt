@@ -107,17 +107,7 @@ impl<R: Rule + Drop, O: Order + Drop> Session<R, O> {
         ensures steps { steps_of self.new ≡ steps_of self.old }
         ensures step { Obeys (library_of R.value_of self.old) (state_of self.old) (commands.Command.Relation name.now from.now to.now (pairs_of pairs.now)) (answer_of result) (state_of self.new) 0 }
     {
-        let mut words = Vec::new(self.alloc);
-        for (first, second) in pairs {
-            let (Ok(first), Ok(second)) = (str::from_utf8(first), str::from_utf8(second)) else {
-                return Reply::Refused(Refusal::NotInTheDomain);
-            };
-            match words.push((first, second)) {
-                Ok(()) => {}
-                Err(_) => return Reply::Refused(Refusal::Memory),
-            }
-        }
-        match self.words.declare_relation(name, from, to, &words) {
+        match self.words.declare_relation(name, from, to, pairs) {
             Ok(()) => Reply::Done,
             Err(refusal) => Reply::Refused(refusal),
         }
