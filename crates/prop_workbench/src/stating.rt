@@ -192,7 +192,9 @@ impl<R: Rule + Drop, O: Order + Drop> Session<R, O> {
         ensures { result ≡ statement_limit (state_of self.now) (name_of premise.entry) }
     {
         match premise {
-            Some(name) if self.premises.find(name).is_err() && self.premises.len() >= Limit::Premises.most() => {
+            Some(name)
+                if self.premises.find(name).is_err()
+                    && self.premises.len() >= Limit::Premises.most() => {
                 Some(Refusal::LimitReached(Limit::Premises))
             }
             _ if self.network.data().statement_count() >= Limit::Statements.most() => {
@@ -203,12 +205,7 @@ impl<R: Rule + Drop, O: Order + Drop> Session<R, O> {
     }
 
     /// Makes a statement under the premise with a name, which may be new, or under none.
-    fn state_said(
-        &mut self,
-        premise: Option<&str>,
-        cell: usize,
-        info: Info,
-    ) -> Result<(), Refusal>
+    fn state_said(&mut self, premise: Option<&str>, cell: usize, info: Info) -> Result<(), Refusal>
         requires sound { IsSound R.value_of self.old }
         requires cell { cell < length self.old.network.cells.kinds }
         requires may { IsTrue (may_be_stated (kind_at self.old.network.cells.kinds cell).kind (kind_at self.old.network.cells.kinds cell).size info) }
