@@ -6,18 +6,20 @@ use Rattle.prop_lattice.specs.Order.{Below}
 use Rattle.prop_lattice.specs.Points.{Point, Holds}
 use Rattle.prop_lattice.specs.Rank.{IsOf}
 use Rattle.prop_lattice.specs.declared.info.Info.{Info}
-use Rattle.prop_lattice.specs.declared.info.Info.TheVariants.{Nothing, Span}
+use Rattle.prop_lattice.specs.declared.info.Info.TheVariants.{Nothing, Span, Set}
 use Rattle.prop_lattice.specs.declared.info.Kind.{Kind}
 use Rattle.prop_lattice.specs.declared.info.Kind.TheVariants as kinds
+use Rattle.prop_lattice.specs.declared.elements.Elements as sets
 use Rattle.prop_lattice.specs.declared.span.Span as spans
 use Rattle.prop_lattice.specs.declared.span.TheConstants.{B}
 use Rattle.prop_procedures.specs.declared.shape.Param.{Param}
-use Rattle.prop_procedures.specs.declared.shape.Param.TheVariants.{Scale}
+use Rattle.prop_procedures.specs.declared.shape.Param.TheVariants.{Scale, Rows}
 use Rattle.prop_procedures.specs.Rules.{EachHolds}
+use Rattle.prop_sets.specs.Relation.{Relation}
 use Rattle.prop_arith.specs.Functions.{IsScale}
 use Rattle.prop_arith.specs.Kit.{value_of, Related}
 use Rattle.prop_arith.specs.declared.kit.Kit.{Kit}
-use Rattle.prop_arith.specs.declared.kit.Kit.TheVariants.{Add, Sub, Mul, Square, Root}
+use Rattle.prop_arith.specs.declared.kit.Kit.TheVariants.{Add, Sub, Mul, Square, Root, Image, Coimage}
 
 -- the information holds each point that belongs to points of the arguments
 abbrev pub HoldsRelated : (List Point → Point → Type 0) → List Info → Info → Type 0
@@ -61,3 +63,15 @@ SquareIsNarrowest =
 abbrev pub RootIsNarrowest : Type 0
 RootIsNarrowest =
     (param : Param) (y x : spans.Span) → AnswersNarrowest Root param (Span y ∷ Span x ∷ []) × AnswersNarrowest Root param (Span y ∷ Nothing ∷ [])
+
+-- ---- along a relation
+
+-- of each relation and each set of its first domain's elements
+abbrev pub ImageIsNarrowest : Type 0
+ImageIsNarrowest =
+    (m : Relation) (x : sets.Elements) → IsNarrowest (Related Image (Rows m)) (kinds.Set m.to.domain) m.to.size (Set x ∷ []) (value_of Image (Rows m) (Set x ∷ []))
+
+-- and of its second domain's
+abbrev pub CoimageIsNarrowest : Type 0
+CoimageIsNarrowest =
+    (m : Relation) (y : sets.Elements) → IsNarrowest (Related Coimage (Rows m)) (kinds.Set m.from.domain) m.from.size (Set y ∷ []) (value_of Coimage (Rows m) (Set y ∷ []))

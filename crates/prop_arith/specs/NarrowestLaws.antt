@@ -14,15 +14,21 @@ use Rattle.prop_intervals.specs.Spans.{least_product, greatest_product, product_
 use Rattle.prop_intervals.specs.SumLaws.{sum_kind, sum_narrowest, difference_kind, difference_narrowest}
 use Rattle.prop_intervals.specs.ProductLaws.{product_within, product_kind, product_narrowest}
 use Rattle.prop_intervals.specs.SquareLaws.{square_within, square_kind, square_narrowest}
-use Rattle.prop_lattice.specs.Points.{Number, Holds}
+use Rattle.prop_lattice.specs.Points.{Number, Element, Holds}
+use Rattle.prop_lattice.specs.Order.{HasElement}
 use Rattle.prop_lattice.specs.Rank.{IsOf}
 use Rattle.prop_lattice.specs.declared.info.Info.{Info}
-use Rattle.prop_lattice.specs.declared.info.Info.TheVariants.{Nothing, Span}
+use Rattle.prop_lattice.specs.declared.info.Info.TheVariants.{Nothing, Span, Set}
+use Rattle.prop_lattice.specs.declared.info.Kind.{Kind}
 use Rattle.prop_lattice.specs.declared.info.Kind.TheVariants as kinds
+use Rattle.prop_lattice.specs.declared.elements.Elements as sets
 use Rattle.prop_lattice.specs.declared.span.Span as spans
+use Rattle.prop_sets.specs.ImageLaws.{image_kind, image_narrowest, coimage_kind, coimage_narrowest}
+use Rattle.prop_sets.specs.Narrowest.{IsNarrowest as IsLeast}
+use Rattle.prop_sets.specs.Relation.{HasPair}
 use Rattle.prop_arith.specs.Functions.{is_scale, IsScale}
-use Rattle.prop_arith.specs.Kit.{RelatesOne, RelatesTwo}
-use Rattle.prop_arith.specs.Narrowest.{HoldsRelated, IsNarrowest, AddIsNarrowest, SubIsNarrowest, MulIsNarrowest, SquareIsNarrowest, RootIsNarrowest}
+use Rattle.prop_arith.specs.Points.{RelatesOne, RelatesTwo, RelatesElement}
+use Rattle.prop_arith.specs.Narrowest.{HoldsRelated, IsNarrowest, AddIsNarrowest, SubIsNarrowest, MulIsNarrowest, SquareIsNarrowest, RootIsNarrowest, ImageIsNarrowest, CoimageIsNarrowest}
 
 -- ---- from numbers to points
 
@@ -134,3 +140,22 @@ root_is_narrowest param y x = (
   root_narrowest y (Some x) (Span x) (λ v p q. (p, q)) (λ v h l. (h.0, h.1)),
   root_narrowest y None Nothing (λ v p q. tt) (λ v h l. let b = square_bounds v y.hi l in (omega (arith, ints, y.below), omega (arith, ints, y.below))),
 )
+
+-- ---- along a relation
+
+set_narrowest : (kind : Kind) (size : ℕ) (related : ℕ → ℕ → Type 0) (a : sets.Elements) (v : Info) → IsOf kind size v → IsLeast (λ j. (i : ℕ) × HasElement a i × related i j) v → IsNarrowest (RelatesElement related) kind size (Set a ∷ []) v
+set_narrowest kind size related a v k n = record {
+  of_kind = k;
+  holds = holds;
+  highest = λ other j h. n.highest other (λ y p. h (Element p.0 ∷ []) (Element y) (p.1, tt) p.2);
+}
+  where
+    holds : HoldsRelated (RelatesElement related) (Set a ∷ []) v
+    holds (Element x ∷ []) (Element y) e r = n.holds y (x, e.0, r)
+    holds points point e r = search rules
+
+pub image_is_narrowest : ImageIsNarrowest
+image_is_narrowest m x = set_narrowest (kinds.Set m.to.domain) m.to.size (HasPair m) x _ (image_kind m.to.domain m x) (image_narrowest m x)
+
+pub coimage_is_narrowest : CoimageIsNarrowest
+coimage_is_narrowest m y = set_narrowest (kinds.Set m.from.domain) m.from.size (λ j i. HasPair m i j) y _ (coimage_kind m.from.domain m y) (coimage_narrowest m y)

@@ -2,9 +2,12 @@
 ghost use Rattle.std.specs.Prelude.{◌≡◌};
 ghost use Rattle.prop_arith.specs.Kit.{FormOf, value_of, Related, in_order, name_of, ins_of, out_of, need_of};
 ghost use Rattle.prop_arith.specs.KitLaws.{kit_monotone, kit_keeps_kind, kit_sound};
-ghost use Rattle.prop_arith.specs.Narrowest.{AddIsNarrowest, SubIsNarrowest, MulIsNarrowest, SquareIsNarrowest, RootIsNarrowest};
+ghost use Rattle.prop_arith.specs.Narrowest.{AddIsNarrowest, SubIsNarrowest, MulIsNarrowest, SquareIsNarrowest, RootIsNarrowest, ImageIsNarrowest, CoimageIsNarrowest};
 
+use crate::comparing::{above, below, comparer, lesser, parter};
 use crate::functions::{adder, copier, divider, is_scale, multiplier, rooter, squarer, subtracter};
+use crate::linking::{coimager, imager};
+use crate::logic::{conjoin_back, conjoiner, disjoin_back, disjoiner, inverter, passer};
 use prop_lattice::Info;
 use prop_procedures::{Need, Param, Rule, Shape};
 
@@ -23,19 +26,58 @@ pub enum Kit {
     Square,
     /// From y, and what is known of x already, to x, where y = x * x.
     Root,
+    /// From x and y to the truth t of x < y.
+    Less,
+    /// From t and y to x, where t is the truth of x < y.
+    Below,
+    /// From t and x to y, where t is the truth of x < y.
+    Above,
     /// From x to y, where y = x, in any kind.
     Copy,
+    /// From x and y to the truth t of x = y, in any kind.
+    Alike,
+    /// From t, x and y to y, which is another than x where t is `no`, in any kind.
+    Apart,
+    /// From t and x to y, where y = x if t is `yes`, in any kind.
+    Switch,
+    /// From x to y, where y is not x.
+    Not,
+    /// From x and y to z, where z is x and y.
+    And,
+    /// From z and y to x, where z is x and y.
+    AndBack,
+    /// From x and y to z, where z is x or y.
+    Or,
+    /// From z and y to x, where z is x or y.
+    OrBack,
+    /// From x to y, where a relation has the pair of x and y.
+    Image,
+    /// From y to x, where a relation has the pair of x and y.
+    Coimage,
 }
 
 /// The rules of the kit, each once, in the order in which a program makes their procedures.
-pub const KITS: [Kit; 7] = [
+pub const KITS: [Kit; 20] = [
     Kit::Add,
     Kit::Sub,
     Kit::Mul,
     Kit::Div,
     Kit::Square,
     Kit::Root,
+    Kit::Less,
+    Kit::Below,
+    Kit::Above,
     Kit::Copy,
+    Kit::Alike,
+    Kit::Apart,
+    Kit::Switch,
+    Kit::Not,
+    Kit::And,
+    Kit::AndBack,
+    Kit::Or,
+    Kit::OrBack,
+    Kit::Image,
+    Kit::Coimage,
 ];
 
 impl Kit {
@@ -50,7 +92,20 @@ impl Kit {
             Kit::Div => "divider",
             Kit::Square => "squarer",
             Kit::Root => "rooter",
+            Kit::Less => "lesser",
+            Kit::Below => "below",
+            Kit::Above => "above",
             Kit::Copy => "copier",
+            Kit::Alike => "comparer",
+            Kit::Apart => "parter",
+            Kit::Switch => "passer",
+            Kit::Not => "inverter",
+            Kit::And => "conjoiner",
+            Kit::AndBack => "conjoin_back",
+            Kit::Or => "disjoiner",
+            Kit::OrBack => "disjoin_back",
+            Kit::Image => "imager",
+            Kit::Coimage => "coimager",
         }
     }
 
@@ -59,9 +114,19 @@ impl Kit {
         ensures { result.now ≡ ins_of self }
     {
         match self {
-            Kit::Add | Kit::Sub | Kit::Mul | Kit::Div | Kit::Root => &[Shape::Span, Shape::Span],
+            Kit::Add | Kit::Sub | Kit::Mul | Kit::Div | Kit::Root | Kit::Less => {
+                &[Shape::Span, Shape::Span]
+            }
             Kit::Square => &[Shape::Span],
+            Kit::Below | Kit::Above => &[Shape::Truth, Shape::Span],
             Kit::Copy => &[Shape::Any(0)],
+            Kit::Alike => &[Shape::Any(0), Shape::Any(0)],
+            Kit::Apart => &[Shape::Truth, Shape::Any(0), Shape::Any(0)],
+            Kit::Switch => &[Shape::Truth, Shape::Any(0)],
+            Kit::Not => &[Shape::Truth],
+            Kit::And | Kit::AndBack | Kit::Or | Kit::OrBack => &[Shape::Truth, Shape::Truth],
+            Kit::Image => &[Shape::From],
+            Kit::Coimage => &[Shape::To],
         }
     }
 
@@ -70,7 +135,11 @@ impl Kit {
         ensures { result ≡ out_of self }
     {
         match self {
-            Kit::Copy => Shape::Any(0),
+            Kit::Less | Kit::Alike | Kit::Not => Shape::Truth,
+            Kit::And | Kit::AndBack | Kit::Or | Kit::OrBack => Shape::Truth,
+            Kit::Copy | Kit::Apart | Kit::Switch => Shape::Any(0),
+            Kit::Image => Shape::To,
+            Kit::Coimage => Shape::From,
             _ => Shape::Span,
         }
     }
@@ -81,6 +150,7 @@ impl Kit {
     {
         match self {
             Kit::Mul | Kit::Div => Need::Scale,
+            Kit::Image | Kit::Coimage => Need::Rows,
             _ => Need::Nothing,
         }
     }
@@ -90,14 +160,27 @@ impl Kit {
     pub fn run(self, param: &Param, args: &[Info]) -> Info
         ensures { result ≡ value_of self param.now args.now }
     {
-        match (self, *param, args) {
+        match (self, param, args) {
             (Kit::Add, _, [x, y]) => adder(*x, *y),
             (Kit::Sub, _, [z, x]) => subtracter(*z, *x),
-            (Kit::Mul, Param::Scale(k), [x, y]) if is_scale(k) => multiplier(*x, *y, k),
-            (Kit::Div, Param::Scale(k), [z, y]) if is_scale(k) => divider(*z, *y, k),
+            (Kit::Mul, Param::Scale(k), [x, y]) if is_scale(*k) => multiplier(*x, *y, *k),
+            (Kit::Div, Param::Scale(k), [z, y]) if is_scale(*k) => divider(*z, *y, *k),
             (Kit::Square, _, [x]) => squarer(*x),
             (Kit::Root, _, [y, x]) => rooter(*y, *x),
+            (Kit::Less, _, [x, y]) => lesser(*x, *y),
+            (Kit::Below, _, [t, y]) => below(*t, *y),
+            (Kit::Above, _, [t, x]) => above(*t, *x),
             (Kit::Copy, _, [x]) => copier(*x),
+            (Kit::Alike, _, [x, y]) => comparer(*x, *y),
+            (Kit::Apart, _, [t, x, y]) => parter(*t, *x, *y),
+            (Kit::Switch, _, [t, x]) => passer(*t, *x),
+            (Kit::Not, _, [x]) => inverter(*x),
+            (Kit::And, _, [x, y]) => conjoiner(*x, *y),
+            (Kit::AndBack, _, [z, y]) => conjoin_back(*z, *y),
+            (Kit::Or, _, [x, y]) => disjoiner(*x, *y),
+            (Kit::OrBack, _, [z, y]) => disjoin_back(*z, *y),
+            (Kit::Image, Param::Rows(rows), [x]) => imager(rows, *x),
+            (Kit::Coimage, Param::Rows(rows), [y]) => coimager(rows, *y),
             _ => Info::Nothing,
         }
     }
@@ -109,13 +192,15 @@ impl Kit {
 
     /// Where nothing has to be cut off, what these rules answer to spans is the narrowest information that holds
     /// each point that belongs to points of those. For `Kit::Root`, whose answers lie in range, that is so
-    /// always, also where nothing is known of the root.
+    /// always, also where nothing is known of the root; and so it is for what goes along a relation, from sets.
     pub fn narrowest_where_in_range()
         ensures add { AddIsNarrowest }
         ensures sub { SubIsNarrowest }
         ensures mul { MulIsNarrowest }
         ensures square { SquareIsNarrowest }
         ensures root { RootIsNarrowest }
+        ensures image { ImageIsNarrowest }
+        ensures coimage { CoimageIsNarrowest }
     {}
 }
 
@@ -140,10 +225,44 @@ impl Rule for Kit {
                 (ins, out, need),
                 ([Shape::Span], Shape::Span, Need::Nothing)
             ),
+            Kit::Less => matches!(
+                (ins, out, need),
+                ([Shape::Span, Shape::Span], Shape::Truth, Need::Nothing)
+            ),
+            Kit::Below | Kit::Above => matches!(
+                (ins, out, need),
+                ([Shape::Truth, Shape::Span], Shape::Span, Need::Nothing)
+            ),
             Kit::Copy => matches!(
                 (ins, out, need),
                 ([Shape::Any(0)], Shape::Any(0), Need::Nothing)
             ),
+            Kit::Alike => matches!(
+                (ins, out, need),
+                ([Shape::Any(0), Shape::Any(0)], Shape::Truth, Need::Nothing)
+            ),
+            Kit::Apart => matches!(
+                (ins, out, need),
+                (
+                    [Shape::Truth, Shape::Any(0), Shape::Any(0)],
+                    Shape::Any(0),
+                    Need::Nothing
+                )
+            ),
+            Kit::Switch => matches!(
+                (ins, out, need),
+                ([Shape::Truth, Shape::Any(0)], Shape::Any(0), Need::Nothing)
+            ),
+            Kit::Not => matches!(
+                (ins, out, need),
+                ([Shape::Truth], Shape::Truth, Need::Nothing)
+            ),
+            Kit::And | Kit::AndBack | Kit::Or | Kit::OrBack => matches!(
+                (ins, out, need),
+                ([Shape::Truth, Shape::Truth], Shape::Truth, Need::Nothing)
+            ),
+            Kit::Image => matches!((ins, out, need), ([Shape::From], Shape::To, Need::Rows)),
+            Kit::Coimage => matches!((ins, out, need), ([Shape::To], Shape::From, Need::Rows)),
         }
     }
 

@@ -28,7 +28,7 @@ use Rattle.prop_procedures.specs.Stored.{Stored, is_same, span_kind}
 use Rattle.prop_cells.specs.Problems.{Premises, AreOfKinds, Meets, IsSolution, is_contradiction}
 use Rattle.prop_cells.specs.Instances.{Instance, IsFitting, IsWithin, kind_at, constraint_of}
 use Rattle.prop_cells.specs.Points.{AreSoundBy, Attached, AreFitting, problem_of, ArePoints, EntailedHoldsPoints, PointsAreConsistent}
-use Rattle.prop_cells.proofs.Fitted.{and_both, same_kinded, any_at, is_call_at}
+use Rattle.prop_cells.proofs.Fitted.{and_both, same_kinded, any_at, right_at, is_call_at}
 
 -- ---- the information that holds one point
 
@@ -192,7 +192,7 @@ module _ (library : List Stored) (related : ℕ → Param → List Point → Poi
       let q = f.procedure in
       let call = is_call_at q n.kinds x (λ c. single (points c)) f.fits w singles_are_of_kinds (singles_clear points x.inputs) in
       let inputs = All-weaker (λ c. c < length n.kinds) (IsPointAt n.kinds points) in_range x.inputs w.inputs in
-      let at = points_of (any_at q n.kinds x) q.ins q.out n.kinds points x.inputs x.output f.fits.count f.fits.right inputs (in_range x.output w.output) in
+      let at = points_of (any_at q n.kinds x) q.ins q.out n.kinds points x.inputs x.output f.fits.count (right_at q n.kinds x f.fits) inputs (in_range x.output w.output) in
       let holds = sound x.procedure q f.at (any_at q n.kinds x) x.param (map (λ c. single (points c)) x.inputs) (map points x.inputs) (points x.output) call at.0 at.1 (each_holds points x.inputs) r in
       record { below = rw (f.at, singles_clear points x.inputs) (single_above _ _ holds) }
 

@@ -21,8 +21,8 @@ use Rattle.prop_lattice.specs.declared.refusal.Refusal.{Refusal}
 use Rattle.prop_lattice.specs.declared.refusal.Refusal.TheVariants.{NoSuchCell, WrongCount, WrongKind, WrongParameter, LimitReached}
 use Rattle.prop_procedures.specs.declared.shape.Param.{Param}
 use Rattle.prop_procedures.specs.declared.shape.Need.{Need}
-use Rattle.prop_procedures.specs.Stored.{Stored, are_right}
-use Rattle.prop_cells.specs.Instances.{Instance, kind_at, places_of, param_in, instance_of, attached}
+use Rattle.prop_procedures.specs.Stored.{Stored}
+use Rattle.prop_cells.specs.Instances.{Instance, kind_at, kinds_fit, sides_given, param_in, instance_of, attached}
 use Rattle.prop_cells.specs.Data.{Data}
 use Rattle.prop_cells.specs.Problems.{is_contradiction}
 use Rattle.prop_cells.proofs.RowLemmas.{or_none}
@@ -95,7 +95,7 @@ table a b c e f =
     (or_else (when WrongParameter e) (when (LimitReached Instances) f))))
 
 module _ (library : List Stored) (n : ℕ) (p : Stored) (d : Data) (param : Option ℕ) (ins : List ℕ) (out : ℕ) (at : slice_get library n ≡ Some p) where
-  by_table : (a b c e f : Bool) → list_any (λ cell. nat_le (length d.kinds) cell) (ins ++ out ∷ []) ≡ a → (length ins == length p.ins) ≡ b → are_right (places_of p d.kinds (ins ++ out ∷ [])) ≡ c →
+  by_table : (a b c e f : Bool) → list_any (λ cell. nat_le (length d.kinds) cell) (ins ++ out ∷ []) ≡ a → (length ins == length p.ins) ≡ b → kinds_fit p d.kinds (sides_given d.params param) (ins ++ out ∷ []) ≡ c →
       is_none (param_in p.need d.params param) ≡ e → nat_le (most Instances) (length d.instances) ≡ f → attach_refusal library d n param ins out ≡ table a b c e f
   by_table a b c e f ha hb hc he hf = ap (λ o. option_map_or (λ q. refusal_at q d param ins out) o None) at ∙ (λ i. table (ha i) (hb i) (hc i) (he i) (hf i))
 
@@ -105,11 +105,11 @@ module _ (library : List Stored) (n : ℕ) (p : Stored) (d : Data) (param : Opti
   pub refused_12 : list_any (λ cell. nat_le (length d.kinds) cell) (ins ++ out ∷ []) ≡ false → (length ins ≡ length p.ins → ⊥) → attach_refusal library d n param ins out ≡ Some WrongCount
   refused_12 ha hb = by_table false false _ _ _ ha (ne_eqb (length ins) (length p.ins) hb) refl refl refl
 
-  pub refused_13 : list_any (λ cell. nat_le (length d.kinds) cell) (ins ++ out ∷ []) ≡ false → length ins ≡ length p.ins → are_right (places_of p d.kinds (ins ++ out ∷ [])) ≡ false →
+  pub refused_13 : list_any (λ cell. nat_le (length d.kinds) cell) (ins ++ out ∷ []) ≡ false → length ins ≡ length p.ins → kinds_fit p d.kinds (sides_given d.params param) (ins ++ out ∷ []) ≡ false →
       attach_refusal library d n param ins out ≡ Some WrongKind
   refused_13 ha hb hc = by_table false true false _ _ ha (eq-eqb (length ins) (length p.ins) hb) hc refl refl
 
-  module _ (ha : list_any (λ cell. nat_le (length d.kinds) cell) (ins ++ out ∷ []) ≡ false) (hb : length ins ≡ length p.ins) (hc : are_right (places_of p d.kinds (ins ++ out ∷ [])) ≡ true) where
+  module _ (ha : list_any (λ cell. nat_le (length d.kinds) cell) (ins ++ out ∷ []) ≡ false) (hb : length ins ≡ length p.ins) (hc : kinds_fit p d.kinds (sides_given d.params param) (ins ++ out ∷ []) ≡ true) where
     pub refused_14 : param_in p.need d.params param ≡ None → attach_refusal library d n param ins out ≡ Some WrongParameter
     refused_14 he = by_table false true true true _ ha (eq-eqb (length ins) (length p.ins) hb) hc (ap is_none he) refl
 
@@ -144,7 +144,7 @@ attached_one library n d param ins out l h =
           (let p = at.0 in
           let at_n : slice_get library n ≡ Some p = at.2 in
           let same = ap (λ o. option_map_or (λ q. refusal_at q d param ins out) o None) at_n in
-          let fits = fifth_of_table (list_any (λ cell. nat_le (length d.kinds) cell) (ins ++ out ∷ [])) (length ins == length p.ins) (are_right (places_of p d.kinds (ins ++ out ∷ []))) (is_none (param_in p.need d.params param))
+          let fits = fifth_of_table (list_any (λ cell. nat_le (length d.kinds) cell) (ins ++ out ∷ [])) (length ins == length p.ins) (kinds_fit p d.kinds (sides_given d.params param) (ins ++ out ∷ [])) (is_none (param_in p.need d.params param))
           (nat_le (most Instances) (length d.instances)) (sym same ∙ h) in
           let given = some_of (param_in p.need d.params param) fits in (
             instance_of n ins out given.0,

@@ -10,8 +10,8 @@ use Rattle.prop_lattice.specs.declared.info.Kind.TheVariants as kinds
 use Rattle.prop_lattice.specs.declared.refusal.Limit.TheVariants.{Cells, Instances, Statements}
 use Rattle.prop_lattice.specs.declared.refusal.Refusal.{Refusal}
 use Rattle.prop_lattice.specs.declared.refusal.Refusal.TheVariants.{NoSuchCell, WrongCount, WrongKind, WrongParameter, LimitReached}
-use Rattle.prop_procedures.specs.Stored.{Stored, are_right}
-use Rattle.prop_cells.specs.Instances.{kind_at, places_of, param_in}
+use Rattle.prop_procedures.specs.Stored.{Stored}
+use Rattle.prop_cells.specs.Instances.{kind_at, kinds_fit, sides_given, param_in}
 use Rattle.prop_cells.specs.Data.{Data}
 
 abbrev pub when : Refusal → Bool → Option Refusal
@@ -45,7 +45,7 @@ abbrev pub refusal_at : Stored → Data → Option ℕ → List ℕ → ℕ → 
 refusal_at p d param ins out =
     or_else (when NoSuchCell (list_any (λ cell. nat_le (length d.kinds) cell) (ins ++ out ∷ [])))
     (or_else (when WrongCount (not (length ins == length p.ins)))
-    (or_else (when WrongKind (not (are_right (places_of p d.kinds (ins ++ out ∷ [])))))
+    (or_else (when WrongKind (not (kinds_fit p d.kinds (sides_given d.params param) (ins ++ out ∷ []))))
     (or_else (when WrongParameter (is_none (param_in p.need d.params param)))
     (when (LimitReached Instances) (nat_le (most Instances) (length d.instances))))))
 

@@ -1,13 +1,14 @@
 //! What is tested where a statement is made or a procedure attached.
-ghost use Rattle.std.specs.Prelude.{◌≡◌, ◌<◌, ◌≤◌, ◌+◌, ◌++◌, ◌∷◌, [], nat_le, ℕ, List, length, map, zip, All, IfOk, slice_index_or};
+ghost use Rattle.std.specs.Prelude.{◌≡◌, ◌<◌, ◌≤◌, ◌+◌, ◌++◌, ◌∷◌, [], nat_le, ℕ, List, length, map, zip, All, IfOk, None, Some, slice_index_or};
 ghost use Rattle.std.specs.List.{list_any};
-ghost use Rattle.prop_procedures.specs.Stored.{span_kind};
-ghost use Rattle.prop_cells.specs.Instances.{kind_at, scale_in_range, fitting_param, param_in};
+ghost use Rattle.prop_procedures.specs.Stored.{span_kind, sides_of};
+ghost use Rattle.prop_cells.specs.Instances.{kind_at, scale_in_range, relation_alone, fitting_param, param_in, sides_given};
 ghost use Rattle.prop_cells.specs.Refusing.{may_be_stated};
 
 use crate::cells::Cells;
 use prop_lattice::Info;
 use prop_procedures::{Kinded, Need, Param, Shape};
+use prop_sets::Side;
 use std::alloc::{AllocError, Global};
 
 /// The largest scale.
@@ -35,35 +36,80 @@ pub(crate) fn is_strange(ins: &[usize], out: usize, count: usize) -> bool
 }
 
 /// A scale, where it is one that a procedure takes.
-fn scale_in_range(param: Param) -> Option<Param>
-    ensures { result ≡ scale_in_range param }
+fn scale_in_range(param: &Param) -> Option<Param>
+    ensures { result ≡ scale_in_range param.now }
 {
     match param {
-        Param::Scale(k) if 1 <= k && k <= MOST_SCALE => Some(Param::Scale(k)),
+        Param::Scale(k) if 1 <= *k && *k <= MOST_SCALE => Some(Param::Scale(*k)),
         _ => None,
     }
 }
 
-/// The parameter that an instance has where one is given or none is, if that fits.
-fn fitting_param(need: Need, given: Option<Param>) -> Option<Param>
-    ensures { result ≡ fitting_param need given }
+/// A relation once more; `None` where the parameter is none.
+fn relation_alone(alloc: Global, param: &Param) -> Result<Option<Param>, AllocError>
+    ensures { IfOk result (λ o. o ≡ relation_alone param.now) }
 {
-    match (need, given) {
-        (Need::Nothing, None) => Some(Param::Plain),
-        (Need::Nothing, Some(_)) => None,
-        (Need::Scale, None) => Some(Param::Scale(1)),
-        (Need::Scale, Some(param)) => scale_in_range(param),
+    match param {
+        Param::Rows(rows) => Ok(Some(Param::Rows(rows.copy(alloc)?))),
+        Param::Plain | Param::Scale(_) => Ok(None),
+    }
+}
+
+/// The parameter that an instance has where this one is given, if it fits.
+fn param_given(alloc: Global, need: Need, given: &Param) -> Result<Option<Param>, AllocError>
+    ensures { IfOk result (λ o. o ≡ fitting_param need (Some given.now)) }
+{
+    match need {
+        Need::Nothing => Ok(None),
+        Need::Scale => Ok(scale_in_range(given)),
+        Need::Rows => relation_alone(alloc, given),
+    }
+}
+
+/// The parameter that an instance has where none is given, if there is one.
+fn param_without(need: Need) -> Option<Param>
+    ensures { result ≡ fitting_param need None }
+{
+    match need {
+        Need::Nothing => Some(Param::Plain),
+        Need::Scale => Some(Param::Scale(1)),
+        Need::Rows => None,
+    }
+}
+
+/// The parameter that an instance has where one is given by its number or none is, if that fits.
+pub(crate) fn param_in(
+    alloc: Global,
+    need: Need,
+    params: &[Param],
+    given: Option<usize>,
+) -> Result<Option<Param>, AllocError>
+    ensures { IfOk result (λ o. o ≡ param_in need params.now given) }
+{
+    match given {
+        None => Ok(param_without(need)),
+        Some(n) if n < params.len() => param_given(alloc, need, &params[n]),
+        Some(_) => Ok(None),
+    }
+}
+
+/// The sides of the relation, where the parameter is one.
+fn sides_of(param: &Param) -> Option<(Side, Side)>
+    ensures { result ≡ sides_of param.now }
+{
+    match param {
+        Param::Rows(rows) => Some((rows.from(), rows.to())),
+        Param::Plain | Param::Scale(_) => None,
     }
 }
 
 /// The same, where the parameter is given by its number.
-pub(crate) fn param_in(need: Need, params: &[Param], given: Option<usize>) -> Option<Param>
-    ensures { result ≡ param_in need params.now given }
+pub(crate) fn sides_given(params: &[Param], given: Option<usize>) -> Option<(Side, Side)>
+    ensures { result ≡ sides_given params.now given }
 {
     match given {
-        None => fitting_param(need, None),
-        Some(n) if n < params.len() => fitting_param(need, Some(params[n])),
-        Some(_) => None,
+        Some(n) if n < params.len() => sides_of(&params[n]),
+        _ => None,
     }
 }
 

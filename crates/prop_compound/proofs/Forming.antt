@@ -3,15 +3,16 @@ use Rattle.std.proofs.Common.{◌≡◌, ℕ, List, [], ◌∷◌, ◌++◌, Boo
 use Rattle.std.specs.Prelude.{Option, Result, ⊤, ◌⊎◌, ◌≢◌, Contains, bytes_eq, codes, not, ◌&&◌}
 use Rattle.std.specs.Option.{option_map, option_and_then}
 use Rattle.std.specs.List.{list_all}
+use Rattle.std.proofs.lemmas.Bool.{false≢true}
 use Rattle.std.proofs.lemmas.List.Folds.{list_all-append}
 use Rattle.prop_lattice.specs.declared.refusal.Refusal.{Refusal}
-use Rattle.prop_lattice.specs.declared.refusal.Refusal.TheVariants.{NotAName, NotANumber, Memory}
-use Rattle.prop_compound.specs.Tokens.{Token, Word, Open, Close}
+use Rattle.prop_lattice.specs.declared.refusal.Refusal.TheVariants.{WrongForm, NotAName, NotANumber, Memory}
+use Rattle.prop_compound.specs.Tokens.{Token, Word, Open, Close, Semicolon, Equals}
 use Rattle.prop_compound.specs.Names.{is_name}
 use Rattle.prop_compound.specs.Commands.{Value, By, Command}
-use Rattle.prop_compound.specs.Forms.{join, values, in_braces, one_value, only_value, cells_by, by_form, attach, with_cell}
+use Rattle.prop_compound.specs.Forms.{join, only_words, domain, pairs, relation, values, in_braces, one_value, only_value, cells_by, by_form, attach, with_cell}
 use Rattle.prop_compound.specs.Reading.{by_names, is_by_in_range, command_in_range, command_in_form}
-use Rattle.prop_compound.specs.Parts.{given, before_by, by_in_range, BeginsOpen}
+use Rattle.prop_compound.specs.Parts.{front, are_words, front_words, behind_equals, further, before_pairs, given, before_by, by_in_range, BeginsOpen}
 
 -- ---- values
 
@@ -127,3 +128,141 @@ pub name_refused : (xs : List (List ℕ)) (y by_word : List ℕ) (ts rest : List
 name_refused xs y by_word ts rest all refusal e b f all_is h =
     let next : before_by ts ≡ y ∷ before_by rest = rw (e, ← b, ← f) refl in
     inr (h.0, ap (list_all is_name) (sym all_is ∙ ap (λ l. xs ++ l) next) ∙ not_all is_name xs y (before_by rest) h.1)
+
+-- ---- domains
+
+words_are : (ts : List Token) → are_words ts ≡ true → only_words ts ≡ Some (front_words ts)
+words_are [] h = refl
+words_are (Word w ∷ ts) h = ap (join (Some w)) (words_are ts h)
+words_are (t ∷ ts) h = absurd (false≢true h)
+
+no_words : (ts : List Token) → are_words ts ≡ false → only_words ts ≡ None
+no_words [] h = absurd (false≢true (sym h))
+no_words (Word w ∷ ts) h = ap (join (Some w)) (no_words ts h)
+no_words (t ∷ ts) h = refl
+
+-- the form of a domain, behind whose name stands a word
+abbrev pub Declares : (ts elements others : List Token) (n e : List ℕ) → Type 0
+Declares ts elements others n e = (ts ≡ Word n ∷ elements) × (elements ≡ Word e ∷ others)
+
+-- the refusal of a mark among a domain's elements
+pub domain_misformed : (ts elements others : List Token) (n e : List ℕ) (refusal : Refusal) → Declares ts elements others n e → (refusal ≡ WrongForm) × (are_words others ≡ false) → command_in_form (domain ts) ≡ Err refusal
+domain_misformed ts elements others n e refusal d h =
+    let none : domain ts ≡ None = rw (d.0, d.1) (ap (option_map (λ es. Command.Domain n (e ∷ es))) (no_words others h.1)) in
+    ap command_in_form none ∙ ap Err (sym h.0)
+
+domain_formed : (ts elements others : List Token) (n e : List ℕ) → Declares ts elements others n e → are_words others ≡ true → domain ts ≡ Some (Command.Domain n (front_words elements))
+domain_formed ts elements others n e d h =
+    rw (d.0, d.1) (ap (option_map (λ es. Command.Domain n (e ∷ es))) (words_are others h))
+
+-- the refusal of a domain's name
+pub domain_unnamed : (ts elements others : List Token) (n e : List ℕ) (refusal : Refusal) → Declares ts elements others n e → are_words others ≡ true → (refusal ≡ NotAName) × (is_name n ≡ false) → command_in_form (domain ts) ≡ Err refusal
+domain_unnamed ts elements others n e refusal d h u =
+    let unnamed_domain : command_in_range (Command.Domain n (front_words elements)) ≡ Err NotAName = rw u.1 refl in
+    ap command_in_form (domain_formed ts elements others n e d h) ∙ unnamed_domain ∙ ap Err (sym u.0)
+
+-- the refusal of a domain's elements
+pub elements_refused : (ts elements others : List Token) (n e : List ℕ) (refusal : Refusal) → Declares ts elements others n e → are_words others ≡ true → is_name n ≡ true → (refusal ≡ Memory) ⊎ ((refusal ≡ NotAName) × (list_all is_name (front_words elements) ≡ false)) → (refusal ≡ Memory) ⊎ (command_in_form (domain ts) ≡ Err refusal)
+elements_refused ts elements others n e refusal d h u (inl memory) = inl memory
+elements_refused ts elements others n e refusal d h u (inr unnamed_element) =
+    let unnamed_domain : command_in_range (Command.Domain n (front_words elements)) ≡ Err NotAName = rw (u, unnamed_element.1) refl in
+    inr (ap command_in_form (domain_formed ts elements others n e d h) ∙ unnamed_domain ∙ ap Err (sym unnamed_element.0))
+
+pub domain_read : (ts elements others : List Token) (n e n' : List ℕ) (es : List (List ℕ)) → Declares ts elements others n e → are_words others ≡ true → (n' ≡ n) × (is_name n ≡ true) → (es ≡ front_words elements) × (list_all is_name (front_words elements) ≡ true) → command_in_form (domain ts) ≡ Ok (Some (Command.Domain n' es))
+domain_read ts elements others n e n' es d h u v =
+    let in_range : command_in_range (Command.Domain n (front_words elements)) ≡ Ok (Some (Command.Domain n (front_words elements))) = rw (u.1, v.1) refl in
+    ap command_in_form (domain_formed ts elements others n e d h) ∙ in_range ∙ ap (λ m. Ok (Some (Command.Domain m (front_words elements)))) (sym u.0) ∙ ap (λ l. Ok (Some (Command.Domain n' l))) (sym v.0)
+
+-- the refusal of an element among others
+pub element_refused : (xs : List (List ℕ)) (y : List ℕ) (ts rest : List Token) (all : List (List ℕ)) (refusal : Refusal) → ts ≡ Word y ∷ rest → xs ++ front_words ts ≡ all → (refusal ≡ NotAName) × (is_name y ≡ false) → (refusal ≡ Memory) ⊎ ((refusal ≡ NotAName) × (list_all is_name all ≡ false))
+element_refused xs y ts rest all refusal e all_is h =
+    inr (h.0, ap (list_all is_name) (sym all_is ∙ ap (λ l. xs ++ front_words l) e) ∙ not_all is_name xs y (front_words rest) h.1)
+
+-- ---- pairs
+
+none_after : (ps : List (List ℕ × List ℕ)) → before_pairs ps None ≡ None
+none_after [] = refl
+none_after (p ∷ ps) = ap (join (Some p)) (none_after ps)
+
+one_more : (ps : List (List ℕ × List ℕ)) (p : List ℕ × List ℕ) (others : Option (List (List ℕ × List ℕ))) → before_pairs (ps ++ p ∷ []) others ≡ before_pairs ps (join (Some p) others)
+one_more [] p others = refl
+one_more (q ∷ ps) p others = ap (join (Some q)) (one_more ps p others)
+
+all_before : (ps qs : List (List ℕ × List ℕ)) → before_pairs ps (Some qs) ≡ Some (ps ++ qs)
+all_before [] qs = refl
+all_before (p ∷ ps) qs = ap (join (Some p)) (all_before ps qs)
+
+no_first : (ts : List Token) → front ts ≡ None → pairs ts ≡ None
+no_first [] h = refl
+no_first (Word w ∷ ts) h = cc
+no_first (t ∷ ts) h = refl
+
+no_second : (a : List ℕ) (ts : List Token) → front ts ≡ None → pairs (Word a ∷ ts) ≡ None
+no_second a [] h = refl
+no_second a (Word w ∷ ts) h = cc
+no_second a (t ∷ ts) h = refl
+
+no_further : (a b : List ℕ) (ts : List Token) → further ts ≡ None → pairs (Word a ∷ Word b ∷ ts) ≡ None
+no_further a b [] h = cc
+no_further a b (Semicolon ∷ ts) h = cc
+no_further a b (t ∷ ts) h = refl
+
+ends_with : (a b : List ℕ) (ts : List Token) → further ts ≡ Some None → pairs (Word a ∷ Word b ∷ ts) ≡ Some ((a, b) ∷ [])
+ends_with a b [] h = refl
+ends_with a b (Semicolon ∷ ts) h = cc
+ends_with a b (t ∷ ts) h = cc
+
+goes_on : (a b : List ℕ) (ts rest : List Token) → further ts ≡ Some (Some rest) → pairs (Word a ∷ Word b ∷ ts) ≡ join (Some (a, b)) (pairs rest)
+goes_on a b [] rest h = cc
+goes_on a b (Semicolon ∷ ts) rest h = let same : ts ≡ rest = cc in ap (λ l. join (Some (a, b)) (pairs l)) same
+goes_on a b (t ∷ ts) rest h = cc
+
+-- the pairs so far and those to come are all pairs
+abbrev pub Remain : (ps : List (List ℕ × List ℕ)) (ts all : List Token) → Type 0
+Remain ps ts all = before_pairs ps (pairs ts) ≡ pairs all
+
+none_remain : (ps : List (List ℕ × List ℕ)) (ts all : List Token) → Remain ps ts all → pairs ts ≡ None → pairs all ≡ None
+none_remain ps ts all r h = sym r ∙ ap (before_pairs ps) h ∙ none_after ps
+
+pub lacks_first : (ps : List (List ℕ × List ℕ)) (ts all : List Token) (refusal : Refusal) → Remain ps ts all → (refusal ≡ WrongForm) × (front ts ≡ None) → (refusal ≡ Memory) ⊎ ((refusal ≡ WrongForm) × (pairs all ≡ None))
+lacks_first ps ts all refusal r h = inr (h.0, none_remain ps ts all r (no_first ts h.1))
+
+pub lacks_second : (ps : List (List ℕ × List ℕ)) (ts all : List Token) (a : List ℕ) (behind : List Token) (refusal : Refusal) → Remain ps ts all → ts ≡ Word a ∷ behind → (refusal ≡ WrongForm) × (front behind ≡ None) → (refusal ≡ Memory) ⊎ ((refusal ≡ WrongForm) × (pairs all ≡ None))
+lacks_second ps ts all a behind refusal r e h =
+    inr (h.0, none_remain ps ts all r (ap pairs e ∙ no_second a behind h.1))
+
+-- the tokens begin with a pair
+abbrev pub BeginsPair : (ts behind rest : List Token) (a b : List ℕ) → Type 0
+BeginsPair ts behind rest a b = (ts ≡ Word a ∷ behind) × (behind ≡ Word b ∷ rest)
+
+begun : (ts behind rest : List Token) (a b : List ℕ) → BeginsPair ts behind rest a b → pairs ts ≡ pairs (Word a ∷ Word b ∷ rest)
+begun ts behind rest a b p = ap pairs p.0 ∙ ap (λ l. pairs (Word a ∷ l)) p.1
+
+pub lacks_semicolon : (ps : List (List ℕ × List ℕ)) (ts all : List Token) (a b : List ℕ) (behind rest : List Token) (refusal : Refusal) → Remain ps ts all → BeginsPair ts behind rest a b → (refusal ≡ WrongForm) × (further rest ≡ None) → (refusal ≡ Memory) ⊎ ((refusal ≡ WrongForm) × (pairs all ≡ None))
+lacks_semicolon ps ts all a b behind rest refusal r p h =
+    inr (h.0, none_remain ps ts all r (begun ts behind rest a b p ∙ no_further a b rest h.1))
+
+pub one_more_remains : (ps qs : List (List ℕ × List ℕ)) (ts all : List Token) (a b : List ℕ) (behind rest left : List Token) → Remain ps ts all → BeginsPair ts behind rest a b → further rest ≡ Some (Some left) → qs ≡ ps ++ (a, b) ∷ [] → Remain qs left all
+one_more_remains ps qs ts all a b behind rest left r p f e =
+    ap (λ l. before_pairs l (pairs left)) e ∙ one_more ps (a, b) (pairs left) ∙ ap (before_pairs ps) (sym (begun ts behind rest a b p ∙ goes_on a b rest left f)) ∙ r
+
+pub no_more_remain : (ps qs : List (List ℕ × List ℕ)) (ts all : List Token) (a b : List ℕ) (behind rest : List Token) → Remain ps ts all → BeginsPair ts behind rest a b → further rest ≡ Some None → qs ≡ ps ++ (a, b) ∷ [] → pairs all ≡ Some qs
+no_more_remain ps qs ts all a b behind rest r p f e =
+    sym r ∙ ap (before_pairs ps) (begun ts behind rest a b p ∙ ends_with a b rest f) ∙ all_before ps ((a, b) ∷ []) ∙ ap Some (sym e)
+
+-- ---- relations
+
+no_equals : (n d e : List ℕ) (ts : List Token) → behind_equals ts ≡ None → relation (Word n ∷ Word d ∷ Word e ∷ ts) ≡ None
+no_equals n d e [] h = refl
+no_equals n d e (Equals ∷ ts) h = cc
+no_equals n d e (t ∷ ts) h = refl
+
+-- the front of a relation
+abbrev pub Relates : (ts ts' ts'' rest : List Token) (n d e : List ℕ) → Type 0
+Relates ts ts' ts'' rest n d e = (ts ≡ Word n ∷ ts') × (ts' ≡ Word d ∷ ts'') × (ts'' ≡ Word e ∷ rest)
+
+-- the refusal where there is no equals sign
+pub relation_misformed : (ts ts' ts'' rest : List Token) (n d e : List ℕ) (refusal : Refusal) → Relates ts ts' ts'' rest n d e → (refusal ≡ WrongForm) × (behind_equals rest ≡ None) → command_in_form (relation ts) ≡ Err refusal
+relation_misformed ts ts' ts'' rest n d e refusal r h =
+    let none : relation ts ≡ None = rw (r.0, r.1, r.2) (no_equals n d e rest h.1) in
+    ap command_in_form none ∙ ap Err (sym h.0)

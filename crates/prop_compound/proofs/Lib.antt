@@ -4,3 +4,4 @@ pub mod Forming
 pub mod Halving
 pub mod SpellingLaws
 pub mod RefusalLaws
+pub mod Choosing

@@ -6,12 +6,12 @@ use Rattle.std.specs.Option.{option_map, option_and_then}
 use Rattle.std.specs.List.{AllByRecursion}
 use Rattle.std.proofs.lemmas.Slice.Eq.{bytes_eq-Decides}
 use Rattle.std.proofs.lemmas.Bool.{false≢true}
-use Rattle.prop_compound.specs.Tokens.{Token, Word, Open, Close}
+use Rattle.prop_compound.specs.Tokens.{Token, Word, Open, Close, Semicolon, Equals}
 use Rattle.prop_compound.specs.Names.{looks_like_number, number_in}
-use Rattle.prop_compound.specs.Commands.{Value, Bare, Braces, Spans, By, Command}
-use Rattle.prop_compound.specs.Forms.{bare, on_word, cell, parameter, by_form, with_cell, cells_by, attach, join, values, in_braces, one_value, only_value, fix, tell, forms}
+use Rattle.prop_compound.specs.Commands.{Value, Bare, Braces, KindWord, Spans, Truths, Symbols, Named, By, Command}
+use Rattle.prop_compound.specs.Forms.{bare, on_word, only_words, domain, pairs, relation, kind_word, cell, parameter, by_form, with_cell, cells_by, attach, join, values, in_braces, one_value, only_value, fix, tell, forms}
 use Rattle.prop_compound.proofs.Forming.{Filled, filled}
-use Rattle.prop_compound.specs.Spelling.{Spells, Gives, HaveNoBy, tokens_of_value}
+use Rattle.prop_compound.specs.Spelling.{Spells, StandsFor, further_pairs, Gives, HaveNoBy, tokens_of_value}
 
 -- what is read from a line's tokens, where there is a form for it
 abbrev pub read_form : List Token → Option Command
@@ -20,10 +20,10 @@ read_form ts = None
 
 -- ---- what is spelled is read
 
-other_word : (w : List ℕ) → w ≢ codes "by" → bytes_eq w (codes "by") ≡ false
-other_word w h = by (bytes_eq w (codes "by")) (bytes_eq-Decides w (codes "by"))
+other_word : (w v : List ℕ) → w ≢ v → bytes_eq w v ≡ false
+other_word w v h = by (bytes_eq w v) (bytes_eq-Decides w v)
   where
-    by : (b : Bool) → (b ≡ true → w ≡ codes "by") × (w ≡ codes "by" → b ≡ true) → b ≡ false
+    by : (b : Bool) → Decides b (w ≡ v) → b ≡ false
     by true d = absurd (h (d.0 refl))
     by false d = refl
 
@@ -34,7 +34,22 @@ given_read (By.Relation r) ts (e, l) = rw (e, l) refl
 
 cells_read : (xs : List (List ℕ)) (by : By) (ts : List Token) → HaveNoBy xs → Gives by ts → cells_by (map Word xs ++ ts) ≡ Some (xs, by)
 cells_read [] by ts h g = given_read by ts g
-cells_read (x ∷ xs) by ts h g = rw (other_word x h.0, cells_read xs by ts h.1 g) refl
+cells_read (x ∷ xs) by ts h g = rw (other_word x (codes "by") h.0, cells_read xs by ts h.1 g) refl
+
+words_read : (es : List (List ℕ)) → only_words (map Word es) ≡ Some es
+words_read [] = refl
+words_read (e ∷ es) = ap (join (Some e)) (words_read es)
+
+pairs_read : (p : List ℕ × List ℕ) (ps : List (List ℕ × List ℕ)) → pairs (Word p.0 ∷ Word p.1 ∷ further_pairs ps) ≡ Some (p ∷ ps)
+pairs_read p [] = refl
+pairs_read p (q ∷ ps) = ap (join (Some p)) (pairs_read q ps)
+
+kind_read : (w : List ℕ) (kind : KindWord) → StandsFor w kind → kind_word w ≡ kind
+kind_read w Spans e = rw e refl
+kind_read w Truths e = rw e refl
+kind_read w Symbols e = rw e refl
+kind_read w (Named name) (e, s, t, y) =
+    rw (other_word w (codes "span") s, other_word w (codes "truth") t, other_word w (codes "symbol") y) (ap Named e)
 
 braces_read : (ws us : List (List ℕ)) → in_braces ws (map Word us ++ Close ∷ []) ≡ Some (Braces (ws ++ us) ∷ [])
 braces_read ws [] = ap (λ l. Some (Braces l ∷ [])) (sym (append-nil ws))
@@ -45,7 +60,11 @@ value_read (Bare w) = refl
 value_read (Braces ws) = braces_read [] ws
 
 pub spelled_is_read : (ts : List Token) (command : Command) → Spells ts command → read_form ts ≡ Some command
-spelled_is_read ts (Command.Cell name Spans) e = rw e refl
+spelled_is_read ts (Command.Domain name []) s = absurd s
+spelled_is_read ts (Command.Domain name (e ∷ es)) s = rw s (ap (option_map (λ l. Command.Domain name (e ∷ l))) (words_read es))
+spelled_is_read ts (Command.Relation name d e []) s = absurd s
+spelled_is_read ts (Command.Relation name d e (p ∷ ps)) s = rw s (ap (option_map (Command.Relation name d e)) (pairs_read p ps))
+spelled_is_read ts (Command.Cell name kind) (w, e, s) = rw e (ap (λ k. Some (Command.Cell name k)) (kind_read w kind s))
 spelled_is_read ts (Command.Attach name [] by) s = absurd s
 spelled_is_read ts (Command.Attach name (x ∷ xs) by) (rest, e, h, g) = rw (e, cells_read xs by rest h g) refl
 spelled_is_read ts (Command.Fix x v) e = rw (e, value_read v) refl
@@ -59,15 +78,73 @@ spelled_is_read ts Command.Worldview e = rw e refl
 
 -- ---- what is read is spelled
 
-cell_spelled : (ts : List Token) (command : Command) → cell ts ≡ Some command → Spells (Word (codes "cell") ∷ ts) command
-cell_spelled (Word n ∷ Word k ∷ []) command h = by (bytes_eq k (codes "span")) (bytes_eq-Decides k (codes "span")) h
+words_spelled : (ts : List Token) (es : List (List ℕ)) → only_words ts ≡ Some es → ts ≡ map Word es
+words_spelled [] es h = let none : [] ≡ es = cc in ap (map Word) none
+words_spelled (Word w ∷ ts) es h = more (only_words ts) (λ r e. words_spelled ts r e) h
   where
-    by : (b : Bool) → Decides b (k ≡ codes "span") → option_map (Command.Cell n) (cond b (Some Spans) None) ≡ Some command → Spells (Word (codes "cell") ∷ Word n ∷ Word k ∷ []) command
-    by true d h =
-        let e : Command.Cell n Spans ≡ command = cc in
-        let s : Spells (Word (codes "cell") ∷ Word n ∷ Word k ∷ []) (Command.Cell n Spans) = ap (λ w. Word (codes "cell") ∷ Word n ∷ Word w ∷ []) (d.0 refl) in
-        subst (Spells (Word (codes "cell") ∷ Word n ∷ Word k ∷ [])) e s
-    by false d h = cc
+    more : (o : Option (List (List ℕ))) → ((r : List (List ℕ)) → o ≡ Some r → ts ≡ map Word r) → join (Some w) o ≡ Some es → Word w ∷ ts ≡ map Word es
+    more None spelled h = cc
+    more (Some r) spelled h =
+        let same : w ∷ r ≡ es = cc in
+        ap (λ l. Word w ∷ l) (spelled r refl) ∙ ap (map Word) same
+words_spelled (t ∷ ts) es h = cc
+
+domain_spelled : (ts : List Token) (command : Command) → domain ts ≡ Some command → Spells (Word (codes "domain") ∷ ts) command
+domain_spelled (Word n ∷ Word e ∷ ts) command h = by (only_words ts) (λ es p. words_spelled ts es p) h
+  where
+    by : (o : Option (List (List ℕ))) → ((es : List (List ℕ)) → o ≡ Some es → ts ≡ map Word es) → option_map (λ es. Command.Domain n (e ∷ es)) o ≡ Some command → Spells (Word (codes "domain") ∷ Word n ∷ Word e ∷ ts) command
+    by None spelled h = cc
+    by (Some es) spelled h =
+        let s : Spells (Word (codes "domain") ∷ Word n ∷ Word e ∷ ts) (Command.Domain n (e ∷ es)) = ap (λ l. Word (codes "domain") ∷ Word n ∷ Word e ∷ l) (spelled es refl) in
+        let same : Command.Domain n (e ∷ es) ≡ command = cc in
+        subst (Spells (Word (codes "domain") ∷ Word n ∷ Word e ∷ ts)) same s
+domain_spelled ts command h = cc
+
+-- the tokens are those of the pairs, of which there is one or more
+abbrev ArePairs : List Token → List (List ℕ × List ℕ) → Type 0
+ArePairs ts ps =
+    (p : List ℕ × List ℕ) × (qs : List (List ℕ × List ℕ)) × (ps ≡ p ∷ qs) × (ts ≡ Word p.0 ∷ Word p.1 ∷ further_pairs qs)
+
+pairs_spelled : (ts : List Token) (ps : List (List ℕ × List ℕ)) → pairs ts ≡ Some ps → ArePairs ts ps
+pairs_spelled (Word a ∷ Word b ∷ []) ps h =
+    let same : ps ≡ (a, b) ∷ [] = cc in
+    ((a, b), [], same, refl)
+pairs_spelled (Word a ∷ Word b ∷ Semicolon ∷ ts) ps h = more (pairs ts) (λ r e. pairs_spelled ts r e) h
+  where
+    more : (o : Option (List (List ℕ × List ℕ))) → ((r : List (List ℕ × List ℕ)) → o ≡ Some r → ArePairs ts r) → join (Some (a, b)) o ≡ Some ps → ArePairs (Word a ∷ Word b ∷ Semicolon ∷ ts) ps
+    more None spelled h = cc
+    more (Some r) spelled h =
+        let f = spelled r refl in
+        let same : ps ≡ (a, b) ∷ r = cc in
+        ((a, b), r, same, ap (λ l. Word a ∷ Word b ∷ Semicolon ∷ l) f.3 ∙ ap (λ l. Word a ∷ Word b ∷ further_pairs l) (sym f.2))
+pairs_spelled ts ps h = cc
+
+relation_spelled : (ts : List Token) (command : Command) → relation ts ≡ Some command → Spells (Word (codes "relation") ∷ ts) command
+relation_spelled (Word n ∷ Word d ∷ Word e ∷ Equals ∷ ts) command h = by (pairs ts) (λ ps p. pairs_spelled ts ps p) h
+  where
+    by : (o : Option (List (List ℕ × List ℕ))) → ((ps : List (List ℕ × List ℕ)) → o ≡ Some ps → ArePairs ts ps) → option_map (Command.Relation n d e) o ≡ Some command → Spells (Word (codes "relation") ∷ Word n ∷ Word d ∷ Word e ∷ Equals ∷ ts) command
+    by None spelled h = cc
+    by (Some ps) spelled h =
+        let f = spelled ps refl in
+        let s : Spells (Word (codes "relation") ∷ Word n ∷ Word d ∷ Word e ∷ Equals ∷ ts) (Command.Relation n d e (f.0 ∷ f.1)) = ap (λ l. Word (codes "relation") ∷ Word n ∷ Word d ∷ Word e ∷ Equals ∷ l) f.3 in
+        let same : Command.Relation n d e (f.0 ∷ f.1) ≡ command = ap (Command.Relation n d e) (sym f.2) ∙ cc in
+        subst (Spells (Word (codes "relation") ∷ Word n ∷ Word d ∷ Word e ∷ Equals ∷ ts)) same s
+relation_spelled ts command h = cc
+
+kind_spelled : (w : List ℕ) → StandsFor w (kind_word w)
+kind_spelled w = by (bytes_eq w (codes "span")) (bytes_eq w (codes "truth")) (bytes_eq w (codes "symbol")) (bytes_eq-Decides w (codes "span")) (bytes_eq-Decides w (codes "truth")) (bytes_eq-Decides w (codes "symbol"))
+  where
+    by : (s t y : Bool) → Decides s (w ≡ codes "span") → Decides t (w ≡ codes "truth") → Decides y (w ≡ codes "symbol") → StandsFor w (cond s Spans (cond t Truths (cond y Symbols (Named w))))
+    by true t y d e f = d.0 refl
+    by false true y d e f = e.0 refl
+    by false false true d e f = f.0 refl
+    by false false false d e f = (refl, (λ p. false≢true (d.1 p)), (λ p. false≢true (e.1 p)), (λ p. false≢true (f.1 p)))
+
+cell_spelled : (ts : List Token) (command : Command) → cell ts ≡ Some command → Spells (Word (codes "cell") ∷ ts) command
+cell_spelled (Word n ∷ Word w ∷ []) command h =
+    let s : Spells (Word (codes "cell") ∷ Word n ∷ Word w ∷ []) (Command.Cell n (kind_word w)) = (w, refl, kind_spelled w) in
+    let same : Command.Cell n (kind_word w) ≡ command = cc in
+    subst (Spells (Word (codes "cell") ∷ Word n ∷ Word w ∷ [])) same s
 cell_spelled ts command h = cc
 
 -- what follows the first cell
@@ -192,24 +269,30 @@ ReadsSpelled form = (ts : List Token) (command : Command) → form.1 ts ≡ Some
 
 forms_spelled : AllByRecursion ReadsSpelled forms
 forms_spelled = (
-  cell_spelled,
+  domain_spelled,
   (
-    attach_spelled,
+    relation_spelled,
     (
-      fix_spelled,
+      cell_spelled,
       (
-        tell_spelled,
+        attach_spelled,
         (
-          on_word_spelled (codes "kick") Command.Kick (λ w. refl),
+          fix_spelled,
           (
-            on_word_spelled (codes "bring") Command.Bring (λ w. refl),
+            tell_spelled,
             (
-              bare_spelled (codes "settle") Command.Settle refl,
+              on_word_spelled (codes "kick") Command.Kick (λ w. refl),
               (
-                on_word_spelled (codes "ask") Command.Ask (λ w. refl),
+                on_word_spelled (codes "bring") Command.Bring (λ w. refl),
                 (
-                  on_word_spelled (codes "why") Command.Why (λ w. refl),
-                  (bare_spelled (codes "worldview") Command.Worldview refl, tt),
+                  bare_spelled (codes "settle") Command.Settle refl,
+                  (
+                    on_word_spelled (codes "ask") Command.Ask (λ w. refl),
+                    (
+                      on_word_spelled (codes "why") Command.Why (λ w. refl),
+                      (bare_spelled (codes "worldview") Command.Worldview refl, tt),
+                    ),
+                  ),
                 ),
               ),
             ),

@@ -6,8 +6,12 @@ pub data Value : Type 0 where
   Bare : List ℕ → Value
   Braces : List (List ℕ) → Value
 
+-- a word for a kind: of numbers, of truths, of symbols, or a domain's name
 pub data KindWord : Type 0 where
   Spans : KindWord
+  Truths : KindWord
+  Symbols : KindWord
+  Named : List ℕ → KindWord
 
 -- what follows `by`
 pub data By : Type 0 where
@@ -16,6 +20,8 @@ pub data By : Type 0 where
   Relation : List ℕ → By
 
 pub data Command : Type 0 where
+  Domain : (name : List ℕ) → (elements : List (List ℕ)) → Command
+  Relation : (name from to : List ℕ) → (pairs : List (List ℕ × List ℕ)) → Command
   Cell : (name : List ℕ) → (kind : KindWord) → Command
   Attach : (name : List ℕ) → (cells : List (List ℕ)) → (by : By) → Command
   Fix : (cell : List ℕ) → (value : Value) → Command

@@ -1,9 +1,9 @@
 -- The form of each command: what is read from the tokens after its word.
 use Rattle.std.specs.Prelude.{ℕ, List, [], ◌∷◌, ◌++◌, cond, codes, bytes_eq, Option, Some, None, pos}
 use Rattle.std.specs.Option.{option_map, option_and_then}
-use Rattle.prop_compound.specs.Tokens.{Token, Word, Open, Close}
+use Rattle.prop_compound.specs.Tokens.{Token, Word, Open, Close, Semicolon, Equals}
 use Rattle.prop_compound.specs.Names.{looks_like_number, number_in}
-use Rattle.prop_compound.specs.Commands.{Value, Bare, Braces, KindWord, Spans, By, Command}
+use Rattle.prop_compound.specs.Commands.{Value, Bare, Braces, KindWord, Spans, Truths, Symbols, Named, By, Command}
 
 -- an item before items, where there are both
 abbrev pub join : {X : Type 0} → Option X → Option (List X) → Option (List X)
@@ -21,12 +21,36 @@ abbrev pub on_word : (List ℕ → Command) → List Token → Option Command
 on_word command (Word w ∷ []) = Some (command w)
 on_word command ts = None
 
-abbrev pub kind_word : List ℕ → Option KindWord
-kind_word w = cond (bytes_eq w (codes "span")) (Some Spans) None
+-- words and no marks
+abbrev pub only_words : List Token → Option (List (List ℕ))
+only_words [] = Some []
+only_words (Word w ∷ ts) = join (Some w) (only_words ts)
+only_words (t ∷ ts) = None
+
+-- D e ..: a name, and one element or more
+abbrev pub domain : List Token → Option Command
+domain (Word name ∷ Word e ∷ ts) = option_map (λ es. Command.Domain name (e ∷ es)) (only_words ts)
+domain ts = None
+
+-- one pair of words or more, with a semicolon between each two pairs
+abbrev pub pairs : List Token → Option (List (List ℕ × List ℕ))
+pairs (Word a ∷ Word b ∷ []) = Some ((a, b) ∷ [])
+pairs (Word a ∷ Word b ∷ Semicolon ∷ ts) = join (Some (a, b)) (pairs ts)
+pairs ts = None
+
+-- R D E = a b ; c d ..: a name, the names of two domains, and pairs
+abbrev pub relation : List Token → Option Command
+relation (Word name ∷ Word d ∷ Word e ∷ Equals ∷ ts) = option_map (Command.Relation name d e) (pairs ts)
+relation ts = None
+
+-- one of three words of its own, and else a domain's name
+abbrev pub kind_word : List ℕ → KindWord
+kind_word w =
+    cond (bytes_eq w (codes "span")) Spans (cond (bytes_eq w (codes "truth")) Truths (cond (bytes_eq w (codes "symbol")) Symbols (Named w)))
 
 -- X KIND
 abbrev pub cell : List Token → Option Command
-cell (Word name ∷ Word kind ∷ []) = option_map (Command.Cell name) (kind_word kind)
+cell (Word name ∷ Word kind ∷ []) = Some (Command.Cell name (kind_word kind))
 cell ts = None
 
 -- a number where the word begins as one, and else a relation
@@ -89,7 +113,9 @@ tell ts = None
 -- the form of each command, behind its word
 abbrev pub forms : List (List ℕ × (List Token → Option Command))
 forms =
-    (codes "cell", cell)
+    (codes "domain", domain)
+    ∷ (codes "relation", relation)
+    ∷ (codes "cell", cell)
     ∷ (codes "attach", attach)
     ∷ (codes "fix", fix)
     ∷ (codes "tell", tell)

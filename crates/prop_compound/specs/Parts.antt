@@ -8,12 +8,12 @@ use Rattle.prop_lattice.specs.declared.refusal.Refusal.TheVariants.{UnknownComma
 use Rattle.prop_compound.specs.Tokens.{Token, Word, Open, Close, Semicolon, Equals, Star, is_blank, mark_of}
 use Rattle.prop_compound.specs.Names.{is_name, digits_number}
 use Rattle.prop_compound.specs.Commands.{Value, By, Command}
-use Rattle.prop_compound.specs.Forms.{bare, on_word, cell, attach, fix, tell, parameter, cells_by, values}
+use Rattle.prop_compound.specs.Forms.{join, bare, on_word, domain, relation, cell, attach, fix, tell, parameter, cells_by, values}
 use Rattle.prop_compound.specs.Reading.{by_names, is_by_in_range, command_in_form}
 use Rattle.prop_compound.specs.declared.tokens.Token as read
 use Rattle.prop_compound.specs.declared.tokens.Token.TheVariants as reads
 use Rattle.prop_compound.specs.declared.reading.CommandWord.{CommandWord}
-use Rattle.prop_compound.specs.declared.reading.CommandWord.TheVariants.{Cell, Attach, Fix, Tell, Kick, Bring, Settle, Ask, Why, Worldview}
+use Rattle.prop_compound.specs.declared.reading.CommandWord.TheVariants.{Domain, Relation, Cell, Attach, Fix, Tell, Kick, Bring, Settle, Ask, Why, Worldview}
 
 -- a token without where its word lies in memory
 abbrev pub token_of : read.Token → Token
@@ -55,6 +55,33 @@ abbrev pub one_word : List Token → Option (List ℕ)
 one_word (Word w ∷ []) = Some w
 one_word ts = None
 
+-- the tokens are words alone
+abbrev pub are_words : List Token → Bool
+are_words [] = true
+are_words (Word w ∷ ts) = are_words ts
+are_words (t ∷ ts) = false
+
+-- the words up to the first mark
+abbrev pub front_words : List Token → List (List ℕ)
+front_words (Word w ∷ ts) = w ∷ front_words ts
+front_words ts = []
+
+-- the tokens after an equals sign
+abbrev pub behind_equals : List Token → Option (List Token)
+behind_equals (Equals ∷ ts) = Some ts
+behind_equals ts = None
+
+-- what stands behind a semicolon, if it is one that the tokens begin with; they may also be none
+abbrev pub further : List Token → Option (Option (List Token))
+further [] = Some None
+further (Semicolon ∷ ts) = Some (Some ts)
+further ts = None
+
+-- these pairs before others, where there are others
+abbrev pub before_pairs : List (List ℕ × List ℕ) → Option (List (List ℕ × List ℕ)) → Option (List (List ℕ × List ℕ))
+before_pairs [] others = others
+before_pairs (p ∷ ps) others = join (Some p) (before_pairs ps others)
+
 -- what follows the first `by` of an attachment's tokens
 abbrev pub given : List Token → Option By
 given ts = option_map (λ rest. rest.1) (cells_by ts)
@@ -80,6 +107,8 @@ some_values (t ∷ ts) = values (t ∷ ts)
 
 -- the form of the command that has this word
 abbrev pub form_of : CommandWord → List Token → Option Command
+form_of Domain = domain
+form_of Relation = relation
 form_of Cell = cell
 form_of Attach = attach
 form_of Fix = fix
@@ -109,12 +138,16 @@ BeginsOpen ts = ⊥
 
 -- the command keeps a list of the words in these tokens
 abbrev pub KeepsWordsOf : CommandWord → List Token → Type 0
+KeepsWordsOf Domain ts = ⊤
+KeepsWordsOf Relation ts = ⊤
 KeepsWordsOf Attach ts = ⊤
 KeepsWordsOf Fix ts = Contains ts Open
 KeepsWordsOf Tell ts = Contains ts Open
 KeepsWordsOf command ts = ⊥
 
 abbrev pub word_of : CommandWord → List ℕ
+word_of Domain = codes "domain"
+word_of Relation = codes "relation"
 word_of Cell = codes "cell"
 word_of Attach = codes "attach"
 word_of Fix = codes "fix"

@@ -6,7 +6,7 @@ use Rattle.prop_lattice.specs.declared.refusal.Refusal.{Refusal}
 use Rattle.prop_lattice.specs.declared.refusal.Refusal.TheVariants.{LineTooLong, NotUtf8, UnknownCommand, WrongForm, NotAName, NotANumber}
 use Rattle.prop_compound.specs.Tokens.{Token, Word, tokens, is_blank}
 use Rattle.prop_compound.specs.Names.{is_name}
-use Rattle.prop_compound.specs.Commands.{By, Command}
+use Rattle.prop_compound.specs.Commands.{KindWord, Named, By, Command}
 use Rattle.prop_compound.specs.Forms.{forms}
 
 -- the bytes but for one carriage return at their end
@@ -20,13 +20,20 @@ abbrev pub is_silent : List ℕ → Bool
 is_silent [] = true
 is_silent (b ∷ bytes) = cond (is_blank b) (is_silent bytes) (b == 35)
 
+-- a kind's own words are no names
+abbrev pub kind_names : KindWord → List (List ℕ)
+kind_names (Named name) = name ∷ []
+kind_names kind = []
+
 abbrev pub by_names : By → List (List ℕ)
 by_names (By.Relation name) = name ∷ []
 by_names by = []
 
--- the words that stand in a name's place; those in values are left to the cell
+-- the words that stand in a name's place; those in values are left to the cell, and those in pairs to the domains
 abbrev pub names_in : Command → List (List ℕ)
-names_in (Command.Cell name kind) = name ∷ []
+names_in (Command.Domain name elements) = name ∷ elements
+names_in (Command.Relation name d e pairs) = name ∷ d ∷ e ∷ []
+names_in (Command.Cell name kind) = name ∷ kind_names kind
 names_in (Command.Attach name cells by) = name ∷ cells ++ by_names by
 names_in (Command.Fix cell value) = cell ∷ []
 names_in (Command.Tell premise cell value) = premise ∷ cell ∷ []

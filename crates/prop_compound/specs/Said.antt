@@ -5,17 +5,23 @@ use Rattle.prop_lattice.specs.declared.refusal.Refusal.{Refusal}
 use Rattle.prop_lattice.specs.declared.refusal.Refusal.TheVariants.{Memory}
 use Rattle.prop_compound.specs.Tokens.{Token, Word, Open}
 use Rattle.prop_compound.specs.Commands as commands
+use Rattle.prop_compound.specs.Values as values
 use Rattle.prop_compound.specs.declared.command.Value.{Value}
 use Rattle.prop_compound.specs.declared.command.Value.TheVariants.{Bare, Braces}
 use Rattle.prop_compound.specs.declared.command.KindWord.{KindWord}
-use Rattle.prop_compound.specs.declared.command.KindWord.TheVariants.{Spans}
+use Rattle.prop_compound.specs.declared.command.KindWord.TheVariants.{Spans, Truths, Symbols, Named}
 use Rattle.prop_compound.specs.declared.command.By.{By}
 use Rattle.prop_compound.specs.declared.command.By.TheVariants as bys
 use Rattle.prop_compound.specs.declared.command.Command.{Command}
-use Rattle.prop_compound.specs.declared.command.Command.TheVariants.{Silent, Cell, Attach, Fix, Tell, Kick, Bring, Settle, Ask, Why, Worldview}
+use Rattle.prop_compound.specs.declared.command.Command.TheVariants.{Silent, Domain, Relation, Cell, Attach, Fix, Tell, Kick, Bring, Settle, Ask, Why, Worldview}
+use Rattle.prop_compound.specs.declared.values.Meant.{Meant}
+use Rattle.prop_compound.specs.declared.values.Meant.TheVariants.{Known, Name}
 
 abbrev pub words : List (Bor (List ℕ)) → List (List ℕ)
 words items = map (λ (w : Bor (List ℕ)). w.now) items
+
+abbrev pub pairs_of : List (Bor (List ℕ) × Bor (List ℕ)) → List (List ℕ × List ℕ)
+pairs_of items = map (λ (p : Bor (List ℕ) × Bor (List ℕ)). (p.0.now, p.1.now)) items
 
 abbrev pub value_of : Value → commands.Value
 value_of (Bare word) = commands.Bare word.now
@@ -23,15 +29,24 @@ value_of (Braces items) = commands.Braces (words items.items)
 
 abbrev pub kind_of : KindWord → commands.KindWord
 kind_of Spans = commands.Spans
+kind_of Truths = commands.Truths
+kind_of Symbols = commands.Symbols
+kind_of (Named name) = commands.Named name.now
 
 abbrev pub by_of : By → commands.By
 by_of bys.Nothing = commands.By.Nothing
 by_of (bys.Number k) = commands.By.Number (Some k)
 by_of (bys.Relation name) = commands.By.Relation name.now
 
+abbrev pub meant_of : Meant → values.Meant
+meant_of (Known info) = values.Known info
+meant_of (Name name) = values.Name name.now
+
 -- what the command says, None where it is silent
 abbrev pub said : Command → Option commands.Command
 said Silent = None
+said (Domain name elements) = Some (commands.Command.Domain name.now (words elements.items))
+said (Relation name d e pairs) = Some (commands.Command.Relation name.now d.now e.now (pairs_of pairs.items))
 said (Cell name kind) = Some (commands.Command.Cell name.now (kind_of kind))
 said (Attach name cells by) = Some (commands.Command.Attach name.now (words cells.items) (by_of by))
 said (Fix cell value) = Some (commands.Command.Fix cell.now (value_of value))
@@ -48,7 +63,9 @@ abbrev pub Reads : Result Command Refusal → Result (Option commands.Command) R
 Reads (Ok command) read = read ≡ Ok (said command)
 Reads (Err refusal) read = (refusal ≡ Memory) ⊎ (read ≡ Err refusal)
 
--- The command keeps a list of words, its cells or those in braces: for another line there is no want of memory.
+-- The command keeps a list of words, its elements, pairs or cells or those in braces: for another line there is no want of
+-- memory.
 abbrev pub KeepsWords : List Token → Type 0
-KeepsWords (Word w ∷ ts) = (w ≡ codes "attach") ⊎ (((w ≡ codes "fix") ⊎ (w ≡ codes "tell")) × Contains ts Open)
+KeepsWords (Word w ∷ ts) =
+    (w ≡ codes "domain") ⊎ ((w ≡ codes "relation") ⊎ ((w ≡ codes "attach") ⊎ (((w ≡ codes "fix") ⊎ (w ≡ codes "tell")) × Contains ts Open)))
 KeepsWords ts = ⊥

@@ -1,17 +1,26 @@
 -- How each command is spelled: the tokens of a line that asks for it.
 use Rattle.std.specs.Prelude.{◌≡◌, ◌≢◌, ℕ, List, [], ◌∷◌, ◌++◌, true, false, codes, pos, map}
 use Rattle.std.specs.List.{AllByRecursion}
-use Rattle.prop_compound.specs.Tokens.{Token, Word, Open, Close}
+use Rattle.prop_compound.specs.Tokens.{Token, Word, Open, Close, Semicolon, Equals}
 use Rattle.prop_compound.specs.Names.{looks_like_number, number_in}
-use Rattle.prop_compound.specs.Commands.{Value, Bare, Braces, KindWord, Spans, By, Command}
+use Rattle.prop_compound.specs.Commands.{Value, Bare, Braces, KindWord, Spans, Truths, Symbols, Named, By, Command}
 
 -- the first words of the commands
 abbrev pub command_words : List (List ℕ)
 command_words =
-    codes "cell" ∷ codes "attach" ∷ codes "fix" ∷ codes "tell" ∷ codes "kick" ∷ codes "bring" ∷ codes "settle" ∷ codes "ask" ∷ codes "why" ∷ codes "worldview" ∷ []
+    codes "domain" ∷ codes "relation" ∷ codes "cell" ∷ codes "attach" ∷ codes "fix" ∷ codes "tell" ∷ codes "kick" ∷ codes "bring" ∷ codes "settle" ∷ codes "ask" ∷ codes "why" ∷ codes "worldview" ∷ []
 
-abbrev pub word_of_kind : KindWord → List ℕ
-word_of_kind Spans = codes "span"
+-- The word stands for the kind. Three kinds have words of their own, and another word is a domain's name.
+abbrev pub StandsFor : List ℕ → KindWord → Type 0
+StandsFor w Spans = w ≡ codes "span"
+StandsFor w Truths = w ≡ codes "truth"
+StandsFor w Symbols = w ≡ codes "symbol"
+StandsFor w (Named name) = (w ≡ name) × (w ≢ codes "span") × (w ≢ codes "truth") × (w ≢ codes "symbol")
+
+-- the pairs after a first one, each behind a semicolon
+abbrev pub further_pairs : List (List ℕ × List ℕ) → List Token
+further_pairs [] = []
+further_pairs (p ∷ ps) = Semicolon ∷ Word p.0 ∷ Word p.1 ∷ further_pairs ps
 
 -- none of the words is `by`
 abbrev pub HaveNoBy : List (List ℕ) → Type 0
@@ -28,9 +37,16 @@ abbrev pub tokens_of_value : Value → List Token
 tokens_of_value (Bare w) = Word w ∷ []
 tokens_of_value (Braces ws) = Open ∷ map Word ws ++ Close ∷ []
 
--- The tokens spell the command. Of the cells of an attachment there is one or more, and only the first can be called `by`.
+-- The tokens spell the command. Of a domain's elements, a relation's pairs and an attachment's cells there is one or more,
+-- and of the cells only the first can be called `by`.
 abbrev pub Spells : List Token → Command → Type 0
-Spells ts (Command.Cell name kind) = ts ≡ Word (codes "cell") ∷ Word name ∷ Word (word_of_kind kind) ∷ []
+Spells ts (Command.Domain name []) = ⊥
+Spells ts (Command.Domain name (e ∷ es)) = ts ≡ Word (codes "domain") ∷ Word name ∷ Word e ∷ map Word es
+Spells ts (Command.Relation name d e []) = ⊥
+Spells ts (Command.Relation name d e (p ∷ ps)) =
+    ts ≡ Word (codes "relation") ∷ Word name ∷ Word d ∷ Word e ∷ Equals ∷ Word p.0 ∷ Word p.1 ∷ further_pairs ps
+Spells ts (Command.Cell name kind) =
+    (word : List ℕ) × (ts ≡ Word (codes "cell") ∷ Word name ∷ Word word ∷ []) × StandsFor word kind
 Spells ts (Command.Attach name [] by) = ⊥
 Spells ts (Command.Attach name (x ∷ xs) by) =
     (rest : List Token) × (ts ≡ Word (codes "attach") ∷ Word name ∷ Word x ∷ map Word xs ++ rest) × HaveNoBy xs × Gives by rest

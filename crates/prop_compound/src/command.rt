@@ -7,10 +7,13 @@ pub enum Value<'a> {
     Braces(Vec<&'a [u8]>),
 }
 
-/// The word for a cell's kind.
+/// The word for a cell's kind: `span`, `truth`, `symbol`, or a domain's name.
 #[derive(Clone, Copy, Debug, PartialEq, Eq)]
-pub enum KindWord {
+pub enum KindWord<'a> {
     Spans,
+    Truths,
+    Symbols,
+    Named(&'a str),
 }
 
 /// What follows `by`: nothing, a number from 1 to 1,000,000,000, or a relation's name.
@@ -22,11 +25,14 @@ pub enum By<'a> {
 }
 
 /// A command with its words and numbers as read, in the order in which they stand on the line: of `Tell` the premise, then the
-/// cell. `Silent` is a line that gets no reply.
+/// cell, and of `Relation` the name, the two domains, and the pairs, whose words need not be names. `Silent` is a line that gets
+/// no reply.
 #[derive(Debug, Drop)]
 pub enum Command<'a> {
     Silent,
-    Cell(&'a str, KindWord),
+    Domain(&'a str, Vec<&'a str>),
+    Relation(&'a str, &'a str, &'a str, Vec<(&'a [u8], &'a [u8])>),
+    Cell(&'a str, KindWord<'a>),
     Attach(&'a str, Vec<&'a str>, By<'a>),
     Fix(&'a str, Value<'a>),
     Tell(&'a str, &'a str, Value<'a>),

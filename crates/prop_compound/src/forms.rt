@@ -1,13 +1,14 @@
 //! The form of each command: what is read from the bytes behind its word.
-ghost use Rattle.std.specs.Prelude.{◌≡◌, ◌≢◌, ◌∷◌, [], ◌⊎◌, IfOk, IfErr, OnOk, true, false, Contains, Ok, Err, None, Some};
+ghost use Rattle.std.specs.Prelude.{◌≡◌, ◌≢◌, ◌<◌, ◌∷◌, [], ◌⊎◌, IfOk, IfErr, OnOk, true, false, Contains, Ok, Err, None, Some, IfSome, length};
 ghost use Rattle.std.specs.List.{list_all};
-ghost use Rattle.prop_compound.specs.Tokens.{tokens, Word, Open};
+ghost use Rattle.std.specs.Option.{option_map};
+ghost use Rattle.prop_compound.specs.Tokens.{tokens, Word, Open, Equals};
 ghost use Rattle.prop_compound.specs.Names.{is_name};
 ghost use Rattle.prop_compound.specs.Forms as forms;
 ghost use Rattle.prop_compound.specs.Commands as commands;
-ghost use Rattle.prop_compound.specs.Reading.{command_in_form};
-ghost use Rattle.prop_compound.specs.Said.{Reads, words, kind_of, by_of, value_of};
-ghost use Rattle.prop_compound.specs.Parts.{front, one_word, given, parameter_said, before_by, by_in_range, some_values, BeginsOpen};
+ghost use Rattle.prop_compound.specs.Reading.{command_in_form, kind_names};
+ghost use Rattle.prop_compound.specs.Said.{Reads, words, pairs_of, kind_of, by_of, value_of};
+ghost use Rattle.prop_compound.specs.Parts.{front, one_word, are_words, front_words, behind_equals, further, given, parameter_said, before_by, by_in_range, some_values, BeginsOpen};
 
 use crate::command::{By, Command, KindWord, Value};
 use crate::names::name;
@@ -20,6 +21,7 @@ use std::alloc::Global;
 fn word(bytes: &[u8]) -> Result<(&[u8], &[u8]), Refusal>
     ensures ok { IfOk result (λ found. tokens bytes.now ≡ Word found.0.now ∷ tokens found.1.now) }
     ensures err { IfErr result (λ refusal. (refusal ≡ Refusal.WrongForm) × (front (tokens bytes.now) ≡ None)) }
+    ensures shorter { IfOk result (λ found. length found.1.now < length bytes.now) }
 {
     match next_token(bytes) {
         Some((Token::Word(word), rest)) => Ok((word, rest)),
@@ -48,14 +50,113 @@ fn only_word(bytes: &[u8]) -> Result<&[u8], Refusal>
     Ok(word)
 }
 
-fn kind_word(word: &[u8]) -> Result<KindWord, Refusal>
-    ensures ok { IfOk result (λ kind. forms.kind_word word.now ≡ Some (kind_of kind)) }
-    ensures err { IfErr result (λ refusal. (refusal ≡ Refusal.WrongForm) × (forms.kind_word word.now ≡ None)) }
+/// Words and no marks.
+fn only_words(bytes: &[u8]) -> Result<(), Refusal>
+    ensures ok { OnOk result (are_words (tokens bytes.now) ≡ true) }
+    ensures err { IfErr result (λ refusal. (refusal ≡ Refusal.WrongForm) × (are_words (tokens bytes.now) ≡ false)) }
+{
+    let mut left = bytes;
+    while let Some((token, rest)) = next_token(left) {
+        let Token::Word(_) = token else {
+            return Err(Refusal::WrongForm);
+        };
+        left = rest;
+    }
+    Ok(())
+}
+
+/// The words up to a mark, which are to be names.
+fn names_of<'a>(alloc: Global, bytes: &'a [u8]) -> Result<Vec<&'a str>, Refusal>
+    ensures ok { IfOk result (λ found. (words found.items ≡ front_words (tokens bytes.now)) × (list_all is_name (front_words (tokens bytes.now)) ≡ true)) }
+    ensures err { IfErr result (λ refusal. (refusal ≡ Refusal.Memory) ⊎ ((refusal ≡ Refusal.NotAName) × (list_all is_name (front_words (tokens bytes.now)) ≡ false))) }
+{
+    let mut found = Vec::new(alloc);
+    let mut left = bytes;
+    while let Some((Token::Word(word), rest)) = next_token(left) {
+        found.push(name(word)?).map_err(|_| Refusal::Memory)?;
+        left = rest;
+    }
+    Ok(found)
+}
+
+/// `domain D e ..`, behind its first word.
+pub fn domain<'a>(alloc: Global, rest: &'a [u8]) -> Result<Command<'a>, Refusal>
+    ensures { Reads result (command_in_form (forms.domain (tokens rest.now))) }
+{
+    let (domain, elements) = word(rest)?;
+    let (_first, others) = word(elements)?;
+    only_words(others)?;
+    let domain = name(domain)?;
+    Ok(Command::Domain(domain, names_of(alloc, elements)?))
+}
+
+/// What stands behind an equals sign.
+fn behind_equals(bytes: &[u8]) -> Result<&[u8], Refusal>
+    ensures ok { IfOk result (λ rest. tokens bytes.now ≡ Equals ∷ tokens rest.now) }
+    ensures err { IfErr result (λ refusal. (refusal ≡ Refusal.WrongForm) × (behind_equals (tokens bytes.now) ≡ None)) }
+{
+    match next_token(bytes) {
+        Some((Token::Equals, rest)) => Ok(rest),
+        _ => Err(Refusal::WrongForm),
+    }
+}
+
+/// What stands behind a semicolon, if there is anything.
+fn further(bytes: &[u8]) -> Result<Option<&[u8]>, Refusal>
+    ensures ok { IfOk result (λ behind. further (tokens bytes.now) ≡ Some (option_map (λ rest. tokens rest.now) behind)) }
+    ensures err { IfErr result (λ refusal. (refusal ≡ Refusal.WrongForm) × (further (tokens bytes.now) ≡ None)) }
+    ensures shorter { IfOk result (λ behind. IfSome behind (λ rest. length rest.now < length bytes.now)) }
+{
+    match next_token(bytes) {
+        None => Ok(None),
+        Some((Token::Semicolon, rest)) => Ok(Some(rest)),
+        _ => Err(Refusal::WrongForm),
+    }
+}
+
+/// Pairs of words, with a semicolon between each two pairs.
+fn pairs<'a>(alloc: Global, bytes: &'a [u8]) -> Result<Vec<(&'a [u8], &'a [u8])>, Refusal>
+    ensures ok { IfOk result (λ found. forms.pairs (tokens bytes.now) ≡ Some (pairs_of found.items)) }
+    ensures err { IfErr result (λ refusal. (refusal ≡ Refusal.Memory) ⊎ ((refusal ≡ Refusal.WrongForm) × (forms.pairs (tokens bytes.now) ≡ None))) }
+{
+    let mut found = Vec::new(alloc);
+    let mut left = bytes;
+    loop {
+        let (first, rest) = word(left)?;
+        let (second, rest) = word(rest)?;
+        found.push((first, second)).map_err(|_| Refusal::Memory)?;
+        let behind = further(rest)?;
+        match behind {
+            Some(rest) => left = rest,
+            None => return Ok(found),
+        }
+    }
+}
+
+/// `relation R D E = a b ; c d ..`, behind its first word.
+pub fn relation<'a>(alloc: Global, rest: &'a [u8]) -> Result<Command<'a>, Refusal>
+    ensures { Reads result (command_in_form (forms.relation (tokens rest.now))) }
+{
+    let (relation, rest) = word(rest)?;
+    let (from, rest) = word(rest)?;
+    let (to, rest) = word(rest)?;
+    let pairs = pairs(alloc, behind_equals(rest)?)?;
+    Ok(Command::Relation(name(relation)?, name(from)?, name(to)?, pairs))
+}
+
+/// The kind that the word stands for: one of three with words of their own, and else the domain of that name.
+fn kind_word(word: &[u8]) -> Result<KindWord<'_>, Refusal>
+    ensures ok { IfOk result (λ kind. (forms.kind_word word.now ≡ kind_of kind) × (list_all is_name (kind_names (kind_of kind)) ≡ true)) }
+    ensures err { IfErr result (λ refusal. (refusal ≡ Refusal.NotAName) × (list_all is_name (kind_names (forms.kind_word word.now)) ≡ false)) }
 {
     if word == b"span".as_slice() {
         Ok(KindWord::Spans)
+    } else if word == b"truth".as_slice() {
+        Ok(KindWord::Truths)
+    } else if word == b"symbol".as_slice() {
+        Ok(KindWord::Symbols)
     } else {
-        Err(Refusal::WrongForm)
+        Ok(KindWord::Named(name(word)?))
     }
 }
 
@@ -65,8 +166,8 @@ pub fn cell(rest: &[u8]) -> Result<Command<'_>, Refusal>
     ensures memory { result ≢ Err Refusal.Memory }
 {
     let (cell, rest) = word(rest)?;
-    let kind = kind_word(only_word(rest)?)?;
-    Ok(Command::Cell(name(cell)?, kind))
+    let kind = only_word(rest)?;
+    Ok(Command::Cell(name(cell)?, kind_word(kind)?))
 }
 
 /// `settle`, behind its first word.

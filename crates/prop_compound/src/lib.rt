@@ -12,7 +12,7 @@ mod values;
 pub use command::{By, Command, KindWord, Value};
 pub use numbers::number_in;
 pub use reading::{read_line, reads_what_is_spelled};
-pub use values::read_value;
+pub use values::{Meant, read_value};
 
 #[cfg(test)]
 mod tests;

@@ -21,7 +21,7 @@ const RESERVED: [&[u8]; 9] = [
 ];
 
 /// Whether the word is one of these.
-fn is_among(words: &[&[u8]], word: &[u8]) -> bool
+pub fn is_among(words: &[&[u8]], word: &[u8]) -> bool
     ensures { result ≡ is_among (map (λ w. w.now) words.now) word.now }
 {
     for known in words {

@@ -42,6 +42,8 @@ fn is_silent(text: &[u8]) -> bool
 /// The first word of a command.
 #[derive(Clone, Copy, Debug, PartialEq, Eq)]
 enum CommandWord {
+    Domain,
+    Relation,
     Cell,
     Attach,
     Fix,
@@ -55,7 +57,9 @@ enum CommandWord {
 }
 
 /// The commands by their first words.
-const COMMANDS: [(&[u8], CommandWord); 10] = [
+const COMMANDS: [(&[u8], CommandWord); 12] = [
+    (b"domain", CommandWord::Domain),
+    (b"relation", CommandWord::Relation),
     (b"cell", CommandWord::Cell),
     (b"attach", CommandWord::Attach),
     (b"fix", CommandWord::Fix),
@@ -91,6 +95,8 @@ fn read_form<'a>(
     ensures memory { (result ≡ Err Refusal.Memory) → KeepsWordsOf command (tokens rest.now) }
 {
     match command {
+        CommandWord::Domain => forms::domain(alloc, rest),
+        CommandWord::Relation => forms::relation(alloc, rest),
         CommandWord::Cell => forms::cell(rest),
         CommandWord::Attach => forms::attach(alloc, rest),
         CommandWord::Fix => forms::fix(alloc, rest),

@@ -1,18 +1,39 @@
 //! Lines, values and numbers, with what they say.
+ghost use Rattle.std.specs.Prelude.{◌<◌, length};
+
 use crate::command::Value;
-use crate::{number_in, read_line, read_value};
+use crate::{Command, Meant, number_in, read_line, read_value};
 use prop_lattice::{Info, Kind, Refusal};
+use prop_sets::Domain;
+use std::alloc::Global;
 use std::test::Fail;
 
 /// Each line with what it asks for.
-const READ: [(&[u8], &str); 36] = [
+const READ: [(&[u8], &str); 44] = [
     (b"", "Ok(Silent)"),
     (b" \t ", "Ok(Silent)"),
     (b"# note", "Ok(Silent)"),
     (b"\t # note", "Ok(Silent)"),
     (b"#{", "Ok(Silent)"),
     (b"\r", "Ok(Silent)"),
+    (
+        b"domain floor f1 f2",
+        "Ok(Domain(\"floor\", [\"f1\", \"f2\"]))",
+    ),
+    (b"domain d d d", "Ok(Domain(\"d\", [\"d\", \"d\"]))"),
+    (
+        b"relation r d e = a b",
+        "Ok(Relation(\"r\", \"d\", \"e\", [([97], [98])]))",
+    ),
+    (
+        b"relation r r r=a by;2 a;a by",
+        "Ok(Relation(\"r\", \"r\", \"r\", [([97], [98, 121]), ([50], [97]), ([97], [98, 121])]))",
+    ),
     (b"cell x span", "Ok(Cell(\"x\", Spans))"),
+    (b"cell x truth", "Ok(Cell(\"x\", Truths))"),
+    (b"cell x symbol", "Ok(Cell(\"x\", Symbols))"),
+    (b"cell x floor", "Ok(Cell(\"x\", Named(\"floor\")))"),
+    (b"cell x spans", "Ok(Cell(\"x\", Named(\"spans\")))"),
     (b"\tcell  x\tspan ", "Ok(Cell(\"x\", Spans))"),
     (
         b"attach adder x y z",
@@ -81,13 +102,12 @@ fn reads_lines(rt: HostRuntime) -> Result<(), Fail> {
 }
 
 /// Lines that are refused for their form, or before it.
-const MISFORMED: [(&[u8], Refusal); 69] = [
+const MISFORMED: [(&[u8], Refusal); 87] = [
     (b"\xff", Refusal::NotUtf8),
     (b"#\xff", Refusal::NotUtf8),
     (b"ask \xc3", Refusal::NotUtf8),
     (b"go", Refusal::UnknownCommand),
-    (b"domain d a", Refusal::UnknownCommand),
-    (b"relation r d d = a b", Refusal::UnknownCommand),
+    (b"domains d a", Refusal::UnknownCommand),
     (b"choose c x 1 or 2", Refusal::UnknownCommand),
     (b"core x", Refusal::UnknownCommand),
     (b"nogoods", Refusal::UnknownCommand),
@@ -104,10 +124,29 @@ const MISFORMED: [(&[u8], Refusal); 69] = [
     (b"settle\r\r", Refusal::UnknownCommand),
     (b"settle now", Refusal::WrongForm),
     (b"settle ;", Refusal::WrongForm),
+    (b"domain", Refusal::WrongForm),
+    (b"domain d", Refusal::WrongForm),
+    (b"domain 1", Refusal::WrongForm),
+    (b"domain d {a}", Refusal::WrongForm),
+    (b"domain d 1 ; b", Refusal::WrongForm),
+    (b"domain d = a", Refusal::WrongForm),
+    (b"relation r a b", Refusal::WrongForm),
+    (b"relation r a b =", Refusal::WrongForm),
+    (b"relation r a b = x", Refusal::WrongForm),
+    (b"relation r a b = x y ;", Refusal::WrongForm),
+    (b"relation r a b = x y z", Refusal::WrongForm),
+    (b"relation r a b = x y ; z", Refusal::WrongForm),
+    (b"relation r a b = ; x y", Refusal::WrongForm),
+    (b"relation r a b = x y ;; x y", Refusal::WrongForm),
+    (b"relation r a b = x y = x y", Refusal::WrongForm),
+    (b"relation r a b = {x y}", Refusal::WrongForm),
+    (b"relation r a = x y", Refusal::WrongForm),
+    (b"relation r a b c = x y", Refusal::WrongForm),
+    (b"relation r 1 b x y", Refusal::WrongForm),
     (b"cell x", Refusal::WrongForm),
     (b"cell x span y", Refusal::WrongForm),
-    (b"cell x truth", Refusal::WrongForm),
-    (b"cell span truth", Refusal::WrongForm),
+    (b"cell x truth = yes", Refusal::WrongForm),
+    (b"cell x 1 2", Refusal::WrongForm),
     (b"cell x {span}", Refusal::WrongForm),
     (b"ask", Refusal::WrongForm),
     (b"ask x y", Refusal::WrongForm),
@@ -165,8 +204,20 @@ fn refuses_forms(rt: HostRuntime) {
 }
 
 /// Lines that are refused for one of their words.
-const MISNAMED: [(&[u8], Refusal); 36] = [
+const MISNAMED: [(&[u8], Refusal); 48] = [
+    (b"domain d span", Refusal::NotAName),
+    (b"domain d a by", Refusal::NotAName),
+    (b"domain d a 1", Refusal::NotAName),
+    (b"domain truth a", Refusal::NotAName),
+    (b"relation r truth e = a b", Refusal::NotAName),
+    (b"relation r d truth = a b", Refusal::NotAName),
+    (b"relation 1 d e = a b", Refusal::NotAName),
     (b"cell span span", Refusal::NotAName),
+    (b"cell span truth", Refusal::NotAName),
+    (b"cell x by", Refusal::NotAName),
+    (b"cell x yes", Refusal::NotAName),
+    (b"cell x 1", Refusal::NotAName),
+    (b"cell 1 floor", Refusal::NotAName),
     (b"ask by", Refusal::NotAName),
     (b"ask nothing", Refusal::NotAName),
     (b"ask 1x", Refusal::NotAName),
@@ -273,21 +324,95 @@ const SPANS: [(&[u8], Result<(i64, i64), Refusal>); 24] = [
     (b"3..1x", Err(Refusal::NotANumber)),
 ];
 
+/// A domain of these elements.
+fn domain_of(alloc: Global, names: &[&str]) -> Result<Domain, Fail>
+    requires { 0 < length names.now }
+{
+    match Domain::new(alloc, names) {
+        Ok(domain) => Ok(domain),
+        Err(_) => Err("the names make a domain".into()),
+    }
+}
+
 #[test]
-fn reads_values(rt: HostRuntime) -> Result<(), Fail> {
+fn reads_spans(rt: HostRuntime) -> Result<(), Fail> {
+    let truths = domain_of(rt.alloc(), &["yes", "no"])?;
     for (word, wanted) in SPANS {
-        let ends = read_value(&Value::Bare(word), Kind::Span).map(|info| match info {
-            Info::Span(span) => (span.lo(), span.hi()),
+        let value = Value::Bare(word);
+        let ends = read_value(&value, Kind::Span, &truths).map(|meant| match meant {
+            Meant::Known(Info::Span(span)) => (span.lo(), span.hi()),
             _ => (1, 0),
         });
         assert_eq!(rt; ends, wanted, "at {word:?}");
     }
-    let empty = Value::Braces(Vec::new(rt.alloc()));
-    assert_eq!(rt; read_value(&empty, Kind::Span), Err(Refusal::WrongKind));
+    Ok(())
+}
+
+/// Each value over the domain of `a`, `b` and `c`, with the bits of the set that it is, or its refusal.
+const SETS: [(&[u8], Result<u64, Refusal>); 12] = [
+    (b"fix x a", Ok(0b001)),
+    (b"fix x c", Ok(0b100)),
+    (b"fix x {b}", Ok(0b010)),
+    (b"fix x {c a}", Ok(0b101)),
+    (b"fix x {b b c b}", Ok(0b110)),
+    (b"fix x {}", Err(Refusal::EmptyValue)),
+    (b"fix x d", Err(Refusal::NotInTheDomain)),
+    (b"fix x 1", Err(Refusal::NotInTheDomain)),
+    (b"fix x by", Err(Refusal::NotInTheDomain)),
+    (b"fix x {a d}", Err(Refusal::NotInTheDomain)),
+    (b"fix x {d a}", Err(Refusal::NotInTheDomain)),
+    (b"fix x {ab}", Err(Refusal::NotInTheDomain)),
+];
+
+#[test]
+fn reads_sets(rt: HostRuntime) -> Result<(), Fail> {
+    let letters = domain_of(rt.alloc(), &["a", "b", "c"])?;
+    for (line, wanted) in SETS {
+        let Ok(Command::Fix(_, value)) = read_line(rt.alloc(), line) else {
+            return Err("each line is a statement".into());
+        };
+        let wanted = wanted.map(|bits| Meant::Known(Info::from_bits(bits)));
+        assert_eq!(rt;
+            read_value(&value, Kind::Set(1), &letters),
+            wanted,
+            "at {line:?}"
+        );
+    }
+    let truths = domain_of(rt.alloc(), &["yes", "no"])?;
+    let yes = Ok(Meant::Known(Info::from_bits(0b01)));
     assert_eq!(rt;
-        read_value(&Value::Bare(b"5"), Kind::Symbol),
-        Err(Refusal::WrongKind)
+        read_value(&Value::Bare(b"yes"), Kind::Set(0), &truths),
+        yes
     );
+    assert_eq!(rt;
+        read_value(&Value::Bare(b"\xff"), Kind::Set(0), &truths),
+        Err(Refusal::NotInTheDomain)
+    );
+    Ok(())
+}
+
+/// Values of a form that another kind has, or of a symbol.
+const OTHERS: [(&[u8], Kind, Result<Meant<'_>, Refusal>); 9] = [
+    (b"fix x {}", Kind::Span, Err(Refusal::WrongKind)),
+    (b"fix x {3}", Kind::Span, Err(Refusal::WrongKind)),
+    (b"fix s red", Kind::Symbol, Ok(Meant::Name("red"))),
+    (b"fix s a", Kind::Symbol, Ok(Meant::Name("a"))),
+    (b"fix s 3", Kind::Symbol, Err(Refusal::NotAName)),
+    (b"fix s yes", Kind::Symbol, Err(Refusal::NotAName)),
+    (b"fix s {red}", Kind::Symbol, Err(Refusal::WrongKind)),
+    (b"fix s {3}", Kind::Symbol, Err(Refusal::WrongKind)),
+    (b"fix s {}", Kind::Symbol, Err(Refusal::WrongKind)),
+];
+
+#[test]
+fn reads_other_values(rt: HostRuntime) -> Result<(), Fail> {
+    let letters = domain_of(rt.alloc(), &["a", "b", "c"])?;
+    for (line, kind, wanted) in OTHERS {
+        let Ok(Command::Fix(_, value)) = read_line(rt.alloc(), line) else {
+            return Err("each line is a statement".into());
+        };
+        assert_eq!(rt; read_value(&value, kind, &letters), wanted, "at {line:?}");
+    }
     Ok(())
 }
 

@@ -1,13 +1,24 @@
 //! What a value says at a cell.
-ghost use Rattle.std.specs.Prelude.{◌≡◌, IfOk, IfErr, Some, None};
+ghost use Rattle.std.specs.Prelude.{◌≡◌, IfOk, IfErr, Some, None, Ok, Err};
 ghost use Rattle.std.specs.Option.{option_map};
-ghost use Rattle.prop_compound.specs.Values.{halves, bounded_number, span_value, value_said};
-ghost use Rattle.prop_compound.specs.Said.{value_of};
+ghost use Rattle.std.specs.List.{list_all};
+ghost use Rattle.prop_compound.specs.Names.{is_among};
+ghost use Rattle.prop_compound.specs.Values.{halves, bounded_number, span_value, bits_named, set_value, value_said};
+ghost use Rattle.prop_compound.specs.Said.{words, value_of, meant_of};
 
 use crate::command::Value;
+use crate::names::{is_among, name};
 use crate::numbers::number_in;
 use prop_lattice::span::B;
 use prop_lattice::{Info, Kind, Refusal};
+use prop_sets::Domain;
+
+/// What a value says at a cell: an information, or of a symbol its name, whose number the caller knows.
+#[derive(Clone, Copy, Debug, PartialEq, Eq)]
+pub enum Meant<'a> {
+    Known(Info),
+    Name(&'a str),
+}
 
 /// What stands before the first two dots in a row, and what behind them, if there are any.
 fn halves(word: &[u8]) -> (&[u8], Option<&[u8]>)
@@ -45,15 +56,71 @@ fn read_span(word: &[u8]) -> Result<Info, Refusal>
     Ok(Info::between(low, high))
 }
 
-/// What a value says at a cell of this kind.
+/// Whether the word is the name of an element.
+fn is_element(domain: &Domain, word: &[u8]) -> bool
+    ensures { result ≡ is_among domain.now word.now }
+{
+    for i in 0..domain.size() {
+        if domain.element(i).as_bytes() == word {
+            return true;
+        }
+    }
+    false
+}
+
+/// Whether each word is the name of an element.
+fn are_elements(domain: &Domain, chosen: &[&[u8]]) -> bool
+    ensures { result ≡ list_all (is_among domain.now) (words chosen.now) }
+{
+    for word in chosen {
+        if !is_element(domain, word) {
+            return false;
+        }
+    }
+    true
+}
+
+/// The bits of the elements whose names are among the words.
+fn bits_named(domain: &Domain, chosen: &[&[u8]]) -> u64
+    ensures { result ≡ bits_named domain.now (words chosen.now) }
+{
+    let mut bits: u64 = 0;
+    for i in 0..domain.size() {
+        if is_among(chosen, domain.element(i).as_bytes()) {
+            bits |= 1 << i;
+        }
+    }
+    bits
+}
+
+/// The set of the elements that the words name.
+fn read_set(domain: &Domain, chosen: &[&[u8]]) -> Result<Info, Refusal>
+    ensures { result ≡ set_value domain.now (words chosen.now) }
+{
+    if !are_elements(domain, chosen) {
+        Err(Refusal::NotInTheDomain)
+    } else if chosen.is_empty() {
+        Err(Refusal::EmptyValue)
+    } else {
+        Ok(Info::from_bits(bits_named(domain, chosen)))
+    }
+}
+
+/// What a value says at a cell of this kind. `domain` is the one that a set is of, for a truth that of `yes` and `no`; it counts
+/// for a set alone.
 ///
-/// Refused are, in this order, a value of another kind's form, an end that is no number of the largest magnitude at most, and
-/// ends that leave no number.
-pub fn read_value(value: &Value, kind: Kind) -> Result<Info, Refusal>
-    ensures { result ≡ value_said kind (value_of value.now) }
+/// Refused are a value of another kind's form, and of the right form: at a span an end that is no number of the largest
+/// magnitude at most and then ends that leave no number, at a set a word that is no element and then braces without a word, at a
+/// symbol a word that is no name.
+pub fn read_value<'a>(value: &Value<'a>, kind: Kind, domain: &Domain) -> Result<Meant<'a>, Refusal>
+    ensures ok { IfOk result (λ meant. value_said kind domain.now (value_of value.now) ≡ Ok (meant_of meant)) }
+    ensures err { IfErr result (λ refusal. value_said kind domain.now (value_of value.now) ≡ Err refusal) }
 {
     match (kind, value) {
-        (Kind::Span, Value::Bare(word)) => read_span(word),
+        (Kind::Span, Value::Bare(word)) => Ok(Meant::Known(read_span(word)?)),
+        (Kind::Set(_), Value::Bare(word)) => Ok(Meant::Known(read_set(domain, &[*word])?)),
+        (Kind::Set(_), Value::Braces(words)) => Ok(Meant::Known(read_set(domain, words)?)),
+        (Kind::Symbol, Value::Bare(word)) => Ok(Meant::Name(name(word)?)),
         _ => Err(Refusal::WrongKind),
     }
 }

@@ -130,13 +130,13 @@ fn kinds_fit_shapes(rt: HostRuntime) {
     };
     let any = Shape::Any(0);
     assert!(rt;
-        are_right(&[
+        are_right(Need::Nothing, None, &[
             (Shape::Span, span),
             (Shape::Truth, truth),
             (any, truth),
             (any, truth)
         ])
     );
-    assert!(rt; !are_right(&[(any, span), (any, truth)]));
-    assert!(rt; !are_right(&[(Shape::Span, truth)]));
+    assert!(rt; !are_right(Need::Nothing, None, &[(any, span), (any, truth)]));
+    assert!(rt; !are_right(Need::Nothing, None, &[(Shape::Span, truth)]));
 }

@@ -19,17 +19,20 @@ use Rattle.prop_procedures.specs.declared.shape.Shape.TheVariants as shapes
 use Rattle.prop_lattice.specs.declared.info.Info.TheVariants.{Nothing}
 use Rattle.std.proofs.lemmas.List.Quantifiers.{position-Some}
 use Rattle.prop_premises.specs.Origins.{Origin}
-use Rattle.prop_procedures.specs.Stored.{Stored, procedure_number, are_right}
+use Rattle.prop_procedures.specs.Stored.{Stored, procedure_number, sides_of}
+use Rattle.prop_sets.specs.declared.side.Side.{Side}
 use Rattle.prop_cells.specs.Data.{Data}
-use Rattle.prop_cells.specs.Instances.{Instance, places_of, param_in, fitting_param, attached, instance_of}
+use Rattle.prop_cells.specs.Instances.{Instance, kinds_fit, sides_given, param_in, fitting_param, attached, instance_of}
 use Rattle.prop_cells.specs.Refusing.{refusal_at, attach_refusal, or_else}
 use Rattle.prop_compound.specs.Commands as commands
 use Rattle.prop_compound.specs.Commands.{By}
+use Rattle.prop_vocabulary.specs.Vocabulary.{Vocabulary}
 use Rattle.prop_workbench.specs.Answers.{Done, Refused}
 use Rattle.prop_workbench.specs.Effects.{inputs_of, output_of, instance_made}
 use Rattle.prop_workbench.specs.Machine.{State}
-use Rattle.prop_workbench.specs.Names.{number_in, numbers_in, is_missing}
-use Rattle.prop_workbench.specs.Refusing.{refusal_of, placing_refusal, limit_refusal, first_of, when, given_by, is_relation, procedure_named}
+use Rattle.prop_vocabulary.specs.Names.{number_in, numbers_in, is_missing}
+use Rattle.prop_workbench.specs.Refusing.{refusal_of, placing_refusal, limit_refusal, given_by, is_unknown, procedure_named}
+use Rattle.prop_vocabulary.specs.Refusing.{first_of, when}
 use Rattle.prop_workbench.specs.Sessions.{state_from}
 use Rattle.prop_workbench.specs.Steps.{Obeys}
 use Rattle.prop_workbench.proofs.StepLemmas.{first_of-one, obeys, refuses_or_lacks}
@@ -62,16 +65,20 @@ in_rows count kind param limit =
     (or_first (when WrongKind kind) _ (when WrongParameter param ∷ limit ∷ []) (or_first (when WrongParameter param) limit (limit ∷ []) (sym (first_of-one limit))))
 
 -- what the network refuses for is what the machine says
-pub placed : (p : Stored) (names : List (List ℕ)) (premises : List Origin) (d : Data) (limit : ℕ) (params : List Param) (by : By) (given : Option ℕ) (ins : List ℕ) (out : ℕ) → All (λ c. c < length d.kinds) (ins ++ out ∷ []) →
-    param_in p.need params given ≡ fitting_param p.need (given_by by) → refusal_at p (record d { params = params }) given ins out ≡ placing_refusal p (state_from names premises d limit) by (ins ++ out ∷ [])
+pub placed : (p : Stored) (names : List (List ℕ)) (words : Vocabulary) (premises : List Origin) (d : Data) (limit : ℕ) (params : List Param) (by : By) (given : Option ℕ) (ins : List ℕ) (out : ℕ) → All (λ c. c < length d.kinds) (ins ++ out ∷ []) →
+    sides_given params given ≡ option_and_then sides_of (given_by words by) → param_in p.need params given ≡ fitting_param p.need (given_by words by) →
+    refusal_at p (record d { params = params }) given ins out ≡ placing_refusal p (state_from names words premises d limit) by (ins ++ out ∷ [])
 unfolding network_rows
-placed p names premises d limit params by given ins out below param =
-    let kind = not (are_right (places_of p d.kinds (ins ++ out ∷ []))) in
+placed p names words premises d limit params by given ins out below sides param =
+    let kind = not (kinds_fit p d.kinds (sides_given params given) (ins ++ out ∷ [])) in
+    let kind' = not (kinds_fit p d.kinds (option_and_then sides_of (given_by words by)) (ins ++ out ∷ [])) in
+    let same : kind ≡ kind' = ap (λ (o : Option (Side × Side)). not (kinds_fit p d.kinds o (ins ++ out ∷ []))) sides in
     let full = when (LimitReached Instances) (nat_le (most Instances) (length d.instances)) in
     let strange = ap (λ (b : Bool). or_else (when NoSuchCell b) (network_rows (not (length ins == length p.ins)) kind (is_none (param_in p.need params given)) full)) (none_strange (length d.kinds) (ins ++ out ∷ []) below) in
     let counted = ap (λ (b : Bool). network_rows (not b) kind (is_none (param_in p.need params given)) full) (count_with ins out (length p.ins)) in
     let fitting = ap (λ (f : Option Param). network_rows (not (length (ins ++ out ∷ []) == (length p.ins + 1))) kind (is_none f) full) param in
-    strange ∙ counted ∙ fitting ∙ in_rows (not (length (ins ++ out ∷ []) == (length p.ins + 1))) kind (is_none (fitting_param p.need (given_by by))) full
+    let fits = ap (λ (b : Bool). network_rows (not (length (ins ++ out ∷ []) == (length p.ins + 1))) b (is_none (fitting_param p.need (given_by words by))) full) same in
+    strange ∙ counted ∙ fitting ∙ fits ∙ in_rows (not (length (ins ++ out ∷ []) == (length p.ins + 1))) kind' (is_none (fitting_param p.need (given_by words by))) full
 
 -- ---- the instance that is made
 
@@ -91,23 +98,23 @@ never_none false true limit e = cc
 never_none false false limit e = cc
 
 pub attached_is : (library : List Stored) (n : ℕ) (p : Stored) (s : State) (params : List Param) (by : By) (given : Option ℕ) (ins : List ℕ) (out : ℕ) → slice_get library n ≡ Some p →
-    param_in p.need params given ≡ fitting_param p.need (given_by by) → placing_refusal p s by (ins ++ out ∷ []) ≡ None → attached library params n given ins out ≡ instance_made library n by (ins ++ out ∷ []) ∷ []
-attached_is library n p s params by given ins out at param fits = with_fitting (fitting_param p.need (given_by by)) refl
+    param_in p.need params given ≡ fitting_param p.need (given_by s.words by) → placing_refusal p s by (ins ++ out ∷ []) ≡ None → attached library params n given ins out ≡ instance_made library n (given_by s.words by) (ins ++ out ∷ []) ∷ []
+attached_is library n p s params by given ins out at param fits = with_fitting (fitting_param p.need (given_by s.words by)) refl
   where
-    of_library : (o : Option Stored) → o ≡ Some p → option_map_or (λ q. option_map_or (λ f. instance_of n ins out f ∷ []) (param_in q.need params given) []) o [] ≡ option_map_or (λ f. instance_of n ins out f ∷ []) (fitting_param p.need (given_by by)) []
+    of_library : (o : Option Stored) → o ≡ Some p → option_map_or (λ q. option_map_or (λ f. instance_of n ins out f ∷ []) (param_in q.need params given) []) o [] ≡ option_map_or (λ f. instance_of n ins out f ∷ []) (fitting_param p.need (given_by s.words by)) []
     of_library o e =
         ap (λ (x : Option Stored). option_map_or (λ q. option_map_or (λ f. instance_of n ins out f ∷ []) (param_in q.need params given) []) x []) e
         ∙ ap (λ (f : Option Param). option_map_or (λ g. instance_of n ins out g ∷ []) f []) param
 
-    made : (f : Param) → fitting_param p.need (given_by by) ≡ Some f → instance_made library n by (ins ++ out ∷ []) ≡ instance_of n ins out f
+    made : (f : Param) → fitting_param p.need (given_by s.words by) ≡ Some f → instance_made library n (given_by s.words by) (ins ++ out ∷ []) ≡ instance_of n ins out f
     made f e =
-        let given_is = ap (λ (x : Option Stored). unwrap_or (option_and_then (λ q. fitting_param q.need (given_by by)) x) Plain) at ∙ ap (λ (x : Option Param). unwrap_or x Plain) e in
+        let given_is = ap (λ (x : Option Stored). unwrap_or (option_and_then (λ q. fitting_param q.need (given_by s.words by)) x) Plain) at ∙ ap (λ (x : Option Param). unwrap_or x Plain) e in
         λ i. record { procedure = n; param = given_is i; inputs = inputs_of-push ins out i; output = output_of-push ins out i }
 
-    with_fitting : (f : Option Param) → fitting_param p.need (given_by by) ≡ f → attached library params n given ins out ≡ instance_made library n by (ins ++ out ∷ []) ∷ []
+    with_fitting : (f : Option Param) → fitting_param p.need (given_by s.words by) ≡ f → attached library params n given ins out ≡ instance_made library n (given_by s.words by) (ins ++ out ∷ []) ∷ []
     with_fitting None e =
-        absurd (never_none (not (length (ins ++ out ∷ []) == (length p.ins + 1))) (not (are_right (places_of p s.kinds (ins ++ out ∷ [])))) (when (LimitReached Instances) (nat_le (most Instances) (length s.instances)))
-        (subst (λ (f : Option Param). first_of (when WrongCount (not (length (ins ++ out ∷ []) == (length p.ins + 1))) ∷ when WrongKind (not (are_right (places_of p s.kinds (ins ++ out ∷ [])))) ∷ when WrongParameter (is_none f)
+        absurd (never_none (not (length (ins ++ out ∷ []) == (length p.ins + 1))) (not (kinds_fit p s.kinds (option_and_then sides_of (given_by s.words by)) (ins ++ out ∷ []))) (when (LimitReached Instances) (nat_le (most Instances) (length s.instances)))
+        (subst (λ (f : Option Param). first_of (when WrongCount (not (length (ins ++ out ∷ []) == (length p.ins + 1))) ∷ when WrongKind (not (kinds_fit p s.kinds (option_and_then sides_of (given_by s.words by)) (ins ++ out ∷ []))) ∷ when WrongParameter (is_none f)
         ∷ when (LimitReached Instances) (nat_le (most Instances) (length s.instances)) ∷ []) ≡ None) e fits))
     with_fitting (Some f) e =
         of_library (slice_get library n) at ∙ ap (λ (x : Option Param). option_map_or (λ g. instance_of n ins out g ∷ []) x []) e ∙ ap (λ (x : Instance). x ∷ []) (sym (made f e))
@@ -117,11 +124,11 @@ attached_is library n p s params by given ins out at param fits = with_fitting (
 -- the rows of the refusals that an attachment can meet
 abbrev attach_rows : Bool → Bool → Option ℕ → Option Stored → State → By → ℕ → List ℕ → Option Refusal → Option Refusal
 attach_rows relation missing number procedure s by count numbers limit =
-    first_of (None ∷ None ∷ when NoSuchRelation relation ∷ when NoSuchCell missing ∷ None ∷ when NoSuchProcedure (is_none number || false) ∷ when WrongCount (option_map_or (λ p. not (count == length p.ins + 1)) procedure false)
-    ∷ when WrongKind (false || option_map_or (λ p. not (are_right (places_of p s.kinds numbers))) procedure false) ∷ when WrongParameter (option_map_or (λ p. is_none (fitting_param p.need (given_by by))) procedure false)
-    ∷ None ∷ limit ∷ [])
+    first_of (None ∷ None ∷ None ∷ None ∷ when NoSuchRelation relation ∷ when NoSuchCell missing ∷ None ∷ when NoSuchProcedure (is_none number || false) ∷ when WrongCount (option_map_or (λ p. not (count == length p.ins + 1)) procedure false)
+    ∷ when WrongKind (false || option_map_or (λ p. not (kinds_fit p s.kinds (option_and_then sides_of (given_by s.words by)) numbers)) procedure false)
+    ∷ when WrongParameter (option_map_or (λ p. is_none (fitting_param p.need (given_by s.words by))) procedure false) ∷ None ∷ None ∷ limit ∷ [])
 
-without_none : (a b c l : Option Refusal) → first_of (a ∷ b ∷ c ∷ None ∷ l ∷ []) ≡ first_of (a ∷ b ∷ c ∷ l ∷ [])
+without_none : (a b c l : Option Refusal) → first_of (a ∷ b ∷ c ∷ None ∷ None ∷ l ∷ []) ≡ first_of (a ∷ b ∷ c ∷ l ∷ [])
 without_none (Some x) b c l = refl
 without_none None (Some x) c l = refl
 without_none None None (Some x) l = refl
@@ -129,7 +136,7 @@ without_none None None None l = refl
 
 -- what is known of the name before the network is asked
 pub record IsFound (library : List Stored) (s : State) (name : List ℕ) (cells : List (List ℕ)) (by : By) (n : ℕ) (numbers : List ℕ) : Type 0 where
-  pub relation : is_relation by ≡ false
+  pub relation : is_unknown s.words by ≡ false
   pub missing : is_missing s.names cells ≡ false
   pub number : procedure_number library name ≡ Some n
   pub below : n < length library
@@ -147,18 +154,18 @@ rows_found library s name cells by n numbers p found at =
     let d = ap (λ (o : Option Stored). attach_rows false false (Some n) o s by (length cells) (numbers_in s.names cells) limit) named in
     let e = ap (λ (k : ℕ). attach_rows false false (Some n) (Some p) s by k (numbers_in s.names cells) limit) count in
     let f = ap (λ (l : List ℕ). attach_rows false false (Some n) (Some p) s by (length numbers) l limit) (sym found.numbers_are) in
-    a ∙ b ∙ c ∙ d ∙ e ∙ f ∙ without_none (when WrongCount (not (length numbers == length p.ins + 1))) (when WrongKind (not (are_right (places_of p s.kinds numbers)))) (when WrongParameter (is_none (fitting_param p.need (given_by by)))) limit
+    a ∙ b ∙ c ∙ d ∙ e ∙ f ∙ without_none (when WrongCount (not (length numbers == length p.ins + 1))) (when WrongKind (not (kinds_fit p s.kinds (option_and_then sides_of (given_by s.words by)) numbers))) (when WrongParameter (is_none (fitting_param p.need (given_by s.words by)))) limit
 
 pub in_library : (library : List Stored) (n : ℕ) → n < length library → (p : Stored) × (slice_get library n ≡ Some p)
 in_library library n l = elim (slice_get_cases library n).1 as (λ _. (p : Stored) × (slice_get library n ≡ Some p)) [ inl h ↦ (h.0, h.2) | inr h ↦ absurd (omega (arith, h.0, l)) ]
 
 pub attached_step : (library : List Stored) (s new : State) (name : List ℕ) (cells : List (List ℕ)) (by : By) (n : ℕ) (numbers : List ℕ) → IsFound library s name cells by n numbers →
-    ((p : Stored) → slice_get library n ≡ Some p → placing_refusal p s by numbers ≡ None) → new ≡ record s { instances = s.instances ++ instance_made library n by numbers ∷ [] } →
+    ((p : Stored) → slice_get library n ≡ Some p → placing_refusal p s by numbers ≡ None) → new ≡ record s { instances = s.instances ++ instance_made library n (given_by s.words by) numbers ∷ [] } →
     Obeys library s (commands.Command.Attach name cells by) Done new 0
 attached_step library s new name cells by n numbers found fits e =
     let p = in_library library n found.below in
     let number : unwrap_or (procedure_number library name) 0 ≡ n = ap (λ (o : Option ℕ). unwrap_or o 0) found.number in
-    let same = ap (λ (k : ℕ). record s { instances = s.instances ++ instance_made library k by numbers ∷ [] }) (sym number) ∙ ap (λ (l : List ℕ). record s { instances = s.instances ++ instance_made library (unwrap_or (procedure_number library name) 0) by l ∷ [] }) found.numbers_are in
+    let same = ap (λ (k : ℕ). record s { instances = s.instances ++ instance_made library k (given_by s.words by) numbers ∷ [] }) (sym number) ∙ ap (λ (l : List ℕ). record s { instances = s.instances ++ instance_made library (unwrap_or (procedure_number library name) 0) (given_by s.words by) l ∷ [] }) found.numbers_are in
     obeys library s new (commands.Command.Attach name cells by) Done 0 (rows_found library s name cells by n numbers p.0 found p.1 ∙ fits p.0 p.1) (record { answer_is = refl; new_is = e ∙ same; no_steps = refl })
 
 pub unattached_step : (library : List Stored) (s new : State) (name : List ℕ) (cells : List (List ℕ)) (by : By) (n : ℕ) (numbers : List ℕ) (refusal : Refusal) → IsFound library s name cells by n numbers →
@@ -170,58 +177,59 @@ unattached_step library s new name cells by n numbers refusal found (inr m) same
 
 -- ---- what the network answered, as the machine says it
 
-pub fits_as : (library : List Stored) (names : List (List ℕ)) (premises : List Origin) (d : Data) (limit : ℕ) (params : List Param) (by : By) (given : Option ℕ) (ins : List ℕ) (out n : ℕ) (r : Option Refusal) → All (λ c. c < length d.kinds) (ins ++ out ∷ []) →
-    ((need : Need) → param_in need params given ≡ fitting_param need (given_by by)) → attach_refusal library (record d { params = params }) n given ins out ≡ r →
-    (p : Stored) → slice_get library n ≡ Some p → placing_refusal p (state_from names premises d limit) by (ins ++ out ∷ []) ≡ r
-fits_as library names premises d limit params by given ins out n r below param e p at =
-    sym (placed p names premises d limit params by given ins out below (param p.need))
+pub fits_as : (library : List Stored) (names : List (List ℕ)) (words : Vocabulary) (premises : List Origin) (d : Data) (limit : ℕ) (params : List Param) (by : By) (given : Option ℕ) (ins : List ℕ) (out n : ℕ) (r : Option Refusal) → All (λ c. c < length d.kinds) (ins ++ out ∷ []) →
+    sides_given params given ≡ option_and_then sides_of (given_by words by) → ((need : Need) → param_in need params given ≡ fitting_param need (given_by words by)) → attach_refusal library (record d { params = params }) n given ins out ≡ r →
+    (p : Stored) → slice_get library n ≡ Some p → placing_refusal p (state_from names words premises d limit) by (ins ++ out ∷ []) ≡ r
+fits_as library names words premises d limit params by given ins out n r below sides param e p at =
+    sym (placed p names words premises d limit params by given ins out below sides (param p.need))
     ∙ sym (ap (λ (o : Option Stored). option_map_or (λ q. refusal_at q (record d { params = params }) given ins out) o None) at) ∙ e
 
-pub made_one : (library : List Stored) (names : List (List ℕ)) (premises : List Origin) (d : Data) (limit : ℕ) (params : List Param) (by : By) (given : Option ℕ) (ins : List ℕ) (out n : ℕ) → n < length library → All (λ c. c < length d.kinds) (ins ++ out ∷ []) →
-    ((need : Need) → param_in need params given ≡ fitting_param need (given_by by)) → attach_refusal library (record d { params = params }) n given ins out ≡ None →
-    attached library params n given ins out ≡ instance_made library n by (ins ++ out ∷ []) ∷ []
-made_one library names premises d limit params by given ins out n l below param e =
+pub made_one : (library : List Stored) (names : List (List ℕ)) (words : Vocabulary) (premises : List Origin) (d : Data) (limit : ℕ) (params : List Param) (by : By) (given : Option ℕ) (ins : List ℕ) (out n : ℕ) → n < length library → All (λ c. c < length d.kinds) (ins ++ out ∷ []) →
+    sides_given params given ≡ option_and_then sides_of (given_by words by) → ((need : Need) → param_in need params given ≡ fitting_param need (given_by words by)) → attach_refusal library (record d { params = params }) n given ins out ≡ None →
+    attached library params n given ins out ≡ instance_made library n (given_by words by) (ins ++ out ∷ []) ∷ []
+made_one library names words premises d limit params by given ins out n l below sides param e =
     let p = in_library library n l in
-    attached_is library n p.0 (state_from names premises d limit) params by given ins out p.1 (param p.0.need) (fits_as library names premises d limit params by given ins out n None below param e p.0 p.1)
+    attached_is library n p.0 (state_from names words premises d limit) params by given ins out p.1 (param p.0.need) (fits_as library names words premises d limit params by given ins out n None below sides param e p.0 p.1)
 
 pub procedure_below : (library : List Stored) (name : List ℕ) (n : ℕ) → procedure_number library name ≡ Some n → n < length library
 procedure_below library name n e = (position-Some (λ p. bytes_eq p.name name) library n (record { name = []; ins = []; out = shapes.Span; need = needs.Nothing; value = λ p a. Nothing }) e).0
 
 -- The same over the data `mid`, which has other parameters than d alone.
-pub record IsPlaced (names : List (List ℕ)) (d mid : Data) (by : By) (given : Option ℕ) (ins : List ℕ) (out : ℕ) (cells : List ℕ) : Type 0 where
+pub record IsPlaced (words : Vocabulary) (d mid : Data) (by : By) (given : Option ℕ) (ins : List ℕ) (out : ℕ) (cells : List ℕ) : Type 0 where
   pub cells_are : cells ≡ ins ++ out ∷ []
   pub params_alone : mid ≡ record d { params = mid.params }
   pub below : All (λ c. c < length d.kinds) cells
-  pub param : (need : Need) → param_in need mid.params given ≡ fitting_param need (given_by by)
+  pub sides : sides_given mid.params given ≡ option_and_then sides_of (given_by words by)
+  pub param : (need : Need) → param_in need mid.params given ≡ fitting_param need (given_by words by)
 
 -- what is refused over mid, over d with its parameters
 refused_over : (library : List Stored) (d mid : Data) (given : Option ℕ) (ins : List ℕ) (out n : ℕ) (r : Option Refusal) → mid ≡ record d { params = mid.params } → attach_refusal library mid n given ins out ≡ r →
     attach_refusal library (record d { params = mid.params }) n given ins out ≡ r
 refused_over library d mid given ins out n r e h = sym (ap (λ (x : Data). attach_refusal library x n given ins out) e) ∙ h
 
-pub fits_at : (library : List Stored) (names : List (List ℕ)) (premises : List Origin) (d mid : Data) (limit : ℕ) (by : By) (given : Option ℕ) (ins : List ℕ) (out n : ℕ) (cells : List ℕ) (r : Option Refusal) → IsPlaced names d mid by given ins out cells →
-    attach_refusal library mid n given ins out ≡ r → (p : Stored) → slice_get library n ≡ Some p → placing_refusal p (state_from names premises d limit) by cells ≡ r
-fits_at library names premises d mid limit by given ins out n cells r placed_so h p at =
+pub fits_at : (library : List Stored) (names : List (List ℕ)) (words : Vocabulary) (premises : List Origin) (d mid : Data) (limit : ℕ) (by : By) (given : Option ℕ) (ins : List ℕ) (out n : ℕ) (cells : List ℕ) (r : Option Refusal) → IsPlaced words d mid by given ins out cells →
+    attach_refusal library mid n given ins out ≡ r → (p : Stored) → slice_get library n ≡ Some p → placing_refusal p (state_from names words premises d limit) by cells ≡ r
+fits_at library names words premises d mid limit by given ins out n cells r placed_so h p at =
     let below = subst (λ (l : List ℕ). All (λ c. c < length d.kinds) l) placed_so.cells_are placed_so.below in
-    ap (λ (l : List ℕ). placing_refusal p (state_from names premises d limit) by l) placed_so.cells_are
-    ∙ fits_as library names premises d limit mid.params by given ins out n r below placed_so.param (refused_over library d mid given ins out n r placed_so.params_alone h) p at
+    ap (λ (l : List ℕ). placing_refusal p (state_from names words premises d limit) by l) placed_so.cells_are
+    ∙ fits_as library names words premises d limit mid.params by given ins out n r below placed_so.sides placed_so.param (refused_over library d mid given ins out n r placed_so.params_alone h) p at
 
-pub made_at : (library : List Stored) (names : List (List ℕ)) (premises : List Origin) (d mid : Data) (limit : ℕ) (by : By) (given : Option ℕ) (ins : List ℕ) (out n : ℕ) (cells : List ℕ) → IsPlaced names d mid by given ins out cells → n < length library →
-    attach_refusal library mid n given ins out ≡ None → attached library mid.params n given ins out ≡ instance_made library n by cells ∷ []
-made_at library names premises d mid limit by given ins out n cells placed_so l h =
+pub made_at : (library : List Stored) (names : List (List ℕ)) (words : Vocabulary) (premises : List Origin) (d mid : Data) (limit : ℕ) (by : By) (given : Option ℕ) (ins : List ℕ) (out n : ℕ) (cells : List ℕ) → IsPlaced words d mid by given ins out cells → n < length library →
+    attach_refusal library mid n given ins out ≡ None → attached library mid.params n given ins out ≡ instance_made library n (given_by words by) cells ∷ []
+made_at library names words premises d mid limit by given ins out n cells placed_so l h =
     let below = subst (λ (x : List ℕ). All (λ c. c < length d.kinds) x) placed_so.cells_are placed_so.below in
-    made_one library names premises d limit mid.params by given ins out n l below placed_so.param (refused_over library d mid given ins out n None placed_so.params_alone h)
-    ∙ ap (λ (x : List ℕ). instance_made library n by x ∷ []) (sym placed_so.cells_are)
+    made_one library names words premises d limit mid.params by given ins out n l below placed_so.sides placed_so.param (refused_over library d mid given ins out n None placed_so.params_alone h)
+    ∙ ap (λ (x : List ℕ). instance_made library n (given_by words by) x ∷ []) (sym placed_so.cells_are)
 
-pub err_at : (library : List Stored) (names : List (List ℕ)) (premises : List Origin) (d mid : Data) (limit : ℕ) (by : By) (given : Option ℕ) (ins : List ℕ) (out n : ℕ) (cells : List ℕ) (e : Refusal) → IsPlaced names d mid by given ins out cells →
-    (attach_refusal library mid n given ins out ≡ Some e) ⊎ (e ≡ Memory) → ((p : Stored) → slice_get library n ≡ Some p → placing_refusal p (state_from names premises d limit) by cells ≡ Some e) ⊎ (e ≡ Memory)
-err_at library names premises d mid limit by given ins out n cells e placed_so (inl h) = inl (fits_at library names premises d mid limit by given ins out n cells (Some e) placed_so h)
-err_at library names premises d mid limit by given ins out n cells e placed_so (inr m) = inr m
+pub err_at : (library : List Stored) (names : List (List ℕ)) (words : Vocabulary) (premises : List Origin) (d mid : Data) (limit : ℕ) (by : By) (given : Option ℕ) (ins : List ℕ) (out n : ℕ) (cells : List ℕ) (e : Refusal) → IsPlaced words d mid by given ins out cells →
+    (attach_refusal library mid n given ins out ≡ Some e) ⊎ (e ≡ Memory) → ((p : Stored) → slice_get library n ≡ Some p → placing_refusal p (state_from names words premises d limit) by cells ≡ Some e) ⊎ (e ≡ Memory)
+err_at library names words premises d mid limit by given ins out n cells e placed_so (inl h) = inl (fits_at library names words premises d mid limit by given ins out n cells (Some e) placed_so h)
+err_at library names words premises d mid limit by given ins out n cells e placed_so (inr m) = inr m
 
-pub state_attached : (names names' : List (List ℕ)) (premises premises' : List Origin) (d mid new : Data) (limit limit' : ℕ) (xs : List Instance) (x : Instance) → names' ≡ names → premises' ≡ premises → limit' ≡ limit →
-    mid ≡ record d { params = mid.params } → new ≡ record mid { instances = mid.instances ++ xs } → xs ≡ x ∷ [] → state_from names' premises' new limit' ≡ record (state_from names premises d limit) { instances = d.instances ++ x ∷ [] }
-state_attached names names' premises premises' d mid new limit limit' xs x n q l e f one =
+pub state_attached : (names names' : List (List ℕ)) (words words' : Vocabulary) (premises premises' : List Origin) (d mid new : Data) (limit limit' : ℕ) (xs : List Instance) (x : Instance) → names' ≡ names → words' ≡ words → premises' ≡ premises → limit' ≡ limit →
+    mid ≡ record d { params = mid.params } → new ≡ record mid { instances = mid.instances ++ xs } → xs ≡ x ∷ [] → state_from names' words' premises' new limit' ≡ record (state_from names words premises d limit) { instances = d.instances ++ x ∷ [] }
+state_attached names names' words words' premises premises' d mid new limit limit' xs x n w q l e f one =
     let kinds = ap (λ (y : Data). y.kinds) f ∙ ap (λ (y : Data). y.kinds) e in
     let statements = ap (λ (y : Data). y.statements) f ∙ ap (λ (y : Data). y.statements) e in
     let instances = ap (λ (y : Data). y.instances) f ∙ ap (λ (y : Data). y.instances ++ xs) e ∙ ap (λ (ys : List Instance). d.instances ++ ys) one in
-    λ i. record { names = n i; kinds = kinds i; premises = q i; statements = statements i; instances = instances i; limit = l i }
+    λ i. record { names = n i; words = w i; kinds = kinds i; premises = q i; statements = statements i; instances = instances i; limit = l i }

@@ -82,6 +82,8 @@ module _ (library : List Stored) (related : ℕ → Param → List Point → Poi
   carried None (commands.Command.Ask x) answer new steps text r e = ran (commands.Command.Ask x) answer new steps text r e
   carried None (commands.Command.Why x) answer new steps text r e = ran (commands.Command.Why x) answer new steps text r e
   carried None commands.Command.Worldview answer new steps text r e = ran commands.Command.Worldview answer new steps text r e
+  carried None (commands.Command.Domain name elements) answer new steps text r e = tt
+  carried None (commands.Command.Relation name from to pairs) answer new steps text r e = tt
   carried None (commands.Command.Cell name kind) answer new steps text r e = tt
   carried None (commands.Command.Attach name cells by) answer new steps text r e = tt
   carried None (commands.Command.Fix cell value) answer new steps text r e = tt

@@ -1,60 +1,93 @@
 -- What a value says at a cell, and why it is refused.
-use Rattle.std.proofs.Common.{◌≡◌, ◌∙◌, ℕ, ℤ, pos, neg_ℤ, ◌≤ℤ◌, ◌<◌, nat_le, length, Bool, true, false, cond, ◌&&◌, ◌||◌, List, [], ◌∷◌, Option, Some, None, Result, Ok, Err, is_none, unwrap_or, ◌++◌, ◌⊎◌, inl, inr, refl, sym, ap, arith}
+use Rattle.std.proofs.Common.{◌≡◌, ◌∙◌, ℕ, ℤ, pos, neg_ℤ, ◌≤ℤ◌, ◌<◌, ◌≤◌, ◌^◌, ◌/◌, zero, suc, bytes_eq, nat_le, length, Bool, true, false, cond, ◌&&◌, ◌||◌, List, [], ◌∷◌, Option, Some, None, Result, Ok, Err, is_none, unwrap_or, IsTrue, ◌++◌, ◌⊎◌, inl, inr, refl, sym, ap, subst, arith, slice_index_or, eq-eqb}
 use Rattle.std.specs.Prelude.{int_le, int_lt}
+use Rattle.std.specs.Result.{result_unwrap_or}
 use Rattle.std.specs.Option.{option_map, option_map_or, option_and_then}
+use Rattle.std.specs.List.{list_all}
 use Rattle.std.proofs.lemmas.Int.{ints}
+use Rattle.std.proofs.lemmas.Bool.{lt-leb}
 use Rattle.prop_lattice.specs.declared.info.Info.{Info}
-use Rattle.prop_lattice.specs.declared.info.Info.TheVariants.{Nothing}
+use Rattle.prop_lattice.specs.declared.info.Info.TheVariants.{Nothing, Set}
 use Rattle.prop_lattice.specs.declared.info.Kind.{Kind}
 use Rattle.prop_lattice.specs.declared.info.Kind.TheVariants as kinds
 use Rattle.prop_lattice.specs.declared.refusal.Refusal.{Refusal}
-use Rattle.prop_lattice.specs.declared.refusal.Refusal.TheVariants.{NotANumber, NoSuchCell, WrongKind, EmptyValue, LimitReached, Memory}
-use Rattle.prop_lattice.specs.Ends.{AreEnds, ends_or_not, span_if, span_from}
-use Rattle.prop_premises.specs.Origins.{Origin, premise_number, with_name}
+use Rattle.prop_lattice.specs.declared.refusal.Refusal.TheVariants.{NotAName, NotANumber, NoSuchCell, WrongKind, NotInTheDomain, EmptyValue, LimitReached, Memory}
+use Rattle.prop_lattice.specs.declared.refusal.Limit.TheVariants.{Statements}
+use Rattle.prop_lattice.specs.Ends.{AreEnds, AreSome, ends_or_not, some_or_not, span_if, span_from, elements_if, elements_from}
+use Rattle.prop_lattice.specs.Refusals.{most}
+use Rattle.prop_premises.specs.Origins.{Origin, premise_number}
 use Rattle.prop_procedures.specs.Stored.{Stored}
+use Rattle.prop_procedures.specs.declared.shape.Kinded.{Kinded}
+use Rattle.std.proofs.Math.Pow.{pow_mono}
+use Rattle.std.proofs.Math.Nat.{div-eq_of_lt}
+use Rattle.std.specs.Int.{bit_at}
+use Rattle.std.proofs.lemmas.Nat.Bits.{bit_at-zero}
+use Rattle.std.proofs.lemmas.Slice.Eq.{bytes_eq-Decides}
+use Rattle.prop_sets.specs.ChosenLaws.{bits_where-lt, bits_where-has}
 use Rattle.prop_cells.specs.Instances.{kind_at}
 use Rattle.prop_cells.specs.Refusing.{may_be_stated, state_refusal}
 use Rattle.prop_cells.specs.Data.{Data}
-use Rattle.prop_lattice.specs.Refusals.{most}
-use Rattle.prop_lattice.specs.declared.refusal.Limit.TheVariants.{Statements}
-use Rattle.std.proofs.lemmas.Bool.{lt-leb}
+use Rattle.prop_cells.specs.declared.instance.Statement.{Statement}
 use Rattle.prop_compound.specs.Commands as commands
 use Rattle.prop_compound.specs.Commands.{Value, Bare, Braces}
-use Rattle.prop_compound.specs.Names.{number_in as number_within, whole_number}
-use Rattle.prop_compound.specs.Values.{value_said, span_value, ends_value, bounded_number, halves}
+use Rattle.prop_compound.specs.Names.{number_in as number_within, whole_number, is_name, is_among}
+use Rattle.prop_compound.specs.Values.{Meant, Known, Name, known, value_said, span_value, set_value, bits_named, ends_value, bounded_number, halves}
+use Rattle.prop_vocabulary.specs.Names.{number_in}
+use Rattle.prop_vocabulary.specs.Texts.{elements_of_kind}
 use Rattle.prop_workbench.specs.Machine.{State}
-use Rattle.prop_workbench.specs.Sessions.{state_from}
-use Rattle.prop_workbench.specs.Names.{number_in}
-use Rattle.prop_workbench.specs.Refusing.{refusal_of, limit_refusal, telling_limit, first_of, when, value_at, is_error}
+use Rattle.prop_workbench.specs.Refusing.{refusal_of, telling_limit, stating_limit, stating_limit_at, meaning_at, is_error}
+use Rattle.prop_vocabulary.specs.Refusing.{first_of, when}
 use Rattle.prop_workbench.specs.Answers.{Done}
-use Rattle.prop_workbench.specs.Steps.{Obeys}
-use Rattle.prop_workbench.specs.Effects.{info_at, info_in, number_given}
+use Rattle.prop_workbench.specs.Steps.{Obeys, Carries}
+use Rattle.prop_workbench.specs.Effects.{stated, stating, meant_at, words_at, info_at, with_meant, info_meant, MayMean}
 use Rattle.prop_workbench.proofs.StepLemmas.{first_of-one, obeys}
 
 -- ---- the refusals of values
 
 -- the reasons for which a value is refused
-abbrev IsValueRefusal : Refusal → Type 0
-IsValueRefusal e = (e ≡ NotANumber) ⊎ ((e ≡ WrongKind) ⊎ (e ≡ EmptyValue))
+data IsValueRefusal : Refusal → Type 0 where
+  no_name : IsValueRefusal NotAName
+  no_number : IsValueRefusal NotANumber
+  wrong_kind : IsValueRefusal WrongKind
+  outside : IsValueRefusal NotInTheDomain
+  empty : IsValueRefusal EmptyValue
 
-empty_or_span : (t : Bool) (info : Info) (e : Refusal) → cond t (Err EmptyValue) (Ok info) ≡ Err e → e ≡ EmptyValue
-empty_or_span true info e h = cc
+empty_or_span : (t : Bool) (info : Info) (e : Refusal) → cond t (Err EmptyValue) (Ok info) ≡ Err e → IsValueRefusal e
+empty_or_span true info e h = let same : EmptyValue ≡ e = cc in subst IsValueRefusal same empty
 empty_or_span false info e h = cc
 
 ends_refusal : (low high : Option ℤ) (e : Refusal) → ends_value low high ≡ Err e → IsValueRefusal e
-ends_refusal (Some low) (Some high) e h = inr (inr (empty_or_span (int_lt high low) (span_from low high) e h))
-ends_refusal (Some low) None e h = inl cc
-ends_refusal None high e h = inl cc
+ends_refusal (Some low) (Some high) e h = empty_or_span (int_lt high low) (span_from low high) e h
+ends_refusal (Some low) None e h = let same : NotANumber ≡ e = cc in subst IsValueRefusal same no_number
+ends_refusal None high e h = let same : NotANumber ≡ e = cc in subst IsValueRefusal same no_number
 
 span_refusal : (parts : List ℕ × Option (List ℕ)) (e : Refusal) → span_value parts ≡ Err e → IsValueRefusal e
 span_refusal (word, None) e h = ends_refusal (bounded_number word) (bounded_number word) e h
 span_refusal (left, Some right) e h = ends_refusal (bounded_number left) (bounded_number right) e h
 
-value_refusal : (kind : Kind) (value : Value) (e : Refusal) → value_said kind value ≡ Err e → IsValueRefusal e
-value_refusal kinds.Span (Bare word) e h = span_refusal (halves word) e h
-value_refusal kinds.Span (Braces words) e h = inr (inl cc)
-value_refusal (kinds.Set d) value e h = inr (inl cc)
-value_refusal kinds.Symbol value e h = inr (inl cc)
+set_or_outside : (t : Bool) (info : Info) (e : Refusal) → cond t (Ok info) (Err NotInTheDomain) ≡ Err e → IsValueRefusal e
+set_or_outside true info e h = cc
+set_or_outside false info e h = let same : NotInTheDomain ≡ e = cc in subst IsValueRefusal same outside
+
+set_refusal : (names words : List (List ℕ)) (e : Refusal) → set_value names words ≡ Err e → IsValueRefusal e
+set_refusal names [] e h = let same : EmptyValue ≡ e = cc in subst IsValueRefusal same empty
+set_refusal names (w ∷ words) e h = set_or_outside (list_all (is_among names) (w ∷ words)) (elements_from (bits_named names (w ∷ words))) e h
+
+known_refusal : (r : Result Info Refusal) (e : Refusal) → known r ≡ Err e → r ≡ Err e
+known_refusal (Ok info) e h = cc
+known_refusal (Err other) e h = let same : other ≡ e = cc in ap Err same
+
+symbol_refused : (t : Bool) (word : List ℕ) (e : Refusal) → cond t (Ok (Name word)) (Err NotAName) ≡ Err e → IsValueRefusal e
+symbol_refused true word e h = cc
+symbol_refused false word e h = let same : NotAName ≡ e = cc in subst IsValueRefusal same no_name
+
+value_refusal : (kind : Kind) (names : List (List ℕ)) (value : Value) (e : Refusal) → value_said kind names value ≡ Err e → IsValueRefusal e
+value_refusal kinds.Span names (Bare word) e h = span_refusal (halves word) e (known_refusal (span_value (halves word)) e h)
+value_refusal kinds.Span names (Braces words) e h = let same : WrongKind ≡ e = cc in subst IsValueRefusal same wrong_kind
+value_refusal (kinds.Set d) names (Bare word) e h = set_refusal names (word ∷ []) e (known_refusal (set_value names (word ∷ [])) e h)
+value_refusal (kinds.Set d) names (Braces words) e h = set_refusal names words e (known_refusal (set_value names words) e h)
+value_refusal kinds.Symbol names (Bare word) e h = symbol_refused (is_name word) word e h
+value_refusal kinds.Symbol names (Braces words) e h = let same : WrongKind ≡ e = cc in subst IsValueRefusal same wrong_kind
 
 -- ---- what is said may be stated
 
@@ -99,120 +132,162 @@ span_value_may_be : (size : ℕ) (parts : List ℕ × Option (List ℕ)) (info :
 span_value_may_be size (word, None) info h = ends_may_be size (bounded_number word) (bounded_number word) info (bounded word) (bounded word) h
 span_value_may_be size (left, Some right) info h = ends_may_be size (bounded_number left) (bounded_number right) info (bounded left) (bounded right) h
 
--- what a value says at a cell of a kind may be stated there
-pub value_may_be : (kind : Kind) (size : ℕ) (value : Value) (info : Info) → value_said kind value ≡ Ok info → may_be_stated kind size info ≡ true
-value_may_be kinds.Span size (Bare word) info h = span_value_may_be size (halves word) info h
-value_may_be kinds.Span size (Braces words) info h = cc
-value_may_be (kinds.Set d) size value info h = cc
-value_may_be kinds.Symbol size value info h = cc
+-- the place of a name among names
+among_at : (names : List (List ℕ)) (w : List ℕ) → is_among names w ≡ true → (i : ℕ) × (i < length names) × (slice_index_or names i [] ≡ w)
+among_at [] w h = cc
+among_at (n ∷ names) w h = by (among_at names w) (bytes_eq n w) refl h
+  where
+    by : (is_among names w ≡ true → (i : ℕ) × (i < length names) × (slice_index_or names i [] ≡ w)) → (t : Bool) → bytes_eq n w ≡ t → (t || is_among names w) ≡ true → (i : ℕ) × (i < length (n ∷ names)) × (slice_index_or (n ∷ names) i [] ≡ w)
+    by others true e k = (0, omega arith, (bytes_eq-Decides n w).0 e)
+    by others false e k = let rest = others k in (suc rest.0, omega (arith, rest.1), rest.2)
+
+-- the first of the words is found, so that a bit is set
+bit_named : (names words : List (List ℕ)) (w : List ℕ) → is_among names w ≡ true → 0 < bits_named names (w ∷ words)
+bit_named names words w h =
+    let at = among_at names w h in
+    let same : bytes_eq w (slice_index_or names at.0 []) ≡ true = rw at.2 ((bytes_eq-Decides w w).1 refl) in
+    let bit = bits_where-has (length names) (λ i. is_among (w ∷ words) (slice_index_or names i [])) at.0 at.1 (rw same refl) in
+    by (bits_named names (w ∷ words)) at.0 bit
+  where
+    by : (bits i : ℕ) → bit_at bits i ≡ 1 → 0 < bits
+    by zero i e = absurd (omega (arith, e, bit_at-zero i))
+    by (suc n) i e = omega arith
+
+-- bits below a size are of it
+below_may_be : (d size bits : ℕ) → bits < 2 ^ size → 0 < bits → bits < 2 ^ 64 → may_be_stated (kinds.Set d) size (elements_from bits) ≡ true
+unfolding elements_from
+below_may_be d size bits l z k = by (some_or_not bits)
+  where
+    by : (t : AreSome bits ⊎ ¬ (AreSome bits)) → may_be_stated (kinds.Set d) size (elements_if bits t) ≡ true
+    by (inl some) = eq-eqb (bits / 2 ^ size) 0 (div-eq_of_lt l)
+    by (inr none) = absurd (none (z, k))
+
+first_of_all : (p : List ℕ → Bool) (w : List ℕ) (words : List (List ℕ)) → list_all p (w ∷ words) ≡ true → p w ≡ true
+first_of_all p w words h = by (p w) h
+  where
+    by : (t : Bool) → (t && list_all p words) ≡ true → t ≡ true
+    by true k = refl
+    by false k = cc
+
+-- the set of named elements of a domain of this size may be stated at its cells
+set_may_be : (d size : ℕ) (names words : List (List ℕ)) (info : Info) → size ≡ length names → length names ≤ 64 → set_value names words ≡ Ok info → may_be_stated (kinds.Set d) size info ≡ true
+set_may_be d size names [] info same few h = cc
+set_may_be d size names (w ∷ words) info same few h = by (list_all (is_among names) (w ∷ words)) refl h
+  where
+    bits : ℕ
+    bits = bits_named names (w ∷ words)
+
+    by : (t : Bool) → list_all (is_among names) (w ∷ words) ≡ t → cond t (Ok (elements_from bits)) (Err NotInTheDomain) ≡ Ok info → may_be_stated (kinds.Set d) size info ≡ true
+    by true all e =
+        let found : elements_from bits ≡ info = cc in
+        let below : bits < 2 ^ length names = bits_where-lt (length names) (λ i. is_among (w ∷ words) (slice_index_or names i [])) in
+        let most : 2 ^ length names ≤ 2 ^ 64 = pow_mono few in
+        rw (← found) (below_may_be d size bits (rw same below) (bit_named names words w (first_of_all (is_among names) w words all)) (omega (arith, below, most)))
+    by false all e = cc
+
+symbol_known : (t : Bool) (word : List ℕ) (info : Info) → cond t (Ok (Name word)) (Err NotAName) ≡ Ok (Known info) → ⊥
+symbol_known true word info h = cc
+symbol_known false word info h = cc
+
+known_is : (r : Result Info Refusal) (info : Info) → known r ≡ Ok (Known info) → r ≡ Ok info
+known_is (Ok other) info h = let same : other ≡ info = cc in ap Ok same
+known_is (Err e) info h = cc
+
+known_names : (r : Result Info Refusal) (symbol : List ℕ) → known r ≡ Ok (Name symbol) → ⊥
+known_names (Ok other) symbol h = cc
+known_names (Err e) symbol h = cc
+
+pub value_may_be : (k : Kinded) (names : List (List ℕ)) (value : Value) (meant : Meant) → k.size ≡ length names → length names ≤ 64 → value_said k.kind names value ≡ Ok meant → MayMean k meant
+value_may_be k names value meant same few h = by k.kind refl value meant h
+  where
+    by : (kind : Kind) → k.kind ≡ kind → (value : Value) (meant : Meant) → value_said kind names value ≡ Ok meant → MayMean k meant
+    by kinds.Span e (Bare word) (Known info) h = rw e (span_value_may_be k.size (halves word) info (known_is (span_value (halves word)) info h))
+    by kinds.Span e (Bare word) (Name symbol) h = absurd (known_names (span_value (halves word)) symbol h)
+    by kinds.Span e (Braces words) meant h = cc
+    by (kinds.Set d) e (Bare word) (Known info) h = rw e (set_may_be d k.size names (word ∷ []) info same few (known_is (set_value names (word ∷ [])) info h))
+    by (kinds.Set d) e (Bare word) (Name symbol) h = absurd (known_names (set_value names (word ∷ [])) symbol h)
+    by (kinds.Set d) e (Braces words) (Known info) h = rw e (set_may_be d k.size names words info same few (known_is (set_value names words) info h))
+    by (kinds.Set d) e (Braces words) (Name symbol) h = absurd (known_names (set_value names words) symbol h)
+    by kinds.Symbol e (Bare word) (Known info) h = absurd (symbol_known (is_name word) word info h)
+    by kinds.Symbol e (Bare word) (Name symbol) h = e
+    by kinds.Symbol e (Braces words) meant h = cc
 
 -- ---- the refusal of a statement
 
 -- the rows of the refusals that a statement can meet
-abbrev fix_rows : Option (Result Info Refusal) → Option ℕ → Option Refusal → Option Refusal
-fix_rows said cell limit =
-    first_of (when NotANumber (option_map_or (is_error NotANumber) said false) ∷ None ∷ None ∷ when NoSuchCell (is_none cell || false) ∷ None ∷ None ∷ None ∷ when WrongKind (option_map_or (is_error WrongKind) said false || false)
-    ∷ None ∷ when EmptyValue (option_map_or (is_error EmptyValue) said false) ∷ limit ∷ [])
+abbrev value_rows : Option (Result Meant Refusal) → Option ℕ → Option Refusal → Option Refusal
+value_rows said cell limit =
+    first_of (when NotAName (option_map_or (is_error NotAName) said false) ∷ when NotANumber (option_map_or (is_error NotANumber) said false) ∷ None ∷ None ∷ None ∷ when NoSuchCell (is_none cell || false) ∷ None ∷ None ∷ None
+    ∷ when WrongKind (option_map_or (is_error WrongKind) said false || false) ∷ None ∷ when NotInTheDomain (option_map_or (is_error NotInTheDomain) said false) ∷ when EmptyValue (option_map_or (is_error EmptyValue) said false) ∷ limit ∷ [])
 
-by_rows : (library : List Stored) (s : State) (name : List ℕ) (value : Value) (cell : ℕ) → number_in s.names name ≡ Some cell →
-    refusal_of library s (commands.Command.Fix name value) ≡ fix_rows (Some (value_said (kind_at s.kinds cell).kind value)) (Some cell) (limit_refusal s (commands.Command.Fix name value))
-by_rows library s name value cell found = rw found refl
+by_rows : (library : List Stored) (s : State) (premise : Option (List ℕ)) (name : List ℕ) (value : Value) (cell : ℕ) → number_in s.names name ≡ Some cell →
+    refusal_of library s (stating premise name value) ≡ value_rows (Some (meaning_at s.words (kind_at s.kinds cell).kind value)) (Some cell) (stating_limit_at s premise (Some (meaning_at s.words (kind_at s.kinds cell).kind value)))
+by_rows library s None name value cell found = rw found refl
+by_rows library s (Some premise) name value cell found = rw found refl
 
-error_rows : (e : Refusal) (cell : ℕ) (limit : Option Refusal) → IsValueRefusal e → fix_rows (Some (Err e)) (Some cell) limit ≡ Some e
-error_rows e cell limit (inl h) = rw h refl
-error_rows e cell limit (inr (inl h)) = rw h refl
-error_rows e cell limit (inr (inr h)) = rw h refl
-
--- the statement that a command makes, by what its words say
-pub made_statement : (s : State) (name : List ℕ) (value : Value) (cell : ℕ) (info : Info) (premise : Option ℕ) → number_in s.names name ≡ Some cell → value_said (kind_at s.kinds cell).kind value ≡ Ok info →
-    record s { statements = s.statements ++ record { premise = premise; cell = cell; info = info } ∷ [] } ≡
-    record s { statements = s.statements ++ record { premise = premise; cell = unwrap_or (number_in s.names name) 0; info = info_at s name value } ∷ [] }
-made_statement s name value cell info premise found said =
-    let at : unwrap_or (number_in s.names name) 0 ≡ cell = ap (λ (o : Option ℕ). unwrap_or o 0) found in
-    let says : info_at s name value ≡ info = ap (λ (o : Option ℕ). option_map_or info_in (option_map (λ n. value_said (kind_at s.kinds n).kind value) o) Nothing) found ∙ ap info_in said in
-    λ i. record s { statements = s.statements ++ record { premise = premise; cell = sym at i; info = sym says i } ∷ [] }
+error_rows : (e : Refusal) (cell : ℕ) (limit : Option Refusal) → IsValueRefusal e → value_rows (Some (Err e)) (Some cell) limit ≡ Some e
+error_rows e cell limit no_name = refl
+error_rows e cell limit no_number = refl
+error_rows e cell limit wrong_kind = refl
+error_rows e cell limit outside = refl
+error_rows e cell limit empty = refl
 
 -- a value that is refused is refused first
-pub fix_refused : (library : List Stored) (s : State) (name : List ℕ) (value : Value) (cell : ℕ) (e : Refusal) → number_in s.names name ≡ Some cell → value_said (kind_at s.kinds cell).kind value ≡ Err e →
-    refusal_of library s (commands.Command.Fix name value) ≡ Some e
-fix_refused library s name value cell e found said =
-    by_rows library s name value cell found ∙ ap (λ (r : Result Info Refusal). fix_rows (Some r) (Some cell) (limit_refusal s (commands.Command.Fix name value))) said
-    ∙ error_rows e cell (limit_refusal s (commands.Command.Fix name value)) (value_refusal (kind_at s.kinds cell).kind value e said)
+pub value_refused : (library : List Stored) (s : State) (premise : Option (List ℕ)) (name : List ℕ) (value : Value) (cell : ℕ) (e : Refusal) → number_in s.names name ≡ Some cell → meaning_at s.words (kind_at s.kinds cell).kind value ≡ Err e →
+    refusal_of library s (stating premise name value) ≡ Some e
+value_refused library s premise name value cell e found said =
+    by_rows library s premise name value cell found ∙ ap (λ (r : Result Meant Refusal). value_rows (Some r) (Some cell) (stating_limit_at s premise (Some r))) said
+    ∙ error_rows e cell None (value_refusal (kind_at s.kinds cell).kind (elements_of_kind s.words (kind_at s.kinds cell).kind) value e said)
 
--- and one that is not, for the limit alone
-pub fix_limited : (library : List Stored) (s : State) (name : List ℕ) (value : Value) (cell : ℕ) (info : Info) → number_in s.names name ≡ Some cell → value_said (kind_at s.kinds cell).kind value ≡ Ok info →
-    refusal_of library s (commands.Command.Fix name value) ≡ limit_refusal s (commands.Command.Fix name value)
-fix_limited library s name value cell info found said =
-    by_rows library s name value cell found ∙ ap (λ (r : Result Info Refusal). fix_rows (Some r) (Some cell) (limit_refusal s (commands.Command.Fix name value))) said
-    ∙ first_of-one (limit_refusal s (commands.Command.Fix name value))
+-- and one that is not, for the limits alone
+pub value_limited : (library : List Stored) (s : State) (premise : Option (List ℕ)) (name : List ℕ) (value : Value) (cell : ℕ) (meant : Meant) → number_in s.names name ≡ Some cell → meaning_at s.words (kind_at s.kinds cell).kind value ≡ Ok meant →
+    refusal_of library s (stating premise name value) ≡ stating_limit s premise meant
+value_limited library s premise name value cell meant found said =
+    by_rows library s premise name value cell found ∙ ap (λ (r : Result Meant Refusal). value_rows (Some r) (Some cell) (stating_limit_at s premise (Some r))) said
+    ∙ first_of-one (stating_limit s premise meant)
+
+-- what the value means is stated
+made_statement : (s : State) (premise : Option (List ℕ)) (name : List ℕ) (value : Value) (cell : ℕ) (meant : Meant) → number_in s.names name ≡ Some cell → meaning_at s.words (kind_at s.kinds cell).kind value ≡ Ok meant →
+    stated s premise cell (with_meant s.words meant) (info_meant s.words meant) ≡ stated s premise (unwrap_or (number_in s.names name) 0) (words_at s name value) (info_at s name value)
+made_statement s premise name value cell meant found said =
+    let at : unwrap_or (number_in s.names name) 0 ≡ cell = ap (λ (o : Option ℕ). unwrap_or o 0) found in
+    let means : meant_at s name value ≡ meant =
+    ap (λ (o : Option ℕ). option_map_or (λ r. result_unwrap_or r (Known Nothing)) (option_map (λ n. meaning_at s.words (kind_at s.kinds n).kind value) o) (Known Nothing)) found ∙ ap (λ (r : Result Meant Refusal). result_unwrap_or r (Known Nothing)) said in
+    λ i. stated s premise (sym at i) (with_meant s.words (sym means i)) (info_meant s.words (sym means i))
+
+changes : (library : List Stored) (s new : State) (premise : Option (List ℕ)) (name : List ℕ) (value : Value) → new ≡ stated s premise (unwrap_or (number_in s.names name) 0) (words_at s name value) (info_at s name value) →
+    Carries library s (stating premise name value) Done new 0
+changes library s new None name value e = record { answer_is = refl; new_is = e; no_steps = refl }
+changes library s new (Some premise) name value e = record { answer_is = refl; new_is = e; no_steps = refl }
+
+-- what a session states is what the machine does
+pub value_done : (library : List Stored) (s new : State) (premise : Option (List ℕ)) (name : List ℕ) (value : Value) (cell : ℕ) (meant : Meant) → number_in s.names name ≡ Some cell → meaning_at s.words (kind_at s.kinds cell).kind value ≡ Ok meant →
+    stating_limit s premise meant ≡ None → new ≡ stated s premise cell (with_meant s.words meant) (info_meant s.words meant) → Obeys library s (stating premise name value) Done new 0
+value_done library s new premise name value cell meant found said fits e =
+    obeys library s new (stating premise name value) Done 0 (value_limited library s premise name value cell meant found said ∙ fits)
+    (changes library s new premise name value (e ∙ made_statement s premise name value cell meant found said))
+
+pub value_stopped : (library : List Stored) (s : State) (premise : Option (List ℕ)) (name : List ℕ) (value : Value) (cell : ℕ) (meant : Meant) (e : Refusal) → number_in s.names name ≡ Some cell → meaning_at s.words (kind_at s.kinds cell).kind value ≡ Ok meant →
+    (stating_limit s premise meant ≡ Some e) ⊎ (e ≡ Memory) → (refusal_of library s (stating premise name value) ≡ Some e) ⊎ (e ≡ Memory)
+value_stopped library s premise name value cell meant e found said (inl h) = inl (value_limited library s premise name value cell meant found said ∙ h)
+value_stopped library s premise name value cell meant e found said (inr m) = inr m
+
+pub no_cell : (library : List Stored) (s : State) (premise : Option (List ℕ)) (name : List ℕ) (value : Value) → number_in s.names name ≡ None → refusal_of library s (stating premise name value) ≡ Some NoSuchCell
+no_cell library s None name value none = rw none refl
+no_cell library s (Some premise) name value none = rw none refl
+
+-- ---- what a network tests
 
 -- a network refuses a statement that fits for the limit alone
 pub state_limited : (d : Data) (cell : ℕ) (info : Info) → cell < length d.kinds → may_be_stated (kind_at d.kinds cell).kind (kind_at d.kinds cell).size info ≡ true →
     state_refusal d cell info ≡ when (LimitReached Statements) (nat_le (most Statements) (length d.statements))
 state_limited d cell info l fits = rw (lt-leb (length d.kinds) cell l, fits) refl
 
--- why the network stops a statement whose value fits is why the machine does
-pub fix_stopped : (library : List Stored) (names : List (List ℕ)) (premises : List Origin) (d : Data) (limit : ℕ) (name : List ℕ) (value : Value) (cell : ℕ) (info : Info) (e : Refusal) → number_in names name ≡ Some cell →
-    cell < length d.kinds → value_said (kind_at d.kinds cell).kind value ≡ Ok info → (state_refusal d cell info ≡ Some e) ⊎ (e ≡ Memory) →
-    (refusal_of library (state_from names premises d limit) (commands.Command.Fix name value) ≡ Some e) ⊎ (e ≡ Memory)
-fix_stopped library names premises d limit name value cell info e found l said (inl h) =
-    let s : State = state_from names premises d limit in
-    let fits = value_may_be (kind_at d.kinds cell).kind (kind_at d.kinds cell).size value info said in
-    inl (fix_limited library s name value cell info found said ∙ sym (state_limited d cell info l fits) ∙ h)
-fix_stopped library names premises d limit name value cell info e found l said (inr m) = inr m
-
--- what the network states is what the machine does
-pub fix_done : (library : List Stored) (names : List (List ℕ)) (premises : List Origin) (d : Data) (limit : ℕ) (new : State) (name : List ℕ) (value : Value) (cell : ℕ) (info : Info) → number_in names name ≡ Some cell →
-    cell < length d.kinds → value_said (kind_at d.kinds cell).kind value ≡ Ok info → state_refusal d cell info ≡ None →
-    new ≡ record (state_from names premises d limit) { statements = d.statements ++ record { premise = None; cell = cell; info = info } ∷ [] } →
-    Obeys library (state_from names premises d limit) (commands.Command.Fix name value) Done new 0
-fix_done library names premises d limit new name value cell info found l said fits e =
-    let s : State = state_from names premises d limit in
-    let may = value_may_be (kind_at d.kinds cell).kind (kind_at d.kinds cell).size value info said in
-    let free : refusal_of library s (commands.Command.Fix name value) ≡ None = fix_limited library s name value cell info found said ∙ sym (state_limited d cell info l may) ∙ fits in
-    obeys library s new (commands.Command.Fix name value) Done 0 free (record { answer_is = refl; new_is = e ∙ made_statement s name value cell info None found said; no_steps = refl })
-
--- ---- the same under a premise
-
-tell_by_rows : (library : List Stored) (s : State) (premise name : List ℕ) (value : Value) (cell : ℕ) → number_in s.names name ≡ Some cell →
-    refusal_of library s (commands.Command.Tell premise name value) ≡ fix_rows (Some (value_said (kind_at s.kinds cell).kind value)) (Some cell) (telling_limit s premise)
-tell_by_rows library s premise name value cell found = rw found refl
-
-pub tell_refused : (library : List Stored) (s : State) (premise name : List ℕ) (value : Value) (cell : ℕ) (e : Refusal) → number_in s.names name ≡ Some cell → value_said (kind_at s.kinds cell).kind value ≡ Err e →
-    refusal_of library s (commands.Command.Tell premise name value) ≡ Some e
-tell_refused library s premise name value cell e found said =
-    tell_by_rows library s premise name value cell found ∙ ap (λ (r : Result Info Refusal). fix_rows (Some r) (Some cell) (telling_limit s premise)) said
-    ∙ error_rows e cell (telling_limit s premise) (value_refusal (kind_at s.kinds cell).kind value e said)
-
-pub tell_limited : (library : List Stored) (s : State) (premise name : List ℕ) (value : Value) (cell : ℕ) (info : Info) → number_in s.names name ≡ Some cell → value_said (kind_at s.kinds cell).kind value ≡ Ok info →
-    refusal_of library s (commands.Command.Tell premise name value) ≡ telling_limit s premise
-tell_limited library s premise name value cell info found said =
-    tell_by_rows library s premise name value cell found ∙ ap (λ (r : Result Info Refusal). fix_rows (Some r) (Some cell) (telling_limit s premise)) said ∙ first_of-one (telling_limit s premise)
-
 -- under a premise that there is, the limit of statements alone bears on it
 known_limit : (s : State) (premise : List ℕ) (p : ℕ) → premise_number s.premises premise ≡ Some p → telling_limit s premise ≡ when (LimitReached Statements) (nat_le (most Statements) (length s.statements))
 known_limit s premise p known = rw known (first_of-one (when (LimitReached Statements) (nat_le (most Statements) (length s.statements))))
 
-pub told_limit : (names : List (List ℕ)) (premises : List Origin) (d : Data) (limit : ℕ) (premise : List ℕ) (value : Value) (cell : ℕ) (info : Info) (p : ℕ) → premise_number premises premise ≡ Some p → cell < length d.kinds →
-    value_said (kind_at d.kinds cell).kind value ≡ Ok info → telling_limit (state_from names premises d limit) premise ≡ state_refusal d cell info
-told_limit names premises d limit premise value cell info p known l said =
-    let s : State = state_from names premises d limit in
-    known_limit s premise p known ∙ sym (state_limited d cell info l (value_may_be (kind_at d.kinds cell).kind (kind_at d.kinds cell).size value info said))
-
--- what a session states under a premise is what the machine does
-pub tell_done : (library : List Stored) (s new : State) (premise name : List ℕ) (value : Value) (cell : ℕ) (info : Info) → number_in s.names name ≡ Some cell → value_said (kind_at s.kinds cell).kind value ≡ Ok info →
-    telling_limit s premise ≡ None → new ≡ record s { premises = with_name s.premises premise; statements = s.statements ++ record { premise = Some (number_given s.premises premise); cell = cell; info = info } ∷ [] } →
-    Obeys library s (commands.Command.Tell premise name value) Done new 0
-tell_done library s new premise name value cell info found said fits e =
-    let at : unwrap_or (number_in s.names name) 0 ≡ cell = ap (λ (o : Option ℕ). unwrap_or o 0) found in
-    let says : info_at s name value ≡ info = ap (λ (o : Option ℕ). option_map_or info_in (option_map (λ n. value_said (kind_at s.kinds n).kind value) o) Nothing) found ∙ ap info_in said in
-    obeys library s new (commands.Command.Tell premise name value) Done 0 (tell_limited library s premise name value cell info found said ∙ fits) (record {
-      answer_is = refl;
-      new_is = e ∙ (λ i. record s { premises = with_name s.premises premise; statements = s.statements ++ record { premise = Some (number_given s.premises premise); cell = sym at i; info = sym says i } ∷ [] });
-      no_steps = refl;
-    })
-
-pub tell_stopped : (library : List Stored) (s : State) (premise name : List ℕ) (value : Value) (cell : ℕ) (info : Info) (e : Refusal) → number_in s.names name ≡ Some cell → value_said (kind_at s.kinds cell).kind value ≡ Ok info →
-    (telling_limit s premise ≡ Some e) ⊎ (e ≡ Memory) → (refusal_of library s (commands.Command.Tell premise name value) ≡ Some e) ⊎ (e ≡ Memory)
-tell_stopped library s premise name value cell info e found said (inl h) = inl (tell_limited library s premise name value cell info found said ∙ h)
-tell_stopped library s premise name value cell info e found said (inr m) = inr m
+pub told_limit : (s : State) (d : Data) (premise : List ℕ) (cell : ℕ) (info : Info) (p : ℕ) → s.statements ≡ d.statements → premise_number s.premises premise ≡ Some p → cell < length d.kinds →
+    may_be_stated (kind_at d.kinds cell).kind (kind_at d.kinds cell).size info ≡ true → telling_limit s premise ≡ state_refusal d cell info
+told_limit s d premise cell info p same known l may =
+    known_limit s premise p known ∙ ap (λ (xs : List Statement). when (LimitReached Statements) (nat_le (most Statements) (length xs))) same ∙ sym (state_limited d cell info l may)

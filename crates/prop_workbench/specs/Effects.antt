@@ -1,17 +1,23 @@
 -- What a command that isn't refused does to the state.
-use Rattle.std.specs.Prelude.{ℕ, List, [], ◌∷◌, ◌++◌, Option, Some, None, true, false, length, Result, Ok, Err, slice_get, unwrap_or}
-use Rattle.std.specs.Option.{option_map_or, option_and_then}
+use Rattle.std.specs.Prelude.{◌≡◌, ℕ, IsTrue, List, [], ◌∷◌, ◌++◌, Option, Some, None, true, false, length, Result, Ok, Err, slice_get, unwrap_or}
+use Rattle.std.specs.Result.{result_unwrap_or}
+use Rattle.std.specs.Borrow.{Bor}
+use Rattle.std.specs.Option.{option_map, option_map_or, option_and_then}
 use Rattle.prop_lattice.specs.declared.info.Info.{Info}
-use Rattle.prop_lattice.specs.declared.info.Info.TheVariants.{Nothing}
+use Rattle.prop_lattice.specs.declared.info.Info.TheVariants.{Nothing, Sym}
 use Rattle.prop_lattice.specs.declared.info.Kind.TheVariants as kinds
 use Rattle.prop_lattice.specs.declared.refusal.Refusal.{Refusal}
 use Rattle.prop_premises.specs.Origins.{Origin, premise_number, with_name, with_belief_at}
 use Rattle.prop_procedures.specs.declared.shape.Kinded.{Kinded}
 use Rattle.prop_procedures.specs.Stored.{Stored, procedure_number, span_kind}
-use Rattle.prop_compound.specs.Commands.{By, KindWord, Spans, Value, Command}
+use Rattle.prop_compound.specs.Commands.{By, KindWord, Spans, Truths, Symbols, Named, Value, Command}
+use Rattle.prop_compound.specs.Values.{Meant, Known, Name}
+use Rattle.prop_procedures.specs.declared.shape.Param.{Param}
 use Rattle.prop_procedures.specs.declared.shape.Param.TheVariants.{Plain}
 use Rattle.prop_cells.specs.Instances.{Instance, fitting_param}
-use Rattle.prop_workbench.specs.Names.{number_in, numbers_in}
+use Rattle.prop_cells.specs.Refusing.{may_be_stated}
+use Rattle.prop_vocabulary.specs.Names.{number_in, numbers_in}
+use Rattle.prop_vocabulary.specs.Vocabulary.{Vocabulary, domain_number, elements_of, symbol_number, with_symbol, with_domain, with_relation}
 use Rattle.prop_workbench.specs.Machine.{State}
 use Rattle.prop_workbench.specs.Refusing.{value_at, given_by}
 
@@ -28,40 +34,91 @@ output_of (cell ∷ []) = cell
 output_of (cell ∷ next ∷ cells) = output_of (next ∷ cells)
 
 -- the instance that a use of the procedure of this number makes
-abbrev pub instance_made : List Stored → ℕ → By → List ℕ → Instance
-instance_made library n by cells = record {
+abbrev pub instance_made : List Stored → ℕ → Option Param → List ℕ → Instance
+instance_made library n given cells = record {
   procedure = n;
-  param = unwrap_or (option_and_then (λ p. fitting_param p.need (given_by by)) (slice_get library n)) Plain;
+  param = unwrap_or (option_and_then (λ p. fitting_param p.need given) (slice_get library n)) Plain;
   inputs = inputs_of cells;
   output = output_of cells;
 }
 
-abbrev pub kind_named : KindWord → Kinded
-kind_named Spans = span_kind
+-- the kind of the domain of a number, with how many elements it has
+abbrev pub domain_kind : Vocabulary → ℕ → Kinded
+domain_kind words domain = record { kind = kinds.Set domain; size = length (elements_of words domain) }
 
-abbrev pub info_in : Result Info Refusal → Info
-info_in (Ok info) = info
-info_in (Err refusal) = Nothing
+abbrev pub kind_named : Vocabulary → KindWord → Kinded
+kind_named words Spans = span_kind
+kind_named words Truths = domain_kind words 0
+kind_named words Symbols = record { kind = kinds.Symbol; size = 0 }
+kind_named words (Named domain) = domain_kind words (unwrap_or (domain_number words domain) 0)
+
+-- a symbol is told by its number: the next one where its name is new
+abbrev pub info_meant : Vocabulary → Meant → Info
+info_meant words (Known info) = info
+info_meant words (Name symbol) = Sym (symbol_number words symbol)
+
+-- the vocabulary with the symbol that is named
+abbrev pub with_meant : Vocabulary → Meant → Vocabulary
+with_meant words (Known info) = words
+with_meant words (Name symbol) = with_symbol words symbol
+
+-- what the value means at the cell with the name; nothing where it means nothing
+abbrev pub meant_at : State → List ℕ → Value → Meant
+meant_at s cell value = option_map_or (λ meant. result_unwrap_or meant (Known Nothing)) (value_at s cell value) (Known Nothing)
 
 -- the information that the value says at the cell with the name
 abbrev pub info_at : State → List ℕ → Value → Info
-info_at s cell value = option_map_or info_in (value_at s cell value) Nothing
+info_at s cell value = info_meant s.words (meant_at s cell value)
+
+-- the vocabulary with the symbol that the value names, where it names one
+abbrev pub words_at : State → List ℕ → Value → Vocabulary
+words_at s cell value = with_meant s.words (meant_at s cell value)
 
 -- the number of the premise with the name: the next one where the name is new
 abbrev pub number_given : List Origin → List ℕ → ℕ
 number_given premises name = unwrap_or (premise_number premises name) (length premises)
 
+-- what is meant may be stated at a cell of the kind
+abbrev pub MayMean : Kinded → Meant → Type 0
+MayMean k (Known info) = IsTrue (may_be_stated k.kind k.size info)
+MayMean k (Name symbol) = k.kind ≡ kinds.Symbol
+
+-- the premises with the one of this name, or as they are
+abbrev pub with_told : List Origin → Option (List ℕ) → List Origin
+with_told premises None = premises
+with_told premises (Some name) = with_name premises name
+
+-- the number of the premise with this name, or none
+abbrev pub premise_given : List Origin → Option (List ℕ) → Option ℕ
+premise_given premises None = None
+premise_given premises (Some name) = Some (number_given premises name)
+
+-- one statement more, in a vocabulary that may have one symbol more
+abbrev pub stated : State → Option (List ℕ) → ℕ → Vocabulary → Info → State
+stated s premise cell words info = record s {
+  words = words;
+  premises = with_told s.premises premise;
+  statements = s.statements ++ record { premise = premise_given s.premises premise; cell = cell; info = info } ∷ [];
+}
+
+-- the name of a premise, where one is given
+abbrev pub name_of : Option (Bor (List ℕ)) → Option (List ℕ)
+name_of premise = option_map (λ (name : Bor (List ℕ)). name.now) premise
+
+-- the command that states so
+abbrev pub stating : Option (List ℕ) → List ℕ → Value → Command
+stating None cell value = Command.Fix cell value
+stating (Some premise) cell value = Command.Tell premise cell value
+
 -- the state after the command; a command that runs the network changes nothing here
 abbrev pub effect : List Stored → State → Command → State
-effect library s (Command.Cell name kind) = record s { names = s.names ++ name ∷ []; kinds = s.kinds ++ kind_named kind ∷ [] }
+effect library s (Command.Domain name elements) = record s { words = with_domain s.words name elements }
+effect library s (Command.Relation name from to pairs) = record s { words = with_relation s.words name from to pairs }
+effect library s (Command.Cell name kind) = record s { names = s.names ++ name ∷ []; kinds = s.kinds ++ kind_named s.words kind ∷ [] }
 effect library s (Command.Attach name cells by) =
-    record s { instances = s.instances ++ instance_made library (unwrap_or (procedure_number library name) 0) by (numbers_in s.names cells) ∷ [] }
-effect library s (Command.Fix cell value) =
-    record s { statements = s.statements ++ record { premise = None; cell = unwrap_or (number_in s.names cell) 0; info = info_at s cell value } ∷ [] }
-effect library s (Command.Tell premise cell value) = record s {
-  premises = with_name s.premises premise;
-  statements = s.statements ++ record { premise = Some (number_given s.premises premise); cell = unwrap_or (number_in s.names cell) 0; info = info_at s cell value } ∷ [];
-}
+    record s { instances = s.instances ++ instance_made library (unwrap_or (procedure_number library name) 0) (given_by s.words by) (numbers_in s.names cells) ∷ [] }
+effect library s (Command.Fix cell value) = stated s None (unwrap_or (number_in s.names cell) 0) (words_at s cell value) (info_at s cell value)
+effect library s (Command.Tell premise cell value) = stated s (Some premise) (unwrap_or (number_in s.names cell) 0) (words_at s cell value) (info_at s cell value)
 effect library s (Command.Kick premise) = record s { premises = with_belief_at s.premises (number_given s.premises premise) false }
 effect library s (Command.Bring premise) = record s { premises = with_belief_at s.premises (number_given s.premises premise) true }
 effect library s command = s

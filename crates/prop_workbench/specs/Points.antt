@@ -7,8 +7,8 @@ use Rattle.prop_cells.specs.Points.{Attached, ArePoints}
 use Rattle.prop_compound.specs.Commands.{Command}
 use Rattle.prop_compound.specs.Reading.{reading}
 use Rattle.prop_workbench.specs.Answers.{Answer, Text}
-use Rattle.prop_workbench.specs.Names.{number_in}
-use Rattle.prop_workbench.specs.Machine.{State, worldview_of}
+use Rattle.prop_vocabulary.specs.Names.{number_in}
+use Rattle.prop_workbench.specs.Machine.{State, text_at, worldview_of}
 use Rattle.prop_workbench.specs.Texts.{equation, because, worldview_text}
 
 -- the cells of a state, what is stated of them and what is attached to them
@@ -25,7 +25,7 @@ pub record SaysPoint (s : State) (points : ℕ → Point) (name mark text : List
   pub cell_is : number_in s.names name ≡ Some cell
   pub v : Info
   pub holds : Holds v (points cell)
-  pub text_is : text ≡ equation name v mark
+  pub text_is : text ≡ equation name (text_at s cell v) mark
 
 -- what a command that runs the network may answer where there are such points: a value holds its cell's point, settled or not,
 -- and no contradiction is said

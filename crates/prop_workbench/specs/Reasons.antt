@@ -4,8 +4,8 @@ use Rattle.prop_lattice.specs.declared.refusal.Refusal.{Refusal}
 use Rattle.prop_cells.specs.Data.{Data, beliefs, IsLeanAt, IsClash}
 use Rattle.prop_compound.specs.Commands.{Command}
 use Rattle.prop_workbench.specs.Answers.{Answer, Text}
-use Rattle.prop_workbench.specs.Names.{number_in}
-use Rattle.prop_workbench.specs.Machine.{State, worldview_of}
+use Rattle.prop_vocabulary.specs.Names.{number_in}
+use Rattle.prop_workbench.specs.Machine.{State, text_at, worldview_of}
 use Rattle.prop_workbench.specs.Texts.{equation, because, contradiction_text}
 
 -- the text says what is believed of the cell, the mark, and the premises of believed entries of the cell that say it together,
@@ -13,7 +13,7 @@ use Rattle.prop_workbench.specs.Texts.{equation, because, contradiction_text}
 pub record IsLeanExplanation (d : Data) (s : State) (cell : ℕ) (name mark text : List ℕ) : Type 0 where
   pub premises : List ℕ
   pub lean : IsLeanAt (worldview_of s) d.contents cell premises
-  pub text_is : text ≡ equation name (beliefs (worldview_of s) d.contents cell) (because s.premises mark premises)
+  pub text_is : text ≡ equation name (text_at s cell (beliefs (worldview_of s) d.contents cell)) (because s.premises mark premises)
 
 -- the text names the premises of such entries of a cell that is believed to hold a contradiction
 pub record IsLeanContradiction (d : Data) (s : State) (text : List ℕ) : Type 0 where

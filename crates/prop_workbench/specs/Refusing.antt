@@ -2,27 +2,34 @@
 use Rattle.std.specs.Prelude.{ℕ, List, [], ◌∷◌, Bool, true, false, cond, not, ◌+◌, ◌==◌, ◌||◌, ◌&&◌, nat_le, Option, Some, None, Result, Ok, Err, length, is_some, is_none, slice_get}
 use Rattle.std.specs.List.{list_any}
 use Rattle.std.specs.Option.{option_map, option_map_or, option_and_then}
-use Rattle.prop_lattice.specs.declared.info.Info.{Info}
+use Rattle.prop_lattice.specs.declared.info.Kind.{Kind}
 use Rattle.prop_lattice.specs.declared.refusal.Limit.TheVariants.{Cells, Instances, Premises, Statements}
 use Rattle.prop_lattice.specs.declared.refusal.Refusal.{Refusal}
-use Rattle.prop_lattice.specs.declared.refusal.Refusal.TheVariants.{NotANumber, NameTaken, NoSuchRelation, NoSuchCell, NoSuchPremise, NoSuchProcedure, WrongCount, WrongKind, WrongParameter, EmptyValue, LimitReached}
+use Rattle.prop_lattice.specs.declared.refusal.Refusal.TheVariants.{NotAName, NotANumber, NameTaken, NoSuchDomain, NoSuchRelation, NoSuchCell, NoSuchPremise, NoSuchProcedure, WrongCount, WrongKind, WrongParameter, NotInTheDomain, EmptyValue, LimitReached}
 use Rattle.prop_lattice.specs.Refusals.{number_of, most}
 use Rattle.prop_premises.specs.Origins.{premise_number}
 use Rattle.prop_procedures.specs.declared.shape.Param.{Param}
 use Rattle.prop_procedures.specs.declared.shape.Param.TheVariants as params
-use Rattle.prop_procedures.specs.Stored.{Stored, procedure_number, are_right}
-use Rattle.prop_compound.specs.Commands.{By, Value, Command}
-use Rattle.prop_compound.specs.Values.{value_said}
-use Rattle.prop_cells.specs.Instances.{kind_at, places_of, fitting_param}
-use Rattle.prop_workbench.specs.Names.{number_in, numbers_in}
+use Rattle.prop_procedures.specs.Stored.{Stored, procedure_number, sides_of}
+use Rattle.prop_compound.specs.Commands.{By, KindWord, Named, Value, Command}
+use Rattle.prop_compound.specs.Values.{Meant, Known, Name, value_said}
+use Rattle.prop_cells.specs.Instances.{kind_at, kinds_fit, fitting_param}
+use Rattle.prop_vocabulary.specs.Names.{number_in, numbers_in}
+use Rattle.prop_vocabulary.specs.Vocabulary.{Vocabulary, domain_number, relation_named}
+use Rattle.prop_vocabulary.specs.Texts.{elements_of_kind}
+use Rattle.prop_vocabulary.specs.Refusing.{when, first_of, domain_refusal, relation_refusal, symbol_refusal}
 use Rattle.prop_workbench.specs.Machine.{State}
 
--- what the value says at the cell with the name, where there is such a cell
-abbrev pub value_at : State → List ℕ → Value → Option (Result Info Refusal)
-value_at s name value = option_map (λ n. value_said (kind_at s.kinds n).kind value) (number_in s.names name)
+-- what the value means at a cell of the kind
+abbrev pub meaning_at : Vocabulary → Kind → Value → Result Meant Refusal
+meaning_at words kind value = value_said kind (elements_of_kind words kind) value
 
-abbrev pub is_error : Refusal → Result Info Refusal → Bool
-is_error refusal (Ok info) = false
+-- what the value means at the cell with the name, where there is such a cell
+abbrev pub value_at : State → List ℕ → Value → Option (Result Meant Refusal)
+value_at s name value = option_map (λ n. meaning_at s.words (kind_at s.kinds n).kind value) (number_in s.names name)
+
+abbrev pub is_error : Refusal → Result Meant Refusal → Bool
+is_error refusal (Ok meant) = false
 is_error refusal (Err other) = number_of other == number_of refusal
 
 -- the command's value is refused so at its cell
@@ -36,16 +43,25 @@ abbrev pub is_taken : State → Command → Bool
 is_taken s (Command.Cell name kind) = is_some (number_in s.names name)
 is_taken s command = false
 
--- what is given is a relation
-abbrev pub is_relation : By → Bool
-is_relation By.Nothing = false
-is_relation (By.Number k) = false
-is_relation (By.Relation name) = true
+-- a domain is named, of which there is none
+abbrev pub is_nowhere : Vocabulary → KindWord → Bool
+is_nowhere words (Named domain) = is_none (domain_number words domain)
+is_nowhere words kind = false
+
+abbrev pub is_domain_missing : State → Command → Bool
+is_domain_missing s (Command.Cell name kind) = is_nowhere s.words kind
+is_domain_missing s command = false
+
+-- what is given is a relation, of which there is none
+abbrev pub is_unknown : Vocabulary → By → Bool
+is_unknown words By.Nothing = false
+is_unknown words (By.Number k) = false
+is_unknown words (By.Relation name) = is_none (relation_named words name)
 
 -- a relation is named, of which there is none
-abbrev pub is_relation_missing : Command → Bool
-is_relation_missing (Command.Attach name cells by) = is_relation by
-is_relation_missing command = false
+abbrev pub is_relation_missing : State → Command → Bool
+is_relation_missing s (Command.Attach name cells by) = is_unknown s.words by
+is_relation_missing s command = false
 
 -- the names that stand for cells
 abbrev pub cells_in : Command → List (List ℕ)
@@ -72,10 +88,10 @@ abbrev pub procedure_named : List Stored → List ℕ → Option Stored
 procedure_named library name = option_and_then (λ n. slice_get library n) (procedure_number library name)
 
 -- what a command gives with its procedure
-abbrev pub given_by : By → Option Param
-given_by By.Nothing = None
-given_by (By.Number k) = option_map params.Scale k
-given_by (By.Relation name) = None
+abbrev pub given_by : Vocabulary → By → Option Param
+given_by words By.Nothing = None
+given_by words (By.Number k) = option_map params.Scale k
+given_by words (By.Relation name) = option_map params.Rows (relation_named words name)
 
 -- the procedure has another count of places
 abbrev pub is_count_wrong : List Stored → Command → Bool
@@ -85,22 +101,14 @@ is_count_wrong library command = false
 -- some cell's kind doesn't fit its place
 abbrev pub is_kind_wrong : List Stored → State → Command → Bool
 is_kind_wrong library s (Command.Attach name cells by) =
-    option_map_or (λ p. not (are_right (places_of p s.kinds (numbers_in s.names cells)))) (procedure_named library name) false
+    option_map_or (λ p. not (kinds_fit p s.kinds (option_and_then sides_of (given_by s.words by)) (numbers_in s.names cells))) (procedure_named library name) false
 is_kind_wrong library s command = false
 
 -- a parameter is given where none is taken, or is of the other sort
-abbrev pub is_param_wrong : List Stored → Command → Bool
-is_param_wrong library (Command.Attach name cells by) =
-    option_map_or (λ p. is_none (fitting_param p.need (given_by by))) (procedure_named library name) false
-is_param_wrong library command = false
-
-abbrev pub when : Refusal → Bool → Option Refusal
-when refusal holds = cond holds (Some refusal) None
-
-abbrev pub first_of : List (Option Refusal) → Option Refusal
-first_of [] = None
-first_of (None ∷ rest) = first_of rest
-first_of (Some refusal ∷ rest) = Some refusal
+abbrev pub is_param_wrong : List Stored → State → Command → Bool
+is_param_wrong library s (Command.Attach name cells by) =
+    option_map_or (λ p. is_none (fitting_param p.need (given_by s.words by))) (procedure_named library name) false
+is_param_wrong library s command = false
 
 -- there are as many premises as there can be and the name is of a new one, or as many statements
 abbrev pub telling_limit : State → List ℕ → Option Refusal
@@ -111,12 +119,31 @@ telling_limit s premise =
     ∷ []
     )
 
+-- the same, and under no premise only the statements count
+abbrev pub statement_limit : State → Option (List ℕ) → Option Refusal
+statement_limit s None = when (LimitReached Statements) (nat_le (most Statements) (length s.statements))
+statement_limit s (Some premise) = telling_limit s premise
+
+-- a value that names a new symbol is refused where there are as many as there can be
+abbrev pub naming_limit : Vocabulary → Meant → Option Refusal
+naming_limit words (Name symbol) = symbol_refusal words symbol
+naming_limit words (Known info) = None
+
+-- why what is meant is not stated
+abbrev pub stating_limit : State → Option (List ℕ) → Meant → Option Refusal
+stating_limit s premise meant = first_of (statement_limit s premise ∷ naming_limit s.words meant ∷ [])
+
+-- the same, where a cell has the name and the value means something there
+abbrev pub stating_limit_at : State → Option (List ℕ) → Option (Result Meant Refusal) → Option Refusal
+stating_limit_at s premise (Some (Ok meant)) = stating_limit s premise meant
+stating_limit_at s premise meant = None
+
 -- there are as many already as there can be of what the command makes one more of
 abbrev pub limit_refusal : State → Command → Option Refusal
 limit_refusal s (Command.Cell name kind) = when (LimitReached Cells) (nat_le (most Cells) (length s.kinds))
 limit_refusal s (Command.Attach name cells by) = when (LimitReached Instances) (nat_le (most Instances) (length s.instances))
-limit_refusal s (Command.Fix cell value) = when (LimitReached Statements) (nat_le (most Statements) (length s.statements))
-limit_refusal s (Command.Tell premise cell value) = telling_limit s premise
+limit_refusal s (Command.Fix cell value) = stating_limit_at s None (value_at s cell value)
+limit_refusal s (Command.Tell premise cell value) = stating_limit_at s (Some premise) (value_at s cell value)
 limit_refusal s command = None
 
 -- why an instance of the procedure on these cells, with what is given, is refused
@@ -124,25 +151,30 @@ abbrev pub placing_refusal : Stored → State → By → List ℕ → Option Ref
 placing_refusal p s by cells =
     first_of (
     when WrongCount (not (length cells == length p.ins + 1))
-    ∷ when WrongKind (not (are_right (places_of p s.kinds cells)))
-    ∷ when WrongParameter (is_none (fitting_param p.need (given_by by)))
+    ∷ when WrongKind (not (kinds_fit p s.kinds (option_and_then sides_of (given_by s.words by)) cells))
+    ∷ when WrongParameter (is_none (fitting_param p.need (given_by s.words by)))
     ∷ when (LimitReached Instances) (nat_le (most Instances) (length s.instances))
     ∷ []
     )
 
 -- why the command is refused in the state, where it is: the first that applies
 abbrev pub refusal_of : List Stored → State → Command → Option Refusal
+refusal_of library s (Command.Domain name elements) = domain_refusal s.words name elements
+refusal_of library s (Command.Relation name from to pairs) = relation_refusal s.words name from to pairs
 refusal_of library s command =
     first_of (
-    when NotANumber (is_value_refused s command NotANumber)
+    when NotAName (is_value_refused s command NotAName)
+    ∷ when NotANumber (is_value_refused s command NotANumber)
     ∷ when NameTaken (is_taken s command)
-    ∷ when NoSuchRelation (is_relation_missing command)
+    ∷ when NoSuchDomain (is_domain_missing s command)
+    ∷ when NoSuchRelation (is_relation_missing s command)
     ∷ when NoSuchCell (list_any (λ name. is_none (number_in s.names name)) (cells_in command))
     ∷ when NoSuchPremise (is_premise_missing s command)
     ∷ when NoSuchProcedure (list_any (λ name. is_none (procedure_number library name)) (procedures_in command))
     ∷ when WrongCount (is_count_wrong library command)
     ∷ when WrongKind (is_value_refused s command WrongKind || is_kind_wrong library s command)
-    ∷ when WrongParameter (is_param_wrong library command)
+    ∷ when WrongParameter (is_param_wrong library s command)
+    ∷ when NotInTheDomain (is_value_refused s command NotInTheDomain)
     ∷ when EmptyValue (is_value_refused s command EmptyValue)
     ∷ limit_refusal s command
     ∷ []

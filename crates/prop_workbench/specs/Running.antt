@@ -15,8 +15,8 @@ use Rattle.prop_scheduler.specs.declared.outcome.Run.TheVariants.{Quiet, Clash, 
 use Rattle.prop_compound.specs.Commands.{Command}
 use Rattle.prop_lattice.specs.declared.refusal.Refusal.TheVariants.{Memory}
 use Rattle.prop_workbench.specs.Answers.{Answer, Text, Refused}
-use Rattle.prop_workbench.specs.Names.{number_in}
-use Rattle.prop_workbench.specs.Machine.{State, problem_in, worldview_of}
+use Rattle.prop_vocabulary.specs.Names.{number_in}
+use Rattle.prop_workbench.specs.Machine.{State, problem_in, text_at, worldview_of}
 use Rattle.prop_workbench.specs.Texts.{equation, because, contradiction_text, worldview_text}
 
 pub data Outcome : Type 0 where
@@ -64,7 +64,7 @@ pub record IsValueReply (library : List Stored) (s : State) (outcome : Outcome) 
   pub cell_is : number_in s.names name ≡ Some cell
   pub v : Info
   pub value : IsValue library s outcome cell v
-  pub text_is : text ≡ equation name v mark
+  pub text_is : text ≡ equation name (text_at s cell v) mark
 
 -- the text says a value of the cell with the name, the mark, and believed premises that entail the value by themselves, each of
 -- which bears on the cell
@@ -76,12 +76,12 @@ pub record IsExplainedReply (library : List Stored) (s : State) (outcome : Outco
   pub premises : List ℕ
   pub in_order : IsStrictlyIncreasing premises
   pub explains : Explains (problem_in library s) (worldview_of s) cell v (set_of premises)
-  pub text_is : text ≡ equation name v (because s.premises mark premises)
+  pub text_is : text ≡ equation name (text_at s cell v) (because s.premises mark premises)
 
 -- the answer says the value of the cell, the mark, and premises that explain it; or memory was refused
 abbrev pub Explained : List Stored → State → ℕ → Info → List ℕ → List ℕ → Answer → Type 0
 Explained library s cell v name mark answer =
-    ((ps : List ℕ) × IsStrictlyIncreasing ps × Explains (problem_in library s) (worldview_of s) cell v (set_of ps) × (answer ≡ Text (equation name v (because s.premises mark ps)))) ⊎ (answer ≡ Refused Memory)
+    ((ps : List ℕ) × IsStrictlyIncreasing ps × Explains (problem_in library s) (worldview_of s) cell v (set_of ps) × (answer ≡ Text (equation name (text_at s cell v) (because s.premises mark ps)))) ⊎ (answer ≡ Refused Memory)
 
 -- what a command that runs may answer when it ends so, having taken these steps: an end that isn't settled comes
 -- only with every step of the limit taken

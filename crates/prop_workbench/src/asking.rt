@@ -4,7 +4,7 @@ ghost use Rattle.std.specs.Prelude.{◌≡◌, ℕ, length};
 use crate::reply::Reply;
 use crate::session::Session;
 use crate::texts::{because, contradiction_reply, text_reply, value_reply, worldview_reply};
-use prop_lattice::Refusal;
+use prop_lattice::{Info, Refusal};
 use prop_procedures::Rule;
 use prop_scheduler::{Order, Run, run};
 use std::alloc::AllocError;
@@ -16,7 +16,9 @@ impl<R: Rule + Drop, O: Order + Drop> Session<R, O> {
     ghost use Rattle.prop_scheduler.specs.Ends.{IfClash};
     ghost use Rattle.prop_scheduler.specs.Turns.{IsSettled};
     ghost use Rattle.prop_compound.specs.Commands as commands;
-    ghost use Rattle.prop_workbench.specs.Answers.{answer_of, Text};
+    ghost use Rattle.prop_workbench.specs.Answers.{answer_of, Says, Text};
+    ghost use Rattle.prop_workbench.specs.Machine.{text_at};
+    ghost use Rattle.prop_workbench.specs.Texts.{equation};
     ghost use Rattle.prop_workbench.specs.Reasons.{IsLeanExplanation, IsLeanReply};
     ghost use Rattle.prop_workbench.specs.Running.{Outcome, outcome_of, MayEnd, Explained};
     ghost use Rattle.prop_workbench.specs.Sessions.{state_of, steps_of, library_of, IsSound, IsMeant};
@@ -30,6 +32,7 @@ impl<R: Rule + Drop, O: Order + Drop> Session<R, O> {
         ensures sound { IsSound R.value_of self.new }
         ensures steps { steps_of self.new ≡ steps_of self.old }
         ensures names { self.new.names ≡ self.old.names }
+        ensures words { self.new.words ≡ self.old.words }
         ensures premises { self.new.premises ≡ self.old.premises }
         ensures worldview { self.new.worldview ≡ self.old.worldview }
         ensures state { state_of self.new ≡ state_of self.old }
@@ -69,12 +72,24 @@ impl<R: Rule + Drop, O: Order + Drop> Session<R, O> {
         self.network.data().well_made();
         let info = self.network.belief(cell, &self.worldview);
         match end {
-            Run::Quiet => (value_reply(self.alloc, name, info, ""), steps),
+            Run::Quiet => (self.value_of(cell, name, info, ""), steps),
             Run::Clash(support) => (
                 contradiction_reply(self.alloc, &self.premises, &support),
                 steps,
             ),
-            Run::Spent => (value_reply(self.alloc, name, info, " unsettled"), steps),
+            Run::Spent => (self.value_of(cell, name, info, " unsettled"), steps),
+        }
+    }
+
+    /// An information of a cell, with the mark behind it.
+    fn value_of(&self, cell: usize, name: &str, info: Info, mark: &str) -> Reply
+        requires { cell < length self.now.network.cells.kinds }
+        ensures { Says (answer_of result) (equation name.now (text_at (state_of self.now) cell info) mark.now) }
+    {
+        let kind = self.network.data().kind(cell).kind;
+        match self.words.value_text(self.alloc, kind, info) {
+            Ok(value) => value_reply(self.alloc, name, &value, mark),
+            Err(AllocError) => Reply::Refused(Refusal::Memory),
         }
     }
 
@@ -142,7 +157,7 @@ impl<R: Rule + Drop, O: Order + Drop> Session<R, O> {
             Err(AllocError) => return Reply::Refused(Refusal::Memory),
         };
         match because(self.alloc, &self.premises, mark, &why.support) {
-            Ok(mark) => value_reply(self.alloc, name, why.value, &mark),
+            Ok(mark) => self.value_of(cell, name, why.value, &mark),
             Err(AllocError) => Reply::Refused(Refusal::Memory),
         }
     }

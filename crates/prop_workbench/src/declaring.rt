@@ -1,34 +1,63 @@
 //! The commands that make cells and put procedures between them.
-ghost use Rattle.std.specs.Prelude.{◌≡◌, ℕ, length};
+ghost use Rattle.std.specs.Prelude.{◌≡◌, ◌<◌, ℕ, length, None, IfSome, true, false};
 ghost use Rattle.prop_compound.specs.Said.{kind_of, by_of};
-ghost use Rattle.prop_workbench.specs.Refusing.{is_relation};
-ghost use Rattle.prop_workbench.specs.Effects.{kind_named};
+ghost use Rattle.prop_workbench.specs.Refusing.{is_unknown, is_nowhere};
+ghost use Rattle.prop_workbench.specs.Effects.{domain_kind, kind_named};
+ghost use Rattle.prop_workbench.specs.Sessions.{IsSized};
 
 use crate::reply::Reply;
 use crate::session::Session;
 use prop_compound::{By, KindWord};
-use prop_lattice::Refusal;
+use prop_lattice::{Kind, Refusal};
 use prop_procedures::fitting::span_kinded;
 use prop_procedures::{Kinded, Param, Rule};
 use prop_scheduler::Order;
+use prop_vocabulary::Vocabulary;
 use std::alloc::AllocError;
 
-/// The kind that a word says.
-fn kind_named(word: KindWord) -> Kinded
-    ensures { result ≡ kind_named (kind_of word) }
+/// The kind of a domain.
+fn domain_kinded(words: &Vocabulary, number: u16) -> Kinded
+    requires { number < length words.now.domains }
+    ensures kind { result ≡ domain_kind words.now number }
+    ensures sized { IsSized words.now result }
 {
-    match word {
-        KindWord::Spans => span_kinded(),
+    Kinded {
+        kind: Kind::Set(number),
+        size: words.domain(number).size(),
     }
 }
 
-/// Whether a relation is given.
-fn is_relation(by: By) -> bool
-    ensures { result ≡ is_relation (by_of by.entry) }
+/// The kind that a word says, `None` where it names no domain.
+fn kind_named(words: &Vocabulary, word: KindWord) -> Option<Kinded>
+    ensures known { IfSome result (λ kind. kind ≡ kind_named words.now (kind_of word.entry)) }
+    ensures none { result ≡ None → is_nowhere words.now (kind_of word.entry) ≡ true }
+    ensures some { IfSome result (λ kind. is_nowhere words.now (kind_of word.entry) ≡ false) }
+    ensures sized { IfSome result (IsSized words.now) }
+{
+    match word {
+        KindWord::Spans => Some(span_kinded()),
+        KindWord::Truths => {
+            words.domain_count();
+            Some(domain_kinded(words, 0))
+        }
+        KindWord::Symbols => Some(Kinded {
+            kind: Kind::Symbol,
+            size: 0,
+        }),
+        KindWord::Named(name) => {
+            let number = words.domain_number(name)?;
+            Some(domain_kinded(words, number))
+        }
+    }
+}
+
+/// Whether a relation is named of which there is none.
+fn is_unknown(words: &Vocabulary, by: By) -> bool
+    ensures { result ≡ is_unknown words.now (by_of by.entry) }
 {
     match by {
         By::Nothing | By::Number(_) => false,
-        By::Relation(_) => true,
+        By::Relation(name) => words.relation(name).is_none(),
     }
 }
 
@@ -36,8 +65,10 @@ impl<R: Rule + Drop, O: Order + Drop> Session<R, O> {
     ghost use Rattle.std.specs.Prelude.{◌≡◌, ◌<◌, ◌++◌, ◌∷◌, [], ◌⊎◌, map, All, None, Some, OnOk, OnErr, IfOk, IfErr, ℕ, length};
     ghost use Rattle.prop_lattice.specs.declared.refusal.Refusal.TheVariants.{Memory};
     ghost use Rattle.prop_compound.specs.Commands as commands;
-    ghost use Rattle.prop_compound.specs.Said.{kind_of, by_of, words};
-    ghost use Rattle.prop_cells.specs.Instances.{param_in, fitting_param};
+    ghost use Rattle.prop_compound.specs.Said.{kind_of, by_of, words, pairs_of};
+    ghost use Rattle.prop_cells.specs.Instances.{param_in, fitting_param, sides_given};
+    ghost use Rattle.std.specs.Option.{option_and_then};
+    ghost use Rattle.prop_procedures.specs.Stored.{sides_of};
     ghost use Rattle.prop_workbench.specs.Answers.{answer_of};
     ghost use Rattle.std.specs.Prelude.{slice_get};
     ghost use Rattle.prop_procedures.specs.Stored.{Stored};
@@ -47,23 +78,61 @@ impl<R: Rule + Drop, O: Order + Drop> Session<R, O> {
     ghost use Rattle.prop_workbench.specs.Sessions.{state_of, steps_of, library_of, IsSound, IsMeant};
     ghost use Rattle.prop_workbench.specs.Steps.{Obeys};
 
+    /// Declares a domain.
+    pub(crate) fn domain(&mut self, name: &str, elements: &[&str]) -> Reply
+        requires sound { IsSound R.value_of self.old }
+        requires some { 0 < length elements.now }
+        ensures same { self.new.network.library ≡ self.old.network.library }
+        ensures sound { IsSound R.value_of self.new }
+        ensures steps { steps_of self.new ≡ steps_of self.old }
+        ensures step { Obeys (library_of R.value_of self.old) (state_of self.old) (commands.Command.Domain name.now (words elements.now)) (answer_of result) (state_of self.new) 0 }
+    {
+        match self.words.declare_domain(name, elements) {
+            Ok(()) => Reply::Done,
+            Err(refusal) => Reply::Refused(refusal),
+        }
+    }
+
+    /// Declares a relation.
+    pub(crate) fn relation(
+        &mut self,
+        name: &str,
+        from: &str,
+        to: &str,
+        pairs: &[(&[u8], &[u8])],
+    ) -> Reply
+        requires sound { IsSound R.value_of self.old }
+        ensures same { self.new.network.library ≡ self.old.network.library }
+        ensures sound { IsSound R.value_of self.new }
+        ensures steps { steps_of self.new ≡ steps_of self.old }
+        ensures step { Obeys (library_of R.value_of self.old) (state_of self.old) (commands.Command.Relation name.now from.now to.now (pairs_of pairs.now)) (answer_of result) (state_of self.new) 0 }
+    {
+        match self.words.declare_relation(name, from, to, pairs) {
+            Ok(()) => Reply::Done,
+            Err(refusal) => Reply::Refused(refusal),
+        }
+    }
+
     /// Makes a cell.
     pub(crate) fn cell(&mut self, name: &str, kind: KindWord) -> Reply
         requires sound { IsSound R.value_of self.old }
         ensures same { self.new.network.library ≡ self.old.network.library }
         ensures sound { IsSound R.value_of self.new }
         ensures steps { steps_of self.new ≡ steps_of self.old }
-        ensures step { Obeys (library_of R.value_of self.old) (state_of self.old) (commands.Command.Cell name.now (kind_of kind)) (answer_of result) (state_of self.new) 0 }
+        ensures step { Obeys (library_of R.value_of self.old) (state_of self.old) (commands.Command.Cell name.now (kind_of kind.entry)) (answer_of result) (state_of self.new) 0 }
     {
         match self.names.find(name) {
             Some(_) => return Reply::Refused(Refusal::NameTaken),
             None => {}
         }
+        let kind = match kind_named(&self.words, kind) {
+            Some(kind) => kind,
+            None => return Reply::Refused(Refusal::NoSuchDomain),
+        };
         match self.names.push(self.alloc, name) {
             Ok(()) => {}
             Err(AllocError) => return Reply::Refused(Refusal::Memory),
         }
-        let kind = kind_named(kind);
         match self.network.new_cell(kind.kind, kind.size) {
             Ok(()) => Reply::Done,
             Err(refusal) => {
@@ -81,7 +150,7 @@ impl<R: Rule + Drop, O: Order + Drop> Session<R, O> {
         ensures steps { steps_of self.new ≡ steps_of self.old }
         ensures step { Obeys (library_of R.value_of self.old) (state_of self.old) (commands.Command.Attach name.now (words cells.now) (by_of by.entry)) (answer_of result) (state_of self.new) 0 }
     {
-        if is_relation(by) {
+        if is_unknown(&self.words, by) {
             return Reply::Refused(Refusal::NoSuchRelation);
         }
         if self.names.is_missing(cells) {
@@ -110,7 +179,7 @@ impl<R: Rule + Drop, O: Order + Drop> Session<R, O> {
         ensures sound { IsSound R.value_of self.new }
         ensures steps { steps_of self.new ≡ steps_of self.old }
         ensures fits { OnOk result ((p : Stored) → slice_get (library_of R.value_of self.old) procedure ≡ Some p → placing_refusal p (state_of self.old) (by_of by.entry) cells.now ≡ None) }
-        ensures ok { OnOk result (state_of self.new ≡ record (state_of self.old) { instances = (state_of self.old).instances ++ instance_made (library_of R.value_of self.old) procedure (by_of by.entry) cells.now ∷ [] }) }
+        ensures ok { OnOk result (state_of self.new ≡ record (state_of self.old) { instances = (state_of self.old).instances ++ instance_made (library_of R.value_of self.old) procedure (given_by self.old.words (by_of by.entry)) cells.now ∷ [] }) }
         ensures err { IfErr result (λ e. ((p : Stored) → slice_get (library_of R.value_of self.old) procedure ≡ Some p → placing_refusal p (state_of self.old) (by_of by.entry) cells.now ≡ Some e) ⊎ (e ≡ Memory)) }
         ensures err_same { OnErr result (state_of self.new ≡ state_of self.old) }
     {
@@ -144,19 +213,27 @@ impl<R: Rule + Drop, O: Order + Drop> Session<R, O> {
         ensures steps { steps_of self.new ≡ steps_of self.old }
         ensures line { self.new.agenda ≡ self.old.agenda }
         ensures names { self.new.names ≡ self.old.names }
+        ensures words { self.new.words ≡ self.old.words }
         ensures premises { self.new.premises ≡ self.old.premises }
         ensures worldview { self.new.worldview ≡ self.old.worldview }
         ensures limit { self.new.limit ≡ self.old.limit }
         ensures cells { self.new.network.cells ≡ record self.old.network.cells { params = self.new.network.cells.params } }
-        ensures param { IfOk result (λ param. (need : Need) → param_in need self.new.network.cells.params param ≡ fitting_param need (given_by (by_of by.entry))) }
+        ensures sides { IfOk result (λ param. sides_given self.new.network.cells.params param ≡ option_and_then sides_of (given_by self.old.words (by_of by.entry))) }
+        ensures param { IfOk result (λ param. (need : Need) → param_in need self.new.network.cells.params param ≡ fitting_param need (given_by self.old.words (by_of by.entry))) }
         ensures err { IfErr result (λ e. e ≡ Memory) }
     {
-        match by {
-            By::Nothing | By::Relation(_) => Ok(None),
-            By::Number(scale) => {
-                let number = self.network.add_param(Param::Scale(scale))?;
-                Ok(Some(number))
-            }
-        }
+        let param = match by {
+            By::Nothing => return Ok(None),
+            By::Number(scale) => Param::Scale(scale),
+            By::Relation(name) => match self.words.relation(name) {
+                Some(rows) => match rows.copy(self.alloc) {
+                    Ok(rows) => Param::Rows(rows),
+                    Err(AllocError) => return Err(Refusal::Memory),
+                },
+                None => return Ok(None),
+            },
+        };
+        let number = self.network.add_param(param)?;
+        Ok(Some(number))
     }
 }

@@ -1,20 +1,25 @@
 //! The commands that state what is known.
-ghost use Rattle.std.specs.Prelude.{◌≡◌, ◌<◌, ◌≤◌, ◌++◌, ◌∷◌, [], ℕ, ◌⊎◌, None, Some, OnOk, OnErr, IfErr, length};
+ghost use Rattle.std.specs.Prelude.{◌≡◌, ◌<◌, ◌≤◌, ◌++◌, ◌∷◌, [], ℕ, ◌⊎◌, None, Some, Ok, Err, OnOk, OnErr, IfOk, IfErr, length};
 ghost use Rattle.prop_lattice.specs.declared.refusal.Refusal.TheVariants.{Memory};
 ghost use Rattle.prop_premises.specs.Sets.{set_of};
 ghost use Rattle.prop_procedures.specs.Kept.{stored_of};
 ghost use Rattle.prop_cells.specs.Data.{States};
 ghost use Rattle.prop_cells.specs.Refusing.{state_refusal};
 ghost use Rattle.prop_scheduler.specs.Turns.{IsUnderWay};
+ghost use Rattle.prop_compound.specs.Said.{value_of, meant_of};
+ghost use Rattle.prop_vocabulary.specs.Texts.{elements_of_kind};
+ghost use Rattle.prop_workbench.specs.Refusing.{meaning_at};
+ghost use Rattle.prop_workbench.specs.Sessions.{IsKnown};
 
 use crate::reply::Reply;
 use crate::session::Session;
 use prop_cells::Network;
-use prop_compound::{Value, read_value};
-use prop_lattice::{Info, Partial, Refusal};
+use prop_compound::{Meant, Value, read_value};
+use prop_lattice::{Info, Kind, Limit, Partial, Refusal};
 use prop_premises::{Premise, Worldview};
 use prop_procedures::Rule;
 use prop_scheduler::{Agenda, Order};
+use prop_vocabulary::Vocabulary;
 use std::alloc::AllocError;
 
 /// Makes a statement; where what is believed of its cell changes, the cell's readers wait.
@@ -47,6 +52,21 @@ fn state_in<R: Rule + Drop>(
     Ok(())
 }
 
+/// What a value means at a cell of a kind.
+fn meaning<'a>(words: &Vocabulary, kind: Kind, value: &Value<'a>) -> Result<Meant<'a>, Refusal>
+    requires { IsKnown words.now kind }
+    ensures ok { IfOk result (λ meant. meaning_at words.now kind (value_of value.now) ≡ Ok (meant_of meant)) }
+    ensures err { IfErr result (λ e. meaning_at words.now kind (value_of value.now) ≡ Err e) }
+    ensures few { OnOk result (length (elements_of_kind words.now kind) ≤ 64) }
+{
+    words.domain_count();
+    let domain = match kind {
+        Kind::Set(number) => words.domain(number),
+        Kind::Span | Kind::Symbol => words.domain(0),
+    };
+    read_value(value, kind, domain)
+}
+
 impl<R: Rule + Drop, O: Order + Drop> Session<R, O> {
     ghost use Rattle.std.specs.Prelude.{◌≡◌, ◌<◌, ◌++◌, ◌∷◌, [], ◌⊎◌, ℕ, IsTrue, None, Some, OnOk, OnErr, IfErr, length};
     ghost use Rattle.prop_lattice.specs.declared.refusal.Refusal.TheVariants.{Memory};
@@ -56,12 +76,15 @@ impl<R: Rule + Drop, O: Order + Drop> Session<R, O> {
     ghost use Rattle.prop_cells.specs.Instances.{kind_at};
     ghost use Rattle.prop_cells.specs.Refusing.{may_be_stated, state_refusal};
     ghost use Rattle.prop_workbench.specs.Answers.{answer_of};
-    ghost use Rattle.prop_workbench.specs.Effects.{number_given};
-    ghost use Rattle.prop_workbench.specs.Refusing.{telling_limit};
+    ghost use Rattle.prop_workbench.specs.Effects.{number_given, name_of, stating, stated, with_meant, info_meant, MayMean};
+    ghost use Rattle.prop_compound.specs.Said.{meant_of};
+    ghost use Rattle.prop_compound.specs.Values.{Name};
+    ghost use Rattle.prop_vocabulary.specs.Vocabulary.{with_symbol, symbol_number};
+    ghost use Rattle.prop_workbench.specs.Refusing.{telling_limit, statement_limit, stating_limit};
     ghost use Rattle.prop_workbench.specs.Sessions.{state_of, steps_of, library_of, IsSound, IsMeant};
     ghost use Rattle.prop_workbench.specs.Steps.{Obeys};
 
-    /// States an information at a cell, under no premise.
+    /// States what a value says at a cell, under no premise.
     pub(crate) fn fix(&mut self, name: &str, value: &Value) -> Reply
         requires sound { IsSound R.value_of self.old }
         ensures same { self.new.network.library ≡ self.old.network.library }
@@ -69,21 +92,10 @@ impl<R: Rule + Drop, O: Order + Drop> Session<R, O> {
         ensures steps { steps_of self.new ≡ steps_of self.old }
         ensures step { Obeys (library_of R.value_of self.old) (state_of self.old) (commands.Command.Fix name.now (value_of value.now)) (answer_of result) (state_of self.new) 0 }
     {
-        let cell = match self.names.find(name) {
-            Some(cell) => cell,
-            None => return Reply::Refused(Refusal::NoSuchCell),
-        };
-        let info = match read_value(value, self.network.data().kind(cell).kind) {
-            Ok(info) => info,
-            Err(refusal) => return Reply::Refused(refusal),
-        };
-        match self.state(None, cell, info) {
-            Ok(()) => Reply::Done,
-            Err(refusal) => Reply::Refused(refusal),
-        }
+        self.say(None, name, value)
     }
 
-    /// States an information at a cell, under the premise with a name, which may be new.
+    /// States what a value says at a cell, under the premise with a name, which may be new.
     pub(crate) fn tell(&mut self, premise: &str, name: &str, value: &Value) -> Reply
         requires sound { IsSound R.value_of self.old }
         ensures same { self.new.network.library ≡ self.old.network.library }
@@ -91,17 +103,124 @@ impl<R: Rule + Drop, O: Order + Drop> Session<R, O> {
         ensures steps { steps_of self.new ≡ steps_of self.old }
         ensures step { Obeys (library_of R.value_of self.old) (state_of self.old) (commands.Command.Tell premise.now name.now (value_of value.now)) (answer_of result) (state_of self.new) 0 }
     {
+        self.say(Some(premise), name, value)
+    }
+
+    /// States what a value says at a cell, under the premise with a name or under none.
+    fn say(&mut self, premise: Option<&str>, name: &str, value: &Value) -> Reply
+        requires sound { IsSound R.value_of self.old }
+        ensures same { self.new.network.library ≡ self.old.network.library }
+        ensures sound { IsSound R.value_of self.new }
+        ensures steps { steps_of self.new ≡ steps_of self.old }
+        ensures step { Obeys (library_of R.value_of self.old) (state_of self.old) (stating (name_of premise.entry) name.now (value_of value.now)) (answer_of result) (state_of self.new) 0 }
+    {
         let cell = match self.names.find(name) {
             Some(cell) => cell,
             None => return Reply::Refused(Refusal::NoSuchCell),
         };
-        let info = match read_value(value, self.network.data().kind(cell).kind) {
-            Ok(info) => info,
+        let kind = self.network.data().kind(cell).kind;
+        let meant = match meaning(&self.words, kind, value) {
+            Ok(meant) => meant,
             Err(refusal) => return Reply::Refused(refusal),
         };
-        match self.state_told(premise, cell, info) {
+        match self.state_meant(premise, cell, meant) {
             Ok(()) => Reply::Done,
             Err(refusal) => Reply::Refused(refusal),
+        }
+    }
+
+    /// States what a value means at a cell. A symbol that it names is new or known.
+    fn state_meant(
+        &mut self,
+        premise: Option<&str>,
+        cell: usize,
+        meant: Meant,
+    ) -> Result<(), Refusal>
+        requires sound { IsSound R.value_of self.old }
+        requires cell { cell < length self.old.network.cells.kinds }
+        requires may { MayMean (kind_at self.old.network.cells.kinds cell) (meant_of meant) }
+        ensures same { self.new.network.library ≡ self.old.network.library }
+        ensures sound { IsSound R.value_of self.new }
+        ensures steps { steps_of self.new ≡ steps_of self.old }
+        ensures fits { OnOk result (stating_limit (state_of self.old) (name_of premise.entry) (meant_of meant.entry) ≡ None) }
+        ensures ok { OnOk result (state_of self.new ≡ stated (state_of self.old) (name_of premise.entry) cell (with_meant self.old.words (meant_of meant.entry)) (info_meant self.old.words (meant_of meant.entry))) }
+        ensures err { IfErr result (λ e. (stating_limit (state_of self.old) (name_of premise.entry) (meant_of meant.entry) ≡ Some e) ⊎ (e ≡ Memory)) }
+        ensures err_same { OnErr result (state_of self.new ≡ state_of self.old) }
+    {
+        match meant {
+            Meant::Known(info) => self.state_said(premise, cell, info),
+            Meant::Name(symbol) => self.state_symbol(premise, cell, symbol),
+        }
+    }
+
+    /// States that a cell is the symbol with a name, which may be new.
+    fn state_symbol(
+        &mut self,
+        premise: Option<&str>,
+        cell: usize,
+        symbol: &str,
+    ) -> Result<(), Refusal>
+        requires sound { IsSound R.value_of self.old }
+        requires cell { cell < length self.old.network.cells.kinds }
+        requires may { (kind_at self.old.network.cells.kinds cell).kind ≡ Kind.Symbol }
+        ensures same { self.new.network.library ≡ self.old.network.library }
+        ensures sound { IsSound R.value_of self.new }
+        ensures steps { steps_of self.new ≡ steps_of self.old }
+        ensures fits { OnOk result (stating_limit (state_of self.old) (name_of premise.entry) (Name symbol.now) ≡ None) }
+        ensures ok { OnOk result (state_of self.new ≡ stated (state_of self.old) (name_of premise.entry) cell (with_symbol self.old.words symbol.now) (Info.Sym (symbol_number self.old.words symbol.now))) }
+        ensures err { IfErr result (λ e. (stating_limit (state_of self.old) (name_of premise.entry) (Name symbol.now) ≡ Some e) ⊎ (e ≡ Memory)) }
+        ensures err_same { OnErr result (state_of self.new ≡ state_of self.old) }
+    {
+        match self.statement_limit(premise) {
+            Some(refusal) => return Err(refusal),
+            None => {}
+        }
+        let count = self.words.symbol_count();
+        let number = self.words.add_symbol(symbol)?;
+        match self.state_said(premise, cell, Info::Sym(number)) {
+            Ok(()) => Ok(()),
+            Err(refusal) => {
+                self.words.keep_symbols(count);
+                Err(refusal)
+            }
+        }
+    }
+
+    /// Why one more statement is refused, under the premise with a name or under none.
+    fn statement_limit(&self, premise: Option<&str>) -> Option<Refusal>
+        requires sound { IsSound R.value_of self.now }
+        ensures { result ≡ statement_limit (state_of self.now) (name_of premise.entry) }
+    {
+        match premise {
+            Some(name)
+                if self.premises.find(name).is_err()
+                    && self.premises.len() >= Limit::Premises.most() => {
+                Some(Refusal::LimitReached(Limit::Premises))
+            }
+            _ if self.network.data().statement_count() >= Limit::Statements.most() => {
+                Some(Refusal::LimitReached(Limit::Statements))
+            }
+            _ => None,
+        }
+    }
+
+    /// Makes a statement under the premise with a name, which may be new, or under none.
+    fn state_said(&mut self, premise: Option<&str>, cell: usize, info: Info) -> Result<(), Refusal>
+        requires sound { IsSound R.value_of self.old }
+        requires cell { cell < length self.old.network.cells.kinds }
+        requires may { IsTrue (may_be_stated (kind_at self.old.network.cells.kinds cell).kind (kind_at self.old.network.cells.kinds cell).size info) }
+        ensures same { self.new.network.library ≡ self.old.network.library }
+        ensures sound { IsSound R.value_of self.new }
+        ensures steps { steps_of self.new ≡ steps_of self.old }
+        ensures words { self.new.words ≡ self.old.words }
+        ensures fits { OnOk result (statement_limit (state_of self.old) (name_of premise.entry) ≡ None) }
+        ensures ok { OnOk result (state_of self.new ≡ stated (state_of self.old) (name_of premise.entry) cell self.old.words info) }
+        ensures err { IfErr result (λ e. (statement_limit (state_of self.old) (name_of premise.entry) ≡ Some e) ⊎ (e ≡ Memory)) }
+        ensures err_same { OnErr result (state_of self.new ≡ state_of self.old) }
+    {
+        match premise {
+            Some(premise) => self.state_told(premise, cell, info),
+            None => self.state(None, cell, info),
         }
     }
 
@@ -113,6 +232,7 @@ impl<R: Rule + Drop, O: Order + Drop> Session<R, O> {
         ensures same { self.new.network.library ≡ self.old.network.library }
         ensures sound { IsSound R.value_of self.new }
         ensures steps { steps_of self.new ≡ steps_of self.old }
+        ensures words { self.new.words ≡ self.old.words }
         ensures fits { OnOk result (telling_limit (state_of self.old) premise.now ≡ None) }
         ensures ok { OnOk result (state_of self.new ≡ record (state_of self.old) { premises = with_name (state_of self.old).premises premise.now; statements = (state_of self.old).statements ++ record { premise = Some (number_given (state_of self.old).premises premise.now); cell = cell; info = info } ∷ [] }) }
         ensures err { IfErr result (λ e. (telling_limit (state_of self.old) premise.now ≡ Some e) ⊎ (e ≡ Memory)) }
@@ -138,6 +258,7 @@ impl<R: Rule + Drop, O: Order + Drop> Session<R, O> {
         ensures same { self.new.network.library ≡ self.old.network.library }
         ensures sound { IsSound R.value_of self.new }
         ensures steps { steps_of self.new ≡ steps_of self.old }
+        ensures words { self.new.words ≡ self.old.words }
         ensures fits { OnOk result (state_refusal self.old.network.cells cell info ≡ None) }
         ensures ok { OnOk result (state_of self.new ≡ record (state_of self.old) { statements = (state_of self.old).statements ++ record { premise = premise; cell = cell; info = info } ∷ [] }) }
         ensures err { IfErr result (λ e. (state_refusal self.old.network.cells cell info ≡ Some e) ⊎ (e ≡ Memory)) }
@@ -163,6 +284,7 @@ impl<R: Rule + Drop, O: Order + Drop> Session<R, O> {
         ensures same { self.new.network.library ≡ self.old.network.library }
         ensures sound { IsSound R.value_of self.new }
         ensures steps { steps_of self.new ≡ steps_of self.old }
+        ensures words { self.new.words ≡ self.old.words }
         ensures fits { OnOk result (telling_limit (state_of self.old) name.now ≡ None) }
         ensures ok { OnOk result (state_of self.new ≡ record (state_of self.old) { premises = with_name (state_of self.old).premises name.now; statements = (state_of self.old).statements ++ record { premise = Some (length self.old.premises); cell = cell; info = info } ∷ [] }) }
         ensures err { IfErr result (λ e. (telling_limit (state_of self.old) name.now ≡ Some e) ⊎ (e ≡ Memory)) }

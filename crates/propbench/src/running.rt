@@ -47,6 +47,6 @@ pub fn run<Rd: Read, W: Write>(
         procedures.push(Procedure::new(rule.name(), ins, rule.out(), rule.need(), rule, call))?;
     }
     let network = Network::new(alloc, Library::new(procedures));
-    let mut session = Session::new(alloc, network, Fifo, options.limit);
+    let mut session = Session::new(alloc, network, Fifo, options.limit)?;
     Ok(session.run_session(reader, writer, READS)?)
 }

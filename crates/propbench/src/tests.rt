@@ -1,6 +1,7 @@
 mod devices;
 mod engine;
 mod faults;
+mod kinds;
 mod options;
 mod plain;
 mod sessions;

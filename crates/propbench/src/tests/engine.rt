@@ -12,7 +12,7 @@ use std::test::Fail;
 fn answers_a_line(rt: HostRuntime) -> Result<(), Fail> {
     let alloc = rt.alloc();
     let network = Network::new(alloc, Library::<Kit>::new(Vec::new(alloc)));
-    let mut session = Session::new(alloc, network, Fifo, 1000);
+    let mut session = Session::new(alloc, network, Fifo, 1000)?;
     let mut reader = Watched::new(b"settle\n".as_slice());
     let mut writer = Watched::new(Vec::new(alloc));
     let counts = session.run_session(&mut reader, &mut writer, 10)?;
@@ -31,7 +31,7 @@ fn answers_a_line(rt: HostRuntime) -> Result<(), Fail> {
 fn answers_a_last_line_without_a_line_feed(rt: HostRuntime) -> Result<(), Fail> {
     let alloc = rt.alloc();
     let network = Network::new(alloc, Library::<Kit>::new(Vec::new(alloc)));
-    let mut session = Session::new(alloc, network, Fifo, 1000);
+    let mut session = Session::new(alloc, network, Fifo, 1000)?;
     let mut reader = Watched::new(b"settle\r\ngo".as_slice());
     let mut writer = Watched::new(Vec::new(alloc));
     let counts = session.run_session(&mut reader, &mut writer, 10)?;
@@ -53,7 +53,7 @@ fn answers_a_last_line_without_a_line_feed(rt: HostRuntime) -> Result<(), Fail> 
 fn reads_and_writes_a_byte_at_a_time(rt: HostRuntime) -> Result<(), Fail> {
     let alloc = rt.alloc();
     let network = Network::new(alloc, Library::<Kit>::new(Vec::new(alloc)));
-    let mut session = Session::new(alloc, network, Fifo, 1000);
+    let mut session = Session::new(alloc, network, Fifo, 1000)?;
     let mut reader = Watched::new(OneByte { left: b"settle\n" });
     let mut writer = Watched::new(Narrow {
         taken: Vec::new(alloc),
@@ -78,7 +78,7 @@ fn reads_and_writes_a_byte_at_a_time(rt: HostRuntime) -> Result<(), Fail> {
 fn stops_after_its_reads(rt: HostRuntime) -> Result<(), Fail> {
     let alloc = rt.alloc();
     let network = Network::new(alloc, Library::<Kit>::new(Vec::new(alloc)));
-    let mut session = Session::new(alloc, network, Fifo, 1000);
+    let mut session = Session::new(alloc, network, Fifo, 1000)?;
     let mut reader = Watched::new(Endless);
     let mut writer = Watched::new(Vec::new(alloc));
     assert_eq!(rt;
@@ -93,7 +93,7 @@ fn stops_after_its_reads(rt: HostRuntime) -> Result<(), Fail> {
 fn stops_at_a_failing_read(rt: HostRuntime) -> Result<(), Fail> {
     let alloc = rt.alloc();
     let network = Network::new(alloc, Library::<Kit>::new(Vec::new(alloc)));
-    let mut session = Session::new(alloc, network, Fifo, 1000);
+    let mut session = Session::new(alloc, network, Fifo, 1000)?;
     let mut reader = Watched::new(Failing { left: b"sett" });
     let mut writer = Watched::new(Vec::new(alloc));
     assert_eq!(rt;
@@ -109,7 +109,7 @@ fn stops_at_a_failing_read(rt: HostRuntime) -> Result<(), Fail> {
 fn stops_at_a_failing_write(rt: HostRuntime) -> Result<(), Fail> {
     let alloc = rt.alloc();
     let network = Network::new(alloc, Library::<Kit>::new(Vec::new(alloc)));
-    let mut session = Session::new(alloc, network, Fifo, 1000);
+    let mut session = Session::new(alloc, network, Fifo, 1000)?;
     let mut reader = Watched::new(b"settle\nsettle\n".as_slice());
     let mut writer = Watched::new(Narrow {
         taken: Vec::new(alloc),
@@ -127,7 +127,7 @@ fn stops_at_a_failing_write(rt: HostRuntime) -> Result<(), Fail> {
 fn stops_at_a_write_of_no_byte(rt: HostRuntime) -> Result<(), Fail> {
     let alloc = rt.alloc();
     let network = Network::new(alloc, Library::<Kit>::new(Vec::new(alloc)));
-    let mut session = Session::new(alloc, network, Fifo, 1000);
+    let mut session = Session::new(alloc, network, Fifo, 1000)?;
     let mut reader = Watched::new(b"settle\n".as_slice());
     let mut writer = Watched::new(Full);
     assert_eq!(rt;
@@ -142,7 +142,7 @@ fn stops_at_a_write_of_no_byte(rt: HostRuntime) -> Result<(), Fail> {
 fn stops_at_a_failing_flush(rt: HostRuntime) -> Result<(), Fail> {
     let alloc = rt.alloc();
     let network = Network::new(alloc, Library::<Kit>::new(Vec::new(alloc)));
-    let mut session = Session::new(alloc, network, Fifo, 1000);
+    let mut session = Session::new(alloc, network, Fifo, 1000)?;
     let mut reader = Watched::new(b"settle\nsettle\n".as_slice());
     let mut writer = Watched::new(Stuck {
         taken: Vec::new(alloc),

@@ -33,8 +33,8 @@ const CASES: [Case; 16] = [
     ),
     (
         1000,
-        "cell x truth\ncell x by\ncell span span\ncell x\n",
-        "error 4: wrong form\nerror 4: wrong form\nerror 5: not a name\nerror 4: wrong form\n",
+        "cell x truth\ncell y by\ncell span span\ncell x\n",
+        "ok\nerror 5: not a name\nerror 5: not a name\nerror 4: wrong form\n",
     ),
     (
         1000,

@@ -26,14 +26,14 @@ loop-rule-preserved g c =
 
 pub returns-clause-ok : goal.returns-clause-ok
 returns-clause-ok g c =
-    let library : stored_of value_of c.new-session.result.network.library ≡ kit_library = ap (stored_of value_of) (c.new-session.ensures.library ∙ c.new-network.ensures.library) ∙ ap (λ procedures. map (stored_as value_of) procedures.items) c.new-2.ensures ∙ c.loop-rule.invariant.listed ∙ all_listed c.loop-rule.rule-index (let past = c.loop-rule-test.false in omega (arith, past)) in
-    let ruled = related_by_rules c.new-session.result.network.library (ap (λ l. map (λ p. p.rule) l.procedures.items) (c.new-session.ensures.library ∙ c.new-network.ensures.library) ∙ ap (λ procedures. map (λ p. p.rule) procedures.items) c.new-2.ensures ∙ c.loop-rule.invariant.ruled ∙ take_all c.loop-rule.rule-index in_order (let past = c.loop-rule-test.false in omega (arith, past))) in
-    let machine : machine_of value_of Related c.new-session.result ≡ workbench kit_library kit_related = λ i. workbench (library i) (ruled i) in
-    (state_of c.run_session.new.self, rw (machine, c.new-session.ensures.state) at c.in_ok-run_session.ensures.transcript)
+    let library : stored_of value_of c.in_ok-session.session.network.library ≡ kit_library = ap (stored_of value_of) (c.in_ok-session.ensures.library ∙ c.new-network.ensures.library) ∙ ap (λ procedures. map (stored_as value_of) procedures.items) c.new-2.ensures ∙ c.loop-rule.invariant.listed ∙ all_listed c.loop-rule.rule-index (let past = c.loop-rule-test.false in omega (arith, past)) in
+    let ruled = related_by_rules c.in_ok-session.session.network.library (ap (λ l. map (λ p. p.rule) l.procedures.items) (c.in_ok-session.ensures.library ∙ c.new-network.ensures.library) ∙ ap (λ procedures. map (λ p. p.rule) procedures.items) c.new-2.ensures ∙ c.loop-rule.invariant.ruled ∙ take_all c.loop-rule.rule-index in_order (let past = c.loop-rule-test.false in omega (arith, past))) in
+    let machine : machine_of value_of Related c.in_ok-session.session ≡ workbench kit_library kit_related = λ i. workbench (library i) (ruled i) in
+    (state_of c.run_session.new.self, rw (machine, c.in_ok-session.ensures.state) at c.in_ok-run_session.ensures.transcript)
 
 pub returns-in_err-run_session-clause-err : goal.returns-in_err-run_session-clause-err
 returns-in_err-run_session-clause-err g c =
-    let library : stored_of value_of c.new-session.result.network.library ≡ kit_library = ap (stored_of value_of) (c.new-session.ensures.library ∙ c.new-network.ensures.library) ∙ ap (λ procedures. map (stored_as value_of) procedures.items) c.new-2.ensures ∙ c.loop-rule.invariant.listed ∙ all_listed c.loop-rule.rule-index (let past = c.loop-rule-test.false in omega (arith, past)) in
-    let ruled = related_by_rules c.new-session.result.network.library (ap (λ l. map (λ p. p.rule) l.procedures.items) (c.new-session.ensures.library ∙ c.new-network.ensures.library) ∙ ap (λ procedures. map (λ p. p.rule) procedures.items) c.new-2.ensures ∙ c.loop-rule.invariant.ruled ∙ take_all c.loop-rule.rule-index in_order (let past = c.loop-rule-test.false in omega (arith, past))) in
-    let machine : machine_of value_of Related c.new-session.result ≡ workbench kit_library kit_related = λ i. workbench (library i) (ruled i) in
-    on_err _ _ (rw (machine, c.new-session.ensures.state) at c.in_err-run_session.ensures.front)
+    let library : stored_of value_of c.in_ok-session.session.network.library ≡ kit_library = ap (stored_of value_of) (c.in_ok-session.ensures.library ∙ c.new-network.ensures.library) ∙ ap (λ procedures. map (stored_as value_of) procedures.items) c.new-2.ensures ∙ c.loop-rule.invariant.listed ∙ all_listed c.loop-rule.rule-index (let past = c.loop-rule-test.false in omega (arith, past)) in
+    let ruled = related_by_rules c.in_ok-session.session.network.library (ap (λ l. map (λ p. p.rule) l.procedures.items) (c.in_ok-session.ensures.library ∙ c.new-network.ensures.library) ∙ ap (λ procedures. map (λ p. p.rule) procedures.items) c.new-2.ensures ∙ c.loop-rule.invariant.ruled ∙ take_all c.loop-rule.rule-index in_order (let past = c.loop-rule-test.false in omega (arith, past))) in
+    let machine : machine_of value_of Related c.in_ok-session.session ≡ workbench kit_library kit_related = λ i. workbench (library i) (ruled i) in
+    on_err _ _ (rw (machine, c.in_ok-session.ensures.state) at c.in_err-run_session.ensures.front)

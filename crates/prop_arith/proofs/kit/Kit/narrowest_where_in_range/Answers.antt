@@ -1,4 +1,4 @@
-use Rattle.prop_arith.specs.NarrowestLaws.{add_is_narrowest, sub_is_narrowest, mul_is_narrowest, square_is_narrowest, root_is_narrowest}
+use Rattle.prop_arith.specs.NarrowestLaws.{add_is_narrowest, sub_is_narrowest, mul_is_narrowest, square_is_narrowest, root_is_narrowest, image_is_narrowest, coimage_is_narrowest}
 use Rattle.prop_arith.proofs.kit.Kit.narrowest_where_in_range.Goals as goal
 
 pub returns-clause-add : goal.returns-clause-add
@@ -15,3 +15,9 @@ returns-clause-square c = square_is_narrowest
 
 pub returns-clause-root : goal.returns-clause-root
 returns-clause-root c = root_is_narrowest
+
+pub returns-clause-image : goal.returns-clause-image
+returns-clause-image c = image_is_narrowest
+
+pub returns-clause-coimage : goal.returns-clause-coimage
+returns-clause-coimage c = coimage_is_narrowest

@@ -5,6 +5,7 @@ use Rattle.prop_procedures.specs.Kept.{stored_of}
 use Rattle.prop_cells.specs.Data.{Data, IsKept}
 use Rattle.prop_compound.specs.Said.{by_of}
 use Rattle.prop_workbench.specs.Effects.{instance_made}
+use Rattle.prop_workbench.specs.Refusing.{given_by}
 use Rattle.prop_scheduler.specs.Turns.{IsUnderWay}
 use Rattle.prop_workbench.proofs.AttachLemmas.{IsPlaced, fits_at, made_at, err_at, state_attached}
 use Rattle.prop_workbench.proofs.SoundLemmas.{under_way_attach}
@@ -14,26 +15,28 @@ pub returns-in-Ok-attach-clause-fits : goal.returns-in-Ok-attach-clause-fits
 returns-in-Ok-attach-clause-fits g c =
     let s = c.args.self.now in
     let library = stored_of g.R.Rule.value_of s.network.library in
-    let placed : IsPlaced s.names s.network.cells c.given.new.self.network.cells (by_of c.args.by) c.in_ok-param.param c.in-Some.ins.now c.in-Some.out.now c.args.cells.now = record {
+    let placed : IsPlaced s.words s.network.cells c.given.new.self.network.cells (by_of c.args.by) c.in_ok-param.param c.in-Some.ins.now c.in-Some.out.now c.args.cells.now = record {
       cells_are = c.in-Some.ensures.cases.0;
       params_alone = c.given.ensures.cells;
       below = c.requires.cells;
+      sides = c.in_ok-param.ensures.sides;
       param = c.in_ok-param.ensures.param;
     } in
-    fits_at library s.names s.premises s.network.cells c.given.new.self.network.cells s.limit (by_of c.args.by) c.in_ok-param.param c.in-Some.ins.now c.in-Some.out.now c.args.procedure c.args.cells.now None placed
+    fits_at library s.names s.words s.premises s.network.cells c.given.new.self.network.cells s.limit (by_of c.args.by) c.in_ok-param.param c.in-Some.ins.now c.in-Some.out.now c.args.procedure c.args.cells.now None placed
     (rw c.given.ensures.same at c.in-Ok-attach.ensures.fits)
 
 pub returns-in-Err-attach-clause-err : goal.returns-in-Err-attach-clause-err
 returns-in-Err-attach-clause-err g c =
     let s = c.args.self.now in
     let library = stored_of g.R.Rule.value_of s.network.library in
-    let placed : IsPlaced s.names s.network.cells c.given.new.self.network.cells (by_of c.args.by) c.in_ok-param.param c.in-Some.ins.now c.in-Some.out.now c.args.cells.now = record {
+    let placed : IsPlaced s.words s.network.cells c.given.new.self.network.cells (by_of c.args.by) c.in_ok-param.param c.in-Some.ins.now c.in-Some.out.now c.args.cells.now = record {
       cells_are = c.in-Some.ensures.cases.0;
       params_alone = c.given.ensures.cells;
       below = c.requires.cells;
+      sides = c.in_ok-param.ensures.sides;
       param = c.in_ok-param.ensures.param;
     } in
-    err_at library s.names s.premises s.network.cells c.given.new.self.network.cells s.limit (by_of c.args.by) c.in_ok-param.param c.in-Some.ins.now c.in-Some.out.now c.args.procedure c.args.cells.now c.in-Err-attach.refusal placed
+    err_at library s.names s.words s.premises s.network.cells c.given.new.self.network.cells s.limit (by_of c.args.by) c.in_ok-param.param c.in-Some.ins.now c.in-Some.out.now c.args.procedure c.args.cells.now c.in-Err-attach.refusal placed
     (rw c.given.ensures.same at c.in-Err-attach.ensures.err)
 
 pub returns-in-Ok-attach-clause-ok : goal.returns-in-Ok-attach-clause-ok
@@ -41,14 +44,15 @@ returns-in-Ok-attach-clause-ok g c =
     let s = c.args.self.now in
     let mid = c.given.new.self in
     let library = stored_of g.R.Rule.value_of s.network.library in
-    let placed : IsPlaced s.names s.network.cells mid.network.cells (by_of c.args.by) c.in_ok-param.param c.in-Some.ins.now c.in-Some.out.now c.args.cells.now = record {
+    let placed : IsPlaced s.words s.network.cells mid.network.cells (by_of c.args.by) c.in_ok-param.param c.in-Some.ins.now c.in-Some.out.now c.args.cells.now = record {
       cells_are = c.in-Some.ensures.cases.0;
       params_alone = c.given.ensures.cells;
       below = c.requires.cells;
+      sides = c.in_ok-param.ensures.sides;
       param = c.in_ok-param.ensures.param;
     } in
-    let made = made_at library s.names s.premises s.network.cells mid.network.cells s.limit (by_of c.args.by) c.in_ok-param.param c.in-Some.ins.now c.in-Some.out.now c.args.procedure c.args.cells.now placed c.requires.procedure (rw c.given.ensures.same at c.in-Ok-attach.ensures.fits) in
-    state_attached s.names mid.names s.premises mid.premises s.network.cells mid.network.cells c.attach.new.self.cells s.limit mid.limit _ (instance_made library c.args.procedure (by_of c.args.by) c.args.cells.now) c.given.ensures.names c.given.ensures.premises c.given.ensures.limit c.given.ensures.cells
+    let made = made_at library s.names s.words s.premises s.network.cells mid.network.cells s.limit (by_of c.args.by) c.in_ok-param.param c.in-Some.ins.now c.in-Some.out.now c.args.procedure c.args.cells.now placed c.requires.procedure (rw c.given.ensures.same at c.in-Ok-attach.ensures.fits) in
+    state_attached s.names mid.names s.words mid.words s.premises mid.premises s.network.cells mid.network.cells c.attach.new.self.cells s.limit mid.limit _ (instance_made library c.args.procedure (given_by s.words (by_of c.args.by)) c.args.cells.now) c.given.ensures.names c.given.ensures.words c.given.ensures.premises c.given.ensures.limit c.given.ensures.cells
     (rw c.given.ensures.same at c.in-Ok-attach.ensures.ok) made
 
 pub returns-in-Ok-attach-clause-sound : goal.returns-in-Ok-attach-clause-sound
@@ -56,14 +60,15 @@ returns-in-Ok-attach-clause-sound g c =
     let s = c.args.self.now in
     let mid = c.given.new.self in
     let library = stored_of g.R.Rule.value_of s.network.library in
-    let placed : IsPlaced s.names s.network.cells mid.network.cells (by_of c.args.by) c.in_ok-param.param c.in-Some.ins.now c.in-Some.out.now c.args.cells.now = record {
+    let placed : IsPlaced s.words s.network.cells mid.network.cells (by_of c.args.by) c.in_ok-param.param c.in-Some.ins.now c.in-Some.out.now c.args.cells.now = record {
       cells_are = c.in-Some.ensures.cases.0;
       params_alone = c.given.ensures.cells;
       below = c.requires.cells;
+      sides = c.in_ok-param.ensures.sides;
       param = c.in_ok-param.ensures.param;
     } in
-    let made = made_at library s.names s.premises s.network.cells mid.network.cells s.limit (by_of c.args.by) c.in_ok-param.param c.in-Some.ins.now c.in-Some.out.now c.args.procedure c.args.cells.now placed c.requires.procedure (rw c.given.ensures.same at c.in-Ok-attach.ensures.fits) in
-    let x = instance_made library c.args.procedure (by_of c.args.by) c.args.cells.now in
+    let made = made_at library s.names s.words s.premises s.network.cells mid.network.cells s.limit (by_of c.args.by) c.in_ok-param.param c.in-Some.ins.now c.in-Some.out.now c.args.procedure c.args.cells.now placed c.requires.procedure (rw c.given.ensures.same at c.in-Ok-attach.ensures.fits) in
+    let x = instance_made library c.args.procedure (given_by s.words (by_of c.args.by)) c.args.cells.now in
     let old : Data = mid.network.cells in
     let new : Data = c.attach.new.self.cells in
     let ok = rw c.given.ensures.same at c.in-Ok-attach.ensures.ok in
@@ -77,6 +82,7 @@ returns-in-Ok-attach-clause-sound g c =
       under_way = rw (c.attach.ensures.same, c.given.ensures.same) (under_way_attach library (believed_in mid.premises) old new mid.agenda.line c.alert.new.self.line x c.instances-next.result way kept e (c.instances-next.ensures.count ∙ sym instances) c.alert.ensures.alerted);
       worldview = c.given.ensures.sound.worldview;
       known = rw e c.given.ensures.sound.known;
+      sized = rw e c.given.ensures.sound.sized;
       named = c.given.ensures.sound.named ∙ sym (ap (λ (d : Data). length d.kinds) e);
       roomy = omega (arith, count, instances, room, c.in-Some-checked_add.ensures.1, c.instances-next.ensures.count);
     }
@@ -85,4 +91,4 @@ pub returns-in-Err-attach-clause-sound : goal.returns-in-Err-attach-clause-sound
 returns-in-Err-attach-clause-sound g c =
     let sound = c.given.ensures.sound in
     let cells = c.in-Err-attach.ensures.err_same in
-    record { under_way = rw (c.attach.ensures.same, cells) sound.under_way; worldview = sound.worldview; known = rw cells sound.known; named = rw cells sound.named; roomy = rw cells sound.roomy }
+    record { under_way = rw (c.attach.ensures.same, cells) sound.under_way; worldview = sound.worldview; known = rw cells sound.known; sized = rw cells sound.sized; named = rw cells sound.named; roomy = rw cells sound.roomy }

@@ -19,6 +19,14 @@ returns-clause-sound g c =
       under_way = under_way_at (stored_of g.R.Rule.value_of c.state_in.new.network.library) (set_of s.worldview) (believed_in s.premises) c.state_in.new.network.cells c.state_in.new.agenda.line c.requires.sound.worldview c.state_in.ensures.under_way;
       worldview = c.requires.sound.worldview;
       known = rw (ap (λ d. d.statements) rest) (known_more n n s.network.cells.statements _ (omega arith) c.requires.sound.known c.requires.known);
+      sized = rw (ap (λ d. d.kinds) rest) c.requires.sound.sized;
       named = c.requires.sound.named ∙ sym (ap (λ d. length d.kinds) rest);
       roomy = rw (c.state_in.ensures.room, ap (λ d. d.instances) rest) c.requires.sound.roomy;
     }
+
+pub returns-in_err-state_in-clause-sound : goal.returns-in_err-state_in-clause-sound
+returns-in_err-state_in-clause-sound g c =
+    let sound = c.requires.sound in
+    let cells = c.in_err-state_in.ensures.err_same in
+    let line = c.in_err-state_in.ensures.err_line in
+    record { under_way = rw (c.state_in.ensures.same, cells, line) sound.under_way; worldview = sound.worldview; known = rw cells sound.known; sized = rw cells sound.sized; named = rw cells sound.named; roomy = rw (cells, line) sound.roomy }

@@ -26,6 +26,7 @@ returns-in-Ok-state_in-clause-sound g c =
       worldview = c.in-Ok.ensures;
       known = rw (ap (λ d. d.statements) rest) (known_more (length s.premises) (length c.intern.new.self) s.network.cells.statements _ (omega (arith, more)) c.requires.sound.known
           (λ q e. let same : c.in_ok-premise.premise ≡ q = cc in omega (arith, same, more, number)));
+      sized = rw (ap (λ d. d.kinds) rest) c.requires.sound.sized;
       named = c.requires.sound.named ∙ sym (ap (λ d. length d.kinds) rest);
       roomy = rw (c.state_in.ensures.room, ap (λ d. d.instances) rest) c.requires.sound.roomy;
     }
@@ -42,6 +43,7 @@ returns-in-Err-state_in-clause-sound g c =
       under_way = rw (back, c.state_in.ensures.same, cells, line) sound.under_way;
       worldview = rw back sound.worldview;
       known = rw (back, cells) sound.known;
+      sized = rw cells sound.sized;
       named = rw cells sound.named;
       roomy = rw (cells, line) sound.roomy;
     }

@@ -1,0 +1,26 @@
+//! What the rules that go along a relation compute, a plain function for each.
+ghost use Rattle.std.specs.Prelude.{◌≡◌};
+ghost use Rattle.prop_arith.specs.Linking.{imager_of, coimager_of};
+
+use prop_lattice::Info;
+use prop_sets::Rows;
+
+/// What is known of `y` where the relation has the pair of `x` and `y`.
+pub fn imager(rows: &Rows, x: Info) -> Info
+    ensures { result ≡ imager_of rows.now x }
+{
+    match x {
+        Info::Set(x) => rows.image(x),
+        _ => Info::Nothing,
+    }
+}
+
+/// What is known of `x` where the relation has the pair of `x` and `y`.
+pub fn coimager(rows: &Rows, y: Info) -> Info
+    ensures { result ≡ coimager_of rows.now y }
+{
+    match y {
+        Info::Set(y) => rows.coimage(y),
+        _ => Info::Nothing,
+    }
+}

@@ -1,0 +1,41 @@
+-- What a relation makes of some elements.
+use Rattle.std.specs.Prelude.{◌↔◌, ℕ, Bool, ◌==◌, ◌&&◌, slice_index}
+use Rattle.std.specs.Int.{bit_at}
+use Rattle.prop_lattice.specs.Ends.{elements_from}
+use Rattle.prop_lattice.specs.Order.{HasElement}
+use Rattle.prop_lattice.specs.Points.{Element, Holds}
+use Rattle.prop_lattice.specs.declared.elements.Elements as sets
+use Rattle.prop_lattice.specs.declared.info.Info.{Info}
+use Rattle.prop_sets.specs.Chosen.{bits_where, any_below}
+use Rattle.prop_sets.specs.Relation.{Relation, HasPair}
+
+-- the bit is set
+abbrev pub is_set : ℕ → ℕ → Bool
+is_set bits i = bit_at bits i == 1
+
+-- element j of the second domain is paired with an element of x
+abbrev pub IsInImage : Relation → sets.Elements → ℕ → Type 0
+IsInImage m x j = (i : ℕ) × HasElement x i × HasPair m i j
+
+-- element i of the first domain is paired with an element of y
+abbrev pub IsInCoimage : Relation → sets.Elements → ℕ → Type 0
+IsInCoimage m y i = (j : ℕ) × HasElement y j × HasPair m i j
+
+-- a word with the bits of the numbers below n that are paired with a number below m whose bit is set
+abbrev pub partners_of : ℕ → ℕ → (ℕ → ℕ → Bool) → ℕ → ℕ
+partners_of n m paired bits =
+    bits_where n (λ j. any_below m (λ i. is_set bits i && paired i j))
+
+-- all elements of the second domain that are paired with an element of x, a contradiction where there are none
+abbrev pub image_of : Relation → sets.Elements → Info
+image_of m x =
+    elements_from (partners_of m.to.size m.from.size (λ i j. is_set (slice_index m.rows i) j) x.bits)
+
+-- all elements of the first domain that are paired with an element of y, a contradiction where there are none
+abbrev pub coimage_of : Relation → sets.Elements → Info
+coimage_of m y =
+    elements_from (partners_of m.from.size m.to.size (λ j i. is_set (slice_index m.rows i) j) y.bits)
+
+-- the information holds just the elements of which P is true
+abbrev pub HoldsJust : (ℕ → Type 0) → Info → Type 0
+HoldsJust P r = (j : ℕ) → Holds r (Element j) ↔ P j

@@ -1,0 +1,15 @@
+pub mod Chosen
+pub mod ChosenLaws
+pub mod Images
+pub mod ImageLaws
+pub mod Laws
+pub mod Names
+pub mod Narrowest
+pub mod NarrowestLaws
+pub mod Others
+pub mod OtherLaws
+pub mod Relation
+pub mod Ties
+pub mod Truth
+pub mod TruthLaws
+pub mod Words

@@ -1,0 +1,7 @@
+pub mod Names
+pub mod Sides
+pub mod Pairs
+pub mod Vocabulary
+pub mod Refusing
+pub mod Texts
+pub mod Laws

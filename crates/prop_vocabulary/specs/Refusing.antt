@@ -1,0 +1,73 @@
+-- For what a declaration is refused: each condition by itself, and which of them comes first.
+use Rattle.std.specs.Prelude.{ℕ, List, [], ◌∷◌, Bool, cond, ◌||◌, ◌&&◌, nat_le, nat_lt, Option, Some, None, length, is_some, is_none, unwrap_or}
+use Rattle.prop_lattice.specs.Refusals.{most}
+use Rattle.prop_lattice.specs.declared.refusal.Limit.TheVariants.{Domains, Elements, Relations, Symbols}
+use Rattle.prop_lattice.specs.declared.refusal.Refusal.{Refusal}
+use Rattle.prop_lattice.specs.declared.refusal.Refusal.TheVariants.{NameTaken, NoSuchDomain, NotInTheDomain, LimitReached}
+use Rattle.prop_sets.specs.Names.{has_repeat}
+use Rattle.prop_vocabulary.specs.Names.{number_in}
+use Rattle.prop_vocabulary.specs.Pairs.{is_outside}
+use Rattle.prop_vocabulary.specs.Vocabulary.{Vocabulary, domain_number, elements_of}
+
+-- this refusal, where the condition holds
+abbrev pub when : Refusal → Bool → Option Refusal
+when refusal holds = cond holds (Some refusal) None
+
+-- the first refusal that there is
+abbrev pub first_of : List (Option Refusal) → Option Refusal
+first_of [] = None
+first_of (None ∷ rest) = first_of rest
+first_of (Some refusal ∷ rest) = Some refusal
+
+-- ---- a domain
+
+-- a declared domain has the name, or an element stands twice
+abbrev pub is_domain_taken : Vocabulary → List ℕ → List (List ℕ) → Bool
+is_domain_taken v name elements = is_some (number_in v.domain_names name) || has_repeat elements
+
+-- there are as many declared domains as there can be, or too many elements
+abbrev pub domain_limit : Vocabulary → List (List ℕ) → Option Refusal
+domain_limit v elements =
+    first_of (
+    when (LimitReached Domains) (nat_le (most Domains) (length v.domain_names))
+    ∷ when (LimitReached Elements) (nat_lt (most Elements) (length elements))
+    ∷ []
+    )
+
+-- why the domain may not be declared
+abbrev pub domain_refusal : Vocabulary → List ℕ → List (List ℕ) → Option Refusal
+domain_refusal v name elements =
+    first_of (when NameTaken (is_domain_taken v name elements) ∷ domain_limit v elements ∷ [])
+
+-- ---- a relation
+
+-- one of the two domains is not declared
+abbrev pub is_domain_missing : Vocabulary → List ℕ → List ℕ → Bool
+is_domain_missing v from to = is_none (domain_number v from) || is_none (domain_number v to)
+
+-- a word of a pair is no element of its domain
+abbrev pub is_word_outside : Vocabulary → List ℕ → List ℕ → List (List ℕ × List ℕ) → Bool
+is_word_outside v from to pairs =
+    is_outside (elements_of v (unwrap_or (domain_number v from) 0)) (elements_of v (unwrap_or (domain_number v to) 0)) pairs
+
+-- why these are no pairs of the two domains
+abbrev pub pairs_refusal : Vocabulary → List ℕ → List ℕ → List (List ℕ × List ℕ) → Option Refusal
+pairs_refusal v from to pairs =
+    first_of (when NoSuchDomain (is_domain_missing v from to) ∷ when NotInTheDomain (is_word_outside v from to pairs) ∷ [])
+
+-- why the relation may not be declared
+abbrev pub relation_refusal : Vocabulary → List ℕ → List ℕ → List ℕ → List (List ℕ × List ℕ) → Option Refusal
+relation_refusal v name from to pairs =
+    first_of (
+    when NameTaken (is_some (number_in v.relation_names name))
+    ∷ pairs_refusal v from to pairs
+    ∷ when (LimitReached Relations) (nat_le (most Relations) (length v.relation_names))
+    ∷ []
+    )
+
+-- ---- a symbol
+
+-- why the symbol may not be added: it is new, and there are as many as there can be
+abbrev pub symbol_refusal : Vocabulary → List ℕ → Option Refusal
+symbol_refusal v name =
+    when (LimitReached Symbols) (is_none (number_in v.symbols name) && nat_le (most Symbols) (length v.symbols))

@@ -1,0 +1,113 @@
+-- The vocabulary of a session: its domains, relations and symbols by name.
+use Rattle.std.specs.Prelude.{◌≡◌, ℕ, ◌+◌, ◌<◌, ◌≤◌, List, [], ◌∷◌, ◌++◌, All, Option, Some, codes, is_some, if◌then◌else◌, length, slice_get, take, unwrap_or}
+use Rattle.std.specs.Option.{option_map, option_and_then}
+use Rattle.prop_lattice.specs.Refusals.{most}
+use Rattle.prop_lattice.specs.declared.refusal.Limit.TheVariants.{Domains, Relations, Symbols}
+use Rattle.prop_sets.specs.Names.{AreElements}
+use Rattle.prop_sets.specs.Relation.{Relation, no_pairs}
+use Rattle.prop_sets.specs.declared.side.Side as sides
+use Rattle.prop_vocabulary.specs.Names.{number_in}
+use Rattle.prop_vocabulary.specs.Pairs.{with_pairs}
+use Rattle.prop_vocabulary.specs.Sides.{side_from}
+
+-- the names of the declared domains, the elements of each domain by its number, that of truth first, the names of the
+-- relations and the relations, and the names of the symbols
+pub record Vocabulary : Type 0 where
+  pub domain_names : List (List ℕ)
+  pub domains : List (List (List ℕ))
+  pub relation_names : List (List ℕ)
+  pub relations : List Relation
+  pub symbols : List (List ℕ)
+
+-- the elements of truth
+abbrev pub truth_elements : List (List ℕ)
+truth_elements = codes "yes" ∷ codes "no" ∷ []
+
+-- nothing is declared
+abbrev pub start_vocabulary : Vocabulary
+start_vocabulary = record { domain_names = []; domains = truth_elements ∷ []; relation_names = []; relations = []; symbols = [] }
+
+-- ---- domains
+
+-- the number of the declared domain with the name; truth has the number 0 and no name that can be declared
+abbrev pub domain_number : Vocabulary → List ℕ → Option ℕ
+domain_number v name = option_map (λ n. n + 1) (number_in v.domain_names name)
+
+-- the elements of the domain with the number, none where there is no such domain
+abbrev pub elements_at : List (List (List ℕ)) → ℕ → List (List ℕ)
+elements_at domains d = unwrap_or (slice_get domains d) []
+
+abbrev pub elements_of : Vocabulary → ℕ → List (List ℕ)
+elements_of v d = elements_at v.domains d
+
+-- one domain more
+abbrev pub with_domain : Vocabulary → List ℕ → List (List ℕ) → Vocabulary
+with_domain v name elements =
+    record v { domain_names = v.domain_names ++ name ∷ []; domains = v.domains ++ elements ∷ [] }
+
+-- ---- relations
+
+-- the relation with the name
+abbrev pub relation_named : Vocabulary → List ℕ → Option Relation
+relation_named v name = option_and_then (λ n. slice_get v.relations n) (number_in v.relation_names name)
+
+-- the domain with the number as a side of a relation
+abbrev pub side_at : Vocabulary → ℕ → sides.Side
+side_at v d = side_from d (length (elements_of v d))
+
+-- the relation between two domains, by their numbers, with just these pairs of elements
+abbrev pub relation_between : Vocabulary → ℕ → ℕ → List (List ℕ × List ℕ) → Relation
+relation_between v first second pairs =
+    with_pairs (elements_of v first) (elements_of v second) (no_pairs (side_at v first) (side_at v second)) pairs
+
+-- the same, of declared domains by their names
+abbrev pub relation_of : Vocabulary → List ℕ → List ℕ → List (List ℕ × List ℕ) → Relation
+relation_of v from to pairs =
+    relation_between v (unwrap_or (domain_number v from) 0) (unwrap_or (domain_number v to) 0) pairs
+
+-- one relation more
+abbrev pub with_new_relation : Vocabulary → List ℕ → Relation → Vocabulary
+with_new_relation v name m =
+    record v { relation_names = v.relation_names ++ name ∷ []; relations = v.relations ++ m ∷ [] }
+
+-- one relation more, with just these pairs
+abbrev pub with_relation : Vocabulary → List ℕ → List ℕ → List ℕ → List (List ℕ × List ℕ) → Vocabulary
+with_relation v name from to pairs = with_new_relation v name (relation_of v from to pairs)
+
+-- ---- symbols
+
+-- the number of the symbol, the next one where it is new
+abbrev pub symbol_number : Vocabulary → List ℕ → ℕ
+symbol_number v name = unwrap_or (number_in v.symbols name) (length v.symbols)
+
+-- the symbol is there
+abbrev pub with_symbol : Vocabulary → List ℕ → Vocabulary
+with_symbol v name =
+    if is_some (number_in v.symbols name) then v else record v { symbols = v.symbols ++ name ∷ [] }
+
+-- so many symbols stay
+abbrev pub with_first_symbols : Vocabulary → ℕ → Vocabulary
+with_first_symbols v count = record v { symbols = take count v.symbols }
+
+-- ---- what is true of every vocabulary
+
+-- the side is about one of these domains
+pub record IsSideOf (domains : List (List (List ℕ))) (s : sides.Side) : Type 0 where
+  pub there : s.domain < length domains
+  pub size_is : s.size ≡ length (elements_at domains s.domain)
+
+-- the relation is between two of these domains
+pub record HasSides (domains : List (List (List ℕ))) (m : Relation) : Type 0 where
+  pub first : IsSideOf domains m.from
+  pub second : IsSideOf domains m.to
+
+-- each name is that of a domain or a relation, domain 0 is truth, and there are not too many
+pub record IsWhole (v : Vocabulary) : Type 0 where
+  pub domains_named : length v.domains ≡ length v.domain_names + 1
+  pub relations_named : length v.relations ≡ length v.relation_names
+  pub truth : slice_get v.domains 0 ≡ Some truth_elements
+  pub each_domain : All AreElements v.domains
+  pub each_relation : All (HasSides v.domains) v.relations
+  pub few_domains : length v.domain_names ≤ most Domains
+  pub few_relations : length v.relation_names ≤ most Relations
+  pub few_symbols : length v.symbols ≤ most Symbols

@@ -1,0 +1,84 @@
+//! The domains of a vocabulary.
+ghost use Rattle.std.specs.Prelude.{◌≡◌, ◌<◌, ◌⊎◌, length, None, Some, IfSome, IfErr, OnOk, OnErr, MatchResult};
+ghost use Rattle.prop_sets.specs.Names.{texts_of, AreElements};
+ghost use Rattle.prop_vocabulary.specs.Vocabulary.{domain_number, elements_of, with_domain, IsWhole};
+ghost use Rattle.prop_vocabulary.specs.Refusing.{domain_refusal};
+
+use crate::growth::push_named;
+use crate::vocabulary::Vocabulary;
+use prop_lattice::{Limit, Refusal};
+use prop_sets::Domain;
+use std::alloc::AllocError;
+
+impl Vocabulary {
+    /// How many domains there are, the one of truth among them.
+    pub fn domain_count(&self) -> usize
+        ensures count { result ≡ length self.now.domains }
+        ensures whole { IsWhole self.now }
+    {
+        self.domains.len()
+    }
+
+    /// The number of the declared domain with this name.
+    pub fn domain_number(&self, name: &str) -> Option<u16>
+        ensures number { result ≡ domain_number self.now name.now }
+        ensures there { IfSome result (λ d. d < length self.now.domains) }
+    {
+        let number = self.domain_names.find(name)?;
+        Some(number as u16 + 1)
+    }
+
+    /// The domain with this number.
+    pub fn domain(&self, number: u16) -> &Domain
+        requires { number < length self.now.domains }
+        ensures elements { result.now ≡ elements_of self.now number }
+        ensures apart { AreElements result.now }
+    {
+        &self.domains[usize::from(number)]
+    }
+
+    /// Declares a domain with these elements, in order; it has the next number.
+    ///
+    /// `NameTaken` where a declared domain has the name or an element stands twice; then `LimitReached` where there
+    /// are 1,024 declared domains or more than 64 elements. Want of memory is `Memory`. After an error nothing has
+    /// changed.
+    pub fn declare_domain(&mut self, name: &str, elements: &[&str]) -> Result<(), Refusal>
+        requires { 0 < length elements.now }
+        ensures ok { OnOk result (self.new ≡ with_domain self.old name.now (texts_of elements.now)) }
+        ensures allowed { OnOk result (domain_refusal self.old name.now (texts_of elements.now) ≡ None) }
+        ensures err { OnErr result (self.new ≡ self.old) }
+        ensures why { IfErr result (λ e. (domain_refusal self.old name.now (texts_of elements.now) ≡ Some e) ⊎ (e ≡ Refusal.Memory)) }
+    {
+        let domain = self.domain_to_declare(name, elements)?;
+        match push_named(
+            self.alloc,
+            &mut self.domain_names,
+            &mut self.domains,
+            name,
+            domain,
+        ) {
+            Ok(()) => Ok(()),
+            Err(AllocError) => Err(Refusal::Memory),
+        }
+    }
+
+    /// The domain with these elements, where it may be declared with this name.
+    fn domain_to_declare(&self, name: &str, elements: &[&str]) -> Result<Domain, Refusal>
+        requires { 0 < length elements.now }
+        ensures ok { MatchResult result (λ d. (d ≡ texts_of elements.now) × AreElements (texts_of elements.now)) (λ e. (domain_refusal self.now name.now (texts_of elements.now) ≡ Some e) ⊎ (e ≡ Refusal.Memory)) }
+        ensures allowed { OnOk result (domain_refusal self.now name.now (texts_of elements.now) ≡ None) }
+    {
+        if self.domain_names.find(name).is_some() {
+            return Err(Refusal::NameTaken);
+        }
+        let domain = Domain::new(self.alloc, elements);
+        if self.domain_names.len() < Limit::Domains.most() {
+            return domain;
+        }
+        match domain {
+            Err(Refusal::NameTaken) => Err(Refusal::NameTaken),
+            Err(Refusal::Memory) => Err(Refusal::Memory),
+            _ => Err(Refusal::LimitReached(Limit::Domains)),
+        }
+    }
+}

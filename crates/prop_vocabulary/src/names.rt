@@ -1,0 +1,119 @@
+//! The names of one space, numbered in order of first appearance.
+ghost use Rattle.std.specs.Prelude.{◌≡◌, ◌<◌, ◌++◌, ◌∷◌, ◌-◌, [], ℕ, List, length, map, take, string_bytes, unwrap_or, is_none, slice_get, Some, None, OnOk, OnErr, IfOk, IfSome};
+ghost use Rattle.std.specs.List.{list_any};
+ghost use Rattle.prop_vocabulary.specs.Names.{number_in, numbers_in, is_missing};
+
+use indexmap::IndexSet;
+use std::alloc::{AllocError, Global};
+use std::marker::Model;
+
+/// The names of one space, each with its number: the first has 0.
+#[derive(Drop)]
+pub struct Names {
+    names: IndexSet<String>,
+}
+
+impl Model for Names {
+    ghost Value = { List (List ℕ) };
+
+    ghost view = { λ n. map string_bytes n.names.keys };
+}
+
+impl Names {
+    /// No names. Takes no memory.
+    pub fn new(alloc: Global) -> Names
+        ensures { result ≡ [] }
+    {
+        Names {
+            names: IndexSet::new(alloc),
+        }
+    }
+
+    /// How many names there are.
+    pub fn len(&self) -> usize
+        ensures { result ≡ length self.now }
+    {
+        self.names.len()
+    }
+
+    /// The name with this number.
+    pub fn name(&self, number: usize) -> &str
+        requires { number < length self.now }
+        ensures { slice_get self.now number ≡ Some result.now }
+    {
+        prove!(number < self.len());
+        match self.names.get_index(number) {
+            Some(name) => name.as_str(),
+            None => unreachable!(),
+        }
+    }
+
+    /// The number of the name, looked up by its hash.
+    pub fn find(&self, name: &str) -> Option<usize>
+        ensures number { result ≡ number_in self.now name.now }
+        ensures within { IfSome result (λ n. n < length self.now) }
+    {
+        self.names.get_index_of(name)
+    }
+
+    /// Whether one of the words is no name.
+    #[tactic(auto, using(crate::proofs::Lookups::missing_among))]
+    pub fn is_missing(&self, words: &[&str]) -> bool
+        ensures { result ≡ is_missing self.now (map (λ x. x.now) words.now) }
+    {
+        self.lacks(words)
+    }
+
+    fn lacks(&self, words: &[&str]) -> bool
+        ensures { result ≡ list_any (λ x. is_none (number_in self.now x.now)) words.now }
+    {
+        words.iter().any(
+            |name: &&str| -> bool
+                ensures { result ≡ is_none (number_in self.entry.now name.now.now) }
+            { self.find(name).is_none() },
+        )
+    }
+
+    /// The number of the name, or 0 where there is none.
+    pub fn number(&self, name: &str) -> usize
+        ensures { result ≡ unwrap_or (number_in self.now name.now) 0 }
+    {
+        self.find(name).unwrap_or(0)
+    }
+
+    /// The numbers of the names.
+    pub fn numbers(&self, alloc: Global, names: &[&str]) -> Result<Vec<usize>, AllocError>
+        ensures { IfOk result (λ v. v.items ≡ numbers_in self.now (map (λ x. x.now) names.now)) }
+    {
+        let mut numbers = Vec::new(alloc);
+        for name in names {
+            numbers.push(self.number(name))?;
+        }
+        Ok(numbers)
+    }
+
+    /// A new name, which has the next number. After an error the names are as they were.
+    pub fn push(&mut self, alloc: Global, name: &str) -> Result<(), AllocError>
+        requires { number_in self.old name.now ≡ None }
+        ensures ok { OnOk result (self.new ≡ self.old ++ name.now ∷ []) }
+        ensures err { OnErr result (self.new ≡ self.old) }
+    {
+        let owned = String::from_str(alloc, name)?;
+        self.names.insert(owned)?;
+        Ok(())
+    }
+
+    /// Leaves out the last name. Takes no memory.
+    pub fn pop(&mut self)
+        ensures { self.new ≡ take (length self.old - 1) self.old }
+    {
+        let _ = self.names.pop();
+    }
+
+    /// Leaves out all names but the first `count`. Takes no memory.
+    pub fn truncate(&mut self, count: usize)
+        ensures { self.new ≡ take count self.old }
+    {
+        self.names.truncate(count);
+    }
+}

@@ -1,0 +1,78 @@
+//! The symbols of a vocabulary.
+ghost use Rattle.std.specs.Prelude.{◌≡◌, ◌<◌, ◌⊎◌, length, take, slice_get, None, Some, IfSome, IfOk, IfErr, OnOk, OnErr};
+ghost use Rattle.prop_vocabulary.specs.Names.{number_in};
+ghost use Rattle.prop_vocabulary.specs.Vocabulary.{symbol_number, with_symbol, with_first_symbols};
+ghost use Rattle.prop_vocabulary.specs.Refusing.{symbol_refusal};
+
+use crate::vocabulary::Vocabulary;
+use prop_lattice::{Limit, Refusal};
+use std::alloc::AllocError;
+
+impl Vocabulary {
+    /// How many symbols there are.
+    pub fn symbol_count(&self) -> usize
+        ensures { result ≡ length self.now.symbols }
+    {
+        self.symbols.len()
+    }
+
+    /// The number of the symbol with this name.
+    pub fn symbol(&self, name: &str) -> Option<u32>
+        ensures number { result ≡ number_in self.now.symbols name.now }
+        ensures there { IfSome result (λ n. n < length self.now.symbols) }
+    {
+        let number = self.symbols.find(name)?;
+        Some(number as u32)
+    }
+
+    /// The name of the symbol with this number.
+    pub fn symbol_name(&self, number: u32) -> &str
+        requires { number < length self.now.symbols }
+        ensures { slice_get self.now.symbols number ≡ Some result.now }
+    {
+        self.symbols.name(number as usize)
+    }
+
+    /// The number of the symbol with this name; a new one gets the next number.
+    ///
+    /// There can be 100,000 symbols: one more is `LimitReached`. Want of memory is `Memory`. After an error nothing
+    /// has changed.
+    pub fn add_symbol(&mut self, name: &str) -> Result<u32, Refusal>
+        ensures number { IfOk result (λ n. n ≡ symbol_number self.old name.now) }
+        ensures ok { OnOk result (self.new ≡ with_symbol self.old name.now) }
+        ensures allowed { OnOk result (symbol_refusal self.old name.now ≡ None) }
+        ensures err { OnErr result (self.new ≡ self.old) }
+        ensures why { IfErr result (λ e. (symbol_refusal self.old name.now ≡ Some e) ⊎ (e ≡ Refusal.Memory)) }
+    {
+        match self.symbol(name) {
+            Some(number) => Ok(number),
+            None => self.new_symbol(name),
+        }
+    }
+
+    /// A symbol that is not there yet.
+    fn new_symbol(&mut self, name: &str) -> Result<u32, Refusal>
+        requires { number_in self.old.symbols name.now ≡ None }
+        ensures number { IfOk result (λ n. n ≡ symbol_number self.old name.now) }
+        ensures ok { OnOk result (self.new ≡ with_symbol self.old name.now) }
+        ensures allowed { OnOk result (symbol_refusal self.old name.now ≡ None) }
+        ensures err { OnErr result (self.new ≡ self.old) }
+        ensures why { IfErr result (λ e. (symbol_refusal self.old name.now ≡ Some e) ⊎ (e ≡ Refusal.Memory)) }
+    {
+        let number = self.symbols.len();
+        if number >= Limit::Symbols.most() {
+            return Err(Refusal::LimitReached(Limit::Symbols));
+        }
+        match self.symbols.push(self.alloc, name) {
+            Ok(()) => Ok(number as u32),
+            Err(AllocError) => Err(Refusal::Memory),
+        }
+    }
+
+    /// Takes all symbols back but the first `count`: those that a command made which is then refused. Takes no memory.
+    pub fn keep_symbols(&mut self, count: usize)
+        ensures { self.new ≡ with_first_symbols self.old count }
+    {
+        self.symbols.truncate(count);
+    }
+}

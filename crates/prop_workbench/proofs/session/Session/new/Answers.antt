@@ -1,0 +1,17 @@
+use Rattle.std.proofs.Common.{◌≡◌, ◌∙◌, ℕ, List, [], Some, None, slice_get, refl, sym, ap, length, arith, rules}
+use Rattle.std.proofs.lemmas.Option.{none-some}
+use Rattle.prop_workbench.proofs.session.Session.new.Goals as goal
+
+pub returns-clause-sound : goal.returns-clause-sound
+returns-clause-sound g c = record {
+  under_way = record {
+    kept = c.requires.kept;
+    line_below = rw c.new-2.ensures (λ k d l. absurd (omega (arith, l)));
+    met = rw c.requires.empty (record { met = λ j x at idle. absurd (none-some _ at) });
+  };
+  worldview = rw (c.empty.ensures, c.new-4.ensures) (λ p. refl);
+  known = rw c.requires.empty (λ k d l. absurd (omega (arith, l)));
+  sized = rw c.requires.empty (λ k d l. absurd (omega (arith, l)));
+  named = rw (c.requires.empty, c.new-3.ensures) refl;
+  roomy = rw c.requires.empty (omega arith);
+}
