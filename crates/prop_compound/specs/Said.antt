@@ -12,6 +12,10 @@ use Rattle.prop_compound.specs.declared.command.KindWord.{KindWord}
 use Rattle.prop_compound.specs.declared.command.KindWord.TheVariants.{Spans, Truths, Symbols, Named}
 use Rattle.prop_compound.specs.declared.command.By.{By}
 use Rattle.prop_compound.specs.declared.command.By.TheVariants as bys
+use Rattle.prop_compound.specs.declared.command.Passed.{Passed}
+use Rattle.prop_compound.specs.declared.command.Passed.TheVariants as passeds
+use Rattle.prop_compound.specs.declared.command.Step.{Step}
+use Rattle.prop_compound.specs.declared.command.Step.TheVariants as steps
 use Rattle.prop_compound.specs.declared.command.Command.{Command}
 use Rattle.prop_compound.specs.declared.command.Command.TheVariants.{Silent, Domain, Relation, Cell, Attach, Fix, Tell, Kick, Bring, Settle, Ask, Why, Worldview}
 use Rattle.prop_compound.specs.declared.values.Meant.{Meant}
@@ -37,6 +41,15 @@ abbrev pub by_of : By → commands.By
 by_of bys.Nothing = commands.By.Nothing
 by_of (bys.Number k) = commands.By.Number (Some k)
 by_of (bys.Relation name) = commands.By.Relation name.now
+
+abbrev pub passed_of : Passed → commands.Passed
+passed_of (passeds.Said by) = commands.Passed.Said (by_of by)
+passed_of passeds.Own = commands.Passed.Own
+
+abbrev pub step_of : Step → commands.Step
+step_of (steps.Local name kind) = commands.Step.Local name.now (kind_of kind)
+step_of (steps.Like name like) = commands.Step.Like name.now like.now
+step_of (steps.Use name cells passed) = commands.Step.Use name.now (words cells.items) (passed_of passed)
 
 abbrev pub meant_of : Meant → values.Meant
 meant_of (Known info) = values.Known info

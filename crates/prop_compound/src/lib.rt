@@ -9,7 +9,7 @@ mod reading;
 mod tokens;
 mod values;
 
-pub use command::{By, Command, KindWord, Value};
+pub use command::{By, Command, KindWord, Passed, Step, Value};
 pub use numbers::number_in;
 pub use reading::{read_line, reads_what_is_spelled};
 pub use values::{Meant, read_value};
