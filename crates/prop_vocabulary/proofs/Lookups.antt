@@ -34,7 +34,7 @@ found_below : (names : List (List ℕ)) (name : List ℕ) (o : Option ℕ) → n
 found_below names name None e h = cc
 found_below names name (Some n) e h = number_below names name n e
 
-or_false : (a b : Bool) → (a || b) ≡ false → (a ≡ false) × (b ≡ false)
+pub or_false : (a b : Bool) → (a || b) ≡ false → (a ≡ false) × (b ≡ false)
 or_false true b h = cc
 or_false false b h = (refl, h)
 

@@ -30,12 +30,12 @@ use Rattle.prop_vocabulary.specs.Vocabulary.{Vocabulary}
 use Rattle.prop_workbench.specs.Answers.{Done, Refused}
 use Rattle.prop_workbench.specs.Effects.{inputs_of, output_of, instance_made}
 use Rattle.prop_workbench.specs.Machine.{State}
-use Rattle.prop_vocabulary.specs.Names.{number_in, numbers_in, is_missing}
 use Rattle.prop_workbench.specs.Refusing.{refusal_of, placing_refusal, limit_refusal, given_by, is_unknown, procedure_named}
 use Rattle.prop_vocabulary.specs.Refusing.{first_of, when}
 use Rattle.prop_workbench.specs.Sessions.{state_from}
 use Rattle.prop_workbench.specs.Steps.{Obeys}
 use Rattle.prop_workbench.proofs.StepLemmas.{first_of-one, obeys, refuses_or_lacks}
+use Rattle.prop_vocabulary.specs.Cells.{CellNames, cell_named, cells_named, is_cell_missing}
 
 -- ---- the network's tests
 
@@ -65,7 +65,7 @@ in_rows count kind param limit =
     (or_first (when WrongKind kind) _ (when WrongParameter param ∷ limit ∷ []) (or_first (when WrongParameter param) limit (limit ∷ []) (sym (first_of-one limit))))
 
 -- what the network refuses for is what the machine says
-pub placed : (p : Stored) (names : List (List ℕ)) (words : Vocabulary) (premises : List Origin) (d : Data) (limit : ℕ) (params : List Param) (by : By) (given : Option ℕ) (ins : List ℕ) (out : ℕ) → All (λ c. c < length d.kinds) (ins ++ out ∷ []) →
+pub placed : (p : Stored) (names : CellNames) (words : Vocabulary) (premises : List Origin) (d : Data) (limit : ℕ) (params : List Param) (by : By) (given : Option ℕ) (ins : List ℕ) (out : ℕ) → All (λ c. c < length d.kinds) (ins ++ out ∷ []) →
     sides_given params given ≡ option_and_then sides_of (given_by words by) → param_in p.need params given ≡ fitting_param p.need (given_by words by) →
     refusal_at p (record d { params = params }) given ins out ≡ placing_refusal p (state_from names words premises d limit) by (ins ++ out ∷ [])
 unfolding network_rows
@@ -137,22 +137,22 @@ without_none None None None l = refl
 -- what is known of the name before the network is asked
 pub record IsFound (library : List Stored) (s : State) (name : List ℕ) (cells : List (List ℕ)) (by : By) (n : ℕ) (numbers : List ℕ) : Type 0 where
   pub relation : is_unknown s.words by ≡ false
-  pub missing : is_missing s.names cells ≡ false
+  pub missing : is_cell_missing s.names cells ≡ false
   pub number : procedure_number library name ≡ Some n
   pub below : n < length library
-  pub numbers_are : numbers ≡ numbers_in s.names cells
+  pub numbers_are : numbers ≡ cells_named s.names cells
 
 rows_found : (library : List Stored) (s : State) (name : List ℕ) (cells : List (List ℕ)) (by : By) (n : ℕ) (numbers : List ℕ) (p : Stored) → IsFound library s name cells by n numbers → slice_get library n ≡ Some p →
     refusal_of library s (commands.Command.Attach name cells by) ≡ placing_refusal p s by numbers
 rows_found library s name cells by n numbers p found at =
     let limit = limit_refusal s (commands.Command.Attach name cells by) in
     let named : procedure_named library name ≡ Some p = ap (λ (o : Option ℕ). option_and_then (λ k. slice_get library k) o) found.number ∙ at in
-    let count : length cells ≡ length numbers = sym (ap length found.numbers_are ∙ length-map cells (λ word. unwrap_or (number_in s.names word) 0)) in
-    let a = ap (λ (b : Bool). attach_rows b (is_missing s.names cells) (procedure_number library name) (procedure_named library name) s by (length cells) (numbers_in s.names cells) limit) found.relation in
-    let b = ap (λ (m : Bool). attach_rows false m (procedure_number library name) (procedure_named library name) s by (length cells) (numbers_in s.names cells) limit) found.missing in
-    let c = ap (λ (o : Option ℕ). attach_rows false false o (procedure_named library name) s by (length cells) (numbers_in s.names cells) limit) found.number in
-    let d = ap (λ (o : Option Stored). attach_rows false false (Some n) o s by (length cells) (numbers_in s.names cells) limit) named in
-    let e = ap (λ (k : ℕ). attach_rows false false (Some n) (Some p) s by k (numbers_in s.names cells) limit) count in
+    let count : length cells ≡ length numbers = sym (ap length found.numbers_are ∙ length-map cells (λ word. unwrap_or (cell_named s.names word) 0)) in
+    let a = ap (λ (b : Bool). attach_rows b (is_cell_missing s.names cells) (procedure_number library name) (procedure_named library name) s by (length cells) (cells_named s.names cells) limit) found.relation in
+    let b = ap (λ (m : Bool). attach_rows false m (procedure_number library name) (procedure_named library name) s by (length cells) (cells_named s.names cells) limit) found.missing in
+    let c = ap (λ (o : Option ℕ). attach_rows false false o (procedure_named library name) s by (length cells) (cells_named s.names cells) limit) found.number in
+    let d = ap (λ (o : Option Stored). attach_rows false false (Some n) o s by (length cells) (cells_named s.names cells) limit) named in
+    let e = ap (λ (k : ℕ). attach_rows false false (Some n) (Some p) s by k (cells_named s.names cells) limit) count in
     let f = ap (λ (l : List ℕ). attach_rows false false (Some n) (Some p) s by (length numbers) l limit) (sym found.numbers_are) in
     a ∙ b ∙ c ∙ d ∙ e ∙ f ∙ without_none (when WrongCount (not (length numbers == length p.ins + 1))) (when WrongKind (not (kinds_fit p s.kinds (option_and_then sides_of (given_by s.words by)) numbers))) (when WrongParameter (is_none (fitting_param p.need (given_by s.words by)))) limit
 
@@ -177,14 +177,14 @@ unattached_step library s new name cells by n numbers refusal found (inr m) same
 
 -- ---- what the network answered, as the machine says it
 
-pub fits_as : (library : List Stored) (names : List (List ℕ)) (words : Vocabulary) (premises : List Origin) (d : Data) (limit : ℕ) (params : List Param) (by : By) (given : Option ℕ) (ins : List ℕ) (out n : ℕ) (r : Option Refusal) → All (λ c. c < length d.kinds) (ins ++ out ∷ []) →
+pub fits_as : (library : List Stored) (names : CellNames) (words : Vocabulary) (premises : List Origin) (d : Data) (limit : ℕ) (params : List Param) (by : By) (given : Option ℕ) (ins : List ℕ) (out n : ℕ) (r : Option Refusal) → All (λ c. c < length d.kinds) (ins ++ out ∷ []) →
     sides_given params given ≡ option_and_then sides_of (given_by words by) → ((need : Need) → param_in need params given ≡ fitting_param need (given_by words by)) → attach_refusal library (record d { params = params }) n given ins out ≡ r →
     (p : Stored) → slice_get library n ≡ Some p → placing_refusal p (state_from names words premises d limit) by (ins ++ out ∷ []) ≡ r
 fits_as library names words premises d limit params by given ins out n r below sides param e p at =
     sym (placed p names words premises d limit params by given ins out below sides (param p.need))
     ∙ sym (ap (λ (o : Option Stored). option_map_or (λ q. refusal_at q (record d { params = params }) given ins out) o None) at) ∙ e
 
-pub made_one : (library : List Stored) (names : List (List ℕ)) (words : Vocabulary) (premises : List Origin) (d : Data) (limit : ℕ) (params : List Param) (by : By) (given : Option ℕ) (ins : List ℕ) (out n : ℕ) → n < length library → All (λ c. c < length d.kinds) (ins ++ out ∷ []) →
+pub made_one : (library : List Stored) (names : CellNames) (words : Vocabulary) (premises : List Origin) (d : Data) (limit : ℕ) (params : List Param) (by : By) (given : Option ℕ) (ins : List ℕ) (out n : ℕ) → n < length library → All (λ c. c < length d.kinds) (ins ++ out ∷ []) →
     sides_given params given ≡ option_and_then sides_of (given_by words by) → ((need : Need) → param_in need params given ≡ fitting_param need (given_by words by)) → attach_refusal library (record d { params = params }) n given ins out ≡ None →
     attached library params n given ins out ≡ instance_made library n (given_by words by) (ins ++ out ∷ []) ∷ []
 made_one library names words premises d limit params by given ins out n l below sides param e =
@@ -207,21 +207,21 @@ refused_over : (library : List Stored) (d mid : Data) (given : Option ℕ) (ins 
     attach_refusal library (record d { params = mid.params }) n given ins out ≡ r
 refused_over library d mid given ins out n r e h = sym (ap (λ (x : Data). attach_refusal library x n given ins out) e) ∙ h
 
-pub fits_at : (library : List Stored) (names : List (List ℕ)) (words : Vocabulary) (premises : List Origin) (d mid : Data) (limit : ℕ) (by : By) (given : Option ℕ) (ins : List ℕ) (out n : ℕ) (cells : List ℕ) (r : Option Refusal) → IsPlaced words d mid by given ins out cells →
+pub fits_at : (library : List Stored) (names : CellNames) (words : Vocabulary) (premises : List Origin) (d mid : Data) (limit : ℕ) (by : By) (given : Option ℕ) (ins : List ℕ) (out n : ℕ) (cells : List ℕ) (r : Option Refusal) → IsPlaced words d mid by given ins out cells →
     attach_refusal library mid n given ins out ≡ r → (p : Stored) → slice_get library n ≡ Some p → placing_refusal p (state_from names words premises d limit) by cells ≡ r
 fits_at library names words premises d mid limit by given ins out n cells r placed_so h p at =
     let below = subst (λ (l : List ℕ). All (λ c. c < length d.kinds) l) placed_so.cells_are placed_so.below in
     ap (λ (l : List ℕ). placing_refusal p (state_from names words premises d limit) by l) placed_so.cells_are
     ∙ fits_as library names words premises d limit mid.params by given ins out n r below placed_so.sides placed_so.param (refused_over library d mid given ins out n r placed_so.params_alone h) p at
 
-pub made_at : (library : List Stored) (names : List (List ℕ)) (words : Vocabulary) (premises : List Origin) (d mid : Data) (limit : ℕ) (by : By) (given : Option ℕ) (ins : List ℕ) (out n : ℕ) (cells : List ℕ) → IsPlaced words d mid by given ins out cells → n < length library →
+pub made_at : (library : List Stored) (names : CellNames) (words : Vocabulary) (premises : List Origin) (d mid : Data) (limit : ℕ) (by : By) (given : Option ℕ) (ins : List ℕ) (out n : ℕ) (cells : List ℕ) → IsPlaced words d mid by given ins out cells → n < length library →
     attach_refusal library mid n given ins out ≡ None → attached library mid.params n given ins out ≡ instance_made library n (given_by words by) cells ∷ []
 made_at library names words premises d mid limit by given ins out n cells placed_so l h =
     let below = subst (λ (x : List ℕ). All (λ c. c < length d.kinds) x) placed_so.cells_are placed_so.below in
     made_one library names words premises d limit mid.params by given ins out n l below placed_so.sides placed_so.param (refused_over library d mid given ins out n None placed_so.params_alone h)
     ∙ ap (λ (x : List ℕ). instance_made library n (given_by words by) x ∷ []) (sym placed_so.cells_are)
 
-pub err_at : (library : List Stored) (names : List (List ℕ)) (words : Vocabulary) (premises : List Origin) (d mid : Data) (limit : ℕ) (by : By) (given : Option ℕ) (ins : List ℕ) (out n : ℕ) (cells : List ℕ) (e : Refusal) → IsPlaced words d mid by given ins out cells →
+pub err_at : (library : List Stored) (names : CellNames) (words : Vocabulary) (premises : List Origin) (d mid : Data) (limit : ℕ) (by : By) (given : Option ℕ) (ins : List ℕ) (out n : ℕ) (cells : List ℕ) (e : Refusal) → IsPlaced words d mid by given ins out cells →
     (attach_refusal library mid n given ins out ≡ Some e) ⊎ (e ≡ Memory) → ((p : Stored) → slice_get library n ≡ Some p → placing_refusal p (state_from names words premises d limit) by cells ≡ Some e) ⊎ (e ≡ Memory)
 err_at library names words premises d mid limit by given ins out n cells e placed_so (inl h) = inl (fits_at library names words premises d mid limit by given ins out n cells (Some e) placed_so h)
 err_at library names words premises d mid limit by given ins out n cells e placed_so (inr m) = inr m

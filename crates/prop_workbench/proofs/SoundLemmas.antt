@@ -61,3 +61,9 @@ under_way_attach library s d new line line' x j u kept e here alerted =
 -- parameters bear on nothing that is under way
 pub under_way_params : (library : List Stored) (s : Premises) (d new : Data) (line : List ℕ) → IsUnderWay library s d line → IsKept library new → new ≡ record d { params = new.params } → IsUnderWay library s new line
 under_way_params library s d new line u kept e = record { kept = kept; line_below = rw e u.line_below; met = rw e u.met }
+
+-- one cell more, with a name
+pub one_more_named : {A : Type 0} (cells : List ℕ) (kinds : List A) (kind : A) → All (λ k. k < length kinds) cells → All (λ k. k < length (kinds ++ kind ∷ [])) (cells ++ length kinds ∷ [])
+one_more_named cells kinds kind all =
+    let more = length-append kinds (kind ∷ []) in
+    All-push (λ k. k < length (kinds ++ kind ∷ [])) cells (length kinds) (All-weaker (λ k. k < length kinds) (λ k. k < length (kinds ++ kind ∷ [])) (λ k h. omega (arith, h, more)) cells all) (omega (arith, more))

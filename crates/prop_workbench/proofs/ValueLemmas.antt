@@ -41,6 +41,7 @@ use Rattle.prop_workbench.specs.Answers.{Done}
 use Rattle.prop_workbench.specs.Steps.{Obeys, Carries}
 use Rattle.prop_workbench.specs.Effects.{stated, stating, meant_at, words_at, info_at, with_meant, info_meant, MayMean}
 use Rattle.prop_workbench.proofs.StepLemmas.{first_of-one, obeys}
+use Rattle.prop_vocabulary.specs.Cells.{cell_named}
 
 -- ---- the refusals of values
 
@@ -220,7 +221,7 @@ value_rows said cell limit =
     first_of (when NotAName (option_map_or (is_error NotAName) said false) ∷ when NotANumber (option_map_or (is_error NotANumber) said false) ∷ None ∷ None ∷ None ∷ when NoSuchCell (is_none cell || false) ∷ None ∷ None ∷ None
     ∷ when WrongKind (option_map_or (is_error WrongKind) said false || false) ∷ None ∷ when NotInTheDomain (option_map_or (is_error NotInTheDomain) said false) ∷ when EmptyValue (option_map_or (is_error EmptyValue) said false) ∷ limit ∷ [])
 
-by_rows : (library : List Stored) (s : State) (premise : Option (List ℕ)) (name : List ℕ) (value : Value) (cell : ℕ) → number_in s.names name ≡ Some cell →
+by_rows : (library : List Stored) (s : State) (premise : Option (List ℕ)) (name : List ℕ) (value : Value) (cell : ℕ) → cell_named s.names name ≡ Some cell →
     refusal_of library s (stating premise name value) ≡ value_rows (Some (meaning_at s.words (kind_at s.kinds cell).kind value)) (Some cell) (stating_limit_at s premise (Some (meaning_at s.words (kind_at s.kinds cell).kind value)))
 by_rows library s None name value cell found = rw found refl
 by_rows library s (Some premise) name value cell found = rw found refl
@@ -233,46 +234,46 @@ error_rows e cell limit outside = refl
 error_rows e cell limit empty = refl
 
 -- a value that is refused is refused first
-pub value_refused : (library : List Stored) (s : State) (premise : Option (List ℕ)) (name : List ℕ) (value : Value) (cell : ℕ) (e : Refusal) → number_in s.names name ≡ Some cell → meaning_at s.words (kind_at s.kinds cell).kind value ≡ Err e →
+pub value_refused : (library : List Stored) (s : State) (premise : Option (List ℕ)) (name : List ℕ) (value : Value) (cell : ℕ) (e : Refusal) → cell_named s.names name ≡ Some cell → meaning_at s.words (kind_at s.kinds cell).kind value ≡ Err e →
     refusal_of library s (stating premise name value) ≡ Some e
 value_refused library s premise name value cell e found said =
     by_rows library s premise name value cell found ∙ ap (λ (r : Result Meant Refusal). value_rows (Some r) (Some cell) (stating_limit_at s premise (Some r))) said
     ∙ error_rows e cell None (value_refusal (kind_at s.kinds cell).kind (elements_of_kind s.words (kind_at s.kinds cell).kind) value e said)
 
 -- and one that is not, for the limits alone
-pub value_limited : (library : List Stored) (s : State) (premise : Option (List ℕ)) (name : List ℕ) (value : Value) (cell : ℕ) (meant : Meant) → number_in s.names name ≡ Some cell → meaning_at s.words (kind_at s.kinds cell).kind value ≡ Ok meant →
+pub value_limited : (library : List Stored) (s : State) (premise : Option (List ℕ)) (name : List ℕ) (value : Value) (cell : ℕ) (meant : Meant) → cell_named s.names name ≡ Some cell → meaning_at s.words (kind_at s.kinds cell).kind value ≡ Ok meant →
     refusal_of library s (stating premise name value) ≡ stating_limit s premise meant
 value_limited library s premise name value cell meant found said =
     by_rows library s premise name value cell found ∙ ap (λ (r : Result Meant Refusal). value_rows (Some r) (Some cell) (stating_limit_at s premise (Some r))) said
     ∙ first_of-one (stating_limit s premise meant)
 
 -- what the value means is stated
-made_statement : (s : State) (premise : Option (List ℕ)) (name : List ℕ) (value : Value) (cell : ℕ) (meant : Meant) → number_in s.names name ≡ Some cell → meaning_at s.words (kind_at s.kinds cell).kind value ≡ Ok meant →
-    stated s premise cell (with_meant s.words meant) (info_meant s.words meant) ≡ stated s premise (unwrap_or (number_in s.names name) 0) (words_at s name value) (info_at s name value)
+made_statement : (s : State) (premise : Option (List ℕ)) (name : List ℕ) (value : Value) (cell : ℕ) (meant : Meant) → cell_named s.names name ≡ Some cell → meaning_at s.words (kind_at s.kinds cell).kind value ≡ Ok meant →
+    stated s premise cell (with_meant s.words meant) (info_meant s.words meant) ≡ stated s premise (unwrap_or (cell_named s.names name) 0) (words_at s name value) (info_at s name value)
 made_statement s premise name value cell meant found said =
-    let at : unwrap_or (number_in s.names name) 0 ≡ cell = ap (λ (o : Option ℕ). unwrap_or o 0) found in
+    let at : unwrap_or (cell_named s.names name) 0 ≡ cell = ap (λ (o : Option ℕ). unwrap_or o 0) found in
     let means : meant_at s name value ≡ meant =
     ap (λ (o : Option ℕ). option_map_or (λ r. result_unwrap_or r (Known Nothing)) (option_map (λ n. meaning_at s.words (kind_at s.kinds n).kind value) o) (Known Nothing)) found ∙ ap (λ (r : Result Meant Refusal). result_unwrap_or r (Known Nothing)) said in
     λ i. stated s premise (sym at i) (with_meant s.words (sym means i)) (info_meant s.words (sym means i))
 
-changes : (library : List Stored) (s new : State) (premise : Option (List ℕ)) (name : List ℕ) (value : Value) → new ≡ stated s premise (unwrap_or (number_in s.names name) 0) (words_at s name value) (info_at s name value) →
+changes : (library : List Stored) (s new : State) (premise : Option (List ℕ)) (name : List ℕ) (value : Value) → new ≡ stated s premise (unwrap_or (cell_named s.names name) 0) (words_at s name value) (info_at s name value) →
     Carries library s (stating premise name value) Done new 0
 changes library s new None name value e = record { answer_is = refl; new_is = e; no_steps = refl }
 changes library s new (Some premise) name value e = record { answer_is = refl; new_is = e; no_steps = refl }
 
 -- what a session states is what the machine does
-pub value_done : (library : List Stored) (s new : State) (premise : Option (List ℕ)) (name : List ℕ) (value : Value) (cell : ℕ) (meant : Meant) → number_in s.names name ≡ Some cell → meaning_at s.words (kind_at s.kinds cell).kind value ≡ Ok meant →
+pub value_done : (library : List Stored) (s new : State) (premise : Option (List ℕ)) (name : List ℕ) (value : Value) (cell : ℕ) (meant : Meant) → cell_named s.names name ≡ Some cell → meaning_at s.words (kind_at s.kinds cell).kind value ≡ Ok meant →
     stating_limit s premise meant ≡ None → new ≡ stated s premise cell (with_meant s.words meant) (info_meant s.words meant) → Obeys library s (stating premise name value) Done new 0
 value_done library s new premise name value cell meant found said fits e =
     obeys library s new (stating premise name value) Done 0 (value_limited library s premise name value cell meant found said ∙ fits)
     (changes library s new premise name value (e ∙ made_statement s premise name value cell meant found said))
 
-pub value_stopped : (library : List Stored) (s : State) (premise : Option (List ℕ)) (name : List ℕ) (value : Value) (cell : ℕ) (meant : Meant) (e : Refusal) → number_in s.names name ≡ Some cell → meaning_at s.words (kind_at s.kinds cell).kind value ≡ Ok meant →
+pub value_stopped : (library : List Stored) (s : State) (premise : Option (List ℕ)) (name : List ℕ) (value : Value) (cell : ℕ) (meant : Meant) (e : Refusal) → cell_named s.names name ≡ Some cell → meaning_at s.words (kind_at s.kinds cell).kind value ≡ Ok meant →
     (stating_limit s premise meant ≡ Some e) ⊎ (e ≡ Memory) → (refusal_of library s (stating premise name value) ≡ Some e) ⊎ (e ≡ Memory)
 value_stopped library s premise name value cell meant e found said (inl h) = inl (value_limited library s premise name value cell meant found said ∙ h)
 value_stopped library s premise name value cell meant e found said (inr m) = inr m
 
-pub no_cell : (library : List Stored) (s : State) (premise : Option (List ℕ)) (name : List ℕ) (value : Value) → number_in s.names name ≡ None → refusal_of library s (stating premise name value) ≡ Some NoSuchCell
+pub no_cell : (library : List Stored) (s : State) (premise : Option (List ℕ)) (name : List ℕ) (value : Value) → cell_named s.names name ≡ None → refusal_of library s (stating premise name value) ≡ Some NoSuchCell
 no_cell library s None name value none = rw none refl
 no_cell library s (Some premise) name value none = rw none refl
 

@@ -16,10 +16,10 @@ use Rattle.prop_procedures.specs.declared.shape.Param.{Param}
 use Rattle.prop_procedures.specs.declared.shape.Param.TheVariants.{Plain}
 use Rattle.prop_cells.specs.Instances.{Instance, fitting_param}
 use Rattle.prop_cells.specs.Refusing.{may_be_stated}
-use Rattle.prop_vocabulary.specs.Names.{number_in, numbers_in}
 use Rattle.prop_vocabulary.specs.Vocabulary.{Vocabulary, domain_number, elements_of, symbol_number, with_symbol, with_domain, with_relation}
 use Rattle.prop_workbench.specs.Machine.{State}
 use Rattle.prop_workbench.specs.Refusing.{value_at, given_by}
+use Rattle.prop_vocabulary.specs.Cells.{cell_named, cells_named, with_cell_name}
 
 -- the cells that an instance reads: all but the last
 abbrev pub inputs_of : List ℕ → List ℕ
@@ -114,11 +114,11 @@ stating (Some premise) cell value = Command.Tell premise cell value
 abbrev pub effect : List Stored → State → Command → State
 effect library s (Command.Domain name elements) = record s { words = with_domain s.words name elements }
 effect library s (Command.Relation name from to pairs) = record s { words = with_relation s.words name from to pairs }
-effect library s (Command.Cell name kind) = record s { names = s.names ++ name ∷ []; kinds = s.kinds ++ kind_named s.words kind ∷ [] }
+effect library s (Command.Cell name kind) = record s { names = with_cell_name s.names name (length s.kinds); kinds = s.kinds ++ kind_named s.words kind ∷ [] }
 effect library s (Command.Attach name cells by) =
-    record s { instances = s.instances ++ instance_made library (unwrap_or (procedure_number library name) 0) (given_by s.words by) (numbers_in s.names cells) ∷ [] }
-effect library s (Command.Fix cell value) = stated s None (unwrap_or (number_in s.names cell) 0) (words_at s cell value) (info_at s cell value)
-effect library s (Command.Tell premise cell value) = stated s (Some premise) (unwrap_or (number_in s.names cell) 0) (words_at s cell value) (info_at s cell value)
+    record s { instances = s.instances ++ instance_made library (unwrap_or (procedure_number library name) 0) (given_by s.words by) (cells_named s.names cells) ∷ [] }
+effect library s (Command.Fix cell value) = stated s None (unwrap_or (cell_named s.names cell) 0) (words_at s cell value) (info_at s cell value)
+effect library s (Command.Tell premise cell value) = stated s (Some premise) (unwrap_or (cell_named s.names cell) 0) (words_at s cell value) (info_at s cell value)
 effect library s (Command.Kick premise) = record s { premises = with_belief_at s.premises (number_given s.premises premise) false }
 effect library s (Command.Bring premise) = record s { premises = with_belief_at s.premises (number_given s.premises premise) true }
 effect library s command = s

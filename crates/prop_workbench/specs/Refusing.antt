@@ -14,11 +14,11 @@ use Rattle.prop_procedures.specs.Stored.{Stored, procedure_number, sides_of}
 use Rattle.prop_compound.specs.Commands.{By, KindWord, Named, Value, Command}
 use Rattle.prop_compound.specs.Values.{Meant, Known, Name, value_said}
 use Rattle.prop_cells.specs.Instances.{kind_at, kinds_fit, fitting_param}
-use Rattle.prop_vocabulary.specs.Names.{number_in, numbers_in}
 use Rattle.prop_vocabulary.specs.Vocabulary.{Vocabulary, domain_number, relation_named}
 use Rattle.prop_vocabulary.specs.Texts.{elements_of_kind}
 use Rattle.prop_vocabulary.specs.Refusing.{when, first_of, domain_refusal, relation_refusal, symbol_refusal}
 use Rattle.prop_workbench.specs.Machine.{State}
+use Rattle.prop_vocabulary.specs.Cells.{cell_named, cells_named}
 
 -- what the value means at a cell of the kind
 abbrev pub meaning_at : Vocabulary → Kind → Value → Result Meant Refusal
@@ -26,7 +26,7 @@ meaning_at words kind value = value_said kind (elements_of_kind words kind) valu
 
 -- what the value means at the cell with the name, where there is such a cell
 abbrev pub value_at : State → List ℕ → Value → Option (Result Meant Refusal)
-value_at s name value = option_map (λ n. meaning_at s.words (kind_at s.kinds n).kind value) (number_in s.names name)
+value_at s name value = option_map (λ n. meaning_at s.words (kind_at s.kinds n).kind value) (cell_named s.names name)
 
 abbrev pub is_error : Refusal → Result Meant Refusal → Bool
 is_error refusal (Ok meant) = false
@@ -40,7 +40,7 @@ is_value_refused s command refusal = false
 
 -- the declared name exists in its space
 abbrev pub is_taken : State → Command → Bool
-is_taken s (Command.Cell name kind) = is_some (number_in s.names name)
+is_taken s (Command.Cell name kind) = is_some (cell_named s.names name)
 is_taken s command = false
 
 -- a domain is named, of which there is none
@@ -101,7 +101,7 @@ is_count_wrong library command = false
 -- some cell's kind doesn't fit its place
 abbrev pub is_kind_wrong : List Stored → State → Command → Bool
 is_kind_wrong library s (Command.Attach name cells by) =
-    option_map_or (λ p. not (kinds_fit p s.kinds (option_and_then sides_of (given_by s.words by)) (numbers_in s.names cells))) (procedure_named library name) false
+    option_map_or (λ p. not (kinds_fit p s.kinds (option_and_then sides_of (given_by s.words by)) (cells_named s.names cells))) (procedure_named library name) false
 is_kind_wrong library s command = false
 
 -- a parameter is given where none is taken, or is of the other sort
@@ -168,7 +168,7 @@ refusal_of library s command =
     ∷ when NameTaken (is_taken s command)
     ∷ when NoSuchDomain (is_domain_missing s command)
     ∷ when NoSuchRelation (is_relation_missing s command)
-    ∷ when NoSuchCell (list_any (λ name. is_none (number_in s.names name)) (cells_in command))
+    ∷ when NoSuchCell (list_any (λ name. is_none (cell_named s.names name)) (cells_in command))
     ∷ when NoSuchPremise (is_premise_missing s command)
     ∷ when NoSuchProcedure (list_any (λ name. is_none (procedure_number library name)) (procedures_in command))
     ∷ when WrongCount (is_count_wrong library command)

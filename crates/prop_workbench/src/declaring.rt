@@ -129,7 +129,7 @@ impl<R: Rule + Drop, O: Order + Drop> Session<R, O> {
             Some(kind) => kind,
             None => return Reply::Refused(Refusal::NoSuchDomain),
         };
-        match self.names.push(self.alloc, name) {
+        match self.names.push(self.alloc, name, self.network.cells()) {
             Ok(()) => {}
             Err(AllocError) => return Reply::Refused(Refusal::Memory),
         }

@@ -83,7 +83,7 @@ returns-in-Ok-attach-clause-sound g c =
       worldview = c.given.ensures.sound.worldview;
       known = rw e c.given.ensures.sound.known;
       sized = rw e c.given.ensures.sound.sized;
-      named = c.given.ensures.sound.named ∙ sym (ap (λ (d : Data). length d.kinds) e);
+      named = rw (ap (λ (d : Data). d.kinds) e) c.given.ensures.sound.named;
       roomy = omega (arith, count, instances, room, c.in-Some-checked_add.ensures.1, c.instances-next.ensures.count);
     }
 

@@ -21,7 +21,7 @@ returns-clause-sound g c =
       worldview = c.requires.sound.worldview;
       known = rw (ap (λ d. d.statements) rest) c.requires.sound.known;
       sized = rw (ap (λ d. d.kinds) rest) c.requires.sound.sized;
-      named = c.requires.sound.named ∙ sym (ap (λ d. length d.kinds) rest);
+      named = rw (ap (λ d. d.kinds) rest) c.requires.sound.named;
       roomy = rw (c.run.ensures.room, ap (λ d. d.instances) rest) c.requires.sound.roomy;
     }
 

@@ -7,7 +7,7 @@ use Rattle.prop_compound.specs.Said.{value_of, meant_of}
 use Rattle.prop_workbench.specs.Effects.{stating, name_of}
 use Rattle.prop_workbench.specs.Refusing.{meaning_at}
 use Rattle.prop_workbench.specs.Sessions.{state_from}
-use Rattle.prop_vocabulary.proofs.Lookups.{number_below}
+use Rattle.prop_vocabulary.proofs.CellLookups.{of_named}
 use Rattle.prop_vocabulary.specs.Texts.{elements_of_kind}
 use Rattle.prop_workbench.proofs.StepLemmas.{refuses, refuses_or_lacks}
 use Rattle.prop_workbench.proofs.ValueLemmas.{no_cell, value_refused, value_done, value_stopped, value_may_be}
@@ -23,7 +23,7 @@ returns-in-None-clause-step g c =
 pub meaning-requires : goal.meaning-requires
 meaning-requires g c =
     let s = c.args.self.now in
-    let below : c.in-Some.cell < length s.network.cells.kinds = rw (← c.requires.sound.named) (number_below s.names c.args.name.now c.in-Some.cell (sym c.in-Some.ensures.number)) in
+    let below : c.in-Some.cell < length s.network.cells.kinds = of_named (λ k. k < length s.network.cells.kinds) s.names c.args.name.now c.in-Some.cell c.requires.sound.named (sym c.in-Some.ensures.number) in
     let kind : kind_at s.network.cells.kinds c.in-Some.cell ≡ c.kind-kind.result = sym (c.kind-kind.ensures ∙ ap (λ d. kind_at d.kinds c.in-Some.cell) c.data.ensures) in
     rw kind at (c.requires.sound.sized c.in-Some.cell span_kind below).0
 
@@ -40,7 +40,7 @@ returns-in-Err-clause-step g c =
 pub state_meant-requires-clause-may : goal.state_meant-requires-clause-may
 state_meant-requires-clause-may g c =
     let s = c.args.self.now in
-    let below : c.in-Some.cell < length s.network.cells.kinds = rw (← c.requires.sound.named) (number_below s.names c.args.name.now c.in-Some.cell (sym c.in-Some.ensures.number)) in
+    let below : c.in-Some.cell < length s.network.cells.kinds = of_named (λ k. k < length s.network.cells.kinds) s.names c.args.name.now c.in-Some.cell c.requires.sound.named (sym c.in-Some.ensures.number) in
     let kind : kind_at s.network.cells.kinds c.in-Some.cell ≡ c.kind-kind.result = sym (c.kind-kind.ensures ∙ ap (λ d. kind_at d.kinds c.in-Some.cell) c.data.ensures) in
     let said = ap (λ (k : Kinded). meaning_at s.words k.kind (value_of c.args.value.now)) kind ∙ c.in-Ok.ensures.ok in
     let few = rw (← kind) at c.in-Ok.ensures.few in

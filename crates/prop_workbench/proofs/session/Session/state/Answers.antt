@@ -20,7 +20,7 @@ returns-clause-sound g c =
       worldview = c.requires.sound.worldview;
       known = rw (ap (λ d. d.statements) rest) (known_more n n s.network.cells.statements _ (omega arith) c.requires.sound.known c.requires.known);
       sized = rw (ap (λ d. d.kinds) rest) c.requires.sound.sized;
-      named = c.requires.sound.named ∙ sym (ap (λ d. length d.kinds) rest);
+      named = rw (ap (λ d. d.kinds) rest) c.requires.sound.named;
       roomy = rw (c.state_in.ensures.room, ap (λ d. d.instances) rest) c.requires.sound.roomy;
     }
 
