@@ -1,23 +1,28 @@
 -- What the cells keep where the last of them, of the parameters and of the instances are taken back.
-use Rattle.std.proofs.Common.{◌==◌, ◌≡◌, ◌∙◌, ℕ, ◌<◌, ◌≤◌, Bool, false, List, [], ◌∷◌, ◌++◌, length, take, refl, Some, sym, ap, arith, All}
+use Rattle.std.proofs.Common.{◌==◌, ◌≡◌, ◌∙◌, ℕ, ◌<◌, ◌≤◌, false, List, [], ◌∷◌, ◌++◌, length, take, refl, Some, sym, ap, arith, All}
 use Rattle.std.specs.List.{list_any}
 use Rattle.std.proofs.lemmas.Bool.{ne_eqb}
-use Rattle.std.proofs.lemmas.List.{length-append, length-take}
+use Rattle.std.proofs.lemmas.List.{length-take, take-append-le}
 use Rattle.std.proofs.lemmas.List.Elements.{All-head, All-tail, All-weaker, All-pop}
-use Rattle.std.proofs.Math.Seq.{take-append_seam}
+use Rattle.std.proofs.Math.Seq.{take-append_seam, take-length}
 use Rattle.prop_procedures.specs.declared.shape.Kinded.{Kinded}
 use Rattle.prop_procedures.specs.declared.shape.Param.{Param}
 use Rattle.prop_cells.specs.Instances.{Instance, IsWithin, readers_of, writers_of}
-use Rattle.prop_cells.specs.Data.{Data, Entry, IsWellMade, IsStored, AreRows}
+use Rattle.prop_cells.specs.Data.{Data, Entry, IsWellMade, IsStored}
 use Rattle.prop_cells.specs.Rooms.{Unnoted}
-use Rattle.prop_cells.specs.Back.{taken_back}
+use Rattle.prop_cells.specs.Back.{GoesBackTo}
 use Rattle.prop_cells.proofs.RowLemmas.{or_none, rows_unnoted, rows_taken, numbers_none}
 
--- what was made after some data is taken back from their numbers on
+-- ---- back to what was there before
+
+take_more_of : {X : Type 0} (before xs more : List X) → take (length before) xs ≡ before → take (length before) (xs ++ more) ≡ before
+take_more_of before xs more e =
+    let n : length (take (length before) xs) ≡ length before = ap length e in
+    take-append-le (length before) xs more (omega (arith, n, length-take (length before) xs)) ∙ e
+
+-- what was made after the data goes back to it
 pub taken_back_is_before : (d : Data) (kinds : List Kinded) (contents : List (List Entry)) (params : List Param) (instances : List Instance) → IsWellMade d →
-    taken_back (length d.kinds) (length d.params) (length d.instances)
-        (record d { kinds = d.kinds ++ kinds; contents = d.contents ++ contents; params = d.params ++ params; instances = d.instances ++ instances }) ≡
-        d
+    GoesBackTo d (record d { kinds = d.kinds ++ kinds; contents = d.contents ++ contents; params = d.params ++ params; instances = d.instances ++ instances })
 taken_back_is_before d kinds contents params instances h =
     let entries : take (length d.kinds) (d.contents ++ contents) ≡ d.contents =
     ap (λ n. take n (d.contents ++ contents)) (sym h.contents_length) ∙ take-append_seam d.contents contents in
@@ -27,6 +32,29 @@ taken_back_is_before d kinds contents params instances h =
       params = take-append_seam d.params params i;
       instances = take-append_seam d.instances instances i;
     }
+
+pub goes_back-same : (d : Data) → IsWellMade d → GoesBackTo d d
+goes_back-same d h = λ i. record d {
+  kinds = take-length d.kinds i;
+  contents = (ap (λ n. take n d.contents) (sym h.contents_length) ∙ take-length d.contents) i;
+  params = take-length d.params i;
+  instances = take-length d.instances i;
+}
+
+module _ (before d : Data) (h : GoesBackTo before d) where
+  -- one more of each
+  pub goes_back-cell : (k : Kinded) → IsWellMade before → GoesBackTo before (record d { kinds = d.kinds ++ k ∷ []; contents = d.contents ++ [] ∷ [] })
+  goes_back-cell k made =
+      let old : take (length before.contents) d.contents ≡ before.contents = ap (λ n. take n d.contents) made.contents_length ∙ ap (λ x. x.contents) h in
+      let entries : take (length before.kinds) (d.contents ++ [] ∷ []) ≡ before.contents =
+      ap (λ n. take n (d.contents ++ [] ∷ [])) (sym made.contents_length) ∙ take_more_of before.contents d.contents ([] ∷ []) old in
+      λ i. record (h i) { kinds = take_more_of before.kinds d.kinds (k ∷ []) (ap (λ x. x.kinds) h) i; contents = entries i }
+
+  pub goes_back-param : (param : Param) → GoesBackTo before (record d { params = d.params ++ param ∷ [] })
+  goes_back-param param = λ i. record (h i) { params = take_more_of before.params d.params (param ∷ []) (ap (λ x. x.params) h) i }
+
+  pub goes_back-instances : (more : List Instance) → GoesBackTo before (record d { instances = d.instances ++ more })
+  goes_back-instances more = λ i. record (h i) { instances = take_more_of before.instances d.instances more (ap (λ x. x.instances) h) i }
 
 -- ---- the last instance
 

@@ -57,9 +57,9 @@ pub rows_noted : (n number : ℕ) (passes : ℕ → Instance → Bool) (instance
     AreRows n (λ cell. numbers_from (passes cell) 0 (instances ++ x ∷ [])) new
 rows_noted n number passes instances x cells old new h noted e same =
     rows_changed n (λ row. row ++ number ∷ []) (λ cell. numbers_from (passes cell) 0 instances) (λ cell. numbers_from (passes cell) 0 (instances ++ x ∷ [])) old new cells h noted (λ cell.
-        let last : number ≡ 0 + length instances = omega (arith, e) in
-        let row = numbers_from (passes cell) 0 instances in
-        ap (λ b. cond b (row ++ number ∷ []) row) (sym (same cell)) ∙ cond_push (passes cell x) number row ∙ ap (λ m. row ++ cond (passes cell x) (m ∷ []) []) last ∙ sym (numbers_push (passes cell) 0 instances x))
+    let last : number ≡ 0 + length instances = omega (arith, e) in
+    let row = numbers_from (passes cell) 0 instances in
+    ap (λ b. cond b (row ++ number ∷ []) row) (sym (same cell)) ∙ cond_push (passes cell x) number row ∙ ap (λ m. row ++ cond (passes cell x) (m ∷ []) []) last ∙ sym (numbers_push (passes cell) 0 instances x))
 
 -- and where that of the last instance was taken out of them
 pub rows_unnoted : (n : ℕ) (passes : ℕ → Instance → Bool) (instances : List Instance) (x : Instance) (cells : List ℕ) (old new : List (List ℕ)) →
@@ -67,9 +67,9 @@ pub rows_unnoted : (n : ℕ) (passes : ℕ → Instance → Bool) (instances : L
     AreRows n (λ cell. numbers_from (passes cell) 0 instances) new
 rows_unnoted n passes instances x cells old new h unnoted same =
     rows_changed n (λ row. take (length row - 1) row) (λ cell. numbers_from (passes cell) 0 (instances ++ x ∷ [])) (λ cell. numbers_from (passes cell) 0 instances) old new cells h unnoted (λ cell.
-        let row = numbers_from (passes cell) 0 instances in
-        let change : Bool → List ℕ → List ℕ = λ b r. cond b (take (length r - 1) r) r in
-        ap (λ b. change b (numbers_from (passes cell) 0 (instances ++ x ∷ []))) (sym (same cell)) ∙ ap (change (passes cell x)) (numbers_push (passes cell) 0 instances x) ∙ cond_pop (passes cell x) (0 + length instances) row)
+    let row = numbers_from (passes cell) 0 instances in
+    let change : Bool → List ℕ → List ℕ = λ b r. cond b (take (length r - 1) r) r in
+    ap (λ b. change b (numbers_from (passes cell) 0 (instances ++ x ∷ []))) (sym (same cell)) ∙ ap (change (passes cell x)) (numbers_push (passes cell) 0 instances x) ∙ cond_pop (passes cell x) (0 + length instances) row)
 
 -- where no instance passes there is no number
 pub numbers_none : (passes : Instance → Bool) (n : ℕ) (xs : List Instance) → All (λ x. passes x ≡ false) xs → numbers_from passes n xs ≡ []
@@ -150,7 +150,7 @@ module _ (change : List ℕ → List ℕ) (old now : List (List ℕ)) (cells : L
   -- the row of the cell at place i
   changed_here : (items : List ℕ) → get_or cells i 0 < length now → list_any (λ c. c == get_or cells i 0) (take i cells) ≡ false → items ≡ change (get_or now (get_or cells i 0) []) →
       get_or (set now (get_or cells i 0) items) (get_or cells i 0) [] ≡
-          cond (list_any (λ c. c == get_or cells i 0) (take (i + 1) cells)) (change (get_or old (get_or cells i 0) [])) (get_or old (get_or cells i 0) [])
+      cond (list_any (λ c. c == get_or cells i 0) (take (i + 1) cells)) (change (get_or old (get_or cells i 0) [])) (get_or old (get_or cells i 0) [])
   changed_here items in_rows absent is =
       let cell = get_or cells i 0 in
       let was : get_or now cell [] ≡ get_or old cell [] = h.each cell ∙ ap (λ b. cond b (change (get_or old cell [])) (get_or old cell [])) absent in
