@@ -27,7 +27,7 @@ use Rattle.prop_cells.specs.Refusing.{refusal_at, attach_refusal, or_else}
 use Rattle.prop_compound.specs.Commands as commands
 use Rattle.prop_compound.specs.Commands.{By}
 use Rattle.prop_vocabulary.specs.Vocabulary.{Vocabulary}
-use Rattle.prop_workbench.specs.Answers.{Done, Refused}
+use Rattle.prop_engine.specs.Answers.{Done, Refused}
 use Rattle.prop_workbench.specs.Effects.{inputs_of, output_of, instance_made}
 use Rattle.prop_workbench.specs.Machine.{State}
 use Rattle.prop_vocabulary.specs.Names.{number_in, numbers_in, is_missing}

@@ -13,7 +13,7 @@ use Rattle.prop_compound.specs.Names.{is_name}
 use Rattle.prop_compound.specs.Forms.{forms}
 use Rattle.prop_compound.specs.Reading.{reading, reading_of, command_of, by_form_of, command_in_form, is_silent, without_return, names_in, is_in_range}
 use Rattle.prop_compound.specs.Said.{KeepsWords}
-use Rattle.prop_workbench.specs.Answers.{Refused}
+use Rattle.prop_engine.specs.Answers.{Refused}
 use Rattle.prop_workbench.specs.Machine.{State}
 use Rattle.prop_workbench.specs.Steps.{Follows}
 use Rattle.prop_workbench.proofs.StepLemmas.{lacks}

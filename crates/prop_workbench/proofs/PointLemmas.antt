@@ -15,7 +15,7 @@ use Rattle.prop_cells.specs.declared.instance.Statement.{Statement}
 use Rattle.prop_compound.specs.Commands as commands
 use Rattle.prop_compound.specs.Commands.{Command}
 use Rattle.prop_compound.specs.Reading.{reading}
-use Rattle.prop_workbench.specs.Answers.{Answer, Silent, Done, Text, Refused}
+use Rattle.prop_engine.specs.Answers.{Answer, Silent, Done, Text, Refused}
 use Rattle.prop_workbench.specs.Machine.{State, problem_in, worldview_of}
 use Rattle.prop_workbench.specs.Points.{attached_in, Satisfy, SaysPoint, BearsOut, HoldsPoints}
 use Rattle.prop_workbench.specs.Refusing.{refusal_of}

@@ -6,7 +6,7 @@ use Rattle.prop_premises.specs.Origins.{Origin, believed_in}
 use Rattle.prop_premises.specs.Sets.{set_of}
 use Rattle.prop_cells.specs.Data.{Data, beliefs, IsLeanAt, IsClash}
 use Rattle.prop_vocabulary.specs.Vocabulary.{Vocabulary}
-use Rattle.prop_workbench.specs.Answers.{Answer, Says, Text, Refused}
+use Rattle.prop_engine.specs.Answers.{Answer, Says, Text, Refused}
 use Rattle.prop_workbench.specs.Machine.{State, text_at}
 use Rattle.prop_vocabulary.specs.Names.{number_in}
 use Rattle.prop_workbench.specs.Reasons.{IsLeanExplanation, IsLeanContradiction, IsLeanReply}

@@ -37,7 +37,7 @@ use Rattle.prop_vocabulary.specs.Texts.{elements_of_kind}
 use Rattle.prop_workbench.specs.Machine.{State}
 use Rattle.prop_workbench.specs.Refusing.{refusal_of, telling_limit, stating_limit, stating_limit_at, meaning_at, is_error}
 use Rattle.prop_vocabulary.specs.Refusing.{first_of, when}
-use Rattle.prop_workbench.specs.Answers.{Done}
+use Rattle.prop_engine.specs.Answers.{Done}
 use Rattle.prop_workbench.specs.Steps.{Obeys, Carries}
 use Rattle.prop_workbench.specs.Effects.{stated, stating, meant_at, words_at, info_at, with_meant, info_meant, MayMean}
 use Rattle.prop_workbench.proofs.StepLemmas.{first_of-one, obeys}

@@ -6,7 +6,7 @@ use Rattle.prop_procedures.specs.declared.shape.Param.{Param}
 use Rattle.prop_cells.specs.Points.{Attached, ArePoints}
 use Rattle.prop_compound.specs.Commands.{Command}
 use Rattle.prop_compound.specs.Reading.{reading}
-use Rattle.prop_workbench.specs.Answers.{Answer, Text}
+use Rattle.prop_engine.specs.Answers.{Answer, Text}
 use Rattle.prop_vocabulary.specs.Names.{number_in}
 use Rattle.prop_workbench.specs.Machine.{State, text_at, worldview_of}
 use Rattle.prop_workbench.specs.Texts.{equation, because, worldview_text}

@@ -14,7 +14,7 @@ use Rattle.prop_scheduler.specs.declared.outcome.Run.{Run}
 use Rattle.prop_scheduler.specs.declared.outcome.Run.TheVariants.{Quiet, Clash, Spent}
 use Rattle.prop_compound.specs.Commands.{Command}
 use Rattle.prop_lattice.specs.declared.refusal.Refusal.TheVariants.{Memory}
-use Rattle.prop_workbench.specs.Answers.{Answer, Text, Refused}
+use Rattle.prop_engine.specs.Answers.{Answer, Text, Refused}
 use Rattle.prop_vocabulary.specs.Names.{number_in}
 use Rattle.prop_workbench.specs.Machine.{State, problem_in, text_at, worldview_of}
 use Rattle.prop_workbench.specs.Texts.{equation, because, contradiction_text, worldview_text}

@@ -1,7 +1,7 @@
 //! The commands that run the network and answer what follows.
 ghost use Rattle.std.specs.Prelude.{◌≡◌, ℕ, length};
 
-use crate::reply::Reply;
+use prop_engine::Reply;
 use crate::session::Session;
 use crate::texts::{because, contradiction_reply, text_reply, value_reply, worldview_reply};
 use prop_lattice::{Info, Refusal};
@@ -16,7 +16,7 @@ impl<R: Rule + Drop, O: Order + Drop> Session<R, O> {
     ghost use Rattle.prop_scheduler.specs.Ends.{IfClash};
     ghost use Rattle.prop_scheduler.specs.Turns.{IsSettled};
     ghost use Rattle.prop_compound.specs.Commands as commands;
-    ghost use Rattle.prop_workbench.specs.Answers.{answer_of, Says, Text};
+    ghost use Rattle.prop_engine.specs.Answers.{answer_of, Says, Text};
     ghost use Rattle.prop_workbench.specs.Machine.{text_at};
     ghost use Rattle.prop_workbench.specs.Texts.{equation};
     ghost use Rattle.prop_workbench.specs.Reasons.{IsLeanExplanation, IsLeanReply};

@@ -2,9 +2,9 @@
 ghost use Rattle.std.specs.Prelude.{◌≡◌, ◌<◌, ℕ, not, if◌then◌else◌, All, IfOk, length, string_bytes};
 ghost use Rattle.std.specs.List.Sorted.{IsStrictlyIncreasing};
 ghost use Rattle.prop_workbench.specs.Texts.{equation, premises_text, support_text, contradiction_text, because, listed, worldview_text};
-ghost use Rattle.prop_workbench.specs.Answers.{answer_of, Says};
+ghost use Rattle.prop_engine.specs.Answers.{answer_of, Says};
 
-use crate::reply::Reply;
+use prop_engine::Reply;
 use prop_lattice::Refusal;
 use prop_premises::{Premise, PremiseSet, Premises};
 use std::alloc::{AllocError, Global};

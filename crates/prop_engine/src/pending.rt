@@ -1,6 +1,6 @@
 //! The line that has not ended.
 ghost use Rattle.std.specs.Prelude.{◌≡◌, ℕ, ◌≤◌, List, [], ◌∷◌, ◌++◌, take, length, IsTrue, ◌↔◌};
-ghost use Rattle.prop_workbench.specs.Lines.{kept_of};
+ghost use Rattle.prop_engine.specs.Lines.{kept_of};
 
 use std::marker::Model;
 
@@ -44,7 +44,7 @@ impl Pending {
         self.len = 0;
     }
 
-    /// Takes the next byte of the line.
+    /// Takes the next byte of the line. One past the first 4,097 is not kept.
     pub fn push(&mut self, byte: u8)
         ensures { self.new ≡ kept_of (self.old ++ byte ∷ []) }
     {
@@ -54,7 +54,7 @@ impl Pending {
         }
     }
 
-    /// The bytes of the front.
+    /// The bytes of the front: the line, or the first 4,097 bytes of a longer one.
     pub fn as_slice(&self) -> &[u8]
         ensures { result.now ≡ self.now }
     {

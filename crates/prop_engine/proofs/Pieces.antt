@@ -4,18 +4,18 @@ use Rattle.std.specs.Prelude.{Option, Some, None, Result, Ok, Err, IfOk, OnErr, 
 use Rattle.std.specs.Io.KnownBytes.{Appends, Consumes, Keeps, IsAtEnd}
 use Rattle.std.proofs.lemmas.Bool.Decides.{eqb_tells}
 use Rattle.std.proofs.lemmas.Bool.{false≢true}
-use Rattle.prop_workbench.specs.Watched.{AppendsFront}
-use Rattle.prop_workbench.specs.Answers.{Answer, text_written}
-use Rattle.prop_workbench.specs.Transcripts.{Machine, IsTranscript}
-use Rattle.prop_workbench.specs.Progress.{Progress, CountsAnswer, Advances, Stops}
-use Rattle.prop_workbench.specs.Engine.{Tells, WritesTranscript, WritesFront}
-use Rattle.prop_workbench.specs.declared.outcome.Counts.{Counts}
-use Rattle.prop_workbench.specs.declared.outcome.EngineFault.{EngineFault}
-use Rattle.prop_workbench.specs.declared.outcome.EngineFault.TheVariants as faults
-use Rattle.prop_workbench.proofs.Io.{appends_none, appends_more, consumes_none, consumes_more, consumed_kept}
-use Rattle.prop_workbench.proofs.Machines.{AsksByFront, IsTotal}
-use Rattle.prop_workbench.proofs.Fronts.{write_front, read_front}
-use Rattle.prop_workbench.proofs.Runs.{start_progress, no_last, with_last, last_stopped, read_stopped}
+use Rattle.prop_engine.specs.Watched.{AppendsFront}
+use Rattle.prop_engine.specs.Answers.{Answer, text_written}
+use Rattle.prop_engine.specs.Transcripts.{Machine, IsTranscript}
+use Rattle.prop_engine.specs.Progress.{Progress, CountsAnswer, Advances, Stops}
+use Rattle.prop_engine.specs.Endings.{Tells, WritesTranscript, WritesFront}
+use Rattle.prop_engine.specs.declared.outcome.Counts.{Counts}
+use Rattle.prop_engine.specs.declared.outcome.EngineFault.{EngineFault}
+use Rattle.prop_engine.specs.declared.outcome.EngineFault.TheVariants as faults
+use Rattle.prop_engine.proofs.Io.{appends_none, appends_more, consumes_none, consumes_more, consumed_kept}
+use Rattle.prop_engine.proofs.Machines.{AsksByFront, IsTotal}
+use Rattle.prop_engine.proofs.Fronts.{write_front, read_front}
+use Rattle.prop_engine.proofs.Runs.{start_progress, no_last, with_last, last_stopped, read_stopped}
 
 -- so far the session took an input and wrote an output
 abbrev pub Going : {S : Type 0} → Machine S → Option (List ℕ) → Option (List ℕ) → Option (List ℕ) → Option (List ℕ) → S → List ℕ → Counts → S → Type 0

@@ -3,7 +3,7 @@ use Rattle.std.specs.Prelude.{◌≡◌, ◌⊎◌, ℕ, List, [], ◌∷◌, �
 use Rattle.prop_lattice.specs.declared.refusal.Refusal.{Refusal}
 use Rattle.prop_lattice.specs.declared.refusal.Refusal.TheVariants.{Memory}
 use Rattle.prop_lattice.specs.Refusals.{reply_to}
-use Rattle.prop_workbench.specs.declared.reply.Reply.{Reply}
+use Rattle.prop_engine.specs.declared.reply.Reply.{Reply}
 
 -- a reply without where its text lies in memory
 pub data Answer : Type 0 where

@@ -1,9 +1,9 @@
 -- How far a session over a machine has come.
 use Rattle.std.specs.Prelude.{◌≡◌, ℕ, ◌+◌, ◌≤◌, List, ◌++◌, length, flat_map, count_by, cond}
-use Rattle.prop_workbench.specs.declared.outcome.Counts.{Counts}
-use Rattle.prop_workbench.specs.Lines.{lines_of, ended_lines, IsWithoutFeed, kept_of}
-use Rattle.prop_workbench.specs.Answers.{Answer, text_written, is_refusal}
-use Rattle.prop_workbench.specs.Transcripts.{Machine, Run, WriteStopped}
+use Rattle.prop_engine.specs.declared.outcome.Counts.{Counts}
+use Rattle.prop_engine.specs.Lines.{lines_of, ended_lines, IsWithoutFeed, kept_of}
+use Rattle.prop_engine.specs.Answers.{Answer, text_written, is_refusal}
+use Rattle.prop_engine.specs.Transcripts.{Machine, Run, WriteStopped}
 
 -- The lines that have ended were carried out and answered. kept is the front of the line that has not ended.
 pub record Progress {S : Type 0} (machine : Machine S) (old : S) (input kept output : List ℕ) (counts : Counts) (now : S) : Type 0 where

@@ -1,7 +1,7 @@
 use Rattle.std.proofs.Common.{◌≤◌, ◌≡◌, length, take, ◌-◌}
 use Rattle.std.specs.Io.KnownBytes.{Appends}
-use Rattle.prop_workbench.specs.Watched.{device, has_failed, has_stopped}
-use Rattle.prop_workbench.proofs.sending.put.Given as goal
+use Rattle.prop_engine.specs.Watched.{device, has_failed, has_stopped}
+use Rattle.prop_engine.proofs.sending.put.Given as goal
 
 abbrev pub invariant-loop-at : goal.invariant-loop-at
 invariant-loop-at g l = record {

@@ -3,15 +3,15 @@ use Rattle.std.proofs.Common.{◌≡◌, ℕ, ◌+◌, ◌<◌, ◌≤◌, List,
 use Rattle.std.specs.Prelude.{Option}
 use Rattle.std.specs.Io.KnownBytes.{Appends}
 use Rattle.std.proofs.lemmas.List.{take_all, take_more, drop_more, take-append-drop}
-use Rattle.prop_workbench.specs.Lines.{kept_of}
-use Rattle.prop_workbench.specs.Watched.{AppendsFront}
-use Rattle.prop_workbench.specs.Answers.{Answer, text_written}
-use Rattle.prop_workbench.specs.Transcripts.{Machine}
-use Rattle.prop_workbench.specs.Progress.{CountsAnswer, Advances, Stops}
-use Rattle.prop_workbench.specs.declared.outcome.Counts.{Counts}
-use Rattle.prop_workbench.proofs.Io.{appends_none, appends_more}
-use Rattle.prop_workbench.proofs.Machines.{AsksByFront}
-use Rattle.prop_workbench.proofs.Runs.{byte_progress, line_progress, line_stopped}
+use Rattle.prop_engine.specs.Lines.{kept_of}
+use Rattle.prop_engine.specs.Watched.{AppendsFront}
+use Rattle.prop_engine.specs.Answers.{Answer, text_written}
+use Rattle.prop_engine.specs.Transcripts.{Machine}
+use Rattle.prop_engine.specs.Progress.{CountsAnswer, Advances, Stops}
+use Rattle.prop_engine.specs.declared.outcome.Counts.{Counts}
+use Rattle.prop_engine.proofs.Io.{appends_none, appends_more}
+use Rattle.prop_engine.proofs.Machines.{AsksByFront}
+use Rattle.prop_engine.proofs.Runs.{byte_progress, line_progress, line_stopped}
 
 -- the output so far is what the piece so far asks for
 abbrev pub SoFar : {S : Type 0} → Machine S → Option (List ℕ) → Option (List ℕ) → S → List ℕ → Counts → List ℕ → S → List ℕ → Counts → Type 0

@@ -1,7 +1,7 @@
 -- What a machine may answer to the lines of an input, and what is written then.
 use Rattle.std.specs.Prelude.{◌≡◌, ℕ, List, [], ◌∷◌, ◌++◌, length, flat_map, count_by}
-use Rattle.prop_workbench.specs.Lines.{lines_of, ended_lines}
-use Rattle.prop_workbench.specs.Answers.{Answer, text_written, is_refusal}
+use Rattle.prop_engine.specs.Lines.{lines_of, ended_lines}
+use Rattle.prop_engine.specs.Answers.{Answer, text_written, is_refusal}
 
 -- A machine with states S: from which state a line may be given which answer, and which state follows.
 abbrev pub Machine : Type 0 → Type 1

@@ -1,8 +1,8 @@
 //! Replies, written and passed on.
 ghost use Rattle.std.specs.Prelude.{◌≡◌, ◌++◌, ◌∷◌, [], OnOk, OnErr, IfErr, true};
 ghost use Rattle.std.specs.Io.KnownBytes.{Appends, Keeps};
-ghost use Rattle.prop_workbench.specs.Watched.{device, is_flushed, AppendsFront, IsFaulty, IsFresh, IsUnharmed};
-ghost use Rattle.prop_workbench.specs.Answers.{text_written, answer_of};
+ghost use Rattle.prop_engine.specs.Watched.{device, is_flushed, AppendsFront, IsFaulty, IsFresh, IsUnharmed};
+ghost use Rattle.prop_engine.specs.Answers.{text_written, answer_of};
 
 use crate::outcome::EngineFault;
 use crate::reply::Reply;
@@ -55,7 +55,9 @@ fn put_line<W: Write>(writer: &mut Watched<W>, text: &str) -> Result<(), EngineF
     flush(writer)
 }
 
-/// Writes a reply with its line feed, and passes it on.
+/// Writes a reply with its line feed, and passes it on. A silent reply writes nothing.
+/// `EngineFault::Write` where a write or the flush fails, or a write takes no byte: then a front
+/// of the reply was written, and the writer tells the fault.
 pub fn write_reply<W: Write>(writer: &mut Watched<W>, reply: &Reply) -> Result<(), EngineFault>
     ensures ok { OnOk result (Appends (W.contents (device writer.old)) (W.contents (device writer.new)) (text_written (answer_of reply.now))) }
     ensures err { OnErr result (AppendsFront (W.contents (device writer.old)) (W.contents (device writer.new)) (text_written (answer_of reply.now))) }

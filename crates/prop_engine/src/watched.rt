@@ -19,7 +19,7 @@ pub struct Watched<T> {
 }
 
 impl<T> Watched<T> {
-    ghost use Rattle.prop_workbench.specs.Watched.{device, has_failed, calls, widest, IsFresh};
+    ghost use Rattle.prop_engine.specs.Watched.{device, has_failed, calls, widest, IsFresh};
 
     /// A device of which no call was made yet.
     pub fn new(inner: T) -> Watched<T>
@@ -54,7 +54,7 @@ impl<T> Watched<T> {
 }
 
 impl<R: Read> Watched<R> {
-    ghost use Rattle.prop_workbench.specs.Watched.{device, has_failed, has_stopped, is_flushed, calls, widest, one_more, moved_none};
+    ghost use Rattle.prop_engine.specs.Watched.{device, has_failed, has_stopped, is_flushed, calls, widest, one_more, moved_none};
 
     /// One read.
     pub fn read(&mut self, buffer: &mut [u8]) -> io::Result<usize>
@@ -84,7 +84,7 @@ impl<R: Read> Watched<R> {
 }
 
 impl<W: Write> Watched<W> {
-    ghost use Rattle.prop_workbench.specs.Watched.{device, has_failed, has_stopped, is_flushed, calls, widest, one_more, moved_none};
+    ghost use Rattle.prop_engine.specs.Watched.{device, has_failed, has_stopped, is_flushed, calls, widest, one_more, moved_none};
 
     /// One write, which may take a part of the bytes.
     pub fn write(&mut self, bytes: &[u8]) -> io::Result<usize>

@@ -1,7 +1,7 @@
 use Rattle.std.proofs.Common.{◌≡◌, ℕ, ◌≤◌, ◌<◌, ◌+◌, List, [], ◌∷◌, ◌++◌, take, length, set, arith, sym, ◌∙◌, ap}
 use Rattle.std.proofs.lemmas.List.{take_more_set, take_all, length_push, length-take, take-append-le}
-use Rattle.prop_workbench.specs.Lines.{kept_of}
-use Rattle.prop_workbench.proofs.pending.Pending.push.Goals as goal
+use Rattle.prop_engine.specs.Lines.{kept_of}
+use Rattle.prop_engine.proofs.pending.Pending.push.Goals as goal
 
 -- one more byte where there is room
 room : (xs view : List ℕ) (n m y : ℕ) → n < length xs → n < m → take n xs ≡ view → take (n + 1) (set xs n y) ≡ take m (view ++ y ∷ [])

@@ -1,6 +1,6 @@
 use Rattle.std.proofs.Common.{[], ◌∷◌, ◌++◌, sym, ap}
-use Rattle.prop_workbench.proofs.Io.{front_of_first, front_of_second, front_of_whole, keeps_appended, appends_more, front_is}
-use Rattle.prop_workbench.proofs.sending.put_line.Goals as goal
+use Rattle.prop_engine.proofs.Io.{front_of_first, front_of_second, front_of_whole, keeps_appended, appends_more, front_is}
+use Rattle.prop_engine.proofs.sending.put_line.Goals as goal
 
 pub returns-in_err-put-clause-err : goal.returns-in_err-put-clause-err
 returns-in_err-put-clause-err g c =

@@ -1,7 +1,7 @@
 -- What a clause reads of a watched device, and of what one call of it did.
 use Rattle.std.specs.Prelude.{◌≡◌, ℕ, ◌+◌, ◌-◌, ◌^◌, min, Bool, List, length, Result, ◌==◌, ◌&&◌, not, true, false, Option, ◌++◌, ◌⊎◌}
 use Rattle.std.specs.Io.KnownBytes.{Appends}
-use Rattle.prop_workbench.specs.declared.watched.Watched.{Watched}
+use Rattle.prop_engine.specs.declared.watched.Watched.{Watched}
 
 -- the reader or the writer itself
 abbrev pub device : {T : Type 0} → Watched T → T

@@ -1,7 +1,7 @@
 use Rattle.std.proofs.Common.{ℕ, ◌+◌, ◌-◌, ◌≤◌, List, take, drop, length, arith, ◌∙◌}
 use Rattle.std.proofs.lemmas.List.{take_rest, length-drop}
-use Rattle.prop_workbench.proofs.Io.{written_more, not_failed, not_stopped, front_taken, keeps_appended}
-use Rattle.prop_workbench.proofs.sending.put.Goals as goal
+use Rattle.prop_engine.proofs.Io.{written_more, not_failed, not_stopped, front_taken, keeps_appended}
+use Rattle.prop_engine.proofs.sending.put.Goals as goal
 
 within : (at n : ℕ) (bytes : List ℕ) → n ≤ length (take (length bytes - at) (drop at bytes)) → at ≤ length bytes → at + n ≤ length bytes
 within at n bytes h k =

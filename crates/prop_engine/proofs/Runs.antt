@@ -1,16 +1,16 @@
 -- Runs, a line at a time.
-use Rattle.std.proofs.Common.{◌≡◌, ℕ, ◌+◌, ◌≤◌, ◌<◌, List, [], ◌∷◌, ◌++◌, length, take, cond, refl, sym, ◌∙◌, ap, subst, append_assoc, append-nil, inl, inr, arith, lit<}
+use Rattle.std.proofs.Common.{◌≡◌, ℕ, ◌+◌, ◌<◌, List, [], ◌∷◌, ◌++◌, length, take, cond, refl, sym, ◌∙◌, ap, subst, append_assoc, append-nil, inl, inr, arith, lit<}
 use Rattle.std.specs.Prelude.{count_by}
 use Rattle.std.proofs.lemmas.List.{flat_map_more, length-take, length_push, take_all, take-append-le, take_at, nil_from_length}
 use Rattle.std.proofs.lemmas.List.Sums.{fold_push}
 use Rattle.std.proofs.lemmas.Bool.{cases_lt}
-use Rattle.prop_workbench.specs.Lines.{lines_of, ended_lines, IsWithoutFeed, kept_of}
-use Rattle.prop_workbench.specs.Answers.{Answer, text_written, is_refusal}
-use Rattle.prop_workbench.specs.Transcripts.{Machine, Run, WriteStopped, ReadStopped, IsTranscript}
-use Rattle.prop_workbench.specs.Progress.{Progress, CountsAnswer, refusals}
-use Rattle.prop_workbench.specs.declared.outcome.Counts.{Counts}
-use Rattle.prop_workbench.proofs.Lines.{at_feed, ended_at_feed, last_line, none_ended, without_more}
-use Rattle.prop_workbench.proofs.Machines.{AsksByFront}
+use Rattle.prop_engine.specs.Lines.{lines_of, ended_lines, IsWithoutFeed, kept_of}
+use Rattle.prop_engine.specs.Answers.{Answer, text_written, is_refusal}
+use Rattle.prop_engine.specs.Transcripts.{Machine, Run, WriteStopped, ReadStopped, IsTranscript}
+use Rattle.prop_engine.specs.Progress.{Progress, CountsAnswer, refusals}
+use Rattle.prop_engine.specs.declared.outcome.Counts.{Counts}
+use Rattle.prop_engine.proofs.Lines.{at_feed, ended_at_feed, last_line, none_ended, without_more}
+use Rattle.prop_engine.proofs.Machines.{AsksByFront}
 
 -- a run goes on by one step
 pub run_more : {S : Type 0} (machine : Machine S) (old : S) (lines : List (List ℕ)) (answers : List Answer) (mid : S) (line : List ℕ) (answer : Answer) (new : S) → Run machine old lines answers mid → machine mid line answer new → Run machine old (lines ++ line ∷ []) (answers ++ answer ∷ []) new
