@@ -26,7 +26,7 @@ use Rattle.prop_workbench.specs.Refusing.{refusal_of}
 use Rattle.prop_workbench.specs.Running.{Outcome, Settled, Contradiction, outcome_of, MayEnd, Replies, Explained, IsValue, IsSettledValue, IsUnsettledValue, IsExplainedReply}
 use Rattle.prop_workbench.specs.Sessions.{state_from, AreKnown}
 use Rattle.prop_workbench.specs.Steps.{Obeys, Carries, CarriesUnless, Runs}
-use Rattle.prop_workbench.specs.Texts.{equation, because}
+use Rattle.prop_texts.specs.Texts.{equation, because}
 use Rattle.prop_vocabulary.proofs.Lookups.{number_below}
 use Rattle.prop_workbench.proofs.PremiseLemmas.{support_known, same_set}
 

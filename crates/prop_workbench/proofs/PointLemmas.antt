@@ -21,7 +21,7 @@ use Rattle.prop_workbench.specs.Points.{attached_in, Satisfy, SaysPoint, BearsOu
 use Rattle.prop_workbench.specs.Refusing.{refusal_of}
 use Rattle.prop_workbench.specs.Running.{Outcome, Settled, Unsettled, Contradiction, MayEnd, IsValue, IsValueReply, IsExplainedReply, Replies}
 use Rattle.prop_workbench.specs.Steps.{Runs, Obeys, Carries, CarriesUnless, Follows, Step}
-use Rattle.prop_workbench.specs.Texts.{because}
+use Rattle.prop_texts.specs.Texts.{because}
 
 still_member : (s t : Premises) → IsPart s t → (o : Option ℕ) → IsTrue (is_member s o) → IsTrue (is_member t o)
 still_member s t part None h = h

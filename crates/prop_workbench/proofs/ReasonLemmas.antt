@@ -11,7 +11,7 @@ use Rattle.prop_workbench.specs.Machine.{State, text_at}
 use Rattle.prop_vocabulary.specs.Names.{number_in}
 use Rattle.prop_workbench.specs.Reasons.{IsLeanExplanation, IsLeanContradiction, IsLeanReply}
 use Rattle.prop_workbench.specs.Sessions.{state_from}
-use Rattle.prop_workbench.specs.Texts.{equation, because, contradiction_text}
+use Rattle.prop_texts.specs.Texts.{equation, because, contradiction_text}
 
 -- an answer that says one text or lacks memory has no other
 pub the_text : (answer : Answer) (made text : List ℕ) → Says answer made → answer ≡ Text text → text ≡ made

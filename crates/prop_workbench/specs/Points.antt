@@ -9,7 +9,7 @@ use Rattle.prop_compound.specs.Reading.{reading}
 use Rattle.prop_engine.specs.Answers.{Answer, Text}
 use Rattle.prop_vocabulary.specs.Names.{number_in}
 use Rattle.prop_workbench.specs.Machine.{State, text_at, worldview_of}
-use Rattle.prop_workbench.specs.Texts.{equation, because, worldview_text}
+use Rattle.prop_texts.specs.Texts.{equation, because, worldview_text}
 
 -- the cells of a state, what is stated of them and what is attached to them
 abbrev pub attached_in : State → Attached

@@ -6,7 +6,7 @@ use Rattle.prop_compound.specs.Commands.{Command}
 use Rattle.prop_engine.specs.Answers.{Answer, Text}
 use Rattle.prop_vocabulary.specs.Names.{number_in}
 use Rattle.prop_workbench.specs.Machine.{State, text_at, worldview_of}
-use Rattle.prop_workbench.specs.Texts.{equation, because, contradiction_text}
+use Rattle.prop_texts.specs.Texts.{equation, because, contradiction_text}
 
 -- the text says what is believed of the cell, the mark, and the premises of believed entries of the cell that say it together,
 -- none of which can be left out

@@ -17,7 +17,7 @@ use Rattle.prop_lattice.specs.declared.refusal.Refusal.TheVariants.{Memory}
 use Rattle.prop_engine.specs.Answers.{Answer, Text, Refused}
 use Rattle.prop_vocabulary.specs.Names.{number_in}
 use Rattle.prop_workbench.specs.Machine.{State, problem_in, text_at, worldview_of}
-use Rattle.prop_workbench.specs.Texts.{equation, because, contradiction_text, worldview_text}
+use Rattle.prop_texts.specs.Texts.{equation, because, contradiction_text, worldview_text}
 
 pub data Outcome : Type 0 where
   Settled : Outcome

@@ -2,8 +2,8 @@
 ghost use Rattle.std.specs.Prelude.{◌≡◌, IsTrue};
 ghost use Rattle.prop_premises.specs.Origins.{is_user_at, with_belief_at};
 
-use prop_engine::Reply;
 use crate::session::Session;
+use prop_engine::Reply;
 use prop_lattice::Refusal;
 use prop_premises::{Premise, Premises};
 use prop_procedures::Rule;

@@ -5,9 +5,9 @@ ghost use Rattle.prop_workbench.specs.Refusing.{is_unknown, is_nowhere};
 ghost use Rattle.prop_workbench.specs.Effects.{domain_kind, kind_named};
 ghost use Rattle.prop_workbench.specs.Sessions.{IsSized};
 
-use prop_engine::Reply;
 use crate::session::Session;
 use prop_compound::{By, KindWord};
+use prop_engine::Reply;
 use prop_lattice::{Kind, Refusal};
 use prop_procedures::fitting::span_kinded;
 use prop_procedures::{Kinded, Param, Rule};

@@ -11,10 +11,10 @@ ghost use Rattle.prop_vocabulary.specs.Texts.{elements_of_kind};
 ghost use Rattle.prop_workbench.specs.Refusing.{meaning_at};
 ghost use Rattle.prop_workbench.specs.Sessions.{IsKnown};
 
-use prop_engine::Reply;
 use crate::session::Session;
 use prop_cells::Network;
 use prop_compound::{Meant, Value, read_value};
+use prop_engine::Reply;
 use prop_lattice::{Info, Kind, Limit, Partial, Refusal};
 use prop_premises::{Premise, Worldview};
 use prop_procedures::Rule;

@@ -1,11 +1,11 @@
 -- The texts of premises, one more at a time.
-use Rattle.std.proofs.Common.{◌≡◌, ◌∙◌, ◌<◌, ◌+◌, ℕ, zero, suc, Bool, true, false, not, if◌then◌else◌, List, [], ◌∷◌, ◌++◌, Option, Some, None, length, take, get_or, flat_map, slice_get, refl, sym, ap, arith, append_assoc, append-nil}
+use Rattle.std.proofs.Common.{◌≡◌, ◌∙◌, ◌<◌, ◌+◌, ℕ, zero, suc, Bool, true, false, not, if◌then◌else◌, List, [], ◌∷◌, ◌++◌, Option, Some, None, length, take, get_or, slice_get, refl, sym, ap, arith, append-nil}
 use Rattle.std.specs.Option.{option_map, option_map_or}
 use Rattle.std.proofs.lemmas.List.{take_more}
 use Rattle.std.proofs.lemmas.List.Concat.{flat_map-append}
 use Rattle.std.proofs.lemmas.Option.{slice_get-get_or}
 use Rattle.prop_premises.specs.Origins.{Origin, User, name_of, is_believed, believed_in}
-use Rattle.prop_workbench.specs.Texts.{name_at, premises_text, is_listed, listed}
+use Rattle.prop_texts.specs.Texts.{name_at, premises_text, is_listed, listed}
 
 map_or_from : {X Y : Type 0} (f : X → Y) (o : Option X) (v d : Y) → option_map f o ≡ Some v → option_map_or f o d ≡ v
 map_or_from f None v d e = cc

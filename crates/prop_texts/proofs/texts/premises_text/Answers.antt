@@ -1,9 +1,9 @@
 use Rattle.std.proofs.Common.{◌∙◌, ◌∷◌, ◌++◌, [], ap, sym, append_assoc, append-nil}
 use Rattle.std.proofs.lemmas.List.Elements.{recursion_from_All}
 use Rattle.std.specs.String.{string_bytes}
-use Rattle.prop_workbench.specs.Texts.{premises_text}
-use Rattle.prop_workbench.proofs.TextLemmas.{premises_text_more}
-use Rattle.prop_workbench.proofs.texts.premises_text.Goals as goal
+use Rattle.prop_texts.specs.Texts.{premises_text}
+use Rattle.prop_texts.proofs.TextLemmas.{premises_text_more}
+use Rattle.prop_texts.proofs.texts.premises_text.Goals as goal
 
 pub loop-premise-init : goal.loop-premise-init
 loop-premise-init c =

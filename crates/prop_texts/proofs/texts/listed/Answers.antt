@@ -1,9 +1,9 @@
 use Rattle.std.proofs.Common.{◌≡◌, ◌<◌, ◌∙◌, ◌∷◌, ◌++◌, ◌+◌, [], ap, sym, take, length, not, if◌then◌else◌, append_assoc}
 use Rattle.std.specs.String.{string_bytes}
-use Rattle.prop_workbench.specs.Texts.{listed}
-use Rattle.prop_workbench.proofs.TextLemmas.{listed_more, listed_same}
-use Rattle.prop_workbench.proofs.texts.listed.Goals as goal
-use Rattle.prop_workbench.proofs.texts.listed.Goals.{then-is_listed+in_ok-push_str+in_ok-push_str-2, else-is_listed}
+use Rattle.prop_texts.specs.Texts.{listed}
+use Rattle.prop_texts.proofs.TextLemmas.{listed_more, listed_same}
+use Rattle.prop_texts.proofs.texts.listed.Goals as goal
+use Rattle.prop_texts.proofs.texts.listed.Goals.{then-is_listed+in_ok-push_str+in_ok-push_str-2, else-is_listed}
 
 pub loop-number-preserved : goal.loop-number-preserved
 loop-number-preserved c =

@@ -1,7 +1,7 @@
 //! The texts of values and replies.
 ghost use Rattle.std.specs.Prelude.{◌≡◌, ◌<◌, ℕ, not, if◌then◌else◌, All, IfOk, length, string_bytes};
 ghost use Rattle.std.specs.List.Sorted.{IsStrictlyIncreasing};
-ghost use Rattle.prop_workbench.specs.Texts.{equation, premises_text, support_text, contradiction_text, because, listed, worldview_text};
+ghost use Rattle.prop_texts.specs.Texts.{equation, premises_text, support_text, contradiction_text, because, listed, worldview_text};
 ghost use Rattle.prop_engine.specs.Answers.{answer_of, Says};
 
 use prop_engine::Reply;
@@ -60,7 +60,8 @@ fn support_text(
     Ok(text)
 }
 
-/// What stands behind a value to tell what it rests on: the mark, and the premises.
+/// What stands behind a value to tell what it rests on: the mark, and the premises. `AllocError`
+/// where memory is refused.
 pub fn because(
     alloc: Global,
     premises: &Premises,
