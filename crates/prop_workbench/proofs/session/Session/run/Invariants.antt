@@ -1,4 +1,4 @@
-use Rattle.std.proofs.Common.{◌≤◌, ◌≡◌, ◌*◌, ◌+◌, ◌^◌, ◌-◌, min, max, false, List, ℕ}
+use Rattle.std.proofs.Common.{◌≤◌, ◌≡◌, ◌*◌, ◌+◌, ◌^◌, ◌-◌, min, max, List, ℕ}
 use Rattle.std.specs.Io.KnownBytes.{Appends, Consumes}
 use Rattle.prop_engine.specs.Watched.{device, calls, widest, IsFresh}
 use Rattle.prop_engine.specs.Progress.{Progress}
