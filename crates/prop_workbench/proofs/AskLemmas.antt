@@ -1,5 +1,5 @@
 -- What is answered when the network was run for a cell.
-use Rattle.std.proofs.Common.{◌≡◌, ℕ, ◌<◌, ◌≤◌, List, Option, Some, None, All, length, ◌∙◌, Result, Ok, Err, IfOk, ◌⊎◌, inl, inr, refl, sym, subst}
+use Rattle.std.proofs.Common.{◌≡◌, ℕ, ◌<◌, ◌≤◌, List, Option, Some, None, All, length, ◌∙◌, Result, Ok, Err, IfOk, inl, inr, refl, sym, subst}
 use Rattle.std.specs.List.Sorted.{IsStrictlyIncreasing}
 use Rattle.std.proofs.lemmas.Option.{slice_get-get_or}
 use Rattle.prop_lattice.specs.declared.info.Info.{Info}
@@ -19,13 +19,13 @@ use Rattle.prop_scheduler.specs.declared.outcome.Run.TheVariants.{Quiet, Clash, 
 use Rattle.prop_compound.specs.Commands as commands
 use Rattle.prop_compound.specs.Commands.{Command}
 use Rattle.prop_vocabulary.specs.Vocabulary.{Vocabulary}
-use Rattle.prop_workbench.specs.Answers.{Answer, Says, Text}
+use Rattle.prop_engine.specs.Answers.{Answer, Says, Text}
 use Rattle.prop_workbench.specs.Machine.{State, text_at}
 use Rattle.prop_workbench.specs.Refusing.{refusal_of}
 use Rattle.prop_workbench.specs.Running.{Outcome, Settled, Contradiction, outcome_of, MayEnd, Replies, Explained, IsValue, IsSettledValue, IsUnsettledValue, IsExplainedReply}
 use Rattle.prop_workbench.specs.Sessions.{state_from, AreKnown}
 use Rattle.prop_workbench.specs.Steps.{Obeys, Carries, CarriesUnless, Runs}
-use Rattle.prop_workbench.specs.Texts.{equation, because}
+use Rattle.prop_texts.specs.Texts.{equation, because}
 use Rattle.prop_vocabulary.proofs.CellLookups.{of_named}
 use Rattle.prop_workbench.proofs.PremiseLemmas.{support_known, same_set}
 use Rattle.prop_vocabulary.specs.Cells.{CellNames, cell_named}

@@ -1,5 +1,5 @@
 -- Putting a procedure between cells: what the network tests is what the machine says.
-use Rattle.std.proofs.Common.{◌≡◌, ◌∙◌, ℕ, ◌<◌, ◌+◌, ◌==◌, ◌||◌, Bool, true, false, cond, not, List, [], ◌∷◌, ◌++◌, Option, Some, None, All, map, length, slice_get, get_or, nat_le, bytes_eq, is_none, unwrap_or, ◌⊎◌, inl, inr, refl, sym, ap, subst, arith}
+use Rattle.std.proofs.Common.{◌≡◌, ◌∙◌, ℕ, ◌<◌, ◌+◌, ◌==◌, ◌||◌, Bool, true, false, not, List, [], ◌∷◌, ◌++◌, Option, Some, None, All, length, slice_get, get_or, nat_le, bytes_eq, is_none, unwrap_or, ◌⊎◌, inl, inr, refl, sym, ap, subst, arith}
 use Rattle.std.specs.List.{list_any}
 use Rattle.std.specs.Option.{option_map_or, option_and_then}
 use Rattle.std.proofs.lemmas.Bool.{lt-leb}
@@ -27,7 +27,7 @@ use Rattle.prop_cells.specs.Refusing.{refusal_at, attach_refusal, or_else}
 use Rattle.prop_compound.specs.Commands as commands
 use Rattle.prop_compound.specs.Commands.{By}
 use Rattle.prop_vocabulary.specs.Vocabulary.{Vocabulary}
-use Rattle.prop_workbench.specs.Answers.{Done, Refused}
+use Rattle.prop_engine.specs.Answers.{Done, Refused}
 use Rattle.prop_workbench.specs.Effects.{inputs_of, output_of, instance_made}
 use Rattle.prop_workbench.specs.Machine.{State}
 use Rattle.prop_workbench.specs.Refusing.{refusal_of, placing_refusal, limit_refusal, given_by, is_unknown, procedure_named}

@@ -1,16 +1,15 @@
 -- What an answer names, from the text that was made for it.
-use Rattle.std.proofs.Common.{◌≡◌, ◌∙◌, ℕ, List, [], codes, Option, Some, None, Result, Ok, Err, ◌⊎◌, inl, inr, refl, sym, ap, subst, rules}
+use Rattle.std.proofs.Common.{◌≡◌, ◌∙◌, ℕ, List, inl, inr, sym}
 use Rattle.prop_lattice.specs.declared.info.Info.{Info}
 use Rattle.prop_lattice.specs.declared.refusal.Refusal.TheVariants.{Memory}
 use Rattle.prop_premises.specs.Origins.{Origin, believed_in}
-use Rattle.prop_premises.specs.Sets.{set_of}
 use Rattle.prop_cells.specs.Data.{Data, beliefs, IsLeanAt, IsClash}
 use Rattle.prop_vocabulary.specs.Vocabulary.{Vocabulary}
-use Rattle.prop_workbench.specs.Answers.{Answer, Says, Text, Refused}
+use Rattle.prop_engine.specs.Answers.{Answer, Says, Text, Refused}
 use Rattle.prop_workbench.specs.Machine.{State, text_at}
 use Rattle.prop_workbench.specs.Reasons.{IsLeanExplanation, IsLeanContradiction, IsLeanReply}
 use Rattle.prop_workbench.specs.Sessions.{state_from}
-use Rattle.prop_workbench.specs.Texts.{equation, because, contradiction_text}
+use Rattle.prop_texts.specs.Texts.{equation, because, contradiction_text}
 use Rattle.prop_vocabulary.specs.Cells.{CellNames}
 
 -- an answer that says one text or lacks memory has no other

@@ -1,8 +1,7 @@
 -- What a session keeps.
-use Rattle.std.proofs.Common.{◌≡◌, ◌∙◌, ◌<◌, ℕ, Bool, true, false, List, [], ◌∷◌, ◌++◌, Some, All, Contains, map, length, slice_get, ◌⊎◌, refl, sym, ap, arith, inl, inr}
-use Rattle.std.proofs.lemmas.List.Elements.{All-weaker, All-push, All-contains, Contains-append_left, Contains-push}
+use Rattle.std.proofs.Common.{◌≡◌, ◌∙◌, ◌<◌, ℕ, List, [], ◌∷◌, ◌++◌, All, Contains, map, length, sym, arith, inl, inr}
+use Rattle.std.proofs.lemmas.List.Elements.{All-weaker, All-push, Contains-append_left, Contains-push}
 use Rattle.std.proofs.lemmas.List.{length-append, map-append, length-map}
-use Rattle.std.proofs.lemmas.Option.{slice_get_within}
 use Rattle.prop_procedures.specs.declared.shape.Kinded.{Kinded}
 use Rattle.prop_procedures.specs.Stored.{Stored}
 use Rattle.prop_cells.specs.Problems.{Premises, OthersMeet, Constraint, Meets, Assignment}
@@ -10,7 +9,7 @@ use Rattle.prop_cells.specs.Instances.{Instance, constraint_of}
 use Rattle.prop_cells.specs.Data.{Data, IsKept, beliefs}
 use Rattle.prop_cells.proofs.Lists.{slice_get-push_cases}
 use Rattle.prop_cells.proofs.Making.{beliefs-push}
-use Rattle.prop_scheduler.specs.Agendas.{Alerted, AllAlerted}
+use Rattle.prop_scheduler.specs.Agendas.{Alerted}
 use Rattle.prop_scheduler.specs.Turns.{IsUnderWay}
 
 pub under_way_cell : (library : List Stored) (s : Premises) (d new : Data) (line : List ℕ) (k : Kinded) → IsUnderWay library s d line → IsKept library new →

@@ -1,5 +1,5 @@
 -- What a value says at a cell, and why it is refused.
-use Rattle.std.proofs.Common.{◌≡◌, ◌∙◌, ℕ, ℤ, pos, neg_ℤ, ◌≤ℤ◌, ◌<◌, ◌≤◌, ◌^◌, ◌/◌, zero, suc, bytes_eq, nat_le, length, Bool, true, false, cond, ◌&&◌, ◌||◌, List, [], ◌∷◌, Option, Some, None, Result, Ok, Err, is_none, unwrap_or, IsTrue, ◌++◌, ◌⊎◌, inl, inr, refl, sym, ap, subst, arith, slice_index_or, eq-eqb}
+use Rattle.std.proofs.Common.{◌≡◌, ◌∙◌, ℕ, ℤ, pos, neg_ℤ, ◌≤ℤ◌, ◌<◌, ◌≤◌, ◌^◌, ◌/◌, zero, suc, bytes_eq, nat_le, length, Bool, true, false, cond, ◌&&◌, ◌||◌, List, [], ◌∷◌, Option, Some, None, Result, Ok, Err, is_none, unwrap_or, ◌⊎◌, inl, inr, refl, sym, ap, subst, arith, slice_index_or, eq-eqb}
 use Rattle.std.specs.Prelude.{int_le, int_lt}
 use Rattle.std.specs.Result.{result_unwrap_or}
 use Rattle.std.specs.Option.{option_map, option_map_or, option_and_then}
@@ -7,7 +7,7 @@ use Rattle.std.specs.List.{list_all}
 use Rattle.std.proofs.lemmas.Int.{ints}
 use Rattle.std.proofs.lemmas.Bool.{lt-leb}
 use Rattle.prop_lattice.specs.declared.info.Info.{Info}
-use Rattle.prop_lattice.specs.declared.info.Info.TheVariants.{Nothing, Set}
+use Rattle.prop_lattice.specs.declared.info.Info.TheVariants.{Nothing}
 use Rattle.prop_lattice.specs.declared.info.Kind.{Kind}
 use Rattle.prop_lattice.specs.declared.info.Kind.TheVariants as kinds
 use Rattle.prop_lattice.specs.declared.refusal.Refusal.{Refusal}
@@ -15,7 +15,7 @@ use Rattle.prop_lattice.specs.declared.refusal.Refusal.TheVariants.{NotAName, No
 use Rattle.prop_lattice.specs.declared.refusal.Limit.TheVariants.{Statements}
 use Rattle.prop_lattice.specs.Ends.{AreEnds, AreSome, ends_or_not, some_or_not, span_if, span_from, elements_if, elements_from}
 use Rattle.prop_lattice.specs.Refusals.{most}
-use Rattle.prop_premises.specs.Origins.{Origin, premise_number}
+use Rattle.prop_premises.specs.Origins.{premise_number}
 use Rattle.prop_procedures.specs.Stored.{Stored}
 use Rattle.prop_procedures.specs.declared.shape.Kinded.{Kinded}
 use Rattle.std.proofs.Math.Pow.{pow_mono}
@@ -28,16 +28,15 @@ use Rattle.prop_cells.specs.Instances.{kind_at}
 use Rattle.prop_cells.specs.Refusing.{may_be_stated, state_refusal}
 use Rattle.prop_cells.specs.Data.{Data}
 use Rattle.prop_cells.specs.declared.instance.Statement.{Statement}
-use Rattle.prop_compound.specs.Commands as commands
 use Rattle.prop_compound.specs.Commands.{Value, Bare, Braces}
-use Rattle.prop_compound.specs.Names.{number_in as number_within, whole_number, is_name, is_among}
+use Rattle.prop_compound.specs.Names.{whole_number, is_name, is_among}
 use Rattle.prop_compound.specs.Values.{Meant, Known, Name, known, value_said, span_value, set_value, bits_named, ends_value, bounded_number, halves}
 use Rattle.prop_vocabulary.specs.Names.{number_in}
 use Rattle.prop_vocabulary.specs.Texts.{elements_of_kind}
 use Rattle.prop_workbench.specs.Machine.{State}
 use Rattle.prop_workbench.specs.Refusing.{refusal_of, telling_limit, stating_limit, stating_limit_at, meaning_at, is_error}
 use Rattle.prop_vocabulary.specs.Refusing.{first_of, when}
-use Rattle.prop_workbench.specs.Answers.{Done}
+use Rattle.prop_engine.specs.Answers.{Done}
 use Rattle.prop_workbench.specs.Steps.{Obeys, Carries}
 use Rattle.prop_workbench.specs.Effects.{stated, stating, meant_at, words_at, info_at, with_meant, info_meant, MayMean}
 use Rattle.prop_workbench.proofs.StepLemmas.{first_of-one, obeys}

@@ -1,5 +1,5 @@
 -- What a vocabulary that grows keeps.
-use Rattle.std.proofs.Common.{◌≡◌, ◌∙◌, ℕ, ◌<◌, ◌+◌, Bool, true, false, List, [], ◌∷◌, ◌++◌, Option, Some, None, All, length, take, slice_get, unwrap_or, is_some, if◌then◌else◌, rules, refl, sym, ap, arith}
+use Rattle.std.proofs.Common.{◌≡◌, ◌∙◌, ℕ, ◌<◌, Bool, true, false, List, [], ◌∷◌, ◌++◌, Option, Some, None, All, length, slice_get, unwrap_or, is_some, if◌then◌else◌, rules, sym, ap, arith}
 use Rattle.std.proofs.lemmas.List.{length-append, take_all}
 use Rattle.std.proofs.Math.Seq.{take-append_seam}
 use Rattle.std.proofs.lemmas.Option.{unwrap_or-slice_get}
@@ -9,15 +9,14 @@ use Rattle.prop_lattice.specs.declared.info.Kind.{Kind}
 use Rattle.prop_lattice.specs.declared.info.Kind.TheVariants as kinds
 use Rattle.prop_procedures.specs.declared.shape.Kinded.{Kinded}
 use Rattle.prop_vocabulary.specs.Names.{number_in}
-use Rattle.prop_vocabulary.specs.Vocabulary.{Vocabulary, with_domain, with_relation, with_symbol, with_first_symbols}
-use Rattle.prop_vocabulary.specs.Texts.{elements_of_kind}
+use Rattle.prop_vocabulary.specs.Vocabulary.{Vocabulary, with_domain, with_symbol, with_first_symbols}
 use Rattle.std.specs.Borrow.{Bor}
 use Rattle.prop_compound.specs.Commands.{Command}
 use Rattle.prop_compound.specs.Said.{words}
 use Rattle.prop_compound.specs.Reading.{reading}
 use Rattle.prop_compound.proofs.RefusalLaws.{reads_what_is_spelled}
 use Rattle.std.specs.Prelude.{Ok}
-use Rattle.prop_workbench.specs.Sessions.{IsKnown, IsSized, HasElements}
+use Rattle.prop_workbench.specs.Sessions.{IsSized, HasElements}
 
 -- a kind keeps its size where the domains are as they were
 pub sized_same : (words new : Vocabulary) (xs : List Kinded) → new.domains ≡ words.domains → All (IsSized words) xs → All (IsSized new) xs

@@ -6,9 +6,9 @@ use Rattle.prop_procedures.specs.declared.shape.Param.{Param}
 use Rattle.prop_cells.specs.Points.{Attached, ArePoints}
 use Rattle.prop_compound.specs.Commands.{Command}
 use Rattle.prop_compound.specs.Reading.{reading}
-use Rattle.prop_workbench.specs.Answers.{Answer, Text}
+use Rattle.prop_engine.specs.Answers.{Answer, Text}
 use Rattle.prop_workbench.specs.Machine.{State, text_at, worldview_of}
-use Rattle.prop_workbench.specs.Texts.{equation, because, worldview_text}
+use Rattle.prop_texts.specs.Texts.{equation, because, worldview_text}
 use Rattle.prop_vocabulary.specs.Cells.{cell_named}
 
 -- the cells of a state, what is stated of them and what is attached to them

@@ -3,9 +3,9 @@ use Rattle.std.specs.Prelude.{◌≡◌, ℕ, List, [], codes, Option, Some, Res
 use Rattle.prop_lattice.specs.declared.refusal.Refusal.{Refusal}
 use Rattle.prop_cells.specs.Data.{Data, beliefs, IsLeanAt, IsClash}
 use Rattle.prop_compound.specs.Commands.{Command}
-use Rattle.prop_workbench.specs.Answers.{Answer, Text}
+use Rattle.prop_engine.specs.Answers.{Answer, Text}
 use Rattle.prop_workbench.specs.Machine.{State, text_at, worldview_of}
-use Rattle.prop_workbench.specs.Texts.{equation, because, contradiction_text}
+use Rattle.prop_texts.specs.Texts.{equation, because, contradiction_text}
 use Rattle.prop_vocabulary.specs.Cells.{cell_named}
 
 -- the text says what is believed of the cell, the mark, and the premises of believed entries of the cell that say it together,

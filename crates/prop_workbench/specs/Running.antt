@@ -1,5 +1,5 @@
 -- How a command that runs the network may end, and what it may answer then.
-use Rattle.std.specs.Prelude.{◌≡◌, ◌≢◌, ℕ, IsTrue, List, [], ◌++◌, codes, Option, Some, All, ⊤, ◌⊎◌}
+use Rattle.std.specs.Prelude.{◌≡◌, ◌≢◌, ℕ, IsTrue, List, [], codes, Some, All, ⊤, ◌⊎◌}
 use Rattle.std.specs.List.Sorted.{IsStrictlyIncreasing}
 use Rattle.prop_lattice.specs.declared.info.Info.{Info}
 use Rattle.prop_lattice.specs.declared.info.Info.TheVariants as infos
@@ -14,9 +14,9 @@ use Rattle.prop_scheduler.specs.declared.outcome.Run.{Run}
 use Rattle.prop_scheduler.specs.declared.outcome.Run.TheVariants.{Quiet, Clash, Spent}
 use Rattle.prop_compound.specs.Commands.{Command}
 use Rattle.prop_lattice.specs.declared.refusal.Refusal.TheVariants.{Memory}
-use Rattle.prop_workbench.specs.Answers.{Answer, Text, Refused}
+use Rattle.prop_engine.specs.Answers.{Answer, Text, Refused}
 use Rattle.prop_workbench.specs.Machine.{State, problem_in, text_at, worldview_of}
-use Rattle.prop_workbench.specs.Texts.{equation, because, contradiction_text, worldview_text}
+use Rattle.prop_texts.specs.Texts.{equation, because, contradiction_text, worldview_text}
 use Rattle.prop_vocabulary.specs.Cells.{cell_named}
 
 pub data Outcome : Type 0 where

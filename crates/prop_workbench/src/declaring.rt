@@ -5,9 +5,9 @@ ghost use Rattle.prop_workbench.specs.Refusing.{is_unknown, is_nowhere};
 ghost use Rattle.prop_workbench.specs.Effects.{domain_kind, kind_named};
 ghost use Rattle.prop_workbench.specs.Sessions.{IsSized};
 
-use crate::reply::Reply;
 use crate::session::Session;
 use prop_compound::{By, KindWord};
+use prop_engine::Reply;
 use prop_lattice::{Kind, Refusal};
 use prop_procedures::fitting::span_kinded;
 use prop_procedures::{Kinded, Param, Rule};
@@ -69,7 +69,7 @@ impl<R: Rule + Drop, O: Order + Drop> Session<R, O> {
     ghost use Rattle.prop_cells.specs.Instances.{param_in, fitting_param, sides_given};
     ghost use Rattle.std.specs.Option.{option_and_then};
     ghost use Rattle.prop_procedures.specs.Stored.{sides_of};
-    ghost use Rattle.prop_workbench.specs.Answers.{answer_of};
+    ghost use Rattle.prop_engine.specs.Answers.{answer_of};
     ghost use Rattle.std.specs.Prelude.{slice_get};
     ghost use Rattle.prop_procedures.specs.Stored.{Stored};
     ghost use Rattle.prop_procedures.specs.declared.shape.Need.{Need};

@@ -6,7 +6,7 @@ use Rattle.prop_workbench.specs.Machine.{State, problem_in}
 use Rattle.prop_workbench.specs.Running.{MayEnd, Contradiction, Settled, Unsettled, IsSettledValue, IsUnsettledValue, Explained}
 use Rattle.prop_workbench.specs.Sessions.{state_from}
 use Rattle.prop_scheduler.specs.Turns.{IsSettled}
-use Rattle.prop_workbench.specs.Answers.{answer_of}
+use Rattle.prop_engine.specs.Answers.{answer_of}
 use Rattle.prop_workbench.proofs.AskLemmas.{ran_explained, settled_value, unsettled_value, conflict_known}
 use Rattle.prop_cells.specs.Data.{IsClash}
 use Rattle.prop_workbench.specs.Reasons.{IsLeanExplanation}
