@@ -4,6 +4,7 @@
 pub mod domains;
 mod growth;
 pub mod names;
+mod numbered;
 mod pairs;
 pub mod relations;
 pub mod symbols;
