@@ -1,12 +1,13 @@
 //! The instances and fresh cells that a use stands for.
-ghost use Rattle.std.specs.Prelude.{◌≡◌, ◌<◌, ◌+◌, ◌∷◌, List, All, length, map, reverse, slice_get, IfOk, OnOk};
+ghost use Rattle.std.specs.Prelude.{◌≡◌, ◌<◌, ◌+◌, ◌∷◌, ◌++◌, [], ◌&&◌, not, List, All, length, reverse, slice_get, IfOk, OnOk};
 ghost use Rattle.std.specs.Option.{option_map_or};
 ghost use Rattle.prop_compound.specs.declared.definition.NumberedStep.{NumberedStep as Numbered};
-ghost use Rattle.prop_compound.specs.Expansion.{cells_at, passed, is_something, definition_expanded, steps_expanded};
+ghost use Rattle.prop_compound.specs.Expansion.{cells_at, passed, is_something, with_fresh, definition_expanded, steps_expanded};
 ghost use Rattle.prop_compound.specs.Kept.{all_bare, places_made, IsInScope, IsUseBelow, AreKept};
 
 use crate::definition::{KeptDefinition, NumberedStep, Passing, Used};
 use crate::walk::Walk;
+use prop_procedures::Kinded;
 use std::alloc::{AllocError, Global};
 
 /// What a step passes in a definition that is itself given this.
@@ -38,6 +39,23 @@ fn cells_at(alloc: Global, cells: &[usize], places: &[usize]) -> Result<Vec<usiz
     Ok(chosen)
 }
 
+/// Whether what is given is spare, where the definition takes a parameter or none.
+fn is_spare(given: Passing, takes: bool) -> bool
+    ensures { result ≡ (is_something given && not takes) }
+{
+    is_something(given) && !takes
+}
+
+/// A local of this kind: a fresh cell, which has the next place.
+fn add_local(kind: Kinded, cells: &mut Vec<usize>, walk: &mut Walk) -> Result<(), AllocError>
+    ensures walk { OnOk result (walk.new ≡ with_fresh walk.old kind) }
+    ensures cells { OnOk result (cells.new.items ≡ cells.old.items ++ length walk.old.kinds ∷ []) }
+{
+    let cell = walk.add_cell(kind)?;
+    cells.push(cell)?;
+    Ok(())
+}
+
 /// Adds what a use of the definition with this number stands for, on these cells and given this.
 #[cycle(expanding)]
 fn expand_definition(
@@ -54,7 +72,7 @@ fn expand_definition(
     ensures { OnOk result (walk.new ≡ definition_expanded (reverse (all_bare definitions.now)) number cells.items given walk.old) }
 {
     let definition = &definitions[number];
-    walk.note(is_something(given) && !definition.takes);
+    walk.note(is_spare(given, definition.takes));
     for step in &definition.steps {
         expand_step(alloc, definitions, number, step, given, &mut cells, walk)?;
     }
@@ -80,30 +98,20 @@ fn expand_step(
     ensures places { OnOk result (length cells.new.items ≡ length cells.old.items + places_made step.now) }
 {
     match step {
-        NumberedStep::Local(kind) => {
-            let cell = walk.add_cell(*kind)?;
-            cells.push(cell)?;
-        }
+        NumberedStep::Local(kind) => add_local(*kind, cells, walk),
         NumberedStep::Like(place) => {
             let kind = walk.kind(cells[*place]);
-            let cell = walk.add_cell(kind)?;
-            cells.push(cell)?;
+            add_local(kind, cells, walk)
         }
         NumberedStep::Use(used, places, passing) => {
             let chosen = cells_at(alloc, cells, places.as_slice())?;
-            let given = passed(given, *passing);
+            let passed = passed(given, *passing);
             match *used {
-                Used::Procedure(procedure) => walk.add_instance(procedure, given, chosen)?,
-                Used::Definition(earlier) => expand_definition(
-                    alloc,
-                    definitions,
-                    earlier,
-                    chosen,
-                    given,
-                    walk,
-                )?,
+                Used::Procedure(procedure) => walk.add_instance(procedure, passed, chosen),
+                Used::Definition(earlier) => {
+                    expand_definition(alloc, definitions, earlier, chosen, passed, walk)
+                }
             }
         }
     }
-    Ok(())
 }
