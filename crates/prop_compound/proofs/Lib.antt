@@ -5,3 +5,6 @@ pub mod Halving
 pub mod SpellingLaws
 pub mod RefusalLaws
 pub mod Choosing
+pub mod Latest
+pub mod Unrolling
+pub mod Walking

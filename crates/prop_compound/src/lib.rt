@@ -2,14 +2,19 @@
 #![tactic(auto)]
 
 pub mod command;
+pub mod definition;
+pub mod definitions;
+mod expanding;
 mod forms;
 mod names;
 mod numbers;
 mod reading;
 mod tokens;
 mod values;
+mod walk;
 
 pub use command::{By, Command, KindWord, Passed, Step, Value};
+pub use definitions::Definitions;
 pub use numbers::number_in;
 pub use reading::{read_line, reads_what_is_spelled};
 pub use values::{Meant, read_value};

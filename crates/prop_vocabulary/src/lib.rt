@@ -5,6 +5,7 @@ pub mod cells;
 pub mod domains;
 mod growth;
 pub mod names;
+mod numbered;
 mod pairs;
 pub mod relations;
 pub mod symbols;
