@@ -33,6 +33,7 @@ impl<R: Rule + Drop, O: Order + Drop> Session<R, O> {
         ensures steps { steps_of self.new ≡ steps_of self.old }
         ensures names { self.new.names ≡ self.old.names }
         ensures words { self.new.words ≡ self.old.words }
+        ensures definitions { self.new.definitions ≡ self.old.definitions }
         ensures premises { self.new.premises ≡ self.old.premises }
         ensures worldview { self.new.worldview ≡ self.old.worldview }
         ensures state { state_of self.new ≡ state_of self.old }

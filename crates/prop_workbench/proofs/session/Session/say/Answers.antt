@@ -17,7 +17,7 @@ pub returns-in-None-clause-step : goal.returns-in-None-clause-step
 returns-in-None-clause-step g c =
     let s = c.args.self.now in
     let library = stored_of g.R.Rule.value_of s.network.library in
-    let state = state_from s.names s.words s.premises s.network.cells s.limit in
+    let state = state_from s.names s.words s.definitions s.premises s.network.cells s.limit in
     refuses library state state (stating (name_of c.args.premise) c.args.name.now (value_of c.args.value.now)) _ (no_cell library state (name_of c.args.premise) c.args.name.now (value_of c.args.value.now) (sym c.in-None.ensures.number)) refl
 
 pub meaning-requires : goal.meaning-requires
@@ -31,7 +31,7 @@ pub returns-in-Err-clause-step : goal.returns-in-Err-clause-step
 returns-in-Err-clause-step g c =
     let s = c.args.self.now in
     let library = stored_of g.R.Rule.value_of s.network.library in
-    let state = state_from s.names s.words s.premises s.network.cells s.limit in
+    let state = state_from s.names s.words s.definitions s.premises s.network.cells s.limit in
     let kind : kind_at s.network.cells.kinds c.in-Some.cell ≡ c.kind-kind.result = sym (c.kind-kind.ensures ∙ ap (λ d. kind_at d.kinds c.in-Some.cell) c.data.ensures) in
     let said = ap (λ (k : Kinded). meaning_at s.words k.kind (value_of c.args.value.now)) kind ∙ c.in-Err.ensures.err in
     refuses library state state (stating (name_of c.args.premise) c.args.name.now (value_of c.args.value.now)) c.in-Err.refusal
@@ -51,7 +51,7 @@ pub returns-in-Ok-state_meant-clause-step : goal.returns-in-Ok-state_meant-claus
 returns-in-Ok-state_meant-clause-step g c =
     let s = c.args.self.now in
     let library = stored_of g.R.Rule.value_of s.network.library in
-    let state = state_from s.names s.words s.premises s.network.cells s.limit in
+    let state = state_from s.names s.words s.definitions s.premises s.network.cells s.limit in
     let kind : kind_at s.network.cells.kinds c.in-Some.cell ≡ c.kind-kind.result = sym (c.kind-kind.ensures ∙ ap (λ d. kind_at d.kinds c.in-Some.cell) c.data.ensures) in
     let said = ap (λ (k : Kinded). meaning_at s.words k.kind (value_of c.args.value.now)) kind ∙ c.in-Ok.ensures.ok in
     value_done library state _ (name_of c.args.premise) c.args.name.now (value_of c.args.value.now) c.in-Some.cell (meant_of c.in-Ok.meant) (sym c.in-Some.ensures.number) said c.in-Ok-state_meant.ensures.fits c.in-Ok-state_meant.ensures.ok
@@ -60,7 +60,7 @@ pub returns-in-Err-state_meant-clause-step : goal.returns-in-Err-state_meant-cla
 returns-in-Err-state_meant-clause-step g c =
     let s = c.args.self.now in
     let library = stored_of g.R.Rule.value_of s.network.library in
-    let state = state_from s.names s.words s.premises s.network.cells s.limit in
+    let state = state_from s.names s.words s.definitions s.premises s.network.cells s.limit in
     let kind : kind_at s.network.cells.kinds c.in-Some.cell ≡ c.kind-kind.result = sym (c.kind-kind.ensures ∙ ap (λ d. kind_at d.kinds c.in-Some.cell) c.data.ensures) in
     let said = ap (λ (k : Kinded). meaning_at s.words k.kind (value_of c.args.value.now)) kind ∙ c.in-Ok.ensures.ok in
     refuses_or_lacks library state _ (stating (name_of c.args.premise) c.args.name.now (value_of c.args.value.now)) c.in-Err-state_meant.refusal
