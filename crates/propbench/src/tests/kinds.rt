@@ -48,7 +48,12 @@ fn answers_sessions_over_all_kinds(rt: HostRuntime) -> Result<(), Fail> {
     for (input, output) in CASES {
         let mut reader = Watched::new(input.as_bytes());
         let mut writer = Watched::new(Vec::new(rt.alloc()));
-        run(rt.alloc(), Options { limit: 1000 }, &mut reader, &mut writer)?;
+        run(
+            rt.alloc(),
+            Options { limit: 1000 },
+            &mut reader,
+            &mut writer,
+        )?;
         assert_eq!(rt; writer.into_inner().as_slice(), output.as_bytes());
     }
     Ok(())
