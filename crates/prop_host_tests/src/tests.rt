@@ -130,12 +130,16 @@ fn kinds_fit_shapes(rt: HostRuntime) {
     };
     let any = Shape::Any(0);
     assert!(rt;
-        are_right(Need::Nothing, None, &[
-            (Shape::Span, span),
-            (Shape::Truth, truth),
-            (any, truth),
-            (any, truth)
-        ])
+        are_right(
+            Need::Nothing,
+            None,
+            &[
+                (Shape::Span, span),
+                (Shape::Truth, truth),
+                (any, truth),
+                (any, truth)
+            ]
+        )
     );
     assert!(rt; !are_right(Need::Nothing, None, &[(any, span), (any, truth)]));
     assert!(rt; !are_right(Need::Nothing, None, &[(Shape::Span, truth)]));

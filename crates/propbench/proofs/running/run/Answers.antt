@@ -15,6 +15,9 @@ returns-in_err-call-clause-err g c = on_err _ _ (nothing_yet _ _ _)
 pub returns-in_err-push-clause-err : goal.returns-in_err-push-clause-err
 returns-in_err-push-clause-err g c = on_err _ _ (nothing_yet _ _ _)
 
+pub returns-in_err-session-clause-err : goal.returns-in_err-session-clause-err
+returns-in_err-session-clause-err g c = on_err _ _ (nothing_yet _ _ _)
+
 pub loop-rule-preserved : goal.loop-rule-preserved
 loop-rule-preserved g c =
     let p = c.new-in-loop-rule.ensures in
