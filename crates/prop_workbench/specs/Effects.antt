@@ -1,5 +1,5 @@
 -- What a command that isn't refused does to the state.
-use Rattle.std.specs.Prelude.{◌≡◌, ℕ, IsTrue, List, [], ◌∷◌, ◌++◌, Option, Some, None, true, false, length, slice_get, unwrap_or}
+use Rattle.std.specs.Prelude.{◌≡◌, ℕ, IsTrue, List, [], ◌∷◌, ◌++◌, Option, Some, None, true, false, cond, ◌+◌, ◌-◌, nat_lt, drop, map, length, slice_get, slice_index_or, unwrap_or}
 use Rattle.std.specs.Result.{result_unwrap_or}
 use Rattle.std.specs.Borrow.{Bor}
 use Rattle.std.specs.Option.{option_map, option_map_or, option_and_then}
@@ -9,7 +9,9 @@ use Rattle.prop_lattice.specs.declared.info.Kind.TheVariants as kinds
 use Rattle.prop_premises.specs.Origins.{Origin, premise_number, with_name, with_belief_at}
 use Rattle.prop_procedures.specs.declared.shape.Kinded.{Kinded}
 use Rattle.prop_procedures.specs.Stored.{Stored}
-use Rattle.prop_compound.specs.Commands.{KindWord, Spans, Truths, Symbols, Named, Value, Command}
+use Rattle.prop_compound.specs.Commands.{Value, Command}
+use Rattle.prop_compound.specs.Defining.{kind_named}
+use Rattle.prop_compound.specs.Expansion.{Placed, Expansion}
 use Rattle.prop_compound.specs.Values.{Meant, Known, Name}
 use Rattle.prop_procedures.specs.declared.shape.Param.{Param}
 use Rattle.prop_procedures.specs.declared.shape.Param.TheVariants.{Plain}

@@ -1,6 +1,8 @@
 -- How the network makes what a use stands for.
 use Rattle.std.specs.Prelude.{◌≡◌, ◌<◌, ◌≤◌, ◌^◌, ℕ, ◌+◌, ◌-◌, List, [], ◌∷◌, ◌++◌, All, cond, true, false, nat_lt, Option, Some, None, drop, length, map, is_none, slice_get, slice_index_or}
 use Rattle.std.specs.Option.{option_and_then}
+use Rattle.prop_lattice.specs.Refusals.{most}
+use Rattle.prop_lattice.specs.declared.refusal.Limit.TheVariants.{Cells, Instances}
 use Rattle.prop_procedures.specs.declared.shape.Kinded.{Kinded}
 use Rattle.prop_procedures.specs.declared.shape.Param.{Param}
 use Rattle.prop_procedures.specs.Stored.{Stored, sides_of}

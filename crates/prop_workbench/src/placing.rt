@@ -1,5 +1,7 @@
 //! Making what a use stands for in a network: fresh cells, parameters and instances, all of them or none.
 ghost use Rattle.std.specs.Prelude.{◌≡◌, ◌≤◌, ◌<◌, ◌^◌, ◌+◌, ◌-◌, ◌++◌, ◌∷◌, [], All, drop, length, map, IfOk, IfErr, OnOk, OnErr};
+ghost use Rattle.prop_lattice.specs.Refusals.{most};
+ghost use Rattle.prop_lattice.specs.declared.refusal.Limit.TheVariants.{Cells, Instances};
 ghost use Rattle.prop_procedures.specs.Kept.{stored_of};
 ghost use Rattle.prop_cells.specs.Data.{Data as Held, IsKept, IsWellMade};
 ghost use Rattle.prop_cells.specs.Back.{GoesBackTo};
