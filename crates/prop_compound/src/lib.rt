@@ -2,14 +2,19 @@
 #![tactic(auto)]
 
 pub mod command;
+mod counting;
+pub mod defining;
 pub mod definition;
 pub mod definitions;
 mod expanding;
+mod fitting;
 pub mod flat;
 mod forms;
 mod names;
 mod numbers;
 mod reading;
+mod resolving;
+mod scope;
 mod tokens;
 pub mod uses;
 mod values;
@@ -24,3 +29,5 @@ pub use values::{Meant, read_value};
 
 #[cfg(test)]
 mod tests;
+#[cfg(test)]
+mod tests_definitions;
