@@ -6,6 +6,7 @@ mod forms;
 mod names;
 mod numbers;
 mod reading;
+mod steps;
 mod tokens;
 mod values;
 
