@@ -1,5 +1,6 @@
 -- What the parts of a definition make together.
 use Rattle.std.proofs.Common.{◌≡◌, ℕ, ◌+◌, ◌<◌, List, [], ◌∷◌, ◌++◌, length, take, drop, map, Bool, true, false, cond, refl, sym, ◌∙◌, ap, subst, arith, suc, Some, None, Ok, Err, inl, inr}
+use Rattle.std.specs.Borrow.{Bor}
 use Rattle.std.specs.Prelude.{Option, Result, ◌⊎◌, ◌==◌, ◌&&◌, not, Contains, flat_map}
 use Rattle.std.specs.Option.{option_map, option_and_then}
 use Rattle.std.specs.List.{list_all, slice_split, onto_first, before_first, after_first, position_or_len}
@@ -15,6 +16,10 @@ use Rattle.prop_compound.specs.Commands.{Step, Command}
 use Rattle.prop_compound.specs.Forms.{join, only_words, each, is_semicolon, is_equals, step, steps, define}
 use Rattle.prop_compound.specs.Reading.{step_names, is_step_in_range, command_in_range, command_in_form}
 use Rattle.prop_compound.specs.Parts.{front_words, judged, step_in_range, step_in_form, body}
+
+-- what each step is, or why it is refused
+abbrev pub reads : List (List Token) → List (Result Step Refusal)
+reads parts = map (λ ts. step_in_form (step ts)) parts
 
 -- ---- the bytes of each step
 
@@ -96,8 +101,17 @@ cut (b ∷ bytes) = at (is_blank b) (mark_of b) refl refl (cut bytes)
     at false (Some m) e f k = cut_mark b bytes m e f k (is_semicolon m) refl
 
 -- the words and marks of the parts are the parts of the words and marks
-pub tokens_cut : (bytes : List ℕ) → map tokens (pieces bytes) ≡ slice_split is_semicolon (tokens bytes)
+tokens_cut : (bytes : List ℕ) → map tokens (pieces bytes) ≡ slice_split is_semicolon (tokens bytes)
 tokens_cut bytes = let k = cut bytes in ap (map tokens) k.2 ∙ sym (cut_tokens bytes k)
+
+parts_apart : (parts : List (Bor (List ℕ))) → map (λ part. step_in_form (step (tokens part.now))) parts ≡ reads (map tokens (map (λ part. part.now) parts))
+parts_apart [] = refl
+parts_apart (part ∷ parts) = ap (λ l. step_in_form (step (tokens part.now)) ∷ l) (parts_apart parts)
+
+-- all parts by themselves are the steps by themselves
+pub all_parts : (parts : List (Bor (List ℕ))) (bytes : List ℕ) → map (λ part. part.now) parts ≡ pieces bytes → map (λ part. step_in_form (step (tokens part.now))) parts ≡ reads (slice_split is_semicolon (tokens bytes))
+all_parts parts bytes e =
+    parts_apart parts ∙ ap (λ l. reads (map tokens l)) e ∙ ap reads (tokens_cut bytes)
 
 -- ---- what stands before the equals sign
 
@@ -200,10 +214,6 @@ later_within y x ys h = Contains-append_right (y ∷ []) ys x h
 
 -- ---- the steps by themselves
 
--- what each step is, or why it is refused
-abbrev pub reads : List (List Token) → List (Result Step Refusal)
-reads parts = map (λ ts. step_in_form (step ts)) parts
-
 -- why something is refused for a word of it
 abbrev Judgement : (names : List (List ℕ)) (in_range : Bool) (refusal : Refusal) → Type 0
 Judgement names in_range refusal =
@@ -275,9 +285,9 @@ steps_refused : (ss : List Step) (refusal : Refusal) → ¬ (Contains (map step_
 steps_refused [] refusal n h = absurd (none_within (Err refusal) h)
 steps_refused (s ∷ ss) refusal n h = elim (first_or (step_in_range s) (Err refusal) (map step_in_range ss) h) [
   | inl first ↦ elim (why_judged (step_names s) (is_step_in_range s) s refusal first) [
-      | inl w ↦ absurd (n (first_within (step_in_range s) (Err NotAName) (map step_in_range ss) (first ∙ ap Err w.0)))
-      | inr w ↦ (w.0, rw w.2 refl)
-    ]
+    | inl w ↦ absurd (n (first_within (step_in_range s) (Err NotAName) (map step_in_range ss) (first ∙ ap Err w.0)))
+    | inr w ↦ (w.0, rw w.2 refl)
+  ]
   | inr later ↦
       let more = steps_refused ss refusal (λ m. n (later_within (step_in_range s) (Err NotAName) (map step_in_range ss) m)) later in
       (more.0, rw more.1 (none_true (is_step_in_range s)))
@@ -303,8 +313,7 @@ accepted (s ∷ ss) (r ∷ read) h =
     let first : step_in_range s ≡ Ok r = cc in
     let later : map step_in_range ss ≡ map Ok read = cc in
     let one = right_judged (step_names s) (is_step_in_range s) s r first in
-    let more = accepted ss read later in
-    (
+    let more = accepted ss read later in (
       ap (λ x. x ∷ ss) one.0 ∙ ap (λ l. r ∷ l) more.0,
       list_all-append is_name (step_names s) (names_of_steps ss) ∙ rw (one.1, more.1) refl,
       rw (one.2, more.2) refl,

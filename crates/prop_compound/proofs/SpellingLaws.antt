@@ -345,6 +345,7 @@ step_spelled ts s h = at (local_of_kind ts) (local_like ts) refl refl h
     other e f (inr (n, p, t)) =
         let read : local_like ts ≡ Some (Step.Like n p) = rw t refl in
         none-some _ (sym f ∙ read)
+
     at : (o q : Option Step) → local_of_kind ts ≡ o → local_like ts ≡ q → option_or o (option_or q (use_step ts)) ≡ Some s → SpellsStep ts s
     at (Some r) q e f h =
         let k = kind_form ts r e in

@@ -9,9 +9,8 @@ ghost use Rattle.prop_compound.specs.Said.{Reads, KeepsWords};
 ghost use Rattle.prop_compound.specs.Refusals.{RefusesTheFirst, ReadsWhatIsSpelled, PassesOverSilence};
 
 use crate::command::Command;
-use crate::forms;
-use crate::steps;
 use crate::tokens::{Token, is_blank, next_token};
+use crate::{forms, steps};
 use prop_lattice::Refusal;
 use std::alloc::Global;
 

@@ -1,5 +1,5 @@
 //! The form of a definition: what is read from the bytes behind its word.
-ghost use Rattle.std.specs.Prelude.{◌≡◌, ◌∷◌, ◌⊎◌, IfOk, IfErr, OnOk, Contains, Ok, Err, Some, None, map};
+ghost use Rattle.std.specs.Prelude.{◌≡◌, ◌↔◌, ◌∷◌, ◌⊎◌, IsTrue, IfOk, IfErr, OnOk, Contains, Ok, Err, Some, None, map};
 ghost use Rattle.std.specs.List.{slice_split};
 ghost use Rattle.std.specs.Option.{option_map};
 ghost use Rattle.prop_compound.specs.Tokens.{tokens};
@@ -10,7 +10,9 @@ ghost use Rattle.prop_compound.specs.Said.{Reads, step_of, passed_of, step_read}
 ghost use Rattle.prop_compound.specs.Parts.{behind_word, given, passed_said, passed_in_range, step_in_form, body};
 
 use crate::command::{Command, Passed, Step};
-use crate::forms::{behind_by, end, kind_word, names_before_by, names_of, only_word, parameter, word};
+use crate::forms::{
+    behind_by, end, kind_word, names_before_by, names_of, only_word, parameter, word,
+};
 use crate::names::name;
 use crate::tokens::{Token, next_token};
 use prop_lattice::Refusal;
@@ -125,12 +127,21 @@ fn read_steps<'a>(alloc: Global, bytes: &'a [u8]) -> Result<Vec<Result<Step<'a>,
     let mut read = Vec::new(alloc);
     for part in bytes.split(|byte| *byte == b';') {
         let step = step(alloc, part);
-        if matches!(step, Err(Refusal::Memory)) {
+        if matches!(step, Err(Refusal::Memory)) || read.push(step).is_err() {
             return Err(Refusal::Memory);
         }
-        read.push(step).map_err(|_| Refusal::Memory)?;
     }
     Ok(read)
+}
+
+/// Whether the step is refused this way.
+fn is_refused(step: &Result<Step<'_>, Refusal>, refusal: Refusal) -> bool
+    ensures { IsTrue result ↔ (step_read step.now ≡ Err refusal) }
+{
+    match step {
+        Ok(_) => false,
+        Err(other) => *other == refusal,
+    }
 }
 
 /// Refuses where a step is refused this way.
@@ -139,9 +150,7 @@ fn none_refused(read: &[Result<Step<'_>, Refusal>], refusal: Refusal) -> Result<
     ensures err { IfErr result (λ other. (other ≡ refusal) × Contains (map step_read read.now) (Err refusal)) }
 {
     for step in read {
-        if let Err(other) = step
-            && *other == refusal
-        {
+        if is_refused(step, refusal) {
             return Err(refusal);
         }
     }
@@ -149,13 +158,18 @@ fn none_refused(read: &[Result<Step<'_>, Refusal>], refusal: Refusal) -> Result<
 }
 
 /// The steps, where none is refused.
-fn all_read<'a>(alloc: Global, read: Vec<Result<Step<'a>, Refusal>>) -> Result<Vec<Step<'a>>, Refusal>
+fn all_read<'a>(
+    alloc: Global,
+    read: Vec<Result<Step<'a>, Refusal>>,
+) -> Result<Vec<Step<'a>>, Refusal>
     ensures ok { IfOk result (λ steps. map step_read read.entry.items ≡ map Ok (map step_of steps.items)) }
     ensures err { IfErr result (λ refusal. (refusal ≡ Refusal.Memory) ⊎ Contains (map step_read read.entry.items) (Err refusal)) }
 {
     let mut steps = Vec::new(alloc);
     for step in read {
-        steps.push(step?).map_err(|_| Refusal::Memory)?;
+        if steps.push(step?).is_err() {
+            return Err(Refusal::Memory);
+        }
     }
     Ok(steps)
 }

@@ -233,7 +233,10 @@ const UNDEFINED: [(&[u8], Refusal); 68] = [
     (b"define f a = g a by -1", Refusal::NotANumber),
     (b"define f a = g a by 3x", Refusal::NotANumber),
     (b"define f a = g a by 1000000001", Refusal::NotANumber),
-    (b"define f a = g a by * ; h a by 0 ; k a", Refusal::NotANumber),
+    (
+        b"define f a = g a by * ; h a by 0 ; k a",
+        Refusal::NotANumber,
+    ),
 ];
 
 #[test]
