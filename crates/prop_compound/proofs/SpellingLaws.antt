@@ -13,7 +13,7 @@ use Rattle.prop_compound.specs.Commands.{Value, Bare, Braces, KindWord, Spans, T
 use Rattle.prop_compound.specs.Forms.{bare, on_word, only_words, domain, pairs, relation, kind_word, cell, parameter, by_form, with_cell, cells_by, attach, local_of_kind, local_like, passed_form, use_step, step, each, is_semicolon, steps, define, join, values, in_braces, one_value, only_value, fix, tell, forms}
 use Rattle.prop_compound.proofs.Forming.{Filled, filled}
 use Rattle.prop_compound.proofs.Defining.{Head, Headed, Headless, head, words_alone, before_equals, after_equals, bodiless, bodied}
-use Rattle.prop_compound.specs.Spelling.{Spells, SpellsStep, SpellsSteps, IsLocal, StandsFor, further_pairs, Gives, GivesOn, HaveNoBy, tokens_of_value}
+use Rattle.prop_compound.specs.Spelling.{Spells, SpellsStep, SpellsSteps, IsLocal, StandsFor, further_pairs, Gives, Passes, HaveNoBy, tokens_of_value}
 
 -- what is read from a line's tokens, where there is a form for it
 abbrev pub read_form : List Token → Option Command
@@ -38,7 +38,7 @@ given_read By.Nothing ts e = rw e refl
 given_read (By.Number n) ts (p, e, l, m) = rw (e, l, m) refl
 given_read (By.Relation r) ts (e, l) = rw (e, l) refl
 
-passed_read : IsRead passed_form GivesOn
+passed_read : IsRead passed_form Passes
 passed_read (Passed.Said By.Nothing) ts e = rw e refl
 passed_read (Passed.Said (By.Number n)) ts (p, e, l, m) = rw (e, l, m) refl
 passed_read (Passed.Said (By.Relation r)) ts (e, l) = rw (e, l) refl
@@ -79,7 +79,7 @@ unfolding IsClear
 words_clear [] ts h = h
 words_clear (w ∷ ws) ts h = (refl, words_clear ws ts h)
 
-passed_clear : (passed : Passed) (ts : List Token) → GivesOn passed ts → AllByRecursion IsClear ts
+passed_clear : (passed : Passed) (ts : List Token) → Passes passed ts → AllByRecursion IsClear ts
 unfolding IsClear
 passed_clear (Passed.Said By.Nothing) ts e = rw e tt
 passed_clear (Passed.Said (By.Number n)) ts (p, e, l, m) = rw e (refl, (refl, tt))
@@ -138,7 +138,7 @@ step_read ts (Step.Local n kind) (w, e, k) = rw e (ap (λ q. Some (Step.Local n 
 step_read ts (Step.Like n p) e = rw e refl
 step_read ts (Step.Use m [] passed) s = absurd s
 step_read ts (Step.Use m (x ∷ xs) passed) (rest, e, h, g, n) =
-    use_read ts n ∙ rw (e, cells_read passed_form GivesOn xs passed rest passed_read h g) refl
+    use_read ts n ∙ rw (e, cells_read passed_form Passes xs passed rest passed_read h g) refl
 
 steps_read : (ts : List Token) (ss : List Step) → SpellsSteps ts ss → steps ts ≡ Some ss
 steps_read ts [] s = absurd s
@@ -266,16 +266,16 @@ word_given (Word p ∷ []) by h =
     subst (λ b. Gives b (Word (codes "by") ∷ Word p ∷ [])) same (parameter_given p (looks_like_number p) refl)
 word_given ts by h = cc
 
-said_given : (made : Option By) (passed : Passed) (ts : List Token) → ((by : By) → made ≡ Some by → Gives by ts) → option_map Passed.Said made ≡ Some passed → GivesOn passed ts
+said_given : (made : Option By) (passed : Passed) (ts : List Token) → ((by : By) → made ≡ Some by → Gives by ts) → option_map Passed.Said made ≡ Some passed → Passes passed ts
 said_given None passed ts g h = cc
 said_given (Some by) passed ts g h =
     let same : Passed.Said by ≡ passed = cc in
-    subst (λ p. GivesOn p ts) same (g by refl)
+    subst (λ p. Passes p ts) same (g by refl)
 
-word_passed : (ts : List Token) (passed : Passed) → passed_form (Some ts) ≡ Some passed → GivesOn passed (Word (codes "by") ∷ ts)
+word_passed : (ts : List Token) (passed : Passed) → passed_form (Some ts) ≡ Some passed → Passes passed (Word (codes "by") ∷ ts)
 word_passed (Star ∷ []) passed h =
     let same : Passed.Own ≡ passed = cc in
-    subst (λ p. GivesOn p (Word (codes "by") ∷ Star ∷ [])) same refl
+    subst (λ p. Passes p (Word (codes "by") ∷ Star ∷ [])) same refl
 word_passed ts passed h = said_given (by_form (Some ts)) passed (Word (codes "by") ∷ ts) (λ by e. word_given ts by e) h
 
 -- cells, read with what follows them
@@ -320,13 +320,13 @@ attach_spelled (Word n ∷ Word x ∷ ts) command h = at (cells_by by_form ts) (
         subst (Spells (Word (codes "attach") ∷ Word n ∷ Word x ∷ ts)) e s
 attach_spelled ts command h = cc
 
-none_passed : (passed : Passed) → passed_form None ≡ Some passed → GivesOn passed []
+none_passed : (passed : Passed) → passed_form None ≡ Some passed → Passes passed []
 none_passed passed h = said_given (by_form None) passed [] none_given h
 
 use_spelled : (ts : List Token) (s : Step) → ¬ (IsLocal ts) → use_step ts ≡ Some s → SpellsStep ts s
-use_spelled (Word m ∷ Word x ∷ ts) s n h = at (cells_by passed_form ts) (λ r e. cells_spelled passed_form GivesOn (none_passed, word_passed) ts r e) h
+use_spelled (Word m ∷ Word x ∷ ts) s n h = at (cells_by passed_form ts) (λ r e. cells_spelled passed_form Passes (none_passed, word_passed) ts r e) h
   where
-    at : (o : Option (List (List ℕ) × Passed)) → ((r : List (List ℕ) × Passed) → o ≡ Some r → Follows GivesOn ts r) → option_map (λ r. Step.Use m (x ∷ r.0) r.1) o ≡ Some s → SpellsStep (Word m ∷ Word x ∷ ts) s
+    at : (o : Option (List (List ℕ) × Passed)) → ((r : List (List ℕ) × Passed) → o ≡ Some r → Follows Passes ts r) → option_map (λ r. Step.Use m (x ∷ r.0) r.1) o ≡ Some s → SpellsStep (Word m ∷ Word x ∷ ts) s
     at None follows h = cc
     at (Some r) follows h =
         let f = follows r refl in

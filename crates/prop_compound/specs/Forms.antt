@@ -100,7 +100,7 @@ abbrev pub use_step : List Token → Option Step
 use_step (Word m ∷ Word x ∷ ts) = option_map (λ rest. Step.Use m (x ∷ rest.0) rest.1) (cells_by passed_form ts)
 use_step ts = None
 
--- a local, and else a use
+-- a local where it has one of the two forms, and else a use, even of the name `local`
 abbrev pub step : List Token → Option Step
 step ts = option_or (local_of_kind ts) (option_or (local_like ts) (use_step ts))
 

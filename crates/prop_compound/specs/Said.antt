@@ -72,6 +72,7 @@ said (Ask cell) = Some (commands.Command.Ask cell.now)
 said (Why cell) = Some (commands.Command.Why cell.now)
 said Worldview = Some commands.Command.Worldview
 
+-- a step by itself, or why it is refused
 abbrev pub step_read : Result Step Refusal → Result commands.Step Refusal
 step_read (Ok step) = Ok (step_of step)
 step_read (Err refusal) = Err refusal

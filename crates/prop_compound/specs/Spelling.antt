@@ -34,14 +34,15 @@ Gives (By.Number n) ts =
 Gives (By.Relation r) ts = (ts ≡ Word (codes "by") ∷ Word r ∷ []) × (looks_like_number r ≡ false)
 
 -- the same of a step, which can also give a star
-abbrev pub GivesOn : Passed → List Token → Type 0
-GivesOn (Passed.Said by) ts = Gives by ts
-GivesOn Passed.Own ts = ts ≡ Word (codes "by") ∷ Star ∷ []
+abbrev pub Passes : Passed → List Token → Type 0
+Passes (Passed.Said by) ts = Gives by ts
+Passes Passed.Own ts = ts ≡ Word (codes "by") ∷ Star ∷ []
 
 -- the tokens have one of the forms of a local
 abbrev pub IsLocal : List Token → Type 0
 IsLocal ts =
-    ((n kind : List ℕ) × (ts ≡ Word (codes "local") ∷ Word n ∷ Word kind ∷ [])) ⊎ ((n p : List ℕ) × (ts ≡ Word (codes "local") ∷ Word n ∷ Word (codes "like") ∷ Word p ∷ []))
+    ((n kind : List ℕ) × (ts ≡ Word (codes "local") ∷ Word n ∷ Word kind ∷ []))
+    ⊎ ((n p : List ℕ) × (ts ≡ Word (codes "local") ∷ Word n ∷ Word (codes "like") ∷ Word p ∷ []))
 
 -- The tokens spell the step. A use has one cell or more, of which only the first can be called `by`, and not the form of a
 -- local.
@@ -51,7 +52,7 @@ SpellsStep ts (Step.Local n kind) =
 SpellsStep ts (Step.Like n p) = ts ≡ Word (codes "local") ∷ Word n ∷ Word (codes "like") ∷ Word p ∷ []
 SpellsStep ts (Step.Use m [] passed) = ⊥
 SpellsStep ts (Step.Use m (x ∷ xs) passed) =
-    (rest : List Token) × (ts ≡ Word m ∷ Word x ∷ map Word xs ++ rest) × HaveNoBy xs × GivesOn passed rest × ¬ (IsLocal ts)
+    (rest : List Token) × (ts ≡ Word m ∷ Word x ∷ map Word xs ++ rest) × HaveNoBy xs × Passes passed rest × ¬ (IsLocal ts)
 
 -- the tokens spell the steps, of which there is one or more, with a semicolon between each two
 abbrev pub SpellsSteps : List Token → List Step → Type 0

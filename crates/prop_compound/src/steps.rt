@@ -105,7 +105,7 @@ fn use_step<'a>(alloc: Global, bytes: &'a [u8]) -> Result<Step<'a>, Refusal>
     Ok(Step::Use(used, cells, passed(given)?))
 }
 
-/// One step.
+/// One step: a local where it has one of the two forms, and else a use.
 fn step<'a>(alloc: Global, bytes: &'a [u8]) -> Result<Step<'a>, Refusal>
     ensures ok { IfOk result (λ step. step_in_form (forms.step (tokens bytes.now)) ≡ Ok (step_of step)) }
     ensures err { IfErr result (λ refusal. (refusal ≡ Refusal.Memory) ⊎ (step_in_form (forms.step (tokens bytes.now)) ≡ Err refusal)) }
@@ -119,7 +119,7 @@ fn step<'a>(alloc: Global, bytes: &'a [u8]) -> Result<Step<'a>, Refusal>
     use_step(alloc, bytes)
 }
 
-/// What each step is by itself, or why it is refused, with a semicolon between each two steps.
+/// What each step is by itself, or why it is refused. A semicolon stands between each two steps.
 fn read_steps<'a>(alloc: Global, bytes: &'a [u8]) -> Result<Vec<Result<Step<'a>, Refusal>>, Refusal>
     ensures ok { IfOk result (λ read. map step_read read.items ≡ map (λ ts. step_in_form (forms.step ts)) (slice_split forms.is_semicolon (tokens bytes.now))) }
     ensures err { IfErr result (λ refusal. refusal ≡ Refusal.Memory) }
@@ -189,7 +189,8 @@ fn body(bytes: &[u8]) -> Result<&[u8], Refusal>
     }
 }
 
-/// `define N p.. = step ; step ..`, behind its first word.
+/// `define N p.. = step ; step ..`, behind its first word. Over all steps a wrong form comes before a word that is no name, and
+/// such a word before a number out of range.
 pub fn define<'a>(alloc: Global, rest: &'a [u8]) -> Result<Command<'a>, Refusal>
     ensures { Reads result (command_in_form (forms.define (tokens rest.now))) }
 {
