@@ -1,6 +1,7 @@
 pub mod Lexing
 pub mod Digits
 pub mod Forming
+pub mod Defining
 pub mod Halving
 pub mod SpellingLaws
 pub mod RefusalLaws

@@ -34,6 +34,7 @@ pub data Command : Type 0 where
   Domain : (name : List ℕ) → (elements : List (List ℕ)) → Command
   Relation : (name from to : List ℕ) → (pairs : List (List ℕ × List ℕ)) → Command
   Cell : (name : List ℕ) → (kind : KindWord) → Command
+  Define : (name : List ℕ) → (params : List (List ℕ)) → (steps : List Step) → Command
   Attach : (name : List ℕ) → (cells : List (List ℕ)) → (by : By) → Command
   Fix : (cell : List ℕ) → (value : Value) → Command
   Tell : (premise : List ℕ) → (cell : List ℕ) → (value : Value) → Command

@@ -15,6 +15,7 @@ mod numbers;
 mod reading;
 mod resolving;
 mod scope;
+mod steps;
 mod tokens;
 pub mod uses;
 mod values;
