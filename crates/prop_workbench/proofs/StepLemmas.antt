@@ -47,6 +47,7 @@ same_if_memory (Some refusal) library old new command answer steps e r = r.same
 same_if_memory None library old new (commands.Command.Domain name elements) answer steps e r = let f : Refused Memory ≡ Done = sym e ∙ r.answer_is in cc
 same_if_memory None library old new (commands.Command.Relation name from to pairs) answer steps e r = let f : Refused Memory ≡ Done = sym e ∙ r.answer_is in cc
 same_if_memory None library old new (commands.Command.Cell name kind) answer steps e r = let f : Refused Memory ≡ Done = sym e ∙ r.answer_is in cc
+same_if_memory None library old new (commands.Command.Define name params body) answer steps e r = let f : Refused Memory ≡ Done = sym e ∙ r.answer_is in cc
 same_if_memory None library old new (commands.Command.Attach name cells by) answer steps e r = let f : Refused Memory ≡ Done = sym e ∙ r.answer_is in cc
 same_if_memory None library old new (commands.Command.Fix cell value) answer steps e r = let f : Refused Memory ≡ Done = sym e ∙ r.answer_is in cc
 same_if_memory None library old new (commands.Command.Tell premise cell value) answer steps e r = let f : Refused Memory ≡ Done = sym e ∙ r.answer_is in cc

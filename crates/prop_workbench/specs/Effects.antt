@@ -10,7 +10,7 @@ use Rattle.prop_premises.specs.Origins.{Origin, premise_number, with_name, with_
 use Rattle.prop_procedures.specs.declared.shape.Kinded.{Kinded}
 use Rattle.prop_procedures.specs.Stored.{Stored}
 use Rattle.prop_compound.specs.Commands.{Value, Command}
-use Rattle.prop_compound.specs.Defining.{kind_named}
+use Rattle.prop_compound.specs.Defining.{kind_named, with_definition}
 use Rattle.prop_compound.specs.Expansion.{Placed, Expansion}
 use Rattle.prop_compound.specs.Values.{Meant, Known, Name}
 use Rattle.prop_procedures.specs.declared.shape.Param.{Param}
@@ -121,6 +121,8 @@ abbrev pub effect : List Stored → State → Command → State
 effect library s (Command.Domain name elements) = record s { words = with_domain s.words name elements }
 effect library s (Command.Relation name from to pairs) = record s { words = with_relation s.words name from to pairs }
 effect library s (Command.Cell name kind) = record s { names = with_cell_name s.names name (length s.kinds); kinds = s.kinds ++ kind_named s.words kind ∷ [] }
+effect library s (Command.Define name params steps) =
+    record s { definitions = with_definition library s.words s.definitions name params steps }
 effect library s (Command.Attach name cells by) =
     with_use library s (cells_named s.names cells) (used library s name (cells_named s.names cells) by)
 effect library s (Command.Fix cell value) = stated s None (unwrap_or (cell_named s.names cell) 0) (words_at s cell value) (info_at s cell value)

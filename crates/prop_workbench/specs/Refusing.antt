@@ -22,6 +22,7 @@ use Rattle.prop_vocabulary.specs.Cells.{cell_named, cells_named, is_cell_missing
 use Rattle.prop_compound.specs.Definitions.{Definitions}
 use Rattle.prop_compound.specs.Expansion.{Expansion, expanded}
 use Rattle.prop_compound.specs.Expanding.{expand_refusal}
+use Rattle.prop_compound.specs.Defining.{define_refusal}
 
 -- what the value means at a cell of the kind
 abbrev pub meaning_at : Vocabulary → Kind → Value → Result Meant Refusal
@@ -151,6 +152,7 @@ attach_refusal library s name cells by =
 abbrev pub refusal_of : List Stored → State → Command → Option Refusal
 refusal_of library s (Command.Domain name elements) = domain_refusal s.words name elements
 refusal_of library s (Command.Relation name from to pairs) = relation_refusal s.words name from to pairs
+refusal_of library s (Command.Define name params steps) = define_refusal library s.words s.definitions name params steps
 refusal_of library s (Command.Attach name cells by) = attach_refusal library s name cells by
 refusal_of library s command =
     first_of (

@@ -1,16 +1,16 @@
-//! The commands that make cells and put procedures between them.
+//! The commands that declare domains, relations, cells and definitions.
 ghost use Rattle.std.specs.Prelude.{◌≡◌, ◌<◌, ℕ, length, None, IfSome, true, false};
-ghost use Rattle.prop_compound.specs.Said.{kind_of, by_of};
-ghost use Rattle.prop_workbench.specs.Refusing.{is_unknown, is_nowhere};
-ghost use Rattle.prop_workbench.specs.Effects.{domain_kind, kind_named};
+ghost use Rattle.prop_compound.specs.Said.{kind_of};
+ghost use Rattle.prop_workbench.specs.Refusing.{is_nowhere};
+ghost use Rattle.prop_compound.specs.Defining.{domain_kind, kind_named};
 ghost use Rattle.prop_workbench.specs.Sessions.{IsSized};
 
 use crate::session::Session;
-use prop_compound::{By, KindWord};
+use prop_compound::{KindWord, Step};
 use prop_engine::Reply;
 use prop_lattice::{Kind, Refusal};
 use prop_procedures::fitting::span_kinded;
-use prop_procedures::{Kinded, Param, Rule};
+use prop_procedures::{Kinded, Rule};
 use prop_scheduler::Order;
 use prop_vocabulary::Vocabulary;
 use std::alloc::AllocError;
@@ -55,16 +55,8 @@ impl<R: Rule + Drop, O: Order + Drop> Session<R, O> {
     ghost use Rattle.std.specs.Prelude.{◌≡◌, ◌<◌, ◌++◌, ◌∷◌, [], ◌⊎◌, map, All, None, Some, OnOk, OnErr, IfOk, IfErr, ℕ, length};
     ghost use Rattle.prop_lattice.specs.declared.refusal.Refusal.TheVariants.{Memory};
     ghost use Rattle.prop_compound.specs.Commands as commands;
-    ghost use Rattle.prop_compound.specs.Said.{kind_of, by_of, words, pairs_of};
-    ghost use Rattle.prop_cells.specs.Instances.{param_in, fitting_param, sides_given};
-    ghost use Rattle.std.specs.Option.{option_and_then};
-    ghost use Rattle.prop_procedures.specs.Stored.{sides_of};
+    ghost use Rattle.prop_compound.specs.Said.{kind_of, words, pairs_of, step_of};
     ghost use Rattle.prop_engine.specs.Answers.{answer_of};
-    ghost use Rattle.std.specs.Prelude.{slice_get};
-    ghost use Rattle.prop_procedures.specs.Stored.{Stored};
-    ghost use Rattle.prop_procedures.specs.declared.shape.Need.{Need};
-    ghost use Rattle.prop_workbench.specs.Refusing.{given_by, placing_refusal};
-    ghost use Rattle.prop_workbench.specs.Effects.{instance_made};
     ghost use Rattle.prop_workbench.specs.Sessions.{state_of, steps_of, library_of, IsSound, IsMeant};
     ghost use Rattle.prop_workbench.specs.Steps.{Obeys};
 
@@ -98,6 +90,27 @@ impl<R: Rule + Drop, O: Order + Drop> Session<R, O> {
         ensures step { Obeys (library_of R.value_of self.old) (state_of self.old) (commands.Command.Relation name.now from.now to.now (pairs_of pairs.now)) (answer_of result) (state_of self.new) 0 }
     {
         match self.words.declare_relation(name, from, to, pairs) {
+            Ok(()) => Reply::Done,
+            Err(refusal) => Reply::Refused(refusal),
+        }
+    }
+
+    /// Makes a definition.
+    pub(crate) fn define(&mut self, name: &str, params: &[&str], steps: &[Step]) -> Reply
+        requires sound { IsSound R.value_of self.old }
+        ensures same { self.new.network.library ≡ self.old.network.library }
+        ensures sound { IsSound R.value_of self.new }
+        ensures steps { steps_of self.new ≡ steps_of self.old }
+        ensures step { Obeys (library_of R.value_of self.old) (state_of self.old) (commands.Command.Define name.now (words params.now) (map step_of steps.now)) (answer_of result) (state_of self.new) 0 }
+    {
+        match self.definitions.define(
+            self.alloc,
+            self.network.library(),
+            &self.words,
+            name,
+            params,
+            steps,
+        ) {
             Ok(()) => Reply::Done,
             Err(refusal) => Reply::Refused(refusal),
         }
