@@ -13,6 +13,7 @@ spans_call x y = (
   (λ n. span_kind),
   record {
     admits = tt;
+    sides = tt;
     of_kinds = (tt, (tt, tt));
     clear = ((λ e. cc), ((λ e. cc), tt));
   },
