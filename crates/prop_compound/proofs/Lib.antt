@@ -8,3 +8,5 @@ pub mod Choosing
 pub mod Latest
 pub mod Unrolling
 pub mod Walking
+pub mod Sizes
+pub mod Ranges

@@ -1,8 +1,8 @@
 -- Going through the steps of a definition.
-use Rattle.std.proofs.Common.{◌≡◌, ◌∙◌, ℕ, ◌+◌, ◌<◌, ◌≤◌, List, [], ◌∷◌, ◌++◌, All, Bool, not, ◌&&◌, length, map, get_or, drop, refl, sym, ap, arith, inl, inr, Some}
+use Rattle.std.proofs.Common.{◌≡◌, ◌∙◌, ℕ, ◌+◌, ◌<◌, ◌≤◌, List, [], ◌∷◌, ◌++◌, All, Bool, not, ◌&&◌, length, map, get_or, refl, sym, ap, arith, inl, inr, Some}
 use Rattle.std.specs.Prelude.{reverse, slice_get}
 use Rattle.std.specs.Option.{option_map, option_map_or}
-use Rattle.std.proofs.lemmas.List.{length-map, length-reverse, get_or-map, drop_more, drop_all}
+use Rattle.std.proofs.lemmas.List.{length-map, length-reverse, get_or-map}
 use Rattle.std.proofs.lemmas.List.Elements.{All-weaker}
 use Rattle.std.proofs.lemmas.Option.{slice_get_cases, slice_get-map, slice_get_read}
 use Rattle.prop_compound.specs.declared.definition.Passing.{Passing}
@@ -12,7 +12,7 @@ use Rattle.prop_compound.specs.declared.definition.NumberedStep.{NumberedStep}
 use Rattle.prop_compound.specs.declared.definition.NumberedStep.TheVariants.{Local, Like, Use}
 use Rattle.prop_compound.specs.Definitions.{Definition, is_taking}
 use Rattle.prop_compound.specs.Expansion.{Walk, with_spare, is_something, steps_expanded, definition_expanded}
-use Rattle.prop_compound.specs.Kept.{bare, all_bare, places_made, IsInScope, AreInScope, IsUseBelow, IsKept, AreKept}
+use Rattle.prop_compound.specs.Kept.{bare, all_bare, IsUseBelow, IsKept, AreKept}
 use Rattle.prop_compound.proofs.Latest.{latest_at, latest_of}
 use Rattle.prop_compound.proofs.Unrolling.{IsEarlier, AreOrdered, its_steps, unrolled}
 
@@ -60,22 +60,3 @@ pub params_at : (ks : List KeptDefinition) (n : ℕ) (k : KeptDefinition) (count
 params_at ks n k count l at e =
     let there : slice_get (all_bare ks) n ≡ Some (bare k) = slice_get-map bare ks n ∙ ap (option_map bare) (slice_get_read ks (length ks) n k refl l at) in
     sym (ap (λ o. option_map_or (λ (d : Definition). d.params) o 0) there) ∙ e
-
--- one step on
-module _ (D : ℕ → List ℕ → Passing → Walk → Walk) (given : Passing) (steps : List NumberedStep) (i : ℕ) (step : NumberedStep) (l : i < length steps) (at : step ≡ get_or steps i step) where
-  here_and_rest : drop i steps ≡ step ∷ drop (i + 1) steps
-  here_and_rest = drop_more steps i step l ∙ ap (λ s. s ∷ drop (i + 1) steps) (sym at)
-
-  pub goes_on : (old new : List ℕ) (e e' goal : Walk) → steps_expanded D given old (drop i steps) e ≡ goal → ((rest : List NumberedStep) → steps_expanded D given old (step ∷ rest) e ≡ steps_expanded D given new rest e') → steps_expanded D given new (drop (i + 1) steps) e' ≡ goal
-  goes_on old new e e' goal before does =
-      sym (does (drop (i + 1) steps)) ∙ ap (λ ss. steps_expanded D given old ss e) (sym here_and_rest) ∙ before
-
-  pub scope_here : (n : ℕ) → AreInScope n (drop i steps) → IsInScope n step
-  scope_here n h = (rw here_and_rest at h).0
-
-  pub scope_on : (n m : ℕ) → AreInScope n (drop i steps) → m ≡ n + places_made step → AreInScope m (drop (i + 1) steps)
-  scope_on n m h e = rw e ((rw here_and_rest at h).1)
-
--- after the last step
-pub ends : (D : ℕ → List ℕ → Passing → Walk → Walk) (given : Passing) (steps : List NumberedStep) (i : ℕ) (cells : List ℕ) (e goal : Walk) → length steps ≤ i → steps_expanded D given cells (drop i steps) e ≡ goal → e ≡ goal
-ends D given steps i cells e goal l h = ap (λ ss. steps_expanded D given cells ss e) (sym (drop_all i steps l)) ∙ h

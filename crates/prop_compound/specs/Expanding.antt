@@ -1,5 +1,5 @@
 -- For what a use is refused when it is expanded: each condition by itself, and which of them comes first.
-use Rattle.std.specs.Prelude.{ℕ, pos, ◌+◌, List, [], ◌∷◌, ◌++◌, Bool, true, false, cond, not, ◌||◌, ◌&&◌, int_le, nat_lt, Option, Some, None, length, map, zip, is_none, slice_get}
+use Rattle.std.specs.Prelude.{ℕ, pos, ◌-◌, List, [], ◌∷◌, ◌++◌, Bool, true, false, cond, not, ◌||◌, ◌&&◌, int_le, nat_lt, Option, Some, None, length, map, zip, is_none, slice_get}
 use Rattle.std.specs.List.{list_any}
 use Rattle.std.specs.Option.{option_map_or, option_and_then}
 use Rattle.prop_lattice.specs.Refusals.{most}
@@ -59,13 +59,20 @@ is_misgiven library x = option_map_or (λ p. is_none (fitting_param p.need x.giv
 abbrev pub is_param_wrong : List Stored → Expansion (Option Param) → Bool
 is_param_wrong library e = e.spare || list_any (is_misgiven library) e.placed
 
--- why what a use on so many cells stands for is refused
-abbrev pub expansion_refusal : List Stored → ℕ → Expansion (Option Param) → Option Refusal
-expansion_refusal library count e =
+-- there are too many fresh cells or instances
+abbrev pub size_refusal : ℕ → ℕ → Option Refusal
+size_refusal fresh instances =
     first_of (
-    when (LimitReached Cells) (nat_lt (count + most Cells) (length e.kinds))
-    ∷ when (LimitReached Instances) (nat_lt (most Instances) (length e.placed))
-    ∷ when WrongKind (list_any (is_misplaced library e.kinds) e.placed)
+    when (LimitReached Cells) (nat_lt (most Cells) fresh)
+    ∷ when (LimitReached Instances) (nat_lt (most Instances) instances)
+    ∷ []
+    )
+
+-- the kinds of some instance's cells do not fit, or a parameter does not
+abbrev pub fit_refusal : List Stored → Expansion (Option Param) → Option Refusal
+fit_refusal library e =
+    first_of (
+    when WrongKind (list_any (is_misplaced library e.kinds) e.placed)
     ∷ when WrongParameter (is_param_wrong library e)
     ∷ []
     )
@@ -73,9 +80,11 @@ expansion_refusal library count e =
 -- why a use of the name, on cells of these kinds and given this, is refused
 abbrev pub expand_refusal : List Stored → Vocabulary → Definitions → List ℕ → List Kinded → Option Param → Option Refusal
 expand_refusal library words definitions name kinds given =
+    let e = expanded library words definitions name kinds given in
     first_of (
     when NoSuchProcedure (is_none (used_named library definitions name))
     ∷ when WrongCount (is_miscounted library definitions name (length kinds))
-    ∷ expansion_refusal library (length kinds) (expanded library words definitions name kinds given)
+    ∷ size_refusal (length e.kinds - length kinds) (length e.placed)
+    ∷ fit_refusal library e
     ∷ []
     )

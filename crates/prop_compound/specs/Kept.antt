@@ -5,10 +5,13 @@ use Rattle.prop_lattice.specs.Refusals.{most}
 use Rattle.prop_lattice.specs.declared.refusal.Limit.TheVariants.{Cells, Instances}
 use Rattle.prop_procedures.specs.Stored.{Stored}
 use Rattle.prop_compound.specs.declared.definition.KeptDefinition.{KeptDefinition}
+use Rattle.prop_compound.specs.declared.definition.Passing.{Passing}
+use Rattle.prop_compound.specs.declared.definition.Used.{Used}
 use Rattle.prop_compound.specs.declared.definition.Used.TheVariants as uses
 use Rattle.prop_compound.specs.declared.definition.NumberedStep.{NumberedStep}
 use Rattle.prop_compound.specs.declared.definition.NumberedStep.TheVariants.{Local, Like, Use}
 use Rattle.prop_compound.specs.Definitions.{Definition, Definitions, is_taking}
+use Rattle.prop_compound.specs.Expansion.{Walk, Placed}
 
 -- the definition alone
 abbrev pub bare : KeptDefinition → Definition
@@ -19,16 +22,24 @@ all_bare definitions = map bare definitions
 
 -- ---- sizes
 
--- how many fresh cells a step stands for, where a definition stands for so many
+-- how many fresh cells a use stands for, where a definition stands for so many
+abbrev pub fresh_used : (ℕ → ℕ) → Used → ℕ
+fresh_used count (uses.Procedure n) = 0
+fresh_used count (uses.Definition n) = count n
+
+-- how many instances
+abbrev pub instances_used : (ℕ → ℕ) → Used → ℕ
+instances_used count (uses.Procedure n) = 1
+instances_used count (uses.Definition n) = count n
+
+-- how many fresh cells a step stands for
 abbrev pub fresh_of : (ℕ → ℕ) → NumberedStep → ℕ
-fresh_of count (Use (uses.Procedure n) cells passing) = 0
-fresh_of count (Use (uses.Definition n) cells passing) = count n
+fresh_of count (Use used cells passing) = fresh_used count used
 fresh_of count step = 1
 
 -- how many instances
 abbrev pub instances_of : (ℕ → ℕ) → NumberedStep → ℕ
-instances_of count (Use (uses.Procedure n) cells passing) = 1
-instances_of count (Use (uses.Definition n) cells passing) = count n
+instances_of count (Use used cells passing) = instances_used count used
 instances_of count step = 0
 
 -- how many of them a definition stands for by its number, the definitions being listed from the latest on
@@ -74,12 +85,17 @@ pub record IsKept (definitions : List Definition) (n : ℕ) (k : KeptDefinition)
   pub in_scope : AreInScope k.params k.steps.items
   pub uses : All (IsUseBelow definitions n) k.steps.items
   pub takes : k.takes ≡ is_taking (bare k)
-  pub fresh : k.fresh ≡ min (most Cells + 1) (sum_by (fresh_of (total_of fresh_of definitions)) k.steps.items)
-  pub instances : k.instances ≡ min (most Instances + 1) (sum_by (instances_of (total_of instances_of definitions)) k.steps.items)
+  pub fresh : k.fresh ≡ min (most Cells + 1) (total_of fresh_of definitions n)
+  pub instances : k.instances ≡ min (most Instances + 1) (total_of instances_of definitions n)
 
 -- each of them is kept so
 abbrev pub AreKept : List KeptDefinition → Type 0
 AreKept definitions = (n : ℕ) (d : KeptDefinition) → n < length definitions → IsKept (all_bare definitions) n (slice_index_or definitions n d)
+
+-- the procedure or definition is one of so many
+abbrev pub IsThere : ℕ → ℕ → Used → Type 0
+IsThere procedures definitions (uses.Procedure n) = n < procedures
+IsThere procedures definitions (uses.Definition n) = n < definitions
 
 -- ---- over a library
 
@@ -91,3 +107,13 @@ IsUseOver library step = ⊤
 -- the definitions were made over the library: they use its procedures, each on as many cells as it wants
 pub record IsDefinedOver (library : List Stored) (definitions : Definitions) : Type 0 where
   pub uses : All (λ d. All (IsUseOver library) d.steps) definitions.definitions
+
+-- the instance's procedure is one of the library, on as many cells as it wants, which are below n
+pub record IsRight (library : List Stored) (n : ℕ) (p : Placed Passing) : Type 0 where
+  pub procedure : p.procedure < length library
+  pub count : option_map_or (λ (s : Stored). length s.ins + 1) (slice_get library p.procedure) 0 ≡ length p.cells
+  pub cells : All (λ cell. cell < n) p.cells
+
+-- each instance so far is right
+abbrev pub AreRight : List Stored → Walk → Type 0
+AreRight library e = All (IsRight library (length e.kinds)) e.placed

@@ -13,3 +13,4 @@ pub mod Expansion
 pub mod Defining
 pub mod Expanding
 pub mod Kept
+pub mod Flattened

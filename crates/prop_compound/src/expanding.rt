@@ -58,7 +58,7 @@ fn add_local(kind: Kinded, cells: &mut Vec<usize>, walk: &mut Walk) -> Result<()
 
 /// Adds what a use of the definition with this number stands for, on these cells and given this.
 #[cycle(expanding)]
-fn expand_definition(
+pub(crate) fn expand_definition(
     alloc: Global,
     definitions: &[KeptDefinition],
     number: usize,

@@ -8,12 +8,22 @@ use prop_procedures::fitting::span_kinded;
 use std::alloc::{AllocError, Global};
 use std::marker::Model;
 
+/// The kind of a cell, that of numbers where there is no such cell.
+pub(crate) fn kind_at(kinds: &[Kinded], cell: usize) -> Kinded
+    ensures { result ≡ kind_at kinds.now cell }
+{
+    match kinds.get(cell) {
+        Some(kind) => *kind,
+        None => span_kinded(),
+    }
+}
+
 /// An instance: a procedure by its number, what it is given, and its cells, the output last.
 #[derive(Drop)]
 pub(crate) struct Instance {
-    pub(crate) procedure: usize,
-    pub(crate) given: Passing,
-    pub(crate) cells: Vec<usize>,
+    procedure: usize,
+    given: Passing,
+    cells: Vec<usize>,
 }
 
 impl Model for Instance {
@@ -25,13 +35,33 @@ impl Model for Instance {
     ghost view = { λ x. record { procedure = x.procedure; given = x.given; cells = x.cells.items } };
 }
 
+impl Instance {
+    pub(crate) fn procedure(&self) -> usize
+        ensures { result ≡ self.now.procedure }
+    {
+        self.procedure
+    }
+
+    pub(crate) fn given(&self) -> Passing
+        ensures { result ≡ self.now.given }
+    {
+        self.given
+    }
+
+    pub(crate) fn cells(&self) -> &[usize]
+        ensures { result.now ≡ self.now.cells }
+    {
+        &self.cells
+    }
+}
+
 /// The kinds of the given cells and after them of the fresh ones, the instances so far, and whether a definition was given a
 /// parameter that it does not take.
 #[derive(Drop)]
 pub(crate) struct Walk {
-    pub(crate) kinds: Vec<Kinded>,
-    pub(crate) instances: Vec<Instance>,
-    pub(crate) spare: bool,
+    kinds: Vec<Kinded>,
+    instances: Vec<Instance>,
+    spare: bool,
 }
 
 impl Model for Walk {
@@ -54,14 +84,29 @@ impl Walk {
         })
     }
 
-    /// The kind of a cell, that of numbers where there is no such cell.
+    /// The kind of a cell.
     pub(crate) fn kind(&self, cell: usize) -> Kinded
         ensures { result ≡ kind_at self.now.kinds cell }
     {
-        match self.kinds.get(cell) {
-            Some(kind) => *kind,
-            None => span_kinded(),
-        }
+        kind_at(&self.kinds, cell)
+    }
+
+    pub(crate) fn kinds(&self) -> &[Kinded]
+        ensures { result.now ≡ self.now.kinds }
+    {
+        &self.kinds
+    }
+
+    pub(crate) fn instances(&self) -> &[Instance]
+        ensures { result.now ≡ self.now.placed }
+    {
+        &self.instances
+    }
+
+    pub(crate) fn has_spare(&self) -> bool
+        ensures { result ≡ self.now.spare }
+    {
+        self.spare
     }
 
     /// A fresh cell of this kind, by its number.

@@ -1,8 +1,5 @@
-use Rattle.std.proofs.Common.{◌≡◌, ◌+◌, ◌∷◌, All, length, drop, sym, ap, ◌∙◌, arith}
-use Rattle.std.specs.Prelude.{reverse}
-use Rattle.prop_compound.specs.Expansion.{definition_expanded, steps_expanded}
-use Rattle.prop_compound.specs.Kept.{all_bare, AreInScope, IsUseBelow}
-use Rattle.prop_compound.proofs.Walking.{kept_here, begins, params_at, goes_on, scope_here, scope_on, ends}
+use Rattle.std.proofs.Common.{length}
+use Rattle.prop_compound.proofs.Walking.{kept_here, begins, params_at}
 use Rattle.prop_compound.proofs.expanding.+expanding.Goals as goal
 
 pub expand_definition-loop-step-init : goal.expand_definition-loop-step-init
