@@ -10,3 +10,8 @@ pub mod Unrolling
 pub mod Walking
 pub mod Sizes
 pub mod Ranges
+mod Firsts
+pub mod Scoping
+mod Using
+mod Flattening
+mod Zips

@@ -16,7 +16,7 @@ use Rattle.prop_compound.specs.Kept.{bare, all_bare, IsUseBelow, IsKept, AreKept
 use Rattle.prop_compound.proofs.Latest.{latest_at, latest_of}
 use Rattle.prop_compound.proofs.Unrolling.{IsEarlier, AreOrdered, its_steps, unrolled}
 
-kept_at : (ks : List KeptDefinition) (n : ℕ) → n < length ks → (k : KeptDefinition) × (get_or ks n k ≡ k)
+pub kept_at : (ks : List KeptDefinition) (n : ℕ) → n < length ks → (k : KeptDefinition) × (get_or ks n k ≡ k)
 kept_at ks n l =
     elim (slice_get_cases ks n).1 as (λ _. (k : KeptDefinition) × (get_or ks n k ≡ k)) [
       | inl at ↦ (at.0, at.3)

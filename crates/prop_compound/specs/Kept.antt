@@ -97,6 +97,12 @@ abbrev pub IsThere : ℕ → ℕ → Used → Type 0
 IsThere procedures definitions (uses.Procedure n) = n < procedures
 IsThere procedures definitions (uses.Definition n) = n < definitions
 
+-- a use of a definition is of one that there is, on as many cells as it wants
+abbrev pub IsUseThere : List Definition → Used → ℕ → Type 0
+IsUseThere definitions (uses.Procedure n) count = ⊤
+IsUseThere definitions (uses.Definition n) count =
+    (n < length definitions) × (option_map_or (λ d. d.params) (slice_get definitions n) 0 ≡ count)
+
 -- ---- over a library
 
 -- the step uses no procedure, or one of the library on as many cells as it wants

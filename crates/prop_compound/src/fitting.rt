@@ -157,7 +157,12 @@ fn has_misplaced<R: Rule + Drop>(
 }
 
 /// Whether some instance is given what its procedure does not take.
-fn has_misgiven<R: Rule + Drop>(library: &Library<R>, words: &Vocabulary, given: &Option<Param>, instances: &[Instance]) -> bool
+fn has_misgiven<R: Rule + Drop>(
+    library: &Library<R>,
+    words: &Vocabulary,
+    given: &Option<Param>,
+    instances: &[Instance],
+) -> bool
     requires { All (λ x. x.procedure < length (stored_of R.value_of library.now)) instances.now }
     ensures { result ≡ list_any (λ x. is_misgiven (stored_of R.value_of library.now) (meant (param_meant words.now given.now) x)) instances.now }
 {

@@ -57,7 +57,11 @@ fn param_place(
 }
 
 /// The instance with the place of its parameter.
-fn placed(alloc: Global, instance: &Instance, param: Option<usize>) -> Result<Placed, AllocError>
+fn instance_placed(
+    alloc: Global,
+    instance: &Instance,
+    param: Option<usize>,
+) -> Result<Placed, AllocError>
     requires { 0 < length instance.now.cells }
     ensures procedure { IfOk result (λ x. x.procedure ≡ instance.now.procedure) }
     ensures param { IfOk result (λ x. x.param ≡ param) }
@@ -88,13 +92,19 @@ fn place_all(
     let mut all = Vec::new(alloc);
     for instance in instances {
         let param = param_place(alloc, words, params, own, instance.given())?;
-        all.push(placed(alloc, instance, param)?)?;
+        all.push(instance_placed(alloc, instance, param)?)?;
     }
     Ok(all)
 }
 
 /// What the walk came upon behind the first `count` cells, where this is given.
-pub(crate) fn flat(alloc: Global, words: &Vocabulary, given: Option<Param>, walk: &Walk, count: usize) -> Result<Flat, AllocError>
+pub(crate) fn flatten(
+    alloc: Global,
+    words: &Vocabulary,
+    given: Option<Param>,
+    walk: &Walk,
+    count: usize,
+) -> Result<Flat, AllocError>
     requires cells { All (λ x. 0 < length x.cells) walk.now.placed }
     requires count { count ≤ length walk.now.kinds }
     requires spare { walk.now.spare ≡ false }

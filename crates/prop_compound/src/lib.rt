@@ -2,6 +2,8 @@
 #![tactic(auto)]
 
 pub mod command;
+mod counting;
+pub mod defining;
 pub mod definition;
 pub mod definitions;
 mod expanding;
@@ -11,6 +13,8 @@ mod forms;
 mod names;
 mod numbers;
 mod reading;
+mod resolving;
+mod scope;
 mod tokens;
 pub mod uses;
 mod values;

@@ -6,13 +6,13 @@ ghost use Rattle.prop_compound.specs.Definitions.{used_named, cells_wanted};
 ghost use Rattle.prop_compound.specs.Expansion.{start, passing_of, expanded_in, expanded};
 ghost use Rattle.prop_compound.specs.Expanding.{size_refusal, expand_refusal};
 ghost use Rattle.prop_compound.specs.Flattened.{expansion_of_flat, IsFlatOver};
-ghost use Rattle.prop_compound.specs.Kept.{fresh_used, instances_used, fresh_of, instances_of, total_of, IsDefinedOver, IsThere};
+ghost use Rattle.prop_compound.specs.Kept.{fresh_used, instances_used, fresh_of, instances_of, total_of, IsDefinedOver, IsThere, IsUseThere, AreRight};
 
 use crate::definition::{Passing, Used};
 use crate::definitions::Definitions;
 use crate::expanding::expand_definition;
 use crate::fitting::judge;
-use crate::flat::{Flat, flat};
+use crate::flat::{Flat, flatten};
 use crate::walk::Walk;
 use prop_lattice::{Limit, Refusal};
 use prop_procedures::{Kinded, Library, Param, Rule};
@@ -63,7 +63,12 @@ impl Definitions {
     }
 
     /// Whether a use wants another number of cells.
-    pub(crate) fn is_miscounted<R: Rule + Drop>(&self, library: &Library<R>, used: Used, count: usize) -> bool
+    pub(crate) fn is_miscounted<R: Rule + Drop>(
+        &self,
+        library: &Library<R>,
+        used: Used,
+        count: usize,
+    ) -> bool
         requires { IsThere (length (stored_of R.value_of library.now)) (length self.now.definitions) used }
         ensures { result ≡ not (count == cells_wanted (stored_of R.value_of library.now) self.now used) }
     {
@@ -91,18 +96,44 @@ impl Definitions {
         None
     }
 
+    /// Adds what the use stands for.
+    fn add_use(
+        &self,
+        alloc: Global,
+        used: Used,
+        cells: Vec<usize>,
+        given: Passing,
+        walk: &mut Walk,
+    ) -> Result<(), AllocError>
+        requires there { IsUseThere self.now.definitions used (length cells.items) }
+        ensures { OnOk result (walk.new ≡ expanded_in self.now.definitions used cells.items given walk.old) }
+    {
+        match used {
+            Used::Procedure(number) => walk.add_instance(number, given, cells),
+            Used::Definition(number) => {
+                expand_definition(alloc, &self.definitions, number, cells, given, walk)
+            }
+        }
+    }
+
     /// What the use stands for on cells of these kinds.
-    fn walk<R: Rule + Drop>(&self, alloc: Global, library: &Library<R>, used: Used, cells: &[Kinded], given: Passing) -> Result<Walk, AllocError>
+    fn walk<R: Rule + Drop>(
+        &self,
+        alloc: Global,
+        library: &Library<R>,
+        used: Used,
+        cells: &[Kinded],
+        given: Passing,
+    ) -> Result<Walk, AllocError>
         requires there { IsThere (length (stored_of R.value_of library.now)) (length self.now.definitions) used }
         requires count { length cells.now ≡ cells_wanted (stored_of R.value_of library.now) self.now used }
-        ensures { IfOk result (λ walk. walk ≡ expanded_in self.now.definitions used (range_with_len 0 (length cells.now)) given (start cells.now)) }
+        requires over { IsDefinedOver (stored_of R.value_of library.now) self.now }
+        ensures walk { IfOk result (λ walk. walk ≡ expanded_in self.now.definitions used (range_with_len 0 (length cells.now)) given (start cells.now)) }
+        ensures right { IfOk result (AreRight (stored_of R.value_of library.now)) }
     {
         let mut walk = Walk::start(alloc, cells)?;
         let numbers = numbers_below(alloc, cells.len())?;
-        match used {
-            Used::Procedure(number) => walk.add_instance(number, given, numbers)?,
-            Used::Definition(number) => expand_definition(alloc, &self.definitions, number, numbers, given, &mut walk)?,
-        }
+        self.add_use(alloc, used, numbers, given, &mut walk)?;
         Ok(walk)
     }
 
@@ -140,7 +171,7 @@ impl Definitions {
             return Err(Refusal::Memory);
         };
         judge(alloc, library, words, &given, &walk)?;
-        match flat(alloc, words, given, &walk, cells.len()) {
+        match flatten(alloc, words, given, &walk, cells.len()) {
             Ok(flat) => Ok(flat),
             Err(AllocError) => Err(Refusal::Memory),
         }
