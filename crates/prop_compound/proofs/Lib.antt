@@ -15,3 +15,4 @@ pub mod Scoping
 mod Using
 mod Flattening
 mod Zips
+pub mod Resolved

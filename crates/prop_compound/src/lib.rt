@@ -29,3 +29,5 @@ pub use values::{Meant, read_value};
 
 #[cfg(test)]
 mod tests;
+#[cfg(test)]
+mod tests_definitions;

@@ -117,6 +117,7 @@ impl Definitions {
     }
 
     /// What the use stands for on cells of these kinds.
+    #[tactic(none)]
     fn walk<R: Rule + Drop>(
         &self,
         alloc: Global,
@@ -131,6 +132,7 @@ impl Definitions {
         ensures walk { IfOk result (λ walk. walk ≡ expanded_in self.now.definitions used (range_with_len 0 (length cells.now)) given (start cells.now)) }
         ensures right { IfOk result (AreRight (stored_of R.value_of library.now)) }
     {
+        let _ = &self.definitions;
         let mut walk = Walk::start(alloc, cells)?;
         let numbers = numbers_below(alloc, cells.len())?;
         self.add_use(alloc, used, numbers, given, &mut walk)?;
@@ -143,6 +145,7 @@ impl Definitions {
     /// Refused with 11 where the name is neither a procedure's nor a definition's, with 12 for the count of cells, with 16 for
     /// more than 100,000 fresh cells or 200,000 instances, with 13 where the kinds of some instance's cells do not fit, with 14 where
     /// an instance or a definition does not take what it is given, and with 90.
+    #[tactic(none)]
     pub fn expand<R: Rule + Drop>(
         &self,
         alloc: Global,
