@@ -1,13 +1,11 @@
 //! What a value says at a cell.
 ghost use Rattle.std.specs.Prelude.{◌≡◌, IfOk, IfErr, Some, None, Ok, Err};
 ghost use Rattle.std.specs.Option.{option_map};
-ghost use Rattle.std.specs.List.{list_all};
-ghost use Rattle.prop_compound.specs.Names.{is_among};
-ghost use Rattle.prop_compound.specs.Values.{halves, bounded_number, span_value, bits_named, set_value, value_said};
+ghost use Rattle.prop_compound.specs.Values.{halves, bounded_number, span_value, set_value, value_said};
 ghost use Rattle.prop_compound.specs.Said.{words, value_of, meant_of};
 
 use crate::command::Value;
-use crate::names::{is_among, name};
+use crate::names::name;
 use crate::numbers::number_in;
 use prop_lattice::span::B;
 use prop_lattice::{Info, Kind, Refusal};
@@ -56,54 +54,22 @@ fn read_span(word: &[u8]) -> Result<Info, Refusal>
     Ok(Info::between(low, high))
 }
 
-/// Whether the word is the name of an element.
-fn is_element(domain: &Domain, word: &[u8]) -> bool
-    ensures { result ≡ is_among domain.now word.now }
-{
-    for i in 0..domain.size() {
-        if domain.element(i).as_bytes() == word {
-            return true;
-        }
-    }
-    false
-}
-
-/// Whether each word is the name of an element.
-fn are_elements(domain: &Domain, chosen: &[&[u8]]) -> bool
-    ensures { result ≡ list_all (is_among domain.now) (words chosen.now) }
-{
-    for word in chosen {
-        if !is_element(domain, word) {
-            return false;
-        }
-    }
-    true
-}
-
-/// The bits of the elements whose names are among the words.
-fn bits_named(domain: &Domain, chosen: &[&[u8]]) -> u64
-    ensures { result ≡ bits_named domain.now (words chosen.now) }
-{
-    let mut bits: u64 = 0;
-    for i in 0..domain.size() {
-        if is_among(chosen, domain.element(i).as_bytes()) {
-            bits |= 1 << i;
-        }
-    }
-    bits
-}
-
 /// The set of the elements that the words name.
 fn read_set(domain: &Domain, chosen: &[&[u8]]) -> Result<Info, Refusal>
     ensures { result ≡ set_value domain.now (words chosen.now) }
 {
-    if !are_elements(domain, chosen) {
-        Err(Refusal::NotInTheDomain)
-    } else if chosen.is_empty() {
-        Err(Refusal::EmptyValue)
-    } else {
-        Ok(Info::from_bits(bits_named(domain, chosen)))
+    if chosen.is_empty() {
+        return Err(Refusal::EmptyValue);
     }
+    let mut bits: u64 = 0;
+    for word in chosen {
+        let Some(element) = domain.index_of(word) else {
+            return Err(Refusal::NotInTheDomain);
+        };
+        prove!(element < domain.size());
+        bits |= 1 << element;
+    }
+    Ok(Info::from_bits(bits))
 }
 
 /// What a value says at a cell of this kind. `domain` is the one that a set is of, for a truth that of `yes` and `no`; it counts
