@@ -19,7 +19,6 @@ use std::alloc::{AllocError, Global};
 
 impl Definitions {
     /// Refuses what may not be defined: with 7, 8, 19, 9, 11, 12, 16, and with 90. Answers the parameters and locals by name.
-    #[tactic(none)]
     fn judge<R: Rule + Drop>(
         &self,
         alloc: Global,
@@ -87,7 +86,6 @@ impl Definitions {
     /// parameter nor an earlier local, with 11 where it uses what is neither a procedure nor a definition that is there already,
     /// with 12 where it does so on another number of cells, with 16 where there are 1,024 definitions, and with 90. A refusal
     /// changes nothing.
-    #[tactic(none)]
     pub fn define<R: Rule + Drop>(
         &mut self,
         alloc: Global,

@@ -176,7 +176,6 @@ fn has_misgiven<R: Rule + Drop>(
 }
 
 /// Refuses what a use stands for where its cells or parameters do not fit: with 13 and 14, and with 90.
-#[tactic(none)]
 pub(crate) fn judge<R: Rule + Drop>(
     alloc: Global,
     library: &Library<R>,

@@ -78,7 +78,6 @@ fn instance_placed(
 }
 
 /// The instances, with their parameters added to the list.
-#[tactic(none)]
 fn place_all(
     alloc: Global,
     words: &Vocabulary,

@@ -117,7 +117,6 @@ impl Definitions {
     }
 
     /// What the use stands for on cells of these kinds.
-    #[tactic(none)]
     fn walk<R: Rule + Drop>(
         &self,
         alloc: Global,
@@ -145,7 +144,6 @@ impl Definitions {
     /// Refused with 11 where the name is neither a procedure's nor a definition's, with 12 for the count of cells, with 16 for
     /// more than 100,000 fresh cells or 200,000 instances, with 13 where the kinds of some instance's cells do not fit, with 14 where
     /// an instance or a definition does not take what it is given, and with 90.
-    #[tactic(none)]
     pub fn expand<R: Rule + Drop>(
         &self,
         alloc: Global,
