@@ -1,5 +1,5 @@
 -- What an added entry changes, in each worldview.
-use Rattle.std.proofs.Common.{◌≡◌, ◌≢◌, ◌∙◌, ℕ, Bool, true, false, IsTrue, ◌&&◌, if◌then◌else◌, List, [], ◌∷◌, refl, sym, ap, Option, Some, None, inl, inr, slice_get}
+use Rattle.std.proofs.Common.{◌≡◌, ◌∙◌, ℕ, Bool, true, false, IsTrue, if◌then◌else◌, List, refl, sym, ap, Option, Some, None, inl, inr, slice_get}
 use Rattle.std.proofs.lemmas.Bool.Decides.{eqb_tells}
 use Rattle.std.proofs.lemmas.Option.{get_or_from_slice_get}
 use Rattle.prop_lattice.specs.declared.info.Info.{Info}
@@ -12,8 +12,8 @@ use Rattle.prop_tms.specs.Beliefs.{belief_of}
 use Rattle.prop_procedures.specs.declared.shape.Kinded.{Kinded}
 use Rattle.prop_procedures.specs.Stored.{span_kind}
 use Rattle.prop_cells.specs.Problems.{Premises, Assignment, AreOfKinds, MergesAt, is_member}
-use Rattle.prop_cells.specs.Instances.{kind_at}
-use Rattle.prop_cells.specs.Data.{Entry, AddsAt, Merges, beliefs, content_of, support_of}
+use Rattle.prop_procedures.specs.Fitting.{kind_at}
+use Rattle.prop_cells.specs.Data.{Entry, AddsAt, Merges, beliefs, support_of}
 use Rattle.prop_cells.proofs.Fitted.{merge_of_kind}
 use Rattle.prop_cells.proofs.Fixpoint.{merges_grow}
 

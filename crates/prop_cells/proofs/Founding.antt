@@ -15,7 +15,7 @@ use Rattle.prop_tms.proofs.BeliefLemmas.{belief_below}
 use Rattle.prop_tms.proofs.BeliefUses.{within_lean, lean_is_enough}
 use Rattle.prop_procedures.specs.Stored.{Stored}
 use Rattle.prop_cells.specs.Problems.{Problem, Premises, Assignment, IsSolution, Satisfies, Entails, IsContradictory, is_member}
-use Rattle.prop_cells.specs.Reach.{Reaches, IsRelatedAt, Explains, IsConflict}
+use Rattle.prop_cells.specs.Reach.{Reaches, Explains, IsConflict}
 use Rattle.prop_cells.proofs.RowLemmas.{or_none}
 use Rattle.prop_cells.specs.Data.{Data, Entry, IsFounded, IsKept, IsLeanAt, IsSupport, IsClash, beliefs, content_of, problem_of}
 

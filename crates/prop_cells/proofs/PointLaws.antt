@@ -26,7 +26,8 @@ use Rattle.prop_procedures.specs.declared.shape.Shape.{Shape}
 use Rattle.prop_procedures.specs.Rules.{kind_of, ArePointsOf, EachHolds}
 use Rattle.prop_procedures.specs.Stored.{Stored, is_same, span_kind}
 use Rattle.prop_cells.specs.Problems.{Premises, AreOfKinds, Meets, IsSolution, is_contradiction}
-use Rattle.prop_cells.specs.Instances.{Instance, IsFitting, IsWithin, kind_at, constraint_of}
+use Rattle.prop_procedures.specs.Fitting.{kind_at}
+use Rattle.prop_cells.specs.Instances.{Instance, IsFitting, IsWithin, constraint_of}
 use Rattle.prop_cells.specs.Points.{AreSoundBy, Attached, AreFitting, problem_of, ArePoints, EntailedHoldsPoints, PointsAreConsistent}
 use Rattle.prop_cells.proofs.Fitted.{and_both, same_kinded, any_at, right_at, is_call_at}
 

@@ -22,7 +22,8 @@ use Rattle.prop_lattice.specs.declared.refusal.Refusal.TheVariants.{NoSuchCell, 
 use Rattle.prop_procedures.specs.declared.shape.Param.{Param}
 use Rattle.prop_procedures.specs.declared.shape.Need.{Need}
 use Rattle.prop_procedures.specs.Stored.{Stored}
-use Rattle.prop_cells.specs.Instances.{Instance, kind_at, kinds_fit, sides_given, param_in, instance_of, attached}
+use Rattle.prop_procedures.specs.Fitting.{kind_at, kinds_fit}
+use Rattle.prop_cells.specs.Instances.{Instance, sides_given, param_in, instance_of, attached}
 use Rattle.prop_cells.specs.Data.{Data}
 use Rattle.prop_cells.specs.Problems.{is_contradiction}
 use Rattle.prop_cells.proofs.RowLemmas.{or_none}

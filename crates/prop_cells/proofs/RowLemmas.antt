@@ -1,15 +1,15 @@
 -- Rows of instance numbers.
-use Rattle.std.proofs.Common.{◌≡◌, ◌≢◌, ◌∙◌, ℕ, zero, suc, ◌+◌, ◌<◌, ◌==◌, ◌||◌, Bool, true, false, cond, List, [], ◌∷◌, ◌++◌, Some, All, length, take, get_or, slice_get, Vec, vec_capacity, refl, sym, ap, arith, add-zero, ◌⊎◌, inl, inr, get_or-set_same, get_or-set_other}
+use Rattle.std.proofs.Common.{◌≡◌, ◌≢◌, ◌∙◌, ℕ, zero, suc, ◌+◌, ◌-◌, ◌<◌, ◌≤◌, min, ◌==◌, ◌||◌, Bool, true, false, cond, List, [], ◌∷◌, ◌++◌, Some, All, length, take, get_or, slice_get, Vec, vec_capacity, refl, sym, ap, arith, add-zero, ◌⊎◌, inl, inr, get_or-set_same, get_or-set_other}
 use Rattle.std.specs.List.{list_any}
 use Rattle.std.proofs.Math.ListN.{set}
-use Rattle.std.proofs.lemmas.Bool.{or_parts, eq-eqb, ne_eqb, eqb-false}
+use Rattle.std.proofs.lemmas.Bool.{cases_lt, or_parts, eq-eqb, ne_eqb, eqb-false}
 use Rattle.std.proofs.lemmas.Bool.Decides.{eqb_tells}
-use Rattle.std.proofs.lemmas.List.{length-append, length-set, length-map, map-set, set-get_or, get_or-map, append-nil, map-append}
-use Rattle.std.proofs.lemmas.List.Elements.{All-more, All-weaker}
+use Rattle.std.proofs.lemmas.List.{length-append, length-take, get_or-take, get_or_past, take_at, length-set, length-map, map-set, set-get_or, get_or-map, append-nil, map-append}
+use Rattle.std.proofs.lemmas.List.Elements.{All-head, All-tail, All-more, All-weaker}
 use Rattle.std.proofs.lemmas.List.Folds.{list_any_more}
 use Rattle.prop_cells.specs.Instances.{Instance, numbers_from}
 use Rattle.prop_cells.specs.Data.{AreRows}
-use Rattle.prop_cells.specs.Rooms.{row_items, HasRoom, Noted}
+use Rattle.prop_cells.specs.Rooms.{row_items, HasRoom, ChangesAt, Noted, Unnoted}
 use Rattle.prop_cells.proofs.Lists.{get_or-push_default}
 
 pub or_none : (b : Bool) → (b || false) ≡ b
@@ -35,17 +35,56 @@ numbers_push passes n (y ∷ ys) x =
     let ih = numbers_push passes (n + 1) ys x in
     cond_append (passes y) n (numbers_from passes (n + 1) (ys ++ x ∷ [])) (numbers_from passes (n + 1) ys) _ (ih ∙ ap (λ m. numbers_from passes (n + 1) ys ++ cond (passes x) (m ∷ []) []) e)
 
+cond_push : (b : Bool) (n : ℕ) (row : List ℕ) → cond b (row ++ n ∷ []) row ≡ row ++ cond b (n ∷ []) []
+cond_push true n row = refl
+cond_push false n row = sym (append-nil row)
+
+cond_pop : (b : Bool) (n : ℕ) (row : List ℕ) → cond b (take (length (row ++ cond b (n ∷ []) []) - 1) (row ++ cond b (n ∷ []) [])) (row ++ cond b (n ∷ []) []) ≡ row
+cond_pop true n row = take_at row (n ∷ []) (length (row ++ n ∷ []) - 1) (omega (arith, length-append row (n ∷ [])))
+cond_pop false n row = append-nil row
+
+-- rows that change in the cells' places as what they should be does
+rows_changed : (n : ℕ) (change : List ℕ → List ℕ) (row_of row_of_now : ℕ → List ℕ) (old new : List (List ℕ)) (cells : List ℕ) → AreRows n row_of old → ChangesAt change old new cells →
+    ((cell : ℕ) → cond (list_any (λ c. c == cell) cells) (change (row_of cell)) (row_of cell) ≡ row_of_now cell) → AreRows n row_of_now new
+rows_changed n change row_of row_of_now old new cells h changes same = record {
+  count = changes.count ∙ h.count;
+  each = λ cell. changes.each cell ∙ ap (λ row. cond (list_any (λ c. c == cell) cells) (change row) row) (h.each cell) ∙ same cell;
+}
+
 -- the rows of the cells, where the number of one more instance was noted in the rows of its cells
 pub rows_noted : (n number : ℕ) (passes : ℕ → Instance → Bool) (instances : List Instance) (x : Instance) (cells : List ℕ) (old new : List (List ℕ)) →
     AreRows n (λ cell. numbers_from (passes cell) 0 instances) old → Noted old new cells number → number ≡ length instances → ((cell : ℕ) → passes cell x ≡ list_any (λ c. c == cell) cells) →
     AreRows n (λ cell. numbers_from (passes cell) 0 (instances ++ x ∷ [])) new
-rows_noted n number passes instances x cells old new h noted e same = record {
-  count = noted.count ∙ h.count;
+rows_noted n number passes instances x cells old new h noted e same =
+    rows_changed n (λ row. row ++ number ∷ []) (λ cell. numbers_from (passes cell) 0 instances) (λ cell. numbers_from (passes cell) 0 (instances ++ x ∷ [])) old new cells h noted (λ cell.
+    let last : number ≡ 0 + length instances = omega (arith, e) in
+    let row = numbers_from (passes cell) 0 instances in
+    ap (λ b. cond b (row ++ number ∷ []) row) (sym (same cell)) ∙ cond_push (passes cell x) number row ∙ ap (λ m. row ++ cond (passes cell x) (m ∷ []) []) last ∙ sym (numbers_push (passes cell) 0 instances x))
+
+-- and where that of the last instance was taken out of them
+pub rows_unnoted : (n : ℕ) (passes : ℕ → Instance → Bool) (instances : List Instance) (x : Instance) (cells : List ℕ) (old new : List (List ℕ)) →
+    AreRows n (λ cell. numbers_from (passes cell) 0 (instances ++ x ∷ [])) old → Unnoted old new cells → ((cell : ℕ) → passes cell x ≡ list_any (λ c. c == cell) cells) →
+    AreRows n (λ cell. numbers_from (passes cell) 0 instances) new
+rows_unnoted n passes instances x cells old new h unnoted same =
+    rows_changed n (λ row. take (length row - 1) row) (λ cell. numbers_from (passes cell) 0 (instances ++ x ∷ [])) (λ cell. numbers_from (passes cell) 0 instances) old new cells h unnoted (λ cell.
+    let row = numbers_from (passes cell) 0 instances in
+    let change : Bool → List ℕ → List ℕ = λ b r. cond b (take (length r - 1) r) r in
+    ap (λ b. change b (numbers_from (passes cell) 0 (instances ++ x ∷ []))) (sym (same cell)) ∙ ap (change (passes cell x)) (numbers_push (passes cell) 0 instances x) ∙ cond_pop (passes cell x) (0 + length instances) row)
+
+-- where no instance passes there is no number
+pub numbers_none : (passes : Instance → Bool) (n : ℕ) (xs : List Instance) → All (λ x. passes x ≡ false) xs → numbers_from passes n xs ≡ []
+numbers_none passes n [] h = refl
+numbers_none passes n (x ∷ xs) h = rw (All-head (λ y. passes y ≡ false) x xs h) (numbers_none passes (n + 1) xs (All-tail (λ y. passes y ≡ false) x xs h))
+
+-- the rows of the first cells, where no other cell has a number
+pub rows_taken : (n count : ℕ) (row_of : ℕ → List ℕ) (rows : List (List ℕ)) → AreRows n row_of rows → ((cell : ℕ) → count ≤ cell → row_of cell ≡ []) → AreRows (min count n) row_of (take count rows)
+rows_taken n count row_of rows h none = record {
+  count = length-take count rows ∙ ap (min count) h.count;
   each = λ cell.
-      let last : number ≡ 0 + length instances = omega (arith, e) in
-      let row : ℕ → Bool → List ℕ = λ m b. numbers_from (passes cell) 0 instances ++ cond b (m ∷ []) [] in
-      noted.each cell ∙ ap (λ r. r ++ cond (list_any (λ c. c == cell) cells) (number ∷ []) []) (h.each cell) ∙ ap (λ b. row number b) (sym (same cell)) ∙ ap (λ m. row m (passes cell x)) last ∙
-      sym (numbers_push (passes cell) 0 instances x);
+      elim (cases_lt cell count) as (λ _. get_or (take count rows) cell [] ≡ row_of cell) [
+        | inl l ↦ get_or-take count rows cell [] l ∙ h.each cell
+        | inr past ↦ get_or_past (take count rows) cell [] (omega (arith, length-take count rows, past)) ∙ sym (none cell past)
+      ];
 }
 
 -- ---- writes to a row
@@ -87,7 +126,7 @@ rooms_more rows cells i new l in_rows room h =
     (All-weaker (HasRoom rows) (HasRoom (set rows (get_or cells i 0) new)) (λ k has. room_set rows (get_or cells i 0) k new in_rows (λ e. room) has) (take i cells) h)
     (room_here rows (get_or cells i 0) new in_rows room)
 
--- ---- noting a number
+-- ---- a change of the cells' rows, one after the other
 
 module _ (cells : List ℕ) (i cell : ℕ) (l : i < length cells) where
   -- a cell that stands before place i + 1 stands before place i or at it
@@ -101,48 +140,49 @@ module _ (cells : List ℕ) (i cell : ℕ) (l : i < length cells) where
         | inr other ↦ among_more ∙ ap (λ b. list_any (λ c. c == cell) (take i cells) || b) other.0 ∙ or_none (list_any (λ c. c == cell) (take i cells))
       ]
 
-pub noted_again : (old now : List (List ℕ)) (cells : List ℕ) (i number : ℕ) → i < length cells → list_any (λ c. c == get_or cells i 0) (take i cells) ≡ true → Noted old now (take i cells) number → Noted old now (take (i + 1) cells) number
-noted_again old now cells i number l there h = record {
-  count = h.count;
-  each = λ cell. h.each cell ∙ ap (λ b. get_or old cell [] ++ cond b (number ∷ []) []) (sym (among_again cells i cell l there));
-}
+module _ (change : List ℕ → List ℕ) (old now : List (List ℕ)) (cells : List ℕ) (i : ℕ) (l : i < length cells) (h : ChangesAt change old now (take i cells)) where
+  pub changed_again : list_any (λ c. c == get_or cells i 0) (take i cells) ≡ true → ChangesAt change old now (take (i + 1) cells)
+  changed_again there = record {
+    count = h.count;
+    each = λ cell. h.each cell ∙ ap (λ b. cond b (change (get_or old cell [])) (get_or old cell [])) (sym (among_again cells i cell l there));
+  }
 
--- the row of the cell at place i, after the number was pushed to it
-noted_here : (old now : List (List ℕ)) (cells items : List ℕ) (i number : ℕ) → i < length cells → get_or cells i 0 < length now → list_any (λ c. c == get_or cells i 0) (take i cells) ≡ false →
-    items ≡ get_or now (get_or cells i 0) [] ++ number ∷ [] → Noted old now (take i cells) number →
-    get_or (set now (get_or cells i 0) items) (get_or cells i 0) [] ≡ get_or old (get_or cells i 0) [] ++ cond (list_any (λ c. c == get_or cells i 0) (take (i + 1) cells)) (number ∷ []) []
-noted_here old now cells items i number l in_rows absent pushed h =
-    let cell = get_or cells i 0 in
-    let was : get_or now cell [] ≡ get_or old cell [] = h.each cell ∙ ap (λ b. get_or old cell [] ++ cond b (number ∷ []) []) absent ∙ append-nil (get_or old cell []) in
-    let yes : list_any (λ c. c == cell) (take (i + 1) cells) ≡ true = among_more cells i cell l ∙ ap (λ b. b || (cell == cell)) absent ∙ eq-eqb cell cell refl in
-    get_or-set_same now cell items [] in_rows ∙ pushed ∙ ap (λ row. row ++ number ∷ []) was ∙ ap (λ b. get_or old cell [] ++ cond b (number ∷ []) []) (sym yes)
+  -- the row of the cell at place i
+  changed_here : (items : List ℕ) → get_or cells i 0 < length now → list_any (λ c. c == get_or cells i 0) (take i cells) ≡ false → items ≡ change (get_or now (get_or cells i 0) []) →
+      get_or (set now (get_or cells i 0) items) (get_or cells i 0) [] ≡
+      cond (list_any (λ c. c == get_or cells i 0) (take (i + 1) cells)) (change (get_or old (get_or cells i 0) [])) (get_or old (get_or cells i 0) [])
+  changed_here items in_rows absent is =
+      let cell = get_or cells i 0 in
+      let was : get_or now cell [] ≡ get_or old cell [] = h.each cell ∙ ap (λ b. cond b (change (get_or old cell [])) (get_or old cell [])) absent in
+      let yes : list_any (λ c. c == cell) (take (i + 1) cells) ≡ true = among_more cells i cell l ∙ ap (λ b. b || (cell == cell)) absent ∙ eq-eqb cell cell refl in
+      get_or-set_same now cell items [] in_rows ∙ is ∙ ap change was ∙ ap (λ b. cond b (change (get_or old cell [])) (get_or old cell [])) (sym yes)
 
-noted_other : (old now : List (List ℕ)) (cells items : List ℕ) (i number cell : ℕ) → i < length cells → cell ≢ get_or cells i 0 → Noted old now (take i cells) number →
-    get_or (set now (get_or cells i 0) items) cell [] ≡ get_or old cell [] ++ cond (list_any (λ c. c == cell) (take (i + 1) cells)) (number ∷ []) []
-noted_other old now cells items i number cell l ne h =
-    let no : (get_or cells i 0 == cell) ≡ false = ne_eqb (get_or cells i 0) cell (λ e. ne (sym e)) in
-    let same : list_any (λ c. c == cell) (take (i + 1) cells) ≡ list_any (λ c. c == cell) (take i cells) =
-    among_more cells i cell l ∙ ap (λ b. list_any (λ c. c == cell) (take i cells) || b) no ∙ or_none (list_any (λ c. c == cell) (take i cells)) in
-    get_or-set_other now (get_or cells i 0) cell items [] ne ∙ h.each cell ∙ ap (λ b. get_or old cell [] ++ cond b (number ∷ []) []) (sym same)
+  changed_other : (items : List ℕ) (cell : ℕ) → cell ≢ get_or cells i 0 →
+      get_or (set now (get_or cells i 0) items) cell [] ≡ cond (list_any (λ c. c == cell) (take (i + 1) cells)) (change (get_or old cell [])) (get_or old cell [])
+  changed_other items cell ne =
+      let no : (get_or cells i 0 == cell) ≡ false = ne_eqb (get_or cells i 0) cell (λ e. ne (sym e)) in
+      let same : list_any (λ c. c == cell) (take (i + 1) cells) ≡ list_any (λ c. c == cell) (take i cells) =
+      among_more cells i cell l ∙ ap (λ b. list_any (λ c. c == cell) (take i cells) || b) no ∙ or_none (list_any (λ c. c == cell) (take i cells)) in
+      get_or-set_other now (get_or cells i 0) cell items [] ne ∙ h.each cell ∙ ap (λ b. cond b (change (get_or old cell [])) (get_or old cell [])) (sym same)
 
-noted_more : (old now : List (List ℕ)) (cells items : List ℕ) (i number : ℕ) → i < length cells → get_or cells i 0 < length now → list_any (λ c. c == get_or cells i 0) (take i cells) ≡ false →
-    items ≡ get_or now (get_or cells i 0) [] ++ number ∷ [] → Noted old now (take i cells) number → Noted old (set now (get_or cells i 0) items) (take (i + 1) cells) number
-noted_more old now cells items i number l in_rows absent pushed h = record {
-  count = length-set now (get_or cells i 0) items ∙ h.count;
-  each = λ cell.
-      elim (eqb_tells cell (get_or cells i 0)) as (λ _. get_or (set now (get_or cells i 0) items) cell [] ≡ get_or old cell [] ++ cond (list_any (λ c. c == cell) (take (i + 1) cells)) (number ∷ []) []) [
-        | inl same ↦ rw same.1 (noted_here old now cells items i number l in_rows absent pushed h)
-        | inr other ↦ noted_other old now cells items i number cell l other.1 h
-      ];
-}
+  changed_more : (items : List ℕ) → get_or cells i 0 < length now → list_any (λ c. c == get_or cells i 0) (take i cells) ≡ false → items ≡ change (get_or now (get_or cells i 0) []) →
+      ChangesAt change old (set now (get_or cells i 0) items) (take (i + 1) cells)
+  changed_more items in_rows absent is = record {
+    count = length-set now (get_or cells i 0) items ∙ h.count;
+    each = λ cell.
+        elim (eqb_tells cell (get_or cells i 0)) as (λ _. get_or (set now (get_or cells i 0) items) cell [] ≡ cond (list_any (λ c. c == cell) (take (i + 1) cells)) (change (get_or old cell [])) (get_or old cell [])) [
+          | inl same ↦ rw same.1 (changed_here items in_rows absent is)
+          | inr other ↦ changed_other items cell other.1
+        ];
+  }
 
-pub noted_row : {Z : Type 0} (old : List (List ℕ)) (rows : List (Vec ℕ Z)) (cells : List ℕ) (i number : ℕ) (row new : Vec ℕ Z) → i < length cells → get_or cells i 0 < length rows →
-    list_any (λ c. c == get_or cells i 0) (take i cells) ≡ false → row ≡ get_or rows (get_or cells i 0) row → new.items ≡ row.items ++ number ∷ [] → Noted old (row_items rows) (take i cells) number →
-    Noted old (row_items (set rows (get_or cells i 0) new)) (take (i + 1) cells) number
-noted_row old rows cells i number row new l in_rows absent at pushed h =
+pub changed_row : {Z : Type 0} (change : List ℕ → List ℕ) (old : List (List ℕ)) (rows : List (Vec ℕ Z)) (cells : List ℕ) (i : ℕ) (row new : Vec ℕ Z) → i < length cells → get_or cells i 0 < length rows →
+    list_any (λ c. c == get_or cells i 0) (take i cells) ≡ false → row ≡ get_or rows (get_or cells i 0) row → new.items ≡ change row.items → ChangesAt change old (row_items rows) (take i cells) →
+    ChangesAt change old (row_items (set rows (get_or cells i 0) new)) (take (i + 1) cells)
+changed_row change old rows cells i row new l in_rows absent at is h =
     let n : length (row_items rows) ≡ length rows = length-map rows (λ r. r.items) in
-    let items : new.items ≡ get_or (row_items rows) (get_or cells i 0) [] ++ number ∷ [] = pushed ∙ ap (λ r. r ++ number ∷ []) (items_at rows (get_or cells i 0) row in_rows at) in
-    rw (map-set (λ r. r.items) rows (get_or cells i 0) new) (noted_more old (row_items rows) cells new.items i number l (omega (arith, n, in_rows)) absent items h)
+    let items : new.items ≡ change (get_or (row_items rows) (get_or cells i 0) []) = is ∙ ap change (items_at rows (get_or cells i 0) row in_rows at) in
+    rw (map-set (λ r. r.items) rows (get_or cells i 0) new) (changed_more change old (row_items rows) cells i l h new.items (omega (arith, n, in_rows)) absent items)
 
 -- a cell that is not among those so far still has its room
 pub room_left : {Z : Type 0} (rows : List (Vec ℕ Z)) (cells : List ℕ) (i cell : ℕ) (new : Vec ℕ Z) → i < length cells → get_or cells i 0 < length rows →

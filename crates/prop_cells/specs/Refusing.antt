@@ -11,7 +11,8 @@ use Rattle.prop_lattice.specs.declared.refusal.Limit.TheVariants.{Cells, Instanc
 use Rattle.prop_lattice.specs.declared.refusal.Refusal.{Refusal}
 use Rattle.prop_lattice.specs.declared.refusal.Refusal.TheVariants.{NoSuchCell, WrongCount, WrongKind, WrongParameter, LimitReached}
 use Rattle.prop_procedures.specs.Stored.{Stored}
-use Rattle.prop_cells.specs.Instances.{kind_at, kinds_fit, sides_given, param_in}
+use Rattle.prop_procedures.specs.Fitting.{kind_at, kinds_fit}
+use Rattle.prop_cells.specs.Instances.{sides_given, param_in}
 use Rattle.prop_cells.specs.Data.{Data}
 
 abbrev pub when : Refusal → Bool → Option Refusal

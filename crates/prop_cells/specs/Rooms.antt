@@ -1,5 +1,5 @@
 -- Rows of numbers with room for more.
-use Rattle.std.specs.Prelude.{◌≡◌, ℕ, ◌<◌, ◌==◌, cond, List, [], ◌∷◌, ◌++◌, length, map, Some, slice_get, slice_index_or, vec_capacity}
+use Rattle.std.specs.Prelude.{◌≡◌, ℕ, ◌<◌, ◌-◌, ◌==◌, cond, List, [], ◌∷◌, ◌++◌, length, map, take, Some, slice_get, slice_index_or, vec_capacity}
 use Rattle.std.specs.List.{list_any}
 use Rattle.std.specs.declared.vec.Vec.{Vec}
 
@@ -11,7 +11,15 @@ row_items rows = map (λ row. row.items) rows
 abbrev pub HasRoom : {Z : Type 0} → List (Vec ℕ Z) → ℕ → Type 0
 HasRoom {Z} rows cell = (row : Vec ℕ Z) → slice_get rows cell ≡ Some row → length row.items < vec_capacity row
 
--- the number stands last in the rows of these cells, and the others are as they were
-pub record Noted (old new : List (List ℕ)) (cells : List ℕ) (number : ℕ) : Type 0 where
+-- the rows of these cells changed in this way, each once, and the others are as they were
+pub record ChangesAt (change : List ℕ → List ℕ) (old new : List (List ℕ)) (cells : List ℕ) : Type 0 where
   pub count : length new ≡ length old
-  pub each : (cell : ℕ) → slice_index_or new cell [] ≡ slice_index_or old cell [] ++ cond (list_any (λ c. c == cell) cells) (number ∷ []) []
+  pub each : (cell : ℕ) → slice_index_or new cell [] ≡ cond (list_any (λ c. c == cell) cells) (change (slice_index_or old cell [])) (slice_index_or old cell [])
+
+-- the number stands last in the rows of these cells
+abbrev pub Noted : List (List ℕ) → List (List ℕ) → List ℕ → ℕ → Type 0
+Noted old new cells number = ChangesAt (λ row. row ++ number ∷ []) old new cells
+
+-- the last number is gone from the rows of these cells
+abbrev pub Unnoted : List (List ℕ) → List (List ℕ) → List ℕ → Type 0
+Unnoted old new cells = ChangesAt (λ row. take (length row - 1) row) old new cells

@@ -2,17 +2,16 @@
 ghost use Rattle.std.specs.Prelude.{◌≡◌, ◌<◌, ◌≤◌, ◌+◌, ◌++◌, ◌∷◌, [], nat_le, ℕ, List, length, map, zip, All, IfOk, None, Some, slice_index_or};
 ghost use Rattle.std.specs.List.{list_any};
 ghost use Rattle.prop_procedures.specs.Stored.{span_kind, sides_of};
-ghost use Rattle.prop_cells.specs.Instances.{kind_at, scale_in_range, relation_alone, fitting_param, param_in, sides_given};
+ghost use Rattle.prop_procedures.specs.Fitting.{kind_at, scale_in_range, relation_alone, fitting_param};
+ghost use Rattle.prop_cells.specs.Instances.{param_in, sides_given};
 ghost use Rattle.prop_cells.specs.Refusing.{may_be_stated};
 
 use crate::cells::Cells;
 use prop_lattice::Info;
+use prop_procedures::fitting::{is_scale, shape_at, sides_of};
 use prop_procedures::{Kinded, Need, Param, Shape};
 use prop_sets::Side;
 use std::alloc::{AllocError, Global};
-
-/// The largest scale.
-const MOST_SCALE: i64 = 1_000_000_000;
 
 /// Whether an information may be stated at a cell of a kind: it is of the kind, and no contradiction.
 pub(crate) fn may_be_stated(kind: Kinded, info: Info) -> bool
@@ -40,7 +39,7 @@ fn scale_in_range(param: &Param) -> Option<Param>
     ensures { result ≡ scale_in_range param.now }
 {
     match param {
-        Param::Scale(k) if 1 <= *k && *k <= MOST_SCALE => Some(Param::Scale(*k)),
+        Param::Scale(k) if is_scale(*k) => Some(Param::Scale(*k)),
         _ => None,
     }
 }
@@ -93,17 +92,7 @@ pub(crate) fn param_in(
     }
 }
 
-/// The sides of the relation, where the parameter is one.
-fn sides_of(param: &Param) -> Option<(Side, Side)>
-    ensures { result ≡ sides_of param.now }
-{
-    match param {
-        Param::Rows(rows) => Some((rows.from(), rows.to())),
-        Param::Plain | Param::Scale(_) => None,
-    }
-}
-
-/// The same, where the parameter is given by its number.
+/// The sides of the relation, where the parameter of this number is one.
 pub(crate) fn sides_given(params: &[Param], given: Option<usize>) -> Option<(Side, Side)>
     ensures { result ≡ sides_given params.now given }
 {
@@ -111,14 +100,6 @@ pub(crate) fn sides_given(params: &[Param], given: Option<usize>) -> Option<(Sid
         Some(n) if n < params.len() => sides_of(&params[n]),
         _ => None,
     }
-}
-
-/// The shape of a place, the output last.
-fn shape_at(ins: &[Shape], out: Shape, i: usize) -> Shape
-    requires { i ≤ length ins.now }
-    ensures { result ≡ slice_index_or (ins.now ++ out ∷ []) i out }
-{
-    if i < ins.len() { ins[i] } else { out }
 }
 
 /// The cell at a place, the output last.

@@ -1,7 +1,7 @@
 //! Which instances each cell has: a row of numbers for each cell.
-ghost use Rattle.std.specs.Prelude.{◌≡◌, ℕ, ◌<◌, ◌==◌, cond, List, [], ◌∷◌, ◌++◌, length, map, All, OnOk, slice_set, slice_index_or};
+ghost use Rattle.std.specs.Prelude.{◌≡◌, ℕ, ◌<◌, ◌==◌, cond, List, [], ◌∷◌, ◌++◌, length, map, take, All, OnOk, slice_index};
 ghost use Rattle.std.specs.List.{list_any};
-ghost use Rattle.prop_cells.specs.Rooms.{row_items, HasRoom, Noted};
+ghost use Rattle.prop_cells.specs.Rooms.{row_items, HasRoom, Noted, Unnoted};
 
 use std::alloc::AllocError;
 
@@ -17,6 +17,14 @@ pub(crate) fn make_room(rows: &mut Vec<Vec<usize>>, cells: &[usize]) -> Result<(
     Ok(())
 }
 
+/// Whether the cell at this place stands at an earlier place too.
+fn is_again(cells: &[usize], i: usize) -> bool
+    requires { i < length cells.now }
+    ensures { result ≡ list_any (λ c. c == slice_index cells.now i) (take i cells.now) }
+{
+    cells[..i].contains(&cells[i])
+}
+
 /// Writes a number at the end of the rows of these cells, once in each. It takes no memory.
 pub(crate) fn note(rows: &mut Vec<Vec<usize>>, cells: &[usize], number: usize)
     requires cells { All (λ cell. cell < length rows.old.items) cells.now }
@@ -24,9 +32,22 @@ pub(crate) fn note(rows: &mut Vec<Vec<usize>>, cells: &[usize], number: usize)
     ensures { Noted (row_items rows.old.items) (row_items rows.new.items) cells.now number }
 {
     for i in 0..cells.len() {
-        if cells[..i].contains(&cells[i]) {
+        if is_again(cells, i) {
             continue;
         }
         let _ = rows[cells[i]].push(number);
+    }
+}
+
+/// Takes the last number out of the rows of these cells, once out of each. It takes no memory.
+pub(crate) fn unnote(rows: &mut Vec<Vec<usize>>, cells: &[usize])
+    requires { All (λ cell. cell < length rows.old.items) cells.now }
+    ensures { Unnoted (row_items rows.old.items) (row_items rows.new.items) cells.now }
+{
+    for i in 0..cells.len() {
+        if is_again(cells, i) {
+            continue;
+        }
+        let _ = rows[cells[i]].pop();
     }
 }

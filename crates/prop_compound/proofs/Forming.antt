@@ -9,10 +9,10 @@ use Rattle.prop_lattice.specs.declared.refusal.Refusal.{Refusal}
 use Rattle.prop_lattice.specs.declared.refusal.Refusal.TheVariants.{WrongForm, NotAName, NotANumber, Memory}
 use Rattle.prop_compound.specs.Tokens.{Token, Word, Open, Close, Semicolon, Equals}
 use Rattle.prop_compound.specs.Names.{is_name}
-use Rattle.prop_compound.specs.Commands.{Value, By, Command}
-use Rattle.prop_compound.specs.Forms.{join, only_words, domain, pairs, relation, values, in_braces, one_value, only_value, cells_by, by_form, attach, with_cell}
-use Rattle.prop_compound.specs.Reading.{by_names, is_by_in_range, command_in_range, command_in_form}
-use Rattle.prop_compound.specs.Parts.{front, are_words, front_words, behind_equals, further, before_pairs, given, before_by, by_in_range, BeginsOpen}
+use Rattle.prop_compound.specs.Commands.{Value, By, Passed, Step, Command}
+use Rattle.prop_compound.specs.Forms.{join, only_words, domain, pairs, relation, values, in_braces, one_value, only_value, cells_by, by_form, attach, with_cell, passed_form, use_step}
+use Rattle.prop_compound.specs.Reading.{by_names, is_by_in_range, passed_names, is_passed_in_range, command_in_range, command_in_form}
+use Rattle.prop_compound.specs.Parts.{front, are_words, front_words, behind_equals, further, before_pairs, behind_by, given, before_by, judged, step_in_form, BeginsOpen}
 
 -- ---- values
 
@@ -66,62 +66,101 @@ not_all p (x ∷ xs) y ys h = rw (not_all p xs y ys h) (never (p x))
     never true = refl
     never false = refl
 
--- ---- attachments
+-- ---- cells, and what follows them
 
-by_first : (b : Bool) (w : List ℕ) (behind : Option By) (rest : Option (List (List ℕ) × By)) (xs : List (List ℕ)) (by : By) → (option_map (λ r. r.1) rest ≡ Some by → rest ≡ Some (xs, by)) → option_map (λ r. r.1) (cond b (option_map {U = List (List ℕ) × By} (λ by. ([], by)) behind) (option_map (with_cell w) rest)) ≡ Some by → cond b (option_map {U = List (List ℕ) × By} (λ by. ([], by)) behind) (option_map (with_cell w) rest) ≡ Some (cond b [] (w ∷ xs), by)
-by_first true w None rest xs by more h = cc
-by_first true w (Some by') rest xs by more h = ap (option_map (λ by. ([], by))) h
-by_first false w behind None xs by more h = cc
-by_first false w behind (Some r) xs by more h = ap (option_map (with_cell w)) (more h)
+map_map : {A B C : Type 0} (f : B → C) (g : A → B) (o : Option A) → option_map f (option_map g o) ≡ option_map (λ a. f (g a)) o
+map_map f g None = refl
+map_map f g (Some a) = refl
 
 -- the cells are those before the first `by`
-cells_are : (ts : List Token) (by : By) → given ts ≡ Some by → cells_by ts ≡ Some (before_by ts, by)
-cells_are [] by h = ap (option_map (λ by. ([], by))) h
-cells_are (Word w ∷ ts) by h = by_first (bytes_eq w (codes "by")) w (by_form ts) (cells_by ts) (before_by ts) by (cells_are ts by) h
-cells_are (t ∷ ts) by h = cc
+pub cells_are : {P : Type 0} (read : Option (List Token) → Option P) (ts : List Token) → cells_by read ts ≡ option_map (λ by. (before_by ts, by)) (given read ts)
+cells_are read [] = refl
+cells_are read (Word w ∷ ts) = by_first (bytes_eq w (codes "by")) (cells_are read ts)
+  where
+    by_first : (b : Bool) → cells_by read ts ≡ option_map (λ by. (before_by ts, by)) (given read ts) → cond b (option_map (λ by. ([], by)) (read (Some ts))) (option_map (with_cell w) (cells_by read ts)) ≡ option_map (λ by. (cond b [] (w ∷ before_by ts), by)) (option_and_then read (cond b (Some (Some ts)) (behind_by ts)))
+    by_first true more = refl
+    by_first false more = ap (option_map (with_cell w)) more ∙ map_map (with_cell w) (λ by. (before_by ts, by)) (given read ts)
+cells_are read (t ∷ ts) = refl
 
-pub attached : (ts ts' rest : List Token) (n x : List ℕ) (by : By) → ts ≡ Word n ∷ ts' → ts' ≡ Word x ∷ rest → given rest ≡ Some by → attach ts ≡ Some (Command.Attach n (x ∷ before_by rest) by)
-attached ts ts' rest n x by e e' h = rw (e, e', cells_are rest by h) refl
+-- ---- names before numbers
 
--- the names of an attachment come before its parameter
-pub unnamed : (n : List ℕ) (xs : List (List ℕ)) (by : By) → is_name n ≡ true → list_all is_name xs ≡ false → command_in_range (Command.Attach n xs by) ≡ Err NotAName
-unnamed n xs by e h = rw (list_all-append is_name (n ∷ xs) (by_names by), e, h) refl
+-- a word among the first that is no name
+unnamed_front : {X : Type 0} (front more : List (List ℕ)) (in_range : Bool) (read : X) → list_all is_name front ≡ false → judged (front ++ more) in_range read ≡ Err NotAName
+unnamed_front front more in_range read h = rw (list_all-append is_name front more, h) refl
 
-wrongly : (unnamed outside : Bool) (by : By) (command : Option Command) (refusal : Refusal) → cond unnamed (Err NotAName) (cond outside (Err NotANumber) (Ok by)) ≡ Err refusal → cond unnamed (Err NotAName) (cond outside (Err NotANumber) (Ok command)) ≡ Err refusal
-wrongly true outside by command refusal h = cc
-wrongly false true by command refusal h = cc
-wrongly false false by command refusal h = cc
+named_front : {X : Type 0} (front more : List (List ℕ)) (in_range : Bool) (read : X) → list_all is_name front ≡ true → judged (front ++ more) in_range read ≡ judged more in_range read
+named_front front more in_range read h = rw (list_all-append is_name front more, h) refl
 
-rightly : (unnamed outside : Bool) (by by' : By) (made : By → Option Command) → cond {A = Result By Refusal} unnamed (Err NotAName) (cond outside (Err NotANumber) (Ok by)) ≡ Ok by' → cond {A = Result (Option Command) Refusal} unnamed (Err NotAName) (cond outside (Err NotANumber) (Ok (made by))) ≡ Ok (made by')
-rightly true outside by by' made h = cc
-rightly false true by by' made h = cc
-rightly false false by by' made h = cc
+-- a part's refusal is that of the whole
+pub part_refused : {X Y : Type 0} (names : List (List ℕ)) (in_range : Bool) (part : X) (whole : Y) (refusal : Refusal) → judged names in_range part ≡ Err refusal → judged names in_range whole ≡ Err refusal
+part_refused names in_range part whole refusal h = at (not (list_all is_name names)) (not in_range) h
+  where
+    at : (unnamed outside : Bool) → cond unnamed (Err NotAName) (cond outside (Err NotANumber) (Ok part)) ≡ Err refusal → cond unnamed (Err NotAName) (cond outside (Err NotANumber) (Ok whole)) ≡ Err refusal
+    at true outside h = cc
+    at false true h = cc
+    at false false h = cc
 
-pub given_wrong : (n : List ℕ) (xs : List (List ℕ)) (by : By) (refusal : Refusal) → is_name n ≡ true → list_all is_name xs ≡ true → by_in_range by ≡ Err refusal → command_in_range (Command.Attach n xs by) ≡ Err refusal
-given_wrong n xs by refusal e h wrong =
-    rw (list_all-append is_name (n ∷ xs) (by_names by), e, h) (wrongly (not (list_all is_name (by_names by))) (not (is_by_in_range by)) by _ refusal wrong)
+part_judged : {X Y : Type 0} (names : List (List ℕ)) (in_range : Bool) (part part' : X) (made : X → Y) → judged names in_range part ≡ Ok part' → judged names in_range (made part) ≡ Ok (made part')
+part_judged {X = X} {Y = Y} names in_range part part' made h = at (not (list_all is_name names)) (not in_range) h
+  where
+    at : (unnamed outside : Bool) → cond {A = Result X Refusal} unnamed (Err NotAName) (cond outside (Err NotANumber) (Ok part)) ≡ Ok part' → cond {A = Result Y Refusal} unnamed (Err NotAName) (cond outside (Err NotANumber) (Ok (made part))) ≡ Ok (made part')
+    at true outside h = cc
+    at false true h = cc
+    at false false h = cc
 
-pub given_right : (n : List ℕ) (xs : List (List ℕ)) (by by' : By) → is_name n ≡ true → list_all is_name xs ≡ true → by_in_range by ≡ Ok by' → command_in_range (Command.Attach n xs by) ≡ Ok (Some (Command.Attach n xs by'))
-given_right n xs by by' e h right =
-    rw (list_all-append is_name (n ∷ xs) (by_names by), e, h) (rightly (not (list_all is_name (by_names by))) (not (is_by_in_range by)) by by' (λ b. Some (Command.Attach n xs b)) right)
+-- ---- uses: a name, cells, and what follows them
 
-abbrev Attaches : (ts ts' rest : List Token) (n x : List ℕ) (by : By) → Type 0
-Attaches ts ts' rest n x by = (ts ≡ Word n ∷ ts') × (ts' ≡ Word x ∷ rest) × (given rest ≡ Some by)
+-- a use by these names and this parameter, if it has one that is well formed
+pub used : {P Y : Type 0} → (P → List (List ℕ)) → (P → Bool) → (P → Y) → List (List ℕ) → Option P → Result Y Refusal
+used names in_range made front None = Err WrongForm
+used names in_range made front (Some by) = judged (front ++ names by) (in_range by) (made by)
 
--- the refusal of an attachment's cells
-pub cells_refused : (ts ts' rest : List Token) (n x : List ℕ) (by : By) (refusal : Refusal) → Attaches ts ts' rest n x by → is_name n ≡ true → (refusal ≡ Memory) ⊎ ((refusal ≡ NotAName) × (list_all is_name (x ∷ before_by rest) ≡ false)) → (refusal ≡ Memory) ⊎ (command_in_form (attach ts) ≡ Err refusal)
-cells_refused ts ts' rest n x by refusal a e (inl memory) = inl memory
-cells_refused ts ts' rest n x by refusal a e (inr unnamed_cell) = inr
-    (ap command_in_form (attached ts ts' rest n x by a.0 a.1 a.2) ∙ unnamed n (x ∷ before_by rest) by e unnamed_cell.1 ∙ ap Err (sym unnamed_cell.0))
+-- the tokens begin with a name and a cell
+abbrev pub Uses : (ts ts' rest : List Token) (n x : List ℕ) → Type 0
+Uses ts ts' rest n x = (ts ≡ Word n ∷ ts') × (ts' ≡ Word x ∷ rest)
 
--- the refusal of an attachment's parameter
-pub parameter_refused : (ts ts' rest : List Token) (n x : List ℕ) (by : By) (refusal : Refusal) → Attaches ts ts' rest n x by → is_name n ≡ true → list_all is_name (x ∷ before_by rest) ≡ true → by_in_range by ≡ Err refusal → command_in_form (attach ts) ≡ Err refusal
-parameter_refused ts ts' rest n x by refusal a e h wrong =
-    ap command_in_form (attached ts ts' rest n x by a.0 a.1 a.2) ∙ given_wrong n (x ∷ before_by rest) by refusal e h wrong
+pub attach_used : (ts ts' rest : List Token) (n x : List ℕ) → Uses ts ts' rest n x → command_in_form (attach ts) ≡ used by_names is_by_in_range (λ by. Some (Command.Attach n (x ∷ before_by rest) by)) (n ∷ x ∷ before_by rest) (given by_form rest)
+unfolding used
+attach_used ts ts' rest n x u = rw (u.0, u.1, cells_are by_form rest) (at (given by_form rest))
+  where
+    at : (o : Option By) → command_in_form (option_map (λ (r : List (List ℕ) × By). Command.Attach n (x ∷ r.0) r.1) (option_map (λ by. (before_by rest, by)) o)) ≡ used by_names is_by_in_range (λ by. Some (Command.Attach n (x ∷ before_by rest) by)) (n ∷ x ∷ before_by rest) o
+    at None = refl
+    at (Some by) = refl
 
-pub attachment_read : (ts ts' rest : List Token) (n x n' : List ℕ) (xs : List (List ℕ)) (by by' : By) → Attaches ts ts' rest n x by → (n' ≡ n) × (is_name n ≡ true) → (xs ≡ x ∷ before_by rest) × (list_all is_name (x ∷ before_by rest) ≡ true) → by_in_range by ≡ Ok by' → command_in_form (attach ts) ≡ Ok (Some (Command.Attach n' xs by'))
-attachment_read ts ts' rest n x n' xs by by' a e h right =
-    ap command_in_form (attached ts ts' rest n x by a.0 a.1 a.2) ∙ given_right n (x ∷ before_by rest) by by' e.1 h.1 right ∙ rw (e.0, h.0) refl
+pub step_used : (ts ts' rest : List Token) (n x : List ℕ) → Uses ts ts' rest n x → step_in_form (use_step ts) ≡ used passed_names is_passed_in_range (Step.Use n (x ∷ before_by rest)) (n ∷ x ∷ before_by rest) (given passed_form rest)
+unfolding used
+step_used ts ts' rest n x u = rw (u.0, u.1, cells_are passed_form rest) (at (given passed_form rest))
+  where
+    at : (o : Option Passed) → step_in_form (option_map (λ (r : List (List ℕ) × Passed). Step.Use n (x ∷ r.0) r.1) (option_map (λ by. (before_by rest, by)) o)) ≡ used passed_names is_passed_in_range (Step.Use n (x ∷ before_by rest)) (n ∷ x ∷ before_by rest) o
+    at None = refl
+    at (Some by) = refl
+
+-- what is read of the use, by its name, its cells and its parameter
+module _ {P Y : Type 0} (names : P → List (List ℕ)) (in_range : P → Bool) (made : P → Y) where
+  pub use_misformed : (whole : Result Y Refusal) (front : List (List ℕ)) (o : Option P) (refusal : Refusal) → whole ≡ used names in_range made front o → (refusal ≡ WrongForm) × (o ≡ None) → whole ≡ Err refusal
+  unfolding used
+  use_misformed whole front o refusal w h = w ∙ ap (used names in_range made front) h.1 ∙ ap Err (sym h.0)
+
+  pub use_unnamed : (whole : Result Y Refusal) (n : List ℕ) (xs : List (List ℕ)) (o : Option P) (by : P) (refusal : Refusal) → whole ≡ used names in_range made (n ∷ xs) o → o ≡ Some by → (refusal ≡ NotAName) × (is_name n ≡ false) → whole ≡ Err refusal
+  unfolding used
+  use_unnamed whole n xs o by refusal w e h =
+      w ∙ ap (used names in_range made (n ∷ xs)) e ∙ unnamed_front (n ∷ xs) (names by) (in_range by) (made by) (rw h.1 refl) ∙ ap Err (sym h.0)
+
+  pub cells_refused : (whole : Result Y Refusal) (n : List ℕ) (xs : List (List ℕ)) (o : Option P) (by : P) (refusal : Refusal) → whole ≡ used names in_range made (n ∷ xs) o → o ≡ Some by → is_name n ≡ true → (refusal ≡ Memory) ⊎ ((refusal ≡ NotAName) × (list_all is_name xs ≡ false)) → (refusal ≡ Memory) ⊎ (whole ≡ Err refusal)
+  unfolding used
+  cells_refused whole n xs o by refusal w e named (inl memory) = inl memory
+  cells_refused whole n xs o by refusal w e named (inr h) = inr
+      (w ∙ ap (used names in_range made (n ∷ xs)) e ∙ unnamed_front (n ∷ xs) (names by) (in_range by) (made by) (rw (named, h.1) refl) ∙ ap Err (sym h.0))
+
+  pub parameter_refused : (whole : Result Y Refusal) (n : List ℕ) (xs : List (List ℕ)) (o : Option P) (by : P) (refusal : Refusal) → whole ≡ used names in_range made (n ∷ xs) o → o ≡ Some by → is_name n ≡ true → list_all is_name xs ≡ true → judged (names by) (in_range by) by ≡ Err refusal → whole ≡ Err refusal
+  unfolding used
+  parameter_refused whole n xs o by refusal w e named h wrong =
+      w ∙ ap (used names in_range made (n ∷ xs)) e ∙ named_front (n ∷ xs) (names by) (in_range by) (made by) (rw (named, h) refl) ∙ part_refused (names by) (in_range by) by (made by) refusal wrong
+
+  pub use_read : (whole : Result Y Refusal) (n : List ℕ) (xs : List (List ℕ)) (o : Option P) (by by' : P) → whole ≡ used names in_range made (n ∷ xs) o → o ≡ Some by → is_name n ≡ true → list_all is_name xs ≡ true → judged (names by) (in_range by) by ≡ Ok by' → whole ≡ Ok (made by')
+  unfolding used
+  use_read whole n xs o by by' w e named h right =
+      w ∙ ap (used names in_range made (n ∷ xs)) e ∙ named_front (n ∷ xs) (names by) (in_range by) (made by) (rw (named, h) refl) ∙ part_judged (names by) (in_range by) by by' made right
 
 -- the refusal of a name among others
 pub name_refused : (xs : List (List ℕ)) (y by_word : List ℕ) (ts rest : List Token) (all : List (List ℕ)) (refusal : Refusal) → ts ≡ Word y ∷ rest → by_word ≡ codes "by" → false ≡ bytes_eq y by_word → xs ++ before_by ts ≡ all → (refusal ≡ NotAName) × (is_name y ≡ false) → (refusal ≡ Memory) ⊎ ((refusal ≡ NotAName) × (list_all is_name all ≡ false))

@@ -1,7 +1,19 @@
 pub mod Lexing
 pub mod Digits
 pub mod Forming
+pub mod Defining
 pub mod Halving
 pub mod SpellingLaws
 pub mod RefusalLaws
 pub mod Choosing
+pub mod Latest
+pub mod Unrolling
+pub mod Walking
+pub mod Sizes
+pub mod Ranges
+mod Firsts
+pub mod Scoping
+mod Using
+mod Flattening
+mod Zips
+pub mod Resolved

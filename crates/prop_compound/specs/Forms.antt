@@ -1,9 +1,10 @@
 -- The form of each command: what is read from the tokens after its word.
-use Rattle.std.specs.Prelude.{ℕ, List, [], ◌∷◌, ◌++◌, cond, codes, bytes_eq, Option, Some, None, pos}
-use Rattle.std.specs.Option.{option_map, option_and_then}
-use Rattle.prop_compound.specs.Tokens.{Token, Word, Open, Close, Semicolon, Equals}
+use Rattle.std.specs.Prelude.{ℕ, List, [], ◌∷◌, ◌++◌, Bool, true, false, cond, ◌&&◌, codes, bytes_eq, Option, Some, None, pos}
+use Rattle.std.specs.Option.{option_map, option_and_then, option_or}
+use Rattle.std.specs.List.{slice_split, before_first, after_first}
+use Rattle.prop_compound.specs.Tokens.{Token, Word, Open, Close, Semicolon, Equals, Star}
 use Rattle.prop_compound.specs.Names.{looks_like_number, number_in}
-use Rattle.prop_compound.specs.Commands.{Value, Bare, Braces, KindWord, Spans, Truths, Symbols, Named, By, Command}
+use Rattle.prop_compound.specs.Commands.{Value, Bare, Braces, KindWord, Spans, Truths, Symbols, Named, By, Passed, Step, Command}
 
 -- an item before items, where there are both
 abbrev pub join : {X : Type 0} → Option X → Option (List X) → Option (List X)
@@ -57,25 +58,74 @@ cell ts = None
 abbrev pub parameter : List ℕ → By
 parameter w = cond (looks_like_number w) (By.Number (number_in (pos 1) (pos 1_000_000_000) w)) (By.Relation w)
 
--- what follows `by`: one word
-abbrev pub by_form : List Token → Option By
-by_form (Word p ∷ []) = Some (parameter p)
-by_form ts = None
+-- what follows `by`, if there is a `by`: one word
+abbrev pub by_form : Option (List Token) → Option By
+by_form None = Some By.Nothing
+by_form (Some (Word p ∷ [])) = Some (parameter p)
+by_form (Some ts) = None
 
-abbrev pub with_cell : List ℕ → List (List ℕ) × By → List (List ℕ) × By
+abbrev pub with_cell : {P : Type 0} → List ℕ → List (List ℕ) × P → List (List ℕ) × P
 with_cell x (xs, by) = (x ∷ xs, by)
 
--- cells, and what follows the first `by`
-abbrev pub cells_by : List Token → Option (List (List ℕ) × By)
-cells_by [] = Some ([], By.Nothing)
-cells_by (Word w ∷ ts) =
-    cond (bytes_eq w (codes "by")) (option_map (λ by. ([], by)) (by_form ts)) (option_map (with_cell w) (cells_by ts))
-cells_by (t ∷ ts) = None
+-- cells, and what is read behind the first `by`
+abbrev pub cells_by : {P : Type 0} → (Option (List Token) → Option P) → List Token → Option (List (List ℕ) × P)
+cells_by read [] = option_map (λ by. ([], by)) (read None)
+cells_by read (Word w ∷ ts) =
+    cond (bytes_eq w (codes "by")) (option_map (λ by. ([], by)) (read (Some ts))) (option_map (with_cell w) (cells_by read ts))
+cells_by read (t ∷ ts) = None
 
 -- N X.. [by P]: a name, one cell or more, and maybe a parameter
 abbrev pub attach : List Token → Option Command
-attach (Word n ∷ Word x ∷ ts) = option_map (λ rest. Command.Attach n (x ∷ rest.0) rest.1) (cells_by ts)
+attach (Word n ∷ Word x ∷ ts) = option_map (λ rest. Command.Attach n (x ∷ rest.0) rest.1) (cells_by by_form ts)
 attach ts = None
+
+-- local n KIND
+abbrev pub local_of_kind : List Token → Option Step
+local_of_kind (Word l ∷ Word n ∷ Word kind ∷ []) = cond (bytes_eq l (codes "local")) (Some (Step.Local n (kind_word kind))) None
+local_of_kind ts = None
+
+-- local n like p
+abbrev pub local_like : List Token → Option Step
+local_like (Word l ∷ Word n ∷ Word like ∷ Word p ∷ []) =
+    cond (bytes_eq l (codes "local") && bytes_eq like (codes "like")) (Some (Step.Like n p)) None
+local_like ts = None
+
+-- what follows a step's `by`: as in a command, or a star
+abbrev pub passed_form : Option (List Token) → Option Passed
+passed_form (Some (Star ∷ [])) = Some Passed.Own
+passed_form ts = option_map Passed.Said (by_form ts)
+
+-- M X.. [by P]: a name, one cell or more, and maybe a parameter
+abbrev pub use_step : List Token → Option Step
+use_step (Word m ∷ Word x ∷ ts) = option_map (λ rest. Step.Use m (x ∷ rest.0) rest.1) (cells_by passed_form ts)
+use_step ts = None
+
+-- a local where it has one of the two forms, and else a use, even of the name `local`
+abbrev pub step : List Token → Option Step
+step ts = option_or (local_of_kind ts) (option_or (local_like ts) (use_step ts))
+
+-- what is read from each, where something is read from all
+abbrev pub each : {X Y : Type 0} → (X → Option Y) → List X → Option (List Y)
+each read [] = Some []
+each read (x ∷ xs) = join (read x) (each read xs)
+
+abbrev pub is_semicolon : Token → Bool
+is_semicolon Semicolon = true
+is_semicolon token = false
+
+abbrev pub is_equals : Token → Bool
+is_equals Equals = true
+is_equals token = false
+
+-- one step or more, with a semicolon between each two steps
+abbrev pub steps : List Token → Option (List Step)
+steps ts = each step (slice_split is_semicolon ts)
+
+-- N p.. = step ; step ..: a name, one parameter or more, and steps
+abbrev pub define : List Token → Option Command
+define (Word n ∷ Word p ∷ ts) =
+    option_and_then (λ ps. option_map (Command.Define n (p ∷ ps)) (steps (after_first is_equals ts))) (only_words (before_first is_equals ts))
+define ts = None
 
 abbrev mutual
   -- the values that words and braces make
@@ -116,6 +166,7 @@ forms =
     (codes "domain", domain)
     ∷ (codes "relation", relation)
     ∷ (codes "cell", cell)
+    ∷ (codes "define", define)
     ∷ (codes "attach", attach)
     ∷ (codes "fix", fix)
     ∷ (codes "tell", tell)

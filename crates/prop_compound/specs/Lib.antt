@@ -8,3 +8,9 @@ pub mod Said
 pub mod Parts
 pub mod Spelling
 pub mod Refusals
+pub mod Definitions
+pub mod Expansion
+pub mod Defining
+pub mod Expanding
+pub mod Kept
+pub mod Flattened

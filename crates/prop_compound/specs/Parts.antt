@@ -4,16 +4,18 @@ use Rattle.std.specs.Option.{option_map, option_and_then}
 use Rattle.std.specs.List.{list_all}
 use Rattle.std.specs.Borrow.{Bor}
 use Rattle.prop_lattice.specs.declared.refusal.Refusal.{Refusal}
-use Rattle.prop_lattice.specs.declared.refusal.Refusal.TheVariants.{UnknownCommand, NotAName, NotANumber}
+use Rattle.prop_lattice.specs.declared.refusal.Refusal.TheVariants.{UnknownCommand, WrongForm, NotAName, NotANumber}
 use Rattle.prop_compound.specs.Tokens.{Token, Word, Open, Close, Semicolon, Equals, Star, is_blank, mark_of}
 use Rattle.prop_compound.specs.Names.{is_name, digits_number}
-use Rattle.prop_compound.specs.Commands.{Value, By, Command}
-use Rattle.prop_compound.specs.Forms.{join, bare, on_word, domain, relation, cell, attach, fix, tell, parameter, cells_by, values}
-use Rattle.prop_compound.specs.Reading.{by_names, is_by_in_range, command_in_form}
+use Rattle.prop_compound.specs.Commands.{Value, By, Passed, Step, Command}
+use Rattle.prop_compound.specs.Forms.{join, bare, on_word, domain, relation, cell, define, attach, fix, tell, parameter, values}
+use Rattle.prop_compound.specs.Reading.{by_names, is_by_in_range, passed_names, is_passed_in_range, step_names, is_step_in_range, command_in_form}
 use Rattle.prop_compound.specs.declared.tokens.Token as read
 use Rattle.prop_compound.specs.declared.tokens.Token.TheVariants as reads
+use Rattle.prop_compound.specs.declared.steps.Given.{Given}
+use Rattle.prop_compound.specs.declared.steps.Given.TheVariants as givens
 use Rattle.prop_compound.specs.declared.reading.CommandWord.{CommandWord}
-use Rattle.prop_compound.specs.declared.reading.CommandWord.TheVariants.{Domain, Relation, Cell, Attach, Fix, Tell, Kick, Bring, Settle, Ask, Why, Worldview}
+use Rattle.prop_compound.specs.declared.reading.CommandWord.TheVariants.{Domain, Relation, Cell, Define, Attach, Fix, Tell, Kick, Bring, Settle, Ask, Why, Worldview}
 
 -- a token without where its word lies in memory
 abbrev pub token_of : read.Token → Token
@@ -82,9 +84,15 @@ abbrev pub before_pairs : List (List ℕ × List ℕ) → Option (List (List ℕ
 before_pairs [] others = others
 before_pairs (p ∷ ps) others = join (Some p) (before_pairs ps others)
 
--- what follows the first `by` of an attachment's tokens
-abbrev pub given : List Token → Option By
-given ts = option_map (λ rest. rest.1) (cells_by ts)
+-- what stands behind the first `by`, if there is a `by`, where words stand before it
+abbrev pub behind_by : List Token → Option (Option (List Token))
+behind_by [] = Some None
+behind_by (Word w ∷ ts) = cond (bytes_eq w (codes "by")) (Some (Some ts)) (behind_by ts)
+behind_by (t ∷ ts) = None
+
+-- what is read behind the first `by`
+abbrev pub given : {P : Type 0} → (Option (List Token) → Option P) → List Token → Option P
+given read ts = option_and_then read (behind_by ts)
 
 -- the words before the first `by`
 abbrev pub before_by : List Token → List (List ℕ)
@@ -95,10 +103,39 @@ abbrev pub parameter_said : Option (Bor (List ℕ)) → By
 parameter_said None = By.Nothing
 parameter_said (Some word) = parameter word.now
 
--- the parameter, where its name is a name and its number in range
+-- what was read, where its names are names and its numbers in range
+abbrev pub judged : {X : Type 0} → List (List ℕ) → Bool → X → Result X Refusal
+judged names in_range read =
+    cond (not (list_all is_name names)) (Err NotAName) (cond (not in_range) (Err NotANumber) (Ok read))
+
 abbrev pub by_in_range : By → Result By Refusal
-by_in_range by =
-    cond (not (list_all is_name (by_names by))) (Err NotAName) (cond (not (is_by_in_range by)) (Err NotANumber) (Ok by))
+by_in_range by = judged (by_names by) (is_by_in_range by) by
+
+abbrev pub passed_said : Given → Passed
+passed_said (givens.Said word) = Passed.Said (parameter_said word)
+passed_said givens.Own = Passed.Own
+
+abbrev pub passed_in_range : Passed → Result Passed Refusal
+passed_in_range passed = judged (passed_names passed) (is_passed_in_range passed) passed
+
+abbrev pub step_in_range : Step → Result Step Refusal
+step_in_range step = judged (step_names step) (is_step_in_range step) step
+
+-- the step by itself
+abbrev pub step_in_form : Option Step → Result Step Refusal
+step_in_form None = Err WrongForm
+step_in_form (Some step) = step_in_range step
+
+-- the tokens after this word
+abbrev pub behind_word : List ℕ → List Token → Option (List Token)
+behind_word wanted (Word w ∷ ts) = cond (bytes_eq w wanted) (Some ts) None
+behind_word wanted ts = None
+
+-- the tokens after the first equals sign, where words stand before it
+abbrev pub body : List Token → Option (List Token)
+body (Word w ∷ ts) = body ts
+body (Equals ∷ ts) = Some ts
+body ts = None
 
 -- the values, where there are any
 abbrev pub some_values : List Token → Option (List Value)
@@ -110,6 +147,7 @@ abbrev pub form_of : CommandWord → List Token → Option Command
 form_of Domain = domain
 form_of Relation = relation
 form_of Cell = cell
+form_of Define = define
 form_of Attach = attach
 form_of Fix = fix
 form_of Tell = tell
@@ -140,6 +178,7 @@ BeginsOpen ts = ⊥
 abbrev pub KeepsWordsOf : CommandWord → List Token → Type 0
 KeepsWordsOf Domain ts = ⊤
 KeepsWordsOf Relation ts = ⊤
+KeepsWordsOf Define ts = ⊤
 KeepsWordsOf Attach ts = ⊤
 KeepsWordsOf Fix ts = Contains ts Open
 KeepsWordsOf Tell ts = Contains ts Open
@@ -149,6 +188,7 @@ abbrev pub word_of : CommandWord → List ℕ
 word_of Domain = codes "domain"
 word_of Relation = codes "relation"
 word_of Cell = codes "cell"
+word_of Define = codes "define"
 word_of Attach = codes "attach"
 word_of Fix = codes "fix"
 word_of Tell = codes "tell"

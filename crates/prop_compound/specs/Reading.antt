@@ -1,12 +1,12 @@
 -- What a line asks for, or the first reason in the line alone why it is refused.
-use Rattle.std.specs.Prelude.{ℕ, List, [], ◌∷◌, ◌++◌, Bool, true, cond, not, ◌==◌, nat_lt, length, bytes_eq, Option, Some, None, Result, Ok, Err, find, is_some}
+use Rattle.std.specs.Prelude.{ℕ, List, [], ◌∷◌, ◌++◌, Bool, true, cond, not, ◌==◌, nat_lt, length, bytes_eq, Option, Some, None, Result, Ok, Err, find, flat_map, is_some}
 use Rattle.std.specs.Str.{is_utf8}
 use Rattle.std.specs.List.{list_all}
 use Rattle.prop_lattice.specs.declared.refusal.Refusal.{Refusal}
 use Rattle.prop_lattice.specs.declared.refusal.Refusal.TheVariants.{LineTooLong, NotUtf8, UnknownCommand, WrongForm, NotAName, NotANumber}
 use Rattle.prop_compound.specs.Tokens.{Token, Word, tokens, is_blank}
 use Rattle.prop_compound.specs.Names.{is_name}
-use Rattle.prop_compound.specs.Commands.{KindWord, Named, By, Command}
+use Rattle.prop_compound.specs.Commands.{KindWord, Named, By, Passed, Step, Command}
 use Rattle.prop_compound.specs.Forms.{forms}
 
 -- the bytes but for one carriage return at their end
@@ -29,11 +29,21 @@ abbrev pub by_names : By → List (List ℕ)
 by_names (By.Relation name) = name ∷ []
 by_names by = []
 
+abbrev pub passed_names : Passed → List (List ℕ)
+passed_names (Passed.Said by) = by_names by
+passed_names Passed.Own = []
+
+abbrev pub step_names : Step → List (List ℕ)
+step_names (Step.Local n kind) = n ∷ kind_names kind
+step_names (Step.Like n p) = n ∷ p ∷ []
+step_names (Step.Use m cells passed) = m ∷ cells ++ passed_names passed
+
 -- the words that stand in a name's place; those in values are left to the cell, and those in pairs to the domains
 abbrev pub names_in : Command → List (List ℕ)
 names_in (Command.Domain name elements) = name ∷ elements
 names_in (Command.Relation name d e pairs) = name ∷ d ∷ e ∷ []
 names_in (Command.Cell name kind) = name ∷ kind_names kind
+names_in (Command.Define name params steps) = name ∷ params ++ flat_map step_names steps
 names_in (Command.Attach name cells by) = name ∷ cells ++ by_names by
 names_in (Command.Fix cell value) = cell ∷ []
 names_in (Command.Tell premise cell value) = premise ∷ cell ∷ []
@@ -48,9 +58,18 @@ abbrev pub is_by_in_range : By → Bool
 is_by_in_range (By.Number n) = is_some n
 is_by_in_range by = true
 
+abbrev pub is_passed_in_range : Passed → Bool
+is_passed_in_range (Passed.Said by) = is_by_in_range by
+is_passed_in_range Passed.Own = true
+
+abbrev pub is_step_in_range : Step → Bool
+is_step_in_range (Step.Use m cells passed) = is_passed_in_range passed
+is_step_in_range step = true
+
 -- each number of the command was one of its range
 abbrev pub is_in_range : Command → Bool
 is_in_range (Command.Attach name cells by) = is_by_in_range by
+is_in_range (Command.Define name params steps) = list_all is_step_in_range steps
 is_in_range command = true
 
 -- the command, where its names are names and its numbers in range

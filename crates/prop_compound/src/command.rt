@@ -24,15 +24,31 @@ pub enum By<'a> {
     Relation(&'a str),
 }
 
+/// What a step's use is given: what stands behind its `by`, as in a command, or behind `by *` what the definition itself is given.
+#[derive(Clone, Copy, Debug)]
+pub enum Passed<'a> {
+    Said(By<'a>),
+    Own,
+}
+
+/// A step of a definition: `local n KIND`, `local n like p`, or a use of a procedure or of an earlier definition on cells.
+#[derive(Debug, Drop)]
+pub enum Step<'a> {
+    Local(&'a str, KindWord<'a>),
+    Like(&'a str, &'a str),
+    Use(&'a str, Vec<&'a str>, Passed<'a>),
+}
+
 /// A command with its words and numbers as read, in the order in which they stand on the line: of `Tell` the premise, then the
-/// cell, and of `Relation` the name, the two domains, and the pairs, whose words need not be names. `Silent` is a line that gets
-/// no reply.
+/// cell, of `Relation` the name, the two domains, and the pairs, whose words need not be names, and of `Define` the name, the
+/// parameters and the steps. `Silent` is a line that gets no reply.
 #[derive(Debug, Drop)]
 pub enum Command<'a> {
     Silent,
     Domain(&'a str, Vec<&'a str>),
     Relation(&'a str, &'a str, &'a str, Vec<(&'a [u8], &'a [u8])>),
     Cell(&'a str, KindWord<'a>),
+    Define(&'a str, Vec<&'a str>, Vec<Step<'a>>),
     Attach(&'a str, Vec<&'a str>, By<'a>),
     Fix(&'a str, Value<'a>),
     Tell(&'a str, &'a str, Value<'a>),

@@ -8,7 +8,7 @@ ghost use Rattle.prop_compound.specs.Forms as forms;
 ghost use Rattle.prop_compound.specs.Commands as commands;
 ghost use Rattle.prop_compound.specs.Reading.{command_in_form, kind_names};
 ghost use Rattle.prop_compound.specs.Said.{Reads, words, pairs_of, kind_of, by_of, value_of};
-ghost use Rattle.prop_compound.specs.Parts.{front, one_word, are_words, front_words, behind_equals, further, given, parameter_said, before_by, by_in_range, some_values, BeginsOpen};
+ghost use Rattle.prop_compound.specs.Parts.{front, one_word, are_words, front_words, behind_equals, further, behind_by, given, parameter_said, before_by, by_in_range, some_values, BeginsOpen};
 
 use crate::command::{By, Command, KindWord, Value};
 use crate::names::name;
@@ -18,7 +18,7 @@ use prop_lattice::Refusal;
 use std::alloc::Global;
 
 /// The word that the bytes begin with, and what stands behind it.
-fn word(bytes: &[u8]) -> Result<(&[u8], &[u8]), Refusal>
+pub(crate) fn word(bytes: &[u8]) -> Result<(&[u8], &[u8]), Refusal>
     ensures ok { IfOk result (λ found. tokens bytes.now ≡ Word found.0.now ∷ tokens found.1.now) }
     ensures err { IfErr result (λ refusal. (refusal ≡ Refusal.WrongForm) × (front (tokens bytes.now) ≡ None)) }
     ensures shorter { IfOk result (λ found. length found.1.now < length bytes.now) }
@@ -30,7 +30,7 @@ fn word(bytes: &[u8]) -> Result<(&[u8], &[u8]), Refusal>
 }
 
 /// Nothing but spaces and tabs.
-fn end(bytes: &[u8]) -> Result<(), Refusal>
+pub(crate) fn end(bytes: &[u8]) -> Result<(), Refusal>
     ensures ok { OnOk result (tokens bytes.now ≡ []) }
     ensures err { IfErr result (λ refusal. (refusal ≡ Refusal.WrongForm) × (tokens bytes.now ≢ [])) }
 {
@@ -41,7 +41,7 @@ fn end(bytes: &[u8]) -> Result<(), Refusal>
 }
 
 /// One word and no more.
-fn only_word(bytes: &[u8]) -> Result<&[u8], Refusal>
+pub(crate) fn only_word(bytes: &[u8]) -> Result<&[u8], Refusal>
     ensures ok { IfOk result (λ word. tokens bytes.now ≡ Word word.now ∷ []) }
     ensures err { IfErr result (λ refusal. (refusal ≡ Refusal.WrongForm) × (one_word (tokens bytes.now) ≡ None)) }
 {
@@ -66,7 +66,7 @@ fn only_words(bytes: &[u8]) -> Result<(), Refusal>
 }
 
 /// The words up to a mark, which are to be names.
-fn names_of<'a>(alloc: Global, bytes: &'a [u8]) -> Result<Vec<&'a str>, Refusal>
+pub(crate) fn names_of<'a>(alloc: Global, bytes: &'a [u8]) -> Result<Vec<&'a str>, Refusal>
     ensures ok { IfOk result (λ found. (words found.items ≡ front_words (tokens bytes.now)) × (list_all is_name (front_words (tokens bytes.now)) ≡ true)) }
     ensures err { IfErr result (λ refusal. (refusal ≡ Refusal.Memory) ⊎ ((refusal ≡ Refusal.NotAName) × (list_all is_name (front_words (tokens bytes.now)) ≡ false))) }
 {
@@ -145,7 +145,7 @@ pub fn relation<'a>(alloc: Global, rest: &'a [u8]) -> Result<Command<'a>, Refusa
 }
 
 /// The kind that the word stands for: one of three with words of their own, and else the domain of that name.
-fn kind_word(word: &[u8]) -> Result<KindWord<'_>, Refusal>
+pub(crate) fn kind_word(word: &[u8]) -> Result<KindWord<'_>, Refusal>
     ensures ok { IfOk result (λ kind. (forms.kind_word word.now ≡ kind_of kind) × (list_all is_name (kind_names (kind_of kind)) ≡ true)) }
     ensures err { IfErr result (λ refusal. (refusal ≡ Refusal.NotAName) × (list_all is_name (kind_names (forms.kind_word word.now)) ≡ false)) }
 {
@@ -220,10 +220,10 @@ pub fn worldview(rest: &[u8]) -> Result<Command<'_>, Refusal>
     Ok(Command::Worldview)
 }
 
-/// The word behind the first `by`, if there is a `by`. Before it stand words alone, and behind it that one word.
-fn word_behind_by(bytes: &[u8]) -> Result<Option<&[u8]>, Refusal>
-    ensures ok { IfOk result (λ word. given (tokens bytes.now) ≡ Some (parameter_said word)) }
-    ensures err { IfErr result (λ refusal. (refusal ≡ Refusal.WrongForm) × (given (tokens bytes.now) ≡ None)) }
+/// What stands behind the first `by`, if there is a `by`. Before it stand words alone.
+pub(crate) fn behind_by(bytes: &[u8]) -> Result<Option<&[u8]>, Refusal>
+    ensures ok { IfOk result (λ behind. behind_by (tokens bytes.now) ≡ Some (option_map (λ rest. tokens rest.now) behind)) }
+    ensures err { IfErr result (λ refusal. (refusal ≡ Refusal.WrongForm) × (behind_by (tokens bytes.now) ≡ None)) }
 {
     let mut left = bytes;
     while let Some((token, rest)) = next_token(left) {
@@ -231,15 +231,26 @@ fn word_behind_by(bytes: &[u8]) -> Result<Option<&[u8]>, Refusal>
             return Err(Refusal::WrongForm);
         };
         if word == b"by".as_slice() {
-            return Ok(Some(only_word(rest)?));
+            return Ok(Some(rest));
         }
         left = rest;
     }
     Ok(None)
 }
 
+/// The word behind the first `by`, if there is a `by`. Before it stand words alone, and behind it that one word.
+fn word_behind_by(bytes: &[u8]) -> Result<Option<&[u8]>, Refusal>
+    ensures ok { IfOk result (λ word. given forms.by_form (tokens bytes.now) ≡ Some (parameter_said word)) }
+    ensures err { IfErr result (λ refusal. (refusal ≡ Refusal.WrongForm) × (given forms.by_form (tokens bytes.now) ≡ None)) }
+{
+    match behind_by(bytes)? {
+        Some(rest) => Ok(Some(only_word(rest)?)),
+        None => Ok(None),
+    }
+}
+
 /// The first word and those up to a `by`, which are to be names.
-fn names_before_by<'a>(
+pub(crate) fn names_before_by<'a>(
     alloc: Global,
     first: &'a [u8],
     rest: &'a [u8],
@@ -261,7 +272,7 @@ fn names_before_by<'a>(
 }
 
 /// The parameter that a word behind `by` is: a number from 1 to 1,000,000,000 where it begins as one, and else a name.
-fn parameter(word: Option<&[u8]>) -> Result<By<'_>, Refusal>
+pub(crate) fn parameter(word: Option<&[u8]>) -> Result<By<'_>, Refusal>
     ensures ok { IfOk result (λ by. by_in_range (parameter_said word.entry) ≡ Ok (by_of by)) }
     ensures err { IfErr result (λ refusal. by_in_range (parameter_said word.entry) ≡ Err refusal) }
 {

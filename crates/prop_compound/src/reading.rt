@@ -9,8 +9,8 @@ ghost use Rattle.prop_compound.specs.Said.{Reads, KeepsWords};
 ghost use Rattle.prop_compound.specs.Refusals.{RefusesTheFirst, ReadsWhatIsSpelled, PassesOverSilence};
 
 use crate::command::Command;
-use crate::forms;
 use crate::tokens::{Token, is_blank, next_token};
+use crate::{forms, steps};
 use prop_lattice::Refusal;
 use std::alloc::Global;
 
@@ -45,6 +45,7 @@ enum CommandWord {
     Domain,
     Relation,
     Cell,
+    Define,
     Attach,
     Fix,
     Tell,
@@ -57,10 +58,11 @@ enum CommandWord {
 }
 
 /// The commands by their first words.
-const COMMANDS: [(&[u8], CommandWord); 12] = [
+const COMMANDS: [(&[u8], CommandWord); 13] = [
     (b"domain", CommandWord::Domain),
     (b"relation", CommandWord::Relation),
     (b"cell", CommandWord::Cell),
+    (b"define", CommandWord::Define),
     (b"attach", CommandWord::Attach),
     (b"fix", CommandWord::Fix),
     (b"tell", CommandWord::Tell),
@@ -98,6 +100,7 @@ fn read_form<'a>(
         CommandWord::Domain => forms::domain(alloc, rest),
         CommandWord::Relation => forms::relation(alloc, rest),
         CommandWord::Cell => forms::cell(rest),
+        CommandWord::Define => steps::define(alloc, rest),
         CommandWord::Attach => forms::attach(alloc, rest),
         CommandWord::Fix => forms::fix(alloc, rest),
         CommandWord::Tell => forms::tell(alloc, rest),

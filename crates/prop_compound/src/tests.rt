@@ -101,6 +101,155 @@ fn reads_lines(rt: HostRuntime) -> Result<(), Fail> {
     Ok(())
 }
 
+/// Each definition with what it asks for.
+const DEFINED: [(&[u8], &str); 12] = [
+    (
+        b"define f a = g a",
+        "Ok(Define(\"f\", [\"a\"], [Use(\"g\", [\"a\"], Said(Nothing))]))",
+    ),
+    (
+        b"define f a = nope b",
+        "Ok(Define(\"f\", [\"a\"], [Use(\"nope\", [\"b\"], Said(Nothing))]))",
+    ),
+    (
+        b"define f a = p a by *",
+        "Ok(Define(\"f\", [\"a\"], [Use(\"p\", [\"a\"], Own)]))",
+    ),
+    (
+        b"define f a b = g b a b by 0001000000000",
+        "Ok(Define(\"f\", [\"a\", \"b\"], [Use(\"g\", [\"b\", \"a\", \"b\"], Said(Number(1000000000)))]))",
+    ),
+    (
+        b"define f a a = g a by r",
+        "Ok(Define(\"f\", [\"a\", \"a\"], [Use(\"g\", [\"a\"], Said(Relation(\"r\")))]))",
+    ),
+    (
+        b"define f a=local n span;local m like a;g a n by*;h m by 3",
+        "Ok(Define(\"f\", [\"a\"], [Local(\"n\", Spans), Like(\"m\", \"a\"), Use(\"g\", [\"a\", \"n\"], Own), \
+         Use(\"h\", [\"m\"], Said(Number(3)))]))",
+    ),
+    (
+        b"define f a = local t truth ; local s symbol ; local e floor",
+        "Ok(Define(\"f\", [\"a\"], [Local(\"t\", Truths), Local(\"s\", Symbols), Local(\"e\", Named(\"floor\"))]))",
+    ),
+    (
+        b"define f a = local n like",
+        "Ok(Define(\"f\", [\"a\"], [Local(\"n\", Named(\"like\"))]))",
+    ),
+    (
+        b"define f a = local like like like",
+        "Ok(Define(\"f\", [\"a\"], [Like(\"like\", \"like\")]))",
+    ),
+    (
+        b"define f a = n like p",
+        "Ok(Define(\"f\", [\"a\"], [Use(\"n\", [\"like\", \"p\"], Said(Nothing))]))",
+    ),
+    (
+        b"define define or = attach or define by or",
+        "Ok(Define(\"define\", [\"or\"], [Use(\"attach\", [\"or\", \"define\"], Said(Relation(\"or\")))]))",
+    ),
+    (
+        b" define\tf  a = f a\t;\tf a \r",
+        "Ok(Define(\"f\", [\"a\"], [Use(\"f\", [\"a\"], Said(Nothing)), Use(\"f\", [\"a\"], Said(Nothing))]))",
+    ),
+];
+
+#[test]
+fn reads_definitions(rt: HostRuntime) -> Result<(), Fail> {
+    for (line, wanted) in DEFINED {
+        let told = format!(in rt.alloc(); "{:?}", read_line(rt.alloc(), line))?;
+        assert_eq!(rt; told.as_str(), wanted, "at {line:?}");
+    }
+    Ok(())
+}
+
+/// Definitions that are refused. Over the whole line a wrong form comes before a word that is no name, and such a word before
+/// a number out of range.
+const UNDEFINED: [(&[u8], Refusal); 68] = [
+    (b"define", Refusal::WrongForm),
+    (b"define f", Refusal::WrongForm),
+    (b"define f a", Refusal::WrongForm),
+    (b"define f a =", Refusal::WrongForm),
+    (b"define f = g a", Refusal::WrongForm),
+    (b"define = g a", Refusal::WrongForm),
+    (b"define f a g a", Refusal::WrongForm),
+    (b"define f a ; = g a", Refusal::WrongForm),
+    (b"define f * = g a", Refusal::WrongForm),
+    (b"define f {a} = g a", Refusal::WrongForm),
+    (b"define f a = g", Refusal::WrongForm),
+    (b"define f a = g a ;", Refusal::WrongForm),
+    (b"define f a = ; g a", Refusal::WrongForm),
+    (b"define f a = g a ; ; h a", Refusal::WrongForm),
+    (b"define f a = g a = h a", Refusal::WrongForm),
+    (b"define f a == g a", Refusal::WrongForm),
+    (b"define f a = {g a}", Refusal::WrongForm),
+    (b"define f a = g {a}", Refusal::WrongForm),
+    (b"define f a = local", Refusal::WrongForm),
+    (b"define f a = local n *", Refusal::WrongForm),
+    (b"define f a = local n like *", Refusal::WrongForm),
+    (b"define f a = g a by", Refusal::WrongForm),
+    (b"define f a = g a by 3 4", Refusal::WrongForm),
+    (b"define f a = g a by r s", Refusal::WrongForm),
+    (b"define f a = g a by * *", Refusal::WrongForm),
+    (b"define f a = g a by * b", Refusal::WrongForm),
+    (b"define f a = g a by b *", Refusal::WrongForm),
+    (b"define f a = g a *", Refusal::WrongForm),
+    (b"define f a = g * a", Refusal::WrongForm),
+    (b"define f a = g *", Refusal::WrongForm),
+    (b"define f a = g by *", Refusal::WrongForm),
+    (b"define f a = * a", Refusal::WrongForm),
+    (b"define f a = *", Refusal::WrongForm),
+    (b"define 1 a = g", Refusal::WrongForm),
+    (b"define f 1 = g", Refusal::WrongForm),
+    (b"define f a = g 1 ; h", Refusal::WrongForm),
+    (b"define f a = g a by 0 ; h", Refusal::WrongForm),
+    (b"define f a = g a by 0 ; h a by", Refusal::WrongForm),
+    (b"define 1 a = g a", Refusal::NotAName),
+    (b"define by a = g a", Refusal::NotAName),
+    (b"define f 1 = g a", Refusal::NotAName),
+    (b"define f a local = g a", Refusal::NotAName),
+    (b"define f a = 1 a", Refusal::NotAName),
+    (b"define f a = g 1", Refusal::NotAName),
+    (b"define f a = g a yes", Refusal::NotAName),
+    (b"define f a = local 1 span", Refusal::NotAName),
+    (b"define f a = local span span", Refusal::NotAName),
+    (b"define f a = local n 1", Refusal::NotAName),
+    (b"define f a = local n by", Refusal::NotAName),
+    (b"define f a = local n like 1", Refusal::NotAName),
+    (b"define f a = local 1 like a", Refusal::NotAName),
+    (b"define f a = local n", Refusal::NotAName),
+    (b"define f a = local n foo p", Refusal::NotAName),
+    (b"define f a = local n like p q", Refusal::NotAName),
+    (b"define f a = local n by *", Refusal::NotAName),
+    (b"define f a = g by r", Refusal::NotAName),
+    (b"define f a = g a by by", Refusal::NotAName),
+    (b"define f a = g a by +3", Refusal::NotAName),
+    (b"define 1 a = g a by 0", Refusal::NotAName),
+    (b"define f 1 = g a by 0", Refusal::NotAName),
+    (b"define f a = g a by 0 ; h 1", Refusal::NotAName),
+    (b"define f a = g a by 0 ; h a by by", Refusal::NotAName),
+    (b"define f a = g a by 0", Refusal::NotANumber),
+    (b"define f a = g a by -", Refusal::NotANumber),
+    (b"define f a = g a by -1", Refusal::NotANumber),
+    (b"define f a = g a by 3x", Refusal::NotANumber),
+    (b"define f a = g a by 1000000001", Refusal::NotANumber),
+    (
+        b"define f a = g a by * ; h a by 0 ; k a",
+        Refusal::NotANumber,
+    ),
+];
+
+#[test]
+fn refuses_definitions(rt: HostRuntime) {
+    for (line, refusal) in UNDEFINED {
+        assert_eq!(rt;
+            read_line(rt.alloc(), line).err(),
+            Some(refusal),
+            "at {line:?}"
+        );
+    }
+}
+
 /// Lines that are refused for their form, or before it.
 const MISFORMED: [(&[u8], Refusal); 87] = [
     (b"\xff", Refusal::NotUtf8),
@@ -112,7 +261,7 @@ const MISFORMED: [(&[u8], Refusal); 87] = [
     (b"core x", Refusal::UnknownCommand),
     (b"nogoods", Refusal::UnknownCommand),
     (b"limit 3", Refusal::UnknownCommand),
-    (b"define n x = n x", Refusal::UnknownCommand),
+    (b"defines n x = n x", Refusal::UnknownCommand),
     (b"forget p", Refusal::UnknownCommand),
     (b"kicks p", Refusal::UnknownCommand),
     (b"Why x", Refusal::UnknownCommand),

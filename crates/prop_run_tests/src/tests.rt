@@ -2,7 +2,7 @@
 use crate::trial::{Lifo, Trial};
 use prop_arith::Kit;
 use prop_cells::Network;
-use prop_lattice::Info;
+use prop_lattice::{Info, Refusal};
 use prop_procedures::{Library, Param, Procedure, Rule, Shape};
 use prop_scheduler::{Fifo, Order, Run};
 use smallvec::SmallVec;
@@ -34,6 +34,27 @@ fn a_cell_may_stand_in_two_places(rt: HostRuntime) -> Result<(), Fail> {
     assert!(rt; matches!(end, Run::Quiet));
     assert_eq!(rt; steps, 1);
     assert_eq!(rt; trial.belief(1), Some(Info::between(-4, 6)));
+    Ok(())
+}
+
+#[test]
+fn what_was_made_goes_back(rt: HostRuntime) -> Result<(), Fail> {
+    let alloc = rt.alloc();
+    let mut trial = adders!(alloc);
+    trial.cell()?;
+    trial.cell()?;
+    trial.attach(alloc, &[0, 0], 1)?;
+    assert_eq!(rt; trial.attach_and_back(alloc, &[0], 2), Err(Refusal::WrongCount));
+    trial.attach_and_back(alloc, &[0, 0], 2)?;
+    assert_eq!(rt; trial.network().instances(), 1);
+    assert_eq!(rt; trial.network().cells(), 2);
+    assert_eq!(rt; trial.network().readers(0), [0].as_slice());
+    assert_eq!(rt; trial.network().writers(1), [0].as_slice());
+    trial.fix(0, 2, 3)?;
+    let (end, steps) = trial.settle(alloc, &mut Fifo, 10)?;
+    assert!(rt; matches!(end, Run::Quiet));
+    assert_eq!(rt; steps, 1);
+    assert_eq!(rt; trial.belief(1), Some(Info::between(4, 6)));
     Ok(())
 }
 

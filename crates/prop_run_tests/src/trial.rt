@@ -77,6 +77,26 @@ impl<R: Rule + Drop> Trial<R> {
         }
     }
 
+    /// Makes one more cell, puts the first procedure between cells, and takes both back.
+    pub fn attach_and_back(
+        &mut self,
+        alloc: Global,
+        ins: &[usize],
+        out: usize,
+    ) -> Result<(), Refusal>
+        requires { IsReady R.value_of self.old }
+        ensures { IsReady R.value_of self.new }
+    {
+        let cells = self.network.cells();
+        let params = self.network.data().params().len();
+        let instances = self.network.instances();
+        self.network.data().well_made();
+        self.network.new_cell(Kind::Span, 0)?;
+        let attached = self.network.attach(alloc, 0, None, ins, out);
+        self.network.back(cells, params, instances);
+        attached
+    }
+
     /// States that a cell's number lies between two numbers; the cell's readers wait.
     pub fn fix(&mut self, cell: usize, lo: i64, hi: i64) -> Result<(), Refusal>
         requires { IsReady R.value_of self.old }

@@ -5,3 +5,4 @@ pub mod WholeLemmas
 pub mod RefusalLemmas
 pub mod TextLemmas
 pub mod PairLaws
+pub mod CellLookups

@@ -19,7 +19,7 @@ use Rattle.prop_vocabulary.specs.Names.{number_in, numbers_in, is_missing}
 pub number_of_name : {Z : Type 0} (names : List (String Z)) (name : List ℕ) (r : Option ℕ) → r ≡ position (λ other. bytes_eq name (string_bytes other)) names → r ≡ number_in (map string_bytes names) name
 number_of_name names name r e = e ∙ sym (position-names name names)
 
-list_any-map : {X Y : Type 0} (f : X → Y) (p : Y → Bool) (xs : List X) → list_any p (map f xs) ≡ list_any (λ x. p (f x)) xs
+pub list_any-map : {X Y : Type 0} (f : X → Y) (p : Y → Bool) (xs : List X) → list_any p (map f xs) ≡ list_any (λ x. p (f x)) xs
 list_any-map f p [] = refl
 list_any-map f p (x ∷ xs) = ap (λ b. p (f x) || b) (list_any-map f p xs)
 
@@ -34,7 +34,7 @@ found_below : (names : List (List ℕ)) (name : List ℕ) (o : Option ℕ) → n
 found_below names name None e h = cc
 found_below names name (Some n) e h = number_below names name n e
 
-or_false : (a b : Bool) → (a || b) ≡ false → (a ≡ false) × (b ≡ false)
+pub or_false : (a b : Bool) → (a || b) ≡ false → (a ≡ false) × (b ≡ false)
 or_false true b h = cc
 or_false false b h = (refl, h)
 

@@ -1,235 +1,231 @@
--- Putting a procedure between cells: what the network tests is what the machine says.
-use Rattle.std.proofs.Common.{◌≡◌, ◌∙◌, ℕ, ◌<◌, ◌+◌, ◌==◌, ◌||◌, Bool, true, false, cond, not, List, [], ◌∷◌, ◌++◌, Option, Some, None, All, map, length, slice_get, get_or, nat_le, bytes_eq, is_none, unwrap_or, ◌⊎◌, inl, inr, refl, sym, ap, subst, arith}
+-- Putting procedures and definitions between cells: what is refused and made is what the machine says.
+use Rattle.std.proofs.Common.{◌≡◌, ◌∙◌, ℕ, ◌<◌, ◌≤◌, ◌+◌, ◌-◌, ◌^◌, Bool, true, false, not, List, [], ◌∷◌, ◌++◌, Option, Some, None, All, map, drop, length, slice_get, get_or, nat_lt, zip, is_none, ◌||◌, cond, ◌⊎◌, inl, inr, refl, sym, ap, subst, arith}
 use Rattle.std.specs.List.{list_any}
 use Rattle.std.specs.Option.{option_map_or, option_and_then}
-use Rattle.std.proofs.lemmas.Bool.{lt-leb}
-use Rattle.std.proofs.lemmas.Bool.Decides.{nat_tests}
-use Rattle.std.proofs.lemmas.List.{length-append, length-map}
-use Rattle.std.proofs.lemmas.List.Folds.{list_any_none}
-use Rattle.std.proofs.lemmas.Option.{slice_get_cases}
+use Rattle.std.proofs.lemmas.Bool.{cases_lt, lt-ltb, le-ltb, ltb-false}
+use Rattle.std.proofs.lemmas.List.{length-append, length-map, get_or_append_left, get_or-append-add, get_or-map}
+use Rattle.std.proofs.Math.Seq.{drop-append_seam}
+use Rattle.std.proofs.lemmas.List.Elements.{All-cons, All-head, All-tail, All-map, All-weaker}
 use Rattle.prop_lattice.specs.Refusals.{most}
-use Rattle.prop_lattice.specs.declared.refusal.Limit.TheVariants.{Instances}
+use Rattle.prop_lattice.specs.declared.refusal.Limit.TheVariants.{Cells, Instances}
 use Rattle.prop_lattice.specs.declared.refusal.Refusal.{Refusal}
-use Rattle.prop_lattice.specs.declared.refusal.Refusal.TheVariants.{NoSuchRelation, NoSuchCell, NoSuchProcedure, WrongCount, WrongKind, WrongParameter, LimitReached, Memory}
+use Rattle.prop_lattice.specs.declared.refusal.Refusal.TheVariants.{NoSuchRelation, NoSuchCell, WrongKind, WrongParameter, LimitReached, Memory}
+use Rattle.prop_procedures.specs.declared.shape.Kinded.{Kinded}
 use Rattle.prop_procedures.specs.declared.shape.Param.{Param}
-use Rattle.prop_procedures.specs.declared.shape.Param.TheVariants.{Plain}
-use Rattle.prop_procedures.specs.declared.shape.Need.{Need}
-use Rattle.prop_procedures.specs.declared.shape.Need.TheVariants as needs
-use Rattle.prop_procedures.specs.declared.shape.Shape.TheVariants as shapes
-use Rattle.prop_lattice.specs.declared.info.Info.TheVariants.{Nothing}
-use Rattle.std.proofs.lemmas.List.Quantifiers.{position-Some}
+use Rattle.prop_procedures.specs.Stored.{Stored, span_kind, sides_of, are_right}
 use Rattle.prop_premises.specs.Origins.{Origin}
-use Rattle.prop_procedures.specs.Stored.{Stored, procedure_number, sides_of}
-use Rattle.prop_sets.specs.declared.side.Side.{Side}
 use Rattle.prop_cells.specs.Data.{Data}
-use Rattle.prop_cells.specs.Instances.{Instance, kinds_fit, sides_given, param_in, fitting_param, attached, instance_of}
-use Rattle.prop_cells.specs.Refusing.{refusal_at, attach_refusal, or_else}
+use Rattle.prop_procedures.specs.Fitting.{kind_at, kinds_fit, fitting_param}
+use Rattle.prop_cells.specs.Instances.{Instance}
 use Rattle.prop_compound.specs.Commands as commands
 use Rattle.prop_compound.specs.Commands.{By}
-use Rattle.prop_vocabulary.specs.Vocabulary.{Vocabulary}
-use Rattle.prop_workbench.specs.Answers.{Done, Refused}
-use Rattle.prop_workbench.specs.Effects.{inputs_of, output_of, instance_made}
-use Rattle.prop_workbench.specs.Machine.{State}
-use Rattle.prop_vocabulary.specs.Names.{number_in, numbers_in, is_missing}
-use Rattle.prop_workbench.specs.Refusing.{refusal_of, placing_refusal, limit_refusal, given_by, is_unknown, procedure_named}
+use Rattle.prop_compound.specs.Definitions.{Definitions}
+use Rattle.prop_compound.specs.Expansion.{Expansion, expanded}
+use Rattle.prop_compound.specs.Expanding.{expand_refusal, fit_refusal, is_misplaced, is_misgiven, is_param_wrong}
+use Rattle.prop_compound.specs.Flattened.{cells_of, param_at, placed_of, expansion_of_flat, IsFlatOver, IsInstanceOver}
+use Rattle.prop_compound.specs.declared.flat.Placed as flats
+use Rattle.prop_compound.specs.declared.flat.Flat.{Flat}
+use Rattle.prop_engine.specs.Answers.{Done, Refused}
+use Rattle.prop_vocabulary.specs.Cells.{CellNames, cells_named, is_cell_missing}
 use Rattle.prop_vocabulary.specs.Refusing.{first_of, when}
+use Rattle.prop_vocabulary.specs.Vocabulary.{Vocabulary}
+use Rattle.prop_workbench.specs.Effects.{cell_placed, instance_placed, with_use}
+use Rattle.prop_workbench.specs.Machine.{State}
+use Rattle.prop_workbench.specs.Placing.{cells_made, made_of, with_flat, MayBeMade, MayMake}
+use Rattle.prop_workbench.specs.Refusing.{refusal_of, is_unknown, given_by, used, use_refusal, room_refusal}
 use Rattle.prop_workbench.specs.Sessions.{state_from}
 use Rattle.prop_workbench.specs.Steps.{Obeys}
 use Rattle.prop_workbench.proofs.StepLemmas.{first_of-one, obeys, refuses_or_lacks}
 
--- ---- the network's tests
+-- ---- the rows of refusals
 
-none_strange : (n : ℕ) (cells : List ℕ) → All (λ c. c < n) cells → list_any (λ cell. nat_le n cell) cells ≡ false
-none_strange n cells h = list_any_none (λ cell. nat_le n cell) cells (λ k d l. lt-leb n (get_or cells k d) (h k d l))
+both_none : (a b : Option Refusal) → first_of (a ∷ b ∷ []) ≡ None → (a ≡ None) × (b ≡ None)
+both_none (Some x) b e = cc
+both_none None (Some y) e = cc
+both_none None None e = (refl, refl)
 
-count_same : (a m : ℕ) → (a == m) ≡ ((a + 1) == (m + 1))
-count_same a m = grind (arith, nat_tests)
+holds_not : (refusal : Refusal) (b : Bool) → when refusal b ≡ None → b ≡ false
+holds_not refusal true e = cc
+holds_not refusal false e = refl
 
-count_with : (ins : List ℕ) (out m : ℕ) → (length ins == m) ≡ (length (ins ++ out ∷ []) == (m + 1))
-count_with ins out m =
-    let more : length (ins ++ out ∷ []) ≡ length ins + 1 = omega (arith, length-append ins (out ∷ [])) in
-    count_same (length ins) m ∙ ap (λ n. n == (m + 1)) (sym more)
+attach_rows : (library : List Stored) (s : State) (name : List ℕ) (cells : List (List ℕ)) (by : By) (numbers : List ℕ) → is_unknown s.words by ≡ false → is_cell_missing s.names cells ≡ false → numbers ≡ cells_named s.names cells →
+    refusal_of library s (commands.Command.Attach name cells by) ≡ use_refusal library s name numbers by
+attach_rows library s name cells by numbers relation missing same =
+    rw (relation, missing, ← same) (first_of-one (use_refusal library s name numbers by))
 
-or_first : (a r : Option Refusal) (rest : List (Option Refusal)) → r ≡ first_of rest → or_else a r ≡ first_of (a ∷ rest)
-or_first None r rest e = e
-or_first (Some refusal) r rest e = refl
+pub attached_step : (library : List Stored) (s new : State) (name : List ℕ) (cells : List (List ℕ)) (by : By) (numbers : List ℕ) → is_unknown s.words by ≡ false → is_cell_missing s.names cells ≡ false → numbers ≡ cells_named s.names cells →
+    use_refusal library s name numbers by ≡ None → new ≡ with_use library s numbers (used library s name numbers by) → Obeys library s (commands.Command.Attach name cells by) Done new 0
+attached_step library s new name cells by numbers relation missing same fits e =
+    obeys library s new (commands.Command.Attach name cells by) Done 0 (attach_rows library s name cells by numbers relation missing same ∙ fits)
+    (record { answer_is = refl; new_is = e ∙ ap (λ (l : List ℕ). with_use library s l (used library s name l by)) same; no_steps = refl })
 
--- the tests after that for strangers
-network_rows : Bool → Bool → Bool → Option Refusal → Option Refusal
-network_rows count kind param limit = or_else (when WrongCount count) (or_else (when WrongKind kind) (or_else (when WrongParameter param) limit))
+pub unattached_step : (library : List Stored) (s new : State) (name : List ℕ) (cells : List (List ℕ)) (by : By) (numbers : List ℕ) (refusal : Refusal) → is_unknown s.words by ≡ false → is_cell_missing s.names cells ≡ false → numbers ≡ cells_named s.names cells →
+    (use_refusal library s name numbers by ≡ Some refusal) ⊎ (refusal ≡ Memory) → new ≡ s → Obeys library s (commands.Command.Attach name cells by) (Refused refusal) new 0
+unattached_step library s new name cells by numbers refusal relation missing same (inl e) back =
+    refuses_or_lacks library s new (commands.Command.Attach name cells by) refusal (inl (attach_rows library s name cells by numbers relation missing same ∙ e)) back
+unattached_step library s new name cells by numbers refusal relation missing same (inr m) back =
+    refuses_or_lacks library s new (commands.Command.Attach name cells by) refusal (inr m) back
 
-in_rows : (count kind param : Bool) (limit : Option Refusal) → network_rows count kind param limit ≡ first_of (when WrongCount count ∷ when WrongKind kind ∷ when WrongParameter param ∷ limit ∷ [])
-unfolding network_rows
-in_rows count kind param limit =
-    or_first (when WrongCount count) _ (when WrongKind kind ∷ when WrongParameter param ∷ limit ∷ [])
-    (or_first (when WrongKind kind) _ (when WrongParameter param ∷ limit ∷ []) (or_first (when WrongParameter param) limit (limit ∷ []) (sym (first_of-one limit))))
+pub no_relation_step : (library : List Stored) (s : State) (name : List ℕ) (cells : List (List ℕ)) (by : By) → is_unknown s.words by ≡ true → refusal_of library s (commands.Command.Attach name cells by) ≡ Some NoSuchRelation
+no_relation_step library s name cells by e = rw e refl
 
--- what the network refuses for is what the machine says
-pub placed : (p : Stored) (names : List (List ℕ)) (words : Vocabulary) (premises : List Origin) (d : Data) (limit : ℕ) (params : List Param) (by : By) (given : Option ℕ) (ins : List ℕ) (out : ℕ) → All (λ c. c < length d.kinds) (ins ++ out ∷ []) →
-    sides_given params given ≡ option_and_then sides_of (given_by words by) → param_in p.need params given ≡ fitting_param p.need (given_by words by) →
-    refusal_at p (record d { params = params }) given ins out ≡ placing_refusal p (state_from names words premises d limit) by (ins ++ out ∷ [])
-unfolding network_rows
-placed p names words premises d limit params by given ins out below sides param =
-    let kind = not (kinds_fit p d.kinds (sides_given params given) (ins ++ out ∷ [])) in
-    let kind' = not (kinds_fit p d.kinds (option_and_then sides_of (given_by words by)) (ins ++ out ∷ [])) in
-    let same : kind ≡ kind' = ap (λ (o : Option (Side × Side)). not (kinds_fit p d.kinds o (ins ++ out ∷ []))) sides in
-    let full = when (LimitReached Instances) (nat_le (most Instances) (length d.instances)) in
-    let strange = ap (λ (b : Bool). or_else (when NoSuchCell b) (network_rows (not (length ins == length p.ins)) kind (is_none (param_in p.need params given)) full)) (none_strange (length d.kinds) (ins ++ out ∷ []) below) in
-    let counted = ap (λ (b : Bool). network_rows (not b) kind (is_none (param_in p.need params given)) full) (count_with ins out (length p.ins)) in
-    let fitting = ap (λ (f : Option Param). network_rows (not (length (ins ++ out ∷ []) == (length p.ins + 1))) kind (is_none f) full) param in
-    let fits = ap (λ (b : Bool). network_rows (not (length (ins ++ out ∷ []) == (length p.ins + 1))) b (is_none (fitting_param p.need (given_by words by))) full) same in
-    strange ∙ counted ∙ fitting ∙ fits ∙ in_rows (not (length (ins ++ out ∷ []) == (length p.ins + 1))) kind' (is_none (fitting_param p.need (given_by words by))) full
+pub no_cell_step : (library : List Stored) (s : State) (name : List ℕ) (cells : List (List ℕ)) (by : By) → is_unknown s.words by ≡ false → is_cell_missing s.names cells ≡ true → refusal_of library s (commands.Command.Attach name cells by) ≡ Some NoSuchCell
+no_cell_step library s name cells by e f = rw (e, f) refl
 
--- ---- the instance that is made
+-- ---- what a use stands for, as it is handed out
 
-inputs_of-push : (ins : List ℕ) (out : ℕ) → inputs_of (ins ++ out ∷ []) ≡ ins
-inputs_of-push [] out = refl
-inputs_of-push (a ∷ []) out = refl
-inputs_of-push (a ∷ b ∷ ins) out = ap (λ l. a ∷ l) (inputs_of-push (b ∷ ins) out)
+module _ (library : List Stored) (names : CellNames) (words : Vocabulary) (definitions : Definitions) (premises : List Origin) (d : Data) (limit : ℕ) (name : List ℕ) (cells : List ℕ) (by : By) (flat : Flat)
+    (is : expansion_of_flat (map (kind_at d.kinds) cells) flat ≡ used library (state_from names words definitions premises d limit) name cells by) where
 
-output_of-push : (ins : List ℕ) (out : ℕ) → output_of (ins ++ out ∷ []) ≡ out
-output_of-push [] out = refl
-output_of-push (a ∷ []) out = refl
-output_of-push (a ∷ b ∷ ins) out = output_of-push (b ∷ ins) out
+  fresh_count : length (map (kind_at d.kinds) cells ++ flat.fresh.items) - length cells ≡ length flat.fresh.items
+  fresh_count =
+      let all = length-append (map (kind_at d.kinds) cells) flat.fresh.items in
+      let given = length-map cells (kind_at d.kinds) in
+      omega (arith, all, given)
 
-never_none : (count kind : Bool) (limit : Option Refusal) → first_of (when WrongCount count ∷ when WrongKind kind ∷ when WrongParameter true ∷ limit ∷ []) ≡ None → ⊥
-never_none true kind limit e = cc
-never_none false true limit e = cc
-never_none false false limit e = cc
+  -- the rows of its refusals
+  pub use_rows : use_refusal library (state_from names words definitions premises d limit) name cells by
+      ≡ first_of (expand_refusal library words definitions name (map (kind_at d.kinds) cells) (given_by words by)
+        ∷ room_refusal (length d.kinds + length flat.fresh.items) (length d.instances + length flat.instances.items) ∷ [])
+  use_rows =
+      let expand = expand_refusal library words definitions name (map (kind_at d.kinds) cells) (given_by words by) in
+      let fresh : length (used library (state_from names words definitions premises d limit) name cells by).kinds - length cells ≡ length flat.fresh.items = ap (λ (e : Expansion (Option Param)). length e.kinds - length cells) (sym is) ∙ fresh_count in
+      let count : length (used library (state_from names words definitions premises d limit) name cells by).placed ≡ length flat.instances.items = ap (λ (e : Expansion (Option Param)). length e.placed) (sym is) ∙ length-map flat.instances.items (placed_of flat.params.items) in
+      λ i. first_of (expand ∷ room_refusal (length d.kinds + fresh i) (length d.instances + count i) ∷ [])
 
-pub attached_is : (library : List Stored) (n : ℕ) (p : Stored) (s : State) (params : List Param) (by : By) (given : Option ℕ) (ins : List ℕ) (out : ℕ) → slice_get library n ≡ Some p →
-    param_in p.need params given ≡ fitting_param p.need (given_by s.words by) → placing_refusal p s by (ins ++ out ∷ []) ≡ None → attached library params n given ins out ≡ instance_made library n (given_by s.words by) (ins ++ out ∷ []) ∷ []
-attached_is library n p s params by given ins out at param fits = with_fitting (fitting_param p.need (given_by s.words by)) refl
+  kinds_used : (used library (state_from names words definitions premises d limit) name cells by).kinds ≡ map (kind_at d.kinds) cells ++ flat.fresh.items
+  kinds_used = ap (λ (e : Expansion (Option Param)). e.kinds) (sym is)
+
+  placed_used : (used library (state_from names words definitions premises d limit) name cells by).placed ≡ map (placed_of flat.params.items) flat.instances.items
+  placed_used = ap (λ (e : Expansion (Option Param)). e.placed) (sym is)
+
+  -- what is made is what the use stands for
+  pub state_made : (new : Data) → new ≡ with_flat library d cells flat →
+      state_from names words definitions premises new limit ≡ with_use library (state_from names words definitions premises d limit) cells (used library (state_from names words definitions premises d limit) name cells by)
+  state_made new e =
+      let seam : drop (length cells) (map (kind_at d.kinds) cells ++ flat.fresh.items) ≡ flat.fresh.items =
+      ap (λ n. drop n (map (kind_at d.kinds) cells ++ flat.fresh.items)) (sym (length-map cells (kind_at d.kinds))) ∙ drop-append_seam (map (kind_at d.kinds) cells) flat.fresh.items in
+      let kinds : new.kinds ≡ d.kinds ++ drop (length cells) (used library (state_from names words definitions premises d limit) name cells by).kinds =
+      ap (λ (x : Data). x.kinds) e ∙ ap (λ l. d.kinds ++ l) (sym seam ∙ ap (drop (length cells)) (sym kinds_used)) in
+      let instances : new.instances ≡ d.instances ++ map (instance_placed library cells (length d.kinds)) (used library (state_from names words definitions premises d limit) name cells by).placed =
+      ap (λ (x : Data). x.instances) e ∙ ap (λ l. d.instances ++ l) (map_twice flat.instances.items ∙ ap (map (instance_placed library cells (length d.kinds))) (sym placed_used)) in
+      let statements : new.statements ≡ d.statements = ap (λ (x : Data). x.statements) e in
+      λ i. record { names = names; words = words; definitions = definitions; kinds = kinds i; premises = premises; statements = statements i; instances = instances i; limit = limit }
+    where
+      map_twice : (xs : List flats.Placed) → map (made_of library flat.params.items cells (length d.kinds)) xs ≡ map (instance_placed library cells (length d.kinds)) (map (placed_of flat.params.items) xs)
+      map_twice [] = refl
+      map_twice (x ∷ xs) = ap (λ l. made_of library flat.params.items cells (length d.kinds) x ∷ l) (map_twice xs)
+
+-- ---- the places of a use
+
+-- a cell at a place has the kind of the place
+kind_placed : (kinds fresh : List Kinded) (cells : List ℕ) (place : ℕ) → All (λ c. c < length kinds) cells → place < length cells + length fresh →
+    kind_at (kinds ++ fresh) (cell_placed cells (length kinds) place) ≡ kind_at (map (kind_at kinds) cells ++ fresh) place
+kind_placed kinds fresh cells place below l = by (cases_lt place (length cells))
   where
-    of_library : (o : Option Stored) → o ≡ Some p → option_map_or (λ q. option_map_or (λ f. instance_of n ins out f ∷ []) (param_in q.need params given) []) o [] ≡ option_map_or (λ f. instance_of n ins out f ∷ []) (fitting_param p.need (given_by s.words by)) []
-    of_library o e =
-        ap (λ (x : Option Stored). option_map_or (λ q. option_map_or (λ f. instance_of n ins out f ∷ []) (param_in q.need params given) []) x []) e
-        ∙ ap (λ (f : Option Param). option_map_or (λ g. instance_of n ins out g ∷ []) f []) param
+    n : length (map (kind_at kinds) cells) ≡ length cells
+    n = length-map cells (kind_at kinds)
 
-    made : (f : Param) → fitting_param p.need (given_by s.words by) ≡ Some f → instance_made library n (given_by s.words by) (ins ++ out ∷ []) ≡ instance_of n ins out f
-    made f e =
-        let given_is = ap (λ (x : Option Stored). unwrap_or (option_and_then (λ q. fitting_param q.need (given_by s.words by)) x) Plain) at ∙ ap (λ (x : Option Param). unwrap_or x Plain) e in
-        λ i. record { procedure = n; param = given_is i; inputs = inputs_of-push ins out i; output = output_of-push ins out i }
+    by : (place < length cells) ⊎ (length cells ≤ place) → kind_at (kinds ++ fresh) (cell_placed cells (length kinds) place) ≡ kind_at (map (kind_at kinds) cells ++ fresh) place
+    by (inl h) =
+        let given : cell_placed cells (length kinds) place ≡ get_or cells place 0 = ap (λ (b : Bool). cond b (get_or cells place 0) (length kinds + (place - length cells))) (lt-ltb place (length cells) h) in
+        ap (kind_at (kinds ++ fresh)) given ∙ get_or_append_left kinds fresh span_kind (get_or cells place 0) (below place 0 h)
+        ∙ sym (get_or_append_left (map (kind_at kinds) cells) fresh span_kind place (omega (arith, h, n)) ∙ get_or-map (kind_at kinds) cells place 0 span_kind h)
+    by (inr h) =
+        let behind : cell_placed cells (length kinds) place ≡ length kinds + (place - length cells) = ap (λ (b : Bool). cond b (get_or cells place 0) (length kinds + (place - length cells))) (le-ltb place (length cells) h) in
+        let there : place ≡ length (map (kind_at kinds) cells) + (place - length cells) = omega (arith, h, n) in
+        ap (kind_at (kinds ++ fresh)) behind ∙ get_or-append-add kinds fresh (place - length cells) span_kind
+        ∙ sym (ap (kind_at (map (kind_at kinds) cells ++ fresh)) there ∙ get_or-append-add (map (kind_at kinds) cells) fresh (place - length cells) span_kind)
 
-    with_fitting : (f : Option Param) → fitting_param p.need (given_by s.words by) ≡ f → attached library params n given ins out ≡ instance_made library n (given_by s.words by) (ins ++ out ∷ []) ∷ []
-    with_fitting None e =
-        absurd (never_none (not (length (ins ++ out ∷ []) == (length p.ins + 1))) (not (kinds_fit p s.kinds (option_and_then sides_of (given_by s.words by)) (ins ++ out ∷ []))) (when (LimitReached Instances) (nat_le (most Instances) (length s.instances)))
-        (subst (λ (f : Option Param). first_of (when WrongCount (not (length (ins ++ out ∷ []) == (length p.ins + 1))) ∷ when WrongKind (not (kinds_fit p s.kinds (option_and_then sides_of (given_by s.words by)) (ins ++ out ∷ []))) ∷ when WrongParameter (is_none f)
-        ∷ when (LimitReached Instances) (nat_le (most Instances) (length s.instances)) ∷ []) ≡ None) e fits))
-    with_fitting (Some f) e =
-        of_library (slice_get library n) at ∙ ap (λ (x : Option Param). option_map_or (λ g. instance_of n ins out g ∷ []) x []) e ∙ ap (λ (x : Instance). x ∷ []) (sym (made f e))
+-- and there is such a cell
+there_placed : (kinds fresh : List Kinded) (cells : List ℕ) (place : ℕ) → All (λ c. c < length kinds) cells → place < length cells + length fresh → cell_placed cells (length kinds) place < length (kinds ++ fresh)
+there_placed kinds fresh cells place below l = by (cases_lt place (length cells))
+  where
+    n : length (kinds ++ fresh) ≡ length kinds + length fresh
+    n = length-append kinds fresh
 
--- ---- the machine's refusals
+    by : (place < length cells) ⊎ (length cells ≤ place) → cell_placed cells (length kinds) place < length (kinds ++ fresh)
+    by (inl h) =
+        let given : cell_placed cells (length kinds) place ≡ get_or cells place 0 = ap (λ (b : Bool). cond b (get_or cells place 0) (length kinds + (place - length cells))) (lt-ltb place (length cells) h) in
+        let b = below place 0 h in omega (arith, n, given, b)
+    by (inr h) =
+        let behind : cell_placed cells (length kinds) place ≡ length kinds + (place - length cells) = ap (λ (b : Bool). cond b (get_or cells place 0) (length kinds + (place - length cells))) (le-ltb place (length cells) h) in
+        omega (arith, n, behind, h, l)
 
--- the rows of the refusals that an attachment can meet
-abbrev attach_rows : Bool → Bool → Option ℕ → Option Stored → State → By → ℕ → List ℕ → Option Refusal → Option Refusal
-attach_rows relation missing number procedure s by count numbers limit =
-    first_of (None ∷ None ∷ None ∷ None ∷ when NoSuchRelation relation ∷ when NoSuchCell missing ∷ None ∷ when NoSuchProcedure (is_none number || false) ∷ when WrongCount (option_map_or (λ p. not (count == length p.ins + 1)) procedure false)
-    ∷ when WrongKind (false || option_map_or (λ p. not (kinds_fit p s.kinds (option_and_then sides_of (given_by s.words by)) numbers)) procedure false)
-    ∷ when WrongParameter (option_map_or (λ p. is_none (fitting_param p.need (given_by s.words by))) procedure false) ∷ None ∷ None ∷ limit ∷ [])
+kinds_placed : (kinds fresh : List Kinded) (cells places : List ℕ) → All (λ c. c < length kinds) cells → All (λ place. place < length cells + length fresh) places →
+    map (kind_at (kinds ++ fresh)) (map (cell_placed cells (length kinds)) places) ≡ map (kind_at (map (kind_at kinds) cells ++ fresh)) places
+kinds_placed kinds fresh cells [] below l = refl
+kinds_placed kinds fresh cells (place ∷ places) below l = λ i.
+    kind_placed kinds fresh cells place below (All-head (λ p. p < length cells + length fresh) place places l) i
+    ∷ kinds_placed kinds fresh cells places below (All-tail (λ p. p < length cells + length fresh) place places l) i
 
-without_none : (a b c l : Option Refusal) → first_of (a ∷ b ∷ c ∷ None ∷ None ∷ l ∷ []) ≡ first_of (a ∷ b ∷ c ∷ l ∷ [])
-without_none (Some x) b c l = refl
-without_none None (Some x) c l = refl
-without_none None None (Some x) l = refl
-without_none None None None l = refl
+-- ---- that all of it may be made
 
--- what is known of the name before the network is asked
-pub record IsFound (library : List Stored) (s : State) (name : List ℕ) (cells : List (List ℕ)) (by : By) (n : ℕ) (numbers : List ℕ) : Type 0 where
-  pub relation : is_unknown s.words by ≡ false
-  pub missing : is_missing s.names cells ≡ false
-  pub number : procedure_number library name ≡ Some n
-  pub below : n < length library
-  pub numbers_are : numbers ≡ numbers_in s.names cells
+or_false : (a b : Bool) → (a || b) ≡ false → (a ≡ false) × (b ≡ false)
+or_false true b h = cc
+or_false false b h = (refl, h)
 
-rows_found : (library : List Stored) (s : State) (name : List ℕ) (cells : List (List ℕ)) (by : By) (n : ℕ) (numbers : List ℕ) (p : Stored) → IsFound library s name cells by n numbers → slice_get library n ≡ Some p →
-    refusal_of library s (commands.Command.Attach name cells by) ≡ placing_refusal p s by numbers
-rows_found library s name cells by n numbers p found at =
-    let limit = limit_refusal s (commands.Command.Attach name cells by) in
-    let named : procedure_named library name ≡ Some p = ap (λ (o : Option ℕ). option_and_then (λ k. slice_get library k) o) found.number ∙ at in
-    let count : length cells ≡ length numbers = sym (ap length found.numbers_are ∙ length-map cells (λ word. unwrap_or (number_in s.names word) 0)) in
-    let a = ap (λ (b : Bool). attach_rows b (is_missing s.names cells) (procedure_number library name) (procedure_named library name) s by (length cells) (numbers_in s.names cells) limit) found.relation in
-    let b = ap (λ (m : Bool). attach_rows false m (procedure_number library name) (procedure_named library name) s by (length cells) (numbers_in s.names cells) limit) found.missing in
-    let c = ap (λ (o : Option ℕ). attach_rows false false o (procedure_named library name) s by (length cells) (numbers_in s.names cells) limit) found.number in
-    let d = ap (λ (o : Option Stored). attach_rows false false (Some n) o s by (length cells) (numbers_in s.names cells) limit) named in
-    let e = ap (λ (k : ℕ). attach_rows false false (Some n) (Some p) s by k (numbers_in s.names cells) limit) count in
-    let f = ap (λ (l : List ℕ). attach_rows false false (Some n) (Some p) s by (length numbers) l limit) (sym found.numbers_are) in
-    a ∙ b ∙ c ∙ d ∙ e ∙ f ∙ without_none (when WrongCount (not (length numbers == length p.ins + 1))) (when WrongKind (not (kinds_fit p s.kinds (option_and_then sides_of (given_by s.words by)) numbers))) (when WrongParameter (is_none (fitting_param p.need (given_by s.words by)))) limit
+none_passes : {X : Type 0} (p : X → Bool) (xs : List X) → list_any p xs ≡ false → All (λ x. p x ≡ false) xs
+none_passes p [] e = λ k d l. absurd (omega (arith, l))
+none_passes p (x ∷ xs) e =
+    let both = or_false (p x) (list_any p xs) e in
+    All-cons (λ x. p x ≡ false) x xs both.0 (none_passes p xs both.1)
 
-pub in_library : (library : List Stored) (n : ℕ) → n < length library → (p : Stored) × (slice_get library n ≡ Some p)
-in_library library n l = elim (slice_get_cases library n).1 as (λ _. (p : Stored) × (slice_get library n ≡ Some p)) [ inl h ↦ (h.0, h.2) | inr h ↦ absurd (omega (arith, h.0, l)) ]
+not_false : (b : Bool) → not b ≡ false → b ≡ true
+not_false true e = refl
+not_false false e = cc
 
-pub attached_step : (library : List Stored) (s new : State) (name : List ℕ) (cells : List (List ℕ)) (by : By) (n : ℕ) (numbers : List ℕ) → IsFound library s name cells by n numbers →
-    ((p : Stored) → slice_get library n ≡ Some p → placing_refusal p s by numbers ≡ None) → new ≡ record s { instances = s.instances ++ instance_made library n (given_by s.words by) numbers ∷ [] } →
-    Obeys library s (commands.Command.Attach name cells by) Done new 0
-attached_step library s new name cells by n numbers found fits e =
-    let p = in_library library n found.below in
-    let number : unwrap_or (procedure_number library name) 0 ≡ n = ap (λ (o : Option ℕ). unwrap_or o 0) found.number in
-    let same = ap (λ (k : ℕ). record s { instances = s.instances ++ instance_made library k (given_by s.words by) numbers ∷ [] }) (sym number) ∙ ap (λ (l : List ℕ). record s { instances = s.instances ++ instance_made library (unwrap_or (procedure_number library name) 0) (given_by s.words by) l ∷ [] }) found.numbers_are in
-    obeys library s new (commands.Command.Attach name cells by) Done 0 (rows_found library s name cells by n numbers p.0 found p.1 ∙ fits p.0 p.1) (record { answer_is = refl; new_is = e ∙ same; no_steps = refl })
+module _ (library : List Stored) (d : Data) (cells : List ℕ) (flat : Flat) (below : All (λ c. c < length d.kinds) cells) (few : length d.kinds + length flat.fresh.items ≤ most Cells) where
+  one_may : (x : flats.Placed) → IsInstanceOver library (length cells + length flat.fresh.items) x →
+      is_misplaced library (map (kind_at d.kinds) cells ++ flat.fresh.items) (placed_of flat.params.items x) ≡ false → is_misgiven library (placed_of flat.params.items x) ≡ false →
+      MayBeMade library (d.kinds ++ flat.fresh.items) flat.params.items cells (length d.kinds) x
+  one_may x over placed given =
+      let p = over.procedure in
+      let sides = option_and_then sides_of (param_at flat.params.items x.param) in
+      let e_kinds = map (kind_at d.kinds) cells ++ flat.fresh.items in
+      let right : kinds_fit p e_kinds sides (cells_of x) ≡ true =
+      not_false (kinds_fit p e_kinds sides (cells_of x)) (sym (ap (λ (o : Option Stored). option_map_or (λ q. not (kinds_fit q e_kinds sides (cells_of x))) o false) over.at) ∙ placed) in
+      record {
+        procedure = p;
+        at = over.at;
+        count = over.count;
+        small = All-weaker (λ place. place < length cells + length flat.fresh.items) (λ place. length d.kinds + (place - length cells) < 2 ^ 64) (λ place l. omega (arith, few, l)) (cells_of x) over.cells;
+        below = All-map (λ c. c < length (d.kinds ++ flat.fresh.items)) (cell_placed cells (length d.kinds)) (cells_of x)
+            (All-weaker (λ place. place < length cells + length flat.fresh.items) (λ place. cell_placed cells (length d.kinds) place < length (d.kinds ++ flat.fresh.items)) (λ place l. there_placed d.kinds flat.fresh.items cells place below l) (cells_of x) over.cells);
+        right = ap (λ (l : List Kinded). are_right p.need sides (zip (p.ins ++ p.out ∷ []) l)) (kinds_placed d.kinds flat.fresh.items cells (cells_of x) below over.cells) ∙ right;
+        takes = sym (ap (λ (o : Option Stored). option_map_or (λ q. is_none (fitting_param q.need (param_at flat.params.items x.param))) o false) over.at) ∙ given;
+      }
 
-pub unattached_step : (library : List Stored) (s new : State) (name : List ℕ) (cells : List (List ℕ)) (by : By) (n : ℕ) (numbers : List ℕ) (refusal : Refusal) → IsFound library s name cells by n numbers →
-    ((p : Stored) → slice_get library n ≡ Some p → placing_refusal p s by numbers ≡ Some refusal) ⊎ (refusal ≡ Memory) → new ≡ s → Obeys library s (commands.Command.Attach name cells by) (Refused refusal) new 0
-unattached_step library s new name cells by n numbers refusal found (inl h) same =
-    let p = in_library library n found.below in
-    refuses_or_lacks library s new (commands.Command.Attach name cells by) refusal (inl (rows_found library s name cells by n numbers p.0 found p.1 ∙ h p.0 p.1)) same
-unattached_step library s new name cells by n numbers refusal found (inr m) same = refuses_or_lacks library s new (commands.Command.Attach name cells by) refusal (inr m) same
+  each_may : (xs : List flats.Placed) → All (IsInstanceOver library (length cells + length flat.fresh.items)) xs →
+      list_any (is_misplaced library (map (kind_at d.kinds) cells ++ flat.fresh.items)) (map (placed_of flat.params.items) xs) ≡ false → list_any (is_misgiven library) (map (placed_of flat.params.items) xs) ≡ false →
+      All (MayBeMade library (d.kinds ++ flat.fresh.items) flat.params.items cells (length d.kinds)) xs
+  each_may [] over placed given = λ k d l. absurd (omega (arith, l))
+  each_may (x ∷ xs) over placed given =
+      let misplaced = or_false (is_misplaced library (map (kind_at d.kinds) cells ++ flat.fresh.items) (placed_of flat.params.items x)) _ placed in
+      let misgiven = or_false (is_misgiven library (placed_of flat.params.items x)) _ given in
+      All-cons (MayBeMade library (d.kinds ++ flat.fresh.items) flat.params.items cells (length d.kinds)) x xs
+      (one_may x (All-head (IsInstanceOver library (length cells + length flat.fresh.items)) x xs over) misplaced.0 misgiven.0)
+      (each_may xs (All-tail (IsInstanceOver library (length cells + length flat.fresh.items)) x xs over) misplaced.1 misgiven.1)
 
--- ---- what the network answered, as the machine says it
+-- the fit of what is not refused
+fit_of : (a b c f : Option Refusal) → first_of (a ∷ b ∷ c ∷ f ∷ []) ≡ None → f ≡ None
+fit_of (Some x) b c f e = cc
+fit_of None (Some x) c f e = cc
+fit_of None None (Some x) f e = cc
+fit_of None None None (Some x) e = cc
+fit_of None None None None e = refl
 
-pub fits_as : (library : List Stored) (names : List (List ℕ)) (words : Vocabulary) (premises : List Origin) (d : Data) (limit : ℕ) (params : List Param) (by : By) (given : Option ℕ) (ins : List ℕ) (out n : ℕ) (r : Option Refusal) → All (λ c. c < length d.kinds) (ins ++ out ∷ []) →
-    sides_given params given ≡ option_and_then sides_of (given_by words by) → ((need : Need) → param_in need params given ≡ fitting_param need (given_by words by)) → attach_refusal library (record d { params = params }) n given ins out ≡ r →
-    (p : Stored) → slice_get library n ≡ Some p → placing_refusal p (state_from names words premises d limit) by (ins ++ out ∷ []) ≡ r
-fits_as library names words premises d limit params by given ins out n r below sides param e p at =
-    sym (placed p names words premises d limit params by given ins out below sides (param p.need))
-    ∙ sym (ap (λ (o : Option Stored). option_map_or (λ q. refusal_at q (record d { params = params }) given ins out) o None) at) ∙ e
-
-pub made_one : (library : List Stored) (names : List (List ℕ)) (words : Vocabulary) (premises : List Origin) (d : Data) (limit : ℕ) (params : List Param) (by : By) (given : Option ℕ) (ins : List ℕ) (out n : ℕ) → n < length library → All (λ c. c < length d.kinds) (ins ++ out ∷ []) →
-    sides_given params given ≡ option_and_then sides_of (given_by words by) → ((need : Need) → param_in need params given ≡ fitting_param need (given_by words by)) → attach_refusal library (record d { params = params }) n given ins out ≡ None →
-    attached library params n given ins out ≡ instance_made library n (given_by words by) (ins ++ out ∷ []) ∷ []
-made_one library names words premises d limit params by given ins out n l below sides param e =
-    let p = in_library library n l in
-    attached_is library n p.0 (state_from names words premises d limit) params by given ins out p.1 (param p.0.need) (fits_as library names words premises d limit params by given ins out n None below sides param e p.0 p.1)
-
-pub procedure_below : (library : List Stored) (name : List ℕ) (n : ℕ) → procedure_number library name ≡ Some n → n < length library
-procedure_below library name n e = (position-Some (λ p. bytes_eq p.name name) library n (record { name = []; ins = []; out = shapes.Span; need = needs.Nothing; value = λ p a. Nothing }) e).0
-
--- The same over the data `mid`, which has other parameters than d alone.
-pub record IsPlaced (words : Vocabulary) (d mid : Data) (by : By) (given : Option ℕ) (ins : List ℕ) (out : ℕ) (cells : List ℕ) : Type 0 where
-  pub cells_are : cells ≡ ins ++ out ∷ []
-  pub params_alone : mid ≡ record d { params = mid.params }
-  pub below : All (λ c. c < length d.kinds) cells
-  pub sides : sides_given mid.params given ≡ option_and_then sides_of (given_by words by)
-  pub param : (need : Need) → param_in need mid.params given ≡ fitting_param need (given_by words by)
-
--- what is refused over mid, over d with its parameters
-refused_over : (library : List Stored) (d mid : Data) (given : Option ℕ) (ins : List ℕ) (out n : ℕ) (r : Option Refusal) → mid ≡ record d { params = mid.params } → attach_refusal library mid n given ins out ≡ r →
-    attach_refusal library (record d { params = mid.params }) n given ins out ≡ r
-refused_over library d mid given ins out n r e h = sym (ap (λ (x : Data). attach_refusal library x n given ins out) e) ∙ h
-
-pub fits_at : (library : List Stored) (names : List (List ℕ)) (words : Vocabulary) (premises : List Origin) (d mid : Data) (limit : ℕ) (by : By) (given : Option ℕ) (ins : List ℕ) (out n : ℕ) (cells : List ℕ) (r : Option Refusal) → IsPlaced words d mid by given ins out cells →
-    attach_refusal library mid n given ins out ≡ r → (p : Stored) → slice_get library n ≡ Some p → placing_refusal p (state_from names words premises d limit) by cells ≡ r
-fits_at library names words premises d mid limit by given ins out n cells r placed_so h p at =
-    let below = subst (λ (l : List ℕ). All (λ c. c < length d.kinds) l) placed_so.cells_are placed_so.below in
-    ap (λ (l : List ℕ). placing_refusal p (state_from names words premises d limit) by l) placed_so.cells_are
-    ∙ fits_as library names words premises d limit mid.params by given ins out n r below placed_so.sides placed_so.param (refused_over library d mid given ins out n r placed_so.params_alone h) p at
-
-pub made_at : (library : List Stored) (names : List (List ℕ)) (words : Vocabulary) (premises : List Origin) (d mid : Data) (limit : ℕ) (by : By) (given : Option ℕ) (ins : List ℕ) (out n : ℕ) (cells : List ℕ) → IsPlaced words d mid by given ins out cells → n < length library →
-    attach_refusal library mid n given ins out ≡ None → attached library mid.params n given ins out ≡ instance_made library n (given_by words by) cells ∷ []
-made_at library names words premises d mid limit by given ins out n cells placed_so l h =
-    let below = subst (λ (x : List ℕ). All (λ c. c < length d.kinds) x) placed_so.cells_are placed_so.below in
-    made_one library names words premises d limit mid.params by given ins out n l below placed_so.sides placed_so.param (refused_over library d mid given ins out n None placed_so.params_alone h)
-    ∙ ap (λ (x : List ℕ). instance_made library n (given_by words by) x ∷ []) (sym placed_so.cells_are)
-
-pub err_at : (library : List Stored) (names : List (List ℕ)) (words : Vocabulary) (premises : List Origin) (d mid : Data) (limit : ℕ) (by : By) (given : Option ℕ) (ins : List ℕ) (out n : ℕ) (cells : List ℕ) (e : Refusal) → IsPlaced words d mid by given ins out cells →
-    (attach_refusal library mid n given ins out ≡ Some e) ⊎ (e ≡ Memory) → ((p : Stored) → slice_get library n ≡ Some p → placing_refusal p (state_from names words premises d limit) by cells ≡ Some e) ⊎ (e ≡ Memory)
-err_at library names words premises d mid limit by given ins out n cells e placed_so (inl h) = inl (fits_at library names words premises d mid limit by given ins out n cells (Some e) placed_so h)
-err_at library names words premises d mid limit by given ins out n cells e placed_so (inr m) = inr m
-
-pub state_attached : (names names' : List (List ℕ)) (words words' : Vocabulary) (premises premises' : List Origin) (d mid new : Data) (limit limit' : ℕ) (xs : List Instance) (x : Instance) → names' ≡ names → words' ≡ words → premises' ≡ premises → limit' ≡ limit →
-    mid ≡ record d { params = mid.params } → new ≡ record mid { instances = mid.instances ++ xs } → xs ≡ x ∷ [] → state_from names' words' premises' new limit' ≡ record (state_from names words premises d limit) { instances = d.instances ++ x ∷ [] }
-state_attached names names' words words' premises premises' d mid new limit limit' xs x n w q l e f one =
-    let kinds = ap (λ (y : Data). y.kinds) f ∙ ap (λ (y : Data). y.kinds) e in
-    let statements = ap (λ (y : Data). y.statements) f ∙ ap (λ (y : Data). y.statements) e in
-    let instances = ap (λ (y : Data). y.instances) f ∙ ap (λ (y : Data). y.instances ++ xs) e ∙ ap (λ (ys : List Instance). d.instances ++ ys) one in
-    λ i. record { names = n i; words = w i; kinds = kinds i; premises = q i; statements = statements i; instances = instances i; limit = l i }
+pub may_make : (library : List Stored) (words : Vocabulary) (definitions : Definitions) (d : Data) (name : List ℕ) (cells : List ℕ) (given : Option Param) (flat : Flat) → All (λ c. c < length d.kinds) cells →
+    expand_refusal library words definitions name (map (kind_at d.kinds) cells) given ≡ None → expansion_of_flat (map (kind_at d.kinds) cells) flat ≡ expanded library words definitions name (map (kind_at d.kinds) cells) given →
+    IsFlatOver library (length cells) flat → room_refusal (length d.kinds + length flat.fresh.items) (length d.instances + length flat.instances.items) ≡ None → MayMake library d cells flat
+may_make library words definitions d name cells given flat below fits is safe room =
+    let e = expansion_of_flat (map (kind_at d.kinds) cells) flat in
+    let fit : fit_refusal library e ≡ None = rw is (fit_of _ _ _ (fit_refusal library (expanded library words definitions name (map (kind_at d.kinds) cells) given)) fits) in
+    let rows = both_none (when WrongKind (list_any (is_misplaced library e.kinds) e.placed)) (when WrongParameter (is_param_wrong library e)) fit in
+    let cells_few = both_none (when (LimitReached Cells) (nat_lt (most Cells) (length d.kinds + length flat.fresh.items))) (when (LimitReached Instances) (nat_lt (most Instances) (length d.instances + length flat.instances.items))) room in
+    let few : length d.kinds + length flat.fresh.items ≤ most Cells = ltb-false (most Cells) (length d.kinds + length flat.fresh.items) (holds_not (LimitReached Cells) _ cells_few.0) in
+    record {
+      each = each_may library d cells flat below few flat.instances.items safe (holds_not WrongKind _ rows.0) (holds_not WrongParameter _ rows.1);
+      few_cells = few;
+      few_instances = ltb-false (most Instances) (length d.instances + length flat.instances.items) (holds_not (LimitReached Instances) _ cells_few.1);
+    }

@@ -1,5 +1,5 @@
 -- A line that keeps words is heard: it is no silent line.
-use Rattle.std.proofs.Common.{◌≡◌, ◌∙◌, ℕ, Bool, true, false, cond, not, ◌==◌, List, [], ◌∷◌, Option, Some, None, Result, Ok, Err, nat_lt, length, bytes_eq, codes, ◌⊎◌, inl, inr, refl, sym, ap, subst, arith}
+use Rattle.std.proofs.Common.{◌≡◌, ℕ, Bool, true, false, cond, not, ◌==◌, List, [], ◌∷◌, Option, Some, None, Result, Ok, Err, nat_lt, length, bytes_eq, ◌⊎◌, inl, inr, refl, sym, subst, arith}
 use Rattle.std.specs.Prelude.{find}
 use Rattle.std.specs.Str.{is_utf8}
 use Rattle.std.specs.List.{list_all}
@@ -13,7 +13,7 @@ use Rattle.prop_compound.specs.Names.{is_name}
 use Rattle.prop_compound.specs.Forms.{forms}
 use Rattle.prop_compound.specs.Reading.{reading, reading_of, command_of, by_form_of, command_in_form, is_silent, without_return, names_in, is_in_range}
 use Rattle.prop_compound.specs.Said.{KeepsWords}
-use Rattle.prop_workbench.specs.Answers.{Refused}
+use Rattle.prop_engine.specs.Answers.{Refused}
 use Rattle.prop_workbench.specs.Machine.{State}
 use Rattle.prop_workbench.specs.Steps.{Follows}
 use Rattle.prop_workbench.proofs.StepLemmas.{lacks}

@@ -1,4 +1,4 @@
--- What the engine asks of a machine, and that the workbench has it.
+-- That the workbench has what the engine asks of a machine.
 use Rattle.std.proofs.Common.{◌≡◌, ◌≢◌, ℕ, ◌≤◌, ◌<◌, List, length, take, refl, sym, ◌∙◌, ap, subst, inl, inr, arith}
 use Rattle.std.specs.Prelude.{Option, Some, None, Result, Ok, Err}
 use Rattle.std.proofs.lemmas.List.{length-take, take_all}
@@ -10,21 +10,12 @@ use Rattle.prop_procedures.specs.declared.shape.Param.{Param}
 use Rattle.prop_procedures.specs.Stored.{Stored}
 use Rattle.prop_compound.specs.Commands.{Command}
 use Rattle.prop_compound.specs.Reading.{reading}
-use Rattle.prop_workbench.specs.Lines.{kept_of}
-use Rattle.prop_workbench.specs.Answers.{Answer, Silent, Text, Refused}
+use Rattle.prop_engine.specs.Lines.{kept_of}
+use Rattle.prop_engine.specs.Answers.{Answer, Silent, Text, Refused}
 use Rattle.prop_workbench.specs.Machine.{State}
 use Rattle.prop_workbench.specs.Steps.{Follows}
-use Rattle.prop_workbench.specs.Transcripts.{Machine}
 use Rattle.prop_workbench.specs.Engine.{workbench}
-
--- a line may be answered as what is kept of it may
-abbrev pub AsksByFront : {S : Type 0} → Machine S → Type 0
-AsksByFront {S = S} machine =
-    (old : S) (line : List ℕ) (answer : Answer) (new : S) → machine old (kept_of line) answer new → machine old line answer new
-
--- each line may be given some answer that leaves the state as it was
-abbrev pub IsTotal : {S : Type 0} → Machine S → Type 0
-IsTotal {S = S} machine = (old : S) (line : List ℕ) → (answer : Answer) × machine old line answer old
+use Rattle.prop_engine.proofs.Machines.{AsksByFront, IsTotal}
 
 -- a front of limit bytes is the line, or as long as the limit
 front_of_line : (limit : ℕ) (line : List ℕ) → (length line ≤ limit → take limit line ≡ line) × (limit < length line → length (take limit line) ≡ limit)
@@ -63,7 +54,3 @@ pub workbench_is_total : (library : List Stored) (related : ℕ → Param → Li
 workbench_is_total library related old line =
     let somehow = follows_somehow library old (reading line) in
     (somehow.0, record { steps = somehow.1.steps; step = somehow.1.follows; points = λ sound points command text p read e. absurd (somehow.1.no_text text e) })
-
--- what a machine over one of two equal things may do, that over the other may
-pub same_step : {A S : Type 0} (machine : A → Machine S) (a b : A) → b ≡ a → (old : S) (line : List ℕ) (answer : Answer) (new : S) → machine b old line answer new → machine a old line answer new
-same_step {A = A} machine a b e old line answer new s = subst (λ (x : A). machine x old line answer new) e s

@@ -1,27 +1,25 @@
 -- Points that satisfy a state bear out each answer to a line.
-use Rattle.std.proofs.Common.{◌≡◌, ◌∙◌, ℕ, List, [], codes, Option, Some, None, Result, Ok, Err, IsTrue, get_or, ◌⊎◌, inl, inr, refl, sym, ap, subst, rules}
+use Rattle.std.proofs.Common.{◌≡◌, ◌∙◌, ℕ, List, [], codes, Option, Some, None, Result, Ok, IsTrue, get_or, inl, inr, sym, subst, rules}
 use Rattle.prop_lattice.specs.declared.info.Info.{Info}
 use Rattle.prop_lattice.specs.declared.refusal.Refusal.{Refusal}
 use Rattle.prop_lattice.specs.declared.refusal.Refusal.TheVariants.{Memory}
 use Rattle.prop_lattice.specs.Points.{Point, Holds}
 use Rattle.prop_procedures.specs.declared.shape.Param.{Param}
 use Rattle.prop_procedures.specs.Stored.{Stored}
-use Rattle.prop_cells.specs.Problems.{Problem, Premises, Entails, IsConsistent, IsContradictory, is_member}
+use Rattle.prop_cells.specs.Problems.{Problem, Premises, Entails, IsConsistent, is_member}
 use Rattle.prop_cells.specs.Reach.{IsConflict}
 use Rattle.prop_cells.specs.Points.{AreSoundBy, AreFitting}
 use Rattle.prop_cells.proofs.PointLaws.{entailed_holds, points_consistent}
 use Rattle.prop_premises.specs.Sets.{set_of, IsPart}
-use Rattle.prop_cells.specs.declared.instance.Statement.{Statement}
 use Rattle.prop_compound.specs.Commands as commands
 use Rattle.prop_compound.specs.Commands.{Command}
-use Rattle.prop_compound.specs.Reading.{reading}
-use Rattle.prop_workbench.specs.Answers.{Answer, Silent, Done, Text, Refused}
+use Rattle.prop_engine.specs.Answers.{Answer, Text, Refused}
 use Rattle.prop_workbench.specs.Machine.{State, problem_in, worldview_of}
 use Rattle.prop_workbench.specs.Points.{attached_in, Satisfy, SaysPoint, BearsOut, HoldsPoints}
 use Rattle.prop_workbench.specs.Refusing.{refusal_of}
 use Rattle.prop_workbench.specs.Running.{Outcome, Settled, Unsettled, Contradiction, MayEnd, IsValue, IsValueReply, IsExplainedReply, Replies}
-use Rattle.prop_workbench.specs.Steps.{Runs, Obeys, Carries, CarriesUnless, Follows, Step}
-use Rattle.prop_workbench.specs.Texts.{because}
+use Rattle.prop_workbench.specs.Steps.{Runs, Obeys, CarriesUnless, Follows, Step}
+use Rattle.prop_texts.specs.Texts.{because}
 
 still_member : (s t : Premises) → IsPart s t → (o : Option ℕ) → IsTrue (is_member s o) → IsTrue (is_member t o)
 still_member s t part None h = h

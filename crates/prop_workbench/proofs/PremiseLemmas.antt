@@ -1,5 +1,5 @@
 -- Which premises are known, and what changes where one is new, believed or no longer believed.
-use Rattle.std.proofs.Common.{◌≡◌, ◌∙◌, ℕ, zero, suc, ◌<◌, ◌+◌, ◌||◌, Bool, true, false, not, IsTrue, List, [], ◌∷◌, ◌++◌, Option, Some, None, All, Contains, length, take, get_or, ◌≤◌, ◌==◌, refl, sym, ap, arith}
+use Rattle.std.proofs.Common.{◌≡◌, ◌∙◌, ℕ, zero, suc, ◌<◌, ◌||◌, Bool, true, false, not, IsTrue, List, [], ◌∷◌, ◌++◌, Some, None, All, Contains, length, take, get_or, ◌≤◌, ◌==◌, refl, sym, ap, arith}
 use mathlib.Core.Bool.{beq}
 use Rattle.std.proofs.lemmas.Bool.{eq-eqb}
 use Rattle.std.proofs.lemmas.List.Folds.{list_any_at}
@@ -8,8 +8,8 @@ use Rattle.std.proofs.lemmas.List.Elements.{All-contains, All-weaker, All-push}
 use Rattle.prop_lattice.specs.declared.info.Info.TheVariants.{Nothing}
 use Rattle.prop_lattice.specs.Order.{merge_of}
 use Rattle.prop_premises.specs.Sets.{Members, set_of, is_within, IsSame}
-use Rattle.prop_premises.specs.Origins.{Origin, User, Side, believed_in, is_user_called, is_user_at, with_belief, with_belief_at, with_name, premise_number}
-use Rattle.prop_tms.specs.Beliefs.{merge_of_all, believed_of, belief_of}
+use Rattle.prop_premises.specs.Origins.{Origin, User, Side, believed_in, is_user_called, is_user_at, with_belief_at, with_name, premise_number}
+use Rattle.prop_tms.specs.Beliefs.{merge_of_all, believed_of}
 use Rattle.prop_tms.proofs.KeptLemmas.{contains_here, contains_there}
 use Rattle.prop_procedures.specs.Stored.{Stored}
 use Rattle.prop_cells.specs.declared.instance.Statement.{Statement}
@@ -17,7 +17,7 @@ use Rattle.prop_cells.specs.Problems.{Problem, Premises}
 use Rattle.prop_cells.specs.Reach.{Reaches, IsRelatedAt}
 use Rattle.prop_cells.specs.Reach.Reaches.{stated, passed}
 use Rattle.prop_cells.specs.Data.{Data, Entry, IsKept, IsFounded, beliefs, content_of, problem_of}
-use Rattle.prop_scheduler.specs.Turns.{IsUnderWay, IsSettled}
+use Rattle.prop_scheduler.specs.Turns.{IsUnderWay}
 use Rattle.prop_scheduler.proofs.UnderWay.{under_way_believed}
 use Rattle.prop_workbench.specs.Sessions.{AreKnown}
 

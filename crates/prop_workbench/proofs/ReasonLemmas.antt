@@ -1,29 +1,29 @@
 -- What an answer names, from the text that was made for it.
-use Rattle.std.proofs.Common.{◌≡◌, ◌∙◌, ℕ, List, [], codes, Option, Some, None, Result, Ok, Err, ◌⊎◌, inl, inr, refl, sym, ap, subst, rules}
+use Rattle.std.proofs.Common.{◌≡◌, ◌∙◌, ℕ, List, inl, inr, sym}
 use Rattle.prop_lattice.specs.declared.info.Info.{Info}
 use Rattle.prop_lattice.specs.declared.refusal.Refusal.TheVariants.{Memory}
 use Rattle.prop_premises.specs.Origins.{Origin, believed_in}
-use Rattle.prop_premises.specs.Sets.{set_of}
 use Rattle.prop_cells.specs.Data.{Data, beliefs, IsLeanAt, IsClash}
 use Rattle.prop_vocabulary.specs.Vocabulary.{Vocabulary}
-use Rattle.prop_workbench.specs.Answers.{Answer, Says, Text, Refused}
+use Rattle.prop_engine.specs.Answers.{Answer, Says, Text, Refused}
 use Rattle.prop_workbench.specs.Machine.{State, text_at}
-use Rattle.prop_vocabulary.specs.Names.{number_in}
 use Rattle.prop_workbench.specs.Reasons.{IsLeanExplanation, IsLeanContradiction, IsLeanReply}
 use Rattle.prop_workbench.specs.Sessions.{state_from}
-use Rattle.prop_workbench.specs.Texts.{equation, because, contradiction_text}
+use Rattle.prop_texts.specs.Texts.{equation, because, contradiction_text}
+use Rattle.prop_vocabulary.specs.Cells.{CellNames}
+use Rattle.prop_compound.specs.Definitions.{Definitions}
 
 -- an answer that says one text or lacks memory has no other
 pub the_text : (answer : Answer) (made text : List ℕ) → Says answer made → answer ≡ Text text → text ≡ made
 the_text answer made text (inl e) h = let same : Text made ≡ Text text = sym e ∙ h in cc
 the_text answer made text (inr m) h = let same : Refused Memory ≡ Text text = sym m ∙ h in cc
 
-pub lean_explained : (names : List (List ℕ)) (words : Vocabulary) (premises : List Origin) (d : Data) (limit cell : ℕ) (v : Info) (name mark support behind : List ℕ) (answer : Answer) → v ≡ beliefs (believed_in premises) d.contents cell →
-    IsLeanAt (believed_in premises) d.contents cell support → behind ≡ because premises mark support → Says answer (equation name (text_at (state_from names words premises d limit) cell v) behind) → (text : List ℕ) → answer ≡ Text text → IsLeanExplanation d (state_from names words premises d limit) cell name mark text
-lean_explained names words premises d limit cell v name mark support behind answer is_v lean is_text says text e = record {
+pub lean_explained : (names : CellNames) (words : Vocabulary) (definitions : Definitions) (premises : List Origin) (d : Data) (limit cell : ℕ) (v : Info) (name mark support behind : List ℕ) (answer : Answer) → v ≡ beliefs (believed_in premises) d.contents cell →
+    IsLeanAt (believed_in premises) d.contents cell support → behind ≡ because premises mark support → Says answer (equation name (text_at (state_from names words definitions premises d limit) cell v) behind) → (text : List ℕ) → answer ≡ Text text → IsLeanExplanation d (state_from names words definitions premises d limit) cell name mark text
+lean_explained names words definitions premises d limit cell v name mark support behind answer is_v lean is_text says text e = record {
   premises = support;
   lean = lean;
-  text_is = the_text answer (equation name (text_at (state_from names words premises d limit) cell v) behind) text says e ∙ (λ i. equation name (text_at (state_from names words premises d limit) cell (is_v i)) (is_text i));
+  text_is = the_text answer (equation name (text_at (state_from names words definitions premises d limit) cell v) behind) text says e ∙ (λ i. equation name (text_at (state_from names words definitions premises d limit) cell (is_v i)) (is_text i));
 }
 
 pub lean_contradiction : (d : Data) (s : State) (support : List ℕ) (answer : Answer) → IsClash (believed_in s.premises) d support → Says answer (contradiction_text s.premises support) → (text : List ℕ) → answer ≡ Text text → IsLeanContradiction d s text

@@ -1,8 +1,7 @@
 -- What a session keeps.
-use Rattle.std.proofs.Common.{◌≡◌, ◌∙◌, ◌<◌, ℕ, Bool, true, false, List, [], ◌∷◌, ◌++◌, Some, All, Contains, map, length, slice_get, ◌⊎◌, refl, sym, ap, arith, inl, inr}
-use Rattle.std.proofs.lemmas.List.Elements.{All-weaker, All-push, All-contains, Contains-append_left, Contains-push}
+use Rattle.std.proofs.Common.{◌≡◌, ◌∙◌, ◌<◌, ℕ, List, [], ◌∷◌, ◌++◌, All, Contains, map, length, sym, arith, inl, inr}
+use Rattle.std.proofs.lemmas.List.Elements.{All-weaker, All-push, Contains-append_left, Contains-push}
 use Rattle.std.proofs.lemmas.List.{length-append, map-append, length-map}
-use Rattle.std.proofs.lemmas.Option.{slice_get_within}
 use Rattle.prop_procedures.specs.declared.shape.Kinded.{Kinded}
 use Rattle.prop_procedures.specs.Stored.{Stored}
 use Rattle.prop_cells.specs.Problems.{Premises, OthersMeet, Constraint, Meets, Assignment}
@@ -10,7 +9,7 @@ use Rattle.prop_cells.specs.Instances.{Instance, constraint_of}
 use Rattle.prop_cells.specs.Data.{Data, IsKept, beliefs}
 use Rattle.prop_cells.proofs.Lists.{slice_get-push_cases}
 use Rattle.prop_cells.proofs.Making.{beliefs-push}
-use Rattle.prop_scheduler.specs.Agendas.{Alerted, AllAlerted}
+use Rattle.prop_scheduler.specs.Agendas.{Alerted}
 use Rattle.prop_scheduler.specs.Turns.{IsUnderWay}
 
 pub under_way_cell : (library : List Stored) (s : Premises) (d new : Data) (line : List ℕ) (k : Kinded) → IsUnderWay library s d line → IsKept library new →
@@ -61,3 +60,9 @@ under_way_attach library s d new line line' x j u kept e here alerted =
 -- parameters bear on nothing that is under way
 pub under_way_params : (library : List Stored) (s : Premises) (d new : Data) (line : List ℕ) → IsUnderWay library s d line → IsKept library new → new ≡ record d { params = new.params } → IsUnderWay library s new line
 under_way_params library s d new line u kept e = record { kept = kept; line_below = rw e u.line_below; met = rw e u.met }
+
+-- one cell more, with a name
+pub one_more_named : {A : Type 0} (cells : List ℕ) (kinds : List A) (kind : A) → All (λ k. k < length kinds) cells → All (λ k. k < length (kinds ++ kind ∷ [])) (cells ++ length kinds ∷ [])
+one_more_named cells kinds kind all =
+    let more = length-append kinds (kind ∷ []) in
+    All-push (λ k. k < length (kinds ++ kind ∷ [])) cells (length kinds) (All-weaker (λ k. k < length kinds) (λ k. k < length (kinds ++ kind ∷ [])) (λ k h. omega (arith, h, more)) cells all) (omega (arith, more))

@@ -1,16 +1,16 @@
 -- Steps of the machine from what its parts were tested for.
-use Rattle.std.proofs.Common.{◌≡◌, ◌∙◌, ℕ, Bool, false, List, [], ◌∷◌, Option, Some, None, Result, Ok, Err, ◌⊎◌, inl, inr, refl, sym, ap, subst}
+use Rattle.std.proofs.Common.{◌≡◌, ◌∙◌, ℕ, false, List, [], ◌∷◌, Option, Some, None, Result, Ok, Err, ◌⊎◌, inl, inr, refl, sym, subst}
 use Rattle.prop_lattice.specs.declared.refusal.Refusal.{Refusal}
 use Rattle.prop_lattice.specs.declared.refusal.Refusal.TheVariants.{Memory}
 use Rattle.prop_procedures.specs.Stored.{Stored}
 use Rattle.prop_compound.specs.Commands as commands
 use Rattle.prop_compound.specs.Commands.{KindWord, Command}
-use Rattle.prop_workbench.specs.Answers.{Answer, Silent, Done, Text, Refused}
+use Rattle.prop_engine.specs.Answers.{Answer, Silent, Done, Text, Refused}
 use Rattle.prop_workbench.specs.Machine.{State}
-use Rattle.prop_vocabulary.specs.Names.{number_in}
 use Rattle.prop_workbench.specs.Refusing.{refusal_of, limit_refusal, is_nowhere}
 use Rattle.prop_vocabulary.specs.Refusing.{first_of}
 use Rattle.prop_workbench.specs.Steps.{Obeys, Carries, CarriesUnless, Follows}
+use Rattle.prop_vocabulary.specs.Cells.{cell_named}
 
 pub first_of-one : (r : Option Refusal) → first_of (r ∷ []) ≡ r
 first_of-one None = refl
@@ -36,7 +36,7 @@ refuses_or_lacks library old new command refusal (inr m) same =
     subst (λ (r : Refusal). Obeys library old command (Refused r) new 0) (sym m) (lacks library old new command 0 same)
 
 -- a cell of a new name is refused for the limit alone
-pub cell_rows : (library : List Stored) (s : State) (name : List ℕ) (kind : KindWord) → number_in s.names name ≡ None → is_nowhere s.words kind ≡ false →
+pub cell_rows : (library : List Stored) (s : State) (name : List ℕ) (kind : KindWord) → cell_named s.names name ≡ None → is_nowhere s.words kind ≡ false →
     refusal_of library s (commands.Command.Cell name kind) ≡ limit_refusal s (commands.Command.Cell name kind)
 cell_rows library s name kind none there = rw (none, there) (first_of-one (limit_refusal s (commands.Command.Cell name kind)))
 
@@ -47,6 +47,7 @@ same_if_memory (Some refusal) library old new command answer steps e r = r.same
 same_if_memory None library old new (commands.Command.Domain name elements) answer steps e r = let f : Refused Memory ≡ Done = sym e ∙ r.answer_is in cc
 same_if_memory None library old new (commands.Command.Relation name from to pairs) answer steps e r = let f : Refused Memory ≡ Done = sym e ∙ r.answer_is in cc
 same_if_memory None library old new (commands.Command.Cell name kind) answer steps e r = let f : Refused Memory ≡ Done = sym e ∙ r.answer_is in cc
+same_if_memory None library old new (commands.Command.Define name params body) answer steps e r = let f : Refused Memory ≡ Done = sym e ∙ r.answer_is in cc
 same_if_memory None library old new (commands.Command.Attach name cells by) answer steps e r = let f : Refused Memory ≡ Done = sym e ∙ r.answer_is in cc
 same_if_memory None library old new (commands.Command.Fix cell value) answer steps e r = let f : Refused Memory ≡ Done = sym e ∙ r.answer_is in cc
 same_if_memory None library old new (commands.Command.Tell premise cell value) answer steps e r = let f : Refused Memory ≡ Done = sym e ∙ r.answer_is in cc

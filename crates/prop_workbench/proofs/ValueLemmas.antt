@@ -1,5 +1,5 @@
 -- What a value says at a cell, and why it is refused.
-use Rattle.std.proofs.Common.{◌≡◌, ◌∙◌, ℕ, ℤ, pos, neg_ℤ, ◌≤ℤ◌, ◌<◌, ◌≤◌, ◌^◌, ◌/◌, zero, suc, bytes_eq, nat_le, length, Bool, true, false, cond, ◌&&◌, ◌||◌, List, [], ◌∷◌, Option, Some, None, Result, Ok, Err, is_none, unwrap_or, IsTrue, ◌++◌, ◌⊎◌, inl, inr, refl, sym, ap, subst, arith, slice_index_or, eq-eqb}
+use Rattle.std.proofs.Common.{◌≡◌, ◌∙◌, ℕ, ℤ, pos, neg_ℤ, ◌≤ℤ◌, ◌<◌, ◌≤◌, ◌^◌, ◌/◌, zero, suc, bytes_eq, nat_le, length, Bool, true, false, cond, ◌&&◌, ◌||◌, List, [], ◌∷◌, Option, Some, None, Result, Ok, Err, is_none, unwrap_or, ◌⊎◌, inl, inr, refl, sym, ap, subst, arith, slice_index_or, eq-eqb}
 use Rattle.std.specs.Prelude.{int_le, int_lt}
 use Rattle.std.specs.Result.{result_unwrap_or}
 use Rattle.std.specs.Option.{option_map, option_map_or, option_and_then}
@@ -7,7 +7,7 @@ use Rattle.std.specs.List.{list_all}
 use Rattle.std.proofs.lemmas.Int.{ints}
 use Rattle.std.proofs.lemmas.Bool.{lt-leb}
 use Rattle.prop_lattice.specs.declared.info.Info.{Info}
-use Rattle.prop_lattice.specs.declared.info.Info.TheVariants.{Nothing, Set}
+use Rattle.prop_lattice.specs.declared.info.Info.TheVariants.{Nothing}
 use Rattle.prop_lattice.specs.declared.info.Kind.{Kind}
 use Rattle.prop_lattice.specs.declared.info.Kind.TheVariants as kinds
 use Rattle.prop_lattice.specs.declared.refusal.Refusal.{Refusal}
@@ -15,7 +15,7 @@ use Rattle.prop_lattice.specs.declared.refusal.Refusal.TheVariants.{NotAName, No
 use Rattle.prop_lattice.specs.declared.refusal.Limit.TheVariants.{Statements}
 use Rattle.prop_lattice.specs.Ends.{AreEnds, AreSome, ends_or_not, some_or_not, span_if, span_from, elements_if, elements_from}
 use Rattle.prop_lattice.specs.Refusals.{most}
-use Rattle.prop_premises.specs.Origins.{Origin, premise_number}
+use Rattle.prop_premises.specs.Origins.{premise_number}
 use Rattle.prop_procedures.specs.Stored.{Stored}
 use Rattle.prop_procedures.specs.declared.shape.Kinded.{Kinded}
 use Rattle.std.proofs.Math.Pow.{pow_mono}
@@ -24,23 +24,23 @@ use Rattle.std.specs.Int.{bit_at}
 use Rattle.std.proofs.lemmas.Nat.Bits.{bit_at-zero}
 use Rattle.std.proofs.lemmas.Slice.Eq.{bytes_eq-Decides}
 use Rattle.prop_sets.specs.ChosenLaws.{bits_where-lt, bits_where-has}
-use Rattle.prop_cells.specs.Instances.{kind_at}
+use Rattle.prop_procedures.specs.Fitting.{kind_at}
 use Rattle.prop_cells.specs.Refusing.{may_be_stated, state_refusal}
 use Rattle.prop_cells.specs.Data.{Data}
 use Rattle.prop_cells.specs.declared.instance.Statement.{Statement}
-use Rattle.prop_compound.specs.Commands as commands
 use Rattle.prop_compound.specs.Commands.{Value, Bare, Braces}
-use Rattle.prop_compound.specs.Names.{number_in as number_within, whole_number, is_name, is_among}
+use Rattle.prop_compound.specs.Names.{whole_number, is_name, is_among}
 use Rattle.prop_compound.specs.Values.{Meant, Known, Name, known, value_said, span_value, set_value, bits_named, ends_value, bounded_number, halves}
 use Rattle.prop_vocabulary.specs.Names.{number_in}
 use Rattle.prop_vocabulary.specs.Texts.{elements_of_kind}
 use Rattle.prop_workbench.specs.Machine.{State}
 use Rattle.prop_workbench.specs.Refusing.{refusal_of, telling_limit, stating_limit, stating_limit_at, meaning_at, is_error}
 use Rattle.prop_vocabulary.specs.Refusing.{first_of, when}
-use Rattle.prop_workbench.specs.Answers.{Done}
+use Rattle.prop_engine.specs.Answers.{Done}
 use Rattle.prop_workbench.specs.Steps.{Obeys, Carries}
 use Rattle.prop_workbench.specs.Effects.{stated, stating, meant_at, words_at, info_at, with_meant, info_meant, MayMean}
 use Rattle.prop_workbench.proofs.StepLemmas.{first_of-one, obeys}
+use Rattle.prop_vocabulary.specs.Cells.{cell_named}
 
 -- ---- the refusals of values
 
@@ -220,7 +220,7 @@ value_rows said cell limit =
     first_of (when NotAName (option_map_or (is_error NotAName) said false) ∷ when NotANumber (option_map_or (is_error NotANumber) said false) ∷ None ∷ None ∷ None ∷ when NoSuchCell (is_none cell || false) ∷ None ∷ None ∷ None
     ∷ when WrongKind (option_map_or (is_error WrongKind) said false || false) ∷ None ∷ when NotInTheDomain (option_map_or (is_error NotInTheDomain) said false) ∷ when EmptyValue (option_map_or (is_error EmptyValue) said false) ∷ limit ∷ [])
 
-by_rows : (library : List Stored) (s : State) (premise : Option (List ℕ)) (name : List ℕ) (value : Value) (cell : ℕ) → number_in s.names name ≡ Some cell →
+by_rows : (library : List Stored) (s : State) (premise : Option (List ℕ)) (name : List ℕ) (value : Value) (cell : ℕ) → cell_named s.names name ≡ Some cell →
     refusal_of library s (stating premise name value) ≡ value_rows (Some (meaning_at s.words (kind_at s.kinds cell).kind value)) (Some cell) (stating_limit_at s premise (Some (meaning_at s.words (kind_at s.kinds cell).kind value)))
 by_rows library s None name value cell found = rw found refl
 by_rows library s (Some premise) name value cell found = rw found refl
@@ -233,46 +233,46 @@ error_rows e cell limit outside = refl
 error_rows e cell limit empty = refl
 
 -- a value that is refused is refused first
-pub value_refused : (library : List Stored) (s : State) (premise : Option (List ℕ)) (name : List ℕ) (value : Value) (cell : ℕ) (e : Refusal) → number_in s.names name ≡ Some cell → meaning_at s.words (kind_at s.kinds cell).kind value ≡ Err e →
+pub value_refused : (library : List Stored) (s : State) (premise : Option (List ℕ)) (name : List ℕ) (value : Value) (cell : ℕ) (e : Refusal) → cell_named s.names name ≡ Some cell → meaning_at s.words (kind_at s.kinds cell).kind value ≡ Err e →
     refusal_of library s (stating premise name value) ≡ Some e
 value_refused library s premise name value cell e found said =
     by_rows library s premise name value cell found ∙ ap (λ (r : Result Meant Refusal). value_rows (Some r) (Some cell) (stating_limit_at s premise (Some r))) said
     ∙ error_rows e cell None (value_refusal (kind_at s.kinds cell).kind (elements_of_kind s.words (kind_at s.kinds cell).kind) value e said)
 
 -- and one that is not, for the limits alone
-pub value_limited : (library : List Stored) (s : State) (premise : Option (List ℕ)) (name : List ℕ) (value : Value) (cell : ℕ) (meant : Meant) → number_in s.names name ≡ Some cell → meaning_at s.words (kind_at s.kinds cell).kind value ≡ Ok meant →
+pub value_limited : (library : List Stored) (s : State) (premise : Option (List ℕ)) (name : List ℕ) (value : Value) (cell : ℕ) (meant : Meant) → cell_named s.names name ≡ Some cell → meaning_at s.words (kind_at s.kinds cell).kind value ≡ Ok meant →
     refusal_of library s (stating premise name value) ≡ stating_limit s premise meant
 value_limited library s premise name value cell meant found said =
     by_rows library s premise name value cell found ∙ ap (λ (r : Result Meant Refusal). value_rows (Some r) (Some cell) (stating_limit_at s premise (Some r))) said
     ∙ first_of-one (stating_limit s premise meant)
 
 -- what the value means is stated
-made_statement : (s : State) (premise : Option (List ℕ)) (name : List ℕ) (value : Value) (cell : ℕ) (meant : Meant) → number_in s.names name ≡ Some cell → meaning_at s.words (kind_at s.kinds cell).kind value ≡ Ok meant →
-    stated s premise cell (with_meant s.words meant) (info_meant s.words meant) ≡ stated s premise (unwrap_or (number_in s.names name) 0) (words_at s name value) (info_at s name value)
+made_statement : (s : State) (premise : Option (List ℕ)) (name : List ℕ) (value : Value) (cell : ℕ) (meant : Meant) → cell_named s.names name ≡ Some cell → meaning_at s.words (kind_at s.kinds cell).kind value ≡ Ok meant →
+    stated s premise cell (with_meant s.words meant) (info_meant s.words meant) ≡ stated s premise (unwrap_or (cell_named s.names name) 0) (words_at s name value) (info_at s name value)
 made_statement s premise name value cell meant found said =
-    let at : unwrap_or (number_in s.names name) 0 ≡ cell = ap (λ (o : Option ℕ). unwrap_or o 0) found in
+    let at : unwrap_or (cell_named s.names name) 0 ≡ cell = ap (λ (o : Option ℕ). unwrap_or o 0) found in
     let means : meant_at s name value ≡ meant =
     ap (λ (o : Option ℕ). option_map_or (λ r. result_unwrap_or r (Known Nothing)) (option_map (λ n. meaning_at s.words (kind_at s.kinds n).kind value) o) (Known Nothing)) found ∙ ap (λ (r : Result Meant Refusal). result_unwrap_or r (Known Nothing)) said in
     λ i. stated s premise (sym at i) (with_meant s.words (sym means i)) (info_meant s.words (sym means i))
 
-changes : (library : List Stored) (s new : State) (premise : Option (List ℕ)) (name : List ℕ) (value : Value) → new ≡ stated s premise (unwrap_or (number_in s.names name) 0) (words_at s name value) (info_at s name value) →
+changes : (library : List Stored) (s new : State) (premise : Option (List ℕ)) (name : List ℕ) (value : Value) → new ≡ stated s premise (unwrap_or (cell_named s.names name) 0) (words_at s name value) (info_at s name value) →
     Carries library s (stating premise name value) Done new 0
 changes library s new None name value e = record { answer_is = refl; new_is = e; no_steps = refl }
 changes library s new (Some premise) name value e = record { answer_is = refl; new_is = e; no_steps = refl }
 
 -- what a session states is what the machine does
-pub value_done : (library : List Stored) (s new : State) (premise : Option (List ℕ)) (name : List ℕ) (value : Value) (cell : ℕ) (meant : Meant) → number_in s.names name ≡ Some cell → meaning_at s.words (kind_at s.kinds cell).kind value ≡ Ok meant →
+pub value_done : (library : List Stored) (s new : State) (premise : Option (List ℕ)) (name : List ℕ) (value : Value) (cell : ℕ) (meant : Meant) → cell_named s.names name ≡ Some cell → meaning_at s.words (kind_at s.kinds cell).kind value ≡ Ok meant →
     stating_limit s premise meant ≡ None → new ≡ stated s premise cell (with_meant s.words meant) (info_meant s.words meant) → Obeys library s (stating premise name value) Done new 0
 value_done library s new premise name value cell meant found said fits e =
     obeys library s new (stating premise name value) Done 0 (value_limited library s premise name value cell meant found said ∙ fits)
     (changes library s new premise name value (e ∙ made_statement s premise name value cell meant found said))
 
-pub value_stopped : (library : List Stored) (s : State) (premise : Option (List ℕ)) (name : List ℕ) (value : Value) (cell : ℕ) (meant : Meant) (e : Refusal) → number_in s.names name ≡ Some cell → meaning_at s.words (kind_at s.kinds cell).kind value ≡ Ok meant →
+pub value_stopped : (library : List Stored) (s : State) (premise : Option (List ℕ)) (name : List ℕ) (value : Value) (cell : ℕ) (meant : Meant) (e : Refusal) → cell_named s.names name ≡ Some cell → meaning_at s.words (kind_at s.kinds cell).kind value ≡ Ok meant →
     (stating_limit s premise meant ≡ Some e) ⊎ (e ≡ Memory) → (refusal_of library s (stating premise name value) ≡ Some e) ⊎ (e ≡ Memory)
 value_stopped library s premise name value cell meant e found said (inl h) = inl (value_limited library s premise name value cell meant found said ∙ h)
 value_stopped library s premise name value cell meant e found said (inr m) = inr m
 
-pub no_cell : (library : List Stored) (s : State) (premise : Option (List ℕ)) (name : List ℕ) (value : Value) → number_in s.names name ≡ None → refusal_of library s (stating premise name value) ≡ Some NoSuchCell
+pub no_cell : (library : List Stored) (s : State) (premise : Option (List ℕ)) (name : List ℕ) (value : Value) → cell_named s.names name ≡ None → refusal_of library s (stating premise name value) ≡ Some NoSuchCell
 no_cell library s None name value none = rw none refl
 no_cell library s (Some premise) name value none = rw none refl
 

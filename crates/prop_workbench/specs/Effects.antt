@@ -1,25 +1,27 @@
 -- What a command that isn't refused does to the state.
-use Rattle.std.specs.Prelude.{◌≡◌, ℕ, IsTrue, List, [], ◌∷◌, ◌++◌, Option, Some, None, true, false, length, Result, Ok, Err, slice_get, unwrap_or}
+use Rattle.std.specs.Prelude.{◌≡◌, ℕ, IsTrue, List, [], ◌∷◌, ◌++◌, Option, Some, None, true, false, cond, ◌+◌, ◌-◌, nat_lt, drop, map, length, slice_get, slice_index_or, unwrap_or}
 use Rattle.std.specs.Result.{result_unwrap_or}
 use Rattle.std.specs.Borrow.{Bor}
 use Rattle.std.specs.Option.{option_map, option_map_or, option_and_then}
 use Rattle.prop_lattice.specs.declared.info.Info.{Info}
 use Rattle.prop_lattice.specs.declared.info.Info.TheVariants.{Nothing, Sym}
 use Rattle.prop_lattice.specs.declared.info.Kind.TheVariants as kinds
-use Rattle.prop_lattice.specs.declared.refusal.Refusal.{Refusal}
 use Rattle.prop_premises.specs.Origins.{Origin, premise_number, with_name, with_belief_at}
 use Rattle.prop_procedures.specs.declared.shape.Kinded.{Kinded}
-use Rattle.prop_procedures.specs.Stored.{Stored, procedure_number, span_kind}
-use Rattle.prop_compound.specs.Commands.{By, KindWord, Spans, Truths, Symbols, Named, Value, Command}
+use Rattle.prop_procedures.specs.Stored.{Stored}
+use Rattle.prop_compound.specs.Commands.{Value, Command}
+use Rattle.prop_compound.specs.Defining.{kind_named, with_definition}
+use Rattle.prop_compound.specs.Expansion.{Placed, Expansion}
 use Rattle.prop_compound.specs.Values.{Meant, Known, Name}
 use Rattle.prop_procedures.specs.declared.shape.Param.{Param}
 use Rattle.prop_procedures.specs.declared.shape.Param.TheVariants.{Plain}
-use Rattle.prop_cells.specs.Instances.{Instance, fitting_param}
+use Rattle.prop_procedures.specs.Fitting.{fitting_param}
+use Rattle.prop_cells.specs.Instances.{Instance}
 use Rattle.prop_cells.specs.Refusing.{may_be_stated}
-use Rattle.prop_vocabulary.specs.Names.{number_in, numbers_in}
-use Rattle.prop_vocabulary.specs.Vocabulary.{Vocabulary, domain_number, elements_of, symbol_number, with_symbol, with_domain, with_relation}
+use Rattle.prop_vocabulary.specs.Vocabulary.{Vocabulary, symbol_number, with_symbol, with_domain, with_relation}
 use Rattle.prop_workbench.specs.Machine.{State}
-use Rattle.prop_workbench.specs.Refusing.{value_at, given_by}
+use Rattle.prop_workbench.specs.Refusing.{value_at, used}
+use Rattle.prop_vocabulary.specs.Cells.{cell_named, cells_named, with_cell_name}
 
 -- the cells that an instance reads: all but the last
 abbrev pub inputs_of : List ℕ → List ℕ
@@ -42,15 +44,20 @@ instance_made library n given cells = record {
   output = output_of cells;
 }
 
--- the kind of the domain of a number, with how many elements it has
-abbrev pub domain_kind : Vocabulary → ℕ → Kinded
-domain_kind words domain = record { kind = kinds.Set domain; size = length (elements_of words domain) }
+-- the number of the cell at a place: these cells have the first places, and the fresh ones, numbered from next on, those behind
+abbrev pub cell_placed : List ℕ → ℕ → ℕ → ℕ
+cell_placed cells next place = cond (nat_lt place (length cells)) (slice_index_or cells place 0) (next + (place - length cells))
 
-abbrev pub kind_named : Vocabulary → KindWord → Kinded
-kind_named words Spans = span_kind
-kind_named words Truths = domain_kind words 0
-kind_named words Symbols = record { kind = kinds.Symbol; size = 0 }
-kind_named words (Named domain) = domain_kind words (unwrap_or (domain_number words domain) 0)
+-- the instance that stands at places
+abbrev pub instance_placed : List Stored → List ℕ → ℕ → Placed (Option Param) → Instance
+instance_placed library cells next x = instance_made library x.procedure x.given (map (cell_placed cells next) x.cells)
+
+-- the fresh cells and the instances that a use on these cells stands for
+abbrev pub with_use : List Stored → State → List ℕ → Expansion (Option Param) → State
+with_use library s cells e = record s {
+  kinds = s.kinds ++ drop (length cells) e.kinds;
+  instances = s.instances ++ map (instance_placed library cells (length s.kinds)) e.placed;
+}
 
 -- a symbol is told by its number: the next one where its name is new
 abbrev pub info_meant : Vocabulary → Meant → Info
@@ -114,11 +121,13 @@ stating (Some premise) cell value = Command.Tell premise cell value
 abbrev pub effect : List Stored → State → Command → State
 effect library s (Command.Domain name elements) = record s { words = with_domain s.words name elements }
 effect library s (Command.Relation name from to pairs) = record s { words = with_relation s.words name from to pairs }
-effect library s (Command.Cell name kind) = record s { names = s.names ++ name ∷ []; kinds = s.kinds ++ kind_named s.words kind ∷ [] }
+effect library s (Command.Cell name kind) = record s { names = with_cell_name s.names name (length s.kinds); kinds = s.kinds ++ kind_named s.words kind ∷ [] }
+effect library s (Command.Define name params steps) =
+    record s { definitions = with_definition library s.words s.definitions name params steps }
 effect library s (Command.Attach name cells by) =
-    record s { instances = s.instances ++ instance_made library (unwrap_or (procedure_number library name) 0) (given_by s.words by) (numbers_in s.names cells) ∷ [] }
-effect library s (Command.Fix cell value) = stated s None (unwrap_or (number_in s.names cell) 0) (words_at s cell value) (info_at s cell value)
-effect library s (Command.Tell premise cell value) = stated s (Some premise) (unwrap_or (number_in s.names cell) 0) (words_at s cell value) (info_at s cell value)
+    with_use library s (cells_named s.names cells) (used library s name (cells_named s.names cells) by)
+effect library s (Command.Fix cell value) = stated s None (unwrap_or (cell_named s.names cell) 0) (words_at s cell value) (info_at s cell value)
+effect library s (Command.Tell premise cell value) = stated s (Some premise) (unwrap_or (cell_named s.names cell) 0) (words_at s cell value) (info_at s cell value)
 effect library s (Command.Kick premise) = record s { premises = with_belief_at s.premises (number_given s.premises premise) false }
 effect library s (Command.Bring premise) = record s { premises = with_belief_at s.premises (number_given s.premises premise) true }
 effect library s command = s

@@ -6,10 +6,10 @@ use Rattle.prop_procedures.specs.declared.shape.Param.{Param}
 use Rattle.prop_cells.specs.Points.{Attached, ArePoints}
 use Rattle.prop_compound.specs.Commands.{Command}
 use Rattle.prop_compound.specs.Reading.{reading}
-use Rattle.prop_workbench.specs.Answers.{Answer, Text}
-use Rattle.prop_vocabulary.specs.Names.{number_in}
+use Rattle.prop_engine.specs.Answers.{Answer, Text}
 use Rattle.prop_workbench.specs.Machine.{State, text_at, worldview_of}
-use Rattle.prop_workbench.specs.Texts.{equation, because, worldview_text}
+use Rattle.prop_texts.specs.Texts.{equation, because, worldview_text}
+use Rattle.prop_vocabulary.specs.Cells.{cell_named}
 
 -- the cells of a state, what is stated of them and what is attached to them
 abbrev pub attached_in : State → Attached
@@ -22,7 +22,7 @@ Satisfy related s points = ArePoints related (attached_in s) (worldview_of s) po
 -- the text says a value of the cell with the name that holds the cell's point, and then the mark
 pub record SaysPoint (s : State) (points : ℕ → Point) (name mark text : List ℕ) : Type 0 where
   pub cell : ℕ
-  pub cell_is : number_in s.names name ≡ Some cell
+  pub cell_is : cell_named s.names name ≡ Some cell
   pub v : Info
   pub holds : Holds v (points cell)
   pub text_is : text ≡ equation name (text_at s cell v) mark

@@ -3,10 +3,10 @@ use Rattle.std.specs.Prelude.{◌≡◌, ℕ, List, [], codes, Option, Some, Res
 use Rattle.prop_lattice.specs.declared.refusal.Refusal.{Refusal}
 use Rattle.prop_cells.specs.Data.{Data, beliefs, IsLeanAt, IsClash}
 use Rattle.prop_compound.specs.Commands.{Command}
-use Rattle.prop_workbench.specs.Answers.{Answer, Text}
-use Rattle.prop_vocabulary.specs.Names.{number_in}
+use Rattle.prop_engine.specs.Answers.{Answer, Text}
 use Rattle.prop_workbench.specs.Machine.{State, text_at, worldview_of}
-use Rattle.prop_workbench.specs.Texts.{equation, because, contradiction_text}
+use Rattle.prop_texts.specs.Texts.{equation, because, contradiction_text}
+use Rattle.prop_vocabulary.specs.Cells.{cell_named}
 
 -- the text says what is believed of the cell, the mark, and the premises of believed entries of the cell that say it together,
 -- none of which can be left out
@@ -24,7 +24,7 @@ pub record IsLeanContradiction (d : Data) (s : State) (text : List ℕ) : Type 0
 -- what is explained of the cell with the name, settled or not, or the contradiction that is said in its place
 abbrev pub IsLeanReply : Data → State → List ℕ → List ℕ → Type 0
 IsLeanReply d s name text =
-    ((cell : ℕ) × (number_in s.names name ≡ Some cell) × (IsLeanExplanation d s cell name [] text ⊎ IsLeanExplanation d s cell name (codes " unsettled") text)) ⊎ IsLeanContradiction d s text
+    ((cell : ℕ) × (cell_named s.names name ≡ Some cell) × (IsLeanExplanation d s cell name [] text ⊎ IsLeanExplanation d s cell name (codes " unsettled") text)) ⊎ IsLeanContradiction d s text
 
 -- what a line that was read so is answered: nothing is named that is not needed where it asks why
 abbrev pub IsLeanAnswer : Data → State → Result (Option Command) Refusal → Answer → Type 0

@@ -1,5 +1,5 @@
 -- For what a command is refused in a state: each condition by itself, and which of them comes first.
-use Rattle.std.specs.Prelude.{ℕ, List, [], ◌∷◌, Bool, true, false, cond, not, ◌+◌, ◌==◌, ◌||◌, ◌&&◌, nat_le, Option, Some, None, Result, Ok, Err, length, is_some, is_none, slice_get}
+use Rattle.std.specs.Prelude.{ℕ, List, [], ◌∷◌, Bool, false, not, ◌+◌, ◌==◌, ◌||◌, ◌&&◌, nat_le, Option, Some, None, Result, Ok, Err, length, is_some, is_none, map, nat_lt, ◌-◌}
 use Rattle.std.specs.List.{list_any}
 use Rattle.std.specs.Option.{option_map, option_map_or, option_and_then}
 use Rattle.prop_lattice.specs.declared.info.Kind.{Kind}
@@ -10,15 +10,19 @@ use Rattle.prop_lattice.specs.Refusals.{number_of, most}
 use Rattle.prop_premises.specs.Origins.{premise_number}
 use Rattle.prop_procedures.specs.declared.shape.Param.{Param}
 use Rattle.prop_procedures.specs.declared.shape.Param.TheVariants as params
-use Rattle.prop_procedures.specs.Stored.{Stored, procedure_number, sides_of}
+use Rattle.prop_procedures.specs.Stored.{Stored}
 use Rattle.prop_compound.specs.Commands.{By, KindWord, Named, Value, Command}
 use Rattle.prop_compound.specs.Values.{Meant, Known, Name, value_said}
-use Rattle.prop_cells.specs.Instances.{kind_at, kinds_fit, fitting_param}
-use Rattle.prop_vocabulary.specs.Names.{number_in, numbers_in}
+use Rattle.prop_procedures.specs.Fitting.{kind_at}
 use Rattle.prop_vocabulary.specs.Vocabulary.{Vocabulary, domain_number, relation_named}
 use Rattle.prop_vocabulary.specs.Texts.{elements_of_kind}
 use Rattle.prop_vocabulary.specs.Refusing.{when, first_of, domain_refusal, relation_refusal, symbol_refusal}
 use Rattle.prop_workbench.specs.Machine.{State}
+use Rattle.prop_vocabulary.specs.Cells.{cell_named, cells_named, is_cell_missing}
+use Rattle.prop_compound.specs.Definitions.{Definitions}
+use Rattle.prop_compound.specs.Expansion.{Expansion, expanded}
+use Rattle.prop_compound.specs.Expanding.{expand_refusal}
+use Rattle.prop_compound.specs.Defining.{define_refusal}
 
 -- what the value means at a cell of the kind
 abbrev pub meaning_at : Vocabulary → Kind → Value → Result Meant Refusal
@@ -26,7 +30,7 @@ meaning_at words kind value = value_said kind (elements_of_kind words kind) valu
 
 -- what the value means at the cell with the name, where there is such a cell
 abbrev pub value_at : State → List ℕ → Value → Option (Result Meant Refusal)
-value_at s name value = option_map (λ n. meaning_at s.words (kind_at s.kinds n).kind value) (number_in s.names name)
+value_at s name value = option_map (λ n. meaning_at s.words (kind_at s.kinds n).kind value) (cell_named s.names name)
 
 abbrev pub is_error : Refusal → Result Meant Refusal → Bool
 is_error refusal (Ok meant) = false
@@ -40,7 +44,7 @@ is_value_refused s command refusal = false
 
 -- the declared name exists in its space
 abbrev pub is_taken : State → Command → Bool
-is_taken s (Command.Cell name kind) = is_some (number_in s.names name)
+is_taken s (Command.Cell name kind) = is_some (cell_named s.names name)
 is_taken s command = false
 
 -- a domain is named, of which there is none
@@ -58,14 +62,8 @@ is_unknown words By.Nothing = false
 is_unknown words (By.Number k) = false
 is_unknown words (By.Relation name) = is_none (relation_named words name)
 
--- a relation is named, of which there is none
-abbrev pub is_relation_missing : State → Command → Bool
-is_relation_missing s (Command.Attach name cells by) = is_unknown s.words by
-is_relation_missing s command = false
-
 -- the names that stand for cells
 abbrev pub cells_in : Command → List (List ℕ)
-cells_in (Command.Attach name cells by) = cells
 cells_in (Command.Fix cell value) = cell ∷ []
 cells_in (Command.Tell premise cell value) = cell ∷ []
 cells_in (Command.Ask cell) = cell ∷ []
@@ -78,37 +76,11 @@ is_premise_missing s (Command.Kick premise) = is_none (premise_number s.premises
 is_premise_missing s (Command.Bring premise) = is_none (premise_number s.premises premise)
 is_premise_missing s command = false
 
--- the name of the procedure that is attached
-abbrev pub procedures_in : Command → List (List ℕ)
-procedures_in (Command.Attach name cells by) = name ∷ []
-procedures_in command = []
-
--- the procedure with the name, as the library has it
-abbrev pub procedure_named : List Stored → List ℕ → Option Stored
-procedure_named library name = option_and_then (λ n. slice_get library n) (procedure_number library name)
-
 -- what a command gives with its procedure
 abbrev pub given_by : Vocabulary → By → Option Param
 given_by words By.Nothing = None
 given_by words (By.Number k) = option_map params.Scale k
 given_by words (By.Relation name) = option_map params.Rows (relation_named words name)
-
--- the procedure has another count of places
-abbrev pub is_count_wrong : List Stored → Command → Bool
-is_count_wrong library (Command.Attach name cells by) = option_map_or (λ p. not (length cells == length p.ins + 1)) (procedure_named library name) false
-is_count_wrong library command = false
-
--- some cell's kind doesn't fit its place
-abbrev pub is_kind_wrong : List Stored → State → Command → Bool
-is_kind_wrong library s (Command.Attach name cells by) =
-    option_map_or (λ p. not (kinds_fit p s.kinds (option_and_then sides_of (given_by s.words by)) (numbers_in s.names cells))) (procedure_named library name) false
-is_kind_wrong library s command = false
-
--- a parameter is given where none is taken, or is of the other sort
-abbrev pub is_param_wrong : List Stored → State → Command → Bool
-is_param_wrong library s (Command.Attach name cells by) =
-    option_map_or (λ p. is_none (fitting_param p.need (given_by s.words by))) (procedure_named library name) false
-is_param_wrong library s command = false
 
 -- there are as many premises as there can be and the name is of a new one, or as many statements
 abbrev pub telling_limit : State → List ℕ → Option Refusal
@@ -141,19 +113,38 @@ stating_limit_at s premise meant = None
 -- there are as many already as there can be of what the command makes one more of
 abbrev pub limit_refusal : State → Command → Option Refusal
 limit_refusal s (Command.Cell name kind) = when (LimitReached Cells) (nat_le (most Cells) (length s.kinds))
-limit_refusal s (Command.Attach name cells by) = when (LimitReached Instances) (nat_le (most Instances) (length s.instances))
 limit_refusal s (Command.Fix cell value) = stating_limit_at s None (value_at s cell value)
 limit_refusal s (Command.Tell premise cell value) = stating_limit_at s (Some premise) (value_at s cell value)
 limit_refusal s command = None
 
--- why an instance of the procedure on these cells, with what is given, is refused
-abbrev pub placing_refusal : Stored → State → By → List ℕ → Option Refusal
-placing_refusal p s by cells =
+-- ---- attaching
+
+-- what the use of the name on these cells stands for, the cells being counted from 0 and followed by the fresh ones
+abbrev pub used : List Stored → State → List ℕ → List ℕ → By → Expansion (Option Param)
+used library s name cells by = expanded library s.words s.definitions name (map (kind_at s.kinds) cells) (given_by s.words by)
+
+-- so many cells, or instances, are more than there can be
+abbrev pub room_refusal : ℕ → ℕ → Option Refusal
+room_refusal cells instances =
+    first_of (when (LimitReached Cells) (nat_lt (most Cells) cells) ∷ when (LimitReached Instances) (nat_lt (most Instances) instances) ∷ [])
+
+-- why a use of the name on the cells of these numbers is refused
+abbrev pub use_refusal : List Stored → State → List ℕ → List ℕ → By → Option Refusal
+use_refusal library s name cells by =
+    let e = used library s name cells by in
     first_of (
-    when WrongCount (not (length cells == length p.ins + 1))
-    ∷ when WrongKind (not (kinds_fit p s.kinds (option_and_then sides_of (given_by s.words by)) cells))
-    ∷ when WrongParameter (is_none (fitting_param p.need (given_by s.words by)))
-    ∷ when (LimitReached Instances) (nat_le (most Instances) (length s.instances))
+    expand_refusal library s.words s.definitions name (map (kind_at s.kinds) cells) (given_by s.words by)
+    ∷ room_refusal (length s.kinds + (length e.kinds - length cells)) (length s.instances + length e.placed)
+    ∷ []
+    )
+
+-- why an attachment is refused
+abbrev pub attach_refusal : List Stored → State → List ℕ → List (List ℕ) → By → Option Refusal
+attach_refusal library s name cells by =
+    first_of (
+    when NoSuchRelation (is_unknown s.words by)
+    ∷ when NoSuchCell (is_cell_missing s.names cells)
+    ∷ use_refusal library s name (cells_named s.names cells) by
     ∷ []
     )
 
@@ -161,19 +152,17 @@ placing_refusal p s by cells =
 abbrev pub refusal_of : List Stored → State → Command → Option Refusal
 refusal_of library s (Command.Domain name elements) = domain_refusal s.words name elements
 refusal_of library s (Command.Relation name from to pairs) = relation_refusal s.words name from to pairs
+refusal_of library s (Command.Define name params steps) = define_refusal library s.words s.definitions name params steps
+refusal_of library s (Command.Attach name cells by) = attach_refusal library s name cells by
 refusal_of library s command =
     first_of (
     when NotAName (is_value_refused s command NotAName)
     ∷ when NotANumber (is_value_refused s command NotANumber)
     ∷ when NameTaken (is_taken s command)
     ∷ when NoSuchDomain (is_domain_missing s command)
-    ∷ when NoSuchRelation (is_relation_missing s command)
-    ∷ when NoSuchCell (list_any (λ name. is_none (number_in s.names name)) (cells_in command))
+    ∷ when NoSuchCell (list_any (λ name. is_none (cell_named s.names name)) (cells_in command))
     ∷ when NoSuchPremise (is_premise_missing s command)
-    ∷ when NoSuchProcedure (list_any (λ name. is_none (procedure_number library name)) (procedures_in command))
-    ∷ when WrongCount (is_count_wrong library command)
-    ∷ when WrongKind (is_value_refused s command WrongKind || is_kind_wrong library s command)
-    ∷ when WrongParameter (is_param_wrong library s command)
+    ∷ when WrongKind (is_value_refused s command WrongKind)
     ∷ when NotInTheDomain (is_value_refused s command NotInTheDomain)
     ∷ when EmptyValue (is_value_refused s command EmptyValue)
     ∷ limit_refusal s command

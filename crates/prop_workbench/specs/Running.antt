@@ -1,5 +1,5 @@
 -- How a command that runs the network may end, and what it may answer then.
-use Rattle.std.specs.Prelude.{◌≡◌, ◌≢◌, ℕ, IsTrue, List, [], ◌++◌, codes, Option, Some, All, ⊤, ◌⊎◌}
+use Rattle.std.specs.Prelude.{◌≡◌, ◌≢◌, ℕ, IsTrue, List, [], codes, Some, All, ⊤, ◌⊎◌}
 use Rattle.std.specs.List.Sorted.{IsStrictlyIncreasing}
 use Rattle.prop_lattice.specs.declared.info.Info.{Info}
 use Rattle.prop_lattice.specs.declared.info.Info.TheVariants as infos
@@ -9,15 +9,15 @@ use Rattle.prop_premises.specs.Sets.{set_of}
 use Rattle.prop_procedures.specs.Stored.{Stored}
 use Rattle.prop_cells.specs.Problems.{Assignment, IsLeastSolution, Entails, is_member}
 use Rattle.prop_cells.specs.Reach.{Explains, IsConflict}
-use Rattle.prop_cells.specs.Instances.{kind_at}
+use Rattle.prop_procedures.specs.Fitting.{kind_at}
 use Rattle.prop_scheduler.specs.declared.outcome.Run.{Run}
 use Rattle.prop_scheduler.specs.declared.outcome.Run.TheVariants.{Quiet, Clash, Spent}
 use Rattle.prop_compound.specs.Commands.{Command}
 use Rattle.prop_lattice.specs.declared.refusal.Refusal.TheVariants.{Memory}
-use Rattle.prop_workbench.specs.Answers.{Answer, Text, Refused}
-use Rattle.prop_vocabulary.specs.Names.{number_in}
+use Rattle.prop_engine.specs.Answers.{Answer, Text, Refused}
 use Rattle.prop_workbench.specs.Machine.{State, problem_in, text_at, worldview_of}
-use Rattle.prop_workbench.specs.Texts.{equation, because, contradiction_text, worldview_text}
+use Rattle.prop_texts.specs.Texts.{equation, because, contradiction_text, worldview_text}
+use Rattle.prop_vocabulary.specs.Cells.{cell_named}
 
 pub data Outcome : Type 0 where
   Settled : Outcome
@@ -61,7 +61,7 @@ IsValue library s (Contradiction ps) cell v = ⊥
 -- the text says a value of the cell with the name, and then the mark
 pub record IsValueReply (library : List Stored) (s : State) (outcome : Outcome) (name mark text : List ℕ) : Type 0 where
   pub cell : ℕ
-  pub cell_is : number_in s.names name ≡ Some cell
+  pub cell_is : cell_named s.names name ≡ Some cell
   pub v : Info
   pub value : IsValue library s outcome cell v
   pub text_is : text ≡ equation name (text_at s cell v) mark
@@ -70,7 +70,7 @@ pub record IsValueReply (library : List Stored) (s : State) (outcome : Outcome) 
 -- which bears on the cell
 pub record IsExplainedReply (library : List Stored) (s : State) (outcome : Outcome) (name mark text : List ℕ) : Type 0 where
   pub cell : ℕ
-  pub cell_is : number_in s.names name ≡ Some cell
+  pub cell_is : cell_named s.names name ≡ Some cell
   pub v : Info
   pub value : IsValue library s outcome cell v
   pub premises : List ℕ

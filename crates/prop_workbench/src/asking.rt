@@ -1,12 +1,12 @@
 //! The commands that run the network and answer what follows.
 ghost use Rattle.std.specs.Prelude.{◌≡◌, ℕ, length};
 
-use crate::reply::Reply;
 use crate::session::Session;
-use crate::texts::{because, contradiction_reply, text_reply, value_reply, worldview_reply};
+use prop_engine::Reply;
 use prop_lattice::{Info, Refusal};
 use prop_procedures::Rule;
 use prop_scheduler::{Order, Run, run};
+use prop_texts::{because, contradiction_reply, text_reply, value_reply, worldview_reply};
 use std::alloc::AllocError;
 
 impl<R: Rule + Drop, O: Order + Drop> Session<R, O> {
@@ -16,9 +16,9 @@ impl<R: Rule + Drop, O: Order + Drop> Session<R, O> {
     ghost use Rattle.prop_scheduler.specs.Ends.{IfClash};
     ghost use Rattle.prop_scheduler.specs.Turns.{IsSettled};
     ghost use Rattle.prop_compound.specs.Commands as commands;
-    ghost use Rattle.prop_workbench.specs.Answers.{answer_of, Says, Text};
+    ghost use Rattle.prop_engine.specs.Answers.{answer_of, Says, Text};
     ghost use Rattle.prop_workbench.specs.Machine.{text_at};
-    ghost use Rattle.prop_workbench.specs.Texts.{equation};
+    ghost use Rattle.prop_texts.specs.Texts.{equation};
     ghost use Rattle.prop_workbench.specs.Reasons.{IsLeanExplanation, IsLeanReply};
     ghost use Rattle.prop_workbench.specs.Running.{Outcome, outcome_of, MayEnd, Explained};
     ghost use Rattle.prop_workbench.specs.Sessions.{state_of, steps_of, library_of, IsSound, IsMeant};
@@ -33,6 +33,7 @@ impl<R: Rule + Drop, O: Order + Drop> Session<R, O> {
         ensures steps { steps_of self.new ≡ steps_of self.old }
         ensures names { self.new.names ≡ self.old.names }
         ensures words { self.new.words ≡ self.old.words }
+        ensures definitions { self.new.definitions ≡ self.old.definitions }
         ensures premises { self.new.premises ≡ self.old.premises }
         ensures worldview { self.new.worldview ≡ self.old.worldview }
         ensures state { state_of self.new ≡ state_of self.old }

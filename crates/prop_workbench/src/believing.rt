@@ -2,8 +2,8 @@
 ghost use Rattle.std.specs.Prelude.{◌≡◌, IsTrue};
 ghost use Rattle.prop_premises.specs.Origins.{is_user_at, with_belief_at};
 
-use crate::reply::Reply;
 use crate::session::Session;
+use prop_engine::Reply;
 use prop_lattice::Refusal;
 use prop_premises::{Premise, Premises};
 use prop_procedures::Rule;
@@ -27,7 +27,7 @@ impl<R: Rule + Drop, O: Order + Drop> Session<R, O> {
     ghost use Rattle.prop_lattice.specs.declared.refusal.Refusal.TheVariants.{Memory, NoSuchPremise};
     ghost use Rattle.prop_premises.specs.Origins.{premise_number, with_belief_at};
     ghost use Rattle.prop_compound.specs.Commands as commands;
-    ghost use Rattle.prop_workbench.specs.Answers.{answer_of};
+    ghost use Rattle.prop_engine.specs.Answers.{answer_of};
     ghost use Rattle.prop_workbench.specs.Sessions.{state_of, steps_of, library_of, IsSound};
     ghost use Rattle.prop_workbench.specs.Steps.{Obeys};
 

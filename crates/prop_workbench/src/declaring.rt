@@ -1,16 +1,16 @@
-//! The commands that make cells and put procedures between them.
+//! The commands that declare domains, relations, cells and definitions.
 ghost use Rattle.std.specs.Prelude.{◌≡◌, ◌<◌, ℕ, length, None, IfSome, true, false};
-ghost use Rattle.prop_compound.specs.Said.{kind_of, by_of};
-ghost use Rattle.prop_workbench.specs.Refusing.{is_unknown, is_nowhere};
-ghost use Rattle.prop_workbench.specs.Effects.{domain_kind, kind_named};
+ghost use Rattle.prop_compound.specs.Said.{kind_of};
+ghost use Rattle.prop_workbench.specs.Refusing.{is_nowhere};
+ghost use Rattle.prop_compound.specs.Defining.{domain_kind, kind_named};
 ghost use Rattle.prop_workbench.specs.Sessions.{IsSized};
 
-use crate::reply::Reply;
 use crate::session::Session;
-use prop_compound::{By, KindWord};
+use prop_compound::{KindWord, Step};
+use prop_engine::Reply;
 use prop_lattice::{Kind, Refusal};
 use prop_procedures::fitting::span_kinded;
-use prop_procedures::{Kinded, Param, Rule};
+use prop_procedures::{Kinded, Rule};
 use prop_scheduler::Order;
 use prop_vocabulary::Vocabulary;
 use std::alloc::AllocError;
@@ -51,30 +51,12 @@ fn kind_named(words: &Vocabulary, word: KindWord) -> Option<Kinded>
     }
 }
 
-/// Whether a relation is named of which there is none.
-fn is_unknown(words: &Vocabulary, by: By) -> bool
-    ensures { result ≡ is_unknown words.now (by_of by.entry) }
-{
-    match by {
-        By::Nothing | By::Number(_) => false,
-        By::Relation(name) => words.relation(name).is_none(),
-    }
-}
-
 impl<R: Rule + Drop, O: Order + Drop> Session<R, O> {
     ghost use Rattle.std.specs.Prelude.{◌≡◌, ◌<◌, ◌++◌, ◌∷◌, [], ◌⊎◌, map, All, None, Some, OnOk, OnErr, IfOk, IfErr, ℕ, length};
     ghost use Rattle.prop_lattice.specs.declared.refusal.Refusal.TheVariants.{Memory};
     ghost use Rattle.prop_compound.specs.Commands as commands;
-    ghost use Rattle.prop_compound.specs.Said.{kind_of, by_of, words, pairs_of};
-    ghost use Rattle.prop_cells.specs.Instances.{param_in, fitting_param, sides_given};
-    ghost use Rattle.std.specs.Option.{option_and_then};
-    ghost use Rattle.prop_procedures.specs.Stored.{sides_of};
-    ghost use Rattle.prop_workbench.specs.Answers.{answer_of};
-    ghost use Rattle.std.specs.Prelude.{slice_get};
-    ghost use Rattle.prop_procedures.specs.Stored.{Stored};
-    ghost use Rattle.prop_procedures.specs.declared.shape.Need.{Need};
-    ghost use Rattle.prop_workbench.specs.Refusing.{given_by, placing_refusal};
-    ghost use Rattle.prop_workbench.specs.Effects.{instance_made};
+    ghost use Rattle.prop_compound.specs.Said.{kind_of, words, pairs_of, step_of};
+    ghost use Rattle.prop_engine.specs.Answers.{answer_of};
     ghost use Rattle.prop_workbench.specs.Sessions.{state_of, steps_of, library_of, IsSound, IsMeant};
     ghost use Rattle.prop_workbench.specs.Steps.{Obeys};
 
@@ -113,6 +95,27 @@ impl<R: Rule + Drop, O: Order + Drop> Session<R, O> {
         }
     }
 
+    /// Makes a definition.
+    pub(crate) fn define(&mut self, name: &str, params: &[&str], steps: &[Step]) -> Reply
+        requires sound { IsSound R.value_of self.old }
+        ensures same { self.new.network.library ≡ self.old.network.library }
+        ensures sound { IsSound R.value_of self.new }
+        ensures steps { steps_of self.new ≡ steps_of self.old }
+        ensures step { Obeys (library_of R.value_of self.old) (state_of self.old) (commands.Command.Define name.now (words params.now) (map step_of steps.now)) (answer_of result) (state_of self.new) 0 }
+    {
+        match self.definitions.define(
+            self.alloc,
+            self.network.library(),
+            &self.words,
+            name,
+            params,
+            steps,
+        ) {
+            Ok(()) => Reply::Done,
+            Err(refusal) => Reply::Refused(refusal),
+        }
+    }
+
     /// Makes a cell.
     pub(crate) fn cell(&mut self, name: &str, kind: KindWord) -> Reply
         requires sound { IsSound R.value_of self.old }
@@ -129,7 +132,7 @@ impl<R: Rule + Drop, O: Order + Drop> Session<R, O> {
             Some(kind) => kind,
             None => return Reply::Refused(Refusal::NoSuchDomain),
         };
-        match self.names.push(self.alloc, name) {
+        match self.names.push(self.alloc, name, self.network.cells()) {
             Ok(()) => {}
             Err(AllocError) => return Reply::Refused(Refusal::Memory),
         }
@@ -140,100 +143,5 @@ impl<R: Rule + Drop, O: Order + Drop> Session<R, O> {
                 Reply::Refused(refusal)
             }
         }
-    }
-
-    /// Puts a procedure between cells, the output last.
-    pub(crate) fn attach(&mut self, name: &str, cells: &[&str], by: By) -> Reply
-        requires sound { IsSound R.value_of self.old }
-        ensures same { self.new.network.library ≡ self.old.network.library }
-        ensures sound { IsSound R.value_of self.new }
-        ensures steps { steps_of self.new ≡ steps_of self.old }
-        ensures step { Obeys (library_of R.value_of self.old) (state_of self.old) (commands.Command.Attach name.now (words cells.now) (by_of by.entry)) (answer_of result) (state_of self.new) 0 }
-    {
-        if is_unknown(&self.words, by) {
-            return Reply::Refused(Refusal::NoSuchRelation);
-        }
-        if self.names.is_missing(cells) {
-            return Reply::Refused(Refusal::NoSuchCell);
-        }
-        let procedure = match self.network.library().find(name) {
-            Some(procedure) => procedure,
-            None => return Reply::Refused(Refusal::NoSuchProcedure),
-        };
-        let numbers = match self.names.numbers(self.alloc, cells) {
-            Ok(numbers) => numbers,
-            Err(AllocError) => return Reply::Refused(Refusal::Memory),
-        };
-        match self.place(procedure, &numbers, by) {
-            Ok(()) => Reply::Done,
-            Err(refusal) => Reply::Refused(refusal),
-        }
-    }
-
-    /// Puts the procedure of this number between the cells of these numbers, the output last.
-    fn place(&mut self, procedure: usize, cells: &[usize], by: By) -> Result<(), Refusal>
-        requires sound { IsSound R.value_of self.old }
-        requires procedure { procedure < length (library_of R.value_of self.old) }
-        requires cells { All (λ c. c < length self.old.network.cells.kinds) cells.now }
-        ensures same { self.new.network.library ≡ self.old.network.library }
-        ensures sound { IsSound R.value_of self.new }
-        ensures steps { steps_of self.new ≡ steps_of self.old }
-        ensures fits { OnOk result ((p : Stored) → slice_get (library_of R.value_of self.old) procedure ≡ Some p → placing_refusal p (state_of self.old) (by_of by.entry) cells.now ≡ None) }
-        ensures ok { OnOk result (state_of self.new ≡ record (state_of self.old) { instances = (state_of self.old).instances ++ instance_made (library_of R.value_of self.old) procedure (given_by self.old.words (by_of by.entry)) cells.now ∷ [] }) }
-        ensures err { IfErr result (λ e. ((p : Stored) → slice_get (library_of R.value_of self.old) procedure ≡ Some p → placing_refusal p (state_of self.old) (by_of by.entry) cells.now ≡ Some e) ⊎ (e ≡ Memory)) }
-        ensures err_same { OnErr result (state_of self.new ≡ state_of self.old) }
-    {
-        let (out, ins) = match cells.split_last() {
-            Some((out, ins)) => (*out, ins),
-            None => return Err(Refusal::WrongCount),
-        };
-        let next = self.network.instances();
-        let Some(count) = next.checked_add(1) else {
-            return Err(Refusal::Memory);
-        };
-        match self.agenda.room(count) {
-            Ok(()) => {}
-            Err(AllocError) => return Err(Refusal::Memory),
-        }
-        let param = self.given(by)?;
-        match self.network.attach(self.alloc, procedure, param, ins, out) {
-            Ok(()) => {
-                self.agenda.alert(next);
-                Ok(())
-            }
-            Err(refusal) => Err(refusal),
-        }
-    }
-
-    /// The number of the parameter that is given, if one is.
-    fn given(&mut self, by: By) -> Result<Option<usize>, Refusal>
-        requires sound { IsSound R.value_of self.old }
-        ensures same { self.new.network.library ≡ self.old.network.library }
-        ensures sound { IsSound R.value_of self.new }
-        ensures steps { steps_of self.new ≡ steps_of self.old }
-        ensures line { self.new.agenda ≡ self.old.agenda }
-        ensures names { self.new.names ≡ self.old.names }
-        ensures words { self.new.words ≡ self.old.words }
-        ensures premises { self.new.premises ≡ self.old.premises }
-        ensures worldview { self.new.worldview ≡ self.old.worldview }
-        ensures limit { self.new.limit ≡ self.old.limit }
-        ensures cells { self.new.network.cells ≡ record self.old.network.cells { params = self.new.network.cells.params } }
-        ensures sides { IfOk result (λ param. sides_given self.new.network.cells.params param ≡ option_and_then sides_of (given_by self.old.words (by_of by.entry))) }
-        ensures param { IfOk result (λ param. (need : Need) → param_in need self.new.network.cells.params param ≡ fitting_param need (given_by self.old.words (by_of by.entry))) }
-        ensures err { IfErr result (λ e. e ≡ Memory) }
-    {
-        let param = match by {
-            By::Nothing => return Ok(None),
-            By::Number(scale) => Param::Scale(scale),
-            By::Relation(name) => match self.words.relation(name) {
-                Some(rows) => match rows.copy(self.alloc) {
-                    Ok(rows) => Param::Rows(rows),
-                    Err(AllocError) => return Err(Refusal::Memory),
-                },
-                None => return Ok(None),
-            },
-        };
-        let number = self.network.add_param(param)?;
-        Ok(Some(number))
     }
 }

@@ -1,23 +1,20 @@
 //! The engine: reads pieces, carries out lines, writes replies.
 ghost use Rattle.std.specs.Prelude.{◌≡◌, ℕ, ◌+◌, ◌<◌, ◌≤◌, ◌^◌, List, length, min, max, true, false, OnOk, OnErr, IfOk, IfErr, MatchResult, IsErrOf, ◌↔◌, ◌⊎◌};
 ghost use Rattle.std.specs.Io.KnownBytes.{Appends, Consumes};
-ghost use Rattle.prop_workbench.specs.Watched.{device, has_failed, has_stopped, calls, widest, AppendsFront, IsFaulty, IsFresh};
-ghost use Rattle.prop_workbench.specs.Answers.{Answer, text_written};
-ghost use Rattle.prop_workbench.specs.Progress.{CountsAnswer, Advances, Stops, GrowsAtMost};
+ghost use Rattle.prop_engine.specs.Watched.{device, has_failed, has_stopped, calls, widest, AppendsFront, IsFaulty, IsFresh};
+ghost use Rattle.prop_engine.specs.Answers.{Answer, text_written};
+ghost use Rattle.prop_engine.specs.Progress.{CountsAnswer, Advances, Stops, GrowsAtMost};
 
-use crate::outcome::{Counts, EngineFault};
-use crate::pending::Pending;
-use crate::reply::Reply;
-use crate::sending::write_reply;
 use crate::session::Session;
-use crate::watched::Watched;
+use prop_engine::{Counts, EngineFault, Pending, Reply, Watched, write_reply};
 use prop_procedures::Rule;
 use prop_scheduler::Order;
 use std::io::{Read, Write};
 
 impl<R: Rule + Drop, O: Order + Drop> Session<R, O> {
     ghost use Rattle.prop_workbench.specs.Sessions.{state_of, IsSound, IsMeant};
-    ghost use Rattle.prop_workbench.specs.Engine.{machine_of, Tells, WritesTranscript, WritesFront};
+    ghost use Rattle.prop_workbench.specs.Engine.{machine_of};
+    ghost use Rattle.prop_engine.specs.Endings.{Tells, WritesTranscript, WritesFront};
 
     /// Carries out a line and writes its reply.
     fn answer<W: Write>(

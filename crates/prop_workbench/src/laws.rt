@@ -1,9 +1,8 @@
 //! Laws of whole sessions.
 ghost use Rattle.std.specs.Prelude.{◌≡◌, ℕ, ◌++◌, List};
 ghost use Rattle.prop_procedures.specs.Kept.{stored_of, related_of};
-ghost use Rattle.prop_workbench.specs.Lines.{lines_of, ended_lines};
 ghost use Rattle.prop_workbench.specs.Machine.{State};
-ghost use Rattle.prop_workbench.specs.Transcripts.{WriteStopped, ReadStopped, IsFrontOfTranscript};
+ghost use Rattle.prop_engine.specs.Transcripts.{WriteStopped, ReadStopped, IsFrontOfTranscript};
 ghost use Rattle.prop_workbench.specs.Engine.{workbench};
 
 use prop_procedures::{Library, Rule};
@@ -11,11 +10,6 @@ use prop_procedures::{Library, Rule};
 /// What a session wrote before a write stopped it is the front of an allowed transcript.
 pub fn a_stopped_write_leaves_a_front<R: Rule + Drop>(library: &Library<R>)
     ensures { (old : State) (input output : List ℕ) (new : State) → WriteStopped (workbench (stored_of R.value_of library.now) (related_of R.related library.now)) old input output new → IsFrontOfTranscript (workbench (stored_of R.value_of library.now) (related_of R.related library.now)) old input output }
-{}
-
-/// The lines that a line feed ended are the first lines of the input, whatever follows.
-pub fn ended_lines_come_first()
-    ensures { (input more : List ℕ) → (rest : List (List ℕ)) × (lines_of (input ++ more) ≡ ended_lines input ++ rest) }
 {}
 
 /// What a session wrote before it could read no more is the front of an allowed transcript,

@@ -11,10 +11,10 @@ ghost use Rattle.prop_vocabulary.specs.Texts.{elements_of_kind};
 ghost use Rattle.prop_workbench.specs.Refusing.{meaning_at};
 ghost use Rattle.prop_workbench.specs.Sessions.{IsKnown};
 
-use crate::reply::Reply;
 use crate::session::Session;
 use prop_cells::Network;
 use prop_compound::{Meant, Value, read_value};
+use prop_engine::Reply;
 use prop_lattice::{Info, Kind, Limit, Partial, Refusal};
 use prop_premises::{Premise, Worldview};
 use prop_procedures::Rule;
@@ -73,9 +73,9 @@ impl<R: Rule + Drop, O: Order + Drop> Session<R, O> {
     ghost use Rattle.prop_premises.specs.Origins.{premise_number, with_name};
     ghost use Rattle.prop_compound.specs.Commands as commands;
     ghost use Rattle.prop_compound.specs.Said.{value_of};
-    ghost use Rattle.prop_cells.specs.Instances.{kind_at};
+    ghost use Rattle.prop_procedures.specs.Fitting.{kind_at};
     ghost use Rattle.prop_cells.specs.Refusing.{may_be_stated, state_refusal};
-    ghost use Rattle.prop_workbench.specs.Answers.{answer_of};
+    ghost use Rattle.prop_engine.specs.Answers.{answer_of};
     ghost use Rattle.prop_workbench.specs.Effects.{number_given, name_of, stating, stated, with_meant, info_meant, MayMean};
     ghost use Rattle.prop_compound.specs.Said.{meant_of};
     ghost use Rattle.prop_compound.specs.Values.{Name};

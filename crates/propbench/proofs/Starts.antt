@@ -17,9 +17,9 @@ use Rattle.prop_arith.specs.KitLaws.{kit_sound}
 use Rattle.prop_arith.specs.declared.kit.Kit.{Kit}
 use Rattle.prop_workbench.specs.Machine.{new_state}
 use Rattle.prop_workbench.specs.Engine.{workbench}
-use Rattle.prop_workbench.proofs.Io.{appends_none}
+use Rattle.prop_engine.proofs.Io.{appends_none}
 use Rattle.prop_workbench.proofs.Machines.{workbench_is_total}
-use Rattle.prop_workbench.proofs.Fronts.{read_front}
+use Rattle.prop_engine.proofs.Fronts.{read_front}
 use Rattle.propbench.specs.Kits.{stored_kit, kit_library, kit_related, IsAnsweredInFront}
 
 -- where nothing was read nor written, nothing is the front of a transcript

@@ -1,6 +1,6 @@
 -- The statuses of a program that ends before its input does.
 use Rattle.std.specs.Prelude.{ℕ}
-use Rattle.prop_workbench.specs.declared.outcome.EngineFault.TheVariants.{Read, Write, Reads}
+use Rattle.prop_engine.specs.declared.outcome.EngineFault.TheVariants.{Read, Write, Reads}
 use Rattle.propbench.specs.declared.fault.Fault.{Fault}
 use Rattle.propbench.specs.declared.fault.Fault.TheVariants.{Engine, Memory}
 

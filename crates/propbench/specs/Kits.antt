@@ -5,9 +5,10 @@ use Rattle.prop_procedures.specs.declared.shape.Param.{Param}
 use Rattle.prop_procedures.specs.Stored.{Stored}
 use Rattle.prop_arith.specs.Kit.{in_order, name_of, ins_of, out_of, need_of, value_of, Related}
 use Rattle.prop_arith.specs.declared.kit.Kit.{Kit}
-use Rattle.prop_workbench.specs.declared.outcome.Counts.{Counts}
+use Rattle.prop_engine.specs.declared.outcome.Counts.{Counts}
 use Rattle.prop_workbench.specs.Machine.{State, new_state}
-use Rattle.prop_workbench.specs.Engine.{workbench, WritesTranscript, WritesFront}
+use Rattle.prop_workbench.specs.Engine.{workbench}
+use Rattle.prop_engine.specs.Endings.{WritesTranscript, WritesFront}
 
 -- the procedure of a rule
 abbrev pub stored_kit : Kit → Stored

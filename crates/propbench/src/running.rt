@@ -1,7 +1,7 @@
 //! A session with the kit's procedures, over a reader and a writer.
 ghost use Rattle.std.specs.Prelude.{◌≡◌, IfOk, OnErr};
 ghost use Rattle.prop_arith.specs.Kit.{value_of};
-ghost use Rattle.prop_workbench.specs.Watched.{device, IsFresh};
+ghost use Rattle.prop_engine.specs.Watched.{device, IsFresh};
 ghost use Rattle.propbench.specs.Kits.{kit_library, kit_related, IsAnswered, IsAnsweredInFront};
 ghost use Rattle.prop_cells.specs.Points.{AreSoundBy};
 

@@ -1,3 +1,4 @@
+mod compounds;
 mod devices;
 mod engine;
 mod faults;

@@ -2,8 +2,8 @@ use Rattle.std.proofs.Common.{◌≡◌, ◌∙◌, ◌++◌, ◌∷◌, [], ◌
 use Rattle.std.proofs.lemmas.List.{length-map, length-append, take_more, take_all, get_or-map}
 use Rattle.prop_procedures.specs.declared.shape.Shape.{Shape}
 use Rattle.prop_procedures.specs.declared.shape.Kinded.{Kinded}
-use Rattle.prop_cells.specs.Instances.{kind_at}
-use Rattle.prop_cells.proofs.Zips.{length-zip, get_or-zip}
+use Rattle.prop_procedures.specs.Fitting.{kind_at}
+use Rattle.prop_procedures.proofs.Zips.{length-zip, get_or-zip}
 use Rattle.prop_cells.proofs.attaching.places.Goals as goal
 
 module _ (ins : List Shape) (out : Shape) (kinds : List Kinded) (inputs : List ℕ) (output : ℕ) (count : length inputs ≡ length ins) where

@@ -1,5 +1,5 @@
 use Rattle.std.proofs.Common.{◌≡◌, ◌++◌, ◌∷◌, [], take, map, zip}
-use Rattle.prop_cells.specs.Instances.{kind_at}
+use Rattle.prop_procedures.specs.Fitting.{kind_at}
 use Rattle.prop_cells.proofs.attaching.places.Given as goal
 
 abbrev pub invariant-loop-i : goal.invariant-loop-i

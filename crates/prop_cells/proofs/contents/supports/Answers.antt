@@ -1,4 +1,4 @@
-use Rattle.std.proofs.Common.{◌<◌, get_or, arith}
+use Rattle.std.proofs.Common.{arith}
 use Rattle.prop_premises.specs.Sets.{set_of}
 use Rattle.prop_cells.proofs.Founding.{support_more}
 use Rattle.prop_cells.proofs.contents.supports.Goals as goal

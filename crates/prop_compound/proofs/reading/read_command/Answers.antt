@@ -3,16 +3,17 @@ use Rattle.prop_compound.specs.Tokens.{Token, Word, tokens}
 use Rattle.prop_compound.specs.Said.{KeepsWords}
 use Rattle.prop_compound.specs.Parts.{KeepsWordsOf, word_of}
 use Rattle.prop_compound.specs.declared.reading.CommandWord.{CommandWord}
-use Rattle.prop_compound.specs.declared.reading.CommandWord.TheVariants.{Domain, Relation, Cell, Attach, Fix, Tell, Kick, Bring, Settle, Ask, Why, Worldview}
+use Rattle.prop_compound.specs.declared.reading.CommandWord.TheVariants.{Domain, Relation, Cell, Define, Attach, Fix, Tell, Kick, Bring, Settle, Ask, Why, Worldview}
 use Rattle.prop_compound.proofs.reading.read_command.Goals as goal
 
 keeps : (command : CommandWord) (w : List ℕ) (ts : List Token) → w ≡ word_of command → KeepsWordsOf command ts → KeepsWords (Word w ∷ ts)
 keeps Domain w ts e h = inl e
 keeps Relation w ts e h = inr (inl e)
 keeps Cell w ts e h = absurd h
-keeps Attach w ts e h = inr (inr (inl e))
-keeps Fix w ts e h = inr (inr (inr (inl e, h)))
-keeps Tell w ts e h = inr (inr (inr (inr e, h)))
+keeps Define w ts e h = inr (inr (inl e))
+keeps Attach w ts e h = inr (inr (inr (inl e)))
+keeps Fix w ts e h = inr (inr (inr (inr (inl e, h))))
+keeps Tell w ts e h = inr (inr (inr (inr (inr e, h))))
 keeps Kick w ts e h = absurd h
 keeps Bring w ts e h = absurd h
 keeps Settle w ts e h = absurd h

@@ -2,7 +2,7 @@ use Rattle.std.proofs.Common.{◌∙◌, ◌≡◌, ap, sym, map, arith, rules}
 use Rattle.prop_workbench.specs.Engine.{workbench, machine_of}
 use Rattle.prop_workbench.specs.Sessions.{state_of}
 use Rattle.propbench.specs.Kits.{kit_library, kit_related}
-use Rattle.prop_workbench.proofs.Io.{on_err}
+use Rattle.prop_engine.proofs.Io.{on_err}
 use Rattle.prop_procedures.specs.Kept.{AllMean-push, stored_as, stored_of}
 use Rattle.std.proofs.lemmas.List.{take_all}
 use Rattle.prop_arith.specs.Kit.{in_order, value_of, Related}

@@ -4,7 +4,8 @@ use Rattle.prop_lattice.specs.Refusals.{most}
 use Rattle.prop_lattice.specs.declared.refusal.Limit.TheVariants.{Instances}
 use Rattle.prop_procedures.specs.Kept.{stored_of, stored_as}
 use Rattle.prop_procedures.specs.Stored.{are_right}
-use Rattle.prop_cells.specs.Instances.{kind_at, places_of, kinds_fit, sides_given, instance_of}
+use Rattle.prop_procedures.specs.Fitting.{kind_at, places_of, kinds_fit}
+use Rattle.prop_cells.specs.Instances.{sides_given, instance_of}
 use Rattle.prop_cells.proofs.Keeping.{fit_attached}
 use Rattle.prop_cells.proofs.Refused.{no_strangers, param_in_same, refused_9, refused_12, refused_13, refused_14, refused_16, not_refused}
 use Rattle.prop_cells.proofs.network.Network.fitting_instance.Goals as goal

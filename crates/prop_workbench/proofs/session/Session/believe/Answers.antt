@@ -13,7 +13,7 @@ returns-then-is_in-believed-clause-ok g c =
     let s = c.args.self.now in
     let p = c.in_ok-premise.premise in
     let is_so : believed_in s.premises p ≡ c.args.believed = sym c.is_in.ensures ∙ beq_same c.is_in.result c.args.believed c.if-is_in-believed.true in
-    (p, c.in_ok-premise.ensures.found, ap (λ premises. state_from s.names s.words premises s.network.cells s.limit) (sym (with_belief_same s.premises p c.args.believed c.in_ok-premise.ensures.user is_so)))
+    (p, c.in_ok-premise.ensures.found, ap (λ premises. state_from s.names s.words s.definitions premises s.network.cells s.limit) (sym (with_belief_same s.premises p c.args.believed c.in_ok-premise.ensures.user is_so)))
 
 pub set_belief-requires-in-Err : goal.set_belief-requires-in-Err
 set_belief-requires-in-Err g c = rw c.set_belief.ensures (user_still c.args.self.now.premises c.in_ok-premise.premise c.args.believed c.in_ok-premise.ensures.user)
@@ -33,6 +33,8 @@ returns-in-Ok-clause-sound g c =
       worldview = c.in-Ok.ensures;
       known = rw same c.requires.sound.known;
       sized = c.requires.sound.sized;
+      locals = c.requires.sound.locals;
+      defined = c.requires.sound.defined;
       named = c.requires.sound.named;
       roomy = rw c.alert_first.ensures.room c.requires.sound.roomy;
     }
@@ -45,7 +47,7 @@ returns-in-Err-clause-sound g c =
     let back : c.set_belief-in-Err.new.premises ≡ s.premises = c.set_belief-in-Err.ensures ∙ ap (λ ps. with_belief_at ps p (not c.args.believed)) c.set_belief.ensures
     ∙ with_belief_back s.premises p c.args.believed (not c.args.believed) c.in_ok-premise.ensures.user was in
     let sound = c.requires.sound in
-    record { under_way = rw back sound.under_way; worldview = rw back sound.worldview; known = rw back sound.known; sized = sound.sized; named = sound.named; roomy = sound.roomy }
+    record { under_way = rw back sound.under_way; worldview = rw back sound.worldview; known = rw back sound.known; sized = sound.sized; locals = sound.locals; defined = sound.defined; named = sound.named; roomy = sound.roomy }
 
 pub returns-in-Err-clause-err_same : goal.returns-in-Err-clause-err_same
 returns-in-Err-clause-err_same g c =
@@ -54,4 +56,4 @@ returns-in-Err-clause-err_same g c =
     let was : believed_in s.premises p ≡ not c.args.believed = sym c.is_in.ensures ∙ beq_other c.is_in.result c.args.believed c.if-is_in-believed.false in
     let back : c.set_belief-in-Err.new.premises ≡ s.premises = c.set_belief-in-Err.ensures ∙ ap (λ ps. with_belief_at ps p (not c.args.believed)) c.set_belief.ensures
     ∙ with_belief_back s.premises p c.args.believed (not c.args.believed) c.in_ok-premise.ensures.user was in
-    ap (λ premises. state_from s.names s.words premises s.network.cells s.limit) back
+    ap (λ premises. state_from s.names s.words s.definitions premises s.network.cells s.limit) back

@@ -14,12 +14,12 @@ pub returns-then-is_memory-clause-points : goal.returns-then-is_memory-clause-po
 returns-then-is_memory-clause-points g c =
     let s = c.args.self.now in
     let made : IsWellMade s.network.cells = rw c.data.ensures at c.well_made.ensures in
-    λ sound. step_holds_points (stored_of g.R.Rule.value_of s.network.library) (related_of g.R.Rule.related s.network.library) sound (state_from s.names s.words s.premises s.network.cells s.limit)
+    λ sound. step_holds_points (stored_of g.R.Rule.value_of s.network.library) (related_of g.R.Rule.related s.network.library) sound (state_from s.names s.words s.definitions s.premises s.network.cells s.limit)
     (record { fitting = c.requires.sound.under_way.kept.fits; within = made.within }) c.args.line.now _ _ _ c.follow-reply.ensures.step
 
 pub returns-clause-points : goal.returns-clause-points
 returns-clause-points g c =
     let s = c.args.self.now in
     let made : IsWellMade s.network.cells = rw c.data.ensures at c.well_made.ensures in
-    λ sound. step_holds_points (stored_of g.R.Rule.value_of s.network.library) (related_of g.R.Rule.related s.network.library) sound (state_from s.names s.words s.premises s.network.cells s.limit)
+    λ sound. step_holds_points (stored_of g.R.Rule.value_of s.network.library) (related_of g.R.Rule.related s.network.library) sound (state_from s.names s.words s.definitions s.premises s.network.cells s.limit)
     (record { fitting = c.requires.sound.under_way.kept.fits; within = made.within }) c.args.line.now _ _ _ c.follow-reply.ensures.step

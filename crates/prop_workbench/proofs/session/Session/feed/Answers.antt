@@ -2,15 +2,16 @@ use Rattle.std.proofs.Common.{◌≡◌, ℕ, ◌+◌, ◌≤◌, List, ◌∙�
 use Rattle.std.specs.Prelude.{Option, Result, OnErr, true, false, cond}
 use Rattle.std.specs.Io.KnownBytes.{Appends}
 use Rattle.prop_procedures.specs.Kept.{stored_of, related_of}
-use Rattle.prop_workbench.specs.Answers.{Answer, is_refusal}
+use Rattle.prop_engine.specs.Answers.{Answer, is_refusal}
 use Rattle.prop_workbench.specs.Sessions.{state_of}
 use Rattle.prop_workbench.specs.Engine.{machine_of, workbench}
-use Rattle.prop_workbench.specs.Transcripts.{Machine}
-use Rattle.prop_workbench.specs.Progress.{Stops, CountsAnswer, GrowsAtMost, refusals}
-use Rattle.prop_workbench.specs.declared.outcome.Counts.{Counts}
-use Rattle.prop_workbench.proofs.Io.{on_err}
-use Rattle.prop_workbench.proofs.Machines.{workbench_asks_by_front, same_step}
-use Rattle.prop_workbench.proofs.Feeds.{feed_start, feed_byte, feed_line, feed_stop, feed_end, at_place, next_place}
+use Rattle.prop_engine.specs.Transcripts.{Machine}
+use Rattle.prop_engine.specs.Progress.{Stops, CountsAnswer, GrowsAtMost, refusals}
+use Rattle.prop_engine.specs.declared.outcome.Counts.{Counts}
+use Rattle.prop_engine.proofs.Io.{on_err}
+use Rattle.prop_workbench.proofs.Machines.{workbench_asks_by_front}
+use Rattle.prop_engine.proofs.Machines.{same_step}
+use Rattle.prop_engine.proofs.Feeds.{feed_start, feed_byte, feed_line, feed_stop, feed_end, at_place, next_place}
 use Rattle.prop_workbench.proofs.session.Session.feed.Goals as goal
 use Rattle.prop_workbench.proofs.session.Session.feed.Goals.{then-byte-eq10+in_ok-answer, else-byte-eq10}
 

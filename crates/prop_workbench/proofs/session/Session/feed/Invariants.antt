@@ -1,7 +1,7 @@
 use Rattle.std.proofs.Common.{◌≡◌, take, List, ℕ}
 use Rattle.std.specs.Io.KnownBytes.{Appends}
-use Rattle.prop_workbench.specs.Watched.{device, IsFresh}
-use Rattle.prop_workbench.specs.Progress.{Advances, GrowsAtMost}
+use Rattle.prop_engine.specs.Watched.{device, IsFresh}
+use Rattle.prop_engine.specs.Progress.{Advances, GrowsAtMost}
 use Rattle.prop_workbench.specs.Sessions.{state_of, IsSound}
 use Rattle.prop_workbench.specs.Engine.{machine_of}
 use Rattle.prop_workbench.proofs.session.Session.feed.Given as goal

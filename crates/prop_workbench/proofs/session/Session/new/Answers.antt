@@ -1,4 +1,4 @@
-use Rattle.std.proofs.Common.{◌≡◌, ◌∙◌, ℕ, List, [], Some, None, slice_get, refl, sym, ap, length, arith, rules}
+use Rattle.std.proofs.Common.{refl, arith}
 use Rattle.std.proofs.lemmas.Option.{none-some}
 use Rattle.prop_workbench.proofs.session.Session.new.Goals as goal
 
@@ -9,9 +9,11 @@ returns-clause-sound g c = record {
     line_below = rw c.new-2.ensures (λ k d l. absurd (omega (arith, l)));
     met = rw c.requires.empty (record { met = λ j x at idle. absurd (none-some _ at) });
   };
-  worldview = rw (c.empty.ensures, c.new-4.ensures) (λ p. refl);
+  worldview = rw (c.empty.ensures, c.new-5.ensures) (λ p. refl);
   known = rw c.requires.empty (λ k d l. absurd (omega (arith, l)));
   sized = rw c.requires.empty (λ k d l. absurd (omega (arith, l)));
-  named = rw (c.requires.empty, c.new-3.ensures) refl;
+  named = rw c.new-3.ensures (λ k d l. absurd (omega (arith, l)));
+  locals = rw c.new-4.ensures.none (λ k d l. absurd (omega (arith, l)));
+  defined = c.new-4.ensures.over _;
   roomy = rw c.requires.empty (omega arith);
 }

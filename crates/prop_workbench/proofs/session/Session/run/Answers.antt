@@ -2,12 +2,13 @@ use Rattle.std.proofs.Common.{◌≡◌, ◌<◌, ◌∙◌, length, true, refl,
 use Rattle.std.proofs.lemmas.Result.{err_from_is_err_and}
 use Rattle.std.proofs.lemmas.Bool.{false≢true}
 use Rattle.prop_procedures.specs.Kept.{stored_of, related_of}
-use Rattle.prop_workbench.specs.Watched.{has_stopped}
+use Rattle.prop_engine.specs.Watched.{has_stopped}
 use Rattle.prop_workbench.specs.Sessions.{state_of}
 use Rattle.prop_workbench.specs.Engine.{machine_of, workbench}
-use Rattle.prop_workbench.proofs.Io.{not_failed, not_stopped}
-use Rattle.prop_workbench.proofs.Machines.{workbench_asks_by_front, same_step}
-use Rattle.prop_workbench.proofs.Pieces.{started, read_failed, too_many, at_end, ended_plain, ended_line, ended_fault, fed, feed_fault, same_advance, same_stop, told_by}
+use Rattle.prop_engine.proofs.Io.{not_failed, not_stopped}
+use Rattle.prop_workbench.proofs.Machines.{workbench_asks_by_front}
+use Rattle.prop_engine.proofs.Machines.{same_step}
+use Rattle.prop_engine.proofs.Pieces.{started, read_failed, too_many, at_end, ended_plain, ended_line, ended_fault, fed, feed_fault, same_advance, same_stop, told_by}
 use Rattle.prop_workbench.proofs.session.Session.run.Goals as goal
 
 pub loop-turn-init : goal.loop-turn-init

@@ -1,7 +1,7 @@
-use Rattle.std.proofs.Common.{◌≤◌, ◌≡◌, ◌*◌, ◌+◌, ◌^◌, ◌-◌, min, max, false, List, ℕ}
+use Rattle.std.proofs.Common.{◌≤◌, ◌≡◌, ◌*◌, ◌+◌, ◌^◌, ◌-◌, min, max, List, ℕ}
 use Rattle.std.specs.Io.KnownBytes.{Appends, Consumes}
-use Rattle.prop_workbench.specs.Watched.{device, calls, widest, IsFresh}
-use Rattle.prop_workbench.specs.Progress.{Progress}
+use Rattle.prop_engine.specs.Watched.{device, calls, widest, IsFresh}
+use Rattle.prop_engine.specs.Progress.{Progress}
 use Rattle.prop_workbench.specs.Sessions.{state_of, IsSound}
 use Rattle.prop_workbench.specs.Engine.{machine_of}
 use Rattle.prop_workbench.proofs.session.Session.run.Given as goal

@@ -21,7 +21,9 @@ returns-clause-sound g c =
       worldview = c.requires.sound.worldview;
       known = rw (ap (λ d. d.statements) rest) c.requires.sound.known;
       sized = rw (ap (λ d. d.kinds) rest) c.requires.sound.sized;
-      named = c.requires.sound.named ∙ sym (ap (λ d. length d.kinds) rest);
+      locals = c.requires.sound.locals;
+      defined = rw c.run.ensures.same c.requires.sound.defined;
+      named = rw (ap (λ d. d.kinds) rest) c.requires.sound.named;
       roomy = rw (c.run.ensures.room, ap (λ d. d.instances) rest) c.requires.sound.roomy;
     }
 
@@ -29,8 +31,8 @@ pub returns-clause-ends : goal.returns-clause-ends
 returns-clause-ends g c =
     let s = c.args.self.now in
     let library = stored_of g.R.Rule.value_of s.network.library in
-    may_end library (state_from s.names s.words s.premises s.network.cells s.limit) s.names s.words s.premises c.run.new.network.cells s.limit (set_of s.worldview) c.requires.sound.worldview
-    (state_run s.names s.words s.premises s.network.cells c.run.new.network.cells s.limit c.run.ensures.rest) c.run.result (rw c.run.ensures.same at c.run.ensures.quiet) (rw c.run.ensures.same at c.run.ensures.conflict)
+    may_end library (state_from s.names s.words s.definitions s.premises s.network.cells s.limit) s.names s.words s.definitions s.premises c.run.new.network.cells s.limit (set_of s.worldview) c.requires.sound.worldview
+    (state_run s.names s.words s.definitions s.premises s.network.cells c.run.new.network.cells s.limit c.run.ensures.rest) c.run.result (rw c.run.ensures.same at c.run.ensures.quiet) (rw c.run.ensures.same at c.run.ensures.conflict)
 
 pub returns-clause-settled : goal.returns-clause-settled
 returns-clause-settled g c =

@@ -1,5 +1,5 @@
 use Rattle.prop_workbench.proofs.Machines.{workbench_is_total}
-use Rattle.prop_workbench.proofs.Pieces.{front_of_whole_input}
+use Rattle.prop_engine.proofs.Pieces.{front_of_whole_input}
 use Rattle.prop_workbench.proofs.session.Session.run_session.Goals as goal
 
 pub returns-clause-front : goal.returns-clause-front

@@ -2,12 +2,12 @@ use Rattle.std.proofs.Common.{◌≡◌, ◌∙◌, ◌<◌, refl, sym, ap, leng
 use Rattle.prop_procedures.specs.Kept.{stored_of}
 use Rattle.prop_procedures.specs.Stored.{span_kind}
 use Rattle.prop_procedures.specs.declared.shape.Kinded.{Kinded}
-use Rattle.prop_cells.specs.Instances.{kind_at}
+use Rattle.prop_procedures.specs.Fitting.{kind_at}
 use Rattle.prop_compound.specs.Said.{value_of, meant_of}
 use Rattle.prop_workbench.specs.Effects.{stating, name_of}
 use Rattle.prop_workbench.specs.Refusing.{meaning_at}
 use Rattle.prop_workbench.specs.Sessions.{state_from}
-use Rattle.prop_vocabulary.proofs.Lookups.{number_below}
+use Rattle.prop_vocabulary.proofs.CellLookups.{of_named}
 use Rattle.prop_vocabulary.specs.Texts.{elements_of_kind}
 use Rattle.prop_workbench.proofs.StepLemmas.{refuses, refuses_or_lacks}
 use Rattle.prop_workbench.proofs.ValueLemmas.{no_cell, value_refused, value_done, value_stopped, value_may_be}
@@ -17,13 +17,13 @@ pub returns-in-None-clause-step : goal.returns-in-None-clause-step
 returns-in-None-clause-step g c =
     let s = c.args.self.now in
     let library = stored_of g.R.Rule.value_of s.network.library in
-    let state = state_from s.names s.words s.premises s.network.cells s.limit in
+    let state = state_from s.names s.words s.definitions s.premises s.network.cells s.limit in
     refuses library state state (stating (name_of c.args.premise) c.args.name.now (value_of c.args.value.now)) _ (no_cell library state (name_of c.args.premise) c.args.name.now (value_of c.args.value.now) (sym c.in-None.ensures.number)) refl
 
 pub meaning-requires : goal.meaning-requires
 meaning-requires g c =
     let s = c.args.self.now in
-    let below : c.in-Some.cell < length s.network.cells.kinds = rw (← c.requires.sound.named) (number_below s.names c.args.name.now c.in-Some.cell (sym c.in-Some.ensures.number)) in
+    let below : c.in-Some.cell < length s.network.cells.kinds = of_named (λ k. k < length s.network.cells.kinds) s.names c.args.name.now c.in-Some.cell c.requires.sound.named (sym c.in-Some.ensures.number) in
     let kind : kind_at s.network.cells.kinds c.in-Some.cell ≡ c.kind-kind.result = sym (c.kind-kind.ensures ∙ ap (λ d. kind_at d.kinds c.in-Some.cell) c.data.ensures) in
     rw kind at (c.requires.sound.sized c.in-Some.cell span_kind below).0
 
@@ -31,7 +31,7 @@ pub returns-in-Err-clause-step : goal.returns-in-Err-clause-step
 returns-in-Err-clause-step g c =
     let s = c.args.self.now in
     let library = stored_of g.R.Rule.value_of s.network.library in
-    let state = state_from s.names s.words s.premises s.network.cells s.limit in
+    let state = state_from s.names s.words s.definitions s.premises s.network.cells s.limit in
     let kind : kind_at s.network.cells.kinds c.in-Some.cell ≡ c.kind-kind.result = sym (c.kind-kind.ensures ∙ ap (λ d. kind_at d.kinds c.in-Some.cell) c.data.ensures) in
     let said = ap (λ (k : Kinded). meaning_at s.words k.kind (value_of c.args.value.now)) kind ∙ c.in-Err.ensures.err in
     refuses library state state (stating (name_of c.args.premise) c.args.name.now (value_of c.args.value.now)) c.in-Err.refusal
@@ -40,7 +40,7 @@ returns-in-Err-clause-step g c =
 pub state_meant-requires-clause-may : goal.state_meant-requires-clause-may
 state_meant-requires-clause-may g c =
     let s = c.args.self.now in
-    let below : c.in-Some.cell < length s.network.cells.kinds = rw (← c.requires.sound.named) (number_below s.names c.args.name.now c.in-Some.cell (sym c.in-Some.ensures.number)) in
+    let below : c.in-Some.cell < length s.network.cells.kinds = of_named (λ k. k < length s.network.cells.kinds) s.names c.args.name.now c.in-Some.cell c.requires.sound.named (sym c.in-Some.ensures.number) in
     let kind : kind_at s.network.cells.kinds c.in-Some.cell ≡ c.kind-kind.result = sym (c.kind-kind.ensures ∙ ap (λ d. kind_at d.kinds c.in-Some.cell) c.data.ensures) in
     let said = ap (λ (k : Kinded). meaning_at s.words k.kind (value_of c.args.value.now)) kind ∙ c.in-Ok.ensures.ok in
     let few = rw (← kind) at c.in-Ok.ensures.few in
@@ -51,7 +51,7 @@ pub returns-in-Ok-state_meant-clause-step : goal.returns-in-Ok-state_meant-claus
 returns-in-Ok-state_meant-clause-step g c =
     let s = c.args.self.now in
     let library = stored_of g.R.Rule.value_of s.network.library in
-    let state = state_from s.names s.words s.premises s.network.cells s.limit in
+    let state = state_from s.names s.words s.definitions s.premises s.network.cells s.limit in
     let kind : kind_at s.network.cells.kinds c.in-Some.cell ≡ c.kind-kind.result = sym (c.kind-kind.ensures ∙ ap (λ d. kind_at d.kinds c.in-Some.cell) c.data.ensures) in
     let said = ap (λ (k : Kinded). meaning_at s.words k.kind (value_of c.args.value.now)) kind ∙ c.in-Ok.ensures.ok in
     value_done library state _ (name_of c.args.premise) c.args.name.now (value_of c.args.value.now) c.in-Some.cell (meant_of c.in-Ok.meant) (sym c.in-Some.ensures.number) said c.in-Ok-state_meant.ensures.fits c.in-Ok-state_meant.ensures.ok
@@ -60,7 +60,7 @@ pub returns-in-Err-state_meant-clause-step : goal.returns-in-Err-state_meant-cla
 returns-in-Err-state_meant-clause-step g c =
     let s = c.args.self.now in
     let library = stored_of g.R.Rule.value_of s.network.library in
-    let state = state_from s.names s.words s.premises s.network.cells s.limit in
+    let state = state_from s.names s.words s.definitions s.premises s.network.cells s.limit in
     let kind : kind_at s.network.cells.kinds c.in-Some.cell ≡ c.kind-kind.result = sym (c.kind-kind.ensures ∙ ap (λ d. kind_at d.kinds c.in-Some.cell) c.data.ensures) in
     let said = ap (λ (k : Kinded). meaning_at s.words k.kind (value_of c.args.value.now)) kind ∙ c.in-Ok.ensures.ok in
     refuses_or_lacks library state _ (stating (name_of c.args.premise) c.args.name.now (value_of c.args.value.now)) c.in-Err-state_meant.refusal

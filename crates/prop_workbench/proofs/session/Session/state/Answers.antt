@@ -20,7 +20,9 @@ returns-clause-sound g c =
       worldview = c.requires.sound.worldview;
       known = rw (ap (λ d. d.statements) rest) (known_more n n s.network.cells.statements _ (omega arith) c.requires.sound.known c.requires.known);
       sized = rw (ap (λ d. d.kinds) rest) c.requires.sound.sized;
-      named = c.requires.sound.named ∙ sym (ap (λ d. length d.kinds) rest);
+      locals = c.requires.sound.locals;
+      defined = rw c.state_in.ensures.same c.requires.sound.defined;
+      named = rw (ap (λ d. d.kinds) rest) c.requires.sound.named;
       roomy = rw (c.state_in.ensures.room, ap (λ d. d.instances) rest) c.requires.sound.roomy;
     }
 
@@ -29,4 +31,4 @@ returns-in_err-state_in-clause-sound g c =
     let sound = c.requires.sound in
     let cells = c.in_err-state_in.ensures.err_same in
     let line = c.in_err-state_in.ensures.err_line in
-    record { under_way = rw (c.state_in.ensures.same, cells, line) sound.under_way; worldview = sound.worldview; known = rw cells sound.known; sized = rw cells sound.sized; named = rw cells sound.named; roomy = rw (cells, line) sound.roomy }
+    record { under_way = rw (c.state_in.ensures.same, cells, line) sound.under_way; worldview = sound.worldview; known = rw cells sound.known; sized = rw cells sound.sized; locals = sound.locals; defined = rw c.state_in.ensures.same sound.defined; named = rw cells sound.named; roomy = rw (cells, line) sound.roomy }

@@ -27,7 +27,9 @@ returns-in-Ok-state_in-clause-sound g c =
       known = rw (ap (λ d. d.statements) rest) (known_more (length s.premises) (length c.intern.new.self) s.network.cells.statements _ (omega (arith, more)) c.requires.sound.known
           (λ q e. let same : c.in_ok-premise.premise ≡ q = cc in omega (arith, same, more, number)));
       sized = rw (ap (λ d. d.kinds) rest) c.requires.sound.sized;
-      named = c.requires.sound.named ∙ sym (ap (λ d. length d.kinds) rest);
+      locals = c.requires.sound.locals;
+      defined = rw c.state_in.ensures.same c.requires.sound.defined;
+      named = rw (ap (λ d. d.kinds) rest) c.requires.sound.named;
       roomy = rw (c.state_in.ensures.room, ap (λ d. d.instances) rest) c.requires.sound.roomy;
     }
 
@@ -44,6 +46,8 @@ returns-in-Err-state_in-clause-sound g c =
       worldview = rw back sound.worldview;
       known = rw (back, cells) sound.known;
       sized = rw cells sound.sized;
+      locals = sound.locals;
+      defined = rw c.state_in.ensures.same sound.defined;
       named = rw cells sound.named;
       roomy = rw (cells, line) sound.roomy;
     }

@@ -6,7 +6,7 @@ use Rattle.prop_workbench.specs.Machine.{State, problem_in}
 use Rattle.prop_workbench.specs.Running.{MayEnd, Contradiction, Settled, Unsettled, IsSettledValue, IsUnsettledValue, Explained}
 use Rattle.prop_workbench.specs.Sessions.{state_from}
 use Rattle.prop_scheduler.specs.Turns.{IsSettled}
-use Rattle.prop_workbench.specs.Answers.{answer_of}
+use Rattle.prop_engine.specs.Answers.{answer_of}
 use Rattle.prop_workbench.proofs.AskLemmas.{ran_explained, settled_value, unsettled_value, conflict_known}
 use Rattle.prop_cells.specs.Data.{IsClash}
 use Rattle.prop_workbench.specs.Reasons.{IsLeanExplanation}
@@ -17,7 +17,7 @@ pub contradiction_reply-requires : goal.contradiction_reply-requires
 contradiction_reply-requires g c =
     let s = c.args.self.now in
     let library = stored_of g.R.Rule.value_of s.network.library in
-    let state = state_from s.names s.words s.premises s.network.cells s.limit in
+    let state = state_from s.names s.words s.definitions s.premises s.network.cells s.limit in
     let ends : MayEnd library state (Contradiction c.in-Clash.support) = rw c.in-Clash.is at c.in-Ok.ensures.ends in
     rw c.run_network.ensures.premises (conflict_known (problem_in library state) (believed_in s.premises) (length s.premises) c.in-Clash.support c.requires.sound.known ends)
 
@@ -25,13 +25,13 @@ pub returns-in-Quiet-clause-step : goal.returns-in-Quiet-clause-step
 returns-in-Quiet-clause-step g c =
     let s = c.args.self.now in
     let library = stored_of g.R.Rule.value_of s.network.library in
-    let state = state_from s.names s.words s.premises s.network.cells s.limit in
+    let state = state_from s.names s.words s.definitions s.premises s.network.cells s.limit in
     let new = c.run_network.new.self in
     let found = sym c.in-Some.ensures.number in
     let v = beliefs (believed_in new.premises) new.network.cells.contents c.in-Some.cell in
     let settled : IsSettled library (believed_in new.premises) new.network.cells = rw (← c.run_network.ensures.premises) at (c.in-Ok.ensures.settled c.in-Quiet.is) in
     let value : IsSettledValue library state c.in-Some.cell v = subst (λ (t : State). IsSettledValue library t c.in-Some.cell v) c.run_network.ensures.state
-    (settled_value library new.names new.words new.premises new.network.cells new.limit c.in-Some.cell v settled refl) in
+    (settled_value library new.names new.words new.definitions new.premises new.network.cells new.limit c.in-Some.cell v settled refl) in
     let explained = subst (λ (t : State). Explained library t c.in-Some.cell v c.args.name.now [] (answer_of c.explained.result)) c.run_network.ensures.state (rw c.run_network.ensures.same at c.explained.ensures.explained) in
     ran_explained library state _ c.args.name.now c.in-Some.cell Settled v [] _ _ found (rw c.in-Quiet.is at c.in-Ok.ensures.ends) value (λ text r. r) explained c.run_network.ensures.state c.in-Ok.ensures.within
 
@@ -39,14 +39,14 @@ pub returns-in-Spent-clause-step : goal.returns-in-Spent-clause-step
 returns-in-Spent-clause-step g c =
     let s = c.args.self.now in
     let library = stored_of g.R.Rule.value_of s.network.library in
-    let state = state_from s.names s.words s.premises s.network.cells s.limit in
+    let state = state_from s.names s.words s.definitions s.premises s.network.cells s.limit in
     let new = c.run_network.new.self in
     let found = sym c.in-Some.ensures.number in
     let v = beliefs (believed_in new.premises) new.network.cells.contents c.in-Some.cell in
     let kept : IsKept library new.network.cells = rw c.run_network.ensures.same at c.run_network.ensures.sound.under_way.kept in
     let made : IsWellMade new.network.cells = rw c.data.ensures at c.well_made.ensures in
     let value : IsUnsettledValue library state c.in-Some.cell v = subst (λ (t : State). IsUnsettledValue library t c.in-Some.cell v) c.run_network.ensures.state
-    (unsettled_value library new.names new.words new.premises new.network.cells new.limit c.in-Some.cell c.args.name.now v (rw c.run_network.ensures.names found) c.run_network.ensures.sound.named kept made refl) in
+    (unsettled_value library new.names new.words new.definitions new.premises new.network.cells new.limit c.in-Some.cell c.args.name.now v (rw c.run_network.ensures.names found) c.run_network.ensures.sound.named kept made refl) in
     let explained = subst (λ (t : State). Explained library t c.in-Some.cell v c.args.name.now (codes " unsettled") (answer_of c.explained-in-Spent.result)) c.run_network.ensures.state
     (rw c.run_network.ensures.same at c.explained-in-Spent.ensures.explained) in
     ran_explained library state _ c.args.name.now c.in-Some.cell Unsettled v (codes " unsettled") _ _ found (rw c.in-Spent.is at c.in-Ok.ensures.ends) value (λ text r. (r, c.in-Ok.ensures.spent c.in-Spent.is)) explained
@@ -65,6 +65,6 @@ returns-in-Spent-clause-lean g c =
 pub returns-in-Clash-clause-lean : goal.returns-in-Clash-clause-lean
 returns-in-Clash-clause-lean g c =
     let s = c.args.self.now in
-    let state = state_from s.names s.words s.premises s.network.cells s.limit in
+    let state = state_from s.names s.words s.definitions s.premises s.network.cells s.limit in
     let clash : IsClash (believed_in s.premises) c.run_network.new.self.network.cells c.in-Clash.support = rw c.in-Clash.is at c.in-Ok.ensures.clash in
     λ text e. inr (lean_contradiction c.run_network.new.self.network.cells state c.in-Clash.support _ clash (rw c.run_network.ensures.premises at c.contradiction_reply.ensures.says) text e)

@@ -1,0 +1,173 @@
+-- What is true of the numbers that stand for the words of a definition that is not refused.
+use Rattle.std.proofs.Common.{◌≡◌, ◌∙◌, ℕ, zero, suc, ◌+◌, ◌<◌, ◌≤◌, ◌==◌, min, ◌||◌, Bool, true, false, not, nat_le, cond, List, [], ◌∷◌, ◌++◌, Option, Some, None, All, map, length, take, drop, get_or, is_none, is_some, unwrap_or, refl, sym, ap, arith, inl, inr, add-zero}
+use Rattle.std.specs.Prelude.{reverse, slice_get, sum_by}
+use Rattle.std.specs.List.{list_any, flat_map}
+use Rattle.std.specs.Option.{option_map, option_map_or, option_or}
+use Rattle.std.proofs.lemmas.Bool.{or_parts, leb-false, eqb-true, not-false, cases_eq, eq-eqb, ne_eqb}
+use Rattle.std.proofs.lemmas.List.{length-map, length-append, length-reverse, reverse-append, map-append, get_or_push, get_or_append_left, take-append-le}
+use Rattle.std.proofs.lemmas.List.Elements.{All-cons, All-nil, All-push, All-weaker}
+use Rattle.std.proofs.lemmas.List.FromFn.{flat_map-cons}
+use Rattle.std.proofs.lemmas.List.Quantifiers.{position-Some}
+use Rattle.prop_lattice.specs.Refusals.{most}
+use Rattle.prop_lattice.specs.declared.refusal.Limit.TheVariants.{Cells, Instances}
+use Rattle.prop_procedures.specs.Stored.{Stored, procedure_number}
+use Rattle.prop_vocabulary.specs.Names.{number_in, numbers_in, is_missing}
+use Rattle.prop_vocabulary.specs.Vocabulary.{Vocabulary}
+use Rattle.prop_vocabulary.proofs.Lookups.{number_below}
+use Rattle.prop_compound.specs.Commands.{Passed, Step}
+use Rattle.prop_compound.specs.declared.definition.Used.{Used}
+use Rattle.prop_compound.specs.declared.definition.Used.TheVariants as uses
+use Rattle.prop_compound.specs.declared.definition.KeptDefinition.{KeptDefinition}
+use Rattle.prop_compound.specs.declared.definition.NumberedStep.{NumberedStep}
+use Rattle.prop_compound.specs.declared.definition.NumberedStep.TheVariants as numbered
+use Rattle.prop_compound.specs.Definitions.{Definition, Definitions, used_named, cells_wanted, is_miscounted}
+use Rattle.prop_compound.specs.Defining.{locals_of, cells_in, step_numbered, passing_named, kind_named, is_cell_missing, is_unknown, is_count_wrong}
+use Rattle.prop_compound.specs.Kept.{bare, all_bare, fresh_of, instances_of, total_in, total_of, places_made, IsInScope, AreInScope, IsUseBelow, IsUseOver, IsThere, IsKept, AreKept}
+use Rattle.prop_compound.proofs.Scoping.{late_at, late_is, taken_on, dropped_on, within_on}
+use Rattle.prop_compound.proofs.Walking.{kept_at}
+
+-- ---- places
+
+early : (names : List (List ℕ)) (seen : ℕ) (name : List ℕ) → is_none (number_in (take seen names) name) ≡ false → unwrap_or (number_in names name) 0 < seen
+early names seen name h = by (number_in names name) (sym (late_is names seen name) ∙ h)
+  where
+    by : (o : Option ℕ) → late_at seen o ≡ false → unwrap_or o 0 < seen
+    by None e = cc
+    by (Some n) e = leb-false seen n e
+
+all_early : (names : List (List ℕ)) (seen : ℕ) (cells : List (List ℕ)) → is_missing (take seen names) cells ≡ false → All (λ place. place < seen) (numbers_in names cells)
+all_early names seen [] h = All-nil (λ place. place < seen)
+all_early names seen (cell ∷ cells) h =
+    let parts = or_parts (is_none (number_in (take seen names) cell)) (is_missing (take seen names) cells) h in
+    All-cons (λ place. place < seen) (unwrap_or (number_in names cell) 0) (numbers_in names cells) (early names seen cell parts.0) (all_early names seen cells parts.1)
+
+module _ (library : List Stored) (words : Vocabulary) (definitions : Definitions) (scope : List (List ℕ)) where
+  one_in_scope : (seen : ℕ) (step : Step) → is_missing (take seen scope) (cells_in step) ≡ false → IsInScope seen (step_numbered library words definitions scope step)
+  one_in_scope seen (Step.Local name kind) h = tt
+  one_in_scope seen (Step.Like name like) h = early scope seen like (or_parts (is_none (number_in (take seen scope) like)) false h).0
+  one_in_scope seen (Step.Use name cells passed) h = all_early scope seen cells h
+
+  made : (step : Step) → places_made (step_numbered library words definitions scope step) ≡ length (locals_of step)
+  made (Step.Local name kind) = refl
+  made (Step.Like name like) = refl
+  made (Step.Use name cells passed) = refl
+
+  -- the places that steps name are there
+  pub all_in_scope : (steps : List Step) (seen : ℕ) → seen ≤ length scope → drop seen scope ≡ flat_map locals_of steps → is_cell_missing (take seen scope) steps ≡ false → AreInScope seen (map (step_numbered library words definitions scope) steps)
+  all_in_scope [] seen within rest h = tt
+  all_in_scope (step ∷ steps) seen within rest h =
+      let parts = or_parts (is_missing (take seen scope) (cells_in step)) (is_cell_missing (take seen scope ++ locals_of step) steps) h in
+      let behind : drop seen scope ≡ locals_of step ++ flat_map locals_of steps = rest ∙ flat_map-cons locals_of step steps in
+      let on = taken_on scope seen (locals_of step) (flat_map locals_of steps) within behind in (
+        one_in_scope seen step parts.0,
+        rw (made step) (all_in_scope steps (seen + length (locals_of step)) (within_on scope seen (locals_of step) (flat_map locals_of steps) within behind) (dropped_on scope seen (locals_of step) (flat_map locals_of steps) within behind) (rw on parts.1)),
+      )
+
+-- ---- uses
+
+position_below : (library : List Stored) (name : List ℕ) (n : ℕ) (p : Stored) → procedure_number library name ≡ Some n → n < length library
+position_below library name n p e = (position-Some _ library n p e).0
+
+pub used_there : (library : List Stored) (definitions : Definitions) (name : List ℕ) (used : Used) → length definitions.names ≡ length definitions.definitions → used_named library definitions name ≡ Some used → IsThere (length library) (length definitions.definitions) used
+used_there library definitions name used same e = by (procedure_number library name) (number_in definitions.names name) refl refl e
+  where
+    nonempty : (n : ℕ) → procedure_number library name ≡ Some n → n < length library
+    nonempty n f = some_of library n f
+      where
+        some_of : (l : List Stored) (n : ℕ) → procedure_number l name ≡ Some n → n < length l
+        some_of [] n f = cc
+        some_of (p ∷ ps) n f = position_below (p ∷ ps) name n p f
+
+    by : (a b : Option ℕ) → procedure_number library name ≡ a → number_in definitions.names name ≡ b → option_or (option_map uses.Procedure (procedure_number library name)) (option_map uses.Definition (number_in definitions.names name)) ≡ Some used → IsThere (length library) (length definitions.definitions) used
+    by (Some n) b f g h =
+        let is : Some (uses.Procedure n) ≡ Some used = sym (ap (λ o. option_or (option_map uses.Procedure o) (option_map uses.Definition (number_in definitions.names name))) f) ∙ h in
+        let same_used : uses.Procedure n ≡ used = cc in
+        rw (← same_used) (nonempty n f)
+    by None (Some m) f g h =
+        let is : Some (uses.Definition m) ≡ Some used = sym (λ i. option_or (option_map uses.Procedure (f i)) (option_map uses.Definition (g i))) ∙ h in
+        let same_used : uses.Definition m ≡ used = cc in
+        rw (← same_used) (let l = number_below definitions.names name m g in omega (arith, l, same))
+    by None None f g h =
+        let is : None ≡ Some used = sym (λ i. option_or (option_map uses.Procedure (f i)) (option_map uses.Definition (g i))) ∙ h in absurd (cc)
+
+some_used : (o : Option Used) → is_none o ≡ false → (used : Used) × (o ≡ Some used)
+some_used None e = cc
+some_used (Some used) e = (used, refl)
+
+module _ (library : List Stored) (words : Vocabulary) (definitions : Definitions) (scope : List (List ℕ)) (same : length definitions.names ≡ length definitions.definitions) where
+  abbrev pub IsGood : NumberedStep → Type 0
+  IsGood step = IsUseBelow definitions.definitions (length definitions.definitions) step × IsUseOver library step
+
+  good_use : (used : Used) (cells : List (List ℕ)) (passed : Passed) → IsThere (length library) (length definitions.definitions) used → length cells ≡ cells_wanted library definitions used → IsGood (numbered.Use used (numbers_in scope cells) (passing_named words passed))
+  good_use (uses.Procedure n) cells passed there count = (tt, (there, sym count ∙ sym (length-map cells _)))
+  good_use (uses.Definition m) cells passed there count = ((there, sym count ∙ sym (length-map cells _)), tt)
+
+  good_step : (step : Step) → is_unknown library definitions step ≡ false → is_count_wrong library definitions step ≡ false → IsGood (step_numbered library words definitions scope step)
+  good_step (Step.Local name kind) h k = (tt, tt)
+  good_step (Step.Like name like) h k = (tt, tt)
+  good_step (Step.Use name cells passed) h k =
+      let found = some_used (used_named library definitions name) h in
+      let used = found.0 in
+      let wrong : not (length cells == cells_wanted library definitions used) ≡ false = sym (ap (λ o. option_map_or (λ u. not (length cells == cells_wanted library definitions u)) o false) found.1) ∙ k in
+      let count = eqb-true (length cells) (cells_wanted library definitions used) (not-false _ wrong) in
+      let good = good_use used cells passed (used_there library definitions name used same found.1) count in
+      let is : unwrap_or (used_named library definitions name) (uses.Procedure 0) ≡ used = ap (λ o. unwrap_or o (uses.Procedure 0)) found.1 in
+      rw is good
+
+  -- the definitions that steps use are there, and so are the procedures
+  pub all_good : (steps : List Step) → list_any (is_unknown library definitions) steps ≡ false → list_any (is_count_wrong library definitions) steps ≡ false → All IsGood (map (step_numbered library words definitions scope) steps)
+  all_good [] h k = All-nil IsGood
+  all_good (step ∷ steps) h k =
+      let a = or_parts (is_unknown library definitions step) (list_any (is_unknown library definitions) steps) h in
+      let b = or_parts (is_count_wrong library definitions step) (list_any (is_count_wrong library definitions) steps) k in
+      All-cons IsGood (step_numbered library words definitions scope step) (map (step_numbered library words definitions scope) steps) (good_step step a.0 b.0) (all_good steps a.1 b.1)
+
+-- ---- one definition more
+
+module _ (of : (ℕ → ℕ) → NumberedStep → ℕ) (ds : List Definition) (d : Definition) where
+  turned : reverse (ds ++ d ∷ []) ≡ d ∷ reverse ds
+  turned = reverse-append ds (d ∷ [])
+
+  pub total_same : (n : ℕ) → n < length ds → total_of of (ds ++ d ∷ []) n ≡ total_of of ds n
+  total_same n l =
+      ap (λ latest. total_in of latest n) turned ∙
+      ap (λ b. cond b (sum_by (of (total_in of (reverse ds))) d.steps) (total_in of (reverse ds) n)) (ne_eqb n (length (reverse ds)) (λ e. omega (arith, e, l, length-reverse ds)))
+
+  pub total_last : total_of of (ds ++ d ∷ []) (length ds) ≡ sum_by (of (total_of of ds)) d.steps
+  total_last =
+      ap (λ latest. total_in of latest (length ds)) turned ∙
+      ap (λ b. cond b (sum_by (of (total_in of (reverse ds))) d.steps) (total_in of (reverse ds) (length ds))) (eq-eqb (length ds) (length (reverse ds)) (sym (length-reverse ds)))
+
+get_before : {X : Type 0} (xs ys : List X) (n : ℕ) → n < length xs → slice_get (xs ++ ys) n ≡ slice_get xs n
+get_before [] ys n l = absurd (omega (arith, l))
+get_before (x ∷ xs) ys zero l = refl
+get_before (x ∷ xs) ys (suc n) l = get_before xs ys n (omega (arith, l))
+
+below_still : (ds more : List Definition) (n : ℕ) → n ≤ length ds → (step : NumberedStep) → IsUseBelow ds n step → IsUseBelow (ds ++ more) n step
+below_still ds more n l (numbered.Local kind) h = tt
+below_still ds more n l (numbered.Like place) h = tt
+below_still ds more n l (numbered.Use (uses.Procedure k) cells passing) h = tt
+below_still ds more n l (numbered.Use (uses.Definition m) cells passing) h =
+    (h.0, ap (λ o. option_map_or (λ (d : Definition). d.params) o 0) (get_before ds more m (let b = h.0 in omega (arith, b, l))) ∙ h.1)
+
+kept_still : (ds : List Definition) (d : Definition) (n : ℕ) (k : KeptDefinition) → n < length ds → IsKept ds n k → IsKept (ds ++ d ∷ []) n k
+kept_still ds d n k l h = record {
+  in_scope = h.in_scope;
+  uses = All-weaker (IsUseBelow ds n) (IsUseBelow (ds ++ d ∷ []) n) (below_still ds (d ∷ []) n (omega (arith, l))) k.steps.items h.uses;
+  takes = h.takes;
+  fresh = h.fresh ∙ ap (λ m. min (most Cells + 1) m) (sym (total_same fresh_of ds d n l));
+  instances = h.instances ∙ ap (λ m. min (most Instances + 1) m) (sym (total_same instances_of ds d n l));
+}
+
+pub kept_push : (ks ks' : List KeptDefinition) (k : KeptDefinition) → ks' ≡ ks ++ k ∷ [] → AreKept ks → IsKept (all_bare ks ++ bare k ∷ []) (length ks) k → AreKept ks'
+kept_push ks ks' k e kept here = rw e all
+  where
+    all : AreKept (ks ++ k ∷ [])
+    all n d l =
+        let bares : all_bare (ks ++ k ∷ []) ≡ all_bare ks ++ bare k ∷ [] = map-append bare ks (k ∷ []) in
+        elim (cases_eq n (length ks)) [
+          | inl same ↦ rw (bares, same, get_or_push ks k d (length ks) refl) here
+          | inr other ↦
+              (let m : n < length ks = omega (arith, l, other, length-append ks (k ∷ [])) in
+              rw (bares, get_or_append_left ks (k ∷ []) d n m) (kept_still (all_bare ks) (bare k) n (get_or ks n d) (omega (arith, m, length-map ks bare)) (kept n d m)))
+        ]

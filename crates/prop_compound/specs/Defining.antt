@@ -1,0 +1,123 @@
+-- What a definition in words means, and for what it is refused: each condition by itself, and which of them comes first.
+use Rattle.std.specs.Prelude.{ℕ, List, [], ◌∷◌, ◌++◌, Bool, false, ◌||◌, nat_le, Option, Some, None, length, map, is_none, is_some, unwrap_or}
+use Rattle.std.specs.List.{list_any, flat_map}
+use Rattle.std.specs.Option.{option_map_or}
+use Rattle.prop_lattice.specs.Refusals.{most}
+use Rattle.prop_lattice.specs.declared.info.Kind.TheVariants as kinds
+use Rattle.prop_lattice.specs.declared.refusal.Limit.TheVariants.{Definitions as TooMany}
+use Rattle.prop_lattice.specs.declared.refusal.Refusal.{Refusal}
+use Rattle.prop_lattice.specs.declared.refusal.Refusal.TheVariants.{NameTaken, NoSuchDomain, NoSuchRelation, NoSuchCell, NoSuchProcedure, WrongCount, LimitReached}
+use Rattle.prop_sets.specs.Names.{has_repeat}
+use Rattle.prop_procedures.specs.declared.shape.Kinded.{Kinded}
+use Rattle.prop_procedures.specs.Stored.{Stored, span_kind, procedure_number}
+use Rattle.prop_vocabulary.specs.Names.{number_in, numbers_in, is_missing}
+use Rattle.prop_vocabulary.specs.Refusing.{when, first_of}
+use Rattle.prop_vocabulary.specs.Vocabulary.{Vocabulary, domain_number, elements_of}
+use Rattle.prop_compound.specs.Commands.{KindWord, Spans, Truths, Symbols, Named, By, Passed, Step}
+use Rattle.prop_compound.specs.declared.definition.Passing.{Passing}
+use Rattle.prop_compound.specs.declared.definition.Passing.TheVariants as passings
+use Rattle.prop_compound.specs.declared.definition.Used.TheVariants as uses
+use Rattle.prop_compound.specs.declared.definition.NumberedStep.{NumberedStep}
+use Rattle.prop_compound.specs.declared.definition.NumberedStep.TheVariants as numbered
+use Rattle.prop_compound.specs.Definitions.{Definition, Definitions, used_named, is_miscounted}
+
+-- ---- what the words mean
+
+-- the kind of the sets over the domain with the number
+abbrev pub domain_kind : Vocabulary → ℕ → Kinded
+domain_kind words domain = record { kind = kinds.Set domain; size = length (elements_of words domain) }
+
+abbrev pub kind_named : Vocabulary → KindWord → Kinded
+kind_named words Spans = span_kind
+kind_named words Truths = domain_kind words 0
+kind_named words Symbols = record { kind = kinds.Symbol; size = 0 }
+kind_named words (Named domain) = domain_kind words (unwrap_or (domain_number words domain) 0)
+
+abbrev pub said_passing : Vocabulary → By → Passing
+said_passing words By.Nothing = passings.Nothing
+said_passing words (By.Number scale) = option_map_or passings.Scale scale passings.Nothing
+said_passing words (By.Relation name) = passings.Relation (unwrap_or (number_in words.relation_names name) 0)
+
+abbrev pub passing_named : Vocabulary → Passed → Passing
+passing_named words (Passed.Said by) = said_passing words by
+passing_named words Passed.Own = passings.Own
+
+-- the local that the step makes, where it makes one
+abbrev pub locals_of : Step → List (List ℕ)
+locals_of (Step.Local name kind) = name ∷ []
+locals_of (Step.Like name like) = name ∷ []
+locals_of (Step.Use name cells passed) = []
+
+-- the parameters and after them the locals, in order: a cell's place is its place here
+abbrev pub scope_of : List (List ℕ) → List Step → List (List ℕ)
+scope_of params steps = params ++ flat_map locals_of steps
+
+-- the step by numbers
+abbrev pub step_numbered : List Stored → Vocabulary → Definitions → List (List ℕ) → Step → NumberedStep
+step_numbered library words definitions scope (Step.Local name kind) = numbered.Local (kind_named words kind)
+step_numbered library words definitions scope (Step.Like name like) = numbered.Like (unwrap_or (number_in scope like) 0)
+step_numbered library words definitions scope (Step.Use name cells passed) =
+    numbered.Use (unwrap_or (used_named library definitions name) (uses.Procedure 0)) (numbers_in scope cells) (passing_named words passed)
+
+abbrev pub definition_of : List Stored → Vocabulary → Definitions → List (List ℕ) → List Step → Definition
+definition_of library words definitions params steps =
+    record { params = length params; steps = map (step_numbered library words definitions (scope_of params steps)) steps }
+
+-- one definition more
+abbrev pub with_definition : List Stored → Vocabulary → Definitions → List ℕ → List (List ℕ) → List Step → Definitions
+with_definition library words definitions name params steps = record {
+  names = definitions.names ++ name ∷ [];
+  definitions = definitions.definitions ++ definition_of library words definitions params steps ∷ [];
+}
+
+-- ---- for what it is refused
+
+-- a procedure or a definition has the name, or a parameter or local stands twice among them all
+abbrev pub is_name_taken : List Stored → Definitions → List ℕ → List (List ℕ) → List Step → Bool
+is_name_taken library definitions name params steps =
+    is_some (procedure_number library name) || (is_some (number_in definitions.names name) || has_repeat (scope_of params steps))
+
+-- the step makes a local of a kind that is no domain's
+abbrev pub is_nowhere : Vocabulary → Step → Bool
+is_nowhere words (Step.Local name (Named domain)) = is_none (domain_number words domain)
+is_nowhere words step = false
+
+-- the step passes a relation that there is not
+abbrev pub is_unrelated : Vocabulary → Step → Bool
+is_unrelated words (Step.Use name cells (Passed.Said (By.Relation relation))) = is_none (number_in words.relation_names relation)
+is_unrelated words step = false
+
+-- the cells that the step names
+abbrev pub cells_in : Step → List (List ℕ)
+cells_in (Step.Local name kind) = []
+cells_in (Step.Like name like) = like ∷ []
+cells_in (Step.Use name cells passed) = cells
+
+-- a step names a cell that is neither of these nor a local of an earlier step
+abbrev pub is_cell_missing : List (List ℕ) → List Step → Bool
+is_cell_missing cells [] = false
+is_cell_missing cells (step ∷ steps) = is_missing cells (cells_in step) || is_cell_missing (cells ++ locals_of step) steps
+
+-- the step uses what is neither a procedure nor a definition
+abbrev pub is_unknown : List Stored → Definitions → Step → Bool
+is_unknown library definitions (Step.Use name cells passed) = is_none (used_named library definitions name)
+is_unknown library definitions step = false
+
+-- the step uses a procedure or a definition on another number of cells than it wants
+abbrev pub is_count_wrong : List Stored → Definitions → Step → Bool
+is_count_wrong library definitions (Step.Use name cells passed) = is_miscounted library definitions name (length cells)
+is_count_wrong library definitions step = false
+
+-- why the definition may not be made
+abbrev pub define_refusal : List Stored → Vocabulary → Definitions → List ℕ → List (List ℕ) → List Step → Option Refusal
+define_refusal library words definitions name params steps =
+    first_of (
+    when NameTaken (is_name_taken library definitions name params steps)
+    ∷ when NoSuchDomain (list_any (is_nowhere words) steps)
+    ∷ when NoSuchRelation (list_any (is_unrelated words) steps)
+    ∷ when NoSuchCell (is_cell_missing params steps)
+    ∷ when NoSuchProcedure (list_any (is_unknown library definitions) steps)
+    ∷ when WrongCount (list_any (is_count_wrong library definitions) steps)
+    ∷ when (LimitReached TooMany) (nat_le (most TooMany) (length definitions.definitions))
+    ∷ []
+    )

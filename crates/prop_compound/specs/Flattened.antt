@@ -1,0 +1,39 @@
+-- What is handed out for a use: its fresh cells and instances, in one list each.
+use Rattle.std.specs.Prelude.{◌≡◌, ◌<◌, ℕ, ◌+◌, List, [], ◌∷◌, ◌++◌, All, Option, Some, false, length, map, slice_get}
+use Rattle.std.specs.Option.{option_and_then}
+use Rattle.prop_procedures.specs.declared.shape.Kinded.{Kinded}
+use Rattle.prop_procedures.specs.declared.shape.Param.{Param}
+use Rattle.prop_procedures.specs.Stored.{Stored}
+use Rattle.prop_compound.specs.declared.flat.Placed as instances
+use Rattle.prop_compound.specs.declared.flat.Flat.{Flat}
+use Rattle.prop_compound.specs.Expansion.{Placed, Expansion}
+
+abbrev pub cells_of : instances.Placed → List ℕ
+cells_of x = x.inputs.items ++ x.output ∷ []
+
+-- the parameter at the place, where there is a place
+abbrev pub param_at : List Param → Option ℕ → Option Param
+param_at params place = option_and_then (λ n. slice_get params n) place
+
+-- the instance, with its parameter looked up among these
+abbrev pub placed_of : List Param → instances.Placed → Placed (Option Param)
+placed_of params x = record { procedure = x.procedure; given = param_at params x.param; cells = cells_of x }
+
+-- the expansion that it is, on cells of these kinds
+abbrev pub expansion_of_flat : List Kinded → Flat → Expansion (Option Param)
+expansion_of_flat kinds flat = record {
+  kinds = kinds ++ flat.fresh.items;
+  placed = map (placed_of flat.params.items) flat.instances.items;
+  spare = false;
+}
+
+-- the instance is one of a procedure of the library, with the count of inputs that it has, on cells below n
+pub record IsInstanceOver (library : List Stored) (n : ℕ) (x : instances.Placed) : Type 0 where
+  pub procedure : Stored
+  pub at : slice_get library x.procedure ≡ Some procedure
+  pub count : length x.inputs.items ≡ length procedure.ins
+  pub cells : All (λ cell. cell < n) (cells_of x)
+
+-- each instance is, where so many cells are given
+abbrev pub IsFlatOver : List Stored → ℕ → Flat → Type 0
+IsFlatOver library count flat = All (IsInstanceOver library (count + length flat.fresh.items)) flat.instances.items

@@ -1,0 +1,125 @@
+-- What is kept beside each definition, and what is true of the definitions that are kept.
+use Rattle.std.specs.Prelude.{◌≡◌, ◌<◌, ℕ, ◌+◌, ◌==◌, min, List, [], ◌∷◌, All, cond, length, map, reverse, slice_get, slice_index_or, sum_by, ⊤}
+use Rattle.std.specs.Option.{option_map_or}
+use Rattle.prop_lattice.specs.Refusals.{most}
+use Rattle.prop_lattice.specs.declared.refusal.Limit.TheVariants.{Cells, Instances}
+use Rattle.prop_procedures.specs.Stored.{Stored}
+use Rattle.prop_compound.specs.declared.definition.KeptDefinition.{KeptDefinition}
+use Rattle.prop_compound.specs.declared.definition.Passing.{Passing}
+use Rattle.prop_compound.specs.declared.definition.Used.{Used}
+use Rattle.prop_compound.specs.declared.definition.Used.TheVariants as uses
+use Rattle.prop_compound.specs.declared.definition.NumberedStep.{NumberedStep}
+use Rattle.prop_compound.specs.declared.definition.NumberedStep.TheVariants.{Local, Like, Use}
+use Rattle.prop_compound.specs.Definitions.{Definition, Definitions, is_taking}
+use Rattle.prop_compound.specs.Expansion.{Walk, Placed}
+
+-- the definition alone
+abbrev pub bare : KeptDefinition → Definition
+bare k = record { params = k.params; steps = k.steps.items }
+
+abbrev pub all_bare : List KeptDefinition → List Definition
+all_bare definitions = map bare definitions
+
+-- ---- sizes
+
+-- how many fresh cells a use stands for, where a definition stands for so many
+abbrev pub fresh_used : (ℕ → ℕ) → Used → ℕ
+fresh_used count (uses.Procedure n) = 0
+fresh_used count (uses.Definition n) = count n
+
+-- how many instances
+abbrev pub instances_used : (ℕ → ℕ) → Used → ℕ
+instances_used count (uses.Procedure n) = 1
+instances_used count (uses.Definition n) = count n
+
+-- how many fresh cells a step stands for
+abbrev pub fresh_of : (ℕ → ℕ) → NumberedStep → ℕ
+fresh_of count (Use used cells passing) = fresh_used count used
+fresh_of count step = 1
+
+-- how many instances
+abbrev pub instances_of : (ℕ → ℕ) → NumberedStep → ℕ
+instances_of count (Use used cells passing) = instances_used count used
+instances_of count step = 0
+
+-- how many of them a definition stands for by its number, the definitions being listed from the latest on
+abbrev pub total_in : ((ℕ → ℕ) → NumberedStep → ℕ) → List Definition → ℕ → ℕ
+total_in of [] n = 0
+total_in of (d ∷ earlier) n = cond (n == length earlier) (sum_by (of (total_in of earlier)) d.steps) (total_in of earlier n)
+
+-- the same, listed in order
+abbrev pub total_of : ((ℕ → ℕ) → NumberedStep → ℕ) → List Definition → ℕ → ℕ
+total_of of definitions n = total_in of (reverse definitions) n
+
+-- ---- places
+
+-- how many places a step makes
+abbrev pub places_made : NumberedStep → ℕ
+places_made (Use used cells passing) = 0
+places_made step = 1
+
+-- the step names places below n alone
+abbrev pub IsInScope : ℕ → NumberedStep → Type 0
+IsInScope n (Local kind) = ⊤
+IsInScope n (Like place) = place < n
+IsInScope n (Use used places passing) = All (λ place. place < n) places
+
+-- each step does, where there are n places before the first
+abbrev pub AreInScope : ℕ → List NumberedStep → Type 0
+AreInScope n [] = ⊤
+AreInScope n (step ∷ steps) = IsInScope n step × AreInScope (n + places_made step) steps
+
+-- ---- uses
+
+-- the step uses no definition, or one with a number below n, on as many cells as it wants
+abbrev pub IsUseBelow : List Definition → ℕ → NumberedStep → Type 0
+IsUseBelow definitions n (Use (uses.Definition m) cells passing) =
+    (m < n) × (option_map_or (λ d. d.params) (slice_get definitions m) 0 ≡ length cells)
+IsUseBelow definitions n step = ⊤
+
+-- ---- what is kept
+
+-- the n-th of the definitions: its steps name places that are there and use earlier definitions, and what is kept beside it is right,
+-- numbers up to one past their limit
+pub record IsKept (definitions : List Definition) (n : ℕ) (k : KeptDefinition) : Type 0 where
+  pub in_scope : AreInScope k.params k.steps.items
+  pub uses : All (IsUseBelow definitions n) k.steps.items
+  pub takes : k.takes ≡ is_taking (bare k)
+  pub fresh : k.fresh ≡ min (most Cells + 1) (total_of fresh_of definitions n)
+  pub instances : k.instances ≡ min (most Instances + 1) (total_of instances_of definitions n)
+
+-- each of them is kept so
+abbrev pub AreKept : List KeptDefinition → Type 0
+AreKept definitions = (n : ℕ) (d : KeptDefinition) → n < length definitions → IsKept (all_bare definitions) n (slice_index_or definitions n d)
+
+-- the procedure or definition is one of so many
+abbrev pub IsThere : ℕ → ℕ → Used → Type 0
+IsThere procedures definitions (uses.Procedure n) = n < procedures
+IsThere procedures definitions (uses.Definition n) = n < definitions
+
+-- a use of a definition is of one that there is, on as many cells as it wants
+abbrev pub IsUseThere : List Definition → Used → ℕ → Type 0
+IsUseThere definitions (uses.Procedure n) count = ⊤
+IsUseThere definitions (uses.Definition n) count =
+    (n < length definitions) × (option_map_or (λ d. d.params) (slice_get definitions n) 0 ≡ count)
+
+-- ---- over a library
+
+-- the step uses no procedure, or one of the library on as many cells as it wants
+abbrev pub IsUseOver : List Stored → NumberedStep → Type 0
+IsUseOver library (Use (uses.Procedure n) cells passing) = (n < length library) × (option_map_or (λ p. length p.ins + 1) (slice_get library n) 0 ≡ length cells)
+IsUseOver library step = ⊤
+
+-- the definitions were made over the library: they use its procedures, each on as many cells as it wants
+pub record IsDefinedOver (library : List Stored) (definitions : Definitions) : Type 0 where
+  pub uses : All (λ d. All (IsUseOver library) d.steps) definitions.definitions
+
+-- the instance's procedure is one of the library, on as many cells as it wants, which are below n
+pub record IsRight (library : List Stored) (n : ℕ) (p : Placed Passing) : Type 0 where
+  pub procedure : p.procedure < length library
+  pub count : option_map_or (λ (s : Stored). length s.ins + 1) (slice_get library p.procedure) 0 ≡ length p.cells
+  pub cells : All (λ cell. cell < n) p.cells
+
+-- each instance so far is right
+abbrev pub AreRight : List Stored → Walk → Type 0
+AreRight library e = All (IsRight library (length e.kinds)) e.placed

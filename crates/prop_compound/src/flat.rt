@@ -1,0 +1,137 @@
+//! What a use stands for, as it is handed out.
+ghost use Rattle.std.specs.Prelude.{◌≡◌, ◌<◌, ◌++◌, ◌≤◌, false, List, All, length, map, take, slice_get, IfOk, IfSome, OnOk};
+ghost use Rattle.std.specs.Option.{option_and_then};
+ghost use Rattle.prop_procedures.specs.declared.shape.Param.{Param as Parameter};
+ghost use Rattle.prop_compound.specs.Expansion.{param_meant, meant, all_meant};
+ghost use Rattle.prop_compound.specs.Flattened.{param_at, placed_of, cells_of, expansion_of_flat};
+
+use crate::definition::Passing;
+use crate::walk::{Instance, Walk};
+use prop_procedures::{Kinded, Param};
+use prop_vocabulary::Vocabulary;
+use std::alloc::{AllocError, Global};
+
+/// An instance: a procedure by its number, the place of its parameter in a list where it is given one, and its cells.
+#[derive(Debug, Drop)]
+pub struct Placed {
+    pub procedure: usize,
+    pub param: Option<usize>,
+    pub inputs: Vec<usize>,
+    pub output: usize,
+}
+
+/// The kinds of the fresh cells, parameters, and the instances in order. A cell is a place among the given cells followed by the
+/// fresh ones.
+#[derive(Debug, Drop)]
+pub struct Flat {
+    pub fresh: Vec<Kinded>,
+    pub params: Vec<Param>,
+    pub instances: Vec<Placed>,
+}
+
+/// Adds what is meant to the parameters, where it is not there yet. Answers its place, where something is meant.
+fn param_place(
+    alloc: Global,
+    words: &Vocabulary,
+    params: &mut Vec<Param>,
+    own: Option<usize>,
+    passing: Passing,
+) -> Result<Option<usize>, AllocError>
+    requires { IfSome own (λ n. n < length params.old.items) }
+    ensures param { IfOk result (λ p. param_at params.new.items p ≡ param_meant words.now (param_at params.old.items own) passing) }
+    ensures there { IfOk result (λ p. IfSome p (λ n. n < length params.new.items)) }
+    ensures more { OnOk result ((more : List Parameter) × (params.new.items ≡ params.old.items ++ more)) }
+{
+    let param = match passing {
+        Passing::Nothing => return Ok(None),
+        Passing::Own => return Ok(own),
+        Passing::Scale(scale) => Param::Scale(scale),
+        Passing::Relation(number) => match words.relation_at(number) {
+            Some(rows) => Param::Rows(rows.copy(alloc)?),
+            None => return Ok(None),
+        },
+    };
+    let place = params.len();
+    params.push(param)?;
+    Ok(Some(place))
+}
+
+/// The instance with the place of its parameter.
+fn instance_placed(
+    alloc: Global,
+    instance: &Instance,
+    param: Option<usize>,
+) -> Result<Placed, AllocError>
+    requires { 0 < length instance.now.cells }
+    ensures procedure { IfOk result (λ x. x.procedure ≡ instance.now.procedure) }
+    ensures param { IfOk result (λ x. x.param ≡ param) }
+    ensures cells { IfOk result (λ x. cells_of x ≡ instance.now.cells) }
+{
+    let cells = instance.cells();
+    let last = cells.len() - 1;
+    Ok(Placed {
+        procedure: instance.procedure(),
+        param,
+        inputs: Vec::from_slice(alloc, &cells[..last])?,
+        output: cells[last],
+    })
+}
+
+/// The instances, with their parameters added to the list.
+fn place_all(
+    alloc: Global,
+    words: &Vocabulary,
+    params: &mut Vec<Param>,
+    own: Option<usize>,
+    instances: &[Instance],
+) -> Result<Vec<Placed>, AllocError>
+    requires own { IfSome own (λ n. n < length params.old.items) }
+    requires cells { All (λ x. 0 < length x.cells) instances.now }
+    ensures { IfOk result (λ v. map (placed_of params.new.items) v.items ≡ map (meant (param_meant words.now (param_at params.old.items own))) instances.now) }
+{
+    let mut all = Vec::new(alloc);
+    for instance in instances {
+        let param = param_place(alloc, words, params, own, instance.given())?;
+        all.push(instance_placed(alloc, instance, param)?)?;
+    }
+    Ok(all)
+}
+
+/// What the walk came upon behind the first `count` cells, where this is given.
+pub(crate) fn flatten(
+    alloc: Global,
+    words: &Vocabulary,
+    given: Option<Param>,
+    walk: &Walk,
+    count: usize,
+) -> Result<Flat, AllocError>
+    requires cells { All (λ x. 0 < length x.cells) walk.now.placed }
+    requires count { count ≤ length walk.now.kinds }
+    requires spare { walk.now.spare ≡ false }
+    ensures { IfOk result (λ flat. expansion_of_flat (take count walk.now.kinds) flat ≡ all_meant (param_meant words.now given) walk.now) }
+{
+    let mut params = Vec::new(alloc);
+    let own = first_place(&mut params, given)?;
+    let instances = place_all(alloc, words, &mut params, own, walk.instances())?;
+    let kinds = walk.kinds();
+    Ok(Flat {
+        fresh: Vec::from_slice(alloc, &kinds[count..])?,
+        params,
+        instances,
+    })
+}
+
+/// Puts the parameter first, where there is one. Answers its place.
+fn first_place(params: &mut Vec<Param>, given: Option<Param>) -> Result<Option<usize>, AllocError>
+    requires { length params.old.items ≡ 0 }
+    ensures param { IfOk result (λ own. param_at params.new.items own ≡ given) }
+    ensures there { IfOk result (λ own. IfSome own (λ n. n < length params.new.items)) }
+{
+    match given {
+        Some(param) => {
+            params.push(param)?;
+            Ok(Some(0))
+        }
+        None => Ok(None),
+    }
+}

@@ -1,0 +1,180 @@
+//! What a use of a name stands for, and why it is refused.
+ghost use Rattle.std.specs.Prelude.{◌≡◌, ◌<◌, ◌+◌, ◌==◌, ◌⊎◌, not, length, IfOk, IfErr, IfSome, OnOk, None, Some};
+ghost use Rattle.std.specs.List.{range_with_len};
+ghost use Rattle.prop_procedures.specs.Kept.{stored_of};
+ghost use Rattle.prop_compound.specs.Definitions.{used_named, cells_wanted};
+ghost use Rattle.prop_compound.specs.Expansion.{start, passing_of, expanded_in, expanded};
+ghost use Rattle.prop_compound.specs.Expanding.{size_refusal, expand_refusal};
+ghost use Rattle.prop_compound.specs.Flattened.{expansion_of_flat, IsFlatOver};
+ghost use Rattle.prop_compound.specs.Kept.{fresh_used, instances_used, fresh_of, instances_of, total_of, IsDefinedOver, IsThere, IsUseThere, AreRight};
+
+use crate::definition::{Passing, Used};
+use crate::definitions::Definitions;
+use crate::expanding::expand_definition;
+use crate::fitting::judge;
+use crate::flat::{Flat, flatten};
+use crate::walk::Walk;
+use prop_lattice::{Limit, Refusal};
+use prop_procedures::{Kinded, Library, Param, Rule};
+use prop_vocabulary::Vocabulary;
+use std::alloc::{AllocError, Global};
+
+/// Whether one number is one more than the other.
+fn is_one_more(count: usize, than: usize) -> bool
+    ensures { result ≡ (count == than + 1) }
+{
+    0 < count && count - 1 == than
+}
+
+/// How the whole use's parameter is said inside.
+fn passing_of(given: &Option<Param>) -> Passing
+    ensures { result ≡ passing_of given.now }
+{
+    match given {
+        None => Passing::Nothing,
+        Some(_) => Passing::Own,
+    }
+}
+
+/// The numbers below this one, in order.
+fn numbers_below(alloc: Global, count: usize) -> Result<Vec<usize>, AllocError>
+    ensures { IfOk result (λ numbers. numbers.items ≡ range_with_len 0 count) }
+{
+    let mut numbers = Vec::new(alloc);
+    for number in 0..count {
+        numbers.push(number)?;
+    }
+    Ok(numbers)
+}
+
+impl Definitions {
+    /// What the name stands for in a use, looked up among the procedures first.
+    pub(crate) fn used<R: Rule + Drop>(&self, library: &Library<R>, name: &str) -> Option<Used>
+        ensures used { result ≡ used_named (stored_of R.value_of library.now) self.now name.now }
+        ensures there { IfSome result (IsThere (length (stored_of R.value_of library.now)) (length self.now.definitions)) }
+    {
+        match library.find(name) {
+            Some(number) => Some(Used::Procedure(number)),
+            None => {
+                let number = self.find(name)?;
+                Some(Used::Definition(number))
+            }
+        }
+    }
+
+    /// Whether a use wants another number of cells.
+    pub(crate) fn is_miscounted<R: Rule + Drop>(
+        &self,
+        library: &Library<R>,
+        used: Used,
+        count: usize,
+    ) -> bool
+        requires { IsThere (length (stored_of R.value_of library.now)) (length self.now.definitions) used }
+        ensures { result ≡ not (count == cells_wanted (stored_of R.value_of library.now) self.now used) }
+    {
+        match used {
+            Used::Procedure(number) => !is_one_more(count, library.get(number).ins().len()),
+            Used::Definition(number) => self.definitions[number].params != count,
+        }
+    }
+
+    /// The limit that what the use stands for is over, if it is over one.
+    fn size_refusal(&self, used: Used, procedures: usize) -> Option<Refusal>
+        requires { IsThere procedures (length self.now.definitions) used }
+        ensures { result ≡ size_refusal (fresh_used (total_of fresh_of self.now.definitions) used) (instances_used (total_of instances_of self.now.definitions) used) }
+    {
+        let Used::Definition(number) = used else {
+            return None;
+        };
+        let definition = &self.definitions[number];
+        if Limit::Cells.most() < definition.fresh {
+            return Some(Refusal::LimitReached(Limit::Cells));
+        }
+        if Limit::Instances.most() < definition.instances {
+            return Some(Refusal::LimitReached(Limit::Instances));
+        }
+        None
+    }
+
+    /// Adds what the use stands for.
+    fn add_use(
+        &self,
+        alloc: Global,
+        used: Used,
+        cells: Vec<usize>,
+        given: Passing,
+        walk: &mut Walk,
+    ) -> Result<(), AllocError>
+        requires there { IsUseThere self.now.definitions used (length cells.items) }
+        ensures { OnOk result (walk.new ≡ expanded_in self.now.definitions used cells.items given walk.old) }
+    {
+        match used {
+            Used::Procedure(number) => walk.add_instance(number, given, cells),
+            Used::Definition(number) => {
+                expand_definition(alloc, &self.definitions, number, cells, given, walk)
+            }
+        }
+    }
+
+    /// What the use stands for on cells of these kinds.
+    fn walk<R: Rule + Drop>(
+        &self,
+        alloc: Global,
+        library: &Library<R>,
+        used: Used,
+        cells: &[Kinded],
+        given: Passing,
+    ) -> Result<Walk, AllocError>
+        requires there { IsThere (length (stored_of R.value_of library.now)) (length self.now.definitions) used }
+        requires count { length cells.now ≡ cells_wanted (stored_of R.value_of library.now) self.now used }
+        requires over { IsDefinedOver (stored_of R.value_of library.now) self.now }
+        ensures walk { IfOk result (λ walk. walk ≡ expanded_in self.now.definitions used (range_with_len 0 (length cells.now)) given (start cells.now)) }
+        ensures right { IfOk result (AreRight (stored_of R.value_of library.now)) }
+    {
+        let _ = &self.definitions;
+        let mut walk = Walk::start(alloc, cells)?;
+        let numbers = numbers_below(alloc, cells.len())?;
+        self.add_use(alloc, used, numbers, given, &mut walk)?;
+        Ok(walk)
+    }
+
+    /// What a use of the name stands for, on cells of these kinds and given this: the kinds of its fresh cells, and its instances
+    /// of procedures. Its size is known before anything is made.
+    ///
+    /// Refused with 11 where the name is neither a procedure's nor a definition's, with 12 for the count of cells, with 16 for
+    /// more than 100,000 fresh cells or 200,000 instances, with 13 where the kinds of some instance's cells do not fit, with 14 where
+    /// an instance or a definition does not take what it is given, and with 90.
+    pub fn expand<R: Rule + Drop>(
+        &self,
+        alloc: Global,
+        library: &Library<R>,
+        words: &Vocabulary,
+        name: &str,
+        cells: &[Kinded],
+        given: Option<Param>,
+    ) -> Result<Flat, Refusal>
+        requires over { IsDefinedOver (stored_of R.value_of library.now) self.now }
+        ensures fits { OnOk result (expand_refusal (stored_of R.value_of library.now) words.now self.now name.now cells.now given ≡ None) }
+        ensures ok { IfOk result (λ flat. expansion_of_flat cells.now flat ≡ expanded (stored_of R.value_of library.now) words.now self.now name.now cells.now given) }
+        ensures safe { IfOk result (λ flat. IsFlatOver (stored_of R.value_of library.now) (length cells.now) flat) }
+        ensures err { IfErr result (λ e. (expand_refusal (stored_of R.value_of library.now) words.now self.now name.now cells.now given ≡ Some e) ⊎ (e ≡ Refusal.Memory)) }
+    {
+        let Some(used) = self.used(library, name) else {
+            return Err(Refusal::NoSuchProcedure);
+        };
+        if self.is_miscounted(library, used, cells.len()) {
+            return Err(Refusal::WrongCount);
+        }
+        if let Some(refusal) = self.size_refusal(used, library.len()) {
+            return Err(refusal);
+        }
+        let Ok(walk) = self.walk(alloc, library, used, cells, passing_of(&given)) else {
+            return Err(Refusal::Memory);
+        };
+        judge(alloc, library, words, &given, &walk)?;
+        match flatten(alloc, words, given, &walk, cells.len()) {
+            Ok(flat) => Ok(flat),
+            Err(AllocError) => Err(Refusal::Memory),
+        }
+    }
+}

@@ -1,0 +1,5 @@
+use Rattle.prop_engine.proofs.Fronts.{ended_first}
+use Rattle.prop_engine.proofs.laws.ended_lines_come_first.Goals as goal
+
+pub returns : goal.returns
+returns c = ended_first

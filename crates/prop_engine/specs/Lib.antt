@@ -1,0 +1,6 @@
+pub mod Answers
+pub mod Lines
+pub mod Transcripts
+pub mod Watched
+pub mod Progress
+pub mod Endings

@@ -1,0 +1,56 @@
+-- What a clause reads of a watched device, and of what one call of it did.
+use Rattle.std.specs.Prelude.{◌≡◌, ℕ, ◌+◌, ◌-◌, ◌^◌, min, Bool, List, length, Result, ◌==◌, ◌&&◌, not, true, false, Option, ◌++◌, ◌⊎◌}
+use Rattle.std.specs.Io.KnownBytes.{Appends}
+use Rattle.prop_engine.specs.declared.watched.Watched.{Watched}
+
+-- the reader or the writer itself
+abbrev pub device : {T : Type 0} → Watched T → T
+device w = w.device
+
+-- whether a call of it has failed
+abbrev pub has_failed : {T : Type 0} → Watched T → Bool
+has_failed w = w.has_failed
+
+-- whether a call with bytes to move has moved none: a read that told the end, a write that took no byte
+abbrev pub has_stopped : {T : Type 0} → Watched T → Bool
+has_stopped w = w.has_stopped
+
+-- whether a flush came after the last write
+abbrev pub is_flushed : {T : Type 0} → Watched T → Bool
+is_flushed w = w.is_flushed
+
+-- how many reads or writes it was asked for, which stays at the largest u64
+abbrev pub calls : {T : Type 0} → Watched T → ℕ
+calls w = w.calls
+
+-- how many bytes it was asked for by the widest read
+abbrev pub widest : {T : Type 0} → Watched T → ℕ
+widest w = w.widest
+
+-- no call has failed or moved none of its bytes, and all that was written was passed on
+pub record IsFresh {T : Type 0} (w : Watched T) : Type 0 where
+  pub not_failed : has_failed w ≡ false
+  pub not_stopped : has_stopped w ≡ false
+  pub flushed : is_flushed w ≡ true
+
+-- a call has failed, or has moved none of its bytes
+abbrev pub IsFaulty : {T : Type 0} → Watched T → Type 0
+IsFaulty w = (has_failed w ≡ true) ⊎ (has_stopped w ≡ true)
+
+-- no more calls failed, or moved none of their bytes
+pub record IsUnharmed {T : Type 0} (old new : Watched T) : Type 0 where
+  pub failed : has_failed new ≡ has_failed old
+  pub stopped : has_stopped new ≡ has_stopped old
+
+-- one more call, as it is counted
+abbrev pub one_more : ℕ → ℕ
+one_more n = min (n + 1) (2 ^ 64 - 1)
+
+-- whether a call with bytes to move moved none
+abbrev pub moved_none : {E : Type 0} → Result ℕ E → List ℕ → Bool
+moved_none (Result.Ok n) bytes = (n == 0) && not (length bytes == 0)
+moved_none (Result.Err _) bytes = false
+
+-- a writer took a front of the bytes
+abbrev pub AppendsFront : Option (List ℕ) → Option (List ℕ) → List ℕ → Type 0
+AppendsFront old new bytes = (front : List ℕ) × (missing : List ℕ) × Appends old new front × (bytes ≡ front ++ missing)

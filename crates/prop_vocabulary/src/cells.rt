@@ -1,0 +1,107 @@
+//! The names of cells. A cell may have none.
+ghost use Rattle.std.specs.Prelude.{◌≡◌, ◌∷◌, [], ℕ, map, length, is_none, unwrap_or, None, OnOk, OnErr, IfOk, IfSome, Contains};
+ghost use Rattle.std.specs.List.{list_any};
+ghost use Rattle.prop_vocabulary.specs.Cells.{no_cell_names, cell_named, cells_named, is_cell_missing, with_cell_name, without_last_cell_name};
+
+use crate::names::Names;
+use std::alloc::{AllocError, Global};
+use std::marker::Model;
+
+/// The names of cells, each with the number of its cell.
+#[derive(Drop)]
+pub struct CellNames {
+    names: Names,
+    cells: Vec<usize>,
+}
+
+impl Model for CellNames {
+    ghost use Rattle.std.specs.Prelude.{◌≡◌, length};
+    ghost use Rattle.prop_vocabulary.specs.Cells as named;
+
+    ghost Value = { named.CellNames };
+
+    ghost view = { λ c. record { names = c.names; cells = c.cells.items } };
+
+    ghost invariant = { λ c. length c.cells.items ≡ length c.names };
+}
+
+impl CellNames {
+    /// No names. Takes no memory.
+    pub fn new(alloc: Global) -> CellNames
+        ensures { result ≡ no_cell_names }
+    {
+        CellNames {
+            names: Names::new(alloc),
+            cells: Vec::new(alloc),
+        }
+    }
+
+    /// The number of the cell with this name, looked up by its hash.
+    pub fn find(&self, name: &str) -> Option<usize>
+        ensures number { result ≡ cell_named self.now name.now }
+        ensures there { IfSome result (Contains self.now.cells) }
+    {
+        let number = self.names.find(name)?;
+        self.cells.get(number).copied()
+    }
+
+    /// Whether one of the words names no cell.
+    #[tactic(auto, using(crate::proofs::CellLookups::missing_among))]
+    pub fn is_missing(&self, words: &[&str]) -> bool
+        ensures { result ≡ is_cell_missing self.now (map (λ x. x.now) words.now) }
+    {
+        self.lacks(words)
+    }
+
+    fn lacks(&self, words: &[&str]) -> bool
+        ensures { result ≡ list_any (λ x. is_none (cell_named self.now x.now)) words.now }
+    {
+        words.iter().any(
+            |name: &&str| -> bool
+                ensures { result ≡ is_none (cell_named self.entry.now name.now.now) }
+            { self.find(name).is_none() },
+        )
+    }
+
+    /// The number of the cell with this name, or 0 where there is none.
+    fn number(&self, name: &str) -> usize
+        ensures { result ≡ unwrap_or (cell_named self.now name.now) 0 }
+    {
+        self.find(name).unwrap_or(0)
+    }
+
+    /// The numbers of the cells with these names, 0 for a word that names none.
+    pub fn numbers(&self, alloc: Global, words: &[&str]) -> Result<Vec<usize>, AllocError>
+        ensures { IfOk result (λ v. v.items ≡ cells_named self.now (map (λ x. x.now) words.now)) }
+    {
+        let mut numbers = Vec::new(alloc);
+        for word in words {
+            numbers.push(self.number(word))?;
+        }
+        Ok(numbers)
+    }
+
+    /// A new name, of the cell with this number. After an error the names are as they were.
+    pub fn push(&mut self, alloc: Global, name: &str, cell: usize) -> Result<(), AllocError>
+        requires { cell_named self.old name.now ≡ None }
+        ensures ok { OnOk result (self.new ≡ with_cell_name self.old name.now cell) }
+        ensures err { OnErr result (self.new ≡ self.old) }
+    {
+        self.names.push(alloc, name)?;
+        match self.cells.push(cell) {
+            Ok(()) => Ok(()),
+            Err(_) => {
+                self.names.pop();
+                Err(AllocError)
+            }
+        }
+    }
+
+    /// Takes the last name back. Takes no memory.
+    pub fn pop(&mut self)
+        ensures { self.new ≡ without_last_cell_name self.old }
+    {
+        let _ = self.cells.pop();
+        self.names.pop();
+    }
+}

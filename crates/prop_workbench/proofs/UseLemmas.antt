@@ -1,0 +1,114 @@
+-- What a use leaves: the network is under way, and its fresh cells are of kinds that are there.
+use Rattle.std.proofs.Common.{◌≡◌, ◌∙◌, ℕ, ◌<◌, ◌≤◌, ◌+◌, ◌==◌, Bool, true, false, cond, not, ◌&&◌, List, [], ◌∷◌, ◌++◌, Option, Some, None, All, Contains, map, length, slice_get, ◌⊎◌, inl, inr, refl, sym, ap, subst, arith}
+use Rattle.std.specs.Prelude.{reverse, ⊤}
+use Rattle.std.specs.Option.{option_map_or}
+use Rattle.std.specs.List.{range_with_len}
+use Rattle.std.proofs.lemmas.Bool.{cases_lt}
+use Rattle.std.proofs.lemmas.List.{length-map, map-append, append_assoc, append-nil, reverse-append, get_or_past, get_or_append_left}
+use Rattle.std.proofs.lemmas.List.Elements.{All-nil, All-append, All-cons, All-head, All-tail, All-push, All-get_or}
+use Rattle.std.proofs.lemmas.Option.{slice_get_within, slice_get-get_or, get_or_from_slice_get}
+use Rattle.prop_lattice.specs.declared.info.Info.{Info}
+use Rattle.prop_procedures.specs.declared.shape.Kinded.{Kinded}
+use Rattle.prop_procedures.specs.declared.shape.Param.{Param}
+use Rattle.prop_procedures.specs.Stored.{Stored, span_kind}
+use Rattle.prop_cells.specs.Problems.{Premises, OthersMeet, Constraint, Meets}
+use Rattle.prop_cells.specs.Instances.{Instance, constraint_of}
+use Rattle.prop_cells.specs.Data.{Data, Entry, IsKept, beliefs}
+use Rattle.prop_cells.proofs.Making.{beliefs-push}
+use Rattle.prop_scheduler.specs.Turns.{IsUnderWay}
+use Rattle.prop_vocabulary.specs.Vocabulary.{Vocabulary}
+use Rattle.prop_compound.specs.declared.definition.Passing.{Passing}
+use Rattle.prop_compound.specs.declared.definition.Used.{Used}
+use Rattle.prop_compound.specs.declared.definition.Used.TheVariants as uses
+use Rattle.prop_compound.specs.declared.definition.NumberedStep.{NumberedStep}
+use Rattle.prop_compound.specs.declared.definition.NumberedStep.TheVariants.{Local, Like, Use}
+use Rattle.prop_compound.specs.Definitions.{Definition, Definitions, used_named, is_taking}
+use Rattle.prop_procedures.specs.Fitting.{kind_at}
+use Rattle.prop_compound.specs.Expansion.{Walk, Expansion, cell_at, cells_at, passed, is_something, with_fresh, with_spare, passing_of, start, use_expanded, steps_expanded, definition_expanded, expanded_in, walked, expanded}
+use Rattle.prop_workbench.specs.Sessions.{IsLocalOf, AreLocalsOf}
+
+-- ---- under way
+
+-- cells of which nothing is known change no belief
+beliefs_fresh : (t : Premises) (contents : List (List Entry)) (fresh : List Kinded) → beliefs t (contents ++ map (λ k. []) fresh) ≡ beliefs t contents
+beliefs_fresh t contents [] = ap (beliefs t) (append-nil contents)
+beliefs_fresh t contents (k ∷ fresh) =
+    ap (beliefs t) (sym (append_assoc contents ([] ∷ []) (map (λ k. []) fresh))) ∙ beliefs_fresh t (contents ++ [] ∷ []) fresh ∙ beliefs-push t contents
+
+front_get : {X : Type 0} (xs ys : List X) (i : ℕ) (x : X) → slice_get (xs ++ ys) i ≡ Some x → i < length xs → slice_get xs i ≡ Some x
+front_get xs ys i x at l =
+    slice_get-get_or xs i x l ∙ ap Some (sym (get_or_append_left xs ys x i l) ∙ get_or_from_slice_get (xs ++ ys) i x x at)
+
+-- where all instances that are new wait, the others are met as before
+others_met : (old new : List Constraint) (line line' : List ℕ) (a : ℕ → Info) → OthersMeet old line a → ((i : ℕ) → Contains line i → Contains line' i) →
+    ((i : ℕ) → length old ≤ i → i < length (old ++ new) → Contains line' i) → OthersMeet (old ++ new) line' a
+others_met old new line line' a o kept waits = record { met = λ j c at idle. by j c at idle (cases_lt j (length old)) }
+  where
+    by : (j : ℕ) (c : Constraint) → slice_get (old ++ new) j ≡ Some c → (Contains line' j → ⊥) → (j < length old) ⊎ (length old ≤ j) → Meets a c
+    by j c at idle (inl h) = o.met j c (front_get old new j c at h) (λ w. idle (kept j w))
+    by j c at idle (inr h) = absurd (idle (waits j h (slice_get_within (old ++ new) j c at)))
+
+pub under_way_made : (library : List Stored) (s : Premises) (d new : Data) (line line' : List ℕ) (fresh : List Kinded) (params : List Param) (xs : List Instance) → IsUnderWay library s d line → IsKept library new →
+    new ≡ record d { kinds = d.kinds ++ fresh; contents = d.contents ++ map (λ k. []) fresh; params = d.params ++ params; instances = d.instances ++ xs } →
+    ((i : ℕ) → Contains line i → Contains line' i) → ((i : ℕ) → length d.instances ≤ i → i < length (d.instances ++ xs) → Contains line' i) → All (λ k. k < length (d.instances ++ xs)) line' → IsUnderWay library s new line'
+under_way_made library s d new line line' fresh params xs u kept e before waits below =
+    let of = constraint_of library in
+    let n = length-map d.instances of in
+    let m : length (map of d.instances ++ map of xs) ≡ length (d.instances ++ xs) = ap length (sym (map-append of d.instances xs)) ∙ length-map (d.instances ++ xs) of in
+    record {
+      kept = kept;
+      line_below = rw e below;
+      met = rw (e, map-append, beliefs_fresh s d.contents fresh) (others_met (map of d.instances) (map of xs) line line' (beliefs s d.contents) u.met before (λ i l h. waits i (rw n at l) (rw m at h)));
+    }
+
+-- ---- kinds
+
+module _ (P : Kinded → Type 0) (span : P span_kind) where
+  kind_of_place : (kinds : List Kinded) (cell : ℕ) → All P kinds → P (kind_at kinds cell)
+  kind_of_place kinds cell all = by (cases_lt cell (length kinds))
+    where
+      by : (cell < length kinds) ⊎ (length kinds ≤ cell) → P (kind_at kinds cell)
+      by (inl h) = all cell span_kind h
+      by (inr h) = subst P (sym (get_or_past kinds cell span_kind h)) span
+
+  steps_kinds : (definition : ℕ → List ℕ → Passing → Walk → Walk) → ((n : ℕ) (cells : List ℕ) (given : Passing) (e : Walk) → All P e.kinds → All P (definition n cells given e).kinds) →
+      (given : Passing) (cells : List ℕ) (steps : List NumberedStep) (e : Walk) → All (IsLocalOf P) steps → All P e.kinds → All P (steps_expanded definition given cells steps e).kinds
+  steps_kinds definition keeps given cells [] e locals all = all
+  steps_kinds definition keeps given cells (Local kind ∷ steps) e locals all =
+      steps_kinds definition keeps given (cells ++ length e.kinds ∷ []) steps (with_fresh e kind) (All-tail (IsLocalOf P) (Local kind) steps locals) (All-push P e.kinds kind all (All-head (IsLocalOf P) (Local kind) steps locals))
+  steps_kinds definition keeps given cells (Like place ∷ steps) e locals all =
+      steps_kinds definition keeps given (cells ++ length e.kinds ∷ []) steps (with_fresh e (kind_at e.kinds (cell_at cells place))) (All-tail (IsLocalOf P) (Like place) steps locals)
+      (All-push P e.kinds (kind_at e.kinds (cell_at cells place)) all (kind_of_place e.kinds (cell_at cells place) all))
+  steps_kinds definition keeps given cells (Use (uses.Procedure n) places passing ∷ steps) e locals all =
+      steps_kinds definition keeps given cells steps _ (All-tail (IsLocalOf P) (Use (uses.Procedure n) places passing) steps locals) all
+  steps_kinds definition keeps given cells (Use (uses.Definition n) places passing ∷ steps) e locals all =
+      steps_kinds definition keeps given cells steps _ (All-tail (IsLocalOf P) (Use (uses.Definition n) places passing) steps locals) (keeps n (cells_at cells places) (passed given passing) e all)
+
+  definition_kinds : (definitions : List Definition) → All (λ d. All (IsLocalOf P) d.steps) definitions → (n : ℕ) (cells : List ℕ) (given : Passing) (e : Walk) → All P e.kinds → All P (definition_expanded definitions n cells given e).kinds
+  definition_kinds [] locals n cells given e all = all
+  definition_kinds (d ∷ earlier) locals n cells given e all = by (n == length earlier)
+    where
+      rest : (n : ℕ) (cells : List ℕ) (given : Passing) (e : Walk) → All P e.kinds → All P (definition_expanded earlier n cells given e).kinds
+      rest = definition_kinds earlier (All-tail (λ d. All (IsLocalOf P) d.steps) d earlier locals)
+
+      by : (b : Bool) → All P (cond b (steps_expanded (definition_expanded earlier) given cells d.steps (with_spare e (is_something given && not (is_taking d)))) (definition_expanded earlier n cells given e)).kinds
+      by true = steps_kinds (definition_expanded earlier) rest given cells d.steps _ (All-head (λ d. All (IsLocalOf P) d.steps) d earlier locals) all
+      by false = rest n cells given e all
+
+  all_reversed : {X : Type 0} (Q : X → Type 0) (xs : List X) → All Q xs → All Q (reverse xs)
+  all_reversed Q [] all = All-nil Q
+  all_reversed Q (x ∷ xs) all =
+      subst (All Q) (sym (reverse-append (x ∷ []) xs)) (All-append Q (reverse xs) (x ∷ []) (all_reversed Q xs (All-tail Q x xs all)) (All-cons Q x [] (All-head Q x xs all) (All-nil Q)))
+
+  used_kinds : (definitions : Definitions) → AreLocalsOf P definitions → (o : Option Used) (cells : List ℕ) (given : Passing) (kinds : List Kinded) → All P kinds →
+      All P (option_map_or (λ used. expanded_in definitions.definitions used cells given (start kinds)) o (start kinds)).kinds
+  used_kinds definitions locals None cells given kinds all = all
+  used_kinds definitions locals (Some (uses.Procedure n)) cells given kinds all = all
+  used_kinds definitions locals (Some (uses.Definition n)) cells given kinds all =
+      definition_kinds (reverse definitions.definitions) (all_reversed (λ d. All (IsLocalOf P) d.steps) definitions.definitions locals) n cells given (start kinds) all
+
+  -- what is true of the kinds of the given cells and of the locals is true of all of a use's
+  pub kinds_of_use : (library : List Stored) (words : Vocabulary) (definitions : Definitions) (name : List ℕ) (kinds : List Kinded) (given : Option Param) → AreLocalsOf P definitions → All P kinds →
+      All P (expanded library words definitions name kinds given).kinds
+  kinds_of_use library words definitions name kinds given locals all =
+      used_kinds definitions locals (used_named library definitions name) (range_with_len 0 (length kinds)) (passing_of given) kinds all

@@ -1,5 +1,0 @@
-use Rattle.prop_workbench.proofs.Fronts.{ended_first}
-use Rattle.prop_workbench.proofs.laws.ended_lines_come_first.Goals as goal
-
-pub returns : goal.returns
-returns c = ended_first

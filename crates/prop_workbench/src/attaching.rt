@@ -1,0 +1,180 @@
+//! The command that puts procedures and definitions between cells.
+ghost use Rattle.std.specs.Prelude.{◌≡◌, ◌<◌, ◌≤◌, ◌+◌, ◌⊎◌, ℕ, All, Contains, length, map, None, Some, IfOk, IfErr, OnOk, OnErr};
+ghost use Rattle.prop_procedures.specs.Fitting.{kind_at};
+ghost use Rattle.prop_compound.specs.Said.{by_of};
+ghost use Rattle.prop_workbench.specs.Refusing.{is_unknown, given_by, room_refusal};
+
+use crate::placing::make_all;
+use crate::session::Session;
+use prop_cells::{Cells, Network};
+use prop_compound::{By, Flat};
+use prop_engine::Reply;
+use prop_lattice::{Limit, Refusal};
+use prop_procedures::{Kinded, Param, Rule};
+use prop_scheduler::{Agenda, Order};
+use prop_vocabulary::Vocabulary;
+use std::alloc::{AllocError, Global};
+
+/// Whether a relation is named of which there is none.
+fn is_unknown(words: &Vocabulary, by: By) -> bool
+    ensures { result ≡ is_unknown words.now (by_of by.entry) }
+{
+    match by {
+        By::Nothing | By::Number(_) => false,
+        By::Relation(name) => words.relation(name).is_none(),
+    }
+}
+
+/// What is given: a scale or a relation, or nothing.
+fn given(alloc: Global, words: &Vocabulary, by: By) -> Result<Option<Param>, AllocError>
+    ensures { IfOk result (λ given. given ≡ given_by words.now (by_of by.entry)) }
+{
+    match by {
+        By::Nothing => Ok(None),
+        By::Number(scale) => Ok(Some(Param::Scale(scale))),
+        By::Relation(name) => match words.relation(name) {
+            Some(rows) => Ok(Some(Param::Rows(rows.copy(alloc)?))),
+            None => Ok(None),
+        },
+    }
+}
+
+/// The kinds of these cells.
+fn kinds_of(alloc: Global, held: &Cells, cells: &[usize]) -> Result<Vec<Kinded>, AllocError>
+    requires { All (λ c. c < length held.now.kinds) cells.now }
+    ensures { IfOk result (λ v. v.items ≡ map (kind_at held.now.kinds) cells.now) }
+{
+    let mut kinds = Vec::new(alloc);
+    for cell in cells {
+        kinds.push(held.kind(*cell))?;
+    }
+    Ok(kinds)
+}
+
+/// Makes the instances with these numbers wait.
+fn alert_between(agenda: &mut Agenda, first: usize, end: usize)
+    requires { end ≤ agenda.old.room }
+    ensures before { (i : ℕ) → Contains agenda.old.line i → Contains agenda.new.line i }
+    ensures alerted { (i : ℕ) → first ≤ i → i < end → Contains agenda.new.line i }
+    ensures below { (n : ℕ) → end ≤ n → All (λ i. i < n) agenda.old.line → All (λ i. i < n) agenda.new.line }
+    ensures room { agenda.new.room ≡ agenda.old.room }
+{
+    for instance in first..end {
+        agenda.alert(instance);
+    }
+}
+
+/// Makes room for so many fresh cells and instances more, or tells which limit they pass.
+fn make_room<R: Rule + Drop>(
+    network: &Network<R>,
+    agenda: &mut Agenda,
+    fresh: usize,
+    instances: usize,
+) -> Result<(), Refusal>
+    ensures line { agenda.new.line ≡ agenda.old.line }
+    ensures more { agenda.old.room ≤ agenda.new.room }
+    ensures room { OnOk result (length network.now.cells.instances + instances ≤ agenda.new.room) }
+    ensures fits { OnOk result (room_refusal (length network.now.cells.kinds + fresh) (length network.now.cells.instances + instances) ≡ None) }
+    ensures err { IfErr result (λ e. (room_refusal (length network.now.cells.kinds + fresh) (length network.now.cells.instances + instances) ≡ Some e) ⊎ (e ≡ Refusal.Memory)) }
+{
+    if network.cells().saturating_add(fresh) > Limit::Cells.most() {
+        return Err(Refusal::LimitReached(Limit::Cells));
+    }
+    let count = network.instances().saturating_add(instances);
+    if count > Limit::Instances.most() {
+        return Err(Refusal::LimitReached(Limit::Instances));
+    }
+    match agenda.room(count) {
+        Ok(()) => Ok(()),
+        Err(AllocError) => Err(Refusal::Memory),
+    }
+}
+
+impl<R: Rule + Drop, O: Order + Drop> Session<R, O> {
+    ghost use Rattle.std.specs.Prelude.{◌≡◌, ◌<◌, ◌≤◌, ◌+◌, ◌⊎◌, ℕ, All, length, map, None, Some, IfOk, IfErr, OnOk, OnErr};
+    ghost use Rattle.prop_lattice.specs.declared.refusal.Refusal.TheVariants.{Memory};
+    ghost use Rattle.prop_engine.specs.Answers.{answer_of};
+    ghost use Rattle.prop_compound.specs.Commands as commands;
+    ghost use Rattle.prop_compound.specs.Said.{by_of, words};
+    ghost use Rattle.prop_workbench.specs.Refusing.{used, use_refusal, given_by};
+    ghost use Rattle.prop_procedures.specs.Fitting.{kind_at};
+    ghost use Rattle.prop_compound.specs.Expanding.{expand_refusal};
+    ghost use Rattle.prop_compound.specs.Flattened.{expansion_of_flat, IsFlatOver};
+    ghost use Rattle.prop_workbench.specs.Effects.{with_use};
+    ghost use Rattle.prop_workbench.specs.Sessions.{state_of, steps_of, library_of, IsSound};
+    ghost use Rattle.prop_workbench.specs.Steps.{Obeys};
+
+    /// Puts a procedure or a definition between cells.
+    pub(crate) fn attach(&mut self, name: &str, cells: &[&str], by: By) -> Reply
+        requires sound { IsSound R.value_of self.old }
+        ensures same { self.new.network.library ≡ self.old.network.library }
+        ensures sound { IsSound R.value_of self.new }
+        ensures steps { steps_of self.new ≡ steps_of self.old }
+        ensures step { Obeys (library_of R.value_of self.old) (state_of self.old) (commands.Command.Attach name.now (words cells.now) (by_of by.entry)) (answer_of result) (state_of self.new) 0 }
+    {
+        if is_unknown(&self.words, by) {
+            return Reply::Refused(Refusal::NoSuchRelation);
+        }
+        if self.names.is_missing(cells) {
+            return Reply::Refused(Refusal::NoSuchCell);
+        }
+        let numbers = match self.names.numbers(self.alloc, cells) {
+            Ok(numbers) => numbers,
+            Err(AllocError) => return Reply::Refused(Refusal::Memory),
+        };
+        match self.use_on(name, &numbers, by) {
+            Ok(()) => Reply::Done,
+            Err(refusal) => Reply::Refused(refusal),
+        }
+    }
+
+    /// Puts the procedure or definition of a name between the cells of these numbers, whole or not at all.
+    fn use_on(&mut self, name: &str, cells: &[usize], by: By) -> Result<(), Refusal>
+        requires sound { IsSound R.value_of self.old }
+        requires cells { All (λ c. c < length self.old.network.cells.kinds) cells.now }
+        ensures same { self.new.network.library ≡ self.old.network.library }
+        ensures sound { IsSound R.value_of self.new }
+        ensures steps { steps_of self.new ≡ steps_of self.old }
+        ensures fits { OnOk result (use_refusal (library_of R.value_of self.old) (state_of self.old) name.now cells.now (by_of by.entry) ≡ None) }
+        ensures ok { OnOk result (state_of self.new ≡ with_use (library_of R.value_of self.old) (state_of self.old) cells.now (used (library_of R.value_of self.old) (state_of self.old) name.now cells.now (by_of by.entry))) }
+        ensures err { IfErr result (λ e. (use_refusal (library_of R.value_of self.old) (state_of self.old) name.now cells.now (by_of by.entry) ≡ Some e) ⊎ (e ≡ Memory)) }
+        ensures err_same { OnErr result (state_of self.new ≡ state_of self.old) }
+    {
+        let flat = self.expanded(name, cells, by)?;
+        make_room(
+            &self.network,
+            &mut self.agenda,
+            flat.fresh.len(),
+            flat.instances.len(),
+        )?;
+        let first = self.network.instances();
+        make_all(self.alloc, &mut self.network, cells, flat)?;
+        alert_between(&mut self.agenda, first, self.network.instances());
+        Ok(())
+    }
+
+    /// What a use of the name on the cells of these numbers stands for.
+    fn expanded(&self, name: &str, cells: &[usize], by: By) -> Result<Flat, Refusal>
+        requires sound { IsSound R.value_of self.now }
+        requires cells { All (λ c. c < length self.now.network.cells.kinds) cells.now }
+        ensures fits { OnOk result (expand_refusal (library_of R.value_of self.now) self.now.words self.now.definitions name.now (map (kind_at self.now.network.cells.kinds) cells.now) (given_by self.now.words (by_of by.entry)) ≡ None) }
+        ensures ok { IfOk result (λ flat. expansion_of_flat (map (kind_at self.now.network.cells.kinds) cells.now) flat ≡ used (library_of R.value_of self.now) (state_of self.now) name.now cells.now (by_of by.entry)) }
+        ensures safe { IfOk result (λ flat. IsFlatOver (library_of R.value_of self.now) (length cells.now) flat) }
+        ensures err { IfErr result (λ e. (expand_refusal (library_of R.value_of self.now) self.now.words self.now.definitions name.now (map (kind_at self.now.network.cells.kinds) cells.now) (given_by self.now.words (by_of by.entry)) ≡ Some e) ⊎ (e ≡ Memory)) }
+    {
+        let Ok(given) = given(self.alloc, &self.words, by) else {
+            return Err(Refusal::Memory);
+        };
+        let Ok(kinds) = kinds_of(self.alloc, self.network.data(), cells) else {
+            return Err(Refusal::Memory);
+        };
+        self.definitions.expand(
+            self.alloc,
+            self.network.library(),
+            &self.words,
+            name,
+            &kinds,
+            given,
+        )
+    }
+}
