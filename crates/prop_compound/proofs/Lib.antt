@@ -1,7 +1,7 @@
 pub mod Lexing
 pub mod Digits
 pub mod Forming
-pub mod Defining
+pub mod StepLaws
 pub mod Halving
 pub mod SpellingLaws
 pub mod RefusalLaws

@@ -4,7 +4,7 @@ use Rattle.std.specs.List.{list_any, flat_map}
 use Rattle.std.proofs.lemmas.Bool.{or_parts, or_cases, or_left, or_right, cases_lt, leb-true, leb-false, le-leb, lt-leb}
 use Rattle.std.proofs.lemmas.List.{map-append, length-append, length-take, length-take-le, append_assoc, take-append-drop, take_at, drop_at, get_or_at, get_or-take, drop_more, take_more, take-append-le}
 use Rattle.std.proofs.lemmas.List.Folds.{list_any-append, list_any_at, list_any_none}
-use Rattle.std.proofs.lemmas.List.FromFn.{flat_map-append, flat_map-cons}
+use Rattle.std.proofs.lemmas.List.Concat.{flat_map-append, flat_map-cons}
 use Rattle.std.proofs.lemmas.List.Quantifiers.{position-Some}
 use Rattle.prop_lattice.specs.declared.refusal.Refusal.{Refusal}
 use Rattle.prop_lattice.specs.declared.refusal.Refusal.TheVariants.{NameTaken, Memory}

@@ -12,7 +12,7 @@ use Rattle.prop_compound.specs.Names.{looks_like_number, number_in}
 use Rattle.prop_compound.specs.Commands.{Value, Bare, Braces, KindWord, Spans, Truths, Symbols, Named, By, Passed, Step, Command}
 use Rattle.prop_compound.specs.Forms.{bare, on_word, only_words, domain, pairs, relation, kind_word, cell, parameter, by_form, with_cell, cells_by, attach, local_of_kind, local_like, passed_form, use_step, step, each, is_semicolon, steps, define, join, values, in_braces, one_value, only_value, fix, tell, forms}
 use Rattle.prop_compound.proofs.Forming.{Filled, filled}
-use Rattle.prop_compound.proofs.Defining.{Head, Headed, Headless, head, words_alone, before_equals, after_equals, bodiless, bodied}
+use Rattle.prop_compound.proofs.StepLaws.{Head, Headed, Headless, head, words_alone, before_equals, after_equals, bodiless, bodied}
 use Rattle.prop_compound.specs.Spelling.{Spells, SpellsStep, SpellsSteps, IsLocal, StandsFor, further_pairs, Gives, Passes, HaveNoBy, tokens_of_value}
 
 -- what is read from a line's tokens, where there is a form for it

@@ -2,7 +2,7 @@ use Rattle.std.proofs.Common.{map, inr, Err, Contains, subst}
 use Rattle.std.proofs.lemmas.Result.{err_from_is_err_and}
 use Rattle.prop_lattice.specs.declared.refusal.Refusal.TheVariants.{WrongForm, NotAName}
 use Rattle.prop_compound.specs.Said.{step_read}
-use Rattle.prop_compound.proofs.Defining.{body_misformed, steps_misformed, definition_unnamed, params_refused, step_unnamed, step_refused, definition_read}
+use Rattle.prop_compound.proofs.StepLaws.{body_misformed, steps_misformed, definition_unnamed, params_refused, step_unnamed, step_refused, definition_read}
 use Rattle.prop_compound.proofs.steps.define.Goals as goal
 
 pub returns-in_err-body : goal.returns-in_err-body

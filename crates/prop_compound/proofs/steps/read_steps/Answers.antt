@@ -2,7 +2,7 @@ use Rattle.std.proofs.Common.{◌∙◌, rules, tests}
 use Rattle.std.specs.Prelude.{◌==◌}
 use Rattle.std.proofs.lemmas.Iterator.Consumers.{YieldsList-end}
 use Rattle.std.proofs.lemmas.Iterator.Splits.{YieldsList-from_slice_split}
-use Rattle.prop_compound.proofs.Defining.{all_parts}
+use Rattle.prop_compound.proofs.StepLaws.{all_parts}
 use Rattle.prop_compound.proofs.steps.read_steps.Goals as goal
 
 pub returns-clause-ok : goal.returns-clause-ok
