@@ -1,7 +1,14 @@
 -- Which refusal of a list comes first.
-use Rattle.std.proofs.Common.{◌≡◌, ◌∙◌, ◌||◌, Bool, true, false, List, [], ◌∷◌, Option, Some, None, cond, map, refl, ap}
+use Rattle.std.proofs.Common.{◌≡◌, ◌∙◌, ◌||◌, Bool, true, false, List, [], ◌∷◌, Option, Some, None, cond, map, refl, sym, ap}
 use Rattle.std.specs.List.{list_any}
 use Rattle.prop_lattice.specs.declared.refusal.Refusal.{Refusal}
+use Rattle.prop_lattice.specs.declared.refusal.Refusal.TheVariants.{WrongKind, WrongParameter}
+use Rattle.prop_procedures.specs.declared.shape.Kinded.{Kinded}
+use Rattle.prop_procedures.specs.declared.shape.Param.{Param}
+use Rattle.prop_procedures.specs.Stored.{Stored}
+use Rattle.prop_compound.specs.declared.definition.Passing.{Passing}
+use Rattle.prop_compound.specs.Expansion.{Walk, Placed, meant, all_meant}
+use Rattle.prop_compound.specs.Expanding.{is_misplaced, is_misgiven, is_param_wrong, fit_refusal}
 use Rattle.prop_vocabulary.specs.Refusing.{when, first_of}
 
 -- this condition holds
@@ -29,3 +36,31 @@ neither r s false false e = (refl, refl)
 pub list_any-map : {X Y : Type 0} (f : X → Y) (p : Y → Bool) (xs : List X) → list_any p (map f xs) ≡ list_any (λ x. p (f x)) xs
 list_any-map f p [] = refl
 list_any-map f p (x ∷ xs) = ap (λ b. p (f x) || b) (list_any-map f p xs)
+
+-- ---- whether what a use stands for fits
+
+module _ (library : List Stored) (mean : Passing → Option Param) (walk : Walk) (kinds : List Kinded) (placed : List (Placed Passing)) (b : Bool) (same_kinds : kinds ≡ walk.kinds) (same_placed : placed ≡ walk.placed)
+    (is : b ≡ list_any (λ x. is_misplaced library kinds (meant mean x)) placed) where
+  misplaced : list_any (is_misplaced library walk.kinds) (map (meant mean) walk.placed) ≡ b
+  misplaced = list_any-map (meant mean) (is_misplaced library walk.kinds) walk.placed ∙ sym (is ∙ (λ i. list_any (λ x. is_misplaced library (same_kinds i) (meant mean x)) (same_placed i)))
+
+  -- some kind does not
+  pub kind_stops : b ≡ true → fit_refusal library (all_meant mean walk) ≡ Some WrongKind
+  kind_stops e =
+      stops WrongKind (list_any (is_misplaced library walk.kinds) (map (meant mean) walk.placed)) (when WrongParameter (is_param_wrong library (all_meant mean walk)) ∷ []) (misplaced ∙ e)
+
+  -- the kinds do: what is said of the parameters is said
+  decides : (wrong : Bool) → b ≡ false → wrong ≡ is_param_wrong library (all_meant mean walk) → fit_refusal library (all_meant mean walk) ≡ first_of (when WrongParameter wrong ∷ [])
+  decides wrong e w =
+      passes WrongKind (list_any (is_misplaced library walk.kinds) (map (meant mean) walk.placed)) (when WrongParameter (is_param_wrong library (all_meant mean walk)) ∷ []) (first_of (when WrongParameter wrong ∷ [])) (misplaced ∙ e) (ap (λ t. first_of (when WrongParameter t ∷ [])) (sym w))
+
+  -- a definition is given something and takes nothing
+  pub spare_stops : (spare : Bool) → b ≡ false → spare ≡ walk.spare → spare ≡ true → fit_refusal library (all_meant mean walk) ≡ Some WrongParameter
+  spare_stops spare e s t =
+      decides true e (ap (λ z. z || list_any (is_misgiven library) (map (meant mean) walk.placed)) (sym t ∙ s))
+
+  -- no definition is: what is said of the instances is said
+  pub given_decides : (spare misgiven : Bool) (instances : List (Placed Passing)) → b ≡ false → spare ≡ walk.spare → spare ≡ false → instances ≡ walk.placed → misgiven ≡ list_any (λ x. is_misgiven library (meant mean x)) instances → fit_refusal library (all_meant mean walk) ≡ first_of (when WrongParameter misgiven ∷ [])
+  given_decides spare misgiven instances e s t same m =
+      let any : misgiven ≡ list_any (is_misgiven library) (map (meant mean) walk.placed) = m ∙ ap (list_any (λ x. is_misgiven library (meant mean x))) same ∙ sym (list_any-map (meant mean) (is_misgiven library) walk.placed) in
+      decides misgiven e (any ∙ ap (λ z. z || list_any (is_misgiven library) (map (meant mean) walk.placed)) (sym t ∙ s))
