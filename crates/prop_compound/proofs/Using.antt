@@ -67,6 +67,11 @@ module _ (library : List Stored) (words : Vocabulary) (definitions : Definitions
 
 -- ---- right instances
 
+-- a use of what there is, on as many cells as it wants
+pub use_there : (library : List Stored) (definitions : Definitions) (used : Used) (count : ℕ) → IsThere (length library) (length definitions.definitions) used → count ≡ cells_wanted library definitions used → IsUseThere definitions.definitions used count
+use_there library definitions (uses.Procedure n) count there wanted = tt
+use_there library definitions (uses.Definition n) count there wanted = (there, sym wanted)
+
 pub range_push : (n : ℕ) (old new : List ℕ) → old ≡ range_with_len 0 n → new ≡ old ++ n ∷ [] → new ≡ range_with_len 0 (n + 1)
 range_push n old new e f =
     f ∙ ap (λ l. l ++ n ∷ []) (e ∙ sym (map-id (range_with_len 0 n))) ∙ sym (map-range_with_len_more (λ x. x) 0 n n (zero-add n)) ∙ map-id (range_with_len 0 (n + 1))
@@ -105,3 +110,9 @@ uses_right library ks definitions (uses.Definition n) kinds given kept same over
     let below : n < length (reverse ds) = omega (arith, there, ap length same, length-reverse ds) in
     let wanted : option_map_or (λ (d : Definition). d.params) (slice_get ds n) 0 ≡ length cells = ap (λ l. option_map_or (λ (d : Definition). d.params) (slice_get l n) 0) (sym same) ∙ sym count ∙ sym (length-range_with_len 0 (length kinds)) in
     rw same (definitions_keep library ds (reverse ds) (sound_of library ks kept over_all) n below cells wanted given (start kinds) (range_within (length kinds)) (All-nil (IsRight library (length kinds))))
+
+pub walk_right : (library : List Stored) (ks : List KeptDefinition) (definitions : Definitions) (used : Used) (kinds : List Kinded) (given : Passing) (numbers : List ℕ) (e e' : Walk) → AreKept ks → definitions.definitions ≡ all_bare ks → IsDefinedOver library definitions →
+    IsThere (length library) (length definitions.definitions) used → length kinds ≡ cells_wanted library definitions used → numbers ≡ range_with_len 0 (length kinds) → e ≡ start kinds → e' ≡ expanded_in definitions.definitions used numbers given e → AreRight library e'
+walk_right library ks definitions used kinds given numbers e e' kept same over there count is_range is_start is =
+    let at_start : expanded_in definitions.definitions used numbers given e ≡ expanded_in definitions.definitions used (range_with_len 0 (length kinds)) given (start kinds) = λ i. expanded_in definitions.definitions used (is_range i) given (is_start i) in
+    rw (is, at_start) (uses_right library ks definitions used kinds given kept same over there count)
