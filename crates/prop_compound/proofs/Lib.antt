@@ -16,4 +16,5 @@ pub mod Scoping
 mod Using
 mod Flattening
 mod Zips
+mod Expanded
 pub mod Resolved

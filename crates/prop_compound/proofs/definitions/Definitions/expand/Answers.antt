@@ -1,37 +1,35 @@
-use Rattle.std.proofs.Common.{rules, ◌≡◌, ◌<◌, ◌+◌, ◌==◌, ◌⊎◌, not, length, IfOk, IfErr, IfSome, OnOk, None, Some, ℕ, ◌-◌, ◌*◌, ◌≤◌, ◌/◌, ◌%◌, Bool, true, false, nat_eq, nat_lt, List, [], ◌∷◌, ◌++◌, slice_index_or, slice_set, bit_and, bit_or, Fits, w8, w32, w64, Bor, MutBor}
-use Rattle.std.specs.List.{range_with_len}
+use Rattle.std.proofs.Common.{◌∙◌, sym, inl}
+use Rattle.std.proofs.lemmas.Result.{err_from_is_err_and}
 use Rattle.prop_procedures.specs.Kept.{stored_of}
-use Rattle.prop_compound.specs.Definitions.{used_named, cells_wanted}
-use Rattle.prop_compound.specs.Expansion.{start, passing_of, expanded_in, expanded}
-use Rattle.prop_compound.specs.Expanding.{size_refusal, expand_refusal}
-use Rattle.prop_compound.specs.Flattened.{expansion_of_flat, IsFlatOver}
-use Rattle.prop_compound.specs.Kept.{fresh_used, instances_used, fresh_of, instances_of, total_of, IsDefinedOver, IsThere, IsUseThere, AreRight}
+use Rattle.prop_compound.proofs.Expanded.{all_cells_there, size_stops, fit_decides, cells_among, flat_means, flat_safe}
 use Rattle.prop_compound.proofs.definitions.Definitions.expand.Goals as goal
 
--- src/uses.rt:169:13
 pub returns-in-Some-size_refusal-clause-err : goal.returns-in-Some-size_refusal-clause-err
-returns-in-Some-size_refusal-clause-err g c = ?
+returns-in-Some-size_refusal-clause-err g c =
+    inl (size_stops (stored_of g.R.Rule.value_of c.args.library.now) c.args.words.now c.args.self.now c.args.name.now c.args.cells.now c.args.given c.in-Some.used (sym c.used.ensures.used ∙ c.in-Some.is) c.is_miscounted.result c.is_miscounted.ensures c.if-is_miscounted.false c.size_refusal.result c.in-Some-size_refusal.refusal c.size_refusal.ensures c.in-Some-size_refusal.is)
 
--- src/uses.rt:174:9
 pub returns-in_err-judge-clause-err : goal.returns-in_err-judge-clause-err
-returns-in_err-judge-clause-err g c = ?
+returns-in_err-judge-clause-err g c =
+    let p = err_from_is_err_and c.from_residual.result c.from_residual.ensures.1 in
+    let said = fit_decides (stored_of g.R.Rule.value_of c.args.library.now) c.args.words.now c.args.self.now c.args.name.now c.args.cells.now c.args.given c.in-Some.used (sym c.used.ensures.used ∙ c.in-Some.is) c.passing_of.result c.passing_of.ensures c.in-Ok.walk c.in-Ok.ensures.walk c.is_miscounted.result c.is_miscounted.ensures c.if-is_miscounted.false c.size_refusal.result c.size_refusal.ensures c.in_default-size_refusal.is in
+    rw (p.1, p.2, said) c.in_err-judge.ensures.err
 
--- src/uses.rt:175:15
 pub flatten-requires-clause-cells : goal.flatten-requires-clause-cells
-flatten-requires-clause-cells g c = ?
+flatten-requires-clause-cells g c =
+    all_cells_there (stored_of g.R.Rule.value_of c.args.library.now) c.in-Ok.walk c.in-Ok.ensures.right
 
--- src/uses.rt:175:15
 pub flatten-requires-clause-count : goal.flatten-requires-clause-count
-flatten-requires-clause-count g c = ?
+flatten-requires-clause-count g c =
+    cells_among (stored_of g.R.Rule.value_of c.args.library.now) c.args.words.now c.args.self.now c.args.name.now c.args.cells.now c.args.given c.in-Some.used (sym c.used.ensures.used ∙ c.in-Some.is) c.passing_of.result c.passing_of.ensures c.in-Ok.walk c.in-Ok.ensures.walk
 
--- src/uses.rt:161:5
 pub returns-in-Ok-flatten-clause-fits : goal.returns-in-Ok-flatten-clause-fits
-returns-in-Ok-flatten-clause-fits g c = ?
+returns-in-Ok-flatten-clause-fits g c =
+    fit_decides (stored_of g.R.Rule.value_of c.args.library.now) c.args.words.now c.args.self.now c.args.name.now c.args.cells.now c.args.given c.in-Some.used (sym c.used.ensures.used ∙ c.in-Some.is) c.passing_of.result c.passing_of.ensures c.in-Ok.walk c.in-Ok.ensures.walk c.is_miscounted.result c.is_miscounted.ensures c.if-is_miscounted.false c.size_refusal.result c.size_refusal.ensures c.in_default-size_refusal.is ∙ c.in_ok-judge.ensures.fits
 
--- src/uses.rt:161:5
 pub returns-in-Ok-flatten-clause-ok : goal.returns-in-Ok-flatten-clause-ok
-returns-in-Ok-flatten-clause-ok g c = ?
+returns-in-Ok-flatten-clause-ok g c =
+    flat_means (stored_of g.R.Rule.value_of c.args.library.now) c.args.words.now c.args.self.now c.args.name.now c.args.cells.now c.args.given c.in-Some.used (sym c.used.ensures.used ∙ c.in-Some.is) c.passing_of.result c.passing_of.ensures c.in-Ok.walk c.in-Ok.ensures.walk c.in-Ok-flatten.flat c.in-Ok-flatten.ensures
 
--- src/uses.rt:161:5
 pub returns-in-Ok-flatten-clause-safe : goal.returns-in-Ok-flatten-clause-safe
-returns-in-Ok-flatten-clause-safe g c = ?
+returns-in-Ok-flatten-clause-safe g c =
+    flat_safe (stored_of g.R.Rule.value_of c.args.library.now) c.args.words.now c.args.self.now c.args.name.now c.args.cells.now c.args.given c.in-Some.used (sym c.used.ensures.used ∙ c.in-Some.is) c.passing_of.result c.passing_of.ensures c.in-Ok.walk c.in-Ok.ensures.walk c.in-Ok-flatten.flat c.in-Ok-flatten.ensures c.in-Ok.ensures.right
