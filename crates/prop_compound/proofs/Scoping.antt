@@ -1,10 +1,10 @@
 -- The parameters and locals of a definition.
-use Rattle.std.proofs.Common.{◌≡◌, ◌∙◌, ℕ, ◌+◌, ◌<◌, ◌≤◌, ◌⊎◌, Bool, true, false, ◌||◌, not, nat_le, cond, List, [], ◌∷◌, ◌++◌, Option, Some, None, All, map, length, take, drop, get_or, position, is_none, is_some, bytes_eq, refl, sym, ap, arith, inl, inr}
+use Rattle.std.proofs.Common.{◌≡◌, ◌∙◌, ℕ, ◌+◌, ◌<◌, ◌≤◌, ◌⊎◌, Bool, true, false, ◌||◌, not, nat_le, cond, List, [], ◌∷◌, ◌++◌, Option, Some, None, All, map, length, take, drop, get_or, position, is_none, is_some, bytes_eq, refl, sym, ap, subst, arith, inl, inr}
 use Rattle.std.specs.Prelude.{Result, Ok, Err, IfErr, OnOk}
 use Rattle.std.specs.Borrow.{Bor}
 use Rattle.std.specs.List.{list_any, flat_map}
 use Rattle.std.proofs.lemmas.Bool.{or_parts, or_cases, or_left, or_right, cases_lt, leb-true, leb-false, le-leb, lt-leb}
-use Rattle.std.proofs.lemmas.List.{map-append, length-append, length-take, length-take-le, append_assoc, take-append-drop, take_at, drop_at, get_or_at, get_or-take, get_or_default, drop_more, take_more, take-append-le}
+use Rattle.std.proofs.lemmas.List.{map-append, length-append, length-take, length-take-le, append_assoc, take-append-drop, take_at, drop_at, get_or_at, get_or-take, get_or_default, drop_all, drop_more, take_more, take-append-le}
 use Rattle.std.proofs.lemmas.List.Folds.{list_any-append, list_any_at, list_any_none}
 use Rattle.std.proofs.lemmas.List.Concat.{flat_map-append, flat_map-cons, flat_map_single}
 use Rattle.std.proofs.lemmas.List.Quantifiers.{position-Some}
@@ -18,7 +18,7 @@ use Rattle.prop_compound.specs.declared.command.KindWord.{KindWord}
 use Rattle.prop_compound.specs.declared.command.Step.{Step}
 use Rattle.prop_compound.specs.declared.command.Step.TheVariants as steps
 use Rattle.prop_compound.specs.Said.{words, step_of}
-use Rattle.prop_compound.specs.Defining.{locals_of}
+use Rattle.prop_compound.specs.Defining.{locals_of, cells_in, is_cell_missing}
 use Rattle.prop_compound.proofs.Firsts.{list_any-map}
 
 pub late_words : (names : List (List ℕ)) (cells : List (Bor (List ℕ))) (r : Bool) → r ≡ list_any (λ name. is_none (number_in names name.now)) cells → r ≡ is_missing names (map (λ x. x.now) cells)
@@ -175,3 +175,34 @@ module _ {X : Type 0} (names : List X) (seen : ℕ) (own more : List X) (within 
 
   pub within_on : seen + length own ≤ length names
   within_on = omega (arith, ap length split, length-append (take seen names ++ own) more, front)
+
+-- ---- the steps from one on
+
+-- what is known before a step, where so many names have been seen
+pub record IsSeen (scope : List (List ℕ)) (params seen : ℕ) (all rest : List Step) : Type 0 where
+  pub within : seen ≤ length scope
+  pub behind : drop seen scope ≡ flat_map locals_of (map step_of rest)
+  pub same : is_cell_missing (take seen scope) (map step_of rest) ≡ is_cell_missing (take params scope) (map step_of all)
+
+pub seen_at : (scope : List (List ℕ)) (params seen : ℕ) (all : List Step) (i : ℕ) (step : Step) → i < length all → step ≡ get_or all i step → IsSeen scope params seen all (drop i all) → IsSeen scope params seen all (step ∷ drop (i + 1) all)
+seen_at scope params seen all i step l at h =
+    subst (IsSeen scope params seen all) (drop_more all i step l ∙ ap (λ y. y ∷ drop (i + 1) all) (sym at)) h
+
+pub missing_here : (scope : List (List ℕ)) (params seen : ℕ) (all rest : List Step) (step : Step) → IsSeen scope params seen all (step ∷ rest) → is_missing (take seen scope) (cells_in (step_of step)) ≡ true → is_cell_missing (take params scope) (map step_of all) ≡ true
+missing_here scope params seen all rest step h k = sym h.same ∙ or_left _ _ k
+
+pub seen_more : (scope : List (List ℕ)) (params seen : ℕ) (all rest : List Step) (step : Step) → IsSeen scope params seen all (step ∷ rest) → is_missing (take seen scope) (cells_in (step_of step)) ≡ false →
+    IsSeen scope params (seen + length (locals_said step)) all rest
+seen_more scope params seen all rest step h k =
+    let own = locals_said step in
+    let more = flat_map locals_of (map step_of rest) in
+    let behind : drop seen scope ≡ own ++ more = h.behind ∙ flat_map-cons locals_of (step_of step) (map step_of rest) in
+    record {
+      within = within_on scope seen own more h.within behind;
+      behind = dropped_on scope seen own more h.within behind;
+      same = rw (taken_on scope seen own more h.within behind) (sym (ap (λ b. b || is_cell_missing (take seen scope ++ own) (map step_of rest)) k) ∙ h.same);
+    }
+
+pub none_missing : (scope : List (List ℕ)) (params seen : ℕ) (all : List Step) (i : ℕ) → length all ≤ i → IsSeen scope params seen all (drop i all) → is_cell_missing (take params scope) (map step_of all) ≡ false
+none_missing scope params seen all i l h =
+    let at_end : IsSeen scope params seen all [] = subst (IsSeen scope params seen all) (drop_all i all l) h in sym at_end.same
