@@ -17,3 +17,4 @@ mod Using
 mod Flattening
 mod Zips
 pub mod Resolved
+pub mod Judging
