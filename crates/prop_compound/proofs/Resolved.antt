@@ -1,10 +1,10 @@
 -- What is true of the numbers that stand for the words of a definition that is not refused.
-use Rattle.std.proofs.Common.{◌≡◌, ◌∙◌, ℕ, zero, suc, ◌+◌, ◌<◌, ◌≤◌, ◌==◌, min, ◌||◌, Bool, true, false, not, nat_le, cond, List, [], ◌∷◌, ◌++◌, Option, Some, None, All, map, length, take, drop, get_or, is_none, is_some, unwrap_or, refl, sym, ap, arith, inl, inr, add-zero}
+use Rattle.std.proofs.Common.{◌≡◌, ◌∙◌, ℕ, zero, suc, ◌+◌, ◌-◌, ◌<◌, ◌≤◌, ◌==◌, min, ◌||◌, Bool, true, false, not, nat_le, cond, List, [], ◌∷◌, ◌++◌, Option, Some, None, All, map, length, take, drop, get_or, is_none, is_some, unwrap_or, refl, sym, ap, subst, arith, inl, inr, add-zero}
 use Rattle.std.specs.Prelude.{reverse, slice_get, sum_by}
 use Rattle.std.specs.List.{list_any, flat_map}
 use Rattle.std.specs.Option.{option_map, option_map_or, option_or}
 use Rattle.std.proofs.lemmas.Bool.{or_parts, leb-false, eqb-true, not-false, cases_eq, eq-eqb, ne_eqb}
-use Rattle.std.proofs.lemmas.List.{length-map, length-append, length-reverse, reverse-append, map-append, get_or_push, get_or_append_left, take-append-le}
+use Rattle.std.proofs.lemmas.List.{length-map, length-append, length-reverse, reverse-append, map-append, get_or_push, get_or_append_left, take_at}
 use Rattle.std.proofs.lemmas.List.Elements.{All-cons, All-nil, All-push, All-weaker}
 use Rattle.std.proofs.lemmas.List.Concat.{flat_map-cons}
 use Rattle.std.proofs.lemmas.List.Quantifiers.{position-Some}
@@ -171,3 +171,19 @@ kept_push ks ks' k e kept here = rw e all
               (let m : n < length ks = omega (arith, l, other, length-append ks (k ∷ [])) in
               rw (bares, get_or_append_left ks (k ∷ []) d n m) (kept_still (all_bare ks) (bare k) n (get_or ks n d) (omega (arith, m, length-map ks bare)) (kept n d m)))
         ]
+
+-- one definition and its name more
+pub both_pushed : (names names' : List (List ℕ)) (name : List ℕ) (ks ks' : List KeptDefinition) (k : KeptDefinition) (old : Definitions) → record { names = names; definitions = all_bare ks } ≡ old → names' ≡ names ++ name ∷ [] → ks' ≡ ks ++ k ∷ [] →
+    (length names ≡ length ks) × AreKept ks → IsKept (old.definitions ++ bare k ∷ []) (length old.definitions) k → (length names' ≡ length ks') × AreKept ks'
+both_pushed names names' name ks ks' k old view n e kept here =
+    let ds : old.definitions ≡ all_bare ks = ap (λ (d : Definitions). d.definitions) (sym view) in
+    let there = subst (λ (ds : List Definition). IsKept (ds ++ bare k ∷ []) (length ds) k) ds here in
+    (
+      omega (arith, ap length n, ap length e, length-append names (name ∷ []), length-append ks (k ∷ []), kept.0),
+      kept_push ks ks' k e kept.1 (subst (λ n. IsKept (all_bare ks ++ bare k ∷ []) n k) (length-map ks bare) there),
+    )
+
+-- one that was pushed is popped
+pub one_popped : {X : Type 0} (xs xs' xs'' : List X) (x : X) (n : ℕ) → xs' ≡ xs ++ x ∷ [] → n ≡ length xs' → xs'' ≡ take (n - 1) xs' → xs'' ≡ xs
+one_popped xs xs' xs'' x n e l f =
+    f ∙ ap (take (n - 1)) e ∙ take_at xs (x ∷ []) (n - 1) (omega (arith, l, ap length e, length-append xs (x ∷ [])))
