@@ -34,6 +34,11 @@ said_missing params scope steps b e h =
 pub not_found : (found looked : Option ℕ) → false ≡ is_some found → found ≡ looked → is_some looked ≡ false
 not_found found looked h e = sym (h ∙ ap is_some e)
 
+-- what is not refused first is not refused at all
+one_passed : (r : Refusal) (b : Bool) (rest : List (Option Refusal)) → first_of (when r b ∷ rest) ≡ None → (b ≡ false) × (first_of rest ≡ None)
+one_passed r true rest e = cc
+one_passed r false rest e = (refl, e)
+
 module _ (library : List Stored) (words : Vocabulary) (definitions : Definitions) (name : List ℕ) (params : List (List ℕ)) (steps : List commands.Step) where
   abbrev why : Option Refusal
   why = define_refusal library words definitions name params steps
@@ -126,3 +131,19 @@ module _ (library : List Stored) (words : Vocabulary) (definitions : Definitions
   pub not_refused : IsNew → KindsThere → RelationsThere → CellsThere → ProceduresThere → CountsRight → length definitions.definitions < most TooMany → define_refusal library words definitions name params steps ≡ None
   not_refused h d r c p n l =
       past_count h d r c p n _ (passes (LimitReached TooMany) full [] None (lt-leb (most TooMany) (length definitions.definitions) l) refl)
+
+  -- what a definition that is not refused has
+  pub record IsRightly : Type 0 where
+    pub cells : is_cell_missing params steps ≡ false
+    pub procedures : list_any (is_unknown library definitions) steps ≡ false
+    pub counts : list_any (is_count_wrong library definitions) steps ≡ false
+
+  pub rightly : define_refusal library words definitions name params steps ≡ None → IsRightly
+  rightly e =
+      let a = one_passed NameTaken (is_name_taken library definitions name params steps) from_domain e in
+      let b = one_passed NoSuchDomain (list_any (is_nowhere words) steps) from_relation a.1 in
+      let c = one_passed NoSuchRelation (list_any (is_unrelated words) steps) from_cell b.1 in
+      let d = one_passed NoSuchCell (is_cell_missing params steps) from_procedure c.1 in
+      let f = one_passed NoSuchProcedure (list_any (is_unknown library definitions) steps) from_count d.1 in
+      let g = one_passed WrongCount (list_any (is_count_wrong library definitions) steps) from_limit f.1 in
+      record { cells = d.0; procedures = f.0; counts = g.0 }

@@ -16,5 +16,5 @@ pub mod Scoping
 mod Using
 mod Flattening
 mod Zips
-pub mod Resolved
 pub mod Judging
+pub mod Resolved
