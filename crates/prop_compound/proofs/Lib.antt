@@ -17,4 +17,5 @@ mod Using
 mod Flattening
 mod Zips
 mod Expanded
+pub mod Judging
 pub mod Resolved

@@ -1,10 +1,10 @@
 -- What is true of the numbers that stand for the words of a definition that is not refused.
-use Rattle.std.proofs.Common.{◌≡◌, ◌∙◌, ℕ, zero, suc, ◌+◌, ◌<◌, ◌≤◌, ◌==◌, min, ◌||◌, Bool, true, false, not, nat_le, cond, List, [], ◌∷◌, ◌++◌, Option, Some, None, All, map, length, take, drop, get_or, is_none, is_some, unwrap_or, refl, sym, ap, arith, inl, inr, add-zero}
+use Rattle.std.proofs.Common.{◌≡◌, ◌∙◌, ℕ, zero, suc, ◌+◌, ◌-◌, ◌<◌, ◌≤◌, ◌==◌, min, ◌||◌, Bool, true, false, not, nat_le, cond, List, [], ◌∷◌, ◌++◌, Option, Some, None, All, map, length, take, drop, get_or, is_none, is_some, unwrap_or, refl, sym, ap, subst, arith, inl, inr, add-zero}
 use Rattle.std.specs.Prelude.{reverse, slice_get, sum_by}
 use Rattle.std.specs.List.{list_any, flat_map}
 use Rattle.std.specs.Option.{option_map, option_map_or, option_or}
 use Rattle.std.proofs.lemmas.Bool.{or_parts, leb-false, eqb-true, not-false, cases_eq, eq-eqb, ne_eqb}
-use Rattle.std.proofs.lemmas.List.{length-map, length-append, length-reverse, reverse-append, map-append, get_or_push, get_or_append_left, take-append-le}
+use Rattle.std.proofs.lemmas.List.{length-map, length-append, length-reverse, reverse-append, map-append, get_or_push, get_or_append_left, take_at, drop_at}
 use Rattle.std.proofs.lemmas.List.Elements.{All-cons, All-nil, All-push, All-weaker}
 use Rattle.std.proofs.lemmas.List.Concat.{flat_map-cons}
 use Rattle.std.proofs.lemmas.List.Quantifiers.{position-Some}
@@ -20,11 +20,11 @@ use Rattle.prop_compound.specs.declared.definition.Used.TheVariants as uses
 use Rattle.prop_compound.specs.declared.definition.KeptDefinition.{KeptDefinition}
 use Rattle.prop_compound.specs.declared.definition.NumberedStep.{NumberedStep}
 use Rattle.prop_compound.specs.declared.definition.NumberedStep.TheVariants as numbered
-use Rattle.prop_compound.specs.Definitions.{Definition, Definitions, used_named, cells_wanted, is_miscounted}
-use Rattle.prop_compound.specs.Defining.{locals_of, cells_in, step_numbered, passing_named, kind_named, is_cell_missing, is_unknown, is_count_wrong}
-use Rattle.prop_compound.specs.Kept.{bare, all_bare, fresh_of, instances_of, total_in, total_of, places_made, IsInScope, AreInScope, IsUseBelow, IsUseOver, IsThere, IsKept, AreKept}
+use Rattle.prop_compound.specs.Definitions.{Definition, Definitions, used_named, cells_wanted, is_miscounted, is_passing_on}
+use Rattle.prop_compound.specs.Defining.{scope_of, definition_of, with_definition, define_refusal, locals_of, cells_in, step_numbered, passing_named, kind_named, is_cell_missing, is_unknown, is_count_wrong}
+use Rattle.prop_compound.specs.Kept.{bare, all_bare, fresh_of, instances_of, total_in, total_of, places_made, IsInScope, AreInScope, IsUseBelow, IsUseOver, IsThere, IsKept, AreKept, IsDefinedOver}
 use Rattle.prop_compound.proofs.Scoping.{late_at, late_is, taken_on, dropped_on, within_on}
-use Rattle.prop_compound.proofs.Walking.{kept_at}
+use Rattle.prop_compound.proofs.Judging.{rightly}
 
 -- ---- places
 
@@ -171,3 +171,91 @@ kept_push ks ks' k e kept here = rw e all
               (let m : n < length ks = omega (arith, l, other, length-append ks (k ∷ [])) in
               rw (bares, get_or_append_left ks (k ∷ []) d n m) (kept_still (all_bare ks) (bare k) n (get_or ks n d) (omega (arith, m, length-map ks bare)) (kept n d m)))
         ]
+
+-- one definition and its name more
+pub both_pushed : (names names' : List (List ℕ)) (name : List ℕ) (ks ks' : List KeptDefinition) (k : KeptDefinition) (old : Definitions) → record { names = names; definitions = all_bare ks } ≡ old → names' ≡ names ++ name ∷ [] → ks' ≡ ks ++ k ∷ [] →
+    (length names ≡ length ks) × AreKept ks → IsKept (old.definitions ++ bare k ∷ []) (length old.definitions) k → (length names' ≡ length ks') × AreKept ks'
+both_pushed names names' name ks ks' k old view n e kept here =
+    let ds : old.definitions ≡ all_bare ks = ap (λ (d : Definitions). d.definitions) (sym view) in
+    let there = subst (λ (ds : List Definition). IsKept (ds ++ bare k ∷ []) (length ds) k) ds here in
+    (
+      omega (arith, ap length n, ap length e, length-append names (name ∷ []), length-append ks (k ∷ []), kept.0),
+      kept_push ks ks' k e kept.1 (subst (λ n. IsKept (all_bare ks ++ bare k ∷ []) n k) (length-map ks bare) there),
+    )
+
+-- one that was pushed is popped
+pub one_popped : {X : Type 0} (xs xs' xs'' : List X) (x : X) (n : ℕ) → xs' ≡ xs ++ x ∷ [] → n ≡ length xs' → xs'' ≡ take (n - 1) xs' → xs'' ≡ xs
+one_popped xs xs' xs'' x n e l f =
+    f ∙ ap (take (n - 1)) e ∙ take_at xs (x ∷ []) (n - 1) (omega (arith, l, ap length e, length-append xs (x ∷ [])))
+
+-- ---- a definition that is not refused
+
+module _ (library : List Stored) (words : Vocabulary) (definitions : Definitions) (name : List ℕ) (params : List (List ℕ)) (steps : List Step) (same : length definitions.names ≡ length definitions.definitions) (fits : define_refusal library words definitions name params steps ≡ None) where
+  abbrev all : List NumberedStep
+  all = map (step_numbered library words definitions (scope_of params steps)) steps
+
+  good : All (IsGood library words definitions (scope_of params steps) same) all
+  good =
+      let right = rightly library words definitions name params steps fits in
+      all_good library words definitions (scope_of params steps) same steps right.procedures right.counts
+
+  pub used_below : All (IsUseBelow definitions.definitions (length definitions.definitions)) (map (step_numbered library words definitions (scope_of params steps)) steps)
+  used_below =
+      All-weaker (IsGood library words definitions (scope_of params steps) same) (IsUseBelow definitions.definitions (length definitions.definitions)) (λ step h. h.0) all good
+
+  pub used_over : All (IsUseOver library) (map (step_numbered library words definitions (scope_of params steps)) steps)
+  used_over =
+      All-weaker (IsGood library words definitions (scope_of params steps) same) (IsUseOver library) (λ step h. h.1) all good
+
+  in_scope : AreInScope (length params) all
+  in_scope =
+      let locals = flat_map locals_of steps in
+      let first : take (length params) (scope_of params steps) ≡ params = take_at params locals (length params) refl in
+      let right = rightly library words definitions name params steps fits in
+      all_in_scope library words definitions (scope_of params steps) steps (length params) (omega (arith, length-append params locals)) (drop_at params locals (length params) refl)
+      (ap (λ cells. is_cell_missing cells steps) first ∙ right.cells)
+
+  -- what is kept beside it is right
+  pub kept_new : (k : KeptDefinition) (items : List NumberedStep) (seen : List Definition) → definitions.definitions ≡ seen → items ≡ map (step_numbered library words definitions (scope_of params steps)) steps → k.params ≡ length params → k.steps.items ≡ items → k.takes ≡ list_any is_passing_on items →
+      k.fresh ≡ min (most Cells + 1) (sum_by (fresh_of (total_of fresh_of seen)) items) → k.instances ≡ min (most Instances + 1) (sum_by (instances_of (total_of instances_of seen)) items) →
+      IsKept (definitions.definitions ++ bare k ∷ []) (length definitions.definitions) k
+  kept_new k items seen s e count is takes fresh instances =
+      let ds = definitions.definitions in
+      let is_all : k.steps.items ≡ all = is ∙ e in
+      record {
+        in_scope = rw (count, is_all) in_scope;
+        uses = subst (All (IsUseBelow (ds ++ bare k ∷ []) (length ds))) (sym is_all) (All-weaker (IsUseBelow ds (length ds)) (IsUseBelow (ds ++ bare k ∷ []) (length ds)) (below_still ds (bare k ∷ []) (length ds) (omega arith)) all used_below);
+        takes = takes ∙ ap (list_any is_passing_on) (sym is);
+        fresh = fresh ∙ (λ i. min (most Cells + 1) (sum_by (fresh_of (total_of fresh_of (sym s i))) (sym is i))) ∙ ap (λ m. min (most Cells + 1) m) (sym (total_last fresh_of ds (bare k)));
+        instances = instances ∙ (λ i. min (most Instances + 1) (sum_by (instances_of (total_of instances_of (sym s i))) (sym is i))) ∙ ap (λ m. min (most Instances + 1) m) (sym (total_last instances_of ds (bare k)));
+      }
+
+  -- the definitions with it
+  pub with_new : (k : KeptDefinition) (new : Definitions) → k.params ≡ length params → k.steps.items ≡ map (step_numbered library words definitions (scope_of params steps)) steps →
+      new ≡ record { names = definitions.names ++ name ∷ []; definitions = definitions.definitions ++ bare k ∷ [] } → new ≡ with_definition library words definitions name params steps
+  with_new k new count is e =
+      let d : bare k ≡ definition_of library words definitions params steps = cc in
+      e ∙ ap (λ (d : Definition). record { names = definitions.names ++ name ∷ []; definitions = definitions.definitions ++ d ∷ [] }) d
+
+  -- which were made over the library
+  pub over_new : IsDefinedOver library definitions → IsDefinedOver library (with_definition library words definitions name params steps)
+  over_new h = record {
+    uses = All-push (λ (d : Definition). All (IsUseOver library) d.steps) definitions.definitions (definition_of library words definitions params steps) h.uses used_over;
+  }
+
+  -- the steps by numbers, the scope being that of the parameters and steps
+  pub numbered_so : (scope : List (List ℕ)) (items : List NumberedStep) → scope ≡ scope_of params steps → items ≡ map (step_numbered library words definitions scope) steps → items ≡ map (step_numbered library words definitions (scope_of params steps)) steps
+  numbered_so scope items e h = h ∙ ap (λ scope. map (step_numbered library words definitions scope) steps) e
+
+  -- where the definitions are looked through
+  pub used_seen : (ks : List KeptDefinition) (items : List NumberedStep) → definitions.definitions ≡ all_bare ks → items ≡ map (step_numbered library words definitions (scope_of params steps)) steps → All (IsUseBelow (all_bare ks) (length ks)) items
+  used_seen ks items e h =
+      let seen : length definitions.definitions ≡ length ks = ap length e ∙ length-map ks bare in
+      subst (All (IsUseBelow (all_bare ks) (length ks))) (sym h) (subst (λ n. All (IsUseBelow (all_bare ks) n) all) seen (subst (λ ds. All (IsUseBelow ds (length definitions.definitions)) all) e used_below))
+
+-- there are as many names as definitions
+pub same_count : (names : List (List ℕ)) (ks : List KeptDefinition) (old : Definitions) → record { names = names; definitions = all_bare ks } ≡ old → (length names ≡ length ks) × AreKept ks → length old.names ≡ length old.definitions
+same_count names ks old view kept =
+    let n : length old.names ≡ length names = ap (λ (d : Definitions). length d.names) (sym view) in
+    let m : length old.definitions ≡ length (all_bare ks) = ap (λ (d : Definitions). length d.definitions) (sym view) in
+    omega (arith, n, m, kept.0, length-map ks bare)

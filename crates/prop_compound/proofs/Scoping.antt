@@ -1,10 +1,12 @@
 -- The parameters and locals of a definition.
-use Rattle.std.proofs.Common.{◌≡◌, ◌∙◌, ℕ, ◌+◌, ◌<◌, ◌≤◌, ◌⊎◌, Bool, true, false, ◌||◌, not, nat_le, cond, List, [], ◌∷◌, ◌++◌, Option, Some, None, All, map, length, take, drop, get_or, position, is_none, is_some, bytes_eq, Bor, refl, sym, ap, arith, inl, inr}
+use Rattle.std.proofs.Common.{◌≡◌, ◌∙◌, ℕ, ◌+◌, ◌<◌, ◌≤◌, ◌⊎◌, Bool, true, false, ◌||◌, not, nat_le, cond, List, [], ◌∷◌, ◌++◌, Option, Some, None, All, map, length, take, drop, get_or, position, is_none, is_some, bytes_eq, refl, sym, ap, subst, arith, inl, inr}
+use Rattle.std.specs.Prelude.{Result, Ok, Err, IfErr, OnOk}
+use Rattle.std.specs.Borrow.{Bor}
 use Rattle.std.specs.List.{list_any, flat_map}
 use Rattle.std.proofs.lemmas.Bool.{or_parts, or_cases, or_left, or_right, cases_lt, leb-true, leb-false, le-leb, lt-leb}
-use Rattle.std.proofs.lemmas.List.{map-append, length-append, length-take, length-take-le, append_assoc, take-append-drop, take_at, drop_at, get_or_at, get_or-take, drop_more, take_more, take-append-le}
+use Rattle.std.proofs.lemmas.List.{map-append, length-append, length-take, length-take-le, append_assoc, take-append-drop, take_at, drop_at, get_or_at, get_or-take, get_or_default, drop_all, drop_more, take_more, take-append-le}
 use Rattle.std.proofs.lemmas.List.Folds.{list_any-append, list_any_at, list_any_none}
-use Rattle.std.proofs.lemmas.List.Concat.{flat_map-append, flat_map-cons}
+use Rattle.std.proofs.lemmas.List.Concat.{flat_map-append, flat_map-cons, flat_map_single}
 use Rattle.std.proofs.lemmas.List.Quantifiers.{position-Some}
 use Rattle.prop_lattice.specs.declared.refusal.Refusal.{Refusal}
 use Rattle.prop_lattice.specs.declared.refusal.Refusal.TheVariants.{NameTaken, Memory}
@@ -12,6 +14,11 @@ use Rattle.prop_sets.specs.Names.{is_among, has_repeat}
 use Rattle.prop_sets.proofs.NameLemmas.{no_repeat-push, repeat_from_before}
 use Rattle.prop_vocabulary.specs.Names.{number_in, is_missing}
 use Rattle.prop_vocabulary.proofs.Lookups.{nowhere}
+use Rattle.prop_compound.specs.declared.command.KindWord.{KindWord}
+use Rattle.prop_compound.specs.declared.command.Step.{Step}
+use Rattle.prop_compound.specs.declared.command.Step.TheVariants as steps
+use Rattle.prop_compound.specs.Said.{words, step_of}
+use Rattle.prop_compound.specs.Defining.{locals_of, cells_in, is_cell_missing}
 use Rattle.prop_compound.proofs.Firsts.{list_any-map}
 
 pub late_words : (names : List (List ℕ)) (cells : List (Bor (List ℕ))) (r : Bool) → r ≡ list_any (λ name. is_none (number_in names name.now)) cells → r ≡ is_missing names (map (λ x. x.now) cells)
@@ -45,6 +52,13 @@ repeat_still (x ∷ names) more h =
       | inr later ↦ or_right _ _ (repeat_still names more later)
     ]
 
+-- the name that a parameter gives, and those that a step gives
+abbrev pub named : Bor (List ℕ) → List (List ℕ)
+named word = word.now ∷ []
+
+abbrev pub locals_said : Step → List (List ℕ)
+locals_said step = locals_of (step_of step)
+
 -- the names that items give, one item after another
 module _ {X : Type 0} (give : X → List (List ℕ)) (items : List X) (i : ℕ) (x : X) (l : i < length items) (at : x ≡ get_or items i x) where
   pub given_more : flat_map give (take (i + 1) items) ≡ flat_map give (take i items) ++ give x
@@ -72,10 +86,36 @@ module _ {X : Type 0} (give : X → List (List ℕ)) (items : List X) (i : ℕ) 
   so_far_more before so_far new e f =
       f ∙ ap (λ ys. ys ++ give x) e ∙ append_assoc before (flat_map give (take i items)) (give x) ∙ ap (λ ys. before ++ ys) (sym given_more)
 
+-- one parameter more
+module _ (params : List (Bor (List ℕ))) (i : ℕ) (d : Bor (List ℕ)) (l : i < length params) where
+  same_param : get_or params i d ≡ get_or params i (get_or params i d)
+  same_param = get_or_default params i d (get_or params i d) l
+
+  pub repeat_params : (before so_far : List (List ℕ)) → so_far ≡ before ++ flat_map named (take i params) → has_repeat (so_far ++ (get_or params i d).now ∷ []) ≡ true → has_repeat (before ++ words params) ≡ true
+  repeat_params before so_far e h =
+      rw (← flat_map_single (λ (w : Bor (List ℕ)). w.now) params) (repeat_all named params i (get_or params i d) l same_param before so_far e h)
+
+  pub params_more : (before so_far new : List (List ℕ)) → so_far ≡ before ++ flat_map named (take i params) → new ≡ so_far ++ (get_or params i d).now ∷ [] → new ≡ before ++ flat_map named (take (i + 1) params)
+  params_more = so_far_more named params i (get_or params i d) l same_param
+
 -- why names are refused, where more names are refused then
 pub taken_then : {P Q : Type 0} (e : Refusal) → (P → Q) → ((e ≡ NameTaken) × P) ⊎ (e ≡ Memory) → ((e ≡ NameTaken) × Q) ⊎ (e ≡ Memory)
 taken_then e f (inl h) = inl (h.0, f h.1)
 taken_then e f (inr h) = inr h
+
+-- one name more
+pub pushed_apart : {X : Type 0} (r : Result X Refusal) (old new : List (List ℕ)) (name : List ℕ) → has_repeat old ≡ false → OnOk r (new ≡ old ++ name ∷ []) → OnOk r (is_among name old ≡ false) → OnOk r (has_repeat new ≡ false)
+pushed_apart (Ok x) old new name apart e h = rw e (no_repeat-push old name apart h)
+pushed_apart (Err e) old new name apart h k = h
+
+pub pushed_why : {X : Type 0} (r : Result X Refusal) (old : List (List ℕ)) (name : List ℕ) → IfErr r (λ e. ((e ≡ NameTaken) × (is_among name old ≡ true)) ⊎ (e ≡ Memory)) → IfErr r (λ e. ((e ≡ NameTaken) × (has_repeat (old ++ name ∷ []) ≡ true)) ⊎ (e ≡ Memory))
+pushed_why (Ok x) old name h = h
+pushed_why (Err e) old name h = taken_then e (repeat_here old name []) h
+
+-- the local of a step that makes one
+pub local_named : (step : Step) (name : Bor (List ℕ)) → ((kind : KindWord) × (step ≡ steps.Local name kind)) ⊎ ((like : Bor (List ℕ)) × (step ≡ steps.Like name like)) → locals_of (step_of step) ≡ name.now ∷ []
+local_named step name (inl h) = rw h.1 refl
+local_named step name (inr h) = rw h.1 refl
 
 -- ---- names among the first ones
 
@@ -135,3 +175,34 @@ module _ {X : Type 0} (names : List X) (seen : ℕ) (own more : List X) (within 
 
   pub within_on : seen + length own ≤ length names
   within_on = omega (arith, ap length split, length-append (take seen names ++ own) more, front)
+
+-- ---- the steps from one on
+
+-- what is known before a step, where so many names have been seen
+pub record IsSeen (scope : List (List ℕ)) (params seen : ℕ) (all rest : List Step) : Type 0 where
+  pub within : seen ≤ length scope
+  pub behind : drop seen scope ≡ flat_map locals_of (map step_of rest)
+  pub same : is_cell_missing (take seen scope) (map step_of rest) ≡ is_cell_missing (take params scope) (map step_of all)
+
+pub seen_at : (scope : List (List ℕ)) (params seen : ℕ) (all : List Step) (i : ℕ) (step : Step) → i < length all → step ≡ get_or all i step → IsSeen scope params seen all (drop i all) → IsSeen scope params seen all (step ∷ drop (i + 1) all)
+seen_at scope params seen all i step l at h =
+    subst (IsSeen scope params seen all) (drop_more all i step l ∙ ap (λ y. y ∷ drop (i + 1) all) (sym at)) h
+
+pub missing_here : (scope : List (List ℕ)) (params seen : ℕ) (all rest : List Step) (step : Step) → IsSeen scope params seen all (step ∷ rest) → is_missing (take seen scope) (cells_in (step_of step)) ≡ true → is_cell_missing (take params scope) (map step_of all) ≡ true
+missing_here scope params seen all rest step h k = sym h.same ∙ or_left _ _ k
+
+pub seen_more : (scope : List (List ℕ)) (params seen : ℕ) (all rest : List Step) (step : Step) → IsSeen scope params seen all (step ∷ rest) → is_missing (take seen scope) (cells_in (step_of step)) ≡ false →
+    IsSeen scope params (seen + length (locals_said step)) all rest
+seen_more scope params seen all rest step h k =
+    let own = locals_said step in
+    let more = flat_map locals_of (map step_of rest) in
+    let behind : drop seen scope ≡ own ++ more = h.behind ∙ flat_map-cons locals_of (step_of step) (map step_of rest) in
+    record {
+      within = within_on scope seen own more h.within behind;
+      behind = dropped_on scope seen own more h.within behind;
+      same = rw (taken_on scope seen own more h.within behind) (sym (ap (λ b. b || is_cell_missing (take seen scope ++ own) (map step_of rest)) k) ∙ h.same);
+    }
+
+pub none_missing : (scope : List (List ℕ)) (params seen : ℕ) (all : List Step) (i : ℕ) → length all ≤ i → IsSeen scope params seen all (drop i all) → is_cell_missing (take params scope) (map step_of all) ≡ false
+none_missing scope params seen all i l h =
+    let at_end : IsSeen scope params seen all [] = subst (IsSeen scope params seen all) (drop_all i all l) h in sym at_end.same

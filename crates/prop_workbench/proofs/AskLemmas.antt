@@ -80,7 +80,7 @@ conflict_known problem believed n ps known conflict = support_known problem n co
 
 -- the same state, where a run changed entries alone
 pub state_run : (names : CellNames) (words : Vocabulary) (definitions : Definitions) (premises : List Origin) (d new : Data) (limit : ℕ) → new ≡ record d { contents = new.contents } → state_from names words definitions premises new limit ≡ state_from names words definitions premises d limit
-state_run names words definitions premises d new limit rest = λ i. record { names = names; words = words; kinds = (rest i).kinds; premises = premises; statements = (rest i).statements; instances = (rest i).instances; limit = limit }
+state_run names words definitions premises d new limit rest = λ i. record { names = names; words = words; definitions = definitions; kinds = (rest i).kinds; premises = premises; statements = (rest i).statements; instances = (rest i).instances; limit = limit }
 
 -- how a run ended is how one may end
 pub may_end : {E : Type 0} (library : List Stored) (s : State) (names : CellNames) (words : Vocabulary) (definitions : Definitions) (premises : List Origin) (d : Data) (limit : ℕ) (w : Premises) → IsSame w (believed_in premises) → state_from names words definitions premises d limit ≡ s →

@@ -5,11 +5,11 @@ use Rattle.std.specs.Option.{option_map_or, option_and_then}
 use Rattle.std.proofs.lemmas.Bool.{cases_lt, lt-ltb, le-ltb, ltb-false}
 use Rattle.std.proofs.lemmas.List.{length-append, length-map, get_or_append_left, get_or-append-add, get_or-map}
 use Rattle.std.proofs.Math.Seq.{drop-append_seam}
-use Rattle.std.proofs.lemmas.List.Elements.{All-cons, All-head, All-tail, All-map, All-weaker}
+use Rattle.std.proofs.lemmas.List.Elements.{All-append, All-cons, All-head, All-tail, All-map, All-weaker}
 use Rattle.prop_lattice.specs.Refusals.{most}
 use Rattle.prop_lattice.specs.declared.refusal.Limit.TheVariants.{Cells, Instances}
 use Rattle.prop_lattice.specs.declared.refusal.Refusal.{Refusal}
-use Rattle.prop_lattice.specs.declared.refusal.Refusal.TheVariants.{NoSuchRelation, NoSuchCell, WrongKind, WrongParameter, LimitReached, Memory}
+use Rattle.prop_lattice.specs.declared.refusal.Refusal.TheVariants.{NoSuchRelation, NoSuchCell, NoSuchProcedure, WrongCount, WrongKind, WrongParameter, LimitReached, Memory}
 use Rattle.prop_procedures.specs.declared.shape.Kinded.{Kinded}
 use Rattle.prop_procedures.specs.declared.shape.Param.{Param}
 use Rattle.prop_procedures.specs.Stored.{Stored, span_kind, sides_of, are_right}
@@ -19,9 +19,9 @@ use Rattle.prop_procedures.specs.Fitting.{kind_at, kinds_fit, fitting_param}
 use Rattle.prop_cells.specs.Instances.{Instance}
 use Rattle.prop_compound.specs.Commands as commands
 use Rattle.prop_compound.specs.Commands.{By}
-use Rattle.prop_compound.specs.Definitions.{Definitions}
+use Rattle.prop_compound.specs.Definitions.{Definitions, used_named, is_miscounted}
 use Rattle.prop_compound.specs.Expansion.{Expansion, expanded}
-use Rattle.prop_compound.specs.Expanding.{expand_refusal, fit_refusal, is_misplaced, is_misgiven, is_param_wrong}
+use Rattle.prop_compound.specs.Expanding.{expand_refusal, size_refusal, fit_refusal, is_misplaced, is_misgiven, is_param_wrong}
 use Rattle.prop_compound.specs.Flattened.{cells_of, param_at, placed_of, expansion_of_flat, IsFlatOver, IsInstanceOver}
 use Rattle.prop_compound.specs.declared.flat.Placed as flats
 use Rattle.prop_compound.specs.declared.flat.Flat.{Flat}
@@ -33,8 +33,9 @@ use Rattle.prop_workbench.specs.Effects.{cell_placed, instance_placed, with_use}
 use Rattle.prop_workbench.specs.Machine.{State}
 use Rattle.prop_workbench.specs.Placing.{cells_made, made_of, with_flat, MayBeMade, MayMake}
 use Rattle.prop_workbench.specs.Refusing.{refusal_of, is_unknown, given_by, used, use_refusal, room_refusal}
-use Rattle.prop_workbench.specs.Sessions.{state_from}
+use Rattle.prop_workbench.specs.Sessions.{state_from, IsSized, AreLocalsOf}
 use Rattle.prop_workbench.specs.Steps.{Obeys}
+use Rattle.prop_workbench.proofs.UseLemmas.{kind_of_place, kinds_of_use}
 use Rattle.prop_workbench.proofs.StepLemmas.{first_of-one, obeys, refuses_or_lacks}
 
 -- ---- the rows of refusals
@@ -220,7 +221,8 @@ pub may_make : (library : List Stored) (words : Vocabulary) (definitions : Defin
     IsFlatOver library (length cells) flat → room_refusal (length d.kinds + length flat.fresh.items) (length d.instances + length flat.instances.items) ≡ None → MayMake library d cells flat
 may_make library words definitions d name cells given flat below fits is safe room =
     let e = expansion_of_flat (map (kind_at d.kinds) cells) flat in
-    let fit : fit_refusal library e ≡ None = rw is (fit_of _ _ _ (fit_refusal library (expanded library words definitions name (map (kind_at d.kinds) cells) given)) fits) in
+    let fit : fit_refusal library e ≡ None = subst (λ (x : Expansion (Option Param)). fit_refusal library x ≡ None) (sym is) (fit_of (when NoSuchProcedure (is_none (used_named library definitions name))) (when WrongCount (is_miscounted library definitions name (length (map (kind_at d.kinds) cells))))
+    (size_refusal (length (expanded library words definitions name (map (kind_at d.kinds) cells) given).kinds - length (map (kind_at d.kinds) cells)) (length (expanded library words definitions name (map (kind_at d.kinds) cells) given).placed)) (fit_refusal library (expanded library words definitions name (map (kind_at d.kinds) cells) given)) fits) in
     let rows = both_none (when WrongKind (list_any (is_misplaced library e.kinds) e.placed)) (when WrongParameter (is_param_wrong library e)) fit in
     let cells_few = both_none (when (LimitReached Cells) (nat_lt (most Cells) (length d.kinds + length flat.fresh.items))) (when (LimitReached Instances) (nat_lt (most Instances) (length d.instances + length flat.instances.items))) room in
     let few : length d.kinds + length flat.fresh.items ≤ most Cells = ltb-false (most Cells) (length d.kinds + length flat.fresh.items) (holds_not (LimitReached Cells) _ cells_few.0) in
@@ -229,3 +231,23 @@ may_make library words definitions d name cells given flat below fits is safe ro
       few_cells = few;
       few_instances = ltb-false (most Instances) (length d.instances + length flat.instances.items) (holds_not (LimitReached Instances) _ cells_few.1);
     }
+
+-- ---- what stays sound
+
+all_behind : {X : Type 0} (P : X → Type 0) (xs ys : List X) → All P (xs ++ ys) → All P ys
+all_behind P [] ys all = all
+all_behind P (x ∷ xs) ys all = all_behind P xs ys (All-tail P x (xs ++ ys) all)
+
+-- the fresh cells are of kinds that are there
+pub sized_made : (library : List Stored) (words : Vocabulary) (definitions : Definitions) (d : Data) (name : List ℕ) (cells : List ℕ) (given : Option Param) (flat : Flat) →
+    expansion_of_flat (map (kind_at d.kinds) cells) flat ≡ expanded library words definitions name (map (kind_at d.kinds) cells) given → All (IsSized words) d.kinds → AreLocalsOf (IsSized words) definitions → All (IsSized words) (d.kinds ++ flat.fresh.items)
+sized_made library words definitions d name cells given flat is sized locals =
+    let span : IsSized words span_kind = (tt, refl) in
+    let of_cells : All (IsSized words) (map (kind_at d.kinds) cells) = All-map (IsSized words) (kind_at d.kinds) cells (λ k n l. kind_of_place (IsSized words) span d.kinds (get_or cells k n) sized) in
+    let of_all = kinds_of_use (IsSized words) span library words definitions name (map (kind_at d.kinds) cells) given locals of_cells in
+    let here : All (IsSized words) (map (kind_at d.kinds) cells ++ flat.fresh.items) = subst (λ (e : Expansion (Option Param)). All (IsSized words) e.kinds) (sym is) of_all in
+    All-append (IsSized words) d.kinds flat.fresh.items sized (all_behind (IsSized words) (map (kind_at d.kinds) cells) flat.fresh.items here)
+
+-- names of cells stay names of cells
+pub named_made : (cells : List ℕ) (kinds fresh : List Kinded) → All (λ cell. cell < length kinds) cells → All (λ cell. cell < length (kinds ++ fresh)) cells
+named_made cells kinds fresh all = All-weaker (λ cell. cell < length kinds) (λ cell. cell < length (kinds ++ fresh)) (λ cell l. omega (arith, l, length-append kinds fresh)) cells all

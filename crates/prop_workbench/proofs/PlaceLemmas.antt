@@ -1,5 +1,6 @@
 -- Making the instances of a use: the network refuses none of them, and what it makes is what the use stands for.
-use Rattle.std.proofs.Common.{◌≡◌, ◌∙◌, ℕ, ◌<◌, ◌≤◌, ◌+◌, ◌-◌, ◌==◌, Bool, true, false, cond, not, List, [], ◌∷◌, ◌++◌, Option, Some, None, All, map, drop, length, slice_get, nat_le, is_none, unwrap_or, get_or, ◌⊎◌, inl, inr, refl, sym, ap, subst, arith}
+use Rattle.std.proofs.Common.{◌≡◌, ◌∙◌, ℕ, ◌<◌, ◌≤◌, ◌+◌, ◌-◌, ◌==◌, Bool, true, false, cond, not, List, [], ◌∷◌, ◌++◌, Option, Some, None, All, map, drop, length, slice_get, nat_le, is_none, unwrap_or, get_or, ◌⊎◌, inl, inr, refl, sym, ap, subst, arith, suc, zero, zero-add}
+use Rattle.std.specs.Prelude.{⊤, Result, Ok, Err, OnOk, IfErr}
 use Rattle.std.specs.List.{list_any}
 use Rattle.std.specs.Option.{option_map_or, option_and_then}
 use Rattle.std.proofs.lemmas.Bool.{lt-leb, lt-ltb, le-ltb, cases_lt}
@@ -10,7 +11,7 @@ use Rattle.std.proofs.lemmas.Option.{slice_get_cases, slice_get_past}
 use Rattle.prop_lattice.specs.Refusals.{most}
 use Rattle.prop_lattice.specs.declared.refusal.Limit.TheVariants.{Instances}
 use Rattle.prop_lattice.specs.declared.refusal.Refusal.{Refusal}
-use Rattle.prop_lattice.specs.declared.refusal.Refusal.TheVariants.{NoSuchCell, WrongCount, WrongKind, WrongParameter, LimitReached}
+use Rattle.prop_lattice.specs.declared.refusal.Refusal.TheVariants.{NoSuchCell, WrongCount, WrongKind, WrongParameter, LimitReached, Memory}
 use Rattle.prop_sets.specs.declared.side.Side.{Side}
 use Rattle.prop_procedures.specs.declared.shape.Param.{Param}
 use Rattle.prop_procedures.specs.declared.shape.Param.TheVariants.{Plain}
@@ -41,9 +42,9 @@ eq-refl : (n : ℕ) → (n == n) ≡ true
 eq-refl n = grind (arith, nat_tests)
 
 drop_get : {X : Type 0} (first n : ℕ) (xs : List X) → slice_get (drop first xs) n ≡ slice_get xs (first + n)
-drop_get zero n xs = refl
+drop_get zero n xs = ap (slice_get xs) (sym (zero-add n))
 drop_get (suc k) n [] = refl
-drop_get (suc k) n (x ∷ xs) = drop_get k n xs
+drop_get (suc k) n (x ∷ xs) = let up : suc (k + n) ≡ suc k + n = omega arith in drop_get k n xs ∙ ap (slice_get (x ∷ xs)) up
 
 -- a place of the use's parameters that is there, and one that is not
 inside : (first count n : ℕ) → n < count - first → param_number first count (Some n) ≡ Some (first + n)
@@ -135,3 +136,21 @@ module _ (library : List Stored) (d : Data) (cells : List ℕ) (next first : ℕ
           ap (λ (o : Option Stored). option_map_or (λ q. option_map_or (λ f. instance_of x.procedure ins out f ∷ []) (param_in q.need d.params number) []) o []) may.at
           ∙ ap (λ (o : Option Param). option_map_or (λ f. instance_of x.procedure ins out f ∷ []) o []) in_network
           ∙ (λ i. record { procedure = x.procedure; param = sym param i; inputs = sym inputs i; output = sym output i } ∷ [])
+
+  -- nor does it lack anything but memory
+  pub made_ok : (r : Result ⊤ Refusal) (number : Option ℕ) (new : Data) → number ≡ param_number first (length d.params) x.param →
+      OnOk r (new ≡ record d { instances = d.instances ++ attached library d.params x.procedure number ins out }) → OnOk r (new ≡ record d { instances = d.instances ++ made_of library (drop first d.params) cells next x ∷ [] })
+  made_ok (Ok u) number new e h = h ∙ ap (λ (xs : List Instance). record d { instances = d.instances ++ xs }) (ap (λ (n : Option ℕ). attached library d.params x.procedure n ins out) e ∙ made_is)
+  made_ok (Err refusal) number new e h = tt
+
+  pub made_err : (r : Result ⊤ Refusal) (number : Option ℕ) → number ≡ param_number first (length d.params) x.param → length ins ≡ length x.inputs.items → length d.instances < most Instances →
+      IfErr r (λ e. (attach_refusal library d x.procedure number ins out ≡ Some e) ⊎ (e ≡ Memory)) → IfErr r (λ e. e ≡ Memory)
+  made_err (Ok u) number e count room h = tt
+  made_err (Err refusal) number e count room (inl refused) =
+      let none : None ≡ Some refusal = sym (not_refused count room) ∙ ap (λ (n : Option ℕ). attach_refusal library d x.procedure n ins out) (sym e) ∙ refused in
+      cc
+  made_err (Err refusal) number e count room (inr m) = m
+
+-- the cells of an instance, its inputs and then its output
+pub cells_are_made : (cells : List ℕ) (next : ℕ) (x : flats.Placed) (ins : List ℕ) (out : ℕ) → ins ≡ map (cell_placed cells next) x.inputs.items → out ≡ cell_placed cells next x.output → ins ++ out ∷ [] ≡ cells_made cells next x
+cells_are_made cells next x ins out e f = (λ i. e i ++ f i ∷ []) ∙ sym (map-append (cell_placed cells next) x.inputs.items (x.output ∷ []))

@@ -83,6 +83,7 @@ module _ (library : List Stored) (related : ℕ → Param → List Point → Poi
   carried None (commands.Command.Domain name elements) answer new steps text r e = tt
   carried None (commands.Command.Relation name from to pairs) answer new steps text r e = tt
   carried None (commands.Command.Cell name kind) answer new steps text r e = tt
+  carried None (commands.Command.Define name params steps_said) answer new steps text r e = tt
   carried None (commands.Command.Attach name cells by) answer new steps text r e = tt
   carried None (commands.Command.Fix cell value) answer new steps text r e = tt
   carried None (commands.Command.Tell premise cell value) answer new steps text r e = tt

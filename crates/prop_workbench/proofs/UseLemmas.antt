@@ -64,7 +64,7 @@ under_way_made library s d new line line' fresh params xs u kept e before waits 
 -- ---- kinds
 
 module _ (P : Kinded → Type 0) (span : P span_kind) where
-  kind_of_place : (kinds : List Kinded) (cell : ℕ) → All P kinds → P (kind_at kinds cell)
+  pub kind_of_place : (kinds : List Kinded) (cell : ℕ) → All P kinds → P (kind_at kinds cell)
   kind_of_place kinds cell all = by (cases_lt cell (length kinds))
     where
       by : (cell < length kinds) ⊎ (length kinds ≤ cell) → P (kind_at kinds cell)
@@ -84,16 +84,17 @@ module _ (P : Kinded → Type 0) (span : P span_kind) where
   steps_kinds definition keeps given cells (Use (uses.Definition n) places passing ∷ steps) e locals all =
       steps_kinds definition keeps given cells steps _ (All-tail (IsLocalOf P) (Use (uses.Definition n) places passing) steps locals) (keeps n (cells_at cells places) (passed given passing) e all)
 
+  either_kinds : (d : Definition) (earlier : List Definition) → ((n : ℕ) (cells : List ℕ) (given : Passing) (e : Walk) → All P e.kinds → All P (definition_expanded earlier n cells given e).kinds) → All (IsLocalOf P) d.steps →
+      (n : ℕ) (cells : List ℕ) (given : Passing) (e : Walk) → All P e.kinds → (b : Bool) →
+      All P (cond b (steps_expanded (definition_expanded earlier) given cells d.steps (with_spare e (is_something given && not (is_taking d)))) (definition_expanded earlier n cells given e)).kinds
+  either_kinds d earlier rest locals n cells given e all true = steps_kinds (definition_expanded earlier) rest given cells d.steps _ locals all
+  either_kinds d earlier rest locals n cells given e all false = rest n cells given e all
+
   definition_kinds : (definitions : List Definition) → All (λ d. All (IsLocalOf P) d.steps) definitions → (n : ℕ) (cells : List ℕ) (given : Passing) (e : Walk) → All P e.kinds → All P (definition_expanded definitions n cells given e).kinds
   definition_kinds [] locals n cells given e all = all
-  definition_kinds (d ∷ earlier) locals n cells given e all = by (n == length earlier)
-    where
-      rest : (n : ℕ) (cells : List ℕ) (given : Passing) (e : Walk) → All P e.kinds → All P (definition_expanded earlier n cells given e).kinds
-      rest = definition_kinds earlier (All-tail (λ d. All (IsLocalOf P) d.steps) d earlier locals)
-
-      by : (b : Bool) → All P (cond b (steps_expanded (definition_expanded earlier) given cells d.steps (with_spare e (is_something given && not (is_taking d)))) (definition_expanded earlier n cells given e)).kinds
-      by true = steps_kinds (definition_expanded earlier) rest given cells d.steps _ (All-head (λ d. All (IsLocalOf P) d.steps) d earlier locals) all
-      by false = rest n cells given e all
+  definition_kinds (d ∷ earlier) locals n cells given e all =
+      either_kinds d earlier (λ n cells given e. definition_kinds earlier (All-tail (λ d. All (IsLocalOf P) d.steps) d earlier locals) n cells given e) (All-head (λ d. All (IsLocalOf P) d.steps) d earlier locals) n cells given e all
+      (n == length earlier)
 
   all_reversed : {X : Type 0} (Q : X → Type 0) (xs : List X) → All Q xs → All Q (reverse xs)
   all_reversed Q [] all = All-nil Q

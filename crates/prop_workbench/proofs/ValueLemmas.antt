@@ -217,8 +217,8 @@ value_may_be k names value meant same few h = by k.kind refl value meant h
 -- the rows of the refusals that a statement can meet
 abbrev value_rows : Option (Result Meant Refusal) → Option ℕ → Option Refusal → Option Refusal
 value_rows said cell limit =
-    first_of (when NotAName (option_map_or (is_error NotAName) said false) ∷ when NotANumber (option_map_or (is_error NotANumber) said false) ∷ None ∷ None ∷ None ∷ when NoSuchCell (is_none cell || false) ∷ None ∷ None ∷ None
-    ∷ when WrongKind (option_map_or (is_error WrongKind) said false || false) ∷ None ∷ when NotInTheDomain (option_map_or (is_error NotInTheDomain) said false) ∷ when EmptyValue (option_map_or (is_error EmptyValue) said false) ∷ limit ∷ [])
+    first_of (when NotAName (option_map_or (is_error NotAName) said false) ∷ when NotANumber (option_map_or (is_error NotANumber) said false) ∷ None ∷ None ∷ when NoSuchCell (is_none cell || false) ∷ None
+    ∷ when WrongKind (option_map_or (is_error WrongKind) said false) ∷ when NotInTheDomain (option_map_or (is_error NotInTheDomain) said false) ∷ when EmptyValue (option_map_or (is_error EmptyValue) said false) ∷ limit ∷ [])
 
 by_rows : (library : List Stored) (s : State) (premise : Option (List ℕ)) (name : List ℕ) (value : Value) (cell : ℕ) → cell_named s.names name ≡ Some cell →
     refusal_of library s (stating premise name value) ≡ value_rows (Some (meaning_at s.words (kind_at s.kinds cell).kind value)) (Some cell) (stating_limit_at s premise (Some (meaning_at s.words (kind_at s.kinds cell).kind value)))

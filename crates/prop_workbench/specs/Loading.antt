@@ -1,6 +1,5 @@
 -- What loading the prelude does.
 use Rattle.std.specs.Prelude.{◌≡◌, ℕ, List, [], ◌∷◌, ◌++◌, ⊤, map}
-use Rattle.std.specs.Borrow.{Bor}
 use Rattle.prop_arith.specs.declared.prelude.TheConstants.{PRELUDE}
 use Rattle.prop_lattice.specs.declared.refusal.Refusal.{Refusal}
 use Rattle.prop_procedures.specs.Stored.{Stored}

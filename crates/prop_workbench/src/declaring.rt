@@ -103,6 +103,7 @@ impl<R: Rule + Drop, O: Order + Drop> Session<R, O> {
         ensures steps { steps_of self.new ≡ steps_of self.old }
         ensures step { Obeys (library_of R.value_of self.old) (state_of self.old) (commands.Command.Define name.now (words params.now) (map step_of steps.now)) (answer_of result) (state_of self.new) 0 }
     {
+        self.words.domain_count();
         match self.definitions.define(
             self.alloc,
             self.network.library(),

@@ -1,0 +1,10 @@
+use Rattle.std.proofs.Common.{◌≡◌, ◌<◌, ◌≤◌, ℕ, All, Contains}
+use Rattle.prop_workbench.proofs.attaching.alert_between.Given as goal
+
+abbrev pub invariant-loop-instance : goal.invariant-loop-instance
+invariant-loop-instance l = record {
+  room : l.agenda.room ≡ l.initial.agenda.room;
+  before : (i : ℕ) → Contains l.initial.agenda.line i → Contains l.agenda.line i;
+  alerted : (i : ℕ) → l.first ≤ i → i < l.instance → Contains l.agenda.line i;
+  below : (n : ℕ) → l.end ≤ n → All (λ i. i < n) l.initial.agenda.line → All (λ i. i < n) l.agenda.line;
+}
