@@ -1,5 +1,5 @@
 -- How a session begins.
-use Rattle.std.proofs.Common.{◌≡◌, ◌∙◌, ℕ, zero, suc, ◌+◌, ◌<◌, ◌≤◌, ap, List, [], ◌∷◌, ◌++◌, length, map, take, get_or, refl}
+use Rattle.std.proofs.Common.{◌≡◌, ◌∙◌, ℕ, zero, suc, ◌+◌, ◌<◌, ◌≤◌, ap, List, [], ◌∷◌, ◌++◌, length, map, take, get_or, inl, refl}
 use Rattle.std.proofs.lemmas.List.{take_more, take_all, map-append}
 use Rattle.std.specs.Prelude.{Option, Some, None, slice_get, IsSomeAnd}
 use Rattle.std.proofs.lemmas.Option.{none-some, same_Some}
@@ -15,18 +15,11 @@ use Rattle.prop_procedures.specs.declared.procedure.Procedure.{Procedure}
 use Rattle.prop_arith.specs.Kit.{in_order, name_of, ins_of, out_of, need_of, value_of, Related}
 use Rattle.prop_arith.specs.KitLaws.{kit_sound}
 use Rattle.prop_arith.specs.declared.kit.Kit.{Kit}
-use Rattle.prop_workbench.specs.Machine.{new_state}
-use Rattle.prop_workbench.specs.Engine.{workbench}
-use Rattle.prop_engine.proofs.Io.{appends_none}
-use Rattle.prop_workbench.proofs.Machines.{workbench_is_total}
-use Rattle.prop_engine.proofs.Fronts.{read_front}
 use Rattle.propbench.specs.Kits.{stored_kit, kit_library, kit_related, IsAnsweredInFront}
 
--- where nothing was read nor written, nothing is the front of a transcript
+-- before the session nothing is written
 pub nothing_yet : (left held : Option (List ℕ)) (limit : ℕ) → IsAnsweredInFront left held held limit
-nothing_yet None held limit = tt
-nothing_yet (Some input) held limit =
-    ([], appends_none held, read_front (workbench kit_library kit_related) (workbench_is_total kit_library kit_related) (new_state limit) [] [] input (new_state limit) record { answers = []; run = refl; output_is = refl })
+nothing_yet left held limit = inl refl
 
 -- a procedure with the name, the form and the value of a rule
 pub stored_is : {X : Type 0} {F : X → Type 0} {g : _} → (p : Procedure Kit X F g) (k : Kit) → p.name.now ≡ name_of k → p.ins.items ≡ ins_of k → p.out ≡ out_of k → p.need ≡ need_of k → p.rule ≡ k → stored_as value_of p ≡ stored_kit k

@@ -1,5 +1,5 @@
 -- What the program writes, by the rules of the kit.
-use Rattle.std.specs.Prelude.{ℕ, List, Option, map, slice_get, IsSomeAnd}
+use Rattle.std.specs.Prelude.{◌≡◌, ◌⊎◌, ℕ, List, Option, map, slice_get, IsSomeAnd}
 use Rattle.prop_lattice.specs.Points.{Point}
 use Rattle.prop_procedures.specs.declared.shape.Param.{Param}
 use Rattle.prop_procedures.specs.Stored.{Stored}
@@ -8,6 +8,7 @@ use Rattle.prop_arith.specs.declared.kit.Kit.{Kit}
 use Rattle.prop_engine.specs.declared.outcome.Counts.{Counts}
 use Rattle.prop_workbench.specs.Machine.{State, new_state}
 use Rattle.prop_workbench.specs.Engine.{workbench}
+use Rattle.prop_workbench.specs.Loading.{prelude_lines, Loads}
 use Rattle.prop_engine.specs.Endings.{WritesTranscript, WritesFront}
 
 -- the procedure of a rule
@@ -22,10 +23,16 @@ kit_library = map stored_kit in_order
 abbrev pub kit_related : ℕ → Param → List Point → Point → Type 0
 kit_related n param points point = IsSomeAnd (slice_get in_order n) (λ rule. Related rule param points point)
 
--- a writer got a transcript of all that the reader had left, where that is known, of a session that began without cells
-abbrev pub IsAnswered : Option (List ℕ) → Option (List ℕ) → Option (List ℕ) → ℕ → Counts → Type 0
-IsAnswered left held held' limit counts = (new : State) × WritesTranscript (workbench kit_library kit_related) left held held' counts (new_state limit) new
+-- the state of a session that begins without cells, once the prelude is loaded
+abbrev pub IsBegun : ℕ → State → Type 0
+IsBegun limit first = Loads kit_library (new_state limit) prelude_lines first
 
--- a writer got the front of such a transcript
+-- a writer got a transcript of all that the reader had left, where that is known, of a session that began with the prelude
+abbrev pub IsAnswered : Option (List ℕ) → Option (List ℕ) → Option (List ℕ) → ℕ → Counts → Type 0
+IsAnswered left held held' limit counts =
+    (first : State) × (new : State) × IsBegun limit first × WritesTranscript (workbench kit_library kit_related) left held held' counts first new
+
+-- a writer got nothing, or the front of such a transcript
 abbrev pub IsAnsweredInFront : Option (List ℕ) → Option (List ℕ) → Option (List ℕ) → ℕ → Type 0
-IsAnsweredInFront left held held' limit = WritesFront (workbench kit_library kit_related) left held held' (new_state limit)
+IsAnsweredInFront left held held' limit =
+    (held' ≡ held) ⊎ ((first : State) × IsBegun limit first × WritesFront (workbench kit_library kit_related) left held held' first)

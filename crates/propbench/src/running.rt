@@ -14,13 +14,13 @@ use prop_procedures::{Library, Param, Procedure, Shape};
 use prop_scheduler::Fifo;
 use prop_workbench::{Counts, Session, Watched};
 use smallvec::SmallVec;
-use std::alloc::Global;
+use std::alloc::{AllocError, Global};
 use std::io::{Read, Write};
 
 /// How often the program reads at most.
 const READS: u64 = 1 << 32;
 
-/// Makes the kit's procedures and runs a session with them.
+/// Makes the kit's procedures, loads the prelude and runs a session with them.
 #[tactic(auto, using(crate::proofs::Starts::kit_is_sound))]
 pub fn run<Rd: Read, W: Write>(
     alloc: Global,
@@ -48,5 +48,10 @@ pub fn run<Rd: Read, W: Write>(
     }
     let network = Network::new(alloc, Library::new(procedures));
     let mut session = Session::new(alloc, network, Fifo, options.limit)?;
+    match session.load_prelude() {
+        Ok(()) => {}
+        // The kit has what the prelude uses: a line of it is refused for want of memory alone.
+        Err(_) => return Err(Fault::Memory(AllocError)),
+    }
     Ok(session.run_session(reader, writer, READS)?)
 }
