@@ -3,6 +3,7 @@
 
 mod chosen;
 mod fault;
+mod kit;
 mod options;
 mod running;
 #[cfg(test)]
