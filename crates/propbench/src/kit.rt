@@ -1,8 +1,8 @@
 //! The procedures of the kit.
-ghost use Rattle.std.specs.Prelude.{◌≡◌, IfOk};
-ghost use Rattle.prop_procedures.specs.Kept.{AllMean, stored_of, related_of};
-ghost use Rattle.prop_arith.specs.Kit.{value_of, Related};
-ghost use Rattle.propbench.specs.Kits.{kit_library, kit_related};
+ghost use Rattle.std.specs.Prelude.{◌≡◌, IfOk, map};
+ghost use Rattle.prop_procedures.specs.Kept.{AllMean, stored_of};
+ghost use Rattle.prop_arith.specs.Kit.{value_of, in_order};
+ghost use Rattle.propbench.specs.Kits.{kit_library};
 
 use prop_arith::{KITS, Kit};
 use prop_lattice::Info;
@@ -14,7 +14,7 @@ use std::alloc::{AllocError, Global};
 pub fn library(alloc: Global) -> Result<Library<Kit>, AllocError>
     ensures means { IfOk result (λ library. AllMean value_of library.procedures.items) }
     ensures library { IfOk result (λ library. stored_of value_of library ≡ kit_library) }
-    ensures related { IfOk result (λ library. related_of Related library ≡ kit_related) }
+    ensures ruled { IfOk result (λ library. map (λ p. p.rule) library.procedures.items ≡ in_order) }
 {
     let mut procedures = Vec::new(alloc);
     for rule in KITS {

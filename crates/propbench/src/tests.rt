@@ -5,4 +5,5 @@ mod faults;
 mod kinds;
 mod options;
 mod plain;
+mod prelude;
 mod sessions;

@@ -5,7 +5,7 @@ use Rattle.propbench.specs.Kits.{stored_kit}
 use Rattle.propbench.proofs.kit.library.Given as goal
 
 abbrev pub invariant-loop-rule : goal.invariant-loop-rule
-invariant-loop-rule l = record {
+invariant-loop-rule g l = record {
   means : AllMean value_of l.procedures.items;
   listed : map (stored_as value_of) l.procedures.items ≡ map stored_kit (take l.rule-index l.rule-items);
   ruled : map (λ p. p.rule) l.procedures.items ≡ take l.rule-index l.rule-items;
