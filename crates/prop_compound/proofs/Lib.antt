@@ -11,10 +11,10 @@ pub mod Unrolling
 pub mod Walking
 pub mod Sizes
 pub mod Ranges
+mod Expanded
 mod Firsts
 pub mod Scoping
 mod Using
 mod Flattening
 mod Zips
-mod Expanded
 pub mod Resolved
