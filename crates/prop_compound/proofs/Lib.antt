@@ -11,6 +11,7 @@ pub mod Unrolling
 pub mod Walking
 pub mod Sizes
 pub mod Ranges
+mod Expanded
 mod Firsts
 pub mod Scoping
 mod Using

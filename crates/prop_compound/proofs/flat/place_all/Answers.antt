@@ -17,7 +17,7 @@ loop-instance-preserved c =
     let y = c.in_ok-instance_placed.field-0 in
     let it = c.in_ok-instance_placed.ensures in
     let param : param_at params' y.param ≡ mean c.instance-item.result.given =
-        ap (param_at params') it.param ∙ c.in_ok-param.ensures.param ∙ (λ i. param_meant c.args.words.now (inv.own i) (c.given.ensures i)) in record {
+    ap (param_at params') it.param ∙ c.in_ok-param.ensures.param ∙ (λ i. param_meant c.args.words.now (inv.own i) (c.given.ensures i)) in record {
       same =
           place_more mean params params' more c.args.instances.now c.loop-instance.instance-index c.instance-item.result c.loop-instance.all.items c.push.new.self.items y grown inv.there inv.same c.loop-instance-test.true c.instance-item.is it.procedure param it.cells c.in_ok-push.ensures.items;
       there = rw (c.in_ok-push.ensures.items)
