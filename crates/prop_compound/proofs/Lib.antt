@@ -17,6 +17,5 @@ pub mod Scoping
 mod Using
 mod Flattening
 mod Zips
-mod Expanded
 pub mod Judging
 pub mod Resolved

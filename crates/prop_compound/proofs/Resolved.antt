@@ -177,8 +177,7 @@ pub both_pushed : (names names' : List (List ℕ)) (name : List ℕ) (ks ks' : L
     (length names ≡ length ks) × AreKept ks → IsKept (old.definitions ++ bare k ∷ []) (length old.definitions) k → (length names' ≡ length ks') × AreKept ks'
 both_pushed names names' name ks ks' k old view n e kept here =
     let ds : old.definitions ≡ all_bare ks = ap (λ (d : Definitions). d.definitions) (sym view) in
-    let there = subst (λ (ds : List Definition). IsKept (ds ++ bare k ∷ []) (length ds) k) ds here in
-    (
+    let there = subst (λ (ds : List Definition). IsKept (ds ++ bare k ∷ []) (length ds) k) ds here in (
       omega (arith, ap length n, ap length e, length-append names (name ∷ []), length-append ks (k ∷ []), kept.0),
       kept_push ks ks' k e kept.1 (subst (λ n. IsKept (all_bare ks ++ bare k ∷ []) n k) (length-map ks bare) there),
     )

@@ -31,4 +31,8 @@ pub use values::{Meant, read_value};
 #[cfg(test)]
 mod tests;
 #[cfg(test)]
-mod tests_definitions;
+mod tests_defining;
+#[cfg(test)]
+mod tests_expanding;
+#[cfg(test)]
+mod tests_library;

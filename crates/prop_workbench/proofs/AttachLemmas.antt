@@ -1,5 +1,5 @@
 -- Putting procedures and definitions between cells: what is refused and made is what the machine says.
-use Rattle.std.proofs.Common.{◌≡◌, ◌∙◌, ℕ, ◌<◌, ◌≤◌, ◌+◌, ◌-◌, ◌^◌, Bool, true, false, not, List, [], ◌∷◌, ◌++◌, Option, Some, None, All, map, drop, length, slice_get, get_or, nat_lt, zip, is_none, ◌||◌, cond, ◌⊎◌, inl, inr, refl, sym, ap, subst, arith}
+use Rattle.std.proofs.Common.{◌≡◌, ◌∙◌, ℕ, ◌<◌, ◌≤◌, ◌+◌, ◌-◌, ◌^◌, Bool, true, false, not, List, [], ◌∷◌, ◌++◌, Option, Some, None, All, map, drop, length, get_or, nat_lt, zip, is_none, ◌||◌, cond, ◌⊎◌, inl, inr, refl, sym, ap, subst, arith}
 use Rattle.std.specs.List.{list_any}
 use Rattle.std.specs.Option.{option_map_or, option_and_then}
 use Rattle.std.proofs.lemmas.Bool.{cases_lt, lt-ltb, le-ltb, ltb-false}
@@ -16,7 +16,6 @@ use Rattle.prop_procedures.specs.Stored.{Stored, span_kind, sides_of, are_right}
 use Rattle.prop_premises.specs.Origins.{Origin}
 use Rattle.prop_cells.specs.Data.{Data}
 use Rattle.prop_procedures.specs.Fitting.{kind_at, kinds_fit, fitting_param}
-use Rattle.prop_cells.specs.Instances.{Instance}
 use Rattle.prop_compound.specs.Commands as commands
 use Rattle.prop_compound.specs.Commands.{By}
 use Rattle.prop_compound.specs.Definitions.{Definitions, used_named, is_miscounted}
@@ -31,7 +30,7 @@ use Rattle.prop_vocabulary.specs.Refusing.{first_of, when}
 use Rattle.prop_vocabulary.specs.Vocabulary.{Vocabulary}
 use Rattle.prop_workbench.specs.Effects.{cell_placed, instance_placed, with_use}
 use Rattle.prop_workbench.specs.Machine.{State}
-use Rattle.prop_workbench.specs.Placing.{cells_made, made_of, with_flat, MayBeMade, MayMake}
+use Rattle.prop_workbench.specs.Placing.{made_of, with_flat, MayBeMade, MayMake}
 use Rattle.prop_workbench.specs.Refusing.{refusal_of, is_unknown, given_by, used, use_refusal, room_refusal}
 use Rattle.prop_workbench.specs.Sessions.{state_from, IsSized, AreLocalsOf}
 use Rattle.prop_workbench.specs.Steps.{Obeys}
@@ -77,7 +76,6 @@ no_cell_step library s name cells by e f = rw (e, f) refl
 
 module _ (library : List Stored) (names : CellNames) (words : Vocabulary) (definitions : Definitions) (premises : List Origin) (d : Data) (limit : ℕ) (name : List ℕ) (cells : List ℕ) (by : By) (flat : Flat)
     (is : expansion_of_flat (map (kind_at d.kinds) cells) flat ≡ used library (state_from names words definitions premises d limit) name cells by) where
-
   fresh_count : length (map (kind_at d.kinds) cells ++ flat.fresh.items) - length cells ≡ length flat.fresh.items
   fresh_count =
       let all = length-append (map (kind_at d.kinds) cells) flat.fresh.items in
@@ -87,7 +85,7 @@ module _ (library : List Stored) (names : CellNames) (words : Vocabulary) (defin
   -- the rows of its refusals
   pub use_rows : use_refusal library (state_from names words definitions premises d limit) name cells by
       ≡ first_of (expand_refusal library words definitions name (map (kind_at d.kinds) cells) (given_by words by)
-        ∷ room_refusal (length d.kinds + length flat.fresh.items) (length d.instances + length flat.instances.items) ∷ [])
+      ∷ room_refusal (length d.kinds + length flat.fresh.items) (length d.instances + length flat.instances.items) ∷ [])
   use_rows =
       let expand = expand_refusal library words definitions name (map (kind_at d.kinds) cells) (given_by words by) in
       let fresh : length (used library (state_from names words definitions premises d limit) name cells by).kinds - length cells ≡ length flat.fresh.items = ap (λ (e : Expansion (Option Param)). length e.kinds - length cells) (sym is) ∙ fresh_count in

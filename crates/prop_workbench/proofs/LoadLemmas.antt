@@ -32,6 +32,13 @@ loads_next library old mid new lines i line answer steps l at loaded free step =
 -- the first line that is refused
 pub stops_at : (library : List Stored) (old mid new : State) (lines : List (List ℕ)) (i : ℕ) (line : List ℕ) (refusal : Refusal) (steps : ℕ) → i < length lines → line ≡ get_or lines i [] → Loads library old (take i lines) mid →
     Step library mid line (Refused refusal) new steps → StopsLoading library old lines refusal new
-stops_at library old mid new lines i line refusal steps l at loaded step =
-    (take i lines, drop (i + 1) lines, line, mid, steps,
-    (sym (take-append-drop i lines) ∙ ap (λ xs. take i lines ++ xs) (drop_more lines i [] l) ∙ (λ j. take i lines ++ sym at j ∷ drop (i + 1) lines)), loaded, step)
+stops_at library old mid new lines i line refusal steps l at loaded step = (
+  take i lines,
+  drop (i + 1) lines,
+  line,
+  mid,
+  steps,
+  (sym (take-append-drop i lines) ∙ ap (λ xs. take i lines ++ xs) (drop_more lines i [] l) ∙ (λ j. take i lines ++ sym at j ∷ drop (i + 1) lines)),
+  loaded,
+  step,
+)

@@ -1,18 +1,17 @@
 -- Making the instances of a use: the network refuses none of them, and what it makes is what the use stands for.
-use Rattle.std.proofs.Common.{◌≡◌, ◌∙◌, ℕ, ◌<◌, ◌≤◌, ◌+◌, ◌-◌, ◌==◌, Bool, true, false, cond, not, List, [], ◌∷◌, ◌++◌, Option, Some, None, All, map, drop, length, slice_get, nat_le, is_none, unwrap_or, get_or, ◌⊎◌, inl, inr, refl, sym, ap, subst, arith, suc, zero, zero-add}
+use Rattle.std.proofs.Common.{◌≡◌, ◌∙◌, ℕ, ◌<◌, ◌≤◌, ◌+◌, ◌-◌, ◌==◌, Bool, true, false, cond, not, List, [], ◌∷◌, ◌++◌, Option, Some, None, All, map, drop, length, slice_get, nat_le, is_none, unwrap_or, get_or, ◌⊎◌, inl, inr, refl, sym, ap, arith, suc, zero, zero-add}
 use Rattle.std.specs.Prelude.{⊤, Result, Ok, Err, OnOk, IfErr}
 use Rattle.std.specs.List.{list_any}
 use Rattle.std.specs.Option.{option_map_or, option_and_then}
 use Rattle.std.proofs.lemmas.Bool.{lt-leb, lt-ltb, le-ltb, cases_lt}
 use Rattle.std.proofs.lemmas.Bool.Decides.{nat_tests}
-use Rattle.std.proofs.lemmas.List.{length-append, length-map, map-append}
+use Rattle.std.proofs.lemmas.List.{map-append}
 use Rattle.std.proofs.lemmas.List.Folds.{list_any_none}
 use Rattle.std.proofs.lemmas.Option.{slice_get_cases, slice_get_past}
 use Rattle.prop_lattice.specs.Refusals.{most}
 use Rattle.prop_lattice.specs.declared.refusal.Limit.TheVariants.{Instances}
 use Rattle.prop_lattice.specs.declared.refusal.Refusal.{Refusal}
 use Rattle.prop_lattice.specs.declared.refusal.Refusal.TheVariants.{NoSuchCell, WrongCount, WrongKind, WrongParameter, LimitReached, Memory}
-use Rattle.prop_sets.specs.declared.side.Side.{Side}
 use Rattle.prop_procedures.specs.declared.shape.Param.{Param}
 use Rattle.prop_procedures.specs.declared.shape.Param.TheVariants.{Plain}
 use Rattle.prop_procedures.specs.declared.shape.Need.{Need}
@@ -22,8 +21,8 @@ use Rattle.prop_procedures.specs.Fitting.{kinds_fit, fitting_param}
 use Rattle.prop_cells.specs.Instances.{Instance, sides_given, param_in, attached, instance_of}
 use Rattle.prop_cells.specs.Refusing.{refusal_at, attach_refusal, or_else, when}
 use Rattle.prop_compound.specs.declared.flat.Placed as flats
-use Rattle.prop_compound.specs.Flattened.{cells_of, param_at, placed_of}
-use Rattle.prop_workbench.specs.Effects.{inputs_of, output_of, cell_placed, instance_placed}
+use Rattle.prop_compound.specs.Flattened.{param_at}
+use Rattle.prop_workbench.specs.Effects.{inputs_of, output_of, cell_placed}
 use Rattle.prop_workbench.specs.Placing.{param_number, cells_made, made_of, MayBeMade}
 
 -- ---- parameters
@@ -99,7 +98,6 @@ rows_none strange count kind param full a b c d e = rw (a, b, c, d, e) refl
 
 module _ (library : List Stored) (d : Data) (cells : List ℕ) (next first : ℕ) (x : flats.Placed) (ins : List ℕ) (out : ℕ)
     (may : MayBeMade library d.kinds (drop first d.params) cells next x) (cells_are : ins ++ out ∷ [] ≡ cells_made cells next x) where
-
   -- the network does not refuse it
   pub not_refused : length ins ≡ length x.inputs.items → length d.instances < most Instances → attach_refusal library d x.procedure (param_number first (length d.params) x.param) ins out ≡ None
   unfolding rows

@@ -7,7 +7,7 @@ use Rattle.prop_cells.specs.Data.{Data, beliefs, IsLeanAt, IsClash}
 use Rattle.prop_vocabulary.specs.Vocabulary.{Vocabulary}
 use Rattle.prop_engine.specs.Answers.{Answer, Says, Text, Refused}
 use Rattle.prop_workbench.specs.Machine.{State, text_at}
-use Rattle.prop_workbench.specs.Reasons.{IsLeanExplanation, IsLeanContradiction, IsLeanReply}
+use Rattle.prop_workbench.specs.Reasons.{IsLeanExplanation, IsLeanContradiction}
 use Rattle.prop_workbench.specs.Sessions.{state_from}
 use Rattle.prop_texts.specs.Texts.{equation, because, contradiction_text}
 use Rattle.prop_vocabulary.specs.Cells.{CellNames}

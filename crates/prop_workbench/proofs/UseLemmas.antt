@@ -1,11 +1,11 @@
 -- What a use leaves: the network is under way, and its fresh cells are of kinds that are there.
-use Rattle.std.proofs.Common.{◌≡◌, ◌∙◌, ℕ, ◌<◌, ◌≤◌, ◌+◌, ◌==◌, Bool, true, false, cond, not, ◌&&◌, List, [], ◌∷◌, ◌++◌, Option, Some, None, All, Contains, map, length, slice_get, ◌⊎◌, inl, inr, refl, sym, ap, subst, arith}
-use Rattle.std.specs.Prelude.{reverse, ⊤}
+use Rattle.std.proofs.Common.{◌≡◌, ◌∙◌, ℕ, ◌<◌, ◌≤◌, ◌==◌, Bool, true, false, cond, not, ◌&&◌, List, [], ◌∷◌, ◌++◌, Option, Some, None, All, Contains, map, length, slice_get, ◌⊎◌, inl, inr, sym, ap, subst}
+use Rattle.std.specs.Prelude.{reverse}
 use Rattle.std.specs.Option.{option_map_or}
 use Rattle.std.specs.List.{range_with_len}
 use Rattle.std.proofs.lemmas.Bool.{cases_lt}
 use Rattle.std.proofs.lemmas.List.{length-map, map-append, append_assoc, append-nil, reverse-append, get_or_past, get_or_append_left}
-use Rattle.std.proofs.lemmas.List.Elements.{All-nil, All-append, All-cons, All-head, All-tail, All-push, All-get_or}
+use Rattle.std.proofs.lemmas.List.Elements.{All-nil, All-append, All-cons, All-head, All-tail, All-push}
 use Rattle.std.proofs.lemmas.Option.{slice_get_within, slice_get-get_or, get_or_from_slice_get}
 use Rattle.prop_lattice.specs.declared.info.Info.{Info}
 use Rattle.prop_procedures.specs.declared.shape.Kinded.{Kinded}
@@ -24,7 +24,7 @@ use Rattle.prop_compound.specs.declared.definition.NumberedStep.{NumberedStep}
 use Rattle.prop_compound.specs.declared.definition.NumberedStep.TheVariants.{Local, Like, Use}
 use Rattle.prop_compound.specs.Definitions.{Definition, Definitions, used_named, is_taking}
 use Rattle.prop_procedures.specs.Fitting.{kind_at}
-use Rattle.prop_compound.specs.Expansion.{Walk, Expansion, cell_at, cells_at, passed, is_something, with_fresh, with_spare, passing_of, start, use_expanded, steps_expanded, definition_expanded, expanded_in, walked, expanded}
+use Rattle.prop_compound.specs.Expansion.{Walk, cell_at, cells_at, passed, is_something, with_fresh, with_spare, passing_of, start, steps_expanded, definition_expanded, expanded_in, expanded}
 use Rattle.prop_workbench.specs.Sessions.{IsLocalOf, AreLocalsOf}
 
 -- ---- under way

@@ -1,5 +1,5 @@
 -- How the network makes what a use stands for.
-use Rattle.std.specs.Prelude.{◌≡◌, ◌<◌, ◌≤◌, ◌^◌, ℕ, ◌+◌, ◌-◌, List, [], ◌∷◌, ◌++◌, All, cond, true, false, nat_lt, Option, Some, None, drop, length, map, is_none, slice_get, slice_index_or}
+use Rattle.std.specs.Prelude.{◌≡◌, ◌<◌, ◌≤◌, ◌^◌, ℕ, ◌+◌, ◌-◌, List, [], ◌++◌, All, cond, true, false, nat_lt, Option, Some, None, length, map, is_none, slice_get}
 use Rattle.std.specs.Option.{option_and_then}
 use Rattle.prop_lattice.specs.Refusals.{most}
 use Rattle.prop_lattice.specs.declared.refusal.Limit.TheVariants.{Cells, Instances}

@@ -1,11 +1,11 @@
 -- For what a command is refused in a state: each condition by itself, and which of them comes first.
-use Rattle.std.specs.Prelude.{ℕ, List, [], ◌∷◌, Bool, false, not, ◌+◌, ◌==◌, ◌||◌, ◌&&◌, nat_le, Option, Some, None, Result, Ok, Err, length, is_some, is_none, map, nat_lt, ◌-◌}
+use Rattle.std.specs.Prelude.{ℕ, List, [], ◌∷◌, Bool, false, ◌+◌, ◌==◌, ◌&&◌, nat_le, Option, Some, None, Result, Ok, Err, length, is_some, is_none, map, nat_lt, ◌-◌}
 use Rattle.std.specs.List.{list_any}
-use Rattle.std.specs.Option.{option_map, option_map_or, option_and_then}
+use Rattle.std.specs.Option.{option_map, option_map_or}
 use Rattle.prop_lattice.specs.declared.info.Kind.{Kind}
 use Rattle.prop_lattice.specs.declared.refusal.Limit.TheVariants.{Cells, Instances, Premises, Statements}
 use Rattle.prop_lattice.specs.declared.refusal.Refusal.{Refusal}
-use Rattle.prop_lattice.specs.declared.refusal.Refusal.TheVariants.{NotAName, NotANumber, NameTaken, NoSuchDomain, NoSuchRelation, NoSuchCell, NoSuchPremise, NoSuchProcedure, WrongCount, WrongKind, WrongParameter, NotInTheDomain, EmptyValue, LimitReached}
+use Rattle.prop_lattice.specs.declared.refusal.Refusal.TheVariants.{NotAName, NotANumber, NameTaken, NoSuchDomain, NoSuchRelation, NoSuchCell, NoSuchPremise, WrongKind, NotInTheDomain, EmptyValue, LimitReached}
 use Rattle.prop_lattice.specs.Refusals.{number_of, most}
 use Rattle.prop_premises.specs.Origins.{premise_number}
 use Rattle.prop_procedures.specs.declared.shape.Param.{Param}
@@ -19,7 +19,6 @@ use Rattle.prop_vocabulary.specs.Texts.{elements_of_kind}
 use Rattle.prop_vocabulary.specs.Refusing.{when, first_of, domain_refusal, relation_refusal, symbol_refusal}
 use Rattle.prop_workbench.specs.Machine.{State}
 use Rattle.prop_vocabulary.specs.Cells.{cell_named, cells_named, is_cell_missing}
-use Rattle.prop_compound.specs.Definitions.{Definitions}
 use Rattle.prop_compound.specs.Expansion.{Expansion, expanded}
 use Rattle.prop_compound.specs.Expanding.{expand_refusal}
 use Rattle.prop_compound.specs.Defining.{define_refusal}

@@ -1,4 +1,4 @@
-use Rattle.std.proofs.Common.{◌∙◌, ◌≡◌, ap, sym, get_or, length, arith, [], List, ℕ}
+use Rattle.std.proofs.Common.{◌∙◌, sym, arith, [], List, ℕ}
 use Rattle.std.specs.Borrow.{Bor}
 use Rattle.std.proofs.lemmas.List.{length-map, get_or-map}
 use Rattle.prop_procedures.specs.Kept.{stored_of}
@@ -27,5 +27,5 @@ loop-line-preserved g c =
       same = c.command.ensures.same ∙ c.loop-line.invariant.same;
       sound = c.command.ensures.sound;
       loaded = loads_next (stored_of g.R.Rule.value_of c.args.self.now.network.library) (state_of c.args.self.now) (state_of c.loop-line.self) (state_of c.command.new.self) lines i c.as_bytes.result.now (answer_of c.command.result) (steps_of c.command.new.self)
-        (omega (arith, l, length-map c.args.lines.now (λ (w : Bor (List ℕ)). w.now))) line c.loop-line.invariant.loaded (no_refusal c.command.result c.in_default.not-Refused) (rw c.loop-line.invariant.same at c.command.ensures.step);
+          (omega (arith, l, length-map c.args.lines.now (λ (w : Bor (List ℕ)). w.now))) line c.loop-line.invariant.loaded (no_refusal c.command.result c.in_default.not-Refused) (rw c.loop-line.invariant.same at c.command.ensures.step);
     }

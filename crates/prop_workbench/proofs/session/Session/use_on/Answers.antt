@@ -1,7 +1,6 @@
-use Rattle.std.proofs.Common.{◌≡◌, ◌∙◌, ◌<◌, ◌+◌, ◌++◌, All, map, length, ap, sym, arith, ℕ, Option, None}
+use Rattle.std.proofs.Common.{◌≡◌, ◌∙◌, ◌<◌, ◌+◌, ◌++◌, map, length, ap, sym, arith, None}
 use Rattle.std.proofs.lemmas.List.{length-append, length-map}
 use Rattle.std.proofs.lemmas.List.Elements.{All-weaker}
-use Rattle.prop_lattice.specs.declared.refusal.Refusal.{Refusal}
 use Rattle.prop_premises.specs.Origins.{believed_in}
 use Rattle.prop_procedures.specs.Kept.{stored_of}
 use Rattle.prop_compound.specs.Said.{by_of}
@@ -45,7 +44,7 @@ returns-clause-sound g c =
           (λ i waits. c.alert_between.ensures.before i (rw c.in_ok-make_room.ensures.line waits))
           (λ i from below. c.alert_between.ensures.alerted i (omega (arith, from, first)) (omega (arith, below, count, all)))
           (c.alert_between.ensures.below (length (d.instances ++ made)) (omega (arith, count, all))
-            (rw c.in_ok-make_room.ensures.line (All-weaker (λ j. j < length d.instances) (λ j. j < length (d.instances ++ made)) (λ j l. omega (arith, l, more)) s.agenda.line was.under_way.line_below))));
+          (rw c.in_ok-make_room.ensures.line (All-weaker (λ j. j < length d.instances) (λ j. j < length (d.instances ++ made)) (λ j l. omega (arith, l, more)) s.agenda.line was.under_way.line_below))));
       worldview = was.worldview;
       known = rw is was.known;
       sized = rw is (sized_made library s.words s.definitions d c.args.name.now cells (given_by s.words (by_of c.args.by)) flat c.in_ok-flat.ensures.ok was.sized was.locals);
