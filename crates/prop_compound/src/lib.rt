@@ -30,9 +30,3 @@ pub use values::{Meant, read_value};
 
 #[cfg(test)]
 mod tests;
-#[cfg(test)]
-mod tests_defining;
-#[cfg(test)]
-mod tests_expanding;
-#[cfg(test)]
-mod tests_library;

@@ -1,4 +1,5 @@
 mod compounds;
+mod definitions;
 mod devices;
 mod engine;
 mod faults;
