@@ -3,7 +3,6 @@
 
 mod chosen;
 mod fault;
-mod kit;
 mod options;
 mod running;
 #[cfg(test)]

@@ -1,15 +1,19 @@
-//! A session with the kit's procedures and the prelude, over a reader and a writer.
+//! A session with the kit's procedures, over a reader and a writer.
 ghost use Rattle.std.specs.Prelude.{◌≡◌, IfOk, OnErr};
+ghost use Rattle.prop_arith.specs.Kit.{value_of};
 ghost use Rattle.prop_engine.specs.Watched.{device, IsFresh};
 ghost use Rattle.propbench.specs.Kits.{kit_library, kit_related, IsAnswered, IsAnsweredInFront};
 ghost use Rattle.prop_cells.specs.Points.{AreSoundBy};
 
 use crate::chosen::Options;
 use crate::fault::Fault;
-use crate::kit::library;
+use prop_arith::KITS;
 use prop_cells::Network;
+use prop_lattice::Info;
+use prop_procedures::{Library, Param, Procedure, Shape};
 use prop_scheduler::Fifo;
 use prop_workbench::{Counts, Session, Watched};
+use smallvec::SmallVec;
 use std::alloc::{AllocError, Global};
 use std::io::{Read, Write};
 
@@ -31,7 +35,18 @@ pub fn run<Rd: Read, W: Write>(
     // So values that satisfy all that is believed lie in each answer.
     ensures points { AreSoundBy kit_library kit_related }
 {
-    let network = Network::new(alloc, library(alloc)?);
+    let mut procedures = Vec::new(alloc);
+    for rule in KITS {
+        let ins = SmallVec::<Shape, 8>::from_slice(alloc, rule.ins())?;
+        let call = Box::new(
+            alloc,
+            move |param: &Param, args: &[Info]| -> Info
+                ensures { result ≡ value_of rule param.now args.now }
+            { rule.run(param, args) },
+        )?;
+        procedures.push(Procedure::new(rule.name(), ins, rule.out(), rule.need(), rule, call))?;
+    }
+    let network = Network::new(alloc, Library::new(procedures));
     let mut session = Session::new(alloc, network, Fifo, options.limit)?;
     match session.load_prelude() {
         Ok(()) => {}

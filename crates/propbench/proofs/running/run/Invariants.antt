@@ -2,7 +2,7 @@ use Rattle.std.proofs.Common.{◌≡◌, take, map}
 use Rattle.prop_procedures.specs.Kept.{AllMean, stored_as}
 use Rattle.prop_arith.specs.Kit.{value_of}
 use Rattle.propbench.specs.Kits.{stored_kit}
-use Rattle.propbench.proofs.kit.library.Given as goal
+use Rattle.propbench.proofs.running.run.Given as goal
 
 abbrev pub invariant-loop-rule : goal.invariant-loop-rule
 invariant-loop-rule g l = record {
