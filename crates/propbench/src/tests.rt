@@ -2,6 +2,7 @@ mod compounds;
 mod definitions;
 mod devices;
 mod engine;
+mod examples;
 mod faults;
 mod kinds;
 mod options;

@@ -56,7 +56,10 @@ fn refuses_definitions_in_order(rt: HostRuntime) -> Result<(), Fail> {
         ok\n\
         ok\n\
         ok\n";
-    assert_eq!(rt; written(rt.alloc(), input.as_bytes())?.as_slice(), output.as_bytes());
+    assert_eq!(rt;
+        written(rt.alloc(), input.as_bytes())?.as_slice(),
+        output.as_bytes()
+    );
     Ok(())
 }
 
@@ -88,7 +91,10 @@ fn refuses_uses_in_order(rt: HostRuntime) -> Result<(), Fail> {
         error 14: wrong parameter\n\
         error 14: wrong parameter\n\
         ok\n";
-    assert_eq!(rt; written(rt.alloc(), input.as_bytes())?.as_slice(), output.as_bytes());
+    assert_eq!(rt;
+        written(rt.alloc(), input.as_bytes())?.as_slice(),
+        output.as_bytes()
+    );
     Ok(())
 }
 

@@ -16,7 +16,10 @@ fn stands_before_the_first_line(rt: HostRuntime) -> Result<(), Fail> {
         let mut reader = Watched::new(line.as_bytes());
         let mut writer = Watched::new(Vec::new(rt.alloc()));
         run(rt.alloc(), Options { limit: 10 }, &mut reader, &mut writer)?;
-        assert_eq!(rt; writer.into_inner().as_slice(), b"error 7: name taken\n".as_slice());
+        assert_eq!(rt;
+            writer.into_inner().as_slice(),
+            b"error 7: name taken\n".as_slice()
+        );
     }
     Ok(())
 }
