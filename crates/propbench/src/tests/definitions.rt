@@ -101,8 +101,8 @@ fn refuses_uses_in_order(rt: HostRuntime) -> Result<(), Fail> {
 /// Definitions `d1` to `d199`, each of which uses the one before twice, behind these lines, and then these.
 fn doubled(alloc: Global, first: &str, last: &str) -> Result<Vec<u8>, AllocError> {
     let mut input = Vec::from_slice(alloc, first.as_bytes())?;
-    for level in 1..200 {
-        let before = level - 1;
+    for before in 0..199 {
+        let level = before + 1;
         let line = format!(in alloc; "define d{level} x y = d{before} x y ; d{before} x y\n")?;
         input.extend_from_slice(line.as_bytes())?;
     }
