@@ -44,7 +44,10 @@ fn what_was_made_goes_back(rt: HostRuntime) -> Result<(), Fail> {
     trial.cell()?;
     trial.cell()?;
     trial.attach(alloc, &[0, 0], 1)?;
-    assert_eq!(rt; trial.attach_and_back(alloc, &[0], 2), Err(Refusal::WrongCount));
+    assert_eq!(rt;
+        trial.attach_and_back(alloc, &[0], 2),
+        Err(Refusal::WrongCount)
+    );
     trial.attach_and_back(alloc, &[0, 0], 2)?;
     assert_eq!(rt; trial.network().instances(), 1);
     assert_eq!(rt; trial.network().cells(), 2);
