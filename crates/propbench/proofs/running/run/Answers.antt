@@ -1,4 +1,4 @@
-use Rattle.std.proofs.Common.{◌∙◌, ◌≡◌, ap, sym, map, arith, inr, rules}
+use Rattle.std.proofs.Common.{◌∙◌, ◌≡◌, ap, map, arith, inr}
 use Rattle.prop_workbench.specs.Engine.{workbench, machine_of}
 use Rattle.prop_workbench.specs.Sessions.{state_of}
 use Rattle.propbench.specs.Kits.{kit_library, kit_related, IsBegun}
