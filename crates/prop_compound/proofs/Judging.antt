@@ -13,9 +13,9 @@ use Rattle.prop_procedures.specs.Stored.{Stored, procedure_number}
 use Rattle.prop_vocabulary.specs.Names.{number_in}
 use Rattle.prop_vocabulary.specs.Refusing.{when, first_of}
 use Rattle.prop_vocabulary.specs.Vocabulary.{Vocabulary}
-use Rattle.prop_compound.specs.Commands as commands
-use Rattle.prop_compound.specs.declared.command.Step.{Step}
-use Rattle.prop_compound.specs.Said.{words, step_of}
+use Rattle.prop_language.specs.Commands as commands
+use Rattle.prop_language.specs.declared.command.Step.{Step}
+use Rattle.prop_language.specs.Said.{words, step_of}
 use Rattle.prop_compound.specs.Definitions.{Definitions}
 use Rattle.prop_compound.specs.Defining.{locals_of, scope_of, is_name_taken, is_nowhere, is_unrelated, is_cell_missing, is_unknown, is_count_wrong, define_refusal}
 use Rattle.prop_compound.proofs.Firsts.{stops, passes, list_any-map}

@@ -1,11 +1,3 @@
-pub mod Lexing
-pub mod Digits
-pub mod Forming
-pub mod StepLaws
-pub mod Halving
-pub mod SpellingLaws
-pub mod RefusalLaws
-pub mod Choosing
 pub mod Latest
 pub mod Unrolling
 pub mod Walking

@@ -14,7 +14,7 @@ use Rattle.prop_procedures.specs.Stored.{Stored, procedure_number}
 use Rattle.prop_vocabulary.specs.Names.{number_in, numbers_in, is_missing}
 use Rattle.prop_vocabulary.specs.Vocabulary.{Vocabulary}
 use Rattle.prop_vocabulary.proofs.Lookups.{number_below}
-use Rattle.prop_compound.specs.Commands.{Passed, Step}
+use Rattle.prop_language.specs.Commands.{Passed, Step}
 use Rattle.prop_compound.specs.declared.definition.Used.{Used}
 use Rattle.prop_compound.specs.declared.definition.Used.TheVariants as uses
 use Rattle.prop_compound.specs.declared.definition.KeptDefinition.{KeptDefinition}

@@ -14,10 +14,10 @@ use Rattle.prop_sets.specs.Names.{is_among, has_repeat}
 use Rattle.prop_sets.proofs.NameLemmas.{no_repeat-push, repeat_from_before}
 use Rattle.prop_vocabulary.specs.Names.{number_in, is_missing}
 use Rattle.prop_vocabulary.proofs.Lookups.{nowhere}
-use Rattle.prop_compound.specs.declared.command.KindWord.{KindWord}
-use Rattle.prop_compound.specs.declared.command.Step.{Step}
-use Rattle.prop_compound.specs.declared.command.Step.TheVariants as steps
-use Rattle.prop_compound.specs.Said.{words, step_of}
+use Rattle.prop_language.specs.declared.command.KindWord.{KindWord}
+use Rattle.prop_language.specs.declared.command.Step.{Step}
+use Rattle.prop_language.specs.declared.command.Step.TheVariants as steps
+use Rattle.prop_language.specs.Said.{words, step_of}
 use Rattle.prop_compound.specs.Defining.{locals_of, cells_in, is_cell_missing}
 use Rattle.prop_compound.proofs.Firsts.{list_any-map}
 

@@ -13,7 +13,7 @@ use Rattle.prop_procedures.specs.Stored.{Stored, span_kind, procedure_number}
 use Rattle.prop_vocabulary.specs.Names.{number_in, numbers_in, is_missing}
 use Rattle.prop_vocabulary.specs.Refusing.{when, first_of}
 use Rattle.prop_vocabulary.specs.Vocabulary.{Vocabulary, domain_number, elements_of}
-use Rattle.prop_compound.specs.Commands.{KindWord, Spans, Truths, Symbols, Named, By, Passed, Step}
+use Rattle.prop_language.specs.Commands.{KindWord, Spans, Truths, Symbols, Named, By, Passed, Step}
 use Rattle.prop_compound.specs.declared.definition.Passing.{Passing}
 use Rattle.prop_compound.specs.declared.definition.Passing.TheVariants as passings
 use Rattle.prop_compound.specs.declared.definition.Used.TheVariants as uses

@@ -1,13 +1,3 @@
-pub mod Tokens
-pub mod Names
-pub mod Commands
-pub mod Forms
-pub mod Reading
-pub mod Values
-pub mod Said
-pub mod Parts
-pub mod Spelling
-pub mod Refusals
 pub mod Definitions
 pub mod Expansion
 pub mod Defining

@@ -2,11 +2,11 @@
 ghost use Rattle.std.specs.Prelude.{◌≡◌, ◌++◌, ◌∷◌, ◌⊎◌, [], true, false, All, length, map, IfOk, IfErr, OnOk, OnErr, None, Some};
 ghost use Rattle.prop_procedures.specs.Kept.{stored_of};
 ghost use Rattle.prop_vocabulary.specs.Names.{number_in};
-ghost use Rattle.prop_compound.specs.Said.{words as words_of, step_of};
+ghost use Rattle.prop_language.specs.Said.{words as words_of, step_of};
 ghost use Rattle.prop_compound.specs.Defining.{scope_of, step_numbered, with_definition, define_refusal};
 ghost use Rattle.prop_compound.specs.Kept.{bare, IsKept, IsDefinedOver};
 
-use crate::command::Step;
+use prop_language::Step;
 use crate::counting::counted;
 use crate::definition::KeptDefinition;
 use crate::definitions::Definitions;

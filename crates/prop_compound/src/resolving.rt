@@ -2,10 +2,10 @@
 ghost use Rattle.std.specs.Prelude.{◌≡◌, ◌<◌, length, map, take, unwrap_or, IfOk, None, Some};
 ghost use Rattle.std.specs.List.{list_any};
 ghost use Rattle.prop_procedures.specs.Kept.{stored_of};
-ghost use Rattle.prop_compound.specs.Said.{kind_of, passed_of, step_of};
+ghost use Rattle.prop_language.specs.Said.{kind_of, passed_of, step_of};
 ghost use Rattle.prop_compound.specs.Defining.{domain_kind, kind_named, passing_named, step_numbered, is_nowhere, is_unrelated, is_unknown, is_count_wrong};
 
-use crate::command::{By, KindWord, Passed, Step};
+use prop_language::{By, KindWord, Passed, Step};
 use crate::definition::{NumberedStep, Passing, Places, Used};
 use crate::definitions::Definitions;
 use prop_lattice::Kind;

@@ -3,10 +3,10 @@ ghost use Rattle.std.specs.Prelude.{◌≡◌, ◌≤◌, ◌+◌, ◌++◌, ◌
 ghost use Rattle.std.specs.List.{flat_map, list_any};
 ghost use Rattle.prop_sets.specs.Names.{is_among, has_repeat};
 ghost use Rattle.prop_vocabulary.specs.Names.{number_in, is_missing};
-ghost use Rattle.prop_compound.specs.Said.{words as words_of, step_of};
+ghost use Rattle.prop_language.specs.Said.{words as words_of, step_of};
 ghost use Rattle.prop_compound.specs.Defining.{locals_of, scope_of, cells_in, is_cell_missing};
 
-use crate::command::Step;
+use prop_language::Step;
 use prop_lattice::Refusal;
 use prop_vocabulary::Names;
 use std::alloc::{AllocError, Global};

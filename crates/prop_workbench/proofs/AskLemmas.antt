@@ -16,8 +16,8 @@ use Rattle.prop_scheduler.specs.Turns.{IsSettled}
 use Rattle.prop_scheduler.specs.Ends.{IfClash}
 use Rattle.prop_scheduler.specs.declared.outcome.Run.{Run}
 use Rattle.prop_scheduler.specs.declared.outcome.Run.TheVariants.{Quiet, Clash, Spent}
-use Rattle.prop_compound.specs.Commands as commands
-use Rattle.prop_compound.specs.Commands.{Command}
+use Rattle.prop_language.specs.Commands as commands
+use Rattle.prop_language.specs.Commands.{Command}
 use Rattle.prop_vocabulary.specs.Vocabulary.{Vocabulary}
 use Rattle.prop_engine.specs.Answers.{Answer, Says, Text}
 use Rattle.prop_workbench.specs.Machine.{State, text_at}

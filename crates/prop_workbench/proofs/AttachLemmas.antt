@@ -16,8 +16,8 @@ use Rattle.prop_procedures.specs.Stored.{Stored, span_kind, sides_of, are_right}
 use Rattle.prop_premises.specs.Origins.{Origin}
 use Rattle.prop_cells.specs.Data.{Data}
 use Rattle.prop_procedures.specs.Fitting.{kind_at, kinds_fit, fitting_param}
-use Rattle.prop_compound.specs.Commands as commands
-use Rattle.prop_compound.specs.Commands.{By}
+use Rattle.prop_language.specs.Commands as commands
+use Rattle.prop_language.specs.Commands.{By}
 use Rattle.prop_compound.specs.Definitions.{Definitions, used_named, is_miscounted}
 use Rattle.prop_compound.specs.Expansion.{Expansion, expanded}
 use Rattle.prop_compound.specs.Expanding.{expand_refusal, size_refusal, fit_refusal, is_misplaced, is_misgiven, is_param_wrong}

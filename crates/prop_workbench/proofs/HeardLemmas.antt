@@ -7,12 +7,12 @@ use Rattle.std.proofs.lemmas.Bool.{eqb-true}
 use Rattle.prop_lattice.specs.declared.refusal.Refusal.{Refusal}
 use Rattle.prop_lattice.specs.declared.refusal.Refusal.TheVariants.{Memory, LineTooLong, NotUtf8, NotAName, NotANumber}
 use Rattle.prop_procedures.specs.Stored.{Stored}
-use Rattle.prop_compound.specs.Commands.{Command}
-use Rattle.prop_compound.specs.Tokens.{Token, Word, Open, Close, Semicolon, Equals, Star, tokens, is_blank, front_word}
-use Rattle.prop_compound.specs.Names.{is_name}
-use Rattle.prop_compound.specs.Forms.{forms}
-use Rattle.prop_compound.specs.Reading.{reading, reading_of, command_of, by_form_of, command_in_form, is_silent, without_return, names_in, is_in_range}
-use Rattle.prop_compound.specs.Said.{KeepsWords}
+use Rattle.prop_language.specs.Commands.{Command}
+use Rattle.prop_language.specs.Tokens.{Token, Word, Open, Close, Semicolon, Equals, Star, tokens, is_blank, front_word}
+use Rattle.prop_language.specs.Names.{is_name}
+use Rattle.prop_language.specs.Forms.{forms}
+use Rattle.prop_language.specs.Reading.{reading, reading_of, command_of, by_form_of, command_in_form, is_silent, without_return, names_in, is_in_range}
+use Rattle.prop_language.specs.Said.{KeepsWords}
 use Rattle.prop_engine.specs.Answers.{Refused}
 use Rattle.prop_workbench.specs.Machine.{State}
 use Rattle.prop_workbench.specs.Steps.{Follows}

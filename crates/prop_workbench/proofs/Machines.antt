@@ -8,8 +8,8 @@ use Rattle.prop_lattice.specs.declared.refusal.Refusal.TheVariants.{LineTooLong,
 use Rattle.prop_lattice.specs.Points.{Point}
 use Rattle.prop_procedures.specs.declared.shape.Param.{Param}
 use Rattle.prop_procedures.specs.Stored.{Stored}
-use Rattle.prop_compound.specs.Commands.{Command}
-use Rattle.prop_compound.specs.Reading.{reading}
+use Rattle.prop_language.specs.Commands.{Command}
+use Rattle.prop_language.specs.Reading.{reading}
 use Rattle.prop_engine.specs.Lines.{kept_of}
 use Rattle.prop_engine.specs.Answers.{Answer, Silent, Text, Refused}
 use Rattle.prop_workbench.specs.Machine.{State}

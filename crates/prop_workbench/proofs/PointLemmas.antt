@@ -11,8 +11,8 @@ use Rattle.prop_cells.specs.Reach.{IsConflict}
 use Rattle.prop_cells.specs.Points.{AreSoundBy, AreFitting}
 use Rattle.prop_cells.proofs.PointLaws.{entailed_holds, points_consistent}
 use Rattle.prop_premises.specs.Sets.{set_of, IsPart}
-use Rattle.prop_compound.specs.Commands as commands
-use Rattle.prop_compound.specs.Commands.{Command}
+use Rattle.prop_language.specs.Commands as commands
+use Rattle.prop_language.specs.Commands.{Command}
 use Rattle.prop_engine.specs.Answers.{Answer, Text, Refused}
 use Rattle.prop_workbench.specs.Machine.{State, problem_in, worldview_of}
 use Rattle.prop_workbench.specs.Points.{attached_in, Satisfy, SaysPoint, BearsOut, HoldsPoints}

@@ -3,8 +3,8 @@ use Rattle.std.proofs.Common.{◌≡◌, ◌∙◌, ℕ, false, List, [], ◌∷
 use Rattle.prop_lattice.specs.declared.refusal.Refusal.{Refusal}
 use Rattle.prop_lattice.specs.declared.refusal.Refusal.TheVariants.{Memory}
 use Rattle.prop_procedures.specs.Stored.{Stored}
-use Rattle.prop_compound.specs.Commands as commands
-use Rattle.prop_compound.specs.Commands.{KindWord, Command}
+use Rattle.prop_language.specs.Commands as commands
+use Rattle.prop_language.specs.Commands.{KindWord, Command}
 use Rattle.prop_engine.specs.Answers.{Answer, Silent, Done, Text, Refused}
 use Rattle.prop_workbench.specs.Machine.{State}
 use Rattle.prop_workbench.specs.Refusing.{refusal_of, limit_refusal, is_nowhere}

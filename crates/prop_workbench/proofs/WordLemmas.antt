@@ -11,10 +11,10 @@ use Rattle.prop_procedures.specs.declared.shape.Kinded.{Kinded}
 use Rattle.prop_vocabulary.specs.Names.{number_in}
 use Rattle.prop_vocabulary.specs.Vocabulary.{Vocabulary, with_domain, with_symbol, with_first_symbols}
 use Rattle.std.specs.Borrow.{Bor}
-use Rattle.prop_compound.specs.Commands.{Command}
-use Rattle.prop_compound.specs.Said.{words}
-use Rattle.prop_compound.specs.Reading.{reading}
-use Rattle.prop_compound.proofs.RefusalLaws.{reads_what_is_spelled}
+use Rattle.prop_language.specs.Commands.{Command}
+use Rattle.prop_language.specs.Said.{words}
+use Rattle.prop_language.specs.Reading.{reading}
+use Rattle.prop_language.proofs.RefusalLaws.{reads_what_is_spelled}
 use Rattle.std.specs.Prelude.{Ok}
 use Rattle.prop_compound.specs.declared.definition.NumberedStep.{NumberedStep}
 use Rattle.prop_compound.specs.declared.definition.NumberedStep.TheVariants.{Local, Like, Use}

@@ -9,10 +9,10 @@ use Rattle.prop_lattice.specs.declared.info.Kind.TheVariants as kinds
 use Rattle.prop_premises.specs.Origins.{Origin, premise_number, with_name, with_belief_at}
 use Rattle.prop_procedures.specs.declared.shape.Kinded.{Kinded}
 use Rattle.prop_procedures.specs.Stored.{Stored}
-use Rattle.prop_compound.specs.Commands.{Value, Command}
+use Rattle.prop_language.specs.Commands.{Value, Command}
 use Rattle.prop_compound.specs.Defining.{kind_named, with_definition}
 use Rattle.prop_compound.specs.Expansion.{Placed, Expansion}
-use Rattle.prop_compound.specs.Values.{Meant, Known, Name}
+use Rattle.prop_language.specs.Values.{Meant, Known, Name}
 use Rattle.prop_procedures.specs.declared.shape.Param.{Param}
 use Rattle.prop_procedures.specs.declared.shape.Param.TheVariants.{Plain}
 use Rattle.prop_procedures.specs.Fitting.{fitting_param}

@@ -4,8 +4,8 @@ use Rattle.prop_lattice.specs.Points.{Point, Holds}
 use Rattle.prop_lattice.specs.declared.info.Info.{Info}
 use Rattle.prop_procedures.specs.declared.shape.Param.{Param}
 use Rattle.prop_cells.specs.Points.{Attached, ArePoints}
-use Rattle.prop_compound.specs.Commands.{Command}
-use Rattle.prop_compound.specs.Reading.{reading}
+use Rattle.prop_language.specs.Commands.{Command}
+use Rattle.prop_language.specs.Reading.{reading}
 use Rattle.prop_engine.specs.Answers.{Answer, Text}
 use Rattle.prop_workbench.specs.Machine.{State, text_at, worldview_of}
 use Rattle.prop_texts.specs.Texts.{equation, because, worldview_text}

@@ -2,7 +2,7 @@
 use Rattle.std.specs.Prelude.{◌≡◌, ℕ, List, [], codes, Option, Some, Result, Ok, ◌⊎◌, ⊤}
 use Rattle.prop_lattice.specs.declared.refusal.Refusal.{Refusal}
 use Rattle.prop_cells.specs.Data.{Data, beliefs, IsLeanAt, IsClash}
-use Rattle.prop_compound.specs.Commands.{Command}
+use Rattle.prop_language.specs.Commands.{Command}
 use Rattle.prop_engine.specs.Answers.{Answer, Text}
 use Rattle.prop_workbench.specs.Machine.{State, text_at, worldview_of}
 use Rattle.prop_texts.specs.Texts.{equation, because, contradiction_text}

@@ -12,7 +12,7 @@ use Rattle.prop_cells.specs.Reach.{Explains, IsConflict}
 use Rattle.prop_procedures.specs.Fitting.{kind_at}
 use Rattle.prop_scheduler.specs.declared.outcome.Run.{Run}
 use Rattle.prop_scheduler.specs.declared.outcome.Run.TheVariants.{Quiet, Clash, Spent}
-use Rattle.prop_compound.specs.Commands.{Command}
+use Rattle.prop_language.specs.Commands.{Command}
 use Rattle.prop_lattice.specs.declared.refusal.Refusal.TheVariants.{Memory}
 use Rattle.prop_engine.specs.Answers.{Answer, Text, Refused}
 use Rattle.prop_workbench.specs.Machine.{State, problem_in, text_at, worldview_of}

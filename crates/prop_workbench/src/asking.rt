@@ -15,7 +15,7 @@ impl<R: Rule + Drop, O: Order + Drop> Session<R, O> {
     ghost use Rattle.prop_cells.specs.Data.{beliefs, IsClash};
     ghost use Rattle.prop_scheduler.specs.Ends.{IfClash};
     ghost use Rattle.prop_scheduler.specs.Turns.{IsSettled};
-    ghost use Rattle.prop_compound.specs.Commands as commands;
+    ghost use Rattle.prop_language.specs.Commands as commands;
     ghost use Rattle.prop_engine.specs.Answers.{answer_of, Says, Text};
     ghost use Rattle.prop_workbench.specs.Machine.{text_at};
     ghost use Rattle.prop_texts.specs.Texts.{equation};

@@ -1,7 +1,7 @@
 //! The command that puts procedures and definitions between cells.
 ghost use Rattle.std.specs.Prelude.{◌≡◌, ◌<◌, ◌≤◌, ◌+◌, ◌⊎◌, ℕ, All, Contains, length, map, None, Some, IfOk, IfErr, OnOk, OnErr};
 ghost use Rattle.prop_procedures.specs.Fitting.{kind_at};
-ghost use Rattle.prop_compound.specs.Said.{by_of};
+ghost use Rattle.prop_language.specs.Said.{by_of};
 ghost use Rattle.prop_workbench.specs.Refusing.{is_unknown, given_by, room_refusal};
 
 use crate::placing::make_all;
@@ -94,8 +94,8 @@ impl<R: Rule + Drop, O: Order + Drop> Session<R, O> {
     ghost use Rattle.std.specs.Prelude.{◌≡◌, ◌<◌, ◌≤◌, ◌+◌, ◌⊎◌, ℕ, All, length, map, None, Some, IfOk, IfErr, OnOk, OnErr};
     ghost use Rattle.prop_lattice.specs.declared.refusal.Refusal.TheVariants.{Memory};
     ghost use Rattle.prop_engine.specs.Answers.{answer_of};
-    ghost use Rattle.prop_compound.specs.Commands as commands;
-    ghost use Rattle.prop_compound.specs.Said.{by_of, words};
+    ghost use Rattle.prop_language.specs.Commands as commands;
+    ghost use Rattle.prop_language.specs.Said.{by_of, words};
     ghost use Rattle.prop_workbench.specs.Refusing.{used, use_refusal, given_by};
     ghost use Rattle.prop_procedures.specs.Fitting.{kind_at};
     ghost use Rattle.prop_compound.specs.Expanding.{expand_refusal};

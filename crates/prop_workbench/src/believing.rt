@@ -26,7 +26,7 @@ impl<R: Rule + Drop, O: Order + Drop> Session<R, O> {
     ghost use Rattle.std.specs.Prelude.{◌≡◌, ◌⊎◌, ℕ, None, Some, OnOk, OnErr, IfErr};
     ghost use Rattle.prop_lattice.specs.declared.refusal.Refusal.TheVariants.{Memory, NoSuchPremise};
     ghost use Rattle.prop_premises.specs.Origins.{premise_number, with_belief_at};
-    ghost use Rattle.prop_compound.specs.Commands as commands;
+    ghost use Rattle.prop_language.specs.Commands as commands;
     ghost use Rattle.prop_engine.specs.Answers.{answer_of};
     ghost use Rattle.prop_workbench.specs.Sessions.{state_of, steps_of, library_of, IsSound};
     ghost use Rattle.prop_workbench.specs.Steps.{Obeys};

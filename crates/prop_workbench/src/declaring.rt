@@ -1,6 +1,6 @@
 //! The commands that declare domains, relations, cells and definitions.
 ghost use Rattle.std.specs.Prelude.{◌≡◌, ◌<◌, ℕ, length, None, IfSome, true, false};
-ghost use Rattle.prop_compound.specs.Said.{kind_of};
+ghost use Rattle.prop_language.specs.Said.{kind_of};
 ghost use Rattle.prop_workbench.specs.Refusing.{is_nowhere};
 ghost use Rattle.prop_compound.specs.Defining.{domain_kind, kind_named};
 ghost use Rattle.prop_workbench.specs.Sessions.{IsSized};
@@ -54,8 +54,8 @@ fn kind_named(words: &Vocabulary, word: KindWord) -> Option<Kinded>
 impl<R: Rule + Drop, O: Order + Drop> Session<R, O> {
     ghost use Rattle.std.specs.Prelude.{◌≡◌, ◌<◌, ◌++◌, ◌∷◌, [], ◌⊎◌, map, All, None, Some, OnOk, OnErr, IfOk, IfErr, ℕ, length};
     ghost use Rattle.prop_lattice.specs.declared.refusal.Refusal.TheVariants.{Memory};
-    ghost use Rattle.prop_compound.specs.Commands as commands;
-    ghost use Rattle.prop_compound.specs.Said.{kind_of, words, pairs_of, step_of};
+    ghost use Rattle.prop_language.specs.Commands as commands;
+    ghost use Rattle.prop_language.specs.Said.{kind_of, words, pairs_of, step_of};
     ghost use Rattle.prop_engine.specs.Answers.{answer_of};
     ghost use Rattle.prop_workbench.specs.Sessions.{state_of, steps_of, library_of, IsSound, IsMeant};
     ghost use Rattle.prop_workbench.specs.Steps.{Obeys};

@@ -5,7 +5,7 @@ use Rattle.clap.specs.declared.builder.ArgAction.TheVariants.{Set}
 use Rattle.clap.specs.declared.parser.matches.ArgMatches.{ArgMatches}
 use Rattle.clap.specs.declared.error.Error.{Error}
 use Rattle.clap.specs.declared.error.kind.ErrorKind.TheVariants.{OutOfMemory}
-use Rattle.prop_compound.specs.Names.{number_in}
+use Rattle.prop_language.specs.Names.{number_in}
 use Rattle.propbench.specs.declared.chosen.Options.{Options}
 
 -- --limit N

@@ -3,7 +3,7 @@ use Rattle.std.specs.List.{flat_map}
 use Rattle.std.proofs.lemmas.List.{take_all}
 use Rattle.std.proofs.lemmas.List.Folds.{flat_map-map}
 use Rattle.std.proofs.lemmas.Result.{err_from_is_err_and}
-use Rattle.prop_compound.specs.Said.{step_of}
+use Rattle.prop_language.specs.Said.{step_of}
 use Rattle.prop_compound.specs.Defining.{locals_of}
 use Rattle.prop_compound.proofs.Scoping.{locals_said, repeat_all, taken_then}
 use Rattle.prop_compound.proofs.scope.push_locals.Goals as goal

@@ -1,7 +1,7 @@
 use Rattle.std.proofs.Common.{map}
 use Rattle.std.specs.List.{flat_map}
 use Rattle.std.proofs.lemmas.Result.{err_from_is_err_and}
-use Rattle.prop_compound.specs.Said.{words, step_of}
+use Rattle.prop_language.specs.Said.{words, step_of}
 use Rattle.prop_compound.specs.Defining.{locals_of}
 use Rattle.prop_compound.proofs.Scoping.{repeat_still, taken_then}
 use Rattle.prop_compound.proofs.scope.scope_of.Goals as goal

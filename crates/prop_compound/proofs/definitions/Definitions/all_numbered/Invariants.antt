@@ -1,6 +1,6 @@
 use Rattle.std.proofs.Common.{◌≡◌, map, take}
 use Rattle.prop_procedures.specs.Kept.{stored_of}
-use Rattle.prop_compound.specs.Said.{step_of}
+use Rattle.prop_language.specs.Said.{step_of}
 use Rattle.prop_compound.specs.Defining.{step_numbered}
 use Rattle.prop_compound.proofs.definitions.Definitions.all_numbered.Given as goal
 

@@ -1,7 +1,7 @@
 use Rattle.std.proofs.Common.{ℕ, List, Bor, map, ap, sym, subst, ◌∙◌, ◌≡◌, length, None}
 use Rattle.std.proofs.lemmas.List.{length-map}
 use Rattle.prop_procedures.specs.Kept.{stored_of}
-use Rattle.prop_compound.specs.Said.{words, step_of}
+use Rattle.prop_language.specs.Said.{words, step_of}
 use Rattle.prop_compound.specs.Definitions.{Definitions}
 use Rattle.prop_compound.specs.Defining.{define_refusal}
 use Rattle.prop_compound.specs.Kept.{all_bare, IsDefinedOver}

@@ -1,6 +1,6 @@
 use Rattle.std.proofs.Common.{inl, arith}
 use Rattle.prop_procedures.specs.Kept.{stored_of}
-use Rattle.prop_compound.specs.Said.{words, step_of}
+use Rattle.prop_language.specs.Said.{words, step_of}
 use Rattle.prop_compound.specs.Defining.{is_nowhere, is_unrelated, is_unknown, is_count_wrong}
 use Rattle.std.proofs.Common.{map, length, take, ◌≡◌}
 use Rattle.prop_compound.proofs.Judging.{IsNew, not_found, some_said, said_missing, refused_domain, refused_relation, refused_cell, refused_procedure, refused_count, refused_limit, not_refused}

@@ -1,4 +1,4 @@
-use Rattle.prop_compound.specs.Reading.{reading}
+use Rattle.prop_language.specs.Reading.{reading}
 use Rattle.prop_workbench.proofs.StepLemmas.{still_lacks}
 use Rattle.prop_procedures.specs.Kept.{stored_of, related_of}
 use Rattle.prop_cells.specs.Data.{IsWellMade}

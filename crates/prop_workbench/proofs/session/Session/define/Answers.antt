@@ -1,5 +1,5 @@
 use Rattle.std.proofs.Common.{map}
-use Rattle.prop_compound.specs.Said.{words, step_of}
+use Rattle.prop_language.specs.Said.{words, step_of}
 use Rattle.prop_procedures.specs.Kept.{stored_of}
 use Rattle.prop_workbench.specs.Sessions.{state_of}
 use Rattle.prop_workbench.proofs.DefineLemmas.{locals_defined, defined_step, undefined_step}

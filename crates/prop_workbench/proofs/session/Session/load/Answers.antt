@@ -2,7 +2,7 @@ use Rattle.std.proofs.Common.{◌∙◌, sym, arith, [], List, ℕ}
 use Rattle.std.specs.Borrow.{Bor}
 use Rattle.std.proofs.lemmas.List.{length-map, get_or-map}
 use Rattle.prop_procedures.specs.Kept.{stored_of}
-use Rattle.prop_compound.specs.Said.{words}
+use Rattle.prop_language.specs.Said.{words}
 use Rattle.prop_engine.specs.Answers.{answer_of}
 use Rattle.prop_workbench.specs.Sessions.{state_of, steps_of}
 use Rattle.prop_workbench.proofs.LoadLemmas.{loads_next, stops_at, no_refusal}

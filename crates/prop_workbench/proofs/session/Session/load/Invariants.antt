@@ -1,5 +1,5 @@
 use Rattle.std.proofs.Common.{◌≡◌, take}
-use Rattle.prop_compound.specs.Said.{words}
+use Rattle.prop_language.specs.Said.{words}
 use Rattle.prop_workbench.specs.Loading.{Loads}
 use Rattle.prop_workbench.specs.Sessions.{state_of, library_of, IsSound}
 use Rattle.prop_workbench.proofs.session.Session.load.Given as goal

@@ -3,7 +3,7 @@ use Rattle.std.proofs.lemmas.List.{length-append, length-map}
 use Rattle.std.proofs.lemmas.List.Elements.{All-weaker}
 use Rattle.prop_premises.specs.Origins.{believed_in}
 use Rattle.prop_procedures.specs.Kept.{stored_of}
-use Rattle.prop_compound.specs.Said.{by_of}
+use Rattle.prop_language.specs.Said.{by_of}
 use Rattle.prop_workbench.specs.Placing.{made_of}
 use Rattle.prop_workbench.specs.Refusing.{given_by, room_refusal}
 use Rattle.prop_workbench.proofs.AttachLemmas.{may_make, sized_made, named_made, state_made}

@@ -1,7 +1,0 @@
-use Rattle.std.proofs.Common.{◌≡◌, map, drop}
-use Rattle.prop_compound.specs.Names.{is_among}
-use Rattle.prop_compound.proofs.names.is_among.Given as goal
-
-abbrev pub invariant-loop-known : goal.invariant-loop-known
-invariant-loop-known l =
-    is_among (map (λ w. w.now) (drop l.known-index l.words)) l.word ≡ is_among (map (λ w. w.now) l.words) l.word

@@ -1,9 +1,0 @@
-use Rattle.std.proofs.Common.{◌≡◌, ◌<◌, ◌^◌, drop}
-use Rattle.prop_compound.specs.Names.{number_after}
-use Rattle.prop_compound.proofs.numbers.unsigned.Given as goal
-
-abbrev pub invariant-loop-byte : goal.invariant-loop-byte
-invariant-loop-byte l = record {
-  rest : number_after l.number (drop l.byte-index l.digits) ≡ number_after 0 l.digits;
-  fits : l.number < 2 ^ 64;
-}

@@ -1,7 +1,0 @@
-use Rattle.std.proofs.Common.{take}
-use Rattle.std.specs.List.{AllByRecursion}
-use Rattle.prop_compound.specs.Parts.{IsInWord}
-use Rattle.prop_compound.proofs.tokens.word_len.Given as goal
-
-abbrev pub invariant-loop-i : goal.invariant-loop-i
-invariant-loop-i l = AllByRecursion IsInWord (take l.i l.bytes)

@@ -1,0 +1,363 @@
+//! The form of each command: what is read from the bytes behind its word.
+ghost use Rattle.std.specs.Prelude.{◌≡◌, ◌≢◌, ◌<◌, ◌∷◌, [], ◌⊎◌, IfOk, IfErr, OnOk, true, false, Contains, Ok, Err, None, Some, IfSome, length};
+ghost use Rattle.std.specs.List.{list_all};
+ghost use Rattle.std.specs.Option.{option_map};
+ghost use Rattle.prop_language.specs.Tokens.{tokens, Word, Open, Equals};
+ghost use Rattle.prop_language.specs.Names.{is_name};
+ghost use Rattle.prop_language.specs.Forms as forms;
+ghost use Rattle.prop_language.specs.Commands as commands;
+ghost use Rattle.prop_language.specs.Reading.{command_in_form, kind_names};
+ghost use Rattle.prop_language.specs.Said.{Reads, words, pairs_of, kind_of, by_of, value_of};
+ghost use Rattle.prop_language.specs.Parts.{front, one_word, are_words, front_words, behind_equals, further, behind_by, given, parameter_said, before_by, by_in_range, some_values, BeginsOpen};
+
+use crate::command::{By, Command, KindWord, Value};
+use crate::names::name;
+use crate::numbers::{looks_like_number, number_in};
+use crate::tokens::{Token, next_token};
+use prop_lattice::Refusal;
+use std::alloc::Global;
+
+/// The word that the bytes begin with, and what stands behind it.
+pub(crate) fn word(bytes: &[u8]) -> Result<(&[u8], &[u8]), Refusal>
+    ensures ok { IfOk result (λ found. tokens bytes.now ≡ Word found.0.now ∷ tokens found.1.now) }
+    ensures err { IfErr result (λ refusal. (refusal ≡ Refusal.WrongForm) × (front (tokens bytes.now) ≡ None)) }
+    ensures shorter { IfOk result (λ found. length found.1.now < length bytes.now) }
+{
+    match next_token(bytes) {
+        Some((Token::Word(word), rest)) => Ok((word, rest)),
+        _ => Err(Refusal::WrongForm),
+    }
+}
+
+/// Nothing but spaces and tabs.
+pub(crate) fn end(bytes: &[u8]) -> Result<(), Refusal>
+    ensures ok { OnOk result (tokens bytes.now ≡ []) }
+    ensures err { IfErr result (λ refusal. (refusal ≡ Refusal.WrongForm) × (tokens bytes.now ≢ [])) }
+{
+    match next_token(bytes) {
+        None => Ok(()),
+        Some(_) => Err(Refusal::WrongForm),
+    }
+}
+
+/// One word and no more.
+pub(crate) fn only_word(bytes: &[u8]) -> Result<&[u8], Refusal>
+    ensures ok { IfOk result (λ word. tokens bytes.now ≡ Word word.now ∷ []) }
+    ensures err { IfErr result (λ refusal. (refusal ≡ Refusal.WrongForm) × (one_word (tokens bytes.now) ≡ None)) }
+{
+    let (word, rest) = word(bytes)?;
+    end(rest)?;
+    Ok(word)
+}
+
+/// Words and no marks.
+fn only_words(bytes: &[u8]) -> Result<(), Refusal>
+    ensures ok { OnOk result (are_words (tokens bytes.now) ≡ true) }
+    ensures err { IfErr result (λ refusal. (refusal ≡ Refusal.WrongForm) × (are_words (tokens bytes.now) ≡ false)) }
+{
+    let mut left = bytes;
+    while let Some((token, rest)) = next_token(left) {
+        let Token::Word(_) = token else {
+            return Err(Refusal::WrongForm);
+        };
+        left = rest;
+    }
+    Ok(())
+}
+
+/// The words up to a mark, which are to be names.
+pub(crate) fn names_of<'a>(alloc: Global, bytes: &'a [u8]) -> Result<Vec<&'a str>, Refusal>
+    ensures ok { IfOk result (λ found. (words found.items ≡ front_words (tokens bytes.now)) × (list_all is_name (front_words (tokens bytes.now)) ≡ true)) }
+    ensures err { IfErr result (λ refusal. (refusal ≡ Refusal.Memory) ⊎ ((refusal ≡ Refusal.NotAName) × (list_all is_name (front_words (tokens bytes.now)) ≡ false))) }
+{
+    let mut found = Vec::new(alloc);
+    let mut left = bytes;
+    while let Some((Token::Word(word), rest)) = next_token(left) {
+        found.push(name(word)?).map_err(|_| Refusal::Memory)?;
+        left = rest;
+    }
+    Ok(found)
+}
+
+/// `domain D e ..`, behind its first word.
+pub fn domain<'a>(alloc: Global, rest: &'a [u8]) -> Result<Command<'a>, Refusal>
+    ensures { Reads result (command_in_form (forms.domain (tokens rest.now))) }
+{
+    let (domain, elements) = word(rest)?;
+    let (_first, others) = word(elements)?;
+    only_words(others)?;
+    let domain = name(domain)?;
+    Ok(Command::Domain(domain, names_of(alloc, elements)?))
+}
+
+/// What stands behind an equals sign.
+fn behind_equals(bytes: &[u8]) -> Result<&[u8], Refusal>
+    ensures ok { IfOk result (λ rest. tokens bytes.now ≡ Equals ∷ tokens rest.now) }
+    ensures err { IfErr result (λ refusal. (refusal ≡ Refusal.WrongForm) × (behind_equals (tokens bytes.now) ≡ None)) }
+{
+    match next_token(bytes) {
+        Some((Token::Equals, rest)) => Ok(rest),
+        _ => Err(Refusal::WrongForm),
+    }
+}
+
+/// What stands behind a semicolon, if there is anything.
+fn further(bytes: &[u8]) -> Result<Option<&[u8]>, Refusal>
+    ensures ok { IfOk result (λ behind. further (tokens bytes.now) ≡ Some (option_map (λ rest. tokens rest.now) behind)) }
+    ensures err { IfErr result (λ refusal. (refusal ≡ Refusal.WrongForm) × (further (tokens bytes.now) ≡ None)) }
+    ensures shorter { IfOk result (λ behind. IfSome behind (λ rest. length rest.now < length bytes.now)) }
+{
+    match next_token(bytes) {
+        None => Ok(None),
+        Some((Token::Semicolon, rest)) => Ok(Some(rest)),
+        _ => Err(Refusal::WrongForm),
+    }
+}
+
+/// Pairs of words, with a semicolon between each two pairs.
+fn pairs<'a>(alloc: Global, bytes: &'a [u8]) -> Result<Vec<(&'a [u8], &'a [u8])>, Refusal>
+    ensures ok { IfOk result (λ found. forms.pairs (tokens bytes.now) ≡ Some (pairs_of found.items)) }
+    ensures err { IfErr result (λ refusal. (refusal ≡ Refusal.Memory) ⊎ ((refusal ≡ Refusal.WrongForm) × (forms.pairs (tokens bytes.now) ≡ None))) }
+{
+    let mut found = Vec::new(alloc);
+    let mut left = bytes;
+    loop {
+        let (first, rest) = word(left)?;
+        let (second, rest) = word(rest)?;
+        found.push((first, second)).map_err(|_| Refusal::Memory)?;
+        let behind = further(rest)?;
+        match behind {
+            Some(rest) => left = rest,
+            None => return Ok(found),
+        }
+    }
+}
+
+/// `relation R D E = a b ; c d ..`, behind its first word.
+pub fn relation<'a>(alloc: Global, rest: &'a [u8]) -> Result<Command<'a>, Refusal>
+    ensures { Reads result (command_in_form (forms.relation (tokens rest.now))) }
+{
+    let (relation, rest) = word(rest)?;
+    let (from, rest) = word(rest)?;
+    let (to, rest) = word(rest)?;
+    let pairs = pairs(alloc, behind_equals(rest)?)?;
+    Ok(Command::Relation(name(relation)?, name(from)?, name(to)?, pairs))
+}
+
+/// The kind that the word stands for: one of three with words of their own, and else the domain of that name.
+pub(crate) fn kind_word(word: &[u8]) -> Result<KindWord<'_>, Refusal>
+    ensures ok { IfOk result (λ kind. (forms.kind_word word.now ≡ kind_of kind) × (list_all is_name (kind_names (kind_of kind)) ≡ true)) }
+    ensures err { IfErr result (λ refusal. (refusal ≡ Refusal.NotAName) × (list_all is_name (kind_names (forms.kind_word word.now)) ≡ false)) }
+{
+    if word == b"span".as_slice() {
+        Ok(KindWord::Spans)
+    } else if word == b"truth".as_slice() {
+        Ok(KindWord::Truths)
+    } else if word == b"symbol".as_slice() {
+        Ok(KindWord::Symbols)
+    } else {
+        Ok(KindWord::Named(name(word)?))
+    }
+}
+
+/// `cell X KIND`, behind its first word.
+pub fn cell(rest: &[u8]) -> Result<Command<'_>, Refusal>
+    ensures read { Reads result (command_in_form (forms.cell (tokens rest.now))) }
+    ensures memory { result ≢ Err Refusal.Memory }
+{
+    let (cell, rest) = word(rest)?;
+    let kind = only_word(rest)?;
+    Ok(Command::Cell(name(cell)?, kind_word(kind)?))
+}
+
+/// `settle`, behind its first word.
+pub fn settle(rest: &[u8]) -> Result<Command<'_>, Refusal>
+    ensures read { Reads result (command_in_form (forms.bare commands.Command.Settle (tokens rest.now))) }
+    ensures memory { result ≢ Err Refusal.Memory }
+{
+    end(rest)?;
+    Ok(Command::Settle)
+}
+
+/// `kick P`, behind its first word.
+pub fn kick(rest: &[u8]) -> Result<Command<'_>, Refusal>
+    ensures read { Reads result (command_in_form (forms.on_word commands.Command.Kick (tokens rest.now))) }
+    ensures memory { result ≢ Err Refusal.Memory }
+{
+    Ok(Command::Kick(name(only_word(rest)?)?))
+}
+
+/// `bring P`, behind its first word.
+pub fn bring(rest: &[u8]) -> Result<Command<'_>, Refusal>
+    ensures read { Reads result (command_in_form (forms.on_word commands.Command.Bring (tokens rest.now))) }
+    ensures memory { result ≢ Err Refusal.Memory }
+{
+    Ok(Command::Bring(name(only_word(rest)?)?))
+}
+
+/// `ask X`, behind its first word.
+pub fn ask(rest: &[u8]) -> Result<Command<'_>, Refusal>
+    ensures read { Reads result (command_in_form (forms.on_word commands.Command.Ask (tokens rest.now))) }
+    ensures memory { result ≢ Err Refusal.Memory }
+{
+    Ok(Command::Ask(name(only_word(rest)?)?))
+}
+
+/// `why X`, behind its first word.
+pub fn why(rest: &[u8]) -> Result<Command<'_>, Refusal>
+    ensures read { Reads result (command_in_form (forms.on_word commands.Command.Why (tokens rest.now))) }
+    ensures memory { result ≢ Err Refusal.Memory }
+{
+    Ok(Command::Why(name(only_word(rest)?)?))
+}
+
+/// `worldview`, behind its first word.
+pub fn worldview(rest: &[u8]) -> Result<Command<'_>, Refusal>
+    ensures read { Reads result (command_in_form (forms.bare commands.Command.Worldview (tokens rest.now))) }
+    ensures memory { result ≢ Err Refusal.Memory }
+{
+    end(rest)?;
+    Ok(Command::Worldview)
+}
+
+/// What stands behind the first `by`, if there is a `by`. Before it stand words alone.
+pub(crate) fn behind_by(bytes: &[u8]) -> Result<Option<&[u8]>, Refusal>
+    ensures ok { IfOk result (λ behind. behind_by (tokens bytes.now) ≡ Some (option_map (λ rest. tokens rest.now) behind)) }
+    ensures err { IfErr result (λ refusal. (refusal ≡ Refusal.WrongForm) × (behind_by (tokens bytes.now) ≡ None)) }
+{
+    let mut left = bytes;
+    while let Some((token, rest)) = next_token(left) {
+        let Token::Word(word) = token else {
+            return Err(Refusal::WrongForm);
+        };
+        if word == b"by".as_slice() {
+            return Ok(Some(rest));
+        }
+        left = rest;
+    }
+    Ok(None)
+}
+
+/// The word behind the first `by`, if there is a `by`. Before it stand words alone, and behind it that one word.
+fn word_behind_by(bytes: &[u8]) -> Result<Option<&[u8]>, Refusal>
+    ensures ok { IfOk result (λ word. given forms.by_form (tokens bytes.now) ≡ Some (parameter_said word)) }
+    ensures err { IfErr result (λ refusal. (refusal ≡ Refusal.WrongForm) × (given forms.by_form (tokens bytes.now) ≡ None)) }
+{
+    match behind_by(bytes)? {
+        Some(rest) => Ok(Some(only_word(rest)?)),
+        None => Ok(None),
+    }
+}
+
+/// The first word and those up to a `by`, which are to be names.
+pub(crate) fn names_before_by<'a>(
+    alloc: Global,
+    first: &'a [u8],
+    rest: &'a [u8],
+) -> Result<Vec<&'a str>, Refusal>
+    ensures ok { IfOk result (λ names. (words names.items ≡ first.now ∷ before_by (tokens rest.now)) × (list_all is_name (first.now ∷ before_by (tokens rest.now)) ≡ true)) }
+    ensures err { IfErr result (λ refusal. (refusal ≡ Refusal.Memory) ⊎ ((refusal ≡ Refusal.NotAName) × (list_all is_name (first.now ∷ before_by (tokens rest.now)) ≡ false))) }
+{
+    let mut names = Vec::new(alloc);
+    names.push(name(first)?).map_err(|_| Refusal::Memory)?;
+    let mut left = rest;
+    while let Some((Token::Word(word), rest)) = next_token(left) {
+        if word == b"by".as_slice() {
+            break;
+        }
+        names.push(name(word)?).map_err(|_| Refusal::Memory)?;
+        left = rest;
+    }
+    Ok(names)
+}
+
+/// The parameter that a word behind `by` is: a number from 1 to 1,000,000,000 where it begins as one, and else a name.
+pub(crate) fn parameter(word: Option<&[u8]>) -> Result<By<'_>, Refusal>
+    ensures ok { IfOk result (λ by. by_in_range (parameter_said word.entry) ≡ Ok (by_of by)) }
+    ensures err { IfErr result (λ refusal. by_in_range (parameter_said word.entry) ≡ Err refusal) }
+{
+    match word {
+        None => Ok(By::Nothing),
+        Some(word) if looks_like_number(word) => {
+            let number = number_in(1, 1_000_000_000, word).ok_or(Refusal::NotANumber)?;
+            Ok(By::Number(number))
+        }
+        Some(word) => Ok(By::Relation(name(word)?)),
+    }
+}
+
+/// `attach N X.. [by P]`, behind its first word.
+pub fn attach<'a>(alloc: Global, rest: &'a [u8]) -> Result<Command<'a>, Refusal>
+    ensures { Reads result (command_in_form (forms.attach (tokens rest.now))) }
+{
+    let (procedure, rest) = word(rest)?;
+    let (first, rest) = word(rest)?;
+    let by = word_behind_by(rest)?;
+    let procedure = name(procedure)?;
+    let cells = names_before_by(alloc, first, rest)?;
+    Ok(Command::Attach(procedure, cells, parameter(by)?))
+}
+
+/// The words up to a closing brace, and what stands behind it.
+fn braces<'a>(alloc: Global, bytes: &'a [u8]) -> Result<(Value<'a>, &'a [u8]), Refusal>
+    ensures ok { IfOk result (λ found. forms.in_braces [] (tokens bytes.now) ≡ forms.join (Some (value_of found.0)) (forms.values (tokens found.1.now))) }
+    ensures err { IfErr result (λ refusal. (refusal ≡ Refusal.Memory) ⊎ ((refusal ≡ Refusal.WrongForm) × (forms.in_braces [] (tokens bytes.now) ≡ None))) }
+{
+    let mut words = Vec::new(alloc);
+    let mut left = bytes;
+    loop {
+        match next_token(left) {
+            Some((Token::Word(word), rest)) => {
+                words.push(word).map_err(|_| Refusal::Memory)?;
+                left = rest;
+            }
+            Some((Token::Close, rest)) => return Ok((Value::Braces(words), rest)),
+            _ => return Err(Refusal::WrongForm),
+        }
+    }
+}
+
+/// The value that the bytes begin with, and what stands behind it.
+fn value<'a>(alloc: Global, bytes: &'a [u8]) -> Result<(Value<'a>, &'a [u8]), Refusal>
+    ensures ok { IfOk result (λ found. forms.values (tokens bytes.now) ≡ forms.join (Some (value_of found.0)) (forms.values (tokens found.1.now))) }
+    ensures err { IfErr result (λ refusal. (refusal ≡ Refusal.Memory) ⊎ ((refusal ≡ Refusal.WrongForm) × (some_values (tokens bytes.now) ≡ None))) }
+    ensures memory { (result ≡ Err Refusal.Memory) → BeginsOpen (tokens bytes.now) }
+{
+    match next_token(bytes) {
+        Some((Token::Word(word), rest)) => Ok((Value::Bare(word), rest)),
+        Some((Token::Open, rest)) => braces(alloc, rest),
+        _ => Err(Refusal::WrongForm),
+    }
+}
+
+/// One value and no more.
+fn only_value<'a>(alloc: Global, bytes: &'a [u8]) -> Result<Value<'a>, Refusal>
+    ensures ok { IfOk result (λ value. forms.only_value (tokens bytes.now) ≡ Some (value_of value)) }
+    ensures err { IfErr result (λ refusal. (refusal ≡ Refusal.Memory) ⊎ ((refusal ≡ Refusal.WrongForm) × (forms.only_value (tokens bytes.now) ≡ None))) }
+    ensures memory { (result ≡ Err Refusal.Memory) → BeginsOpen (tokens bytes.now) }
+{
+    let (value, rest) = value(alloc, bytes)?;
+    end(rest)?;
+    Ok(value)
+}
+
+/// `fix X V`, behind its first word.
+pub fn fix<'a>(alloc: Global, rest: &'a [u8]) -> Result<Command<'a>, Refusal>
+    ensures read { Reads result (command_in_form (forms.fix (tokens rest.now))) }
+    ensures memory { (result ≡ Err Refusal.Memory) → Contains (tokens rest.now) Open }
+{
+    let (cell, rest) = word(rest)?;
+    let value = only_value(alloc, rest)?;
+    Ok(Command::Fix(name(cell)?, value))
+}
+
+/// `tell P X V`, behind its first word.
+pub fn tell<'a>(alloc: Global, rest: &'a [u8]) -> Result<Command<'a>, Refusal>
+    ensures read { Reads result (command_in_form (forms.tell (tokens rest.now))) }
+    ensures memory { (result ≡ Err Refusal.Memory) → Contains (tokens rest.now) Open }
+{
+    let (premise, rest) = word(rest)?;
+    let (cell, rest) = word(rest)?;
+    let value = only_value(alloc, rest)?;
+    Ok(Command::Tell(name(premise)?, name(cell)?, value))
+}

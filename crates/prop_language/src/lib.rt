@@ -1,0 +1,19 @@
+//! What a line of the workbench's language says.
+#![tactic(auto)]
+
+pub mod command;
+mod forms;
+mod names;
+mod numbers;
+mod reading;
+mod steps;
+mod tokens;
+mod values;
+
+pub use command::{By, Command, KindWord, Passed, Step, Value};
+pub use numbers::number_in;
+pub use reading::{read_line, reads_what_is_spelled};
+pub use values::{Meant, read_value};
+
+#[cfg(test)]
+mod tests;

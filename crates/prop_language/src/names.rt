@@ -1,0 +1,66 @@
+//! What can be a name.
+ghost use Rattle.std.specs.Prelude.{◌≡◌, chars, map, true, false, IfOk, IfErr};
+ghost use Rattle.std.specs.List.{list_all};
+ghost use Rattle.unicode_ident.specs.Ident.{is_xid_continue};
+ghost use Rattle.prop_language.specs.Names.{is_name, is_identifier, is_among, reserved_words};
+
+use prop_lattice::Refusal;
+use unicode_ident::{is_xid_continue, is_xid_start};
+
+/// The words that are never names.
+const RESERVED: [&[u8]; 9] = [
+    b"by",
+    b"local",
+    b"span",
+    b"symbol",
+    b"truth",
+    b"yes",
+    b"no",
+    b"nothing",
+    b"contradiction",
+];
+
+/// Whether the word is one of these.
+pub fn is_among(words: &[&[u8]], word: &[u8]) -> bool
+    ensures { result ≡ is_among (map (λ w. w.now) words.now) word.now }
+{
+    for known in words {
+        if *known == word {
+            return true;
+        }
+    }
+    false
+}
+
+fn is_reserved(word: &[u8]) -> bool
+    ensures { result ≡ is_among reserved_words word.now }
+{
+    is_among(&RESERVED, word)
+}
+
+fn continues(text: &str) -> bool
+    ensures { result ≡ list_all is_xid_continue (chars text.now) }
+{
+    text.chars().all(is_xid_continue)
+}
+
+fn is_identifier(text: &str) -> bool
+    ensures { result ≡ is_identifier (chars text.now) }
+{
+    let mut characters = text.chars();
+    let Some(first) = characters.next() else {
+        return false;
+    };
+    (is_xid_start(first) || first == '_') && continues(characters.as_str())
+}
+
+/// The name that the word is.
+pub fn name(word: &[u8]) -> Result<&str, Refusal>
+    ensures ok { IfOk result (λ name. (name.now ≡ word.now) × (is_name word.now ≡ true)) }
+    ensures err { IfErr result (λ refusal. (refusal ≡ Refusal.NotAName) × (is_name word.now ≡ false)) }
+{
+    match str::from_utf8(word) {
+        Ok(text) if is_identifier(text) && !is_reserved(word) => Ok(text),
+        _ => Err(Refusal::NotAName),
+    }
+}
