@@ -14,6 +14,3 @@ pub use kit::{KITS, Kit};
 pub use linking::{coimager, imager};
 pub use logic::{conjoin_back, conjoiner, disjoin_back, disjoiner, inverter, passer};
 pub use prelude::PRELUDE;
-
-#[cfg(test)]
-mod tests;

@@ -18,6 +18,3 @@ pub use quotients::div;
 pub use removal::without;
 pub use roots::root;
 pub use sums::{add, sub};
-
-#[cfg(test)]
-mod tests;

@@ -14,6 +14,3 @@ pub use command::{By, Command, KindWord, Passed, Step, Value};
 pub use numbers::number_in;
 pub use reading::{read_line, reads_what_is_spelled};
 pub use values::{Meant, read_value};
-
-#[cfg(test)]
-mod tests;

@@ -11,6 +11,3 @@ pub use numbers::Numbers;
 pub use premise_set::{Premise, PremiseSet};
 pub use premises::Premises;
 pub use worldview::Worldview;
-
-#[cfg(test)]
-mod tests;

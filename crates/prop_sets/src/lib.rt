@@ -13,6 +13,3 @@ pub use removal::without;
 pub use rows::Rows;
 pub use side::Side;
 pub use truth::{and_back, and3, not2, or_back, or3};
-
-#[cfg(test)]
-mod tests;

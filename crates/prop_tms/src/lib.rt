@@ -8,6 +8,3 @@ pub mod tms;
 
 pub use supported::Supported;
 pub use tms::{Change, Tms};
-
-#[cfg(test)]
-mod tests;

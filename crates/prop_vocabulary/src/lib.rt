@@ -15,6 +15,3 @@ pub mod vocabulary;
 pub use cells::CellNames;
 pub use names::Names;
 pub use vocabulary::Vocabulary;
-
-#[cfg(test)]
-mod tests;

@@ -1,6 +1,6 @@
 //! Sets, worldviews and names, each call once where nothing is refused.
 
-use crate::{Premise, PremiseSet, Premises, Worldview};
+use prop_premises::{Premise, PremiseSet, Premises, Worldview};
 use prop_lattice::Refusal;
 use std::alloc::{AllocError, Global};
 use std::test::Fail;

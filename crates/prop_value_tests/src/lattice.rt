@@ -1,5 +1,5 @@
 //! Informations and refusals by example.
-use crate::{B, Elements, Info, Kind, Limit, Partial, Refusal, Span};
+use prop_lattice::{B, Elements, Info, Kind, Limit, Partial, Refusal, Span};
 
 #[test]
 fn merges(rt: HostRuntime) {

@@ -1,7 +1,7 @@
 //! Worked values, and truths and images against plain enumeration.
 ghost use Rattle.std.specs.Prelude.{◌<◌};
 
-use crate::{Domain, Rows, Side, and_back, and3, not2, or_back, or3, without};
+use prop_sets::{Domain, Rows, Side, and_back, and3, not2, or_back, or3, without};
 use prop_lattice::{Elements, Info, Limit, Refusal};
 use std::alloc::{AllocError, Global};
 use std::process::Abort;

@@ -1,8 +1,8 @@
 //! Lines, values and numbers, with what they say.
 ghost use Rattle.std.specs.Prelude.{◌<◌, length};
 
-use crate::command::Value;
-use crate::{Command, Meant, number_in, read_line, read_value};
+use prop_language::command::Value;
+use prop_language::{Command, Meant, number_in, read_line, read_value};
 use prop_lattice::{Info, Kind, Refusal};
 use prop_sets::Domain;
 use std::alloc::Global;

@@ -1,6 +1,6 @@
 //! Entries over spans: what an addition answers, what is believed, and for which premises.
 
-use crate::{Change, Tms};
+use prop_tms::{Change, Tms};
 use prop_lattice::Info;
 use prop_premises::{Premise, PremiseSet, Worldview};
 use std::alloc::{AllocError, Global};

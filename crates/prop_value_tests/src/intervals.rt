@@ -1,8 +1,8 @@
 //! Worked values, and every small span against plain enumeration.
 ghost use Rattle.std.specs.Prelude.{pos, ◌≤ℤ◌};
 
-use crate::comparisons::{NO, YES};
-use crate::{above, add, below, div, less, mul, root, square, sub, without};
+use prop_intervals::comparisons::{NO, YES};
+use prop_intervals::{above, add, below, div, less, mul, root, square, sub, without};
 use prop_lattice::span::B;
 use prop_lattice::{Elements, Info, Span};
 use std::alloc::{AllocError, Global};

@@ -1,6 +1,6 @@
 //! What is declared and refused, and the texts of values.
 
-use crate::Vocabulary;
+use prop_vocabulary::Vocabulary;
 use prop_lattice::{Elements, Info, Kind, Limit, Refusal};
 use prop_sets::Rows;
 use std::alloc::{AllocError, Global};

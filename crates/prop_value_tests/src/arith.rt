@@ -1,7 +1,7 @@
 //! Worked values, names and forms of the rules, and truths and comparisons against plain enumeration.
 ghost use Rattle.std.specs.Prelude.{◌<◌};
 
-use crate::{
+use prop_arith::{
     KITS, Kit, above, adder, below, coimager, comparer, conjoin_back, conjoiner, copier,
     disjoin_back, disjoiner, divider, imager, inverter, lesser, multiplier, parter, passer, rooter,
     squarer, subtracter,
