@@ -1,13 +1,16 @@
 //! A session with the kit's procedures, over a reader and a writer.
-ghost use Rattle.std.specs.Prelude.{◌≡◌, IfOk, OnErr};
-ghost use Rattle.prop_arith.specs.Kit.{value_of};
+ghost use Rattle.std.specs.Prelude.{◌≡◌, IfOk, OnErr, map};
+ghost use Rattle.prop_arith.specs.Kit.{value_of, in_order};
+ghost use Rattle.prop_procedures.specs.Kept.{AllMean, stored_as};
 ghost use Rattle.prop_engine.specs.Watched.{device, IsFresh};
 ghost use Rattle.propbench.specs.Kits.{kit_library, kit_related, IsAnswered, IsAnsweredInFront};
 ghost use Rattle.prop_cells.specs.Points.{AreSoundBy};
+ghost use Rattle.prop_workbench.specs.Machine.{new_state};
+ghost use Rattle.prop_workbench.specs.Sessions.{state_of, library_of, IsSound, IsMeant};
 
 use crate::chosen::Options;
 use crate::fault::Fault;
-use prop_arith::KITS;
+use prop_arith::{KITS, Kit};
 use prop_cells::Network;
 use prop_lattice::Info;
 use prop_procedures::{Library, Param, Procedure, Shape};
@@ -46,8 +49,49 @@ pub fn run<Rd: Read, W: Write>(
         )?;
         procedures.push(Procedure::new(rule.name(), ins, rule.out(), rule.need(), rule, call))?;
     }
+    serve(alloc, procedures, options, reader, writer)
+}
+
+/// Makes a session with the kit's procedures and runs it.
+fn serve<Rd: Read, W: Write>(
+    alloc: Global,
+    procedures: Vec<Procedure<Kit>>,
+    options: Options,
+    reader: &mut Watched<Rd>,
+    writer: &mut Watched<W>,
+) -> Result<Counts, Fault>
+    requires reader { IsFresh reader.old }
+    requires writer { IsFresh writer.old }
+    requires means { AllMean value_of procedures.items }
+    requires listed { map (stored_as value_of) procedures.items ≡ kit_library }
+    requires ruled { map (λ p. p.rule) procedures.items ≡ in_order }
+    ensures ok { IfOk result (IsAnswered (Rd.remaining (device reader.old)) (W.contents (device writer.old)) (W.contents (device writer.new)) options.limit) }
+    ensures err { OnErr result (IsAnsweredInFront (Rd.remaining (device reader.old)) (W.contents (device writer.old)) (W.contents (device writer.new)) options.limit) }
+{
     let network = Network::new(alloc, Library::new(procedures));
     let mut session = Session::new(alloc, network, Fifo, options.limit)?;
+    let counts = answer(&mut session, reader, writer);
+    // One call in place of the drop of each part, which a proof would go through one by one.
+    drop(session);
+    counts
+}
+
+/// Loads the prelude into a session over the kit that has only begun, and runs it.
+fn answer<Rd: Read, W: Write>(
+    session: &mut Session<Kit, Fifo>,
+    reader: &mut Watched<Rd>,
+    writer: &mut Watched<W>,
+) -> Result<Counts, Fault>
+    requires reader { IsFresh reader.old }
+    requires writer { IsFresh writer.old }
+    requires means { IsMeant value_of session.old }
+    requires sound { IsSound value_of session.old }
+    requires listed { library_of value_of session.old ≡ kit_library }
+    requires ruled { map (λ p. p.rule) session.old.network.library.procedures.items ≡ in_order }
+    requires begun { state_of session.old ≡ new_state session.old.limit }
+    ensures ok { IfOk result (IsAnswered (Rd.remaining (device reader.old)) (W.contents (device writer.old)) (W.contents (device writer.new)) session.old.limit) }
+    ensures err { OnErr result (IsAnsweredInFront (Rd.remaining (device reader.old)) (W.contents (device writer.old)) (W.contents (device writer.new)) session.old.limit) }
+{
     match session.load_prelude() {
         Ok(()) => {}
         // The kit has what the prelude uses: a line of it is refused for want of memory alone.
