@@ -1,5 +1,5 @@
 //! The rules of the kit: their names, their forms and what they answer.
-ghost use Rattle.std.specs.Prelude.{◌≡◌};
+ghost use Rattle.std.specs.Prelude.{◌≡◌, ◌∷◌, []};
 ghost use Rattle.prop_arith.specs.Kit.{FormOf, value_of, Related, in_order, name_of, ins_of, out_of, need_of};
 ghost use Rattle.prop_arith.specs.KitLaws.{kit_monotone, kit_keeps_kind, kit_sound};
 ghost use Rattle.prop_arith.specs.Narrowest.{AddIsNarrowest, SubIsNarrowest, MulIsNarrowest, SquareIsNarrowest, RootIsNarrowest, ImageIsNarrowest, CoimageIsNarrowest};
@@ -160,27 +160,69 @@ impl Kit {
     pub fn run(self, param: &Param, args: &[Info]) -> Info
         ensures { result ≡ value_of self param.now args.now }
     {
-        match (self, param, args) {
-            (Kit::Add, _, [x, y]) => adder(*x, *y),
-            (Kit::Sub, _, [z, x]) => subtracter(*z, *x),
-            (Kit::Mul, Param::Scale(k), [x, y]) if is_scale(*k) => multiplier(*x, *y, *k),
-            (Kit::Div, Param::Scale(k), [z, y]) if is_scale(*k) => divider(*z, *y, *k),
-            (Kit::Square, _, [x]) => squarer(*x),
-            (Kit::Root, _, [y, x]) => rooter(*y, *x),
-            (Kit::Less, _, [x, y]) => lesser(*x, *y),
-            (Kit::Below, _, [t, y]) => below(*t, *y),
-            (Kit::Above, _, [t, x]) => above(*t, *x),
-            (Kit::Copy, _, [x]) => copier(*x),
-            (Kit::Alike, _, [x, y]) => comparer(*x, *y),
-            (Kit::Apart, _, [t, x, y]) => parter(*t, *x, *y),
-            (Kit::Switch, _, [t, x]) => passer(*t, *x),
-            (Kit::Not, _, [x]) => inverter(*x),
-            (Kit::And, _, [x, y]) => conjoiner(*x, *y),
-            (Kit::AndBack, _, [z, y]) => conjoin_back(*z, *y),
-            (Kit::Or, _, [x, y]) => disjoiner(*x, *y),
-            (Kit::OrBack, _, [z, y]) => disjoin_back(*z, *y),
-            (Kit::Image, Param::Rows(rows), [x]) => imager(rows, *x),
-            (Kit::Coimage, Param::Rows(rows), [y]) => coimager(rows, *y),
+        match args {
+            [x] => self.of_one(param, *x),
+            [first, second] => self.of_two(param, *first, *second),
+            [first, second, third] => self.of_three(*first, *second, *third),
+            _ => Info::Nothing,
+        }
+    }
+
+    /// What the rule answers to one argument.
+    fn of_one(self, param: &Param, x: Info) -> Info
+        ensures { result ≡ value_of self param.now (x ∷ []) }
+    {
+        match self {
+            Kit::Square => squarer(x),
+            Kit::Copy => copier(x),
+            Kit::Not => inverter(x),
+            Kit::Image => match param {
+                Param::Rows(rows) => imager(rows, x),
+                _ => Info::Nothing,
+            },
+            Kit::Coimage => match param {
+                Param::Rows(rows) => coimager(rows, x),
+                _ => Info::Nothing,
+            },
+            _ => Info::Nothing,
+        }
+    }
+
+    /// What the rule answers to two arguments.
+    fn of_two(self, param: &Param, first: Info, second: Info) -> Info
+        ensures { result ≡ value_of self param.now (first ∷ second ∷ []) }
+    {
+        match self {
+            Kit::Add => adder(first, second),
+            Kit::Sub => subtracter(first, second),
+            Kit::Mul => match param {
+                Param::Scale(k) if is_scale(*k) => multiplier(first, second, *k),
+                _ => Info::Nothing,
+            },
+            Kit::Div => match param {
+                Param::Scale(k) if is_scale(*k) => divider(first, second, *k),
+                _ => Info::Nothing,
+            },
+            Kit::Root => rooter(first, second),
+            Kit::Less => lesser(first, second),
+            Kit::Below => below(first, second),
+            Kit::Above => above(first, second),
+            Kit::Alike => comparer(first, second),
+            Kit::Switch => passer(first, second),
+            Kit::And => conjoiner(first, second),
+            Kit::AndBack => conjoin_back(first, second),
+            Kit::Or => disjoiner(first, second),
+            Kit::OrBack => disjoin_back(first, second),
+            _ => Info::Nothing,
+        }
+    }
+
+    /// What the rule answers to three arguments.
+    fn of_three(self, first: Info, second: Info, third: Info) -> Info
+        ensures { (param : Param) → result ≡ value_of self param (first ∷ second ∷ third ∷ []) }
+    {
+        match self {
+            Kit::Apart => parter(first, second, third),
             _ => Info::Nothing,
         }
     }
@@ -212,58 +254,7 @@ impl Rule for Kit {
     ghost related = { Related };
 
     fn has_form(&self, ins: &[Shape], out: Shape, need: Need) -> bool {
-        match self {
-            Kit::Add | Kit::Sub | Kit::Root => matches!(
-                (ins, out, need),
-                ([Shape::Span, Shape::Span], Shape::Span, Need::Nothing)
-            ),
-            Kit::Mul | Kit::Div => matches!(
-                (ins, out, need),
-                ([Shape::Span, Shape::Span], Shape::Span, Need::Scale)
-            ),
-            Kit::Square => matches!(
-                (ins, out, need),
-                ([Shape::Span], Shape::Span, Need::Nothing)
-            ),
-            Kit::Less => matches!(
-                (ins, out, need),
-                ([Shape::Span, Shape::Span], Shape::Truth, Need::Nothing)
-            ),
-            Kit::Below | Kit::Above => matches!(
-                (ins, out, need),
-                ([Shape::Truth, Shape::Span], Shape::Span, Need::Nothing)
-            ),
-            Kit::Copy => matches!(
-                (ins, out, need),
-                ([Shape::Any(0)], Shape::Any(0), Need::Nothing)
-            ),
-            Kit::Alike => matches!(
-                (ins, out, need),
-                ([Shape::Any(0), Shape::Any(0)], Shape::Truth, Need::Nothing)
-            ),
-            Kit::Apart => matches!(
-                (ins, out, need),
-                (
-                    [Shape::Truth, Shape::Any(0), Shape::Any(0)],
-                    Shape::Any(0),
-                    Need::Nothing
-                )
-            ),
-            Kit::Switch => matches!(
-                (ins, out, need),
-                ([Shape::Truth, Shape::Any(0)], Shape::Any(0), Need::Nothing)
-            ),
-            Kit::Not => matches!(
-                (ins, out, need),
-                ([Shape::Truth], Shape::Truth, Need::Nothing)
-            ),
-            Kit::And | Kit::AndBack | Kit::Or | Kit::OrBack => matches!(
-                (ins, out, need),
-                ([Shape::Truth, Shape::Truth], Shape::Truth, Need::Nothing)
-            ),
-            Kit::Image => matches!((ins, out, need), ([Shape::From], Shape::To, Need::Rows)),
-            Kit::Coimage => matches!((ins, out, need), ([Shape::To], Shape::From, Need::Rows)),
-        }
+        ins == self.ins() && out == self.out() && need == self.need()
     }
 
     ghost monotone = { kit_monotone };

@@ -6,12 +6,12 @@ ghost use Rattle.prop_language.specs.Said.{words as words_of, step_of};
 ghost use Rattle.prop_compound.specs.Defining.{scope_of, step_numbered, with_definition, define_refusal};
 ghost use Rattle.prop_compound.specs.Kept.{bare, IsKept, IsDefinedOver};
 
-use prop_language::Step;
 use crate::counting::counted;
 use crate::definition::KeptDefinition;
 use crate::definitions::Definitions;
 use crate::resolving::{has_nowhere, has_unrelated};
 use crate::scope::{is_cell_missing, scope_of};
+use prop_language::Step;
 use prop_lattice::{Limit, Refusal};
 use prop_procedures::{Library, Rule};
 use prop_vocabulary::{Names, Vocabulary};

@@ -5,9 +5,9 @@ ghost use Rattle.prop_procedures.specs.Kept.{stored_of};
 ghost use Rattle.prop_language.specs.Said.{kind_of, passed_of, step_of};
 ghost use Rattle.prop_compound.specs.Defining.{domain_kind, kind_named, passing_named, step_numbered, is_nowhere, is_unrelated, is_unknown, is_count_wrong};
 
-use prop_language::{By, KindWord, Passed, Step};
 use crate::definition::{NumberedStep, Passing, Places, Used};
 use crate::definitions::Definitions;
+use prop_language::{By, KindWord, Passed, Step};
 use prop_lattice::Kind;
 use prop_procedures::fitting::span_kinded;
 use prop_procedures::{Kinded, Library, Rule};

@@ -1,7 +1,7 @@
 //! Sets, worldviews and names, each call once where nothing is refused.
 
-use prop_premises::{Premise, PremiseSet, Premises, Worldview};
 use prop_lattice::Refusal;
+use prop_premises::{Premise, PremiseSet, Premises, Worldview};
 use std::alloc::{AllocError, Global};
 use std::test::Fail;
 

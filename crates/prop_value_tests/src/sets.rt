@@ -1,8 +1,8 @@
 //! Worked values, and truths and images against plain enumeration.
 ghost use Rattle.std.specs.Prelude.{◌<◌};
 
-use prop_sets::{Domain, Rows, Side, and_back, and3, not2, or_back, or3, without};
 use prop_lattice::{Elements, Info, Limit, Refusal};
+use prop_sets::{Domain, Rows, Side, and_back, and3, not2, or_back, or3, without};
 use std::alloc::{AllocError, Global};
 use std::process::Abort;
 use std::test::Fail;

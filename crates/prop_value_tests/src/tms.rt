@@ -1,8 +1,8 @@
 //! Entries over spans: what an addition answers, what is believed, and for which premises.
 
-use prop_tms::{Change, Tms};
 use prop_lattice::Info;
 use prop_premises::{Premise, PremiseSet, Worldview};
+use prop_tms::{Change, Tms};
 use std::alloc::{AllocError, Global};
 use std::test::Fail;
 

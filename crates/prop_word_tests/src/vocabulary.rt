@@ -1,8 +1,8 @@
 //! What is declared and refused, and the texts of values.
 
-use prop_vocabulary::Vocabulary;
 use prop_lattice::{Elements, Info, Kind, Limit, Refusal};
 use prop_sets::Rows;
+use prop_vocabulary::Vocabulary;
 use std::alloc::{AllocError, Global};
 use std::test::Fail;
 

@@ -4,6 +4,7 @@ use Rattle.std.specs.List.Sorted.{IsStrictlyIncreasing}
 use Rattle.std.proofs.lemmas.Option.{slice_get-get_or}
 use Rattle.prop_lattice.specs.declared.info.Info.{Info}
 use Rattle.prop_lattice.specs.declared.refusal.Refusal.{Refusal}
+use Rattle.prop_lattice.specs.declared.refusal.Refusal.TheVariants.{NoSuchCell}
 use Rattle.prop_premises.specs.Sets.{set_of, IsSame}
 use Rattle.prop_premises.specs.Origins.{Origin, believed_in}
 use Rattle.prop_procedures.specs.Stored.{Stored, span_kind}
@@ -101,3 +102,12 @@ pub explained_by : (library : List Stored) (names : CellNames) (words : Vocabula
 explained_by library names words definitions premises d limit cell v name mark support text answer is_v in_order explains is_text (inl e) =
     inl (support, in_order, rw is_v at explains, e ∙ (λ i. Text (equation name (text_at (state_from names words definitions premises d limit) cell (is_v i)) (is_text i))))
 explained_by library names words definitions premises d limit cell v name mark support text answer is_v in_order explains is_text (inr m) = inr m
+
+-- ---- what ends before the value
+
+-- a cell that is not there is refused
+pub nowhere : (library : List Stored) (s : State) (name : List ℕ) → cell_named s.names name ≡ None → refusal_of library s (commands.Command.Ask name) ≡ Some NoSuchCell
+nowhere library s name none = rw none refl
+
+pub nowhere_why : (library : List Stored) (s : State) (name : List ℕ) → cell_named s.names name ≡ None → refusal_of library s (commands.Command.Why name) ≡ Some NoSuchCell
+nowhere_why library s name none = rw none refl

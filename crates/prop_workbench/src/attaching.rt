@@ -140,15 +140,23 @@ impl<R: Rule + Drop, O: Order + Drop> Session<R, O> {
         ensures err { IfErr result (λ e. (use_refusal (library_of R.value_of self.old) (state_of self.old) name.now cells.now (by_of by.entry) ≡ Some e) ⊎ (e ≡ Memory)) }
         ensures err_same { OnErr result (state_of self.new ≡ state_of self.old) }
     {
-        let flat = self.expanded(name, cells, by)?;
-        make_room(
+        let flat = match self.expanded(name, cells, by) {
+            Ok(flat) => flat,
+            Err(refusal) => return Err(refusal),
+        };
+        if let Err(refusal) = make_room(
             &self.network,
             &mut self.agenda,
             flat.fresh.len(),
             flat.instances.len(),
-        )?;
+        ) {
+            drop(flat);
+            return Err(refusal);
+        }
         let first = self.network.instances();
-        make_all(self.alloc, &mut self.network, cells, flat)?;
+        if let Err(refusal) = make_all(self.alloc, &mut self.network, cells, flat) {
+            return Err(refusal);
+        }
         alert_between(&mut self.agenda, first, self.network.instances());
         Ok(())
     }
@@ -162,19 +170,22 @@ impl<R: Rule + Drop, O: Order + Drop> Session<R, O> {
         ensures safe { IfOk result (λ flat. IsFlatOver (library_of R.value_of self.now) (length cells.now) flat) }
         ensures err { IfErr result (λ e. (expand_refusal (library_of R.value_of self.now) self.now.words self.now.definitions name.now (map (kind_at self.now.network.cells.kinds) cells.now) (given_by self.now.words (by_of by.entry)) ≡ Some e) ⊎ (e ≡ Memory)) }
     {
-        let Ok(given) = given(self.alloc, &self.words, by) else {
-            return Err(Refusal::Memory);
-        };
         let Ok(kinds) = kinds_of(self.alloc, self.network.data(), cells) else {
             return Err(Refusal::Memory);
         };
-        self.definitions.expand(
+        let Ok(given) = given(self.alloc, &self.words, by) else {
+            drop(kinds);
+            return Err(Refusal::Memory);
+        };
+        let expansion = self.definitions.expand(
             self.alloc,
             self.network.library(),
             &self.words,
             name,
             &kinds,
             given,
-        )
+        );
+        drop(kinds);
+        expansion
     }
 }

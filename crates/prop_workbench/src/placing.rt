@@ -166,9 +166,20 @@ fn make_some<R: Rule + Drop>(
         params,
         instances,
     } = flat;
-    make_cells(network, &fresh)?;
-    add_params(network, params)?;
-    make_instances(alloc, network, cells, base, &instances)
+    let made = make_cells(network, &fresh);
+    drop(fresh);
+    if let Err(refusal) = made {
+        drop(params);
+        drop(instances);
+        return Err(refusal);
+    }
+    if let Err(refusal) = add_params(network, params) {
+        drop(instances);
+        return Err(refusal);
+    }
+    let made = make_instances(alloc, network, cells, base, &instances);
+    drop(instances);
+    made
 }
 
 /// Makes what a use on these cells stands for, all of it. Refused with 90, it makes nothing.

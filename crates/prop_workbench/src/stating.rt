@@ -176,7 +176,10 @@ impl<R: Rule + Drop, O: Order + Drop> Session<R, O> {
             None => {}
         }
         let count = self.words.symbol_count();
-        let number = self.words.add_symbol(symbol)?;
+        let number = match self.words.add_symbol(symbol) {
+            Ok(number) => number,
+            Err(refusal) => return Err(refusal),
+        };
         match self.state_said(premise, cell, Info::Sym(number)) {
             Ok(()) => Ok(()),
             Err(refusal) => {
@@ -239,14 +242,8 @@ impl<R: Rule + Drop, O: Order + Drop> Session<R, O> {
         ensures err_same { OnErr result (state_of self.new ≡ state_of self.old) }
     {
         match self.premises.find(premise) {
-            Ok(known) => {
-                self.state(Some(known), cell, info)?;
-                Ok(())
-            }
-            Err(_) => {
-                self.state_under_new(premise, cell, info)?;
-                Ok(())
-            }
+            Ok(known) => self.state(Some(known), cell, info),
+            Err(_) => self.state_under_new(premise, cell, info),
         }
     }
 
@@ -291,7 +288,10 @@ impl<R: Rule + Drop, O: Order + Drop> Session<R, O> {
         ensures err_same { OnErr result (state_of self.new ≡ state_of self.old) }
     {
         let count = self.premises.len();
-        let premise = self.premises.intern(name)?;
+        let premise = match self.premises.intern(name) {
+            Ok(premise) => premise,
+            Err(refusal) => return Err(refusal),
+        };
         let worldview = match self.premises.worldview(&[]) {
             Ok(worldview) => worldview,
             Err(AllocError) => {

@@ -1,8 +1,11 @@
-use Rattle.std.proofs.Common.{◌∙◌, ◌+◌, refl, arith, ℕ, Result, Ok, Err, OnErr}
+use Rattle.std.proofs.Common.{◌≡◌, ◌∙◌, ◌+◌, refl, subst, arith, ℕ, List, Result, Ok, Err, OnErr}
 use Rattle.std.proofs.lemmas.List.{nil_from_length}
 use Rattle.prop_premises.specs.Sets.{set_of}
+use Rattle.prop_procedures.specs.Stored.{Stored}
 use Rattle.prop_procedures.specs.Kept.{stored_of}
-use Rattle.prop_cells.specs.Data.{IsWellMade}
+use Rattle.prop_cells.specs.Problems.{Premises}
+use Rattle.prop_cells.specs.Data.{Data, IsWellMade}
+use Rattle.prop_cells.proofs.Founding.{clash_conflicts}
 use Rattle.prop_scheduler.specs.Turns.{Turn, Turns}
 use Rattle.prop_scheduler.specs.Turns.Turns.{none, more}
 use Rattle.prop_scheduler.proofs.Steps.{settled}
@@ -12,13 +15,94 @@ on_err : {T E X : Type 0} (r : Result T E) → X → OnErr r X
 on_err (Ok a) x = tt
 on_err (Err e) x = x
 
-pub returns-in_err-support-clause-err : goal.returns-in_err-support-clause-err
-returns-in_err-support-clause-err g c =
-    let start : (n : ℕ) × Turns (stored_of g.R.Rule.value_of c.args.network.now.library) (set_of c.args.worldview.now) c.args.network.now.cells c.args.agenda.now.line n c.args.network.now.cells c.args.agenda.now.line = (0, none) in
-    on_err _ start
+-- a turn over a library is one over the same library
+turn_on : {L : Type 0} (stored : L → List Stored) (s : Premises) (old new : Data) (line line' : List ℕ) (a b : L) → b ≡ a → Turn (stored b) s old new line line' → Turn (stored a) s old new line line'
+turn_on stored s old new line line' a b same turn = subst (λ l. Turn (stored l) s old new line line') same turn
+
+-- a turn changes the contents alone
+turn_rest : (library : List Stored) (s : Premises) (start old new : Data) (line line' : List ℕ) → Turn library s old new line line' → old ≡ record start { contents = old.contents } → new ≡ record start { contents = new.contents }
+turn_rest library s start old new line line' turn rest = turn.calls.rest ∙ (λ i. record (rest i) { contents = new.contents })
+
+pub returns-in-Some-clause-same : goal.returns-in-Some-clause-same
+returns-in-Some-clause-same g c =
+    refl
+
+pub returns-in-Some-clause-rest : goal.returns-in-Some-clause-rest
+returns-in-Some-clause-rest g c =
+    refl
+
+pub returns-in-Some-clause-under_way : goal.returns-in-Some-clause-under_way
+returns-in-Some-clause-under_way g c =
+    c.requires.under_way
+
+pub returns-in-Some-clause-room : goal.returns-in-Some-clause-room
+returns-in-Some-clause-room g c =
+    refl
 
 pub returns-in-Some-clause-turns : goal.returns-in-Some-clause-turns
-returns-in-Some-clause-turns g c = none
+returns-in-Some-clause-turns g c =
+    none
+
+pub returns-in-Some-clause-err : goal.returns-in-Some-clause-err
+returns-in-Some-clause-err g c =
+    tt
+
+pub returns-in-Some-clause-quiet : goal.returns-in-Some-clause-quiet
+returns-in-Some-clause-quiet g c =
+    λ e. cc e
+
+pub returns-in-Some-clause-rests : goal.returns-in-Some-clause-rests
+returns-in-Some-clause-rests g c =
+    λ e. cc e
+
+pub returns-in-Some-clause-clash : goal.returns-in-Some-clause-clash
+returns-in-Some-clause-clash g c =
+    rw c.in-Some.is at c.in_ok-support.ensures.clash
+
+pub returns-in-Some-clause-conflict : goal.returns-in-Some-clause-conflict
+returns-in-Some-clause-conflict g c =
+    rw c.in-Some.is at c.in_ok-support.ensures.conflict
+
+pub returns-in-Some-clause-spent : goal.returns-in-Some-clause-spent
+returns-in-Some-clause-spent g c =
+    λ e. cc e
+
+pub returns-in-Some-clause-left : goal.returns-in-Some-clause-left
+returns-in-Some-clause-left g c =
+    λ e. cc e
+
+pub returns-in-Some-clause-free : goal.returns-in-Some-clause-free
+returns-in-Some-clause-free g c =
+    λ e. cc e
+
+pub returns-in-Some-clause-steps : goal.returns-in-Some-clause-steps
+returns-in-Some-clause-steps g c =
+    omega arith
+
+pub returns-in-Some-clause-falls : goal.returns-in-Some-clause-falls
+returns-in-Some-clause-falls g c =
+    omega arith
+
+pub returns-in_err-support-clause-same : goal.returns-in_err-support-clause-same
+returns-in_err-support-clause-same g c =
+    refl
+
+pub returns-in_err-support-clause-rest : goal.returns-in_err-support-clause-rest
+returns-in_err-support-clause-rest g c =
+    refl
+
+pub returns-in_err-support-clause-under_way : goal.returns-in_err-support-clause-under_way
+returns-in_err-support-clause-under_way g c =
+    c.requires.under_way
+
+pub returns-in_err-support-clause-room : goal.returns-in_err-support-clause-room
+returns-in_err-support-clause-room g c =
+    refl
+
+pub returns-in_err-support-clause-err : goal.returns-in_err-support-clause-err
+returns-in_err-support-clause-err g c =
+    let reached : (n : ℕ) × Turns (stored_of g.R.Rule.value_of c.args.network.now.library) (set_of c.args.worldview.now) c.args.network.now.cells c.args.agenda.now.line n c.args.network.now.cells c.args.agenda.now.line = (0, none) in
+    on_err _ reached
 
 pub loop-steps-init : goal.loop-steps-init
 loop-steps-init g c = record {
@@ -32,22 +116,118 @@ loop-steps-init g c = record {
   falls = omega arith;
 }
 
-pub returns-in_err-why-in-Some-clash-clause-err : goal.returns-in_err-why-in-Some-clash-clause-err
-returns-in_err-why-in-Some-clash-clause-err g c =
-    let reached : (n : ℕ) × Turns (stored_of g.R.Rule.value_of c.args.network.now.library) (set_of c.args.worldview.now) c.args.network.now.cells c.args.agenda.now.line n c.turn.new.network.cells c.turn.new.agenda.line =
-    (c.loop-steps.steps + 1, more c.loop-steps.steps c.loop-steps.network.cells _ c.loop-steps.agenda.line _ c.loop-steps.invariant.turns (rw c.loop-steps.invariant.same at c.in_ok-clash.ensures.turn)) in
-    on_err _ reached
+pub turn-requires-clause-under_way : goal.turn-requires-clause-under_way
+turn-requires-clause-under_way g c =
+    c.loop-steps.invariant.under_way
+
+pub turn-requires-clause-means : goal.turn-requires-clause-means
+turn-requires-clause-means g c =
+    rw c.loop-steps.invariant.same c.requires.means
+
+pub turn-requires-clause-free : goal.turn-requires-clause-free
+turn-requires-clause-free g c =
+    c.loop-steps.invariant.free
+
+pub explanation-requires-clause-cell : goal.explanation-requires-clause-cell
+explanation-requires-clause-cell g c =
+    rw c.in-Some-clash.is at c.in_ok-clash.ensures.cell
+
+pub explanation-requires-clause-kept : goal.explanation-requires-clause-kept
+explanation-requires-clause-kept g c =
+    c.turn.ensures.under_way.kept
+
+pub returns-in-Some-clash-clause-same : goal.returns-in-Some-clash-clause-same
+returns-in-Some-clash-clause-same g c =
+    c.turn.ensures.same ∙ c.loop-steps.invariant.same
+
+pub returns-in-Some-clash-clause-rest : goal.returns-in-Some-clash-clause-rest
+returns-in-Some-clash-clause-rest g c =
+    let turn : Turn (stored_of g.R.Rule.value_of c.args.network.now.library) (set_of c.args.worldview.now) c.loop-steps.network.cells c.turn.new.network.cells c.loop-steps.agenda.line c.turn.new.agenda.line = turn_on (stored_of g.R.Rule.value_of) (set_of c.args.worldview.now) c.loop-steps.network.cells c.turn.new.network.cells c.loop-steps.agenda.line c.turn.new.agenda.line c.args.network.now.library c.loop-steps.network.library c.loop-steps.invariant.same c.in_ok-clash.ensures.turn in
+    turn_rest (stored_of g.R.Rule.value_of c.args.network.now.library) (set_of c.args.worldview.now) c.args.network.now.cells c.loop-steps.network.cells c.turn.new.network.cells c.loop-steps.agenda.line c.turn.new.agenda.line turn c.loop-steps.invariant.rest
+
+pub returns-in-Some-clash-clause-under_way : goal.returns-in-Some-clash-clause-under_way
+returns-in-Some-clash-clause-under_way g c =
+    c.turn.ensures.under_way
+
+pub returns-in-Some-clash-clause-room : goal.returns-in-Some-clash-clause-room
+returns-in-Some-clash-clause-room g c =
+    c.turn.ensures.room ∙ c.loop-steps.invariant.room
 
 pub returns-in-Some-clash-clause-turns : goal.returns-in-Some-clash-clause-turns
-returns-in-Some-clash-clause-turns g c = more c.loop-steps.steps c.loop-steps.network.cells _ c.loop-steps.agenda.line _ c.loop-steps.invariant.turns (rw c.loop-steps.invariant.same at c.in_ok-clash.ensures.turn)
+returns-in-Some-clash-clause-turns g c =
+    let turn : Turn (stored_of g.R.Rule.value_of c.args.network.now.library) (set_of c.args.worldview.now) c.loop-steps.network.cells c.turn.new.network.cells c.loop-steps.agenda.line c.turn.new.agenda.line = turn_on (stored_of g.R.Rule.value_of) (set_of c.args.worldview.now) c.loop-steps.network.cells c.turn.new.network.cells c.loop-steps.agenda.line c.turn.new.agenda.line c.args.network.now.library c.loop-steps.network.library c.loop-steps.invariant.same c.in_ok-clash.ensures.turn in
+    more c.loop-steps.steps c.loop-steps.network.cells _ c.loop-steps.agenda.line _ c.loop-steps.invariant.turns turn
+
+pub returns-in-Some-clash-clause-err : goal.returns-in-Some-clash-clause-err
+returns-in-Some-clash-clause-err g c =
+    tt
+
+pub returns-in-Some-clash-clause-quiet : goal.returns-in-Some-clash-clause-quiet
+returns-in-Some-clash-clause-quiet g c =
+    λ e. cc e
+
+pub returns-in-Some-clash-clause-rests : goal.returns-in-Some-clash-clause-rests
+returns-in-Some-clash-clause-rests g c =
+    λ e. cc e
+
+pub returns-in-Some-clash-clause-clash : goal.returns-in-Some-clash-clause-clash
+returns-in-Some-clash-clause-clash g c =
+    record { cell = c.in-Some-clash.cell; clash = rw c.in-Some-clash.is at c.in_ok-clash.ensures.seen; lean = c.in_ok-why-in-Some-clash.ensures.lean }
+
+pub returns-in-Some-clash-clause-conflict : goal.returns-in-Some-clash-clause-conflict
+returns-in-Some-clash-clause-conflict g c =
+    clash_conflicts (stored_of g.R.Rule.value_of c.turn.new.network.library) c.turn.new.network.cells (set_of c.args.worldview.now) _ c.turn.ensures.under_way.kept (record { cell = c.in-Some-clash.cell; clash = rw c.in-Some-clash.is at c.in_ok-clash.ensures.seen; lean = c.in_ok-why-in-Some-clash.ensures.lean })
+
+pub returns-in-Some-clash-clause-spent : goal.returns-in-Some-clash-clause-spent
+returns-in-Some-clash-clause-spent g c =
+    λ e. cc e
+
+pub returns-in-Some-clash-clause-left : goal.returns-in-Some-clash-clause-left
+returns-in-Some-clash-clause-left g c =
+    λ e. cc e
+
+pub returns-in-Some-clash-clause-free : goal.returns-in-Some-clash-clause-free
+returns-in-Some-clash-clause-free g c =
+    λ e. cc e
+
+pub returns-in-Some-clash-clause-steps : goal.returns-in-Some-clash-clause-steps
+returns-in-Some-clash-clause-steps g c =
+    omega arith
+
+pub returns-in-Some-clash-clause-falls : goal.returns-in-Some-clash-clause-falls
+returns-in-Some-clash-clause-falls g c =
+    omega (arith, c.in_ok-clash.ensures.falls, c.loop-steps.invariant.falls)
+
+pub returns-in_err-why-in-Some-clash-clause-same : goal.returns-in_err-why-in-Some-clash-clause-same
+returns-in_err-why-in-Some-clash-clause-same g c =
+    c.turn.ensures.same ∙ c.loop-steps.invariant.same
+
+pub returns-in_err-why-in-Some-clash-clause-rest : goal.returns-in_err-why-in-Some-clash-clause-rest
+returns-in_err-why-in-Some-clash-clause-rest g c =
+    let turn : Turn (stored_of g.R.Rule.value_of c.args.network.now.library) (set_of c.args.worldview.now) c.loop-steps.network.cells c.turn.new.network.cells c.loop-steps.agenda.line c.turn.new.agenda.line = turn_on (stored_of g.R.Rule.value_of) (set_of c.args.worldview.now) c.loop-steps.network.cells c.turn.new.network.cells c.loop-steps.agenda.line c.turn.new.agenda.line c.args.network.now.library c.loop-steps.network.library c.loop-steps.invariant.same c.in_ok-clash.ensures.turn in
+    turn_rest (stored_of g.R.Rule.value_of c.args.network.now.library) (set_of c.args.worldview.now) c.args.network.now.cells c.loop-steps.network.cells c.turn.new.network.cells c.loop-steps.agenda.line c.turn.new.agenda.line turn c.loop-steps.invariant.rest
+
+pub returns-in_err-why-in-Some-clash-clause-under_way : goal.returns-in_err-why-in-Some-clash-clause-under_way
+returns-in_err-why-in-Some-clash-clause-under_way g c =
+    c.turn.ensures.under_way
+
+pub returns-in_err-why-in-Some-clash-clause-room : goal.returns-in_err-why-in-Some-clash-clause-room
+returns-in_err-why-in-Some-clash-clause-room g c =
+    c.turn.ensures.room ∙ c.loop-steps.invariant.room
+
+pub returns-in_err-why-in-Some-clash-clause-err : goal.returns-in_err-why-in-Some-clash-clause-err
+returns-in_err-why-in-Some-clash-clause-err g c =
+    let turn : Turn (stored_of g.R.Rule.value_of c.args.network.now.library) (set_of c.args.worldview.now) c.loop-steps.network.cells c.turn.new.network.cells c.loop-steps.agenda.line c.turn.new.agenda.line = turn_on (stored_of g.R.Rule.value_of) (set_of c.args.worldview.now) c.loop-steps.network.cells c.turn.new.network.cells c.loop-steps.agenda.line c.turn.new.agenda.line c.args.network.now.library c.loop-steps.network.library c.loop-steps.invariant.same c.in_ok-clash.ensures.turn in
+    let reached : (n : ℕ) × Turns (stored_of g.R.Rule.value_of c.args.network.now.library) (set_of c.args.worldview.now) c.args.network.now.cells c.args.agenda.now.line n c.turn.new.network.cells c.turn.new.agenda.line = (c.loop-steps.steps + 1, more c.loop-steps.steps c.loop-steps.network.cells _ c.loop-steps.agenda.line _ c.loop-steps.invariant.turns turn) in
+    on_err _ reached
 
 pub loop-steps-preserved : goal.loop-steps-preserved
 loop-steps-preserved g c =
+    let turn : Turn (stored_of g.R.Rule.value_of c.args.network.now.library) (set_of c.args.worldview.now) c.loop-steps.network.cells c.turn.new.network.cells c.loop-steps.agenda.line c.turn.new.agenda.line = turn_on (stored_of g.R.Rule.value_of) (set_of c.args.worldview.now) c.loop-steps.network.cells c.turn.new.network.cells c.loop-steps.agenda.line c.turn.new.agenda.line c.args.network.now.library c.loop-steps.network.library c.loop-steps.invariant.same c.in_ok-clash.ensures.turn in
     let library = stored_of g.R.Rule.value_of c.args.network.now.library in
-    let turn : Turn library (set_of c.args.worldview.now) c.loop-steps.network.cells c.turn.new.network.cells c.loop-steps.agenda.line c.turn.new.agenda.line = rw c.loop-steps.invariant.same at c.in_ok-clash.ensures.turn in
     record {
       same = c.turn.ensures.same ∙ c.loop-steps.invariant.same;
-      rest = turn.calls.rest ∙ (λ i. record (c.loop-steps.invariant.rest i) { contents = c.turn.new.network.cells.contents });
+      rest = turn_rest library (set_of c.args.worldview.now) c.args.network.now.cells c.loop-steps.network.cells c.turn.new.network.cells c.loop-steps.agenda.line c.turn.new.agenda.line turn c.loop-steps.invariant.rest;
       under_way = c.turn.ensures.under_way;
       room = c.turn.ensures.room ∙ c.loop-steps.invariant.room;
       free = c.in_ok-clash.ensures.free c.in-None-clash.is;
@@ -56,8 +236,138 @@ loop-steps-preserved g c =
       falls = omega (arith, c.in_ok-clash.ensures.falls, c.loop-steps.invariant.falls);
     }
 
+pub returns-in_err-clash-clause-same : goal.returns-in_err-clash-clause-same
+returns-in_err-clash-clause-same g c =
+    c.turn.ensures.same ∙ c.loop-steps.invariant.same
+
+pub returns-in_err-clash-clause-rest : goal.returns-in_err-clash-clause-rest
+returns-in_err-clash-clause-rest g c =
+    rw c.in_err-clash.ensures.err c.loop-steps.invariant.rest
+
+pub returns-in_err-clash-clause-under_way : goal.returns-in_err-clash-clause-under_way
+returns-in_err-clash-clause-under_way g c =
+    c.turn.ensures.under_way
+
+pub returns-in_err-clash-clause-room : goal.returns-in_err-clash-clause-room
+returns-in_err-clash-clause-room g c =
+    c.turn.ensures.room ∙ c.loop-steps.invariant.room
+
+pub returns-in_err-clash-clause-err : goal.returns-in_err-clash-clause-err
+returns-in_err-clash-clause-err g c =
+    let reached : (n : ℕ) × Turns (stored_of g.R.Rule.value_of c.args.network.now.library) (set_of c.args.worldview.now) c.args.network.now.cells c.args.agenda.now.line n c.turn.new.network.cells c.turn.new.agenda.line = (c.loop-steps.steps, rw (c.in_err-clash.ensures.err, c.in_err-clash.ensures.err_line) c.loop-steps.invariant.turns) in
+    on_err _ reached
+
+pub returns-then-waiting-eq0-clause-same : goal.returns-then-waiting-eq0-clause-same
+returns-then-waiting-eq0-clause-same g c =
+    c.loop-steps.invariant.same
+
+pub returns-then-waiting-eq0-clause-rest : goal.returns-then-waiting-eq0-clause-rest
+returns-then-waiting-eq0-clause-rest g c =
+    c.loop-steps.invariant.rest
+
+pub returns-then-waiting-eq0-clause-under_way : goal.returns-then-waiting-eq0-clause-under_way
+returns-then-waiting-eq0-clause-under_way g c =
+    c.loop-steps.invariant.under_way
+
+pub returns-then-waiting-eq0-clause-room : goal.returns-then-waiting-eq0-clause-room
+returns-then-waiting-eq0-clause-room g c =
+    c.loop-steps.invariant.room
+
+pub returns-then-waiting-eq0-clause-turns : goal.returns-then-waiting-eq0-clause-turns
+returns-then-waiting-eq0-clause-turns g c =
+    c.loop-steps.invariant.turns
+
+pub returns-then-waiting-eq0-clause-err : goal.returns-then-waiting-eq0-clause-err
+returns-then-waiting-eq0-clause-err g c =
+    tt
+
 pub returns-then-waiting-eq0-clause-quiet : goal.returns-then-waiting-eq0-clause-quiet
-returns-then-waiting-eq0-clause-quiet g c = λ quiet.
+returns-then-waiting-eq0-clause-quiet g c =
+    λ quiet.
     let made : IsWellMade c.loop-steps.network.cells = rw c.data.ensures at c.well_made.ensures in
     settled (stored_of g.R.Rule.value_of c.loop-steps.network.library) (set_of c.args.worldview.now) c.loop-steps.network.cells c.loop-steps.agenda.line made c.loop-steps.invariant.under_way
     (nil_from_length c.loop-steps.agenda.line (omega (arith, c.waiting-2.ensures.waiting, c.if-waiting-eq0.true))) c.loop-steps.invariant.free
+
+pub returns-then-waiting-eq0-clause-rests : goal.returns-then-waiting-eq0-clause-rests
+returns-then-waiting-eq0-clause-rests g c =
+    λ quiet. nil_from_length c.loop-steps.agenda.line (omega (arith, c.waiting-2.ensures.waiting, c.if-waiting-eq0.true))
+
+pub returns-then-waiting-eq0-clause-clash : goal.returns-then-waiting-eq0-clause-clash
+returns-then-waiting-eq0-clause-clash g c =
+    tt
+
+pub returns-then-waiting-eq0-clause-conflict : goal.returns-then-waiting-eq0-clause-conflict
+returns-then-waiting-eq0-clause-conflict g c =
+    tt
+
+pub returns-then-waiting-eq0-clause-spent : goal.returns-then-waiting-eq0-clause-spent
+returns-then-waiting-eq0-clause-spent g c =
+    λ e. cc e
+
+pub returns-then-waiting-eq0-clause-left : goal.returns-then-waiting-eq0-clause-left
+returns-then-waiting-eq0-clause-left g c =
+    λ e. cc e
+
+pub returns-then-waiting-eq0-clause-free : goal.returns-then-waiting-eq0-clause-free
+returns-then-waiting-eq0-clause-free g c =
+    λ e. cc e
+
+pub returns-then-waiting-eq0-clause-steps : goal.returns-then-waiting-eq0-clause-steps
+returns-then-waiting-eq0-clause-steps g c =
+    c.loop-steps.invariant.steps
+
+pub returns-then-waiting-eq0-clause-falls : goal.returns-then-waiting-eq0-clause-falls
+returns-then-waiting-eq0-clause-falls g c =
+    c.loop-steps.invariant.falls
+
+pub returns-clause-same : goal.returns-clause-same
+returns-clause-same g c =
+    c.loop-steps.invariant.same
+
+pub returns-clause-rest : goal.returns-clause-rest
+returns-clause-rest g c =
+    c.loop-steps.invariant.rest
+
+pub returns-clause-under_way : goal.returns-clause-under_way
+returns-clause-under_way g c =
+    c.loop-steps.invariant.under_way
+
+pub returns-clause-room : goal.returns-clause-room
+returns-clause-room g c =
+    c.loop-steps.invariant.room
+
+pub returns-clause-turns : goal.returns-clause-turns
+returns-clause-turns g c =
+    c.loop-steps.invariant.turns
+
+pub returns-clause-err : goal.returns-clause-err
+returns-clause-err g c =
+    tt
+
+pub returns-clause-quiet : goal.returns-clause-quiet
+returns-clause-quiet g c =
+    λ e. cc e
+
+pub returns-clause-rests : goal.returns-clause-rests
+returns-clause-rests g c =
+    λ e. cc e
+
+pub returns-clause-clash : goal.returns-clause-clash
+returns-clause-clash g c =
+    tt
+
+pub returns-clause-conflict : goal.returns-clause-conflict
+returns-clause-conflict g c =
+    tt
+
+pub returns-clause-free : goal.returns-clause-free
+returns-clause-free g c =
+    λ spent. c.loop-steps.invariant.free
+
+pub returns-clause-steps : goal.returns-clause-steps
+returns-clause-steps g c =
+    c.loop-steps.invariant.steps
+
+pub returns-clause-falls : goal.returns-clause-falls
+returns-clause-falls g c =
+    c.loop-steps.invariant.falls

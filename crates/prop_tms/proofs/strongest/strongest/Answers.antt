@@ -1,8 +1,9 @@
-use Rattle.std.proofs.Common.{◌++◌, ◌∷◌, [], All, Contains, IsTrue}
+use Rattle.std.proofs.Common.{◌++◌, ◌∷◌, [], ◌≡◌, All, Contains, IsTrue, arith}
+use Rattle.std.proofs.lemmas.List.{nil_from_length}
 use Rattle.prop_premises.specs.Sets.{set_of, is_within}
 use Rattle.prop_tms.specs.Beliefs.{merge_of_all}
 use Rattle.prop_tms.specs.Gains.{AreGains, gained_of}
-use Rattle.prop_tms.proofs.LeanLemmas.{IsThinned, IsThinned-skip, IsThinned-keep, AreGains-front, AreGains-last, gained_of-push, All-front, All-last}
+use Rattle.prop_tms.proofs.LeanLemmas.{IsThinned, IsThinned-init, IsLean-thinned, IsThinned-skip, IsThinned-keep, AreGains-front, AreGains-last, gained_of-push, All-front, All-last}
 use Rattle.prop_tms.proofs.strongest.strongest.Goals as goal
 
 pub loop-gain-preserved-then-not-implies : goal.loop-gain-preserved-then-not-implies
@@ -51,3 +52,21 @@ loop-gain-preserved g c =
       believed = All-front (λ x. IsTrue (is_within w x.support)) (gained_of left) e believed;
       thinned = IsThinned-skip laws es w c.belief-value.result (gained_of left) e c.loop-gain.after c.loop-gain.support thinned reached;
     }
+
+pub loop-gain-init : goal.loop-gain-init
+loop-gain-init g c =
+    record {
+      gains = c.in_ok-gains.ensures.gains;
+      among = c.in_ok-gains.ensures.among;
+      believed = c.in_ok-gains.ensures.believed;
+      thinned = rw (c.nothing-after.ensures, c.empty-support.ensures) (IsThinned-init g.met.V.Partial.laws c.args.entries.now (set_of c.args.worldview.now) c.belief-value.result (gained_of c.in_ok-gains.gains.items) (rw c.belief-value.ensures c.in_ok-gains.ensures.merged));
+    }
+
+pub returns-clause-value : goal.returns-clause-value
+returns-clause-value g c =
+    c.belief-value.ensures
+
+pub returns-clause-lean : goal.returns-clause-lean
+returns-clause-lean g c =
+    let nothing : c.loop-gain.gains.items ≡ [] = nil_from_length c.loop-gain.gains.items (omega (arith, c.in_default.ensures.cases, c.loop-gain.gains.ok.0)) in
+    IsLean-thinned g.met.V.Partial.laws c.args.entries.now (set_of c.args.worldview.now) c.belief-value.result c.loop-gain.after c.loop-gain.support (rw nothing at c.loop-gain.invariant.thinned)

@@ -1,5 +1,102 @@
+use Rattle.std.proofs.Common.{◌≡◌, ℕ, List, Some, Ok, refl}
+use Rattle.prop_cells.specs.Data.{Data}
+use Rattle.prop_language.specs.Commands as commands
+use Rattle.prop_engine.specs.Answers.{Answer, Silent, Done, Text, Refused}
+use Rattle.prop_workbench.specs.Machine.{State}
+use Rattle.prop_workbench.specs.Reasons.{IsLeanReply, IsLeanAnswer}
 use Rattle.prop_workbench.proofs.WordLemmas.{some_elements}
 use Rattle.prop_workbench.proofs.session.Session.carry_out.Goals as goal
 
+-- what a text of an explanation is lean by, its answer is
+lean_answer : (d : Data) (s : State) (name : List ℕ) (answer : Answer) → ((text : List ℕ) → answer ≡ Text text → IsLeanReply d s name text) → IsLeanAnswer d s (Ok (Some (commands.Command.Why name))) answer
+lean_answer d s name Silent lean = tt
+lean_answer d s name Done lean = tt
+lean_answer d s name (Text text) lean = lean text refl
+lean_answer d s name (Refused refusal) lean = tt
+
 pub domain-requires-clause-some : goal.domain-requires-clause-some
 domain-requires-clause-some g c = rw c.deref.ensures.value (some_elements c.in-Domain.name.now c.in-Domain.elements.items (rw c.in-Domain.is at c.requires.some))
+
+pub returns-in-Silent-clause-step : goal.returns-in-Silent-clause-step
+returns-in-Silent-clause-step g c = rw c.in-Silent.is (refl, refl, refl)
+
+pub returns-in-Silent-clause-lean : goal.returns-in-Silent-clause-lean
+returns-in-Silent-clause-lean g c = rw c.in-Silent.is tt
+
+pub returns-in-Domain-clause-step : goal.returns-in-Domain-clause-step
+returns-in-Domain-clause-step g c = rw (c.in-Domain.is, ← c.deref.ensures.value) c.domain.ensures.step
+
+pub returns-in-Domain-clause-lean : goal.returns-in-Domain-clause-lean
+returns-in-Domain-clause-lean g c = rw c.in-Domain.is tt
+
+pub returns-in-Relation-clause-step : goal.returns-in-Relation-clause-step
+returns-in-Relation-clause-step g c = rw (c.in-Relation.is, ← c.deref-in-Relation.ensures.value) c.relation.ensures.step
+
+pub returns-in-Relation-clause-lean : goal.returns-in-Relation-clause-lean
+returns-in-Relation-clause-lean g c = rw c.in-Relation.is tt
+
+pub returns-in-Cell-clause-step : goal.returns-in-Cell-clause-step
+returns-in-Cell-clause-step g c = rw c.in-Cell.is c.cell.ensures.step
+
+pub returns-in-Cell-clause-lean : goal.returns-in-Cell-clause-lean
+returns-in-Cell-clause-lean g c = rw c.in-Cell.is tt
+
+pub returns-in-Define-clause-step : goal.returns-in-Define-clause-step
+returns-in-Define-clause-step g c = rw (c.in-Define.is, ← c.deref-in-Define.ensures.value, ← c.deref-in-Define-2.ensures.value) c.define.ensures.step
+
+pub returns-in-Define-clause-lean : goal.returns-in-Define-clause-lean
+returns-in-Define-clause-lean g c = rw c.in-Define.is tt
+
+pub returns-in-Attach-clause-step : goal.returns-in-Attach-clause-step
+returns-in-Attach-clause-step g c = rw (c.in-Attach.is, ← c.deref-in-Attach.ensures.value) c.attach.ensures.step
+
+pub returns-in-Attach-clause-lean : goal.returns-in-Attach-clause-lean
+returns-in-Attach-clause-lean g c = rw c.in-Attach.is tt
+
+pub returns-in-Fix-clause-step : goal.returns-in-Fix-clause-step
+returns-in-Fix-clause-step g c = rw c.in-Fix.is c.fix.ensures.step
+
+pub returns-in-Fix-clause-lean : goal.returns-in-Fix-clause-lean
+returns-in-Fix-clause-lean g c = rw c.in-Fix.is tt
+
+pub returns-in-Tell-clause-step : goal.returns-in-Tell-clause-step
+returns-in-Tell-clause-step g c = rw c.in-Tell.is c.tell.ensures.step
+
+pub returns-in-Tell-clause-lean : goal.returns-in-Tell-clause-lean
+returns-in-Tell-clause-lean g c = rw c.in-Tell.is tt
+
+pub returns-in-Kick-clause-step : goal.returns-in-Kick-clause-step
+returns-in-Kick-clause-step g c = rw c.in-Kick.is c.kick.ensures.step
+
+pub returns-in-Kick-clause-lean : goal.returns-in-Kick-clause-lean
+returns-in-Kick-clause-lean g c = rw c.in-Kick.is tt
+
+pub returns-in-Bring-clause-step : goal.returns-in-Bring-clause-step
+returns-in-Bring-clause-step g c = rw c.in-Bring.is c.bring.ensures.step
+
+pub returns-in-Bring-clause-lean : goal.returns-in-Bring-clause-lean
+returns-in-Bring-clause-lean g c = rw c.in-Bring.is tt
+
+pub returns-in-Settle-clause-step : goal.returns-in-Settle-clause-step
+returns-in-Settle-clause-step g c = rw c.in-Settle.is c.settle.ensures.step
+
+pub returns-in-Settle-clause-lean : goal.returns-in-Settle-clause-lean
+returns-in-Settle-clause-lean g c = rw c.in-Settle.is tt
+
+pub returns-in-Ask-clause-step : goal.returns-in-Ask-clause-step
+returns-in-Ask-clause-step g c = rw c.in-Ask.is c.ask.ensures.step
+
+pub returns-in-Ask-clause-lean : goal.returns-in-Ask-clause-lean
+returns-in-Ask-clause-lean g c = rw c.in-Ask.is tt
+
+pub returns-in-Why-clause-step : goal.returns-in-Why-clause-step
+returns-in-Why-clause-step g c = rw c.in-Why.is c.why.ensures.step
+
+pub returns-in-Why-clause-lean : goal.returns-in-Why-clause-lean
+returns-in-Why-clause-lean g c = rw c.in-Why.is (lean_answer _ _ _ _ c.why.ensures.lean)
+
+pub returns-in-Worldview-clause-step : goal.returns-in-Worldview-clause-step
+returns-in-Worldview-clause-step g c = rw c.in-Worldview.is c.tell_worldview.ensures.step
+
+pub returns-in-Worldview-clause-lean : goal.returns-in-Worldview-clause-lean
+returns-in-Worldview-clause-lean g c = rw c.in-Worldview.is tt

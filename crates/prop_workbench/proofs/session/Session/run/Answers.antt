@@ -1,7 +1,10 @@
-use Rattle.std.proofs.Common.{◌≡◌, ◌<◌, ◌∙◌, length, true, refl, sym, arith}
+use Rattle.std.proofs.Common.{◌≡◌, ◌<◌, ◌∙◌, ◌↔◌, Bool, Result, Ok, Err, IsErrOf, inl, inr, length, true, false, refl, sym, ap, arith}
 use Rattle.std.proofs.lemmas.Result.{err_from_is_err_and}
 use Rattle.std.proofs.lemmas.Bool.{false≢true}
 use Rattle.prop_procedures.specs.Kept.{stored_of, related_of}
+use Rattle.prop_engine.specs.declared.outcome.Counts.{Counts}
+use Rattle.prop_engine.specs.declared.outcome.EngineFault.{EngineFault}
+use Rattle.prop_engine.specs.declared.outcome.EngineFault.TheVariants.{Read, Write, Reads}
 use Rattle.prop_engine.specs.Watched.{has_stopped}
 use Rattle.prop_workbench.specs.Sessions.{state_of}
 use Rattle.prop_workbench.specs.Engine.{machine_of, workbench}
@@ -10,6 +13,19 @@ use Rattle.prop_workbench.proofs.Machines.{workbench_asks_by_front}
 use Rattle.prop_engine.proofs.Machines.{same_step}
 use Rattle.prop_engine.proofs.Pieces.{started, read_failed, too_many, at_end, ended_plain, ended_line, ended_fault, fed, feed_fault, same_advance, same_stop, told_by}
 use Rattle.prop_workbench.proofs.session.Session.run.Goals as goal
+
+-- where no read has failed, none is answered as failed
+none_failed : (result : Result Counts EngineFault) (failed : Bool) → (result ≡ Err Read → ⊥) → failed ≡ false → IsErrOf result Read ↔ (failed ≡ true)
+none_failed result failed other e = ((λ h. absurd (other h)), (λ t. absurd (false≢true (sym e ∙ t))))
+
+ok_is_none : (counts : Counts) (fault : EngineFault) → Ok counts ≡ Err fault → ⊥
+ok_is_none counts fault e = cc
+
+write_is_no_read : (result : Result Counts EngineFault) → result ≡ Err Write → result ≡ Err Read → ⊥
+write_is_no_read result e f = let g : Err Write ≡ Err Read = sym e ∙ f in cc
+
+write_is_no_reads : (result : Result Counts EngineFault) → result ≡ Err Write → result ≡ Err Reads → ⊥
+write_is_no_reads result e f = let g : Err Write ≡ Err Reads = sym e ∙ f in cc
 
 pub loop-turn-init : goal.loop-turn-init
 loop-turn-init g c = record {
@@ -86,3 +102,87 @@ loop-turn-preserved g c =
 
 pub returns-clause-told : goal.returns-clause-told
 returns-clause-told g c = too_many _ _ _ _ _ _ _ _ _ true c.loop-turn.invariant.so_far
+
+pub returns-in-Err-clause-read : goal.returns-in-Err-clause-read
+returns-in-Err-clause-read g c = ((λ h. rw c.loop-turn.invariant.reader.not_failed at c.in-Err.ensures.failed), (λ t. refl))
+
+pub returns-in-Err-clause-write : goal.returns-in-Err-clause-write
+returns-in-Err-clause-write g c = λ h. let e : Err Read ≡ Err Write = h in cc
+
+pub returns-in-Err-clause-reads : goal.returns-in-Err-clause-reads
+returns-in-Err-clause-reads g c = λ h. let e : Err Read ≡ Err Reads = h in cc
+
+pub returns-in-Err-clause-passed_on : goal.returns-in-Err-clause-passed_on
+returns-in-Err-clause-passed_on g c = inr c.loop-turn.invariant.writer
+
+pub returns-in_err-answer-clause-read : goal.returns-in_err-answer-clause-read
+returns-in_err-answer-clause-read g c =
+    let p = err_from_is_err_and c.from_residual.result c.from_residual.ensures.1 in
+    none_failed _ _ (write_is_no_read _ (p.1 ∙ ap Err (p.2 ∙ c.in_err-answer.ensures.fault.0))) (not_failed _ _ c.in-Ok.ensures.failed ∙ c.loop-turn.invariant.reader.not_failed)
+
+pub returns-in_err-answer-clause-write : goal.returns-in_err-answer-clause-write
+returns-in_err-answer-clause-write g c = λ h. c.in_err-answer.ensures.fault.1
+
+pub returns-in_err-answer-clause-reads : goal.returns-in_err-answer-clause-reads
+returns-in_err-answer-clause-reads g c =
+    let p = err_from_is_err_and c.from_residual.result c.from_residual.ensures.1 in
+    λ h. absurd (write_is_no_reads _ (p.1 ∙ ap Err (p.2 ∙ c.in_err-answer.ensures.fault.0)) h)
+
+pub returns-in_err-answer-clause-passed_on : goal.returns-in_err-answer-clause-passed_on
+returns-in_err-answer-clause-passed_on g c =
+    let p = err_from_is_err_and c.from_residual.result c.from_residual.ensures.1 in
+    inl (p.1 ∙ ap Err (p.2 ∙ c.in_err-answer.ensures.fault.0))
+
+pub returns-in_err-feed-clause-read : goal.returns-in_err-feed-clause-read
+returns-in_err-feed-clause-read g c =
+    let p = err_from_is_err_and c.from_residual-in_err-feed.result c.from_residual-in_err-feed.ensures.1 in
+    none_failed _ _ (write_is_no_read _ (p.1 ∙ ap Err (p.2 ∙ c.in_err-feed.ensures.fault.0))) (not_failed _ _ c.in-Ok.ensures.failed ∙ c.loop-turn.invariant.reader.not_failed)
+
+pub returns-in_err-feed-clause-write : goal.returns-in_err-feed-clause-write
+returns-in_err-feed-clause-write g c = λ h. c.in_err-feed.ensures.fault.1
+
+pub returns-in_err-feed-clause-reads : goal.returns-in_err-feed-clause-reads
+returns-in_err-feed-clause-reads g c =
+    let p = err_from_is_err_and c.from_residual-in_err-feed.result c.from_residual-in_err-feed.ensures.1 in
+    λ h. absurd (write_is_no_reads _ (p.1 ∙ ap Err (p.2 ∙ c.in_err-feed.ensures.fault.0)) h)
+
+pub returns-in_err-feed-clause-passed_on : goal.returns-in_err-feed-clause-passed_on
+returns-in_err-feed-clause-passed_on g c =
+    let p = err_from_is_err_and c.from_residual-in_err-feed.result c.from_residual-in_err-feed.ensures.1 in
+    inl (p.1 ∙ ap Err (p.2 ∙ c.in_err-feed.ensures.fault.0))
+
+pub returns-in_ok-answer-clause-read : goal.returns-in_ok-answer-clause-read
+returns-in_ok-answer-clause-read g c = none_failed _ _ (ok_is_none _ _) (not_failed _ _ c.in-Ok.ensures.failed ∙ c.loop-turn.invariant.reader.not_failed)
+
+pub returns-in_ok-answer-clause-write : goal.returns-in_ok-answer-clause-write
+returns-in_ok-answer-clause-write g c = λ h. absurd (ok_is_none _ _ h)
+
+pub returns-in_ok-answer-clause-reads : goal.returns-in_ok-answer-clause-reads
+returns-in_ok-answer-clause-reads g c = λ h. absurd (ok_is_none _ _ h)
+
+pub returns-in_ok-answer-clause-passed_on : goal.returns-in_ok-answer-clause-passed_on
+returns-in_ok-answer-clause-passed_on g c = inr (c.in_ok-answer.ensures.fresh c.loop-turn.invariant.writer)
+
+pub returns-else-not-is_empty-clause-read : goal.returns-else-not-is_empty-clause-read
+returns-else-not-is_empty-clause-read g c = none_failed _ _ (ok_is_none _ _) (not_failed _ _ c.in-Ok.ensures.failed ∙ c.loop-turn.invariant.reader.not_failed)
+
+pub returns-else-not-is_empty-clause-write : goal.returns-else-not-is_empty-clause-write
+returns-else-not-is_empty-clause-write g c = λ h. absurd (ok_is_none _ _ h)
+
+pub returns-else-not-is_empty-clause-reads : goal.returns-else-not-is_empty-clause-reads
+returns-else-not-is_empty-clause-reads g c = λ h. absurd (ok_is_none _ _ h)
+
+pub returns-else-not-is_empty-clause-passed_on : goal.returns-else-not-is_empty-clause-passed_on
+returns-else-not-is_empty-clause-passed_on g c = inr c.loop-turn.invariant.writer
+
+pub returns-clause-read : goal.returns-clause-read
+returns-clause-read g c = none_failed _ _ (λ h. let e : Err Reads ≡ Err Read = h in cc) c.loop-turn.invariant.reader.not_failed
+
+pub returns-clause-write : goal.returns-clause-write
+returns-clause-write g c = λ h. let e : Err Reads ≡ Err Write = h in cc
+
+pub returns-clause-passed_on : goal.returns-clause-passed_on
+returns-clause-passed_on g c = inr c.loop-turn.invariant.writer
+
+pub returns-clause-at_most : goal.returns-clause-at_most
+returns-clause-at_most g c = omega (arith, c.loop-turn.invariant.calls, c.loop-turn.auto._turn-end)

@@ -66,3 +66,17 @@ returns-in-Err-state_meant-clause-step g c =
     refuses_or_lacks library state _ (stating (name_of c.args.premise) c.args.name.now (value_of c.args.value.now)) c.in-Err-state_meant.refusal
     (value_stopped library state (name_of c.args.premise) c.args.name.now (value_of c.args.value.now) c.in-Some.cell (meant_of c.in-Ok.meant) c.in-Err-state_meant.refusal (sym c.in-Some.ensures.number) said c.in-Err-state_meant.ensures.err)
     c.in-Err-state_meant.ensures.err_same
+
+pub state_meant-requires-clause-cell : goal.state_meant-requires-clause-cell
+state_meant-requires-clause-cell g c =
+    let s = c.args.self.now in
+    of_named (λ k. k < length s.network.cells.kinds) s.names c.args.name.now c.in-Some.cell c.requires.sound.named (sym c.in-Some.ensures.number)
+
+pub state_meant-requires-clause-sound : goal.state_meant-requires-clause-sound
+state_meant-requires-clause-sound g c = c.requires.sound
+
+pub returns-in-None-clause-sound : goal.returns-in-None-clause-sound
+returns-in-None-clause-sound g c = c.requires.sound
+
+pub returns-in-Err-clause-sound : goal.returns-in-Err-clause-sound
+returns-in-Err-clause-sound g c = c.requires.sound

@@ -4,10 +4,13 @@ use Rattle.prop_procedures.specs.Kept.{stored_of}
 use Rattle.prop_cells.specs.Data.{IsKept, IsWellMade, beliefs}
 use Rattle.prop_workbench.specs.Machine.{State, problem_in}
 use Rattle.prop_workbench.specs.Running.{MayEnd, Contradiction, Settled, Unsettled, IsSettledValue, IsUnsettledValue, Explained}
-use Rattle.prop_workbench.specs.Sessions.{state_from}
+use Rattle.prop_workbench.specs.Sessions.{state_of, state_from}
 use Rattle.prop_scheduler.specs.Turns.{IsSettled}
+use Rattle.prop_language.specs.Commands as commands
+use Rattle.prop_texts.specs.Texts.{contradiction_text}
 use Rattle.prop_engine.specs.Answers.{answer_of}
-use Rattle.prop_workbench.proofs.AskLemmas.{ran_explained, settled_value, unsettled_value, conflict_known}
+use Rattle.prop_workbench.proofs.StepLemmas.{refuses, lacks}
+use Rattle.prop_workbench.proofs.AskLemmas.{nowhere_why, asked_why, ran, ran_explained, settled_value, unsettled_value, conflict_known}
 use Rattle.prop_cells.specs.Data.{IsClash}
 use Rattle.prop_workbench.specs.Reasons.{IsLeanExplanation}
 use Rattle.prop_workbench.proofs.ReasonLemmas.{lean_contradiction}
@@ -68,3 +71,50 @@ returns-in-Clash-clause-lean g c =
     let state = state_from s.names s.words s.definitions s.premises s.network.cells s.limit in
     let clash : IsClash (believed_in s.premises) c.run_network.new.self.network.cells c.in-Clash.support = rw c.in-Clash.is at c.in-Ok.ensures.clash in
     λ text e. inr (lean_contradiction c.run_network.new.self.network.cells state c.in-Clash.support _ clash (rw c.run_network.ensures.premises at c.contradiction_reply.ensures.says) text e)
+
+pub returns-in-None-clause-sound : goal.returns-in-None-clause-sound
+returns-in-None-clause-sound g c = c.requires.sound
+
+pub returns-in-None-clause-step : goal.returns-in-None-clause-step
+returns-in-None-clause-step g c =
+    let s = c.args.self.now in
+    let library = stored_of g.R.Rule.value_of s.network.library in
+    refuses library (state_of s) (state_of s) (commands.Command.Why c.args.name.now) _ (nowhere_why library (state_of s) c.args.name.now (sym c.in-None.ensures.number)) refl
+
+pub returns-in-Err-clause-sound : goal.returns-in-Err-clause-sound
+returns-in-Err-clause-sound g c = c.run_network.ensures.sound
+
+pub returns-in-Err-clause-step : goal.returns-in-Err-clause-step
+returns-in-Err-clause-step g c =
+    let s = c.args.self.now in
+    lacks (stored_of g.R.Rule.value_of s.network.library) (state_of s) (state_of c.run_network.new.self) (commands.Command.Why c.args.name.now) 0 c.run_network.ensures.state
+
+pub returns-in-Clash-clause-sound : goal.returns-in-Clash-clause-sound
+returns-in-Clash-clause-sound g c = c.run_network.ensures.sound
+
+pub returns-in-Clash-clause-step : goal.returns-in-Clash-clause-step
+returns-in-Clash-clause-step g c =
+    let s = c.args.self.now in
+    let library = stored_of g.R.Rule.value_of s.network.library in
+    let state = state_from s.names s.words s.definitions s.premises s.network.cells s.limit in
+    ran library state (state_of c.run_network.new.self) (commands.Command.Why c.args.name.now) (Contradiction c.in-Clash.support) (contradiction_text s.premises c.in-Clash.support) _ _ (λ r. r)
+    (asked_why library state c.args.name.now c.in-Some.cell (sym c.in-Some.ensures.number)) (rw c.in-Clash.is at c.in-Ok.ensures.ends) (c.contradiction_reply.ensures.in_order, refl)
+    (rw c.run_network.ensures.premises at c.contradiction_reply.ensures.says) c.run_network.ensures.state c.in-Ok.ensures.within
+
+pub returns-in-Quiet-clause-sound : goal.returns-in-Quiet-clause-sound
+returns-in-Quiet-clause-sound g c = c.run_network.ensures.sound
+
+pub returns-in-Spent-clause-sound : goal.returns-in-Spent-clause-sound
+returns-in-Spent-clause-sound g c = c.run_network.ensures.sound
+
+pub returns-in-None-clause-lean : goal.returns-in-None-clause-lean
+returns-in-None-clause-lean g c = λ text e. cc
+
+pub returns-in-Err-clause-lean : goal.returns-in-Err-clause-lean
+returns-in-Err-clause-lean g c = λ text e. cc
+
+pub explained-requires-clause-sound : goal.explained-requires-clause-sound
+explained-requires-clause-sound g c = c.run_network.ensures.sound
+
+pub explained-requires-in-Spent-clause-sound : goal.explained-requires-in-Spent-clause-sound
+explained-requires-in-Spent-clause-sound g c = c.run_network.ensures.sound
