@@ -20,21 +20,28 @@ fn domains_are_numbered_after_truth(rt: HostRuntime) -> Result<(), Fail> {
     assert_eq!(rt; words.domain_number("f1"), None);
     assert_eq!(rt; words.domain_count(), 3);
     assert_eq!(rt; words.domain(0).index("no"), Some(1));
+    drop(words);
     Ok(())
+}
+
+/// The texts of 1 to 65 letters.
+fn parts(alloc: Global) -> Result<Vec<&'static str>, Fail> {
+    let mut parts = Vec::new(alloc);
+    for len in 1..66 {
+        parts.push(LETTERS.get(..len).ok_or("the text is too short")?)?;
+    }
+    Ok(parts)
 }
 
 #[test]
 fn domains_are_refused(rt: HostRuntime) -> Result<(), Fail> {
+    let many = parts(rt.alloc())?;
     let mut words = Vocabulary::new(rt.alloc())?;
     assert!(rt; words.declare_domain("floor", &["f1", "f2"]).is_ok());
     let again = words.declare_domain("floor", &["g"]).err();
     assert_eq!(rt; again, Some(Refusal::NameTaken));
     let twice = words.declare_domain("wall", &["w", "v", "w"]).err();
     assert_eq!(rt; twice, Some(Refusal::NameTaken));
-    let mut many = Vec::new(rt.alloc());
-    for len in 1..66 {
-        many.push(LETTERS.get(..len).ok_or("the text is too short")?)?;
-    }
     let over = match many.is_empty() {
         true => None,
         false => words.declare_domain("wall", &many).err(),
@@ -42,6 +49,7 @@ fn domains_are_refused(rt: HostRuntime) -> Result<(), Fail> {
     assert_eq!(rt; over, Some(Refusal::LimitReached(Limit::Elements)));
     assert_eq!(rt; words.domain_number("wall"), None);
     assert_eq!(rt; words.domain_count(), 2);
+    drop(words);
     Ok(())
 }
 
@@ -56,27 +64,41 @@ fn partners(rows: &Rows, bits: u64) -> u64 {
     }
 }
 
-/// Two domains, a relation between the first and itself, and a symbol.
-fn sample(alloc: Global) -> Result<Vocabulary, Refusal> {
-    let Ok(mut words) = Vocabulary::new(alloc) else {
-        return Err(Refusal::Memory);
-    };
+/// Declares two domains, a relation between the second and itself, and a symbol.
+fn declare_some(words: &mut Vocabulary) -> Result<(), Refusal> {
     words.declare_domain("c", &["q"])?;
     words.declare_domain("d", &["e", "f", "g"])?;
     words.declare_relation("r", "d", "d", &[(b"e", b"g"), (b"g", b"e"), (b"e", b"g")])?;
     words.add_symbol("red")?;
+    Ok(())
+}
+
+/// A vocabulary with what `declare_some` declares.
+fn sample(alloc: Global) -> Result<Vocabulary, Refusal> {
+    let Ok(mut words) = Vocabulary::new(alloc) else {
+        return Err(Refusal::Memory);
+    };
+    if let Err(refusal) = declare_some(&mut words) {
+        drop(words);
+        return Err(refusal);
+    }
     Ok(words)
 }
 
 #[test]
 fn relations_have_just_their_pairs(rt: HostRuntime) -> Result<(), Fail> {
     let words = sample(rt.alloc())?;
-    let rows = words.relation("r").ok_or("it is declared")?;
-    assert_eq!(rt; rows.from().domain, 2);
-    assert_eq!(rt; partners(rows, 0b001), 0b100);
-    assert_eq!(rt; partners(rows, 0b010), 0);
-    assert_eq!(rt; partners(rows, 0b100), 0b001);
+    match words.relation("r") {
+        Some(rows) => {
+            assert_eq!(rt; rows.from().domain, 2);
+            assert_eq!(rt; partners(rows, 0b001), 0b100);
+            assert_eq!(rt; partners(rows, 0b010), 0);
+            assert_eq!(rt; partners(rows, 0b100), 0b001);
+        }
+        None => assert!(rt; false, "it is declared"),
+    }
     assert!(rt; words.relation("d").is_none());
+    drop(words);
     Ok(())
 }
 
@@ -102,6 +124,7 @@ fn relations_are_refused(rt: HostRuntime) -> Result<(), Fail> {
         .err();
     assert_eq!(rt; outside, Some(Refusal::NotInTheDomain));
     assert!(rt; words.relation("s").is_none());
+    drop(words);
     Ok(())
 }
 
@@ -116,6 +139,7 @@ fn symbols_keep_their_numbers(rt: HostRuntime) -> Result<(), Fail> {
     words.keep_symbols(1);
     assert_eq!(rt; words.symbol("blue"), None);
     assert_eq!(rt; words.add_symbol("green"), Ok(1));
+    drop(words);
     Ok(())
 }
 
@@ -136,6 +160,7 @@ fn elements_have_texts(rt: HostRuntime) -> Result<(), Fail> {
     assert!(rt; reads(&words, rt.alloc(), d, Info::from_bits(0b001), "e"));
     assert!(rt; reads(&words, rt.alloc(), truth, Info::from_bits(0b11), "{yes no}"));
     assert!(rt; reads(&words, rt.alloc(), truth, Info::from_bits(0b01), "yes"));
+    drop(words);
     Ok(())
 }
 
@@ -163,5 +188,6 @@ fn other_values_have_texts(rt: HostRuntime) -> Result<(), Fail> {
             "contradiction"
         )
     );
+    drop(words);
     Ok(())
 }
