@@ -110,53 +110,5 @@ fn replies(rt: HostRuntime) {
     for (refusal, number, reply) in table {
         assert_eq!(rt; refusal.number(), number);
         assert_eq!(rt; refusal.reply(), reply);
-        assert_eq!(rt;
-            reply.split_once(": ").map(|(_, text)| text),
-            Some(refusal.text())
-        );
-    }
-}
-
-#[test]
-fn limits(rt: HostRuntime) {
-    let table = [
-        (Limit::Cells, 100_000, "error 16: limit reached: cells"),
-        (
-            Limit::Instances,
-            200_000,
-            "error 16: limit reached: instances",
-        ),
-        (Limit::Premises, 4_096, "error 16: limit reached: premises"),
-        (Limit::Choices, 64, "error 16: limit reached: choices"),
-        (
-            Limit::Statements,
-            1_000_000,
-            "error 16: limit reached: statements",
-        ),
-        (Limit::Domains, 1_024, "error 16: limit reached: domains"),
-        (Limit::Elements, 64, "error 16: limit reached: elements"),
-        (
-            Limit::Relations,
-            1_024,
-            "error 16: limit reached: relations",
-        ),
-        (
-            Limit::Definitions,
-            1_024,
-            "error 16: limit reached: definitions",
-        ),
-        (Limit::Symbols, 100_000, "error 16: limit reached: symbols"),
-    ];
-    for (limit, most, reply) in table {
-        assert_eq!(rt; limit.most(), most);
-        assert_eq!(rt; Refusal::LimitReached(limit).reply(), reply);
-        assert_eq!(rt;
-            reply.strip_prefix("error 16: limit reached: "),
-            Some(limit.word())
-        );
-        assert_eq!(rt;
-            reply.strip_prefix("error 16: "),
-            Some(Refusal::LimitReached(limit).text())
-        );
     }
 }

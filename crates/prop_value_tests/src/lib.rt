@@ -1,9 +1,7 @@
-//! Tests of informations and of what is computed from them: worked values, and plain enumeration of small cases. They stand
-//! apart, so that no crate is proved a second time for its tests.
+//! Worked values of informations, sets, premises, supported values and spans, by calls of the crates themselves. They stand
+//! apart, so that no crate is proved a second time for its tests. Whole sessions stand in tests/, at the top.
 #![tactic(auto)]
 
-#[cfg(test)]
-mod arith;
 #[cfg(test)]
 mod intervals;
 #[cfg(test)]

@@ -1,9 +1,7 @@
-//! Worked values, and truths and images against plain enumeration.
-ghost use Rattle.std.specs.Prelude.{◌<◌};
+//! Worked values of domains, relations and functions on truths.
 
-use prop_lattice::{Elements, Info, Limit, Refusal};
+use prop_lattice::{Elements, Info, Refusal};
 use prop_sets::{Domain, Rows, Side, and_back, and3, not2, or_back, or3, without};
-use std::alloc::{AllocError, Global};
 use std::process::Abort;
 use std::test::Fail;
 
@@ -26,27 +24,6 @@ fn domains_have_names_in_order(rt: HostRuntime) -> Result<(), Fail> {
     assert!(rt; floors.element(2) == "f3");
     assert_eq!(rt; floors.index("f2"), Some(1));
     assert_eq!(rt; floors.index("f4"), None);
-    Ok(())
-}
-
-#[test]
-fn domains_refuse_repeats_and_too_many(rt: HostRuntime) -> Result<(), Fail> {
-    let refused = Domain::new(rt.alloc(), &["a", "a"]).err();
-    assert_eq!(rt; refused, Some(Refusal::NameTaken));
-
-    let text = "aaaaaaaaaaaaaaaaaaaaaaaaaaaaaaaaaaaaaaaaaaaaaaaaaaaaaaaaaaaaaaaaa";
-    let mut names = Vec::new(rt.alloc());
-    for len in 1..65 {
-        names.push(text.get(..len).ok_or("the text is too short")?)?;
-    }
-    assert_eq!(rt; names.len(), 64);
-    assert!(rt; Domain::new(rt.alloc(), &names).is_ok());
-    names.push(text)?;
-    let refused = Domain::new(rt.alloc(), &names).err();
-    assert_eq!(rt; refused, Some(Refusal::LimitReached(Limit::Elements)));
-    names.push("a")?;
-    let refused = Domain::new(rt.alloc(), &names).err();
-    assert_eq!(rt; refused, Some(Refusal::NameTaken));
     Ok(())
 }
 
@@ -74,67 +51,6 @@ fn worked_values(rt: HostRuntime) {
     }
 }
 
-/// Whether an information leaves a truth.
-fn leaves(info: Info, truth: bool) -> bool {
-    match info {
-        Info::Nothing => true,
-        Info::Set(set) => set.bits() & bit(truth) != 0,
-        _ => false,
-    }
-}
-
-fn bit(truth: bool) -> u64 {
-    if truth { YES } else { NO }
-}
-
-/// The truths with these bits, where an input is unknown or none is.
-fn told(bits: u64, unknown: bool) -> Info {
-    if unknown && bits == (YES | NO) {
-        Info::Nothing
-    } else {
-        Info::from_bits(bits)
-    }
-}
-
-#[test]
-fn truths_are_what_enumeration_finds(rt: HostRuntime) {
-    let all = [
-        Info::Nothing,
-        Info::from_bits(YES),
-        Info::from_bits(NO),
-        Info::from_bits(YES | NO),
-    ];
-    for x in all {
-        for y in all {
-            let (mut and, mut back, mut or, mut or_then) = (0, 0, 0, 0);
-            let mut not = 0;
-            for a in [true, false] {
-                for b in [true, false] {
-                    if leaves(x, a) && leaves(y, b) {
-                        and |= bit(a && b);
-                        or |= bit(a || b);
-                    }
-                    if leaves(x, a && b) && leaves(y, b) {
-                        back |= bit(a);
-                    }
-                    if leaves(x, a || b) && leaves(y, b) {
-                        or_then |= bit(a);
-                    }
-                }
-                if leaves(x, a) {
-                    not |= bit(!a);
-                }
-            }
-            let unknown = x == Info::Nothing || y == Info::Nothing;
-            assert_eq!(rt; and3(x, y), told(and, unknown));
-            assert_eq!(rt; and_back(x, y), told(back, unknown));
-            assert_eq!(rt; or3(x, y), told(or, unknown));
-            assert_eq!(rt; or_back(x, y), told(or_then, unknown));
-            assert_eq!(rt; not2(x), told(not, x == Info::Nothing));
-        }
-    }
-}
-
 #[test]
 fn relations_have_their_pairs(rt: HostRuntime) -> Result<(), Fail> {
     let side = Side { domain: 1, size: 2 };
@@ -148,55 +64,4 @@ fn relations_have_their_pairs(rt: HostRuntime) -> Result<(), Fail> {
     assert_eq!(rt; copy.image(elements(&rt, 0b11)), Info::from_bits(0b10));
     assert_eq!(rt; copy.coimage(elements(&rt, 0b10)), Info::from_bits(0b01));
     Ok(())
-}
-
-#[test]
-fn images_are_what_enumeration_finds(rt: HostRuntime) -> Result<(), Fail> {
-    let (two, three) = (Side { domain: 1, size: 2 }, Side { domain: 2, size: 3 });
-    for pairs in 0u64..64 {
-        let rows = rows_of(rt.alloc(), pairs, two, three)?;
-        for x in 1u64..8 {
-            let set = elements(&rt, x);
-            let (image, coimage) = plain_images(pairs, x);
-            assert_eq!(rt; rows.image(set), Info::from_bits(image));
-            assert_eq!(rt; rows.coimage(set), Info::from_bits(coimage));
-        }
-    }
-    Ok(())
-}
-
-/// The relation of some of the six pairs.
-fn rows_of(alloc: Global, pairs: u64, from: Side, to: Side) -> Result<Rows, AllocError> {
-    let mut rows = Rows::new(alloc, from, to)?;
-    for i in 0u8..2 {
-        for j in 0u8..3 {
-            if has_pair(pairs, i, j) && i < rows.from().size && j < rows.to().size {
-                rows.set(i, j);
-            }
-        }
-    }
-    Ok(rows)
-}
-
-fn has_pair(pairs: u64, i: u8, j: u8) -> bool
-    requires first { i < 2 }
-    requires second { j < 3 }
-{
-    pairs >> (3 * i + j) & 1 == 1
-}
-
-/// What the elements of `x` are paired with, and what is paired with them.
-fn plain_images(pairs: u64, x: u64) -> (u64, u64) {
-    let (mut image, mut coimage) = (0, 0);
-    for i in 0u8..2 {
-        for j in 0u8..3 {
-            if has_pair(pairs, i, j) && x >> i & 1 == 1 {
-                image |= 1 << j;
-            }
-            if has_pair(pairs, i, j) && x >> j & 1 == 1 {
-                coimage |= 1 << i;
-            }
-        }
-    }
-    (image, coimage)
 }

@@ -1,7 +1,8 @@
 //! Entries over spans: what an addition answers, what is believed, and for which premises.
 
+use crate::premises::{has_just, set_of};
 use prop_lattice::Info;
-use prop_premises::{Premise, PremiseSet, Worldview};
+use prop_premises::{Premise, Worldview};
 use prop_tms::{Change, Tms};
 use std::alloc::{AllocError, Global};
 use std::test::Fail;
@@ -12,13 +13,27 @@ const B: Premise = 1;
 
 const C: Premise = 2;
 
-/// The set of these premises.
-fn set_of(alloc: Global, premises: &[Premise]) -> Result<PremiseSet, AllocError> {
-    let mut set = PremiseSet::empty(alloc);
-    for premise in premises {
-        set = set.union(&PremiseSet::single(alloc, *premise)?)?;
-    }
-    Ok(set)
+/// Adds an information that rests on these premises.
+fn add(
+    alloc: Global,
+    tms: &mut Tms<Info>,
+    value: Info,
+    premises: &[Premise],
+) -> Result<Change, AllocError> {
+    tms.add(value, set_of(alloc, premises)?)
+}
+
+/// Whether this is what is believed where these premises are in, and rests on just these.
+fn is_strongest(
+    alloc: Global,
+    tms: &Tms<Info>,
+    premises: &[Premise],
+    value: Info,
+    support: &[Premise],
+) -> Result<bool, AllocError> {
+    let world = Worldview::of(alloc, &set_of(alloc, premises)?)?;
+    let strongest = tms.strongest(&world)?;
+    Ok(strongest.value == value && has_just(&strongest.support, support))
 }
 
 #[test]
@@ -33,46 +48,37 @@ fn keeps_no_subsumed_entry(rt: HostRuntime) -> Result<(), Fail> {
     ];
     let mut tms = Tms::new(rt.alloc());
     for (value, premises, change, len) in table {
-        let support = set_of(rt.alloc(), premises)?;
-        assert_eq!(rt; tms.add(value, support)?, change);
+        assert!(rt; add(rt.alloc(), &mut tms, value, premises) == Ok(change));
         assert_eq!(rt; tms.len(), len);
     }
+    drop(tms);
     Ok(())
 }
 
 #[test]
 fn says_what_is_believed_and_why(rt: HostRuntime) -> Result<(), Fail> {
     let mut tms = Tms::new(rt.alloc());
-    tms.add(Info::between(0, 20), set_of(rt.alloc(), &[C])?)?;
-    tms.add(Info::between(0, 10), set_of(rt.alloc(), &[A])?)?;
-    tms.add(Info::between(5, 20), set_of(rt.alloc(), &[B])?)?;
-    let table: [(&[Premise], Info, &[Premise]); 5] = [
+    let stated: [(Info, &[Premise]); 4] = [
+        (Info::between(0, 20), &[C]),
+        (Info::between(0, 10), &[A]),
+        (Info::between(5, 20), &[B]),
+        (Info::between(30, 30), &[3]),
+    ];
+    for (value, premises) in stated {
+        assert!(rt; add(rt.alloc(), &mut tms, value, premises) == Ok(Change::Grown));
+    }
+    let table: [(&[Premise], Info, &[Premise]); 6] = [
         (&[A, B, C], Info::between(5, 10), &[A, B]),
         (&[B, C], Info::between(5, 20), &[B]),
         (&[C], Info::between(0, 20), &[C]),
-        (&[3], Info::Nothing, &[]),
+        (&[4], Info::Nothing, &[]),
         (&[], Info::Nothing, &[]),
+        (&[C, 3], Info::Contradiction, &[C, 3]),
     ];
     for (premises, value, support) in table {
-        let world = Worldview::of(rt.alloc(), &set_of(rt.alloc(), premises)?)?;
-        let strongest = tms.strongest(&world)?;
-        assert_eq!(rt; tms.believed_value(&world), value);
-        assert_eq!(rt; strongest.value, value);
-        assert!(rt; strongest.support.iter().eq(support.iter().copied()));
+        let is_said = is_strongest(rt.alloc(), &tms, premises, value, support);
+        assert!(rt; is_said == Ok(true));
     }
-    Ok(())
-}
-
-#[test]
-fn names_what_a_contradiction_rests_on(rt: HostRuntime) -> Result<(), Fail> {
-    let mut tms = Tms::new(rt.alloc());
-    tms.add(Info::between(1, 1), set_of(rt.alloc(), &[A])?)?;
-    tms.add(Info::between(2, 2), set_of(rt.alloc(), &[B])?)?;
-    let world = Worldview::of(rt.alloc(), &set_of(rt.alloc(), &[A, B, C])?)?;
-    let strongest = tms.strongest(&world)?;
-    assert_eq!(rt; strongest.value, Info::Contradiction);
-    assert!(rt; strongest.support.iter().eq([A, B].iter().copied()));
-    tms.back(1);
-    assert_eq!(rt; tms.believed_value(&world), Info::between(1, 1));
+    drop(tms);
     Ok(())
 }

@@ -8,8 +8,8 @@ use Rattle.prop_workbench.specs.Machine.{State, text_at, worldview_of}
 use Rattle.prop_texts.specs.Texts.{equation, because, contradiction_text}
 use Rattle.prop_vocabulary.specs.Cells.{cell_named}
 
--- the text says what is believed of the cell, the mark, and the premises of believed entries of the cell that say it together,
--- none of which can be left out
+-- the text says what is believed of the cell, the mark, and the premises of believed entries of the cell that say it together: no entry
+-- can be left out, though a premise may be that other entries do without
 pub record IsLeanExplanation (d : Data) (s : State) (cell : ℕ) (name mark text : List ℕ) : Type 0 where
   pub premises : List ℕ
   pub lean : IsLeanAt (worldview_of s) d.contents cell premises

@@ -5,8 +5,6 @@ mod chosen;
 mod fault;
 mod options;
 mod running;
-#[cfg(test)]
-mod tests;
 
 use chosen::Options;
 use clap::error::ErrorKind;

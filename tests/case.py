@@ -1,0 +1,91 @@
+"""One run of the program: what it is given, and what it has to write."""
+import os
+import subprocess
+import sys
+import time
+from dataclasses import dataclass, field
+from typing import Callable, Optional
+
+SECONDS = 60
+
+
+def first_difference(got, wanted):
+    """Where two outputs part, or None."""
+    if got == wanted:
+        return None
+    got, wanted = got.split(b"\n"), wanted.split(b"\n")
+    for number, (one, other) in enumerate(zip(got, wanted), 1):
+        if one != other:
+            return f"line {number} of the output is {one!r}, wanted {other!r}"
+    return f"{len(got) - 1} lines of output, wanted {len(wanted) - 1}"
+
+
+@dataclass
+class Case:
+    """A session with its wanted output: bytes, or a function that says what is wrong with an output."""
+
+    name: str
+    sent: bytes
+    wanted: bytes | Callable[[bytes], Optional[str]]
+    options: list = field(default_factory=list)
+    status: int = 0
+    # What standard error has to hold.
+    told: bytes = b""
+
+    def wrong(self, program):
+        """What is wrong with the program's run, or None."""
+        try:
+            ran = subprocess.run([program, *self.options], input=self.sent, capture_output=True, timeout=SECONDS, check=False)
+        except subprocess.TimeoutExpired:
+            return f"no end in {SECONDS} seconds"
+        return self.wrong_with(ran.returncode, ran.stdout, ran.stderr)
+
+    def wrong_with(self, status, output, told):
+        if status != self.status:
+            return f"the status is {status}, wanted {self.status}; it said {told!r}"
+        if self.told not in told or bool(told) != bool(self.told):
+            return f"it said {told!r}, wanted {self.told!r}"
+        return self.wanted(output) if callable(self.wanted) else first_difference(output, self.wanted)
+
+
+class OnDevices(Case):
+    """A run over files in place of pipes: what standard input and standard output are."""
+
+    def __init__(self, name, reads, writes, status, told):
+        super().__init__(name, b"", b"", status=status, told=told)
+        self.reads, self.writes = reads, writes
+
+    def wrong(self, program):
+        reads = os.open(self.reads, os.O_RDONLY)
+        writes = os.open(self.writes, os.O_WRONLY)
+        ran = subprocess.run([program], stdin=reads, stdout=writes, stderr=subprocess.PIPE, timeout=SECONDS, check=False)
+        os.close(reads)
+        os.close(writes)
+        return self.wrong_with(ran.returncode, b"", ran.stderr)
+
+
+class ByteByByte(Case):
+    """A run over a pipe that brings one byte at a time."""
+
+    def wrong(self, program):
+        with subprocess.Popen([program], stdin=subprocess.PIPE, stdout=subprocess.PIPE, stderr=subprocess.PIPE, bufsize=0) as ran:
+            for byte in self.sent:
+                ran.stdin.write(bytes([byte]))
+                time.sleep(0.001)
+            output, told = ran.communicate(timeout=SECONDS)
+        return self.wrong_with(ran.returncode, output, told)
+
+
+class Unheard(Case):
+    """A run whose output nobody reads."""
+
+    def wrong(self, program):
+        read, write = os.pipe()
+        os.close(read)
+        ran = subprocess.run([program], input=self.sent, stdout=write, stderr=subprocess.PIPE, timeout=SECONDS, check=False)
+        os.close(write)
+        return self.wrong_with(ran.returncode, b"", ran.stderr)
+
+
+if __name__ == "__main__":
+    sys.exit("tests/run runs the cases")

@@ -1,0 +1,127 @@
+"""Sessions that are made: large ones, command lines, devices that fail."""
+import os
+
+from case import ByteByByte, Case, OnDevices, Unheard
+
+# (a session that says something)
+FIRST = os.path.join(os.path.dirname(os.path.realpath(__file__)), "..", "examples", "first.prop")
+
+PRELUDE = ["sum", "product", "square", "less", "same", "alike", "switch", "conditional", "not", "and", "or", "link"]
+
+
+def answered(count, *last):
+    """So many lines `ok`, and then these."""
+    return b"ok\n" * count + "".join(line + "\n" for line in last).encode()
+
+
+def sent(*lines):
+    return "".join(line + "\n" for line in lines).encode()
+
+
+def doubled(first):
+    """A definition `d0`, and `d1` to `d199`, each of which uses the one before twice."""
+    lines = [f"define d0 x y = {first}"]
+    lines += [f"define d{n + 1} x y = d{n} x y ; d{n} x y" for n in range(199)]
+    return lines + ["cell a span", "cell b span"]
+
+
+def large_uses():
+    limit = "error 16: limit reached: "
+    uses = ["attach d199 a b", "attach d18 a b", "attach d17 a b", "attach d17 a b", "fix a 7", "ask b"]
+    yield Case(
+        "large uses: more instances than there may be are refused at once",
+        sent(*doubled("copier x y"), *uses),
+        answered(202, limit + "instances", limit + "instances", "ok", limit + "instances", "ok", "b = 7"),
+    )
+    uses = ["attach d199 a b", "attach d17 a b", "attach d16 a b", "attach d16 a b", "attach d15 a b", "attach d15 a b", "ask b"]
+    yield Case(
+        "large uses: more fresh cells than there may be are refused at once",
+        sent(*doubled("local m span ; copier x m"), *uses),
+        answered(202, limit + "cells", limit + "cells", "ok", limit + "cells", "ok", limit + "cells", "b = nothing"),
+    )
+
+
+def limits():
+    """Each limit: what stands before, a line for each number below the limit, and one too many, which is refused and changes nothing."""
+    elements = [f"e{n}" for n in range(65)]
+    for word, most, before, line in [
+        ("cells", 100_000, [], lambda n: f"cell c{n} span"),
+        ("instances", 200_000, ["cell a span", "cell b span"], lambda n: "attach copier a b"),
+        ("premises", 4_096, ["cell a span"], lambda n: f"tell p{n} a 1"),
+        ("statements", 1_000_000, ["cell a span"], lambda n: "fix a 1"),
+        ("domains", 1_024, [], lambda n: f"domain d{n} e"),
+        ("elements", 1, [], lambda n: f"domain d{n} {' '.join(elements[: 64 + n])}"),
+        ("relations", 1_024, ["domain d e"], lambda n: f"relation r{n} d d = e e"),
+        ("definitions", 1_024 - len(PRELUDE), [], lambda n: f"define f{n} x y = copier x y"),
+        ("symbols", 100_000, [f"cell c{n} symbol" for n in range(101)], lambda n: f"fix c{n // 1_000} s{n}"),
+    ]:
+        yield Case(
+            f"limits: {word}",
+            sent(*before, *map(line, range(most + 1)), line(most), "cell last span", line(0)),
+            lambda output, word=word, most=most, before=before: wrong_at_limit(output.decode().splitlines(), word, most + len(before)),
+        )
+
+
+def wrong_at_limit(replies, word, taken):
+    """What is wrong with the replies, of which so many are to be `ok` and the two behind them refusals."""
+    refusal = f"error 16: limit reached: {word}"
+    if replies[:taken] != ["ok"] * taken:
+        return f"not all of the first {taken} replies are ok"
+    if replies[taken : taken + 2] != [refusal, refusal]:
+        return f"line {taken + 1} and the next are answered by {replies[taken : taken + 2]}"
+    return None if len(replies) == taken + 4 else f"{len(replies)} replies, wanted {taken + 4}"
+
+
+def line_lengths():
+    for length, end, is_too_long in [(4096, b"", False), (4097, b"", True), (4095, b"\r", False), (4096, b"\r", True)]:
+        yield Case(
+            f"lines: {length} bytes and {end!r}",
+            b"#" * length + end + b"\nsettle\n",
+            b"error 1: line too long\nsettled\n" if is_too_long else b"settled\n",
+        )
+    yield Case("lines: the last one without its end", b"settle\r\ngo", b"settled\nerror 3: unknown command\n")
+    yield Case("lines: a long one in pieces", b"ask x\n" * 10_000, b"error 9: no such cell\n" * 10_000)
+
+
+def command_lines():
+    stepping = sent("cell x span", "cell one span", "attach adder x one x", "fix one 1", "fix x 0..10", "ask x")
+    for options, answer in [
+        ([], "contradiction: no premise"),
+        (["--limit", "3"], "x = 3..10 unsettled"),
+        (["--limit=0"], "x = 0..10 unsettled"),
+        (["--limit", "007"], "x = 7..10 unsettled"),
+        (["--limit", "1000000000000000"], "contradiction: no premise"),
+    ]:
+        yield Case(f"command lines: {options}", stepping, answered(5, answer), options)
+    for options, told in [
+        (["--limit", "1000000000000001"], b"the limit is not a number from 0 to 1000000000000000"),
+        (["--limit=-1"], b"the limit is not a number from 0 to 1000000000000000"),
+        (["--limit", "1e3"], b"the limit is not a number from 0 to 1000000000000000"),
+        (["--limit"], b"--limit"),
+        (["more"], b"more"),
+        (["--limits", "1"], b"--limits"),
+    ]:
+        yield Case(f"command lines: {options}", b"settle\n", b"", options, status=1, told=told)
+    yield Case("command lines: help", b"settle\n", lambda output: None if b"--limit <N>" in output else f"it wrote {output!r}", ["--help"])
+
+
+def devices():
+    yield OnDevices("devices: a reader that fails", "/", "/dev/null", 2, b"propbench: read fault\n")
+    yield OnDevices("devices: a writer that is full", FIRST, "/dev/full", 2, b"propbench: write fault\n")
+    yield Unheard("devices: a writer that nobody reads", b"settle\n", b"", status=2, told=b"propbench: write fault\n")
+    yield ByteByByte("devices: a reader of one byte at a time", b"cell x span\r\n\nfix x 3..5\nask x\ngo", b"ok\nok\nx = 3..5\nerror 3: unknown command\n")
+
+
+def prelude():
+    """Each compound of the prelude stands before the first line."""
+    for name in PRELUDE:
+        yield Case(f"prelude: {name} is taken", sent(f"define {name} x y = copier x y"), b"error 7: name taken\n")
+
+
+def cases():
+    yield from large_uses()
+    yield from limits()
+    yield from line_lengths()
+    yield from command_lines()
+    yield from devices()
+    yield from prelude()
