@@ -1,18 +1,19 @@
 -- What the parts of a form make together.
-use Rattle.std.proofs.Common.{◌≡◌, ℕ, List, [], ◌∷◌, ◌++◌, Bool, true, false, cond, refl, sym, ◌∙◌, ap, arith, Some, None, Ok, Err, inl, inr}
-use Rattle.std.specs.Prelude.{Option, Result, ⊤, ◌⊎◌, ◌≢◌, Contains, bytes_eq, codes, not, ◌&&◌}
+use Rattle.std.proofs.Common.{◌≡◌, ℕ, List, [], ◌∷◌, ◌++◌, Bool, true, false, cond, refl, sym, ◌∙◌, ap, arith, Some, None, Ok, Err, inl, inr, subst}
+use Rattle.std.specs.Prelude.{Option, Result, ⊤, ◌⊎◌, ◌≢◌, Contains, MatchOption, bytes_eq, codes, not, ◌&&◌}
 use Rattle.std.specs.Option.{option_map, option_and_then}
 use Rattle.std.specs.List.{list_all}
 use Rattle.std.proofs.lemmas.Bool.{false≢true}
 use Rattle.std.proofs.lemmas.List.Folds.{list_all-append}
 use Rattle.prop_lattice.specs.declared.refusal.Refusal.{Refusal}
 use Rattle.prop_lattice.specs.declared.refusal.Refusal.TheVariants.{WrongForm, NotAName, NotANumber, Memory}
-use Rattle.prop_language.specs.Tokens.{Token, Word, Open, Close, Semicolon, Equals}
+use Rattle.std.specs.Borrow.{Bor}
+use Rattle.prop_language.specs.Tokens.{Token, Word, Open, Close, Semicolon, Equals, tokens}
 use Rattle.prop_language.specs.Names.{is_name}
-use Rattle.prop_language.specs.Commands.{Value, By, Passed, Step, Command}
-use Rattle.prop_language.specs.Forms.{join, only_words, domain, pairs, relation, values, in_braces, one_value, only_value, cells_by, by_form, attach, with_cell, passed_form, use_step}
-use Rattle.prop_language.specs.Reading.{by_names, is_by_in_range, passed_names, is_passed_in_range, command_in_range, command_in_form}
-use Rattle.prop_language.specs.Parts.{front, are_words, front_words, behind_equals, further, before_pairs, behind_by, given, before_by, judged, step_in_form, BeginsOpen}
+use Rattle.prop_language.specs.Commands.{Value, KindWord, By, Passed, Step, Command}
+use Rattle.prop_language.specs.Forms.{join, on_word, only_words, domain, pairs, relation, kind_word, cell, tell, values, in_braces, one_value, only_value, cells_by, by_form, attach, with_cell, passed_form, use_step}
+use Rattle.prop_language.specs.Reading.{kind_names, by_names, is_by_in_range, passed_names, is_passed_in_range, command_in_range, command_in_form}
+use Rattle.prop_language.specs.Parts.{front, one_word, are_words, front_words, behind_equals, further, before_pairs, behind_by, given, before_by, judged, step_in_form, BeginsOpen}
 
 -- ---- values
 
@@ -53,8 +54,8 @@ opened : (t u : Token) (ts : List Token) → BeginsOpen ts → Contains (t ∷ u
 opened t u (Open ∷ ts) h = (2, omega arith, refl)
 opened t u ts h = absurd h
 
-pub opened_behind : (ts ts' rest : List Token) (p x : List ℕ) → ts ≡ Word p ∷ ts' → ts' ≡ Word x ∷ rest → BeginsOpen rest → Contains ts Open
-opened_behind ts ts' rest p x e f h = rw (e, f) (opened (Word p) (Word x) rest h)
+pub opened_behind : (ts rest : List Token) (p x : List ℕ) → ts ≡ Word p ∷ Word x ∷ rest → BeginsOpen rest → Contains ts Open
+opened_behind ts rest p x e h = rw e (opened (Word p) (Word x) rest h)
 
 -- ---- names
 
@@ -65,6 +66,122 @@ not_all p (x ∷ xs) y ys h = rw (not_all p xs y ys h) (never (p x))
     never : (b : Bool) → (b && false) ≡ false
     never true = refl
     never false = refl
+
+-- the refusal for names
+pub unnamed : {X : Type 0} (names : List (List ℕ)) (in_range : Bool) (read : X) (refusal : Refusal) → (refusal ≡ NotAName) × (list_all is_name names ≡ false) → judged names in_range read ≡ Err refusal
+unnamed names in_range read refusal h =
+    ap (λ b. cond (not b) (Err NotAName) (cond (not in_range) (Err NotANumber) (Ok read))) h.1 ∙ ap Err (sym h.0)
+
+pub all_named : {X : Type 0} (names : List (List ℕ)) (read : X) → list_all is_name names ≡ true → judged names true read ≡ Ok read
+all_named names read h =
+    ap (λ b. cond (not b) (Err NotAName) (cond (not true) (Err NotANumber) (Ok read))) h
+
+pub first_unnamed : (n : List ℕ) (xs : List (List ℕ)) → is_name n ≡ false → list_all is_name (n ∷ xs) ≡ false
+first_unnamed n xs h = rw h refl
+
+pub others_unnamed : (n : List ℕ) (xs : List (List ℕ)) → is_name n ≡ true → list_all is_name xs ≡ false → list_all is_name (n ∷ xs) ≡ false
+others_unnamed n xs e h = rw (e, h) refl
+
+pub both_named : (n : List ℕ) (xs : List (List ℕ)) → is_name n ≡ true → list_all is_name xs ≡ true → list_all is_name (n ∷ xs) ≡ true
+both_named n xs e h = rw (e, h) refl
+
+-- ---- forms
+
+-- the refusal of another form
+pub misread : (o : Option Command) (refusal : Refusal) → (refusal ≡ WrongForm) × (o ≡ None) → command_in_form o ≡ Err refusal
+misread o refusal h = ap command_in_form h.1 ∙ ap Err (sym h.0)
+
+-- there are no two words in front
+abbrev pub LacksTwo : List Token → Type 0
+LacksTwo ts = option_and_then (λ (found : List ℕ × List Token). front found.1) (front ts) ≡ None
+
+pub lacks_second_word : (ts behind : List Token) (a : List ℕ) → ts ≡ Word a ∷ behind → front behind ≡ None → LacksTwo ts
+lacks_second_word ts behind a e h = rw e h
+
+pub no_attach : (ts : List Token) → LacksTwo ts → attach ts ≡ None
+no_attach [] h = refl
+no_attach (Word a ∷ []) h = refl
+no_attach (Word a ∷ Word b ∷ ts) h = cc
+no_attach (Word a ∷ t ∷ ts) h = refl
+no_attach (t ∷ ts) h = refl
+
+pub no_use_step : (ts : List Token) → LacksTwo ts → use_step ts ≡ None
+no_use_step [] h = refl
+no_use_step (Word a ∷ []) h = refl
+no_use_step (Word a ∷ Word b ∷ ts) h = cc
+no_use_step (Word a ∷ t ∷ ts) h = refl
+no_use_step (t ∷ ts) h = refl
+
+pub no_tell : (ts : List Token) → LacksTwo ts → tell ts ≡ None
+no_tell [] h = refl
+no_tell (Word a ∷ []) h = refl
+no_tell (Word a ∷ Word b ∷ ts) h = cc
+no_tell (Word a ∷ t ∷ ts) h = refl
+no_tell (t ∷ ts) h = refl
+
+pub no_cell : (ts : List Token) → front ts ≡ None → cell ts ≡ None
+no_cell [] h = refl
+no_cell (Word a ∷ ts) h = cc
+no_cell (t ∷ ts) h = refl
+
+pub no_kind : (a : List ℕ) (ts : List Token) → one_word ts ≡ None → cell (Word a ∷ ts) ≡ None
+no_kind a [] h = refl
+no_kind a (Word b ∷ []) h = cc
+no_kind a (Word b ∷ t ∷ ts) h = refl
+no_kind a (t ∷ ts) h = refl
+
+-- a name in the place of the one word
+on_word_is : (made : List ℕ → Command) (ts : List Token) → on_word made ts ≡ option_map made (one_word ts)
+on_word_is made [] = refl
+on_word_is made (Word w ∷ []) = refl
+on_word_is made (Word w ∷ t ∷ ts) = refl
+on_word_is made (t ∷ ts) = refl
+
+-- why one word is refused
+abbrev pub NotOneName : List Token → Refusal → Type 0
+NotOneName ts refusal =
+    ((refusal ≡ WrongForm) × (one_word ts ≡ None)) ⊎ ((refusal ≡ NotAName) × (option_map is_name (one_word ts) ≡ Some false))
+
+pub name_misread : (made : List ℕ → Command) (ts : List Token) (refusal : Refusal) → ((w : List ℕ) → command_in_range (made w) ≡ judged (w ∷ []) true (Some (made w))) → NotOneName ts refusal → command_in_form (on_word made ts) ≡ Err refusal
+name_misread made ts refusal e (inl h) =
+    ap command_in_form (on_word_is made ts ∙ ap (option_map made) h.1) ∙ ap Err (sym h.0)
+name_misread made ts refusal e (inr h) = ap command_in_form (on_word_is made ts) ∙ at (one_word ts) h.1
+  where
+    at : (o : Option (List ℕ)) → option_map is_name o ≡ Some false → command_in_form (option_map made o) ≡ Err refusal
+    at None g = cc
+    at (Some w) g =
+        let no : is_name w ≡ false = cc in
+        e w ∙ unnamed (w ∷ []) true (Some (made w)) refusal (h.0, first_unnamed w [] no)
+
+pub needs_no_memory : {X : Type 0} (ts : List Token) (refusal : Refusal) (result : Result X Refusal) → NotOneName ts refusal → result ≡ Err refusal → result ≡ Err Memory → ⊥
+needs_no_memory ts refusal result (inl h) e g = cc (h.0, e, g)
+needs_no_memory ts refusal result (inr h) e g = cc (h.0, e, g)
+
+-- a cell's words
+pub cell_unnamed : (ts : List Token) (x k : List ℕ) (refusal : Refusal) → ts ≡ Word x ∷ Word k ∷ [] → (refusal ≡ NotAName) × (list_all is_name (x ∷ kind_names (kind_word k)) ≡ false) → command_in_form (cell ts) ≡ Err refusal
+cell_unnamed ts x k refusal e h =
+    ap (λ l. command_in_form (cell l)) e ∙ unnamed (x ∷ kind_names (kind_word k)) true (Some (Command.Cell x (kind_word k))) refusal h
+
+pub cell_read : (ts : List Token) (x k : List ℕ) (kind : KindWord) → ts ≡ Word x ∷ Word k ∷ [] → kind_word k ≡ kind → list_all is_name (x ∷ kind_names kind) ≡ true → command_in_form (cell ts) ≡ Ok (Some (Command.Cell x kind))
+cell_read ts x k kind e f h =
+    ap (λ l. command_in_form (cell l)) e ∙ ap (λ kind. command_in_form (Some (Command.Cell x kind))) f ∙ all_named (x ∷ kind_names kind) (Some (Command.Cell x kind)) h
+
+-- what is told
+pub nothing_told : (ts rest : List Token) (p x : List ℕ) (refusal : Refusal) → ts ≡ Word p ∷ Word x ∷ rest → (refusal ≡ Memory) ⊎ ((refusal ≡ WrongForm) × (only_value rest ≡ None)) → (refusal ≡ Memory) ⊎ (command_in_form (tell ts) ≡ Err refusal)
+nothing_told ts rest p x refusal e (inl memory) = inl memory
+nothing_told ts rest p x refusal e (inr h) =
+    inr (misread (tell ts) refusal (h.0, ap tell e ∙ ap (option_map (Command.Tell p x)) h.1))
+
+told : (ts rest : List Token) (p x : List ℕ) (v : Value) → ts ≡ Word p ∷ Word x ∷ rest → only_value rest ≡ Some v → tell ts ≡ Some (Command.Tell p x v)
+told ts rest p x v e f = ap tell e ∙ ap (option_map (Command.Tell p x)) f
+
+pub tell_unnamed : (ts rest : List Token) (p x : List ℕ) (v : Value) (refusal : Refusal) → ts ≡ Word p ∷ Word x ∷ rest → only_value rest ≡ Some v → (refusal ≡ NotAName) × (list_all is_name (p ∷ x ∷ []) ≡ false) → command_in_form (tell ts) ≡ Err refusal
+tell_unnamed ts rest p x v refusal e f h =
+    ap command_in_form (told ts rest p x v e f) ∙ unnamed (p ∷ x ∷ []) true (Some (Command.Tell p x v)) refusal h
+
+pub tell_read : (ts rest : List Token) (p x : List ℕ) (v : Value) → ts ≡ Word p ∷ Word x ∷ rest → only_value rest ≡ Some v → list_all is_name (p ∷ x ∷ []) ≡ true → command_in_form (tell ts) ≡ Ok (Some (Command.Tell p x v))
+tell_read ts rest p x v e f h =
+    ap command_in_form (told ts rest p x v e f) ∙ all_named (p ∷ x ∷ []) (Some (Command.Tell p x v)) h
 
 -- ---- cells, and what follows them
 
@@ -116,20 +233,20 @@ used names in_range made front None = Err WrongForm
 used names in_range made front (Some by) = judged (front ++ names by) (in_range by) (made by)
 
 -- the tokens begin with a name and a cell
-abbrev pub Uses : (ts ts' rest : List Token) (n x : List ℕ) → Type 0
-Uses ts ts' rest n x = (ts ≡ Word n ∷ ts') × (ts' ≡ Word x ∷ rest)
+abbrev pub Uses : (ts rest : List Token) (n x : List ℕ) → Type 0
+Uses ts rest n x = ts ≡ Word n ∷ Word x ∷ rest
 
-pub attach_used : (ts ts' rest : List Token) (n x : List ℕ) → Uses ts ts' rest n x → command_in_form (attach ts) ≡ used by_names is_by_in_range (λ by. Some (Command.Attach n (x ∷ before_by rest) by)) (n ∷ x ∷ before_by rest) (given by_form rest)
+pub attach_used : (ts rest : List Token) (n x : List ℕ) → Uses ts rest n x → command_in_form (attach ts) ≡ used by_names is_by_in_range (λ by. Some (Command.Attach n (x ∷ before_by rest) by)) (n ∷ x ∷ before_by rest) (given by_form rest)
 unfolding used
-attach_used ts ts' rest n x u = rw (u.0, u.1, cells_are by_form rest) (at (given by_form rest))
+attach_used ts rest n x u = rw (u, cells_are by_form rest) (at (given by_form rest))
   where
     at : (o : Option By) → command_in_form (option_map (λ (r : List (List ℕ) × By). Command.Attach n (x ∷ r.0) r.1) (option_map (λ by. (before_by rest, by)) o)) ≡ used by_names is_by_in_range (λ by. Some (Command.Attach n (x ∷ before_by rest) by)) (n ∷ x ∷ before_by rest) o
     at None = refl
     at (Some by) = refl
 
-pub step_used : (ts ts' rest : List Token) (n x : List ℕ) → Uses ts ts' rest n x → step_in_form (use_step ts) ≡ used passed_names is_passed_in_range (Step.Use n (x ∷ before_by rest)) (n ∷ x ∷ before_by rest) (given passed_form rest)
+pub step_used : (ts rest : List Token) (n x : List ℕ) → Uses ts rest n x → step_in_form (use_step ts) ≡ used passed_names is_passed_in_range (Step.Use n (x ∷ before_by rest)) (n ∷ x ∷ before_by rest) (given passed_form rest)
 unfolding used
-step_used ts ts' rest n x u = rw (u.0, u.1, cells_are passed_form rest) (at (given passed_form rest))
+step_used ts rest n x u = rw (u, cells_are passed_form rest) (at (given passed_form rest))
   where
     at : (o : Option Passed) → step_in_form (option_map (λ (r : List (List ℕ) × Passed). Step.Use n (x ∷ r.0) r.1) (option_map (λ by. (before_by rest, by)) o)) ≡ used passed_names is_passed_in_range (Step.Use n (x ∷ before_by rest)) (n ∷ x ∷ before_by rest) o
     at None = refl
@@ -141,32 +258,38 @@ module _ {P Y : Type 0} (names : P → List (List ℕ)) (in_range : P → Bool) 
   unfolding used
   use_misformed whole front o refusal w h = w ∙ ap (used names in_range made front) h.1 ∙ ap Err (sym h.0)
 
-  pub use_unnamed : (whole : Result Y Refusal) (n : List ℕ) (xs : List (List ℕ)) (o : Option P) (by : P) (refusal : Refusal) → whole ≡ used names in_range made (n ∷ xs) o → o ≡ Some by → (refusal ≡ NotAName) × (is_name n ≡ false) → whole ≡ Err refusal
+  pub names_refused : (whole : Result Y Refusal) (ns : List (List ℕ)) (o : Option P) (by : P) (refusal : Refusal) → whole ≡ used names in_range made ns o → o ≡ Some by → (refusal ≡ Memory) ⊎ ((refusal ≡ NotAName) × (list_all is_name ns ≡ false)) → (refusal ≡ Memory) ⊎ (whole ≡ Err refusal)
   unfolding used
-  use_unnamed whole n xs o by refusal w e h =
-      w ∙ ap (used names in_range made (n ∷ xs)) e ∙ unnamed_front (n ∷ xs) (names by) (in_range by) (made by) (rw h.1 refl) ∙ ap Err (sym h.0)
+  names_refused whole ns o by refusal w e (inl memory) = inl memory
+  names_refused whole ns o by refusal w e (inr h) = inr
+      (w ∙ ap (used names in_range made ns) e ∙ unnamed_front ns (names by) (in_range by) (made by) h.1 ∙ ap Err (sym h.0))
 
-  pub cells_refused : (whole : Result Y Refusal) (n : List ℕ) (xs : List (List ℕ)) (o : Option P) (by : P) (refusal : Refusal) → whole ≡ used names in_range made (n ∷ xs) o → o ≡ Some by → is_name n ≡ true → (refusal ≡ Memory) ⊎ ((refusal ≡ NotAName) × (list_all is_name xs ≡ false)) → (refusal ≡ Memory) ⊎ (whole ≡ Err refusal)
+  pub parameter_refused : (whole : Result Y Refusal) (ns : List (List ℕ)) (o : Option P) (by : P) (refusal : Refusal) → whole ≡ used names in_range made ns o → o ≡ Some by → list_all is_name ns ≡ true → judged (names by) (in_range by) by ≡ Err refusal → whole ≡ Err refusal
   unfolding used
-  cells_refused whole n xs o by refusal w e named (inl memory) = inl memory
-  cells_refused whole n xs o by refusal w e named (inr h) = inr
-      (w ∙ ap (used names in_range made (n ∷ xs)) e ∙ unnamed_front (n ∷ xs) (names by) (in_range by) (made by) (rw (named, h.1) refl) ∙ ap Err (sym h.0))
+  parameter_refused whole ns o by refusal w e h wrong =
+      w ∙ ap (used names in_range made ns) e ∙ named_front ns (names by) (in_range by) (made by) h ∙ part_refused (names by) (in_range by) by (made by) refusal wrong
 
-  pub parameter_refused : (whole : Result Y Refusal) (n : List ℕ) (xs : List (List ℕ)) (o : Option P) (by : P) (refusal : Refusal) → whole ≡ used names in_range made (n ∷ xs) o → o ≡ Some by → is_name n ≡ true → list_all is_name xs ≡ true → judged (names by) (in_range by) by ≡ Err refusal → whole ≡ Err refusal
+  pub use_read : (whole : Result Y Refusal) (ns : List (List ℕ)) (o : Option P) (by by' : P) → whole ≡ used names in_range made ns o → o ≡ Some by → list_all is_name ns ≡ true → judged (names by) (in_range by) by ≡ Ok by' → whole ≡ Ok (made by')
   unfolding used
-  parameter_refused whole n xs o by refusal w e named h wrong =
-      w ∙ ap (used names in_range made (n ∷ xs)) e ∙ named_front (n ∷ xs) (names by) (in_range by) (made by) (rw (named, h) refl) ∙ part_refused (names by) (in_range by) by (made by) refusal wrong
-
-  pub use_read : (whole : Result Y Refusal) (n : List ℕ) (xs : List (List ℕ)) (o : Option P) (by by' : P) → whole ≡ used names in_range made (n ∷ xs) o → o ≡ Some by → is_name n ≡ true → list_all is_name xs ≡ true → judged (names by) (in_range by) by ≡ Ok by' → whole ≡ Ok (made by')
-  unfolding used
-  use_read whole n xs o by by' w e named h right =
-      w ∙ ap (used names in_range made (n ∷ xs)) e ∙ named_front (n ∷ xs) (names by) (in_range by) (made by) (rw (named, h) refl) ∙ part_judged (names by) (in_range by) by by' made right
+  use_read whole ns o by by' w e h right =
+      w ∙ ap (used names in_range made ns) e ∙ named_front ns (names by) (in_range by) (made by) h ∙ part_judged (names by) (in_range by) by by' made right
 
 -- the refusal of a name among others
-pub name_refused : (xs : List (List ℕ)) (y by_word : List ℕ) (ts rest : List Token) (all : List (List ℕ)) (refusal : Refusal) → ts ≡ Word y ∷ rest → by_word ≡ codes "by" → false ≡ bytes_eq y by_word → xs ++ before_by ts ≡ all → (refusal ≡ NotAName) × (is_name y ≡ false) → (refusal ≡ Memory) ⊎ ((refusal ≡ NotAName) × (list_all is_name all ≡ false))
-name_refused xs y by_word ts rest all refusal e b f all_is h =
+pub name_refused : (xs : List (List ℕ)) (y by_word : List ℕ) (ts rest : List Token) (all : List (List ℕ)) (refusal : Refusal) → ts ≡ Word y ∷ rest → by_word ≡ codes "by" → false ≡ bytes_eq y by_word → xs ++ before_by ts ≡ all → (refusal ≡ Memory) ⊎ ((refusal ≡ NotAName) × (is_name y ≡ false)) → (refusal ≡ Memory) ⊎ ((refusal ≡ NotAName) × (list_all is_name all ≡ false))
+name_refused xs y by_word ts rest all refusal e b f all_is (inl memory) = inl memory
+name_refused xs y by_word ts rest all refusal e b f all_is (inr h) =
     let next : before_by ts ≡ y ∷ before_by rest = rw (e, ← b, ← f) refl in
     inr (h.0, ap (list_all is_name) (sym all_is ∙ ap (λ l. xs ++ l) next) ∙ not_all is_name xs y (before_by rest) h.1)
+
+-- the refusal of the first name
+pub first_refused : (y : List ℕ) (others : List (List ℕ)) (refusal : Refusal) → (refusal ≡ Memory) ⊎ ((refusal ≡ NotAName) × (is_name y ≡ false)) → (refusal ≡ Memory) ⊎ ((refusal ≡ NotAName) × (list_all is_name (y ∷ others) ≡ false))
+first_refused y others refusal (inl memory) = inl memory
+first_refused y others refusal (inr h) = inr (h.0, first_unnamed y others h.1)
+
+-- the refusal of the other names
+pub others_refused : (y : List ℕ) (others : List (List ℕ)) (refusal : Refusal) → is_name y ≡ true → (refusal ≡ Memory) ⊎ ((refusal ≡ NotAName) × (list_all is_name others ≡ false)) → (refusal ≡ Memory) ⊎ ((refusal ≡ NotAName) × (list_all is_name (y ∷ others) ≡ false))
+others_refused y others refusal e (inl memory) = inl memory
+others_refused y others refusal e (inr h) = inr (h.0, others_unnamed y others e h.1)
 
 -- ---- domains
 
@@ -184,37 +307,29 @@ no_words (t ∷ ts) h = refl
 abbrev pub Declares : (ts elements others : List Token) (n e : List ℕ) → Type 0
 Declares ts elements others n e = (ts ≡ Word n ∷ elements) × (elements ≡ Word e ∷ others)
 
--- the refusal of a mark among a domain's elements
-pub domain_misformed : (ts elements others : List Token) (n e : List ℕ) (refusal : Refusal) → Declares ts elements others n e → (refusal ≡ WrongForm) × (are_words others ≡ false) → command_in_form (domain ts) ≡ Err refusal
+-- a mark among a domain's elements
+pub domain_misformed : (ts elements others : List Token) (n e : List ℕ) (refusal : Refusal) → Declares ts elements others n e → (refusal ≡ WrongForm) × (are_words others ≡ false) → (refusal ≡ WrongForm) × (domain ts ≡ None)
 domain_misformed ts elements others n e refusal d h =
-    let none : domain ts ≡ None = rw (d.0, d.1) (ap (option_map (λ es. Command.Domain n (e ∷ es))) (no_words others h.1)) in
-    ap command_in_form none ∙ ap Err (sym h.0)
+    (h.0, rw (d.0, d.1) (ap (option_map (λ es. Command.Domain n (e ∷ es))) (no_words others h.1)))
 
-domain_formed : (ts elements others : List Token) (n e : List ℕ) → Declares ts elements others n e → are_words others ≡ true → domain ts ≡ Some (Command.Domain n (front_words elements))
+pub domain_formed : (ts elements others : List Token) (n e : List ℕ) → Declares ts elements others n e → are_words others ≡ true → domain ts ≡ Some (Command.Domain n (front_words elements))
 domain_formed ts elements others n e d h =
     rw (d.0, d.1) (ap (option_map (λ es. Command.Domain n (e ∷ es))) (words_are others h))
 
--- the refusal of a domain's name
-pub domain_unnamed : (ts elements others : List Token) (n e : List ℕ) (refusal : Refusal) → Declares ts elements others n e → are_words others ≡ true → (refusal ≡ NotAName) × (is_name n ≡ false) → command_in_form (domain ts) ≡ Err refusal
-domain_unnamed ts elements others n e refusal d h u =
-    let unnamed_domain : command_in_range (Command.Domain n (front_words elements)) ≡ Err NotAName = rw u.1 refl in
-    ap command_in_form (domain_formed ts elements others n e d h) ∙ unnamed_domain ∙ ap Err (sym u.0)
+-- the refusal of a domain's name or elements
+pub elements_refused : (ts elements : List Token) (n : List ℕ) (refusal : Refusal) → domain ts ≡ Some (Command.Domain n (front_words elements)) → (refusal ≡ Memory) ⊎ ((refusal ≡ NotAName) × (list_all is_name (n ∷ front_words elements) ≡ false)) → (refusal ≡ Memory) ⊎ (command_in_form (domain ts) ≡ Err refusal)
+elements_refused ts elements n refusal d (inl memory) = inl memory
+elements_refused ts elements n refusal d (inr h) =
+    inr (ap command_in_form d ∙ unnamed (n ∷ front_words elements) true (Some (Command.Domain n (front_words elements))) refusal h)
 
--- the refusal of a domain's elements
-pub elements_refused : (ts elements others : List Token) (n e : List ℕ) (refusal : Refusal) → Declares ts elements others n e → are_words others ≡ true → is_name n ≡ true → (refusal ≡ Memory) ⊎ ((refusal ≡ NotAName) × (list_all is_name (front_words elements) ≡ false)) → (refusal ≡ Memory) ⊎ (command_in_form (domain ts) ≡ Err refusal)
-elements_refused ts elements others n e refusal d h u (inl memory) = inl memory
-elements_refused ts elements others n e refusal d h u (inr unnamed_element) =
-    let unnamed_domain : command_in_range (Command.Domain n (front_words elements)) ≡ Err NotAName = rw (u, unnamed_element.1) refl in
-    inr (ap command_in_form (domain_formed ts elements others n e d h) ∙ unnamed_domain ∙ ap Err (sym unnamed_element.0))
-
-pub domain_read : (ts elements others : List Token) (n e n' : List ℕ) (es : List (List ℕ)) → Declares ts elements others n e → are_words others ≡ true → (n' ≡ n) × (is_name n ≡ true) → (es ≡ front_words elements) × (list_all is_name (front_words elements) ≡ true) → command_in_form (domain ts) ≡ Ok (Some (Command.Domain n' es))
-domain_read ts elements others n e n' es d h u v =
-    let in_range : command_in_range (Command.Domain n (front_words elements)) ≡ Ok (Some (Command.Domain n (front_words elements))) = rw (u.1, v.1) refl in
-    ap command_in_form (domain_formed ts elements others n e d h) ∙ in_range ∙ ap (λ m. Ok (Some (Command.Domain m (front_words elements)))) (sym u.0) ∙ ap (λ l. Ok (Some (Command.Domain n' l))) (sym v.0)
+pub domain_read : (ts elements : List Token) (n n' : List ℕ) (es : List (List ℕ)) → domain ts ≡ Some (Command.Domain n (front_words elements)) → (n' ≡ n) × (is_name n ≡ true) → (es ≡ front_words elements) × (list_all is_name (front_words elements) ≡ true) → command_in_form (domain ts) ≡ Ok (Some (Command.Domain n' es))
+domain_read ts elements n n' es d u v =
+    ap command_in_form d ∙ all_named (n ∷ front_words elements) (Some (Command.Domain n (front_words elements))) (both_named n (front_words elements) u.1 v.1) ∙ ap (λ m. Ok (Some (Command.Domain m (front_words elements)))) (sym u.0) ∙ ap (λ l. Ok (Some (Command.Domain n' l))) (sym v.0)
 
 -- the refusal of an element among others
-pub element_refused : (xs : List (List ℕ)) (y : List ℕ) (ts rest : List Token) (all : List (List ℕ)) (refusal : Refusal) → ts ≡ Word y ∷ rest → xs ++ front_words ts ≡ all → (refusal ≡ NotAName) × (is_name y ≡ false) → (refusal ≡ Memory) ⊎ ((refusal ≡ NotAName) × (list_all is_name all ≡ false))
-element_refused xs y ts rest all refusal e all_is h =
+pub element_refused : (xs : List (List ℕ)) (y : List ℕ) (ts rest : List Token) (all : List (List ℕ)) (refusal : Refusal) → ts ≡ Word y ∷ rest → xs ++ front_words ts ≡ all → (refusal ≡ Memory) ⊎ ((refusal ≡ NotAName) × (is_name y ≡ false)) → (refusal ≡ Memory) ⊎ ((refusal ≡ NotAName) × (list_all is_name all ≡ false))
+element_refused xs y ts rest all refusal e all_is (inl memory) = inl memory
+element_refused xs y ts rest all refusal e all_is (inr h) =
     inr (h.0, ap (list_all is_name) (sym all_is ∙ ap (λ l. xs ++ front_words l) e) ∙ not_all is_name xs y (front_words rest) h.1)
 
 -- ---- pairs
@@ -231,17 +346,14 @@ all_before : (ps qs : List (List ℕ × List ℕ)) → before_pairs ps (Some qs)
 all_before [] qs = refl
 all_before (p ∷ ps) qs = ap (join (Some p)) (all_before ps qs)
 
-no_first : (ts : List Token) → front ts ≡ None → pairs ts ≡ None
-no_first [] h = refl
-no_first (Word w ∷ ts) h = cc
-no_first (t ∷ ts) h = refl
+pub no_pair : (ts : List Token) → LacksTwo ts → pairs ts ≡ None
+no_pair [] h = refl
+no_pair (Word a ∷ []) h = refl
+no_pair (Word a ∷ Word b ∷ ts) h = cc
+no_pair (Word a ∷ t ∷ ts) h = refl
+no_pair (t ∷ ts) h = refl
 
-no_second : (a : List ℕ) (ts : List Token) → front ts ≡ None → pairs (Word a ∷ ts) ≡ None
-no_second a [] h = refl
-no_second a (Word w ∷ ts) h = cc
-no_second a (t ∷ ts) h = refl
-
-no_further : (a b : List ℕ) (ts : List Token) → further ts ≡ None → pairs (Word a ∷ Word b ∷ ts) ≡ None
+pub no_further : (a b : List ℕ) (ts : List Token) → further ts ≡ None → pairs (Word a ∷ Word b ∷ ts) ≡ None
 no_further a b [] h = cc
 no_further a b (Semicolon ∷ ts) h = cc
 no_further a b (t ∷ ts) h = refl
@@ -256,52 +368,67 @@ goes_on a b [] rest h = cc
 goes_on a b (Semicolon ∷ ts) rest h = let same : ts ≡ rest = cc in ap (λ l. join (Some (a, b)) (pairs l)) same
 goes_on a b (t ∷ ts) rest h = cc
 
+-- what a pair and what stands behind it say of all pairs
+abbrev pub ReadsPair : Option (Bor (List ℕ)) → List Token → List ℕ → List ℕ → Type 0
+ReadsPair behind ts a b =
+    MatchOption behind (pairs ts ≡ Some ((a, b) ∷ [])) (λ rest. pairs ts ≡ join (Some (a, b)) (pairs (tokens rest.now)))
+
+pub pair_read : (behind : Option (Bor (List ℕ))) (ts rest : List Token) (a b : List ℕ) → ts ≡ Word a ∷ Word b ∷ rest → further rest ≡ Some (option_map (λ rest. tokens rest.now) behind) → ReadsPair behind ts a b
+pair_read None ts rest a b e f = ap pairs e ∙ ends_with a b rest f
+pair_read (Some left) ts rest a b e f = ap pairs e ∙ goes_on a b rest (tokens left.now) f
+
 -- the pairs so far and those to come are all pairs
 abbrev pub Remain : (ps : List (List ℕ × List ℕ)) (ts all : List Token) → Type 0
 Remain ps ts all = before_pairs ps (pairs ts) ≡ pairs all
 
-none_remain : (ps : List (List ℕ × List ℕ)) (ts all : List Token) → Remain ps ts all → pairs ts ≡ None → pairs all ≡ None
-none_remain ps ts all r h = sym r ∙ ap (before_pairs ps) h ∙ none_after ps
+pub none_remain : (ps : List (List ℕ × List ℕ)) (ts all : List Token) (refusal : Refusal) → Remain ps ts all → (refusal ≡ WrongForm) × (pairs ts ≡ None) → (refusal ≡ Memory) ⊎ ((refusal ≡ WrongForm) × (pairs all ≡ None))
+none_remain ps ts all refusal r h = inr (h.0, sym r ∙ ap (before_pairs ps) h.1 ∙ none_after ps)
 
-pub lacks_first : (ps : List (List ℕ × List ℕ)) (ts all : List Token) (refusal : Refusal) → Remain ps ts all → (refusal ≡ WrongForm) × (front ts ≡ None) → (refusal ≡ Memory) ⊎ ((refusal ≡ WrongForm) × (pairs all ≡ None))
-lacks_first ps ts all refusal r h = inr (h.0, none_remain ps ts all r (no_first ts h.1))
+pub one_more_remains : (behind : Option (Bor (List ℕ))) (rest : Bor (List ℕ)) (ps qs : List (List ℕ × List ℕ)) (ts all : List Token) (a b : List ℕ) → behind ≡ Some rest → ReadsPair behind ts a b → Remain ps ts all → qs ≡ ps ++ (a, b) ∷ [] → Remain qs (tokens rest.now) all
+one_more_remains behind rest ps qs ts all a b at p r e =
+    let left : ReadsPair (Some rest) ts a b = subst (λ o. ReadsPair o ts a b) at p in
+    ap (λ l. before_pairs l (pairs (tokens rest.now))) e ∙ one_more ps (a, b) (pairs (tokens rest.now)) ∙ ap (before_pairs ps) (sym left) ∙ r
 
-pub lacks_second : (ps : List (List ℕ × List ℕ)) (ts all : List Token) (a : List ℕ) (behind : List Token) (refusal : Refusal) → Remain ps ts all → ts ≡ Word a ∷ behind → (refusal ≡ WrongForm) × (front behind ≡ None) → (refusal ≡ Memory) ⊎ ((refusal ≡ WrongForm) × (pairs all ≡ None))
-lacks_second ps ts all a behind refusal r e h =
-    inr (h.0, none_remain ps ts all r (ap pairs e ∙ no_second a behind h.1))
-
--- the tokens begin with a pair
-abbrev pub BeginsPair : (ts behind rest : List Token) (a b : List ℕ) → Type 0
-BeginsPair ts behind rest a b = (ts ≡ Word a ∷ behind) × (behind ≡ Word b ∷ rest)
-
-begun : (ts behind rest : List Token) (a b : List ℕ) → BeginsPair ts behind rest a b → pairs ts ≡ pairs (Word a ∷ Word b ∷ rest)
-begun ts behind rest a b p = ap pairs p.0 ∙ ap (λ l. pairs (Word a ∷ l)) p.1
-
-pub lacks_semicolon : (ps : List (List ℕ × List ℕ)) (ts all : List Token) (a b : List ℕ) (behind rest : List Token) (refusal : Refusal) → Remain ps ts all → BeginsPair ts behind rest a b → (refusal ≡ WrongForm) × (further rest ≡ None) → (refusal ≡ Memory) ⊎ ((refusal ≡ WrongForm) × (pairs all ≡ None))
-lacks_semicolon ps ts all a b behind rest refusal r p h =
-    inr (h.0, none_remain ps ts all r (begun ts behind rest a b p ∙ no_further a b rest h.1))
-
-pub one_more_remains : (ps qs : List (List ℕ × List ℕ)) (ts all : List Token) (a b : List ℕ) (behind rest left : List Token) → Remain ps ts all → BeginsPair ts behind rest a b → further rest ≡ Some (Some left) → qs ≡ ps ++ (a, b) ∷ [] → Remain qs left all
-one_more_remains ps qs ts all a b behind rest left r p f e =
-    ap (λ l. before_pairs l (pairs left)) e ∙ one_more ps (a, b) (pairs left) ∙ ap (before_pairs ps) (sym (begun ts behind rest a b p ∙ goes_on a b rest left f)) ∙ r
-
-pub no_more_remain : (ps qs : List (List ℕ × List ℕ)) (ts all : List Token) (a b : List ℕ) (behind rest : List Token) → Remain ps ts all → BeginsPair ts behind rest a b → further rest ≡ Some None → qs ≡ ps ++ (a, b) ∷ [] → pairs all ≡ Some qs
-no_more_remain ps qs ts all a b behind rest r p f e =
-    sym r ∙ ap (before_pairs ps) (begun ts behind rest a b p ∙ ends_with a b rest f) ∙ all_before ps ((a, b) ∷ []) ∙ ap Some (sym e)
+pub no_more_remain : (behind : Option (Bor (List ℕ))) (ps qs : List (List ℕ × List ℕ)) (ts all : List Token) (a b : List ℕ) → behind ≡ None → ReadsPair behind ts a b → Remain ps ts all → qs ≡ ps ++ (a, b) ∷ [] → pairs all ≡ Some qs
+no_more_remain behind ps qs ts all a b at p r e =
+    let last : ReadsPair None ts a b = subst (λ o. ReadsPair o ts a b) at p in
+    sym r ∙ ap (before_pairs ps) last ∙ all_before ps ((a, b) ∷ []) ∙ ap Some (sym e)
 
 -- ---- relations
 
-no_equals : (n d e : List ℕ) (ts : List Token) → behind_equals ts ≡ None → relation (Word n ∷ Word d ∷ Word e ∷ ts) ≡ None
+pub no_relation : (ts : List Token) → front ts ≡ None → relation ts ≡ None
+no_relation [] h = refl
+no_relation (Word w ∷ ts) h = cc
+no_relation (t ∷ ts) h = refl
+
+pub no_domains : (n : List ℕ) (ts : List Token) → LacksTwo ts → relation (Word n ∷ ts) ≡ None
+no_domains n [] h = refl
+no_domains n (Word a ∷ []) h = refl
+no_domains n (Word a ∷ Word b ∷ ts) h = cc
+no_domains n (Word a ∷ t ∷ ts) h = refl
+no_domains n (t ∷ ts) h = refl
+
+pub no_equals : (n d e : List ℕ) (ts : List Token) → behind_equals ts ≡ None → relation (Word n ∷ Word d ∷ Word e ∷ ts) ≡ None
 no_equals n d e [] h = refl
 no_equals n d e (Equals ∷ ts) h = cc
 no_equals n d e (t ∷ ts) h = refl
 
 -- the front of a relation
-abbrev pub Relates : (ts ts' ts'' rest : List Token) (n d e : List ℕ) → Type 0
-Relates ts ts' ts'' rest n d e = (ts ≡ Word n ∷ ts') × (ts' ≡ Word d ∷ ts'') × (ts'' ≡ Word e ∷ rest)
+abbrev pub Relates : (ts rest : List Token) (n d e : List ℕ) → Type 0
+Relates ts rest n d e = ts ≡ Word n ∷ Word d ∷ Word e ∷ Equals ∷ rest
 
--- the refusal where there is no equals sign
-pub relation_misformed : (ts ts' ts'' rest : List Token) (n d e : List ℕ) (refusal : Refusal) → Relates ts ts' ts'' rest n d e → (refusal ≡ WrongForm) × (behind_equals rest ≡ None) → command_in_form (relation ts) ≡ Err refusal
-relation_misformed ts ts' ts'' rest n d e refusal r h =
-    let none : relation ts ≡ None = rw (r.0, r.1, r.2) (no_equals n d e rest h.1) in
-    ap command_in_form none ∙ ap Err (sym h.0)
+pub pairs_refused : (ts rest : List Token) (n d e : List ℕ) (refusal : Refusal) → Relates ts rest n d e → (refusal ≡ Memory) ⊎ ((refusal ≡ WrongForm) × (pairs rest ≡ None)) → (refusal ≡ Memory) ⊎ (command_in_form (relation ts) ≡ Err refusal)
+pairs_refused ts rest n d e refusal r (inl memory) = inl memory
+pairs_refused ts rest n d e refusal r (inr h) =
+    inr (misread (relation ts) refusal (h.0, ap relation r ∙ ap (option_map (Command.Relation n d e)) h.1))
+
+related : (ts rest : List Token) (n d e : List ℕ) (ps : List (List ℕ × List ℕ)) → Relates ts rest n d e → pairs rest ≡ Some ps → relation ts ≡ Some (Command.Relation n d e ps)
+related ts rest n d e ps r h = ap relation r ∙ ap (option_map (Command.Relation n d e)) h
+
+pub relation_unnamed : (ts rest : List Token) (n d e : List ℕ) (ps : List (List ℕ × List ℕ)) (refusal : Refusal) → Relates ts rest n d e → pairs rest ≡ Some ps → (refusal ≡ NotAName) × (list_all is_name (n ∷ d ∷ e ∷ []) ≡ false) → command_in_form (relation ts) ≡ Err refusal
+relation_unnamed ts rest n d e ps refusal r f h =
+    ap command_in_form (related ts rest n d e ps r f) ∙ unnamed (n ∷ d ∷ e ∷ []) true (Some (Command.Relation n d e ps)) refusal h
+
+pub relation_read : (ts rest : List Token) (n d e : List ℕ) (ps : List (List ℕ × List ℕ)) → Relates ts rest n d e → pairs rest ≡ Some ps → list_all is_name (n ∷ d ∷ e ∷ []) ≡ true → command_in_form (relation ts) ≡ Ok (Some (Command.Relation n d e ps))
+relation_read ts rest n d e ps r f h =
+    ap command_in_form (related ts rest n d e ps r f) ∙ all_named (n ∷ d ∷ e ∷ []) (Some (Command.Relation n d e ps)) h

@@ -1,14 +1,14 @@
 //! Commands, as they stand on a line.
 
 /// What stands in a value's place: a word, or words in braces.
-#[derive(Debug, Drop)]
+#[derive(Drop)]
 pub enum Value<'a> {
     Bare(&'a [u8]),
     Braces(Vec<&'a [u8]>),
 }
 
 /// The word for a cell's kind: `span`, `truth`, `symbol`, or a domain's name.
-#[derive(Clone, Copy, Debug, PartialEq, Eq)]
+#[derive(Clone, Copy, PartialEq, Eq)]
 pub enum KindWord<'a> {
     Spans,
     Truths,
@@ -17,7 +17,7 @@ pub enum KindWord<'a> {
 }
 
 /// What follows `by`: nothing, a number from 1 to 1,000,000,000, or a relation's name.
-#[derive(Clone, Copy, Debug)]
+#[derive(Clone, Copy)]
 pub enum By<'a> {
     Nothing,
     Number(i64),
@@ -25,14 +25,14 @@ pub enum By<'a> {
 }
 
 /// What a step's use is given: what stands behind its `by`, as in a command, or behind `by *` what the definition itself is given.
-#[derive(Clone, Copy, Debug)]
+#[derive(Clone, Copy)]
 pub enum Passed<'a> {
     Said(By<'a>),
     Own,
 }
 
 /// A step of a definition: `local n KIND`, `local n like p`, or a use of a procedure or of an earlier definition on cells.
-#[derive(Debug, Drop)]
+#[derive(Drop)]
 pub enum Step<'a> {
     Local(&'a str, KindWord<'a>),
     Like(&'a str, &'a str),
@@ -42,7 +42,7 @@ pub enum Step<'a> {
 /// A command with its words and numbers as read, in the order in which they stand on the line: of `Tell` the premise, then the
 /// cell, of `Relation` the name, the two domains, and the pairs, whose words need not be names, and of `Define` the name, the
 /// parameters and the steps. `Silent` is a line that gets no reply.
-#[derive(Debug, Drop)]
+#[derive(Drop)]
 pub enum Command<'a> {
     Silent,
     Domain(&'a str, Vec<&'a str>),

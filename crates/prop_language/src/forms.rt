@@ -1,7 +1,7 @@
 //! The form of each command: what is read from the bytes behind its word.
-ghost use Rattle.std.specs.Prelude.{◌≡◌, ◌≢◌, ◌<◌, ◌∷◌, [], ◌⊎◌, IfOk, IfErr, OnOk, true, false, Contains, Ok, Err, None, Some, IfSome, length};
+ghost use Rattle.std.specs.Prelude.{◌≡◌, ◌≢◌, ◌<◌, ◌∷◌, ◌++◌, [], ◌⊎◌, MatchOption, IfOk, IfErr, OnOk, true, false, Contains, Ok, Err, None, Some, IfSome, length};
 ghost use Rattle.std.specs.List.{list_all};
-ghost use Rattle.std.specs.Option.{option_map};
+ghost use Rattle.std.specs.Option.{option_map, option_and_then};
 ghost use Rattle.prop_language.specs.Tokens.{tokens, Word, Open, Equals};
 ghost use Rattle.prop_language.specs.Names.{is_name};
 ghost use Rattle.prop_language.specs.Forms as forms;
@@ -65,6 +65,53 @@ fn only_words(bytes: &[u8]) -> Result<(), Refusal>
     Ok(())
 }
 
+/// The first two words, and what stands behind them.
+pub(crate) fn two_words(bytes: &[u8]) -> Result<((&[u8], &[u8]), &[u8]), Refusal>
+    ensures ok { IfOk result (λ found. tokens bytes.now ≡ Word found.0.0.now ∷ Word found.0.1.now ∷ tokens found.1.now) }
+    ensures err { IfErr result (λ refusal. (refusal ≡ Refusal.WrongForm) × (option_and_then (λ found. front found.1) (front (tokens bytes.now)) ≡ None)) }
+    ensures shorter { IfOk result (λ found. length found.1.now < length bytes.now) }
+{
+    let (first, rest) = word(bytes)?;
+    let (second, rest) = word(rest)?;
+    Ok(((first, second), rest))
+}
+
+/// Two words and no more.
+pub(crate) fn only_two_words(bytes: &[u8]) -> Result<(&[u8], &[u8]), Refusal>
+    ensures ok { IfOk result (λ found. tokens bytes.now ≡ Word found.0.now ∷ Word found.1.now ∷ []) }
+    ensures err { IfErr result (λ refusal. (refusal ≡ Refusal.WrongForm) × (forms.cell (tokens bytes.now) ≡ None)) }
+{
+    let (first, rest) = word(bytes)?;
+    Ok((first, only_word(rest)?))
+}
+
+/// One name and no more.
+fn only_name(bytes: &[u8]) -> Result<&str, Refusal>
+    ensures ok { IfOk result (λ name. (tokens bytes.now ≡ Word name.now ∷ []) × (is_name name.now ≡ true)) }
+    ensures err { IfErr result (λ refusal. ((refusal ≡ Refusal.WrongForm) × (one_word (tokens bytes.now) ≡ None)) ⊎ ((refusal ≡ Refusal.NotAName) × (option_map is_name (one_word (tokens bytes.now)) ≡ Some false))) }
+{
+    name(only_word(bytes)?)
+}
+
+/// The names that two words are.
+pub(crate) fn two_names<'a>(
+    first: &'a [u8],
+    second: &'a [u8],
+) -> Result<(&'a str, &'a str), Refusal>
+    ensures ok { IfOk result (λ names. (names.0.now ≡ first.now) × (names.1.now ≡ second.now) × (list_all is_name (first.now ∷ second.now ∷ []) ≡ true)) }
+    ensures err { IfErr result (λ refusal. (refusal ≡ Refusal.NotAName) × (list_all is_name (first.now ∷ second.now ∷ []) ≡ false)) }
+{
+    Ok((name(first)?, name(second)?))
+}
+
+/// Adds the name that the word is.
+fn push_name<'a>(names: &mut Vec<&'a str>, word: &'a [u8]) -> Result<(), Refusal>
+    ensures ok { OnOk result ((words names.new.items ≡ words names.old.items ++ word.now ∷ []) × (is_name word.now ≡ true)) }
+    ensures err { IfErr result (λ refusal. (refusal ≡ Refusal.Memory) ⊎ ((refusal ≡ Refusal.NotAName) × (is_name word.now ≡ false))) }
+{
+    names.push(name(word)?).map_err(|_| Refusal::Memory)
+}
+
 /// The words up to a mark, which are to be names.
 pub(crate) fn names_of<'a>(alloc: Global, bytes: &'a [u8]) -> Result<Vec<&'a str>, Refusal>
     ensures ok { IfOk result (λ found. (words found.items ≡ front_words (tokens bytes.now)) × (list_all is_name (front_words (tokens bytes.now)) ≡ true)) }
@@ -73,19 +120,28 @@ pub(crate) fn names_of<'a>(alloc: Global, bytes: &'a [u8]) -> Result<Vec<&'a str
     let mut found = Vec::new(alloc);
     let mut left = bytes;
     while let Some((Token::Word(word), rest)) = next_token(left) {
-        found.push(name(word)?).map_err(|_| Refusal::Memory)?;
+        push_name(&mut found, word)?;
         left = rest;
     }
     Ok(found)
+}
+
+/// The word of a domain, and its elements: words and no marks, of which there is at least one.
+fn domain_words(bytes: &[u8]) -> Result<(&[u8], &[u8]), Refusal>
+    ensures ok { IfOk result (λ found. forms.domain (tokens bytes.now) ≡ Some (commands.Command.Domain found.0.now (front_words (tokens found.1.now)))) }
+    ensures err { IfErr result (λ refusal. (refusal ≡ Refusal.WrongForm) × (forms.domain (tokens bytes.now) ≡ None)) }
+{
+    let (domain, elements) = word(bytes)?;
+    let (_first, others) = word(elements)?;
+    only_words(others)?;
+    Ok((domain, elements))
 }
 
 /// `domain D e ..`, behind its first word.
 pub fn domain<'a>(alloc: Global, rest: &'a [u8]) -> Result<Command<'a>, Refusal>
     ensures { Reads result (command_in_form (forms.domain (tokens rest.now))) }
 {
-    let (domain, elements) = word(rest)?;
-    let (_first, others) = word(elements)?;
-    only_words(others)?;
+    let (domain, elements) = domain_words(rest)?;
     let domain = name(domain)?;
     Ok(Command::Domain(domain, names_of(alloc, elements)?))
 }
@@ -114,6 +170,16 @@ fn further(bytes: &[u8]) -> Result<Option<&[u8]>, Refusal>
     }
 }
 
+/// The pair of words that the bytes begin with, and what stands behind a semicolon, if there is anything.
+fn pair(bytes: &[u8]) -> Result<((&[u8], &[u8]), Option<&[u8]>), Refusal>
+    ensures ok { IfOk result (λ found. MatchOption found.1 (forms.pairs (tokens bytes.now) ≡ Some ((found.0.0.now, found.0.1.now) ∷ [])) (λ rest. forms.pairs (tokens bytes.now) ≡ forms.join (Some (found.0.0.now, found.0.1.now)) (forms.pairs (tokens rest.now)))) }
+    ensures err { IfErr result (λ refusal. (refusal ≡ Refusal.WrongForm) × (forms.pairs (tokens bytes.now) ≡ None)) }
+    ensures shorter { IfOk result (λ found. IfSome found.1 (λ rest. length rest.now < length bytes.now)) }
+{
+    let ((first, second), rest) = two_words(bytes)?;
+    Ok(((first, second), further(rest)?))
+}
+
 /// Pairs of words, with a semicolon between each two pairs.
 fn pairs<'a>(alloc: Global, bytes: &'a [u8]) -> Result<Vec<(&'a [u8], &'a [u8])>, Refusal>
     ensures ok { IfOk result (λ found. forms.pairs (tokens bytes.now) ≡ Some (pairs_of found.items)) }
@@ -122,10 +188,8 @@ fn pairs<'a>(alloc: Global, bytes: &'a [u8]) -> Result<Vec<(&'a [u8], &'a [u8])>
     let mut found = Vec::new(alloc);
     let mut left = bytes;
     loop {
-        let (first, rest) = word(left)?;
-        let (second, rest) = word(rest)?;
-        found.push((first, second)).map_err(|_| Refusal::Memory)?;
-        let behind = further(rest)?;
+        let (pair, behind) = pair(left)?;
+        found.push(pair).map_err(|_| Refusal::Memory)?;
         match behind {
             Some(rest) => left = rest,
             None => return Ok(found),
@@ -133,15 +197,37 @@ fn pairs<'a>(alloc: Global, bytes: &'a [u8]) -> Result<Vec<(&'a [u8], &'a [u8])>
     }
 }
 
+/// The words of a relation and its two domains, and what stands behind the equals sign.
+fn relation_words(bytes: &[u8]) -> Result<(&[u8], (&[u8], &[u8]), &[u8]), Refusal>
+    ensures ok { IfOk result (λ found. tokens bytes.now ≡ Word found.0.now ∷ Word found.1.0.now ∷ Word found.1.1.now ∷ Equals ∷ tokens found.2.now) }
+    ensures err { IfErr result (λ refusal. (refusal ≡ Refusal.WrongForm) × (forms.relation (tokens bytes.now) ≡ None)) }
+{
+    let (relation, rest) = word(bytes)?;
+    let (domains, rest) = two_words(rest)?;
+    Ok((relation, domains, behind_equals(rest)?))
+}
+
+/// The names that three words are.
+fn three_names<'a>(
+    first: &'a [u8],
+    others: (&'a [u8], &'a [u8]),
+) -> Result<(&'a str, &'a str, &'a str), Refusal>
+    ensures ok { IfOk result (λ names. (names.0.now ≡ first.now) × (names.1.now ≡ others.entry.0.now) × (names.2.now ≡ others.entry.1.now) × (list_all is_name (first.now ∷ others.entry.0.now ∷ others.entry.1.now ∷ []) ≡ true)) }
+    ensures err { IfErr result (λ refusal. (refusal ≡ Refusal.NotAName) × (list_all is_name (first.now ∷ others.entry.0.now ∷ others.entry.1.now ∷ []) ≡ false)) }
+{
+    let first = name(first)?;
+    let (second, third) = two_names(others.0, others.1)?;
+    Ok((first, second, third))
+}
+
 /// `relation R D E = a b ; c d ..`, behind its first word.
 pub fn relation<'a>(alloc: Global, rest: &'a [u8]) -> Result<Command<'a>, Refusal>
     ensures { Reads result (command_in_form (forms.relation (tokens rest.now))) }
 {
-    let (relation, rest) = word(rest)?;
-    let (from, rest) = word(rest)?;
-    let (to, rest) = word(rest)?;
-    let pairs = pairs(alloc, behind_equals(rest)?)?;
-    Ok(Command::Relation(name(relation)?, name(from)?, name(to)?, pairs))
+    let (relation, domains, rest) = relation_words(rest)?;
+    let pairs = pairs(alloc, rest)?;
+    let (relation, from, to) = three_names(relation, domains)?;
+    Ok(Command::Relation(relation, from, to, pairs))
 }
 
 /// The kind that the word stands for: one of three with words of their own, and else the domain of that name.
@@ -160,14 +246,25 @@ pub(crate) fn kind_word(word: &[u8]) -> Result<KindWord<'_>, Refusal>
     }
 }
 
+/// The name and the kind that two words are.
+pub(crate) fn named_kind<'a>(
+    word: &'a [u8],
+    kind: &'a [u8],
+) -> Result<(&'a str, KindWord<'a>), Refusal>
+    ensures ok { IfOk result (λ found. (found.0.now ≡ word.now) × (forms.kind_word kind.now ≡ kind_of found.1) × (list_all is_name (word.now ∷ kind_names (kind_of found.1)) ≡ true)) }
+    ensures err { IfErr result (λ refusal. (refusal ≡ Refusal.NotAName) × (list_all is_name (word.now ∷ kind_names (forms.kind_word kind.now)) ≡ false)) }
+{
+    Ok((name(word)?, kind_word(kind)?))
+}
+
 /// `cell X KIND`, behind its first word.
 pub fn cell(rest: &[u8]) -> Result<Command<'_>, Refusal>
     ensures read { Reads result (command_in_form (forms.cell (tokens rest.now))) }
     ensures memory { result ≢ Err Refusal.Memory }
 {
-    let (cell, rest) = word(rest)?;
-    let kind = only_word(rest)?;
-    Ok(Command::Cell(name(cell)?, kind_word(kind)?))
+    let (cell, kind) = only_two_words(rest)?;
+    let (cell, kind) = named_kind(cell, kind)?;
+    Ok(Command::Cell(cell, kind))
 }
 
 /// `settle`, behind its first word.
@@ -184,7 +281,7 @@ pub fn kick(rest: &[u8]) -> Result<Command<'_>, Refusal>
     ensures read { Reads result (command_in_form (forms.on_word commands.Command.Kick (tokens rest.now))) }
     ensures memory { result ≢ Err Refusal.Memory }
 {
-    Ok(Command::Kick(name(only_word(rest)?)?))
+    Ok(Command::Kick(only_name(rest)?))
 }
 
 /// `bring P`, behind its first word.
@@ -192,7 +289,7 @@ pub fn bring(rest: &[u8]) -> Result<Command<'_>, Refusal>
     ensures read { Reads result (command_in_form (forms.on_word commands.Command.Bring (tokens rest.now))) }
     ensures memory { result ≢ Err Refusal.Memory }
 {
-    Ok(Command::Bring(name(only_word(rest)?)?))
+    Ok(Command::Bring(only_name(rest)?))
 }
 
 /// `ask X`, behind its first word.
@@ -200,7 +297,7 @@ pub fn ask(rest: &[u8]) -> Result<Command<'_>, Refusal>
     ensures read { Reads result (command_in_form (forms.on_word commands.Command.Ask (tokens rest.now))) }
     ensures memory { result ≢ Err Refusal.Memory }
 {
-    Ok(Command::Ask(name(only_word(rest)?)?))
+    Ok(Command::Ask(only_name(rest)?))
 }
 
 /// `why X`, behind its first word.
@@ -208,7 +305,7 @@ pub fn why(rest: &[u8]) -> Result<Command<'_>, Refusal>
     ensures read { Reads result (command_in_form (forms.on_word commands.Command.Why (tokens rest.now))) }
     ensures memory { result ≢ Err Refusal.Memory }
 {
-    Ok(Command::Why(name(only_word(rest)?)?))
+    Ok(Command::Why(only_name(rest)?))
 }
 
 /// `worldview`, behind its first word.
@@ -259,16 +356,29 @@ pub(crate) fn names_before_by<'a>(
     ensures err { IfErr result (λ refusal. (refusal ≡ Refusal.Memory) ⊎ ((refusal ≡ Refusal.NotAName) × (list_all is_name (first.now ∷ before_by (tokens rest.now)) ≡ false))) }
 {
     let mut names = Vec::new(alloc);
-    names.push(name(first)?).map_err(|_| Refusal::Memory)?;
+    push_name(&mut names, first)?;
     let mut left = rest;
     while let Some((Token::Word(word), rest)) = next_token(left) {
         if word == b"by".as_slice() {
             break;
         }
-        names.push(name(word)?).map_err(|_| Refusal::Memory)?;
+        push_name(&mut names, word)?;
         left = rest;
     }
     Ok(names)
+}
+
+/// The name of what is used, and those of the cells that it is used on, up to a `by`.
+pub(crate) fn used_names<'a>(
+    alloc: Global,
+    first_two: (&'a [u8], &'a [u8]),
+    rest: &'a [u8],
+) -> Result<(&'a str, Vec<&'a str>), Refusal>
+    ensures ok { IfOk result (λ found. (found.0.now ≡ first_two.entry.0.now) × (words found.1.items ≡ first_two.entry.1.now ∷ before_by (tokens rest.now)) × (list_all is_name (first_two.entry.0.now ∷ first_two.entry.1.now ∷ before_by (tokens rest.now)) ≡ true)) }
+    ensures err { IfErr result (λ refusal. (refusal ≡ Refusal.Memory) ⊎ ((refusal ≡ Refusal.NotAName) × (list_all is_name (first_two.entry.0.now ∷ first_two.entry.1.now ∷ before_by (tokens rest.now)) ≡ false))) }
+{
+    let used = name(first_two.0)?;
+    Ok((used, names_before_by(alloc, first_two.1, rest)?))
 }
 
 /// The parameter that a word behind `by` is: a number from 1 to 1,000,000,000 where it begins as one, and else a name.
@@ -290,11 +400,9 @@ pub(crate) fn parameter(word: Option<&[u8]>) -> Result<By<'_>, Refusal>
 pub fn attach<'a>(alloc: Global, rest: &'a [u8]) -> Result<Command<'a>, Refusal>
     ensures { Reads result (command_in_form (forms.attach (tokens rest.now))) }
 {
-    let (procedure, rest) = word(rest)?;
-    let (first, rest) = word(rest)?;
+    let (front, rest) = two_words(rest)?;
     let by = word_behind_by(rest)?;
-    let procedure = name(procedure)?;
-    let cells = names_before_by(alloc, first, rest)?;
+    let (procedure, cells) = used_names(alloc, front, rest)?;
     Ok(Command::Attach(procedure, cells, parameter(by)?))
 }
 
@@ -356,8 +464,8 @@ pub fn tell<'a>(alloc: Global, rest: &'a [u8]) -> Result<Command<'a>, Refusal>
     ensures read { Reads result (command_in_form (forms.tell (tokens rest.now))) }
     ensures memory { (result ≡ Err Refusal.Memory) → Contains (tokens rest.now) Open }
 {
-    let (premise, rest) = word(rest)?;
-    let (cell, rest) = word(rest)?;
+    let ((premise, cell), rest) = two_words(rest)?;
     let value = only_value(alloc, rest)?;
-    Ok(Command::Tell(name(premise)?, name(cell)?, value))
+    let (premise, cell) = two_names(premise, cell)?;
+    Ok(Command::Tell(premise, cell, value))
 }

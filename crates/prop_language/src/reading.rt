@@ -40,7 +40,7 @@ fn is_silent(text: &[u8]) -> bool
 }
 
 /// The first word of a command.
-#[derive(Clone, Copy, Debug, PartialEq, Eq)]
+#[derive(Clone, Copy)]
 enum CommandWord {
     Domain,
     Relation,

@@ -11,7 +11,8 @@ ghost use Rattle.prop_language.specs.Parts.{behind_word, given, passed_said, pas
 
 use crate::command::{Command, Passed, Step};
 use crate::forms::{
-    behind_by, end, kind_word, names_before_by, names_of, only_word, parameter, word,
+    behind_by, end, named_kind, names_of, only_two_words, only_word, parameter, two_names,
+    two_words, used_names, word,
 };
 use crate::names::name;
 use crate::tokens::{Token, next_token};
@@ -19,7 +20,7 @@ use prop_lattice::Refusal;
 use std::alloc::Global;
 
 /// What stands behind a step's `by`: nothing or a word, which is not judged yet, as in a command, or the star.
-#[derive(Clone, Copy, Debug)]
+#[derive(Clone, Copy)]
 enum Given<'a> {
     Said(Option<&'a [u8]>),
     Own,
@@ -40,9 +41,7 @@ fn local_of_kind(bytes: &[u8]) -> Option<(&[u8], &[u8])>
     ensures { option_map (λ found. commands.Step.Local found.0.now (forms.kind_word found.1.now)) result ≡ forms.local_of_kind (tokens bytes.now) }
 {
     let rest = behind_word(bytes, b"local")?;
-    let (local, rest) = word(rest).ok()?;
-    let kind = only_word(rest).ok()?;
-    Some((local, kind))
+    only_two_words(rest).ok()
 }
 
 /// The words of the two names, where the step is `local n like p`.
@@ -97,11 +96,9 @@ fn use_step<'a>(alloc: Global, bytes: &'a [u8]) -> Result<Step<'a>, Refusal>
     ensures ok { IfOk result (λ step. step_in_form (forms.use_step (tokens bytes.now)) ≡ Ok (step_of step)) }
     ensures err { IfErr result (λ refusal. (refusal ≡ Refusal.Memory) ⊎ (step_in_form (forms.use_step (tokens bytes.now)) ≡ Err refusal)) }
 {
-    let (used, rest) = word(bytes)?;
-    let (first, rest) = word(rest)?;
+    let (front, rest) = two_words(bytes)?;
     let given = given_behind_by(rest)?;
-    let used = name(used)?;
-    let cells = names_before_by(alloc, first, rest)?;
+    let (used, cells) = used_names(alloc, front, rest)?;
     Ok(Step::Use(used, cells, passed(given)?))
 }
 
@@ -111,10 +108,12 @@ fn step<'a>(alloc: Global, bytes: &'a [u8]) -> Result<Step<'a>, Refusal>
     ensures err { IfErr result (λ refusal. (refusal ≡ Refusal.Memory) ⊎ (step_in_form (forms.step (tokens bytes.now)) ≡ Err refusal)) }
 {
     if let Some((local, kind)) = local_of_kind(bytes) {
-        return Ok(Step::Local(name(local)?, kind_word(kind)?));
+        let (local, kind) = named_kind(local, kind)?;
+        return Ok(Step::Local(local, kind));
     }
     if let Some((local, like)) = local_like(bytes) {
-        return Ok(Step::Like(name(local)?, name(like)?));
+        let (local, like) = two_names(local, like)?;
+        return Ok(Step::Like(local, like));
     }
     use_step(alloc, bytes)
 }

@@ -6,7 +6,7 @@ ghost use Rattle.prop_language.specs.Tokens.{tokens, is_blank, mark_of};
 ghost use Rattle.prop_language.specs.Parts.{token_of, IsInWord, StartsPast, EndsWord};
 
 /// A word or a mark.
-#[derive(Clone, Copy, Debug, PartialEq, Eq)]
+#[derive(Clone, Copy)]
 pub enum Token<'a> {
     Word(&'a [u8]),
     Open,

@@ -12,7 +12,7 @@ use prop_lattice::{Info, Kind, Refusal};
 use prop_sets::Domain;
 
 /// What a value says at a cell: an information, or of a symbol its name, whose number the caller knows.
-#[derive(Clone, Copy, Debug, PartialEq, Eq)]
+#[derive(Clone, Copy, PartialEq, Eq)]
 pub enum Meant<'a> {
     Known(Info),
     Name(&'a str),
@@ -82,11 +82,15 @@ pub fn read_value<'a>(value: &Value<'a>, kind: Kind, domain: &Domain) -> Result<
     ensures ok { IfOk result (λ meant. value_said kind domain.now (value_of value.now) ≡ Ok (meant_of meant)) }
     ensures err { IfErr result (λ refusal. value_said kind domain.now (value_of value.now) ≡ Err refusal) }
 {
-    match (kind, value) {
-        (Kind::Span, Value::Bare(word)) => Ok(Meant::Known(read_span(word)?)),
-        (Kind::Set(_), Value::Bare(word)) => Ok(Meant::Known(read_set(domain, &[*word])?)),
-        (Kind::Set(_), Value::Braces(words)) => Ok(Meant::Known(read_set(domain, words)?)),
-        (Kind::Symbol, Value::Bare(word)) => Ok(Meant::Name(name(word)?)),
-        _ => Err(Refusal::WrongKind),
+    match value {
+        Value::Bare(word) => match kind {
+            Kind::Span => Ok(Meant::Known(read_span(word)?)),
+            Kind::Set(_) => Ok(Meant::Known(read_set(domain, &[*word])?)),
+            Kind::Symbol => Ok(Meant::Name(name(word)?)),
+        },
+        Value::Braces(words) => match kind {
+            Kind::Set(_) => Ok(Meant::Known(read_set(domain, words)?)),
+            _ => Err(Refusal::WrongKind),
+        },
     }
 }
