@@ -1,13 +1,18 @@
 -- What an answer names, from the text that was made for it.
-use Rattle.std.proofs.Common.{◌≡◌, ◌∙◌, ℕ, List, inl, inr, sym}
+use Rattle.std.proofs.Common.{◌≡◌, ◌∙◌, ◌⊎◌, ℕ, List, Some, Ok, inl, inr, refl, sym}
 use Rattle.prop_lattice.specs.declared.info.Info.{Info}
 use Rattle.prop_lattice.specs.declared.refusal.Refusal.TheVariants.{Memory}
 use Rattle.prop_premises.specs.Origins.{Origin, believed_in}
 use Rattle.prop_cells.specs.Data.{Data, beliefs, IsLeanAt, IsClash}
 use Rattle.prop_vocabulary.specs.Vocabulary.{Vocabulary}
-use Rattle.prop_engine.specs.Answers.{Answer, Says, Text, Refused}
+use Rattle.prop_lattice.specs.declared.refusal.Refusal.{Refusal}
+use Rattle.prop_language.specs.Commands as commands
+use Rattle.prop_engine.specs.Answers.{Answer, Says, Silent, Done, Text, Refused}
+use Rattle.prop_workbench.specs.declared.asking.Question.{Question}
+use Rattle.prop_workbench.specs.declared.asking.Question.TheVariants.{Settle, Worldview, Ask, Why}
+use Rattle.prop_workbench.specs.Questions.{command_of}
 use Rattle.prop_workbench.specs.Machine.{State, text_at}
-use Rattle.prop_workbench.specs.Reasons.{IsLeanExplanation, IsLeanContradiction}
+use Rattle.prop_workbench.specs.Reasons.{IsLeanExplanation, IsLeanContradiction, IsLeanReply, IsLeanAnswer}
 use Rattle.prop_workbench.specs.Sessions.{state_from}
 use Rattle.prop_texts.specs.Texts.{equation, because, contradiction_text}
 use Rattle.prop_vocabulary.specs.Cells.{CellNames}
@@ -32,3 +37,28 @@ lean_contradiction d s support answer clash says text e = record {
   clash = clash;
   text_is = the_text answer (contradiction_text s.premises support) text says e;
 }
+
+-- ---- to each question
+
+-- what a text of an explanation is lean by, its answer is
+pub lean_answer : (d : Data) (s : State) (name : List ℕ) (answer : Answer) → ((text : List ℕ) → answer ≡ Text text → IsLeanReply d s name text) → IsLeanAnswer d s (Ok (Some (commands.Command.Why name))) answer
+lean_answer d s name Silent lean = tt
+lean_answer d s name Done lean = tt
+lean_answer d s name (Text text) lean = lean text refl
+lean_answer d s name (Refused refusal) lean = tt
+
+pub lean_refused : (d : Data) (s : State) (question : Question) (refusal : Refusal) → IsLeanAnswer d s (Ok (Some (command_of question))) (Refused refusal)
+lean_refused d s Settle refusal = tt
+lean_refused d s Worldview refusal = tt
+lean_refused d s (Ask cell name) refusal = tt
+lean_refused d s (Why cell name) refusal = tt
+
+pub lean_contradicted : (d : Data) (s : State) (question : Question) (answer : Answer) → ((text : List ℕ) → answer ≡ Text text → IsLeanContradiction d s text) → IsLeanAnswer d s (Ok (Some (command_of question))) answer
+lean_contradicted d s Settle answer lean = tt
+lean_contradicted d s Worldview answer lean = tt
+lean_contradicted d s (Ask cell name) answer lean = tt
+lean_contradicted d s (Why cell name) answer lean = lean_answer d s name.now answer (λ text e. inr (lean text e))
+
+pub lean_bare : (d : Data) (s : State) (question : Question) (answer : Answer) → (question ≡ Settle) ⊎ (question ≡ Worldview) → IsLeanAnswer d s (Ok (Some (command_of question))) answer
+lean_bare d s question answer (inl e) = rw e tt
+lean_bare d s question answer (inr e) = rw e tt

@@ -9,18 +9,31 @@ use prop_scheduler::{Order, Run, run};
 use prop_texts::{because, contradiction_reply, text_reply, value_reply, worldview_reply};
 use std::alloc::AllocError;
 
+/// What a command that runs the network asks; a cell stands with its number and its name.
+#[derive(Clone, Copy)]
+pub(crate) enum Question<'a> {
+    /// Whether the network comes to rest.
+    Settle,
+    /// Which premises are believed and which are not.
+    Worldview,
+    /// What follows for a cell.
+    Ask(usize, &'a str),
+    /// What follows for a cell, and for which premises.
+    Why(usize, &'a str),
+}
+
 impl<R: Rule + Drop, O: Order + Drop> Session<R, O> {
-    ghost use Rattle.std.specs.Prelude.{◌≡◌, ◌≤◌, ◌<◌, ℕ, List, IfOk, length};
+    ghost use Rattle.std.specs.Prelude.{◌≡◌, ◌<◌, ℕ, List, Ok, Some, IfOk, length};
     ghost use Rattle.prop_premises.specs.Origins.{believed_in};
-    ghost use Rattle.prop_cells.specs.Data.{beliefs, IsClash};
-    ghost use Rattle.prop_scheduler.specs.Ends.{IfClash};
+    ghost use Rattle.prop_cells.specs.Data.{beliefs};
     ghost use Rattle.prop_scheduler.specs.Turns.{IsSettled};
     ghost use Rattle.prop_language.specs.Commands as commands;
     ghost use Rattle.prop_engine.specs.Answers.{answer_of, Says, Text};
     ghost use Rattle.prop_workbench.specs.Machine.{text_at};
     ghost use Rattle.prop_texts.specs.Texts.{equation};
-    ghost use Rattle.prop_workbench.specs.Reasons.{IsLeanExplanation, IsLeanReply};
-    ghost use Rattle.prop_workbench.specs.Running.{Outcome, outcome_of, MayEnd, Explained};
+    ghost use Rattle.prop_workbench.specs.Questions.{command_of, IsNamed, HasRun, MaySay};
+    ghost use Rattle.prop_workbench.specs.Reasons.{IsLeanExplanation, IsLeanAnswer};
+    ghost use Rattle.prop_workbench.specs.Running.{Settled, Unsettled, Explained};
     ghost use Rattle.prop_workbench.specs.Sessions.{state_of, steps_of, library_of, IsSound, IsMeant};
     ghost use Rattle.prop_workbench.specs.Steps.{Obeys};
 
@@ -37,11 +50,7 @@ impl<R: Rule + Drop, O: Order + Drop> Session<R, O> {
         ensures premises { self.new.premises ≡ self.old.premises }
         ensures worldview { self.new.worldview ≡ self.old.worldview }
         ensures state { state_of self.new ≡ state_of self.old }
-        ensures ends { IfOk result (λ r. MayEnd (library_of R.value_of self.old) (state_of self.old) (outcome_of r.0)) }
-        ensures clash { IfOk result (λ r. IfClash r.0 (IsClash (believed_in self.old.premises) self.new.network.cells)) }
-        ensures settled { IfOk result (λ r. r.0 ≡ Run.Quiet → IsSettled (library_of R.value_of self.old) (believed_in self.old.premises) self.new.network.cells) }
-        ensures within { IfOk result (λ r. r.1 ≤ (state_of self.old).limit) }
-        ensures spent { IfOk result (λ r. r.0 ≡ Run.Spent → r.1 ≡ (state_of self.old).limit) }
+        ensures run { IfOk result (λ r. HasRun R.value_of self.new r.0 r.1) }
     {
         run(
             self.alloc,
@@ -53,6 +62,70 @@ impl<R: Rule + Drop, O: Order + Drop> Session<R, O> {
         )
     }
 
+    /// Runs the network and answers the question, and tells in how many steps.
+    pub(crate) fn answered(&mut self, question: Question<'_>) -> (Reply, u64)
+        requires means { IsMeant R.value_of self.old }
+        requires sound { IsSound R.value_of self.old }
+        requires named { IsNamed (state_of self.old) question }
+        ensures same { self.new.network.library ≡ self.old.network.library }
+        ensures sound { IsSound R.value_of self.new }
+        ensures steps { steps_of self.new ≡ steps_of self.old }
+        ensures step { Obeys (library_of R.value_of self.old) (state_of self.old) (command_of question.entry) (answer_of result.0) (state_of self.new) result.1 }
+        ensures lean { IsLeanAnswer self.new.network.cells (state_of self.old) (Ok (Some (command_of question.entry))) (answer_of result.0) }
+    {
+        match self.run_network() {
+            Ok((end, steps)) => (self.reply_to(question, &end, steps), steps),
+            Err(AllocError) => (Reply::Refused(Refusal::Memory), 0),
+        }
+    }
+
+    /// The answer to a question where a run of so many steps ended so.
+    fn reply_to(&self, question: Question<'_>, end: &Run, steps: u64) -> Reply
+        requires sound { IsSound R.value_of self.now }
+        requires named { IsNamed (state_of self.now) question }
+        requires run { HasRun R.value_of self.now end.now steps }
+        ensures step { Obeys (library_of R.value_of self.now) (state_of self.now) (command_of question.entry) (answer_of result) (state_of self.now) steps }
+        ensures lean { IsLeanAnswer self.now.network.cells (state_of self.now) (Ok (Some (command_of question.entry))) (answer_of result) }
+    {
+        match end {
+            Run::Quiet => self.settled(question),
+            Run::Clash(support) => contradiction_reply(self.alloc, &self.premises, support),
+            Run::Spent => self.unsettled(question),
+        }
+    }
+
+    /// The answer to a question where the network is at rest.
+    fn settled(&self, question: Question<'_>) -> Reply
+        requires sound { IsSound R.value_of self.now }
+        requires named { IsNamed (state_of self.now) question }
+        requires rest { IsSettled (library_of R.value_of self.now) (believed_in self.now.premises) self.now.network.cells }
+        ensures says { (steps : ℕ) → MaySay (library_of R.value_of self.now) (state_of self.now) (command_of question.entry) Settled steps (answer_of result) }
+        ensures lean { IsLeanAnswer self.now.network.cells (state_of self.now) (Ok (Some (command_of question.entry))) (answer_of result) }
+    {
+        match question {
+            Question::Settle => text_reply(self.alloc, "settled"),
+            Question::Worldview => worldview_reply(self.alloc, &self.premises),
+            Question::Ask(cell, name) => self.value_of(cell, name, self.belief(cell), ""),
+            Question::Why(cell, name) => self.explained(cell, name, ""),
+        }
+    }
+
+    /// The answer to a question where every step of the limit was used.
+    fn unsettled(&self, question: Question<'_>) -> Reply
+        requires sound { IsSound R.value_of self.now }
+        requires named { IsNamed (state_of self.now) question }
+        ensures says { (steps : ℕ) → steps ≡ (state_of self.now).limit → MaySay (library_of R.value_of self.now) (state_of self.now) (command_of question.entry) Unsettled steps (answer_of result) }
+        ensures lean { IsLeanAnswer self.now.network.cells (state_of self.now) (Ok (Some (command_of question.entry))) (answer_of result) }
+    {
+        let mark = " unsettled";
+        self.network.data().well_made();
+        match question {
+            Question::Settle | Question::Worldview => text_reply(self.alloc, "unsettled"),
+            Question::Ask(cell, name) => self.value_of(cell, name, self.belief(cell), mark),
+            Question::Why(cell, name) => self.explained(cell, name, mark),
+        }
+    }
+
     /// What follows for a cell.
     pub(crate) fn ask(&mut self, name: &str) -> (Reply, u64)
         requires means { IsMeant R.value_of self.old }
@@ -62,58 +135,9 @@ impl<R: Rule + Drop, O: Order + Drop> Session<R, O> {
         ensures steps { steps_of self.new ≡ steps_of self.old }
         ensures step { Obeys (library_of R.value_of self.old) (state_of self.old) (commands.Command.Ask name.now) (answer_of result.0) (state_of self.new) result.1 }
     {
-        let cell = match self.names.find(name) {
-            Some(cell) => cell,
-            None => return (Reply::Refused(Refusal::NoSuchCell), 0),
-        };
-        let (end, steps) = match self.run_network() {
-            Ok(ended) => ended,
-            Err(AllocError) => return (Reply::Refused(Refusal::Memory), 0),
-        };
-        self.network.data().well_made();
-        let info = self.network.belief(cell, &self.worldview);
-        match end {
-            Run::Quiet => (self.value_of(cell, name, info, ""), steps),
-            Run::Clash(support) => (
-                contradiction_reply(self.alloc, &self.premises, &support),
-                steps,
-            ),
-            Run::Spent => (self.value_of(cell, name, info, " unsettled"), steps),
-        }
-    }
-
-    /// An information of a cell, with the mark behind it.
-    fn value_of(&self, cell: usize, name: &str, info: Info, mark: &str) -> Reply
-        requires { cell < length self.now.network.cells.kinds }
-        ensures { Says (answer_of result) (equation name.now (text_at (state_of self.now) cell info) mark.now) }
-    {
-        let kind = self.network.data().kind(cell).kind;
-        match self.words.value_text(self.alloc, kind, info) {
-            Ok(value) => value_reply(self.alloc, name, &value, mark),
-            Err(AllocError) => Reply::Refused(Refusal::Memory),
-        }
-    }
-
-    /// Whether the network comes to rest.
-    pub(crate) fn settle(&mut self) -> (Reply, u64)
-        requires means { IsMeant R.value_of self.old }
-        requires sound { IsSound R.value_of self.old }
-        ensures same { self.new.network.library ≡ self.old.network.library }
-        ensures sound { IsSound R.value_of self.new }
-        ensures steps { steps_of self.new ≡ steps_of self.old }
-        ensures step { Obeys (library_of R.value_of self.old) (state_of self.old) commands.Command.Settle (answer_of result.0) (state_of self.new) result.1 }
-    {
-        let (end, steps) = match self.run_network() {
-            Ok(ended) => ended,
-            Err(AllocError) => return (Reply::Refused(Refusal::Memory), 0),
-        };
-        match end {
-            Run::Quiet => (text_reply(self.alloc, "settled"), steps),
-            Run::Clash(support) => (
-                contradiction_reply(self.alloc, &self.premises, &support),
-                steps,
-            ),
-            Run::Spent => (text_reply(self.alloc, "unsettled"), steps),
+        match self.names.find(name) {
+            Some(cell) => self.answered(Question::Ask(cell, name)),
+            None => (Reply::Refused(Refusal::NoSuchCell), 0),
         }
     }
 
@@ -125,24 +149,32 @@ impl<R: Rule + Drop, O: Order + Drop> Session<R, O> {
         ensures sound { IsSound R.value_of self.new }
         ensures steps { steps_of self.new ≡ steps_of self.old }
         ensures step { Obeys (library_of R.value_of self.old) (state_of self.old) (commands.Command.Why name.now) (answer_of result.0) (state_of self.new) result.1 }
-        ensures lean { (text : List ℕ) → answer_of result.0 ≡ Text text → IsLeanReply self.new.network.cells (state_of self.old) name.now text }
+        ensures lean { IsLeanAnswer self.new.network.cells (state_of self.old) (Ok (Some (commands.Command.Why name.now))) (answer_of result.0) }
     {
-        let cell = match self.names.find(name) {
-            Some(cell) => cell,
-            None => return (Reply::Refused(Refusal::NoSuchCell), 0),
-        };
-        let (end, steps) = match self.run_network() {
-            Ok(ended) => ended,
-            Err(AllocError) => return (Reply::Refused(Refusal::Memory), 0),
-        };
-        self.network.data().well_made();
-        match end {
-            Run::Quiet => (self.explained(cell, name, ""), steps),
-            Run::Clash(support) => (
-                contradiction_reply(self.alloc, &self.premises, &support),
-                steps,
-            ),
-            Run::Spent => (self.explained(cell, name, " unsettled"), steps),
+        match self.names.find(name) {
+            Some(cell) => self.answered(Question::Why(cell, name)),
+            None => (Reply::Refused(Refusal::NoSuchCell), 0),
+        }
+    }
+
+    /// What is believed of a cell.
+    fn belief(&self, cell: usize) -> Info
+        requires sound { IsSound R.value_of self.now }
+        requires cell { cell < length self.now.network.cells.kinds }
+        ensures { result ≡ beliefs (believed_in self.now.premises) self.now.network.cells.contents cell }
+    {
+        self.network.belief(cell, &self.worldview)
+    }
+
+    /// An information of a cell, with the mark behind it.
+    fn value_of(&self, cell: usize, name: &str, info: Info, mark: &str) -> Reply
+        requires { cell < length self.now.network.cells.kinds }
+        ensures { Says (answer_of result) (equation name.now (text_at (state_of self.now) cell info) mark.now) }
+    {
+        let kind = self.network.data().kind(cell).kind;
+        match self.words.value_text(self.alloc, kind, info) {
+            Ok(value) => value_reply(self.alloc, name, &value, mark),
+            Err(AllocError) => Reply::Refused(Refusal::Memory),
         }
     }
 
@@ -160,29 +192,6 @@ impl<R: Rule + Drop, O: Order + Drop> Session<R, O> {
         match because(self.alloc, &self.premises, mark, &why.support) {
             Ok(mark) => self.value_of(cell, name, why.value, &mark),
             Err(AllocError) => Reply::Refused(Refusal::Memory),
-        }
-    }
-
-    /// Which premises are believed and which are not, once the network has come to rest.
-    pub(crate) fn tell_worldview(&mut self) -> (Reply, u64)
-        requires means { IsMeant R.value_of self.old }
-        requires sound { IsSound R.value_of self.old }
-        ensures same { self.new.network.library ≡ self.old.network.library }
-        ensures sound { IsSound R.value_of self.new }
-        ensures steps { steps_of self.new ≡ steps_of self.old }
-        ensures step { Obeys (library_of R.value_of self.old) (state_of self.old) commands.Command.Worldview (answer_of result.0) (state_of self.new) result.1 }
-    {
-        let (end, steps) = match self.run_network() {
-            Ok(ended) => ended,
-            Err(AllocError) => return (Reply::Refused(Refusal::Memory), 0),
-        };
-        match end {
-            Run::Quiet => (worldview_reply(self.alloc, &self.premises), steps),
-            Run::Clash(support) => (
-                contradiction_reply(self.alloc, &self.premises, &support),
-                steps,
-            ),
-            Run::Spent => (text_reply(self.alloc, "unsettled"), steps),
         }
     }
 }

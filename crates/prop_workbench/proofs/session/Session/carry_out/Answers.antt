@@ -1,18 +1,6 @@
-use Rattle.std.proofs.Common.{◌≡◌, ℕ, List, Some, Ok, refl}
-use Rattle.prop_cells.specs.Data.{Data}
-use Rattle.prop_language.specs.Commands as commands
-use Rattle.prop_engine.specs.Answers.{Answer, Silent, Done, Text, Refused}
-use Rattle.prop_workbench.specs.Machine.{State}
-use Rattle.prop_workbench.specs.Reasons.{IsLeanReply, IsLeanAnswer}
+use Rattle.std.proofs.Common.{refl}
 use Rattle.prop_workbench.proofs.WordLemmas.{some_elements}
 use Rattle.prop_workbench.proofs.session.Session.carry_out.Goals as goal
-
--- what a text of an explanation is lean by, its answer is
-lean_answer : (d : Data) (s : State) (name : List ℕ) (answer : Answer) → ((text : List ℕ) → answer ≡ Text text → IsLeanReply d s name text) → IsLeanAnswer d s (Ok (Some (commands.Command.Why name))) answer
-lean_answer d s name Silent lean = tt
-lean_answer d s name Done lean = tt
-lean_answer d s name (Text text) lean = lean text refl
-lean_answer d s name (Refused refusal) lean = tt
 
 pub domain-requires-clause-some : goal.domain-requires-clause-some
 domain-requires-clause-some g c = rw c.deref.ensures.value (some_elements c.in-Domain.name.now c.in-Domain.elements.items (rw c.in-Domain.is at c.requires.some))
@@ -78,7 +66,7 @@ pub returns-in-Bring-clause-lean : goal.returns-in-Bring-clause-lean
 returns-in-Bring-clause-lean g c = rw c.in-Bring.is tt
 
 pub returns-in-Settle-clause-step : goal.returns-in-Settle-clause-step
-returns-in-Settle-clause-step g c = rw c.in-Settle.is c.settle.ensures.step
+returns-in-Settle-clause-step g c = rw c.in-Settle.is c.answered.ensures.step
 
 pub returns-in-Settle-clause-lean : goal.returns-in-Settle-clause-lean
 returns-in-Settle-clause-lean g c = rw c.in-Settle.is tt
@@ -93,10 +81,10 @@ pub returns-in-Why-clause-step : goal.returns-in-Why-clause-step
 returns-in-Why-clause-step g c = rw c.in-Why.is c.why.ensures.step
 
 pub returns-in-Why-clause-lean : goal.returns-in-Why-clause-lean
-returns-in-Why-clause-lean g c = rw c.in-Why.is (lean_answer _ _ _ _ c.why.ensures.lean)
+returns-in-Why-clause-lean g c = rw c.in-Why.is c.why.ensures.lean
 
 pub returns-in-Worldview-clause-step : goal.returns-in-Worldview-clause-step
-returns-in-Worldview-clause-step g c = rw c.in-Worldview.is c.tell_worldview.ensures.step
+returns-in-Worldview-clause-step g c = rw c.in-Worldview.is c.answered-in-Worldview.ensures.step
 
 pub returns-in-Worldview-clause-lean : goal.returns-in-Worldview-clause-lean
 returns-in-Worldview-clause-lean g c = rw c.in-Worldview.is tt

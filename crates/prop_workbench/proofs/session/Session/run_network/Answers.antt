@@ -2,9 +2,8 @@ use Rattle.std.proofs.Common.{ap, sym}
 use Rattle.prop_premises.specs.Sets.{set_of}
 use Rattle.prop_premises.specs.Origins.{believed_in}
 use Rattle.prop_procedures.specs.Kept.{stored_of}
-use Rattle.prop_workbench.specs.Sessions.{state_from}
 use Rattle.prop_workbench.proofs.PremiseLemmas.{same_set, under_way_at}
-use Rattle.prop_workbench.proofs.AskLemmas.{may_end, state_run}
+use Rattle.prop_workbench.proofs.AskLemmas.{has_run}
 use Rattle.prop_workbench.proofs.session.Session.run_network.Goals as goal
 
 pub run-requires-clause-under_way : goal.run-requires-clause-under_way
@@ -27,19 +26,8 @@ returns-clause-sound g c =
       roomy = rw (c.run.ensures.room, ap (λ d. d.instances) rest) c.requires.sound.roomy;
     }
 
-pub returns-clause-ends : goal.returns-clause-ends
-returns-clause-ends g c =
+pub returns-clause-run : goal.returns-clause-run
+returns-clause-run g c =
     let s = c.args.self.now in
-    let library = stored_of g.R.Rule.value_of s.network.library in
-    may_end library (state_from s.names s.words s.definitions s.premises s.network.cells s.limit) s.names s.words s.definitions s.premises c.run.new.network.cells s.limit (set_of s.worldview) c.requires.sound.worldview
-    (state_run s.names s.words s.definitions s.premises s.network.cells c.run.new.network.cells s.limit c.run.ensures.rest) c.run.result (rw c.run.ensures.same at c.run.ensures.quiet) (rw c.run.ensures.same at c.run.ensures.conflict)
-
-pub returns-clause-settled : goal.returns-clause-settled
-returns-clause-settled g c =
-    let s = c.args.self.now in
-    rw (c.run.ensures.same, same_set (set_of s.worldview) (believed_in s.premises) c.requires.sound.worldview) at c.run.ensures.quiet
-
-pub returns-clause-clash : goal.returns-clause-clash
-returns-clause-clash g c =
-    let s = c.args.self.now in
-    rw (same_set (set_of s.worldview) (believed_in s.premises) c.requires.sound.worldview) at c.run.ensures.clash
+    let believed = same_set (set_of s.worldview) (believed_in s.premises) c.requires.sound.worldview in
+    has_run g.R.Rule.value_of _ c.run.result (rw believed at c.run.ensures.quiet) (rw believed at c.run.ensures.conflict) (rw believed at c.run.ensures.clash) c.run.ensures.steps c.run.ensures.spent

@@ -1,0 +1,70 @@
+use Rattle.std.proofs.Common.{◌≡◌, ◌<◌, codes, length, refl, inl, inr, Some}
+use Rattle.prop_premises.specs.Origins.{believed_in}
+use Rattle.prop_procedures.specs.Kept.{stored_of}
+use Rattle.prop_cells.specs.Data.{beliefs}
+use Rattle.prop_language.specs.Commands as commands
+use Rattle.prop_vocabulary.specs.Cells.{cell_named}
+use Rattle.prop_vocabulary.proofs.CellLookups.{of_named}
+use Rattle.prop_workbench.specs.Running.{Unsettled}
+use Rattle.prop_workbench.specs.Sessions.{state_of}
+use Rattle.prop_workbench.proofs.AskLemmas.{may_say_unsettled, may_say_value, may_explain, unsettled_value}
+use Rattle.prop_workbench.proofs.ReasonLemmas.{lean_answer, lean_bare}
+use Rattle.prop_workbench.proofs.session.Session.unsettled.Goals as goal
+
+pub belief-requires-clause-cell : goal.belief-requires-clause-cell
+belief-requires-clause-cell g c =
+    let s = c.args.self.now in
+    let named : cell_named s.names c.in-Ask.name.now ≡ Some c.in-Ask.cell = rw c.in-Ask.is at c.requires.named in
+    of_named (λ k. k < length s.network.cells.kinds) s.names c.in-Ask.name.now c.in-Ask.cell c.requires.sound.named named
+
+pub value_of-requires : goal.value_of-requires
+value_of-requires g c =
+    let s = c.args.self.now in
+    let named : cell_named s.names c.in-Ask.name.now ≡ Some c.in-Ask.cell = rw c.in-Ask.is at c.requires.named in
+    of_named (λ k. k < length s.network.cells.kinds) s.names c.in-Ask.name.now c.in-Ask.cell c.requires.sound.named named
+
+pub explained-requires-clause-cell : goal.explained-requires-clause-cell
+explained-requires-clause-cell g c =
+    let s = c.args.self.now in
+    let named : cell_named s.names c.in-Why.name.now ≡ Some c.in-Why.cell = rw c.in-Why.is at c.requires.named in
+    of_named (λ k. k < length s.network.cells.kinds) s.names c.in-Why.name.now c.in-Why.cell c.requires.sound.named named
+
+pub belief-requires-clause-sound : goal.belief-requires-clause-sound
+belief-requires-clause-sound g c = c.requires.sound
+
+pub explained-requires-clause-sound : goal.explained-requires-clause-sound
+explained-requires-clause-sound g c = c.requires.sound
+
+pub returns-in-Settle-clause-says : goal.returns-in-Settle-clause-says
+returns-in-Settle-clause-says g c =
+    let s = c.args.self.now in
+    λ steps all. may_say_unsettled (stored_of g.R.Rule.value_of s.network.library) (state_of s) c.args.question _ steps c.in-Settle.is all c.text_reply.ensures
+
+pub returns-in-Ask-clause-says : goal.returns-in-Ask-clause-says
+returns-in-Ask-clause-says g c =
+    let s = c.args.self.now in
+    let library = stored_of g.R.Rule.value_of s.network.library in
+    let named : cell_named s.names c.in-Ask.name.now ≡ Some c.in-Ask.cell = rw c.in-Ask.is at c.requires.named in
+    let value = unsettled_value library s.names s.words s.definitions s.premises s.network.cells s.limit c.in-Ask.cell c.in-Ask.name.now c.belief.result named c.requires.sound.named c.requires.sound.under_way.kept (rw c.data.ensures at c.well_made.ensures) c.belief.ensures in
+    λ steps all. rw c.in-Ask.is (may_say_value library (state_of s) (commands.Command.Ask c.in-Ask.name.now) Unsettled c.in-Ask.name.now c.in-Ask.cell c.belief.result (codes " unsettled") _ steps named value (λ text r. (r, all)) c.value_of.ensures)
+
+pub returns-in-Why-clause-says : goal.returns-in-Why-clause-says
+returns-in-Why-clause-says g c =
+    let s = c.args.self.now in
+    let library = stored_of g.R.Rule.value_of s.network.library in
+    let named : cell_named s.names c.in-Why.name.now ≡ Some c.in-Why.cell = rw c.in-Why.is at c.requires.named in
+    let v = beliefs (believed_in s.premises) s.network.cells.contents c.in-Why.cell in
+    let value = unsettled_value library s.names s.words s.definitions s.premises s.network.cells s.limit c.in-Why.cell c.in-Why.name.now v named c.requires.sound.named c.requires.sound.under_way.kept (rw c.data.ensures at c.well_made.ensures) refl in
+    λ steps all. rw c.in-Why.is (may_explain library (state_of s) (commands.Command.Why c.in-Why.name.now) Unsettled c.in-Why.name.now c.in-Why.cell v (codes " unsettled") _ steps named value (λ text r. (r, all)) c.explained.ensures.explained)
+
+pub returns-in-Settle-clause-lean : goal.returns-in-Settle-clause-lean
+returns-in-Settle-clause-lean g c = lean_bare c.args.self.now.network.cells (state_of c.args.self.now) c.args.question _ c.in-Settle.is
+
+pub returns-in-Ask-clause-lean : goal.returns-in-Ask-clause-lean
+returns-in-Ask-clause-lean g c = rw c.in-Ask.is tt
+
+pub returns-in-Why-clause-lean : goal.returns-in-Why-clause-lean
+returns-in-Why-clause-lean g c =
+    let s = c.args.self.now in
+    let named : cell_named s.names c.in-Why.name.now ≡ Some c.in-Why.cell = rw c.in-Why.is at c.requires.named in
+    rw c.in-Why.is (lean_answer _ _ _ _ (λ text e. inl (c.in-Why.cell, named, inr (c.explained.ensures.lean text e))))

@@ -1,0 +1,48 @@
+-- What a command that runs the network asks, and what may be said to it.
+use Rattle.std.specs.Prelude.{◌≡◌, ℕ, ◌≤◌, List, Some, ⊤, ◌⊎◌}
+use Rattle.prop_lattice.specs.declared.info.Info.{Info}
+use Rattle.prop_lattice.specs.declared.refusal.Refusal.TheVariants.{Memory}
+use Rattle.prop_premises.specs.Origins.{believed_in}
+use Rattle.prop_procedures.specs.declared.shape.Param.{Param}
+use Rattle.prop_procedures.specs.Stored.{Stored}
+use Rattle.prop_cells.specs.Data.{IsClash}
+use Rattle.prop_scheduler.specs.Ends.{IfClash}
+use Rattle.prop_scheduler.specs.Turns.{IsSettled}
+use Rattle.prop_scheduler.specs.declared.outcome.Run.{Run}
+use Rattle.prop_scheduler.specs.declared.outcome.Run.TheVariants.{Quiet, Spent}
+use Rattle.prop_language.specs.Commands as commands
+use Rattle.prop_language.specs.Commands.{Command}
+use Rattle.prop_vocabulary.specs.Cells.{cell_named}
+use Rattle.prop_engine.specs.Answers.{Answer, Text, Refused}
+use Rattle.prop_workbench.specs.declared.asking.Question.{Question}
+use Rattle.prop_workbench.specs.declared.asking.Question.TheVariants.{Settle, Worldview, Ask, Why}
+use Rattle.prop_workbench.specs.declared.session.Session.{Session}
+use Rattle.prop_workbench.specs.Machine.{State}
+use Rattle.prop_workbench.specs.Running.{Outcome, outcome_of, MayEnd, Replies}
+use Rattle.prop_workbench.specs.Sessions.{state_of, library_of}
+
+-- the command that asks so
+abbrev pub command_of : Question → Command
+command_of Settle = commands.Command.Settle
+command_of Worldview = commands.Command.Worldview
+command_of (Ask cell name) = commands.Command.Ask name.now
+command_of (Why cell name) = commands.Command.Why name.now
+
+-- the cell that is asked for is the one of that name
+abbrev pub IsNamed : State → Question → Type 0
+IsNamed s Settle = ⊤
+IsNamed s Worldview = ⊤
+IsNamed s (Ask cell name) = cell_named s.names name.now ≡ Some cell
+IsNamed s (Why cell name) = cell_named s.names name.now ≡ Some cell
+
+-- a run of so many steps ended so, and left the session
+pub record HasRun {R O : Type 0} {X : Type 0} {F : X → Type 0} {g : _} (value : R → Param → List Info → Info) (s : Session R O X F g) (end : Run) (steps : ℕ) : Type 0 where
+  pub ends : MayEnd (library_of value s) (state_of s) (outcome_of end)
+  pub clash : IfClash end (IsClash (believed_in s.premises) s.network.cells)
+  pub settled : end ≡ Quiet → IsSettled (library_of value s) (believed_in s.premises) s.network.cells
+  pub within : steps ≤ (state_of s).limit
+  pub spent : end ≡ Spent → steps ≡ (state_of s).limit
+
+-- the answer is a text that the machine may reply where a run ended so, or memory was refused
+abbrev pub MaySay : List Stored → State → Command → Outcome → ℕ → Answer → Type 0
+MaySay library s command outcome steps answer = ((text : List ℕ) × Replies library s command outcome steps text × (answer ≡ Text text)) ⊎ (answer ≡ Refused Memory)
