@@ -13,4 +13,4 @@ pub use functions::{adder, copier, divider, multiplier, rooter, squarer, subtrac
 pub use kit::{KITS, Kit};
 pub use linking::{coimager, imager};
 pub use logic::{conjoin_back, conjoiner, disjoin_back, disjoiner, inverter, passer};
-pub use prelude::PRELUDE;
+pub use prelude::{PRELUDE, prelude_is_stated};

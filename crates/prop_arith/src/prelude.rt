@@ -1,4 +1,5 @@
 //! The prelude: compounds of the kit's procedures that work in all directions.
+ghost use Rattle.prop_arith.specs.Prelude.{PreludeIsStated};
 
 /// The definitions that a session begins with, a line of the workbench's language each, in order.
 pub const PRELUDE: [&'static str; 12] = [
@@ -15,3 +16,8 @@ pub const PRELUDE: [&'static str; 12] = [
     "define or x y z = disjoiner x y z ; disjoin_back z y x ; disjoin_back z x y",
     "define link x y = imager x y by * ; coimager y x by *",
 ];
+
+/// The lines are those that the specification states.
+pub fn prelude_is_stated()
+    ensures { PreludeIsStated }
+{}

@@ -1,5 +1,10 @@
 -- Which refusal of a list comes first.
-use Rattle.std.proofs.Common.{◌≡◌, ◌∙◌, ◌||◌, Bool, true, false, List, [], ◌∷◌, Option, Some, None, cond, map, refl, sym, ap}
+use Rattle.std.proofs.Common.{◌≡◌, ◌∙◌, ℕ, ◌+◌, ◌<◌, ◌≤◌, ◌||◌, Bool, true, false, List, [], ◌∷◌, All, Option, Some, None, map, length, take, get_or, is_none, refl, sym, ap, subst}
+use Rattle.std.specs.Prelude.{slice_get}
+use Rattle.std.specs.Option.{option_map_or}
+use Rattle.std.proofs.lemmas.List.{take_all}
+use Rattle.std.proofs.lemmas.List.Folds.{list_any_at, list_any_more}
+use Rattle.prop_procedures.specs.Fitting.{fitting_param}
 use Rattle.std.specs.List.{list_any}
 use Rattle.prop_lattice.specs.declared.refusal.Refusal.{Refusal}
 use Rattle.prop_lattice.specs.declared.refusal.Refusal.TheVariants.{WrongKind, WrongParameter}
@@ -36,6 +41,33 @@ neither r s false false e = (refl, refl)
 pub list_any-map : {X Y : Type 0} (f : X → Y) (p : Y → Bool) (xs : List X) → list_any p (map f xs) ≡ list_any (λ x. p (f x)) xs
 list_any-map f p [] = refl
 list_any-map f p (x ∷ xs) = ap (λ b. p (f x) || b) (list_any-map f p xs)
+
+-- ---- looking for the first that is so
+
+module _ {X : Type 0} (xs : List X) (i : ℕ) (x : X) (l : i < length xs) (at : x ≡ get_or xs i x) where
+  -- what all are, this one is
+  pub all_here : (P : X → Type 0) → All P xs → P x
+  all_here P h = subst P (sym at) (h i x l)
+
+  -- this one is so
+  pub found_here : (p : X → Bool) (b : Bool) → b ≡ p x → b ≡ true → true ≡ list_any p xs
+  found_here p b e t = sym (list_any_at p xs i x l (ap p (sym at) ∙ sym e ∙ t))
+
+  -- this one is not either
+  pub not_yet : (p : X → Bool) (b : Bool) → b ≡ p x → b ≡ false → list_any p (take i xs) ≡ false → list_any p (take (i + 1) xs) ≡ false
+  not_yet p b e f h = list_any_more p xs i x l ∙ (λ j. h j || (ap p (sym at) ∙ sym e ∙ f) j)
+
+pub none_found : {X : Type 0} (p : X → Bool) (xs : List X) (i : ℕ) → length xs ≤ i → list_any p (take i xs) ≡ false → false ≡ list_any p xs
+none_found p xs i l h = sym h ∙ ap (list_any p) (take_all i xs l)
+
+-- what is said of an instance by its procedure
+module _ (library : List Stored) (mean : Passing → Option Param) (x : Placed Passing) (n : ℕ) (s : Stored) (same : n ≡ x.procedure) (at : slice_get library n ≡ Some s) where
+  there : slice_get library x.procedure ≡ Some s
+  there = ap (slice_get library) (sym same) ∙ at
+
+  pub misgiven_is : (b : Bool) (need : _) (given : Passing) → need ≡ s.need → given ≡ x.given → b ≡ is_none (fitting_param need (mean given)) → b ≡ is_misgiven library (meant mean x)
+  misgiven_is b need given n g e =
+      e ∙ (λ i. is_none (fitting_param (n i) (mean (g i)))) ∙ sym (ap (λ o. option_map_or (λ (p : Stored). is_none (fitting_param p.need (mean x.given))) o false) there)
 
 -- ---- whether what a use stands for fits
 

@@ -1,9 +1,9 @@
 -- What is handed out for a use is what it stands for.
-use Rattle.std.proofs.Common.{◌≡◌, ◌∙◌, ℕ, zero, suc, ◌+◌, ◌<◌, ◌≤◌, List, [], ◌∷◌, ◌++◌, All, false, length, map, get_or, take, Option, Some, None, refl, sym, ap, arith, inl, inr}
+use Rattle.std.proofs.Common.{◌≡◌, ◌∙◌, ℕ, zero, suc, ◌+◌, ◌<◌, List, [], ◌∷◌, ◌++◌, All, length, map, get_or, take, Option, Some, None, refl, sym, ap, arith, inl, inr}
 use Rattle.std.specs.Prelude.{slice_get, IfSome}
-use Rattle.std.specs.Option.{option_and_then, option_map_or}
-use Rattle.std.proofs.lemmas.List.{length-map, length-append, get_or-map, map_more, map-append, take_at}
-use Rattle.std.proofs.lemmas.List.Elements.{All-head, All-tail, All-push, All-weaker}
+use Rattle.std.specs.Option.{option_map_or}
+use Rattle.std.proofs.lemmas.List.{length-map, length-append, get_or-map, map_more, map-append}
+use Rattle.std.proofs.lemmas.List.Elements.{All-head, All-tail, All-weaker}
 use Rattle.std.proofs.lemmas.Option.{slice_get_cases}
 use Rattle.prop_procedures.specs.declared.shape.Kinded.{Kinded}
 use Rattle.prop_procedures.specs.declared.shape.Param.{Param}
@@ -14,7 +14,7 @@ use Rattle.prop_compound.specs.declared.flat.Placed as instances
 use Rattle.prop_compound.specs.declared.flat.Flat.{Flat}
 use Rattle.prop_compound.specs.Expansion.{Walk, Placed, meant, all_meant}
 use Rattle.prop_compound.specs.Flattened.{param_at, placed_of, cells_of, expansion_of_flat, IsInstanceOver, IsFlatOver}
-use Rattle.prop_compound.specs.Kept.{IsRight, AreRight}
+use Rattle.prop_compound.specs.Kept.{AreRight}
 
 -- the place is there, where there is one
 abbrev pub IsPlaceIn : List Param → Option ℕ → Type 0
@@ -45,10 +45,9 @@ places_still params more xs h = All-weaker (λ (x : instances.Placed). IsPlaceIn
 -- one instance more
 pub place_more : (mean : Passing → Option Param) (params params' : List Param) (more : List Param) (walk : List (Placed Passing)) (i : ℕ) (x : Placed Passing) (xs xs' : List instances.Placed) (y : instances.Placed) →
     params' ≡ params ++ more → All (λ (x : instances.Placed). IsPlaceIn params x.param) xs → map (placed_of params) xs ≡ map (meant mean) (take i walk) → i < length walk → x ≡ get_or walk i x →
-    y.procedure ≡ x.procedure → param_at params' y.param ≡ mean x.given → cells_of y ≡ x.cells → xs' ≡ xs ++ y ∷ [] → map (placed_of params') xs' ≡ map (meant mean) (take (i + 1) walk)
-place_more mean params params' more walk i x xs xs' y grown there same l at procedure given cells pushed =
+    placed_of params' y ≡ meant mean x → xs' ≡ xs ++ y ∷ [] → map (placed_of params') xs' ≡ map (meant mean) (take (i + 1) walk)
+place_more mean params params' more walk i x xs xs' y grown there same l at new pushed =
     let old : map (placed_of params') xs ≡ map (meant mean) (take i walk) = ap (λ ps. map (placed_of ps) xs) grown ∙ placed_still params more xs there ∙ same in
-    let new : placed_of params' y ≡ meant mean x = λ j. record { procedure = procedure j; given = given j; cells = cells j } in
     ap (map (placed_of params')) pushed ∙ map-append (placed_of params') xs (y ∷ []) ∙ (λ j. old j ++ new j ∷ []) ∙
     sym (map_more (meant mean) walk i x l ∙ ap (λ z. map (meant mean) (take i walk) ++ meant mean z ∷ []) (sym at))
 

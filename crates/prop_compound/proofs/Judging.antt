@@ -1,13 +1,14 @@
 -- Why a definition may not be made: each test after those before it.
-use Rattle.std.proofs.Common.{◌≡◌, ◌∙◌, ℕ, ◌≤◌, ◌<◌, List, [], ◌∷◌, ◌||◌, Bool, true, false, nat_le, Option, Some, None, map, length, take, is_some, refl, sym, ap}
+use Rattle.std.proofs.Common.{◌≡◌, ◌∙◌, ℕ, ◌≤◌, ◌⊎◌, List, [], ◌∷◌, ◌++◌, ◌||◌, Bool, true, false, nat_le, Option, Some, None, map, length, take, drop, is_some, refl, sym, ap, arith, inl, inr}
+use Rattle.std.specs.Prelude.{Result, Ok, Err, IfErr, OnOk}
 use Rattle.std.specs.Borrow.{Bor}
 use Rattle.std.specs.List.{list_any, flat_map}
-use Rattle.std.proofs.lemmas.List.{take_at, length-map}
-use Rattle.std.proofs.lemmas.Bool.{or_from, le-leb, lt-leb}
+use Rattle.std.proofs.lemmas.List.{take_at, drop_at, length-map, length-append}
+use Rattle.std.proofs.lemmas.Bool.{or_parts, or_left, or_right}
 use Rattle.prop_lattice.specs.Refusals.{most}
 use Rattle.prop_lattice.specs.declared.refusal.Limit.TheVariants.{Definitions as TooMany}
 use Rattle.prop_lattice.specs.declared.refusal.Refusal.{Refusal}
-use Rattle.prop_lattice.specs.declared.refusal.Refusal.TheVariants.{NameTaken, NoSuchDomain, NoSuchRelation, NoSuchCell, NoSuchProcedure, WrongCount, LimitReached}
+use Rattle.prop_lattice.specs.declared.refusal.Refusal.TheVariants.{NameTaken, NoSuchDomain, NoSuchRelation, NoSuchCell, NoSuchProcedure, WrongCount, LimitReached, Memory}
 use Rattle.prop_sets.specs.Names.{has_repeat}
 use Rattle.prop_procedures.specs.Stored.{Stored, procedure_number}
 use Rattle.prop_vocabulary.specs.Names.{number_in}
@@ -19,131 +20,153 @@ use Rattle.prop_language.specs.Said.{words, step_of}
 use Rattle.prop_compound.specs.Definitions.{Definitions}
 use Rattle.prop_compound.specs.Defining.{locals_of, scope_of, is_name_taken, is_nowhere, is_unrelated, is_cell_missing, is_unknown, is_count_wrong, define_refusal}
 use Rattle.prop_compound.proofs.Firsts.{stops, passes, list_any-map}
+use Rattle.prop_compound.proofs.Scoping.{taken_then}
 
 -- some step does, by what the steps say
 pub some_said : (p : commands.Step → Bool) (steps : List Step) (b : Bool) → b ≡ list_any (λ step. p (step_of step)) steps → list_any p (map step_of steps) ≡ b
 some_said p steps b e = list_any-map step_of p steps ∙ sym e
 
--- the first names in the scope are the parameters
-pub said_missing : (params : List (Bor (List ℕ))) (scope : List (List ℕ)) (steps : List commands.Step) (b : Bool) → scope ≡ scope_of (words params) steps → b ≡ is_cell_missing (take (length params) scope) steps → is_cell_missing (words params) steps ≡ b
-said_missing params scope steps b e h =
-    let first : take (length params) scope ≡ words params = ap (take (length params)) e ∙ take_at (words params) (flat_map locals_of steps) (length params) (length-map params (λ (w : Bor (List ℕ)). w.now)) in
-    ap (λ cells. is_cell_missing cells steps) (sym first) ∙ sym h
+-- the first names in the scope are the parameters, and behind them are the locals
+module _ (params : List (Bor (List ℕ))) (scope : List (List ℕ)) (steps : List commands.Step) (e : scope ≡ scope_of (words params) steps) where
+  pub said_within : length params ≤ length scope
+  said_within =
+      omega (arith, ap length e, length-append (words params) (flat_map locals_of steps), length-map params (λ (w : Bor (List ℕ)). w.now))
 
--- what a lookup did not find
-pub not_found : (found looked : Option ℕ) → false ≡ is_some found → found ≡ looked → is_some looked ≡ false
-not_found found looked h e = sym (h ∙ ap is_some e)
+  pub said_first : take (length params) scope ≡ words params
+  said_first = ap (take (length params)) e ∙ take_at (words params) (flat_map locals_of steps) (length params) (length-map params (λ (w : Bor (List ℕ)). w.now))
+
+  pub said_behind : drop (length params) scope ≡ flat_map locals_of steps
+  said_behind = ap (drop (length params)) e ∙ drop_at (words params) (flat_map locals_of steps) (length params) (length-map params (λ (w : Bor (List ℕ)). w.now))
+
+-- what a lookup found, and what it did not find
+pub is_found : (found looked : Option ℕ) (b : Bool) → b ≡ is_some found → found ≡ looked → is_some looked ≡ b
+is_found found looked b h e = sym (h ∙ ap is_some e)
+
+-- ---- the first of three refusals
+
+module _ (r s t : Refusal) (a b c : Bool) where
+  pub first_of_three : a ≡ true → Some r ≡ first_of (when r a ∷ when s b ∷ when t c ∷ [])
+  first_of_three e = sym (stops r a (when s b ∷ when t c ∷ []) e)
+
+  pub second_of_three : a ≡ false → b ≡ true → Some s ≡ first_of (when r a ∷ when s b ∷ when t c ∷ [])
+  second_of_three e f = sym (passes r a (when s b ∷ when t c ∷ []) (Some s) e (stops s b (when t c ∷ []) f))
+
+  pub third_of_three : a ≡ false → b ≡ false → c ≡ true → Some t ≡ first_of (when r a ∷ when s b ∷ when t c ∷ [])
+  third_of_three e f g = sym (passes r a (when s b ∷ when t c ∷ []) (Some t) e (passes s b (when t c ∷ []) (Some t) f (stops t c [] g)))
+
+  pub none_of_three : a ≡ false → b ≡ false → c ≡ false → None ≡ first_of (when r a ∷ when s b ∷ when t c ∷ [])
+  none_of_three e f g = sym (passes r a (when s b ∷ when t c ∷ []) None e (passes s b (when t c ∷ []) None f (passes t c [] None g refl)))
+
+-- ---- refusals before others
+
+first_before : (xs ys : List (Option Refusal)) (r : Refusal) → first_of xs ≡ Some r → first_of (xs ++ ys) ≡ Some r
+first_before [] ys r e = cc
+first_before (None ∷ xs) ys r e = first_before xs ys r e
+first_before (Some q ∷ xs) ys r e = e
+
+none_before : (xs ys : List (Option Refusal)) → first_of xs ≡ None → first_of (xs ++ ys) ≡ first_of ys
+none_before [] ys e = refl
+none_before (None ∷ xs) ys e = none_before xs ys e
+none_before (Some q ∷ xs) ys e = cc
 
 -- what is not refused first is not refused at all
 one_passed : (r : Refusal) (b : Bool) (rest : List (Option Refusal)) → first_of (when r b ∷ rest) ≡ None → (b ≡ false) × (first_of rest ≡ None)
 one_passed r true rest e = cc
 one_passed r false rest e = (refl, e)
 
-module _ (library : List Stored) (words : Vocabulary) (definitions : Definitions) (name : List ℕ) (params : List (List ℕ)) (steps : List commands.Step) where
-  abbrev why : Option Refusal
-  why = define_refusal library words definitions name params steps
+module _ (library : List Stored) (words : Vocabulary) (definitions : Definitions) (params : List (List ℕ)) (steps : List commands.Step) where
+  -- why the steps may not stand for their words, and for what they use
+  abbrev words_said : List (List ℕ) → List (Option Refusal)
+  words_said cells =
+      when NoSuchDomain (list_any (is_nowhere words) steps) ∷ when NoSuchRelation (list_any (is_unrelated words) steps) ∷ when NoSuchCell (is_cell_missing cells steps) ∷ []
 
-  abbrev full : Bool
-  full = nat_le (most TooMany) (length definitions.definitions)
+  abbrev uses_said : List (Option Refusal)
+  uses_said =
+      when NoSuchProcedure (list_any (is_unknown library definitions) steps) ∷ when WrongCount (list_any (is_count_wrong library definitions) steps) ∷ when (LimitReached TooMany) (nat_le (most TooMany) (length definitions.definitions)) ∷ []
 
-  -- the conditions behind each
-  abbrev from_limit : List (Option Refusal)
-  from_limit = when (LimitReached TooMany) full ∷ []
-
-  abbrev from_count : List (Option Refusal)
-  from_count = when WrongCount (list_any (is_count_wrong library definitions) steps) ∷ from_limit
-
-  abbrev from_procedure : List (Option Refusal)
-  from_procedure = when NoSuchProcedure (list_any (is_unknown library definitions) steps) ∷ from_count
-
-  abbrev from_cell : List (Option Refusal)
-  from_cell = when NoSuchCell (is_cell_missing params steps) ∷ from_procedure
-
-  abbrev from_relation : List (Option Refusal)
-  from_relation = when NoSuchRelation (list_any (is_unrelated words) steps) ∷ from_cell
-
-  abbrev from_domain : List (Option Refusal)
-  from_domain = when NoSuchDomain (list_any (is_nowhere words) steps) ∷ from_relation
-
-  -- no procedure and no definition has the name, and no parameter or local stands twice
-  pub record IsNew : Type 0 where
-    pub procedure : is_some (procedure_number library name) ≡ false
-    pub definition : is_some (number_in definitions.names name) ≡ false
-    pub apart : has_repeat (scope_of params steps) ≡ false
-
-  abbrev pub KindsThere : Type 0
-  KindsThere = list_any (is_nowhere words) steps ≡ false
-
-  abbrev pub RelationsThere : Type 0
-  RelationsThere = list_any (is_unrelated words) steps ≡ false
-
-  abbrev pub CellsThere : Type 0
-  CellsThere = is_cell_missing params steps ≡ false
-
-  abbrev pub ProceduresThere : Type 0
-  ProceduresThere = list_any (is_unknown library definitions) steps ≡ false
-
-  abbrev pub CountsRight : Type 0
-  CountsRight = list_any (is_count_wrong library definitions) steps ≡ false
-
-  past_name : IsNew → (o : Option Refusal) → first_of from_domain ≡ o → why ≡ o
-  past_name h o e =
-      passes NameTaken (is_name_taken library definitions name params steps) from_domain o (or_from _ _ h.procedure (or_from _ _ h.definition h.apart)) e
-
-  past_domain : IsNew → KindsThere → (o : Option Refusal) → first_of from_relation ≡ o → why ≡ o
-  past_domain h d o e =
-      past_name h o (passes NoSuchDomain (list_any (is_nowhere words) steps) from_relation o d e)
-
-  past_relation : IsNew → KindsThere → RelationsThere → (o : Option Refusal) → first_of from_cell ≡ o → why ≡ o
-  past_relation h d r o e =
-      past_domain h d o (passes NoSuchRelation (list_any (is_unrelated words) steps) from_cell o r e)
-
-  past_cell : IsNew → KindsThere → RelationsThere → CellsThere → (o : Option Refusal) → first_of from_procedure ≡ o → why ≡ o
-  past_cell h d r c o e = past_relation h d r o (passes NoSuchCell (is_cell_missing params steps) from_procedure o c e)
-
-  past_procedure : IsNew → KindsThere → RelationsThere → CellsThere → ProceduresThere → (o : Option Refusal) → first_of from_count ≡ o → why ≡ o
-  past_procedure h d r c p o e =
-      past_cell h d r c o (passes NoSuchProcedure (list_any (is_unknown library definitions) steps) from_count o p e)
-
-  past_count : IsNew → KindsThere → RelationsThere → CellsThere → ProceduresThere → CountsRight → (o : Option Refusal) → first_of from_limit ≡ o → why ≡ o
-  past_count h d r c p n o e =
-      past_procedure h d r c p o (passes WrongCount (list_any (is_count_wrong library definitions) steps) from_limit o n e)
-
-  pub refused_domain : IsNew → list_any (is_nowhere words) steps ≡ true → define_refusal library words definitions name params steps ≡ Some NoSuchDomain
-  refused_domain h e = past_name h _ (stops NoSuchDomain _ from_relation e)
-
-  pub refused_relation : IsNew → KindsThere → list_any (is_unrelated words) steps ≡ true → define_refusal library words definitions name params steps ≡ Some NoSuchRelation
-  refused_relation h d e = past_domain h d _ (stops NoSuchRelation _ from_cell e)
-
-  pub refused_cell : IsNew → KindsThere → RelationsThere → is_cell_missing params steps ≡ true → define_refusal library words definitions name params steps ≡ Some NoSuchCell
-  refused_cell h d r e = past_relation h d r _ (stops NoSuchCell _ from_procedure e)
-
-  pub refused_procedure : IsNew → KindsThere → RelationsThere → CellsThere → list_any (is_unknown library definitions) steps ≡ true → define_refusal library words definitions name params steps ≡ Some NoSuchProcedure
-  refused_procedure h d r c e = past_cell h d r c _ (stops NoSuchProcedure _ from_count e)
-
-  pub refused_count : IsNew → KindsThere → RelationsThere → CellsThere → ProceduresThere → list_any (is_count_wrong library definitions) steps ≡ true → define_refusal library words definitions name params steps ≡ Some WrongCount
-  refused_count h d r c p e = past_procedure h d r c p _ (stops WrongCount _ from_limit e)
-
-  pub refused_limit : IsNew → KindsThere → RelationsThere → CellsThere → ProceduresThere → CountsRight → most TooMany ≤ length definitions.definitions → define_refusal library words definitions name params steps ≡ Some (LimitReached TooMany)
-  refused_limit h d r c p n l =
-      past_count h d r c p n _ (stops (LimitReached TooMany) full [] (le-leb (most TooMany) (length definitions.definitions) l))
-
-  pub not_refused : IsNew → KindsThere → RelationsThere → CellsThere → ProceduresThere → CountsRight → length definitions.definitions < most TooMany → define_refusal library words definitions name params steps ≡ None
-  not_refused h d r c p n l =
-      past_count h d r c p n _ (passes (LimitReached TooMany) full [] None (lt-leb (most TooMany) (length definitions.definitions) l) refl)
-
-  -- what a definition that is not refused has
+  -- what the steps of a definition that is not refused have
   pub record IsRightly : Type 0 where
     pub cells : is_cell_missing params steps ≡ false
     pub procedures : list_any (is_unknown library definitions) steps ≡ false
     pub counts : list_any (is_count_wrong library definitions) steps ≡ false
 
-  pub rightly : define_refusal library words definitions name params steps ≡ None → IsRightly
-  rightly e =
-      let a = one_passed NameTaken (is_name_taken library definitions name params steps) from_domain e in
-      let b = one_passed NoSuchDomain (list_any (is_nowhere words) steps) from_relation a.1 in
-      let c = one_passed NoSuchRelation (list_any (is_unrelated words) steps) from_cell b.1 in
-      let d = one_passed NoSuchCell (is_cell_missing params steps) from_procedure c.1 in
-      let f = one_passed NoSuchProcedure (list_any (is_unknown library definitions) steps) from_count d.1 in
-      let g = one_passed WrongCount (list_any (is_count_wrong library definitions) steps) from_limit f.1 in
-      record { cells = d.0; procedures = f.0; counts = g.0 }
+  module _ (cells : List (List ℕ)) (first : cells ≡ params) (o : Option Refusal) (h : o ≡ first_of (words_said cells)) where
+    said : first_of (words_said params) ≡ o
+    said = sym (h ∙ ap (λ cs. first_of (words_said cs)) first)
+
+    pub refused_words : (r : Refusal) → o ≡ Some r → (name : List ℕ) → is_name_taken library definitions name params steps ≡ false → define_refusal library words definitions name params steps ≡ Some r
+    refused_words r e name new =
+        passes NameTaken (is_name_taken library definitions name params steps) (words_said params ++ uses_said) (Some r) new (first_before (words_said params) uses_said r (said ∙ e))
+
+    module _ (e : o ≡ None) (o' : Option Refusal) (h' : o' ≡ first_of uses_said) where
+      past_words : (name : List ℕ) → is_name_taken library definitions name params steps ≡ false → define_refusal library words definitions name params steps ≡ o'
+      past_words name new =
+          passes NameTaken (is_name_taken library definitions name params steps) (words_said params ++ uses_said) o' new (none_before (words_said params) uses_said (said ∙ e) ∙ sym h')
+
+      pub refused_uses : (r : Refusal) → o' ≡ Some r → (name : List ℕ) → is_name_taken library definitions name params steps ≡ false → define_refusal library words definitions name params steps ≡ Some r
+      refused_uses r e' name new = past_words name new ∙ e'
+
+      pub not_refused : o' ≡ None → (name : List ℕ) → is_name_taken library definitions name params steps ≡ false → define_refusal library words definitions name params steps ≡ None
+      not_refused e' name new = past_words name new ∙ e'
+
+      pub rightly : o' ≡ None → IsRightly
+      rightly e' =
+          let a = one_passed NoSuchDomain (list_any (is_nowhere words) steps) (when NoSuchRelation (list_any (is_unrelated words) steps) ∷ when NoSuchCell (is_cell_missing params steps) ∷ []) (said ∙ e) in
+          let b = one_passed NoSuchRelation (list_any (is_unrelated words) steps) (when NoSuchCell (is_cell_missing params steps) ∷ []) a.1 in
+          let c = one_passed NoSuchCell (is_cell_missing params steps) [] b.1 in
+          let d = one_passed NoSuchProcedure (list_any (is_unknown library definitions) steps) (when WrongCount (list_any (is_count_wrong library definitions) steps) ∷ when (LimitReached TooMany) (nat_le (most TooMany) (length definitions.definitions)) ∷ []) (sym h' ∙ e') in
+          let f = one_passed WrongCount (list_any (is_count_wrong library definitions) steps) (when (LimitReached TooMany) (nat_le (most TooMany) (length definitions.definitions)) ∷ []) d.1 in
+          record { cells = c.0; procedures = d.0; counts = f.0 }
+
+module _ (library : List Stored) (words : Vocabulary) (definitions : Definitions) (name : List ℕ) (params : List (List ℕ)) (steps : List commands.Step) where
+  -- a name that is taken is refused before all else
+  pub refused_name : is_name_taken library definitions name params steps ≡ true → define_refusal library words definitions name params steps ≡ Some NameTaken
+  refused_name e =
+      stops NameTaken (is_name_taken library definitions name params steps) (words_said library words definitions params steps params ++ uses_said library words definitions params steps) e
+
+  pub why_named : (e : Refusal) → ((e ≡ NameTaken) × (is_name_taken library definitions name params steps ≡ true)) ⊎ (e ≡ Memory) → (define_refusal library words definitions name params steps ≡ Some e) ⊎ (e ≡ Memory)
+  why_named e (inl h) = inl (refused_name h.1 ∙ ap (λ r. Some r) (sym h.0))
+  why_named e (inr h) = inr h
+
+  -- what is not refused has a new name
+  pub new_name : define_refusal library words definitions name params steps ≡ None → number_in definitions.names name ≡ None
+  new_name e =
+      let taken = one_passed NameTaken (is_name_taken library definitions name params steps) (words_said library words definitions params steps params ++ uses_said library words definitions params steps) e in
+      let a = or_parts (is_some (procedure_number library name)) (is_some (number_in definitions.names name) || has_repeat (scope_of params steps)) taken.0 in
+      let b = or_parts (is_some (number_in definitions.names name)) (has_repeat (scope_of params steps)) a.1 in
+      absent (number_in definitions.names name) b.0
+    where
+      absent : (o : Option ℕ) → is_some o ≡ false → o ≡ None
+      absent None h = refl
+      absent (Some n) h = cc
+
+-- the name is taken, or not, by a procedure, a definition, or among its own parameters and locals
+module _ (library : List Stored) (definitions : Definitions) (name : List ℕ) (params : List (List ℕ)) (steps : List commands.Step) where
+  pub taken_procedure : is_some (procedure_number library name) ≡ true → is_name_taken library definitions name params steps ≡ true
+  taken_procedure e = or_left _ _ e
+
+  pub taken_definition : is_some (number_in definitions.names name) ≡ true → is_name_taken library definitions name params steps ≡ true
+  taken_definition e = or_right (is_some (procedure_number library name)) _ (or_left _ _ e)
+
+  module _ (procedure : is_some (procedure_number library name) ≡ false) (definition : is_some (number_in definitions.names name) ≡ false) where
+    same_repeat : is_name_taken library definitions name params steps ≡ has_repeat (scope_of params steps)
+    same_repeat = (λ i. procedure i || (definition i || has_repeat (scope_of params steps)))
+
+    pub taken_pushed : {X : Type 0} (r : Result X Refusal) → OnOk r (has_repeat (scope_of params steps) ≡ false) → OnOk r (is_name_taken library definitions name params steps ≡ false)
+    taken_pushed (Ok x) h = same_repeat ∙ h
+    taken_pushed (Err e) h = h
+
+    pub taken_why : {X : Type 0} (r : Result X Refusal) → IfErr r (λ e. ((e ≡ NameTaken) × (has_repeat (scope_of params steps) ≡ true)) ⊎ (e ≡ Memory)) → IfErr r (λ e. ((e ≡ NameTaken) × (is_name_taken library definitions name params steps ≡ true)) ⊎ (e ≡ Memory))
+    taken_why (Ok x) h = h
+    taken_why (Err e) h = taken_then e (λ again. same_repeat ∙ again) h
+
+-- what is said of the rest where the name is new
+module _ (library : List Stored) (words : Vocabulary) (definitions : Definitions) (name : List ℕ) (params : List (List ℕ)) (steps : List commands.Step) (new : is_name_taken library definitions name params steps ≡ false) where
+  pub fits_named : {X : Type 0} (r : Result X Refusal) → OnOk r ((name : List ℕ) → is_name_taken library definitions name params steps ≡ false → define_refusal library words definitions name params steps ≡ None) → OnOk r (define_refusal library words definitions name params steps ≡ None)
+  fits_named (Ok x) h = h name new
+  fits_named (Err e) h = h
+
+  pub why_rest : {X : Type 0} (r : Result X Refusal) → IfErr r (λ e. ((name : List ℕ) → is_name_taken library definitions name params steps ≡ false → define_refusal library words definitions name params steps ≡ Some e) ⊎ (e ≡ Memory)) → IfErr r (λ e. (define_refusal library words definitions name params steps ≡ Some e) ⊎ (e ≡ Memory))
+  why_rest (Ok x) h = h
+  why_rest (Err e) (inl h) = inl (h name new)
+  why_rest (Err e) (inr h) = inr h

@@ -9,5 +9,6 @@ pub mod Scoping
 mod Using
 mod Flattening
 mod Zips
+mod Looping
 pub mod Judging
 pub mod Resolved

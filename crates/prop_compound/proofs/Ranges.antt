@@ -1,5 +1,5 @@
 -- The cells of the instances that a use stands for are there, and each procedure is one of the library on as many cells as it wants.
-use Rattle.std.proofs.Common.{◌≡◌, ◌∙◌, ℕ, ◌+◌, ◌<◌, ◌≤◌, ◌==◌, List, [], ◌∷◌, ◌++◌, All, Bool, true, false, not, ◌&&◌, cond, length, map, get_or, refl, sym, ap, arith, inl, inr, add-zero}
+use Rattle.std.proofs.Common.{◌≡◌, ◌∙◌, ℕ, ◌<◌, ◌≤◌, List, [], ◌∷◌, ◌++◌, All, not, ◌&&◌, length, sym, ap, arith, inl, inr, add-zero}
 use Rattle.std.specs.Prelude.{slice_get}
 use Rattle.std.specs.Option.{option_map_or}
 use Rattle.std.proofs.lemmas.Bool.{cases_eq, eq-eqb, ne_eqb}
@@ -12,7 +12,7 @@ use Rattle.prop_compound.specs.declared.definition.NumberedStep.{NumberedStep}
 use Rattle.prop_compound.specs.declared.definition.NumberedStep.TheVariants.{Local, Like, Use}
 use Rattle.prop_compound.specs.Definitions.{Definition, is_taking}
 use Rattle.prop_procedures.specs.Fitting.{kind_at}
-use Rattle.prop_compound.specs.Expansion.{Walk, Placed, cell_at, cells_at, with_fresh, with_placed, with_spare, passed, is_something, use_expanded, steps_expanded, definition_expanded}
+use Rattle.prop_compound.specs.Expansion.{Walk, Placed, cell_at, cells_at, with_fresh, with_spare, passed, is_something, use_expanded, steps_expanded, definition_expanded}
 use Rattle.prop_compound.specs.Kept.{fresh_of, total_in, AreInScope, IsUseBelow, IsUseOver, IsRight, AreRight}
 use Rattle.prop_compound.proofs.Latest.{latest_at}
 use Rattle.prop_compound.proofs.Unrolling.{Adds}

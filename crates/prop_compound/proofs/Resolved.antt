@@ -1,6 +1,6 @@
 -- What is true of the numbers that stand for the words of a definition that is not refused.
-use Rattle.std.proofs.Common.{◌≡◌, ◌∙◌, ℕ, zero, suc, ◌+◌, ◌-◌, ◌<◌, ◌≤◌, ◌==◌, min, ◌||◌, Bool, true, false, not, nat_le, cond, List, [], ◌∷◌, ◌++◌, Option, Some, None, All, map, length, take, drop, get_or, is_none, is_some, unwrap_or, refl, sym, ap, subst, arith, inl, inr, add-zero}
-use Rattle.std.specs.Prelude.{reverse, slice_get, sum_by}
+use Rattle.std.proofs.Common.{◌≡◌, ◌∙◌, ℕ, zero, suc, ◌+◌, ◌-◌, ◌<◌, ◌≤◌, ◌==◌, min, Bool, false, not, cond, List, [], ◌∷◌, ◌++◌, Option, Some, None, All, map, length, take, drop, get_or, is_none, unwrap_or, refl, sym, ap, subst, arith, inl, inr}
+use Rattle.std.specs.Prelude.{reverse, slice_get, sum_by, ◌⊎◌, Result, Ok, Err, IfOk, IfErr, OnOk, OnErr}
 use Rattle.std.specs.List.{list_any, flat_map}
 use Rattle.std.specs.Option.{option_map, option_map_or, option_or}
 use Rattle.std.proofs.lemmas.Bool.{or_parts, leb-false, eqb-true, not-false, cases_eq, eq-eqb, ne_eqb}
@@ -10,6 +10,8 @@ use Rattle.std.proofs.lemmas.List.Concat.{flat_map-cons}
 use Rattle.std.proofs.lemmas.List.Quantifiers.{position-Some}
 use Rattle.prop_lattice.specs.Refusals.{most}
 use Rattle.prop_lattice.specs.declared.refusal.Limit.TheVariants.{Cells, Instances}
+use Rattle.prop_lattice.specs.declared.refusal.Refusal.{Refusal}
+use Rattle.prop_lattice.specs.declared.refusal.Refusal.TheVariants.{Memory}
 use Rattle.prop_procedures.specs.Stored.{Stored, procedure_number}
 use Rattle.prop_vocabulary.specs.Names.{number_in, numbers_in, is_missing}
 use Rattle.prop_vocabulary.specs.Vocabulary.{Vocabulary}
@@ -20,11 +22,11 @@ use Rattle.prop_compound.specs.declared.definition.Used.TheVariants as uses
 use Rattle.prop_compound.specs.declared.definition.KeptDefinition.{KeptDefinition}
 use Rattle.prop_compound.specs.declared.definition.NumberedStep.{NumberedStep}
 use Rattle.prop_compound.specs.declared.definition.NumberedStep.TheVariants as numbered
-use Rattle.prop_compound.specs.Definitions.{Definition, Definitions, used_named, cells_wanted, is_miscounted, is_passing_on}
-use Rattle.prop_compound.specs.Defining.{scope_of, definition_of, with_definition, define_refusal, locals_of, cells_in, step_numbered, passing_named, kind_named, is_cell_missing, is_unknown, is_count_wrong}
+use Rattle.prop_compound.specs.Definitions.{Definition, Definitions, used_named, cells_wanted, is_passing_on}
+use Rattle.prop_compound.specs.Defining.{scope_of, definition_of, with_definition, locals_of, cells_in, step_numbered, passing_named, is_cell_missing, is_unknown, is_count_wrong}
 use Rattle.prop_compound.specs.Kept.{bare, all_bare, fresh_of, instances_of, total_in, total_of, places_made, IsInScope, AreInScope, IsUseBelow, IsUseOver, IsThere, IsKept, AreKept, IsDefinedOver}
 use Rattle.prop_compound.proofs.Scoping.{late_at, late_is, taken_on, dropped_on, within_on}
-use Rattle.prop_compound.proofs.Judging.{rightly}
+use Rattle.prop_compound.proofs.Judging.{IsRightly}
 
 -- ---- places
 
@@ -189,13 +191,12 @@ one_popped xs xs' xs'' x n e l f =
 
 -- ---- a definition that is not refused
 
-module _ (library : List Stored) (words : Vocabulary) (definitions : Definitions) (name : List ℕ) (params : List (List ℕ)) (steps : List Step) (same : length definitions.names ≡ length definitions.definitions) (fits : define_refusal library words definitions name params steps ≡ None) where
+module _ (library : List Stored) (words : Vocabulary) (definitions : Definitions) (params : List (List ℕ)) (steps : List Step) (same : length definitions.names ≡ length definitions.definitions) (right : IsRightly library words definitions params steps) where
   abbrev all : List NumberedStep
   all = map (step_numbered library words definitions (scope_of params steps)) steps
 
   good : All (IsGood library words definitions (scope_of params steps) same) all
   good =
-      let right = rightly library words definitions name params steps fits in
       all_good library words definitions (scope_of params steps) same steps right.procedures right.counts
 
   pub used_below : All (IsUseBelow definitions.definitions (length definitions.definitions)) (map (step_numbered library words definitions (scope_of params steps)) steps)
@@ -210,7 +211,6 @@ module _ (library : List Stored) (words : Vocabulary) (definitions : Definitions
   in_scope =
       let locals = flat_map locals_of steps in
       let first : take (length params) (scope_of params steps) ≡ params = take_at params locals (length params) refl in
-      let right = rightly library words definitions name params steps fits in
       all_in_scope library words definitions (scope_of params steps) steps (length params) (omega (arith, length-append params locals)) (drop_at params locals (length params) refl)
       (ap (λ cells. is_cell_missing cells steps) first ∙ right.cells)
 
@@ -229,18 +229,13 @@ module _ (library : List Stored) (words : Vocabulary) (definitions : Definitions
         instances = instances ∙ (λ i. min (most Instances + 1) (sum_by (instances_of (total_of instances_of (sym s i))) (sym is i))) ∙ ap (λ m. min (most Instances + 1) m) (sym (total_last instances_of ds (bare k)));
       }
 
-  -- the definitions with it
-  pub with_new : (k : KeptDefinition) (new : Definitions) → k.params ≡ length params → k.steps.items ≡ map (step_numbered library words definitions (scope_of params steps)) steps →
-      new ≡ record { names = definitions.names ++ name ∷ []; definitions = definitions.definitions ++ bare k ∷ [] } → new ≡ with_definition library words definitions name params steps
-  with_new k new count is e =
-      let d : bare k ≡ definition_of library words definitions params steps = cc in
-      e ∙ ap (λ (d : Definition). record { names = definitions.names ++ name ∷ []; definitions = definitions.definitions ++ d ∷ [] }) d
+  -- it is the definition that the words say
+  pub definition_so : (k : KeptDefinition) (items : List NumberedStep) → items ≡ map (step_numbered library words definitions (scope_of params steps)) steps → k.params ≡ length params → k.steps.items ≡ items → bare k ≡ definition_of library words definitions params steps
+  definition_so k items e count is = λ i. record { params = count i; steps = (is ∙ e) i }
 
-  -- which were made over the library
-  pub over_new : IsDefinedOver library definitions → IsDefinedOver library (with_definition library words definitions name params steps)
-  over_new h = record {
-    uses = All-push (λ (d : Definition). All (IsUseOver library) d.steps) definitions.definitions (definition_of library words definitions params steps) h.uses used_over;
-  }
+  -- whose procedures are of the library
+  pub steps_over : (k : KeptDefinition) (items : List NumberedStep) → items ≡ map (step_numbered library words definitions (scope_of params steps)) steps → k.steps.items ≡ items → All (IsUseOver library) k.steps.items
+  steps_over k items e is = subst (All (IsUseOver library)) (sym (is ∙ e)) used_over
 
   -- the steps by numbers, the scope being that of the parameters and steps
   pub numbered_so : (scope : List (List ℕ)) (items : List NumberedStep) → scope ≡ scope_of params steps → items ≡ map (step_numbered library words definitions scope) steps → items ≡ map (step_numbered library words definitions (scope_of params steps)) steps
@@ -252,9 +247,47 @@ module _ (library : List Stored) (words : Vocabulary) (definitions : Definitions
       let seen : length definitions.definitions ≡ length ks = ap length e ∙ length-map ks bare in
       subst (All (IsUseBelow (all_bare ks) (length ks))) (sym h) (subst (λ n. All (IsUseBelow (all_bare ks) n) all) seen (subst (λ ds. All (IsUseBelow ds (length definitions.definitions)) all) e used_below))
 
+-- one definition more, which was made over the library
+module _ (library : List Stored) (words : Vocabulary) (definitions : Definitions) (name : List ℕ) (params : List (List ℕ)) (steps : List Step) (k : KeptDefinition) (is : bare k ≡ definition_of library words definitions params steps) where
+  with_new : (new : Definitions) → new ≡ record { names = definitions.names ++ name ∷ []; definitions = definitions.definitions ++ bare k ∷ [] } → new ≡ with_definition library words definitions name params steps
+  with_new new e = e ∙ ap (λ (d : Definition). record { names = definitions.names ++ name ∷ []; definitions = definitions.definitions ++ d ∷ [] }) is
+
+  pub pushed_new : {X : Type 0} (r : Result X Refusal) (new : Definitions) → OnOk r (new ≡ record { names = definitions.names ++ name ∷ []; definitions = definitions.definitions ++ bare k ∷ [] }) → OnOk r (new ≡ with_definition library words definitions name params steps)
+  pushed_new (Ok x) new e = with_new new e
+  pushed_new (Err r) new e = e
+
+  pub pushed_over : {X : Type 0} (r : Result X Refusal) (new : Definitions) → All (IsUseOver library) k.steps.items → IsDefinedOver library definitions → OnOk r (new ≡ record { names = definitions.names ++ name ∷ []; definitions = definitions.definitions ++ bare k ∷ [] }) → OnErr r (new ≡ definitions) → IsDefinedOver library new
+  pushed_over (Ok x) new steps_over over e h = subst (IsDefinedOver library) (sym e) (record {
+    uses = All-push (λ (d : Definition). All (IsUseOver library) d.steps) definitions.definitions (bare k) over.uses steps_over;
+  })
+  pushed_over (Err r) new steps_over over e h = subst (IsDefinedOver library) (sym h) over
+
+-- what holds holds on the way that it is wanted on
+pub on_ok : {X E : Type 0} {P : Type 0} (r : Result X E) → P → OnOk r P
+on_ok (Ok x) p = p
+on_ok (Err e) p = tt
+
+-- on the way out of a `?` there is no value of which anything is wanted
+pub no_value : {T E : Type 0} (P : T → Type 0) (r : Result T E) (y : E) → r ≡ Err y → IfOk r P
+no_value P r y e = subst (λ s. IfOk s P) (sym e) tt
+
+pub no_pass : {T E : Type 0} (P : Type 0) (r : Result T E) (y : E) → r ≡ Err y → OnOk r P
+no_pass P r y e = subst (λ s. OnOk s P) (sym e) tt
+
+-- a memory that is out is so for any reason
+pub or_memory : {X : Type 0} (P : Refusal → Type 0) (r : Result X Refusal) → IfErr r (λ e. e ≡ Memory) → IfErr r (λ e. P e ⊎ (e ≡ Memory))
+or_memory P (Ok x) h = h
+or_memory P (Err e) h = inr h
+
 -- there are as many names as definitions
 pub same_count : (names : List (List ℕ)) (ks : List KeptDefinition) (old : Definitions) → record { names = names; definitions = all_bare ks } ≡ old → (length names ≡ length ks) × AreKept ks → length old.names ≡ length old.definitions
 same_count names ks old view kept =
     let n : length old.names ≡ length names = ap (λ (d : Definitions). length d.names) (sym view) in
     let m : length old.definitions ≡ length (all_bare ks) = ap (λ (d : Definitions). length d.definitions) (sym view) in
     omega (arith, n, m, kept.0, length-map ks bare)
+
+-- what a name stands for wants as many cells as this
+pub procedure_wants : (library : List Stored) (definitions : Definitions) (used : Used) (n : ℕ) (s : Stored) → used ≡ uses.Procedure n → slice_get library n ≡ Some s → (count : ℕ) (b : Bool) → b ≡ (count == length s.ins + 1) → not b ≡ not (count == cells_wanted library definitions used)
+procedure_wants library definitions used n s u at count b e =
+    let wants : cells_wanted library definitions used ≡ length s.ins + 1 = ap (cells_wanted library definitions) u ∙ ap (λ o. option_map_or (λ (p : Stored). length p.ins + 1) o 0) at in
+    ap not e ∙ ap (λ w. not (count == w)) (sym wants)

@@ -1,10 +1,10 @@
 -- The parameters and locals of a definition.
-use Rattle.std.proofs.Common.{◌≡◌, ◌∙◌, ℕ, ◌+◌, ◌<◌, ◌≤◌, ◌⊎◌, Bool, true, false, ◌||◌, not, nat_le, cond, List, [], ◌∷◌, ◌++◌, Option, Some, None, All, map, length, take, drop, get_or, position, is_none, is_some, bytes_eq, refl, sym, ap, subst, arith, inl, inr}
+use Rattle.std.proofs.Common.{◌≡◌, ◌∙◌, ℕ, ◌+◌, ◌<◌, ◌≤◌, ◌⊎◌, Bool, true, false, ◌||◌, not, nat_le, List, [], ◌∷◌, ◌++◌, Option, Some, None, All, map, length, take, drop, get_or, is_none, is_some, bytes_eq, refl, sym, ap, subst, arith, inl, inr}
 use Rattle.std.specs.Prelude.{Result, Ok, Err, IfErr, OnOk}
 use Rattle.std.specs.Borrow.{Bor}
 use Rattle.std.specs.List.{list_any, flat_map}
-use Rattle.std.proofs.lemmas.Bool.{or_parts, or_cases, or_left, or_right, cases_lt, leb-true, leb-false, le-leb, lt-leb}
-use Rattle.std.proofs.lemmas.List.{map-append, length-append, length-take, length-take-le, append_assoc, take-append-drop, take_at, drop_at, get_or_at, get_or-take, get_or_default, drop_all, drop_more, take_more, take-append-le}
+use Rattle.std.proofs.lemmas.Bool.{or_parts, or_cases, or_left, or_right, cases_lt, le-leb, lt-leb}
+use Rattle.std.proofs.lemmas.List.{length-append, length-take, length-take-le, append_assoc, take-append-drop, take_at, drop_at, get_or_at, get_or-take, get_or_default, drop_all, drop_more, take_more}
 use Rattle.std.proofs.lemmas.List.Folds.{list_any-append, list_any_at, list_any_none}
 use Rattle.std.proofs.lemmas.List.Concat.{flat_map-append, flat_map-cons, flat_map_single}
 use Rattle.std.proofs.lemmas.List.Quantifiers.{position-Some}
@@ -116,6 +116,32 @@ pushed_why (Err e) old name h = taken_then e (repeat_here old name []) h
 pub local_named : (step : Step) (name : Bor (List ℕ)) → ((kind : KindWord) × (step ≡ steps.Local name kind)) ⊎ ((like : Bor (List ℕ)) × (step ≡ steps.Like name like)) → locals_of (step_of step) ≡ name.now ∷ []
 local_named step name (inl h) = rw h.1 refl
 local_named step name (inr h) = rw h.1 refl
+
+-- the locals behind the parameters
+module _ {X : Type 0} (r : Result X Refusal) (none before all params locals : List (List ℕ)) (empty : none ≡ []) (first : before ≡ none ++ params) where
+  both_in : before ++ locals ≡ params ++ locals
+  both_in = ap (λ names. names ++ locals) (first ∙ ap (λ names. names ++ params) empty)
+
+  pub all_pushed : OnOk r (all ≡ before ++ locals) → OnOk r (all ≡ params ++ locals)
+  all_pushed h = by r h
+    where
+      by : (r : Result X Refusal) → OnOk r (all ≡ before ++ locals) → OnOk r (all ≡ params ++ locals)
+      by (Ok x) h = h ∙ both_in
+      by (Err e) h = h
+
+  pub all_apart : OnOk r (all ≡ before ++ locals) → OnOk r (has_repeat all ≡ false) → OnOk r (has_repeat (params ++ locals) ≡ false)
+  all_apart h k = by r h k
+    where
+      by : (r : Result X Refusal) → OnOk r (all ≡ before ++ locals) → OnOk r (has_repeat all ≡ false) → OnOk r (has_repeat (params ++ locals) ≡ false)
+      by (Ok x) h k = ap has_repeat (sym (h ∙ both_in)) ∙ k
+      by (Err e) h k = k
+
+-- why the locals are refused behind the parameters
+pub all_why : {X : Type 0} (r : Result X Refusal) (none before params locals : List (List ℕ)) → none ≡ [] → before ≡ none ++ params →
+    IfErr r (λ e. ((e ≡ NameTaken) × (has_repeat (before ++ locals) ≡ true)) ⊎ (e ≡ Memory)) → IfErr r (λ e. ((e ≡ NameTaken) × (has_repeat (params ++ locals) ≡ true)) ⊎ (e ≡ Memory))
+all_why (Ok x) none before params locals empty first h = h
+all_why (Err e) none before params locals empty first h =
+    taken_then e (λ again. ap (λ names. has_repeat (names ++ locals)) (sym (first ∙ ap (λ names. names ++ params) empty)) ∙ again) h
 
 -- ---- names among the first ones
 

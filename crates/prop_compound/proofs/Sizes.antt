@@ -1,5 +1,5 @@
 -- How much a use adds does not depend on its cells, on what it is given, or on what was there before.
-use Rattle.std.proofs.Common.{◌≡◌, ◌∙◌, ℕ, ◌+◌, ◌<◌, ◌==◌, List, [], ◌∷◌, ◌++◌, Bool, true, false, not, ◌&&◌, cond, length, refl, sym, ap, arith}
+use Rattle.std.proofs.Common.{◌≡◌, ◌∙◌, ℕ, ◌+◌, ◌==◌, List, [], ◌∷◌, ◌++◌, true, false, not, ◌&&◌, cond, length, refl, sym, ap, arith}
 use Rattle.std.specs.Prelude.{sum_by}
 use Rattle.std.proofs.lemmas.List.{append_assoc, append-nil, length-append}
 use Rattle.std.proofs.lemmas.List.Sums.{sum_by-cons}
@@ -11,7 +11,7 @@ use Rattle.prop_compound.specs.declared.definition.NumberedStep.{NumberedStep}
 use Rattle.prop_compound.specs.declared.definition.NumberedStep.TheVariants.{Local, Like, Use}
 use Rattle.prop_compound.specs.Definitions.{Definition, is_taking}
 use Rattle.prop_procedures.specs.Fitting.{kind_at}
-use Rattle.prop_compound.specs.Expansion.{Walk, Placed, cell_at, cells_at, with_fresh, with_placed, with_spare, passed, is_something, use_expanded, steps_expanded, definition_expanded}
+use Rattle.prop_compound.specs.Expansion.{Walk, cell_at, cells_at, with_fresh, with_spare, passed, is_something, use_expanded, steps_expanded, definition_expanded}
 use Rattle.prop_compound.specs.Kept.{fresh_used, instances_used, fresh_of, instances_of, total_in}
 use Rattle.prop_compound.proofs.Unrolling.{Adds}
 

@@ -1,6 +1,6 @@
 -- A use of a definition adds what its steps add, among all the definitions as among the earlier ones.
-use Rattle.std.proofs.Common.{◌≡◌, ◌∙◌, ℕ, ◌+◌, ◌<◌, ◌==◌, List, [], ◌∷◌, ◌++◌, All, Bool, not, ◌&&◌, cond, length, refl, sym, ap, arith, inl, inr}
-use Rattle.std.specs.Prelude.{sum_by, ⊤}
+use Rattle.std.proofs.Common.{◌≡◌, ◌∙◌, ℕ, ◌<◌, List, [], ◌∷◌, ◌++◌, All, Bool, not, ◌&&◌, cond, length, refl, sym, ap, arith, inl, inr}
+use Rattle.std.specs.Prelude.{⊤}
 use Rattle.std.proofs.lemmas.Bool.{cases_eq, eq-eqb, ne_eqb}
 use Rattle.std.proofs.lemmas.List.Elements.{All-head, All-tail}
 use Rattle.prop_compound.specs.declared.definition.Passing.{Passing}
@@ -10,7 +10,6 @@ use Rattle.prop_compound.specs.declared.definition.NumberedStep.TheVariants.{Loc
 use Rattle.prop_compound.specs.Definitions.{Definition, is_taking}
 use Rattle.prop_procedures.specs.Fitting.{kind_at}
 use Rattle.prop_compound.specs.Expansion.{Walk, cell_at, cells_at, with_fresh, with_spare, passed, is_something, use_expanded, steps_expanded, definition_expanded}
-use Rattle.prop_compound.specs.Kept.{fresh_of, instances_of, total_in}
 use Rattle.prop_compound.proofs.Latest.{latest_at}
 
 -- the step uses no definition, or one with a number below n

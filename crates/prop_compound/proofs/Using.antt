@@ -1,13 +1,11 @@
 -- What a use on cells stands for: what it is over, how much it is, and that its instances are right.
-use Rattle.std.proofs.Common.{◌≡◌, ◌∙◌, ℕ, ◌+◌, ◌-◌, ◌<◌, ◌≤◌, List, [], ◌∷◌, ◌++◌, All, Bool, true, false, length, map, get_or, take, Option, Some, None, refl, sym, ap, arith, inl, inr, zero-add}
+use Rattle.std.proofs.Common.{◌≡◌, ◌∙◌, ℕ, ◌+◌, ◌-◌, ◌<◌, ◌≤◌, List, [], ◌∷◌, ◌++◌, All, length, map, get_or, take, Option, Some, refl, sym, ap, arith, zero-add}
 use Rattle.std.specs.Prelude.{reverse, slice_get}
 use Rattle.std.specs.List.{range_with_len}
 use Rattle.std.specs.Option.{option_map_or}
 use Rattle.std.proofs.lemmas.List.{map-id, length-map, length-append, length-reverse, get_or-map, take_at}
 use Rattle.std.proofs.lemmas.List.Elements.{All-cons, All-nil}
 use Rattle.std.proofs.lemmas.List.FromFn.{map-range_with_len_more, length-range_with_len, get_or-range_with_len}
-use Rattle.std.proofs.lemmas.Option.{slice_get_cases, slice_get-map, slice_get_read}
-use Rattle.prop_lattice.specs.declared.refusal.Refusal.{Refusal}
 use Rattle.prop_procedures.specs.declared.shape.Kinded.{Kinded}
 use Rattle.prop_procedures.specs.declared.shape.Param.{Param}
 use Rattle.prop_procedures.specs.Stored.{Stored}
@@ -22,7 +20,7 @@ use Rattle.prop_compound.specs.Expanding.{size_refusal}
 use Rattle.prop_compound.specs.Kept.{bare, all_bare, fresh_used, instances_used, fresh_of, instances_of, total_in, total_of, IsUseOver, IsDefinedOver, IsThere, IsUseThere, AreKept, AreRight, IsRight}
 use Rattle.prop_compound.proofs.Walking.{kept_at, kept_here, bare_at, params_at}
 use Rattle.prop_compound.proofs.Sizes.{IsLonger, use_makes, definitions_make, use_places, definitions_place}
-use Rattle.prop_compound.proofs.Ranges.{IsSound, AreSound, definitions_keep}
+use Rattle.prop_compound.proofs.Ranges.{AreSound, definitions_keep}
 
 -- ---- sizes
 

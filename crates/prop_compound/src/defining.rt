@@ -1,25 +1,142 @@
 //! Making a definition.
-ghost use Rattle.std.specs.Prelude.{◌≡◌, ◌++◌, ◌∷◌, ◌⊎◌, [], true, false, All, length, map, IfOk, IfErr, OnOk, OnErr, None, Some};
+ghost use Rattle.std.specs.Prelude.{◌≡◌, ◌≤◌, ◌++◌, ◌∷◌, ◌⊎◌, ℕ, List, [], true, false, All, nat_le, length, map, take, drop, IfOk, IfErr, OnOk, OnErr, None, Some};
+ghost use Rattle.std.specs.List.{list_any, flat_map};
+ghost use Rattle.prop_lattice.specs.Refusals.{most};
 ghost use Rattle.prop_procedures.specs.Kept.{stored_of};
 ghost use Rattle.prop_vocabulary.specs.Names.{number_in};
+ghost use Rattle.prop_vocabulary.specs.Refusing.{when, first_of};
 ghost use Rattle.prop_language.specs.Said.{words as words_of, step_of};
-ghost use Rattle.prop_compound.specs.Defining.{scope_of, step_numbered, with_definition, define_refusal};
-ghost use Rattle.prop_compound.specs.Kept.{bare, IsKept, IsDefinedOver};
+ghost use Rattle.prop_compound.specs.Defining.{locals_of, scope_of, definition_of, with_definition, define_refusal, is_name_taken, is_nowhere, is_unrelated, is_cell_missing, is_unknown, is_count_wrong};
+ghost use Rattle.prop_compound.specs.Kept.{bare, IsKept, IsUseOver, IsDefinedOver};
 
 use crate::counting::counted;
 use crate::definition::KeptDefinition;
 use crate::definitions::Definitions;
 use crate::resolving::{has_nowhere, has_unrelated};
-use crate::scope::{is_cell_missing, scope_of};
+use crate::scope::{is_cell_missing, push_names};
 use prop_language::Step;
 use prop_lattice::{Limit, Refusal};
 use prop_procedures::{Library, Rule};
 use prop_vocabulary::{Names, Vocabulary};
 use std::alloc::{AllocError, Global};
 
+/// Why steps may not stand for their words' sake, where the first so many names of the scope are the parameters: 8, 19 or 9.
+fn words_refusal(
+    words: &Vocabulary,
+    scope: &Names,
+    params: usize,
+    steps: &[Step],
+) -> Option<Refusal>
+    requires count { params ≤ length scope.now }
+    requires locals { drop params scope.now ≡ flat_map locals_of (map step_of steps.now) }
+    ensures { result ≡ first_of (when Refusal.NoSuchDomain (list_any (is_nowhere words.now) (map step_of steps.now)) ∷ when Refusal.NoSuchRelation (list_any (is_unrelated words.now) (map step_of steps.now)) ∷ when Refusal.NoSuchCell (is_cell_missing (take params scope.now) (map step_of steps.now)) ∷ []) }
+{
+    if has_nowhere(words, steps) {
+        return Some(Refusal::NoSuchDomain);
+    }
+    if has_unrelated(words, steps) {
+        return Some(Refusal::NoSuchRelation);
+    }
+    if is_cell_missing(scope, params, steps) {
+        return Some(Refusal::NoSuchCell);
+    }
+    None
+}
+
 impl Definitions {
-    /// Refuses what may not be defined: with 7, 8, 19, 9, 11, 12, 16, and with 90. Answers the parameters and locals by name.
-    fn judge<R: Rule + Drop>(
+    /// Why steps may not be defined for what they use, or for the count of definitions: 11, 12 or 16.
+    fn uses_refusal<R: Rule + Drop>(&self, library: &Library<R>, steps: &[Step]) -> Option<Refusal>
+        ensures { result ≡ first_of (when Refusal.NoSuchProcedure (list_any (is_unknown (stored_of R.value_of library.now) self.now) (map step_of steps.now)) ∷ when Refusal.WrongCount (list_any (is_count_wrong (stored_of R.value_of library.now) self.now) (map step_of steps.now)) ∷ when (Refusal.LimitReached Limit.Definitions) (nat_le (most Limit.Definitions) (length self.now.definitions)) ∷ []) }
+    {
+        if self.has_unknown(library, steps) {
+            return Some(Refusal::NoSuchProcedure);
+        }
+        if self.has_count_wrong(library, steps) {
+            return Some(Refusal::WrongCount);
+        }
+        if self.len() >= Limit::Definitions.most() {
+            return Some(Refusal::LimitReached(Limit::Definitions));
+        }
+        None
+    }
+
+    /// Puts the parameters and locals by name into an empty scope, `NameTaken` where a procedure or a definition has the name or
+    /// one of them would stand twice.
+    fn name_all<R: Rule + Drop>(
+        &self,
+        alloc: Global,
+        library: &Library<R>,
+        scope: &mut Names,
+        name: &str,
+        params: &[&str],
+        steps: &[Step],
+    ) -> Result<(), Refusal>
+        requires { scope.old ≡ [] }
+        ensures scope { OnOk result (scope.new ≡ scope_of (words_of params.now) (map step_of steps.now)) }
+        ensures new { OnOk result (is_name_taken (stored_of R.value_of library.now) self.now name.now (words_of params.now) (map step_of steps.now) ≡ false) }
+        ensures why { IfErr result (λ e. ((e ≡ Refusal.NameTaken) × (is_name_taken (stored_of R.value_of library.now) self.now name.now (words_of params.now) (map step_of steps.now) ≡ true)) ⊎ (e ≡ Refusal.Memory)) }
+    {
+        if library.find(name).is_some() || self.find(name).is_some() {
+            return Err(Refusal::NameTaken);
+        }
+        push_names(alloc, scope, params, steps)
+    }
+
+    /// The definition by numbers, with what is known of its uses, or why its steps may not stand in this scope: 8, 19, 9, 11, 12
+    /// or 16, and 90.
+    fn resolved<R: Rule + Drop>(
+        &self,
+        alloc: Global,
+        library: &Library<R>,
+        words: &Vocabulary,
+        scope: &Names,
+        params: &[&str],
+        steps: &[Step],
+    ) -> Result<KeptDefinition, Refusal>
+        requires { scope.now ≡ scope_of (words_of params.now) (map step_of steps.now) }
+        ensures definition { IfOk result (λ k. bare k ≡ definition_of (stored_of R.value_of library.now) words.now self.now (words_of params.now) (map step_of steps.now)) }
+        ensures kept { IfOk result (λ k. IsKept (self.now.definitions ++ bare k ∷ []) (length self.now.definitions) k) }
+        ensures over { IfOk result (λ k. All (IsUseOver (stored_of R.value_of library.now)) k.steps.items) }
+        ensures fits { OnOk result ((name : List ℕ) → is_name_taken (stored_of R.value_of library.now) self.now name (words_of params.now) (map step_of steps.now) ≡ false → define_refusal (stored_of R.value_of library.now) words.now self.now name (words_of params.now) (map step_of steps.now) ≡ None) }
+        ensures err { IfErr result (λ e. ((name : List ℕ) → is_name_taken (stored_of R.value_of library.now) self.now name (words_of params.now) (map step_of steps.now) ≡ false → define_refusal (stored_of R.value_of library.now) words.now self.now name (words_of params.now) (map step_of steps.now) ≡ Some e) ⊎ (e ≡ Refusal.Memory)) }
+    {
+        if let Some(refusal) = words_refusal(words, scope, params.len(), steps) {
+            return Err(refusal);
+        }
+        if let Some(refusal) = self.uses_refusal(library, steps) {
+            return Err(refusal);
+        }
+        let mut numbered = Vec::new(alloc);
+        match self.push_numbered(alloc, library, words, scope, steps, &mut numbered) {
+            Ok(()) => Ok(counted(&self.definitions, params.len(), numbered)),
+            Err(AllocError) => Err(Refusal::Memory),
+        }
+    }
+
+    /// The definition by numbers, with what is known of its uses, or why it may not be made, where this scope is empty.
+    fn made_in<R: Rule + Drop>(
+        &self,
+        alloc: Global,
+        library: &Library<R>,
+        words: &Vocabulary,
+        scope: &mut Names,
+        name: &str,
+        params: &[&str],
+        steps: &[Step],
+    ) -> Result<KeptDefinition, Refusal>
+        requires { scope.old ≡ [] }
+        ensures definition { IfOk result (λ k. bare k ≡ definition_of (stored_of R.value_of library.now) words.now self.now (words_of params.now) (map step_of steps.now)) }
+        ensures kept { IfOk result (λ k. IsKept (self.now.definitions ++ bare k ∷ []) (length self.now.definitions) k) }
+        ensures over { IfOk result (λ k. All (IsUseOver (stored_of R.value_of library.now)) k.steps.items) }
+        ensures fits { OnOk result (define_refusal (stored_of R.value_of library.now) words.now self.now name.now (words_of params.now) (map step_of steps.now) ≡ None) }
+        ensures err { IfErr result (λ e. (define_refusal (stored_of R.value_of library.now) words.now self.now name.now (words_of params.now) (map step_of steps.now) ≡ Some e) ⊎ (e ≡ Refusal.Memory)) }
+    {
+        self.name_all(alloc, library, scope, name, params, steps)?;
+        self.resolved(alloc, library, words, scope, params, steps)
+    }
+
+    /// The definition by numbers, with what is known of its uses, or why it may not be made.
+    fn made<R: Rule + Drop>(
         &self,
         alloc: Global,
         library: &Library<R>,
@@ -27,54 +144,33 @@ impl Definitions {
         name: &str,
         params: &[&str],
         steps: &[Step],
-    ) -> Result<Names, Refusal>
-        ensures scope { IfOk result (λ scope. scope ≡ scope_of (words_of params.now) (map step_of steps.now)) }
+    ) -> Result<KeptDefinition, Refusal>
+        ensures definition { IfOk result (λ k. bare k ≡ definition_of (stored_of R.value_of library.now) words.now self.now (words_of params.now) (map step_of steps.now)) }
+        ensures kept { IfOk result (λ k. IsKept (self.now.definitions ++ bare k ∷ []) (length self.now.definitions) k) }
+        ensures over { IfOk result (λ k. All (IsUseOver (stored_of R.value_of library.now)) k.steps.items) }
         ensures fits { OnOk result (define_refusal (stored_of R.value_of library.now) words.now self.now name.now (words_of params.now) (map step_of steps.now) ≡ None) }
         ensures err { IfErr result (λ e. (define_refusal (stored_of R.value_of library.now) words.now self.now name.now (words_of params.now) (map step_of steps.now) ≡ Some e) ⊎ (e ≡ Refusal.Memory)) }
     {
-        if library.find(name).is_some() || self.find(name).is_some() {
-            return Err(Refusal::NameTaken);
-        }
-        let scope = scope_of(alloc, params, steps)?;
-        if has_nowhere(words, steps) {
-            return Err(Refusal::NoSuchDomain);
-        }
-        if has_unrelated(words, steps) {
-            return Err(Refusal::NoSuchRelation);
-        }
-        if is_cell_missing(&scope, params.len(), steps) {
-            return Err(Refusal::NoSuchCell);
-        }
-        if self.has_unknown(library, steps) {
-            return Err(Refusal::NoSuchProcedure);
-        }
-        if self.has_count_wrong(library, steps) {
-            return Err(Refusal::WrongCount);
-        }
-        if self.len() >= Limit::Definitions.most() {
-            return Err(Refusal::LimitReached(Limit::Definitions));
-        }
-        Ok(scope)
+        let mut scope = Names::new(alloc);
+        self.made_in(alloc, library, words, &mut scope, name, params, steps)
     }
 
-    /// One definition more. After an error nothing has changed.
-    fn push(
-        &mut self,
-        alloc: Global,
-        name: &str,
-        definition: KeptDefinition,
-    ) -> Result<(), AllocError>
+    /// One definition more. After an error, which is 90, nothing has changed.
+    fn push(&mut self, alloc: Global, name: &str, definition: KeptDefinition) -> Result<(), Refusal>
         requires new { number_in self.old.names name.now ≡ None }
         requires kept { IsKept (self.old.definitions ++ bare definition ∷ []) (length self.old.definitions) definition }
         ensures ok { OnOk result (self.new ≡ record { names = self.old.names ++ name.now ∷ []; definitions = self.old.definitions ++ bare definition ∷ [] }) }
-        ensures err { OnErr result (self.new ≡ self.old) }
+        ensures err { IfErr result (λ e. e ≡ Refusal.Memory) }
+        ensures err_same { OnErr result (self.new ≡ self.old) }
     {
-        self.definitions.push(definition)?;
+        let Ok(()) = self.definitions.push(definition) else {
+            return Err(Refusal::Memory);
+        };
         match self.names.push(alloc, name) {
             Ok(()) => Ok(()),
             Err(AllocError) => {
-                let _ = self.definitions.pop();
-                Err(AllocError)
+                drop(self.definitions.pop());
+                Err(Refusal::Memory)
             }
         }
     }
@@ -102,14 +198,7 @@ impl Definitions {
         ensures err { IfErr result (λ e. (define_refusal (stored_of R.value_of library.now) words.now self.old name.now (words_of params.now) (map step_of steps.now) ≡ Some e) ⊎ (e ≡ Refusal.Memory)) }
         ensures err_same { OnErr result (self.new ≡ self.old) }
     {
-        let scope = self.judge(alloc, library, words, name, params, steps)?;
-        let Ok(numbered) = self.all_numbered(alloc, library, words, &scope, steps) else {
-            return Err(Refusal::Memory);
-        };
-        let definition = counted(&self.definitions, params.len(), numbered);
-        match self.push(alloc, name, definition) {
-            Ok(()) => Ok(()),
-            Err(AllocError) => Err(Refusal::Memory),
-        }
+        let definition = self.made(alloc, library, words, name, params, steps)?;
+        self.push(alloc, name, definition)
     }
 }

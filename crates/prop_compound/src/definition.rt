@@ -4,7 +4,7 @@ use prop_procedures::Kinded;
 use std::marker::Model;
 
 /// What a use is given: nothing, a scale, the relation with this number, or what the definition itself is given.
-#[derive(Clone, Copy, Debug, PartialEq, Eq)]
+#[derive(Clone, Copy, PartialEq, Eq)]
 pub enum Passing {
     Nothing,
     Scale(i64),
@@ -13,14 +13,14 @@ pub enum Passing {
 }
 
 /// What a use is of: the procedure or the definition with this number.
-#[derive(Clone, Copy, Debug, PartialEq, Eq)]
+#[derive(Clone, Copy, PartialEq, Eq)]
 pub enum Used {
     Procedure(usize),
     Definition(usize),
 }
 
 /// The places of cells among the parameters and locals of a definition, in order.
-#[derive(Debug, Drop)]
+#[derive(Drop)]
 pub struct Places {
     places: Vec<usize>,
 }
@@ -50,7 +50,7 @@ impl Places {
 }
 
 /// A step of a definition, resolved: a local of a kind, a local like the cell at a place, or a use on the cells at places.
-#[derive(Debug, Drop)]
+#[derive(Drop)]
 pub enum NumberedStep {
     Local(Kinded),
     Like(usize),
@@ -59,7 +59,7 @@ pub enum NumberedStep {
 
 /// A definition, with what is known of its uses: whether they take a parameter, and for how many fresh cells and instances one
 /// stands, each counted up to one past its limit.
-#[derive(Debug, Drop)]
+#[derive(Drop)]
 pub(crate) struct KeptDefinition {
     pub(crate) params: usize,
     pub(crate) steps: Vec<NumberedStep>,

@@ -1,5 +1,5 @@
 //! What a use stands for, as it is handed out.
-ghost use Rattle.std.specs.Prelude.{◌≡◌, ◌<◌, ◌++◌, ◌≤◌, false, List, All, length, map, take, slice_get, IfOk, IfSome, OnOk};
+ghost use Rattle.std.specs.Prelude.{◌≡◌, ◌<◌, ◌++◌, ◌≤◌, false, List, [], All, length, map, take, slice_get, IfOk, IfSome, OnOk};
 ghost use Rattle.std.specs.Option.{option_and_then};
 ghost use Rattle.prop_procedures.specs.declared.shape.Param.{Param as Parameter};
 ghost use Rattle.prop_compound.specs.Expansion.{param_meant, meant, all_meant};
@@ -12,7 +12,7 @@ use prop_vocabulary::Vocabulary;
 use std::alloc::{AllocError, Global};
 
 /// An instance: a procedure by its number, the place of its parameter in a list where it is given one, and its cells.
-#[derive(Debug, Drop)]
+#[derive(Drop)]
 pub struct Placed {
     pub procedure: usize,
     pub param: Option<usize>,
@@ -22,7 +22,7 @@ pub struct Placed {
 
 /// The kinds of the fresh cells, parameters, and the instances in order. A cell is a place among the given cells followed by the
 /// fresh ones.
-#[derive(Debug, Drop)]
+#[derive(Drop)]
 pub struct Flat {
     pub fresh: Vec<Kinded>,
     pub params: Vec<Param>,
@@ -56,19 +56,23 @@ fn param_place(
     Ok(Some(place))
 }
 
-/// The instance with the place of its parameter.
+/// The instance with the place of its parameter, which is added to the list.
 fn instance_placed(
     alloc: Global,
+    words: &Vocabulary,
+    params: &mut Vec<Param>,
+    own: Option<usize>,
     instance: &Instance,
-    param: Option<usize>,
 ) -> Result<Placed, AllocError>
-    requires { 0 < length instance.now.cells }
-    ensures procedure { IfOk result (λ x. x.procedure ≡ instance.now.procedure) }
-    ensures param { IfOk result (λ x. x.param ≡ param) }
-    ensures cells { IfOk result (λ x. cells_of x ≡ instance.now.cells) }
+    requires own { IfSome own (λ n. n < length params.old.items) }
+    requires cells { 0 < length instance.now.cells }
+    ensures placed { IfOk result (λ x. placed_of params.new.items x ≡ meant (param_meant words.now (param_at params.old.items own)) instance.now) }
+    ensures there { IfOk result (λ x. IfSome x.param (λ n. n < length params.new.items)) }
+    ensures more { OnOk result ((more : List Parameter) × (params.new.items ≡ params.old.items ++ more)) }
 {
     let cells = instance.cells();
     let last = cells.len() - 1;
+    let param = param_place(alloc, words, params, own, instance.given())?;
     Ok(Placed {
         procedure: instance.procedure(),
         param,
@@ -77,24 +81,25 @@ fn instance_placed(
     })
 }
 
-/// The instances, with their parameters added to the list.
+/// Puts the instances into an empty list, and what is given and their parameters into another.
 fn place_all(
     alloc: Global,
     words: &Vocabulary,
     params: &mut Vec<Param>,
-    own: Option<usize>,
+    all: &mut Vec<Placed>,
+    given: Option<Param>,
     instances: &[Instance],
-) -> Result<Vec<Placed>, AllocError>
-    requires own { IfSome own (λ n. n < length params.old.items) }
+) -> Result<(), AllocError>
+    requires params { params.old.items ≡ [] }
+    requires all { all.old.items ≡ [] }
     requires cells { All (λ x. 0 < length x.cells) instances.now }
-    ensures { IfOk result (λ v. map (placed_of params.new.items) v.items ≡ map (meant (param_meant words.now (param_at params.old.items own))) instances.now) }
+    ensures { OnOk result (map (placed_of params.new.items) all.new.items ≡ map (meant (param_meant words.now given)) instances.now) }
 {
-    let mut all = Vec::new(alloc);
+    let own = first_place(params, given)?;
     for instance in instances {
-        let param = param_place(alloc, words, params, own, instance.given())?;
-        all.push(instance_placed(alloc, instance, param)?)?;
+        all.push(instance_placed(alloc, words, params, own, instance)?)?;
     }
-    Ok(all)
+    Ok(())
 }
 
 /// What the walk came upon behind the first `count` cells, where this is given.
@@ -111,8 +116,15 @@ pub(crate) fn flatten(
     ensures { IfOk result (λ flat. expansion_of_flat (take count walk.now.kinds) flat ≡ all_meant (param_meant words.now given) walk.now) }
 {
     let mut params = Vec::new(alloc);
-    let own = first_place(&mut params, given)?;
-    let instances = place_all(alloc, words, &mut params, own, walk.instances())?;
+    let mut instances = Vec::new(alloc);
+    place_all(
+        alloc,
+        words,
+        &mut params,
+        &mut instances,
+        given,
+        walk.instances(),
+    )?;
     let kinds = walk.kinds();
     Ok(Flat {
         fresh: Vec::from_slice(alloc, &kinds[count..])?,
@@ -123,7 +135,7 @@ pub(crate) fn flatten(
 
 /// Puts the parameter first, where there is one. Answers its place.
 fn first_place(params: &mut Vec<Param>, given: Option<Param>) -> Result<Option<usize>, AllocError>
-    requires { length params.old.items ≡ 0 }
+    requires { params.old.items ≡ [] }
     ensures param { IfOk result (λ own. param_at params.new.items own ≡ given) }
     ensures there { IfOk result (λ own. IfSome own (λ n. n < length params.new.items)) }
 {

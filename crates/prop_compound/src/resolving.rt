@@ -1,5 +1,5 @@
 //! What the words of a definition stand for.
-ghost use Rattle.std.specs.Prelude.{◌≡◌, ◌<◌, length, map, take, unwrap_or, IfOk, None, Some};
+ghost use Rattle.std.specs.Prelude.{◌≡◌, ◌<◌, [], length, map, take, unwrap_or, IfOk, OnOk, None, Some};
 ghost use Rattle.std.specs.List.{list_any};
 ghost use Rattle.prop_procedures.specs.Kept.{stored_of};
 ghost use Rattle.prop_language.specs.Said.{kind_of, passed_of, step_of};
@@ -169,21 +169,22 @@ impl Definitions {
         }
     }
 
-    /// The steps by numbers.
-    pub(crate) fn all_numbered<R: Rule + Drop>(
+    /// Puts the steps by numbers into a list that is still empty.
+    pub(crate) fn push_numbered<R: Rule + Drop>(
         &self,
         alloc: Global,
         library: &Library<R>,
         words: &Vocabulary,
         scope: &Names,
         steps: &[Step],
-    ) -> Result<Vec<NumberedStep>, AllocError>
-        ensures { IfOk result (λ all. all.items ≡ map (step_numbered (stored_of R.value_of library.now) words.now self.now scope.now) (map step_of steps.now)) }
+        all: &mut Vec<NumberedStep>,
+    ) -> Result<(), AllocError>
+        requires { all.old.items ≡ [] }
+        ensures { OnOk result (all.new.items ≡ map (step_numbered (stored_of R.value_of library.now) words.now self.now scope.now) (map step_of steps.now)) }
     {
-        let mut all = Vec::new(alloc);
         for step in steps {
             all.push(self.numbered(alloc, library, words, scope, step)?)?;
         }
-        Ok(all)
+        Ok(())
     }
 }

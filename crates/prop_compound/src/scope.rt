@@ -65,16 +65,20 @@ fn push_locals(alloc: Global, scope: &mut Names, steps: &[Step]) -> Result<(), R
     Ok(())
 }
 
-/// The parameters and after them the locals, `NameTaken` where a name stands twice.
-pub(crate) fn scope_of(alloc: Global, params: &[&str], steps: &[Step]) -> Result<Names, Refusal>
-    ensures ok { IfOk result (λ scope. scope ≡ scope_of (words_of params.now) (map step_of steps.now)) }
+/// Puts the parameters and after them the locals into an empty scope, `NameTaken` where a name would stand twice.
+pub(crate) fn push_names(
+    alloc: Global,
+    scope: &mut Names,
+    params: &[&str],
+    steps: &[Step],
+) -> Result<(), Refusal>
+    requires { scope.old ≡ [] }
+    ensures ok { OnOk result (scope.new ≡ scope_of (words_of params.now) (map step_of steps.now)) }
     ensures apart { OnOk result (has_repeat (scope_of (words_of params.now) (map step_of steps.now)) ≡ false) }
     ensures why { IfErr result (λ e. ((e ≡ Refusal.NameTaken) × (has_repeat (scope_of (words_of params.now) (map step_of steps.now)) ≡ true)) ⊎ (e ≡ Refusal.Memory)) }
 {
-    let mut scope = Names::new(alloc);
-    push_params(alloc, &mut scope, params)?;
-    push_locals(alloc, &mut scope, steps)?;
-    Ok(scope)
+    push_params(alloc, scope, params)?;
+    push_locals(alloc, scope, steps)
 }
 
 /// Whether the name is none of the first so many.

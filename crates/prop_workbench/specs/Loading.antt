@@ -1,15 +1,10 @@
 -- What loading the prelude does.
-use Rattle.std.specs.Prelude.{◌≡◌, ℕ, List, [], ◌∷◌, ◌++◌, ⊤, map}
-use Rattle.prop_arith.specs.declared.prelude.TheConstants.{PRELUDE}
+use Rattle.std.specs.Prelude.{◌≡◌, ℕ, List, [], ◌∷◌, ◌++◌, ⊤}
 use Rattle.prop_lattice.specs.declared.refusal.Refusal.{Refusal}
 use Rattle.prop_procedures.specs.Stored.{Stored}
 use Rattle.prop_engine.specs.Answers.{Answer, Refused}
 use Rattle.prop_workbench.specs.Machine.{State}
 use Rattle.prop_workbench.specs.Steps.{Step}
-
--- the lines of the prelude, byte by byte
-abbrev pub prelude_lines : List (List ℕ)
-prelude_lines = map (λ line. line.now) PRELUDE
 
 abbrev pub IsNoRefusal : Answer → Type 0
 IsNoRefusal (Refused refusal) = ⊥

@@ -8,7 +8,8 @@ use Rattle.prop_arith.specs.declared.kit.Kit.{Kit}
 use Rattle.prop_engine.specs.declared.outcome.Counts.{Counts}
 use Rattle.prop_workbench.specs.Machine.{State, new_state}
 use Rattle.prop_workbench.specs.Engine.{workbench}
-use Rattle.prop_workbench.specs.Loading.{prelude_lines, Loads}
+use Rattle.prop_arith.specs.Prelude.{prelude_lines}
+use Rattle.prop_workbench.specs.Loading.{Loads}
 use Rattle.prop_engine.specs.Endings.{WritesTranscript, WritesFront}
 
 -- the procedure of a rule

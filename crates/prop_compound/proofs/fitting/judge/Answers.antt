@@ -1,4 +1,4 @@
-use Rattle.std.proofs.Common.{[], ◌∷◌, refl, inl, ap, ◌∙◌}
+use Rattle.std.proofs.Common.{[], ◌∷◌, inl, ap, ◌∙◌}
 use Rattle.prop_lattice.specs.declared.refusal.Refusal.TheVariants.{WrongParameter}
 use Rattle.prop_procedures.specs.Kept.{stored_of}
 use Rattle.prop_vocabulary.specs.Refusing.{when, first_of}

@@ -1,4 +1,4 @@
-use Rattle.std.proofs.Common.{◌≡◌, ◌++◌, ◌∷◌, [], ◌∙◌, length, map, zip, get_or, refl, sym, arith}
+use Rattle.std.proofs.Common.{◌≡◌, ◌++◌, ◌∷◌, [], ◌∙◌, map, zip, get_or, refl, arith}
 use Rattle.std.proofs.lemmas.List.{take_all}
 use Rattle.prop_procedures.specs.Fitting.{kind_at}
 use Rattle.prop_compound.proofs.Zips.{places_length, places_more}

@@ -1,5 +1,5 @@
-use Rattle.std.proofs.Common.{refl, sym, drop, ◌+◌, arith, ap}
-use Rattle.prop_compound.proofs.Scoping.{IsSeen, seen_at, missing_here, seen_more, none_missing}
+use Rattle.std.proofs.Common.{refl, sym, arith}
+use Rattle.prop_compound.proofs.Scoping.{seen_at, missing_here, seen_more, none_missing}
 use Rattle.prop_compound.proofs.scope.is_cell_missing.Goals as goal
 
 pub loop-step-init : goal.loop-step-init

@@ -1,4 +1,4 @@
-use Rattle.std.proofs.Common.{◌≡◌, drop, length}
+use Rattle.std.proofs.Common.{drop}
 use Rattle.prop_compound.proofs.Scoping.{IsSeen}
 use Rattle.prop_compound.proofs.scope.is_cell_missing.Given as goal
 

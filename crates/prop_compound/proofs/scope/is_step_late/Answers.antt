@@ -1,4 +1,4 @@
-use Rattle.std.proofs.Common.{◌∙◌, take}
+use Rattle.std.proofs.Common.{take}
 use Rattle.prop_compound.proofs.Scoping.{late_words}
 use Rattle.prop_compound.proofs.scope.is_step_late.Goals as goal
 

@@ -1,5 +1,4 @@
-use Rattle.std.proofs.Common.{◌≡◌, ◌++◌, ◌∷◌, [], false, take}
-use Rattle.std.specs.Borrow.{Bor}
+use Rattle.std.proofs.Common.{◌≡◌, ◌++◌, false, take}
 use Rattle.std.specs.List.{flat_map}
 use Rattle.prop_sets.specs.Names.{has_repeat}
 use Rattle.prop_compound.proofs.Scoping.{named}

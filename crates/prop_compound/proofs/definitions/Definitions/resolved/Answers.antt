@@ -1,0 +1,94 @@
+use Rattle.std.proofs.Common.{◌≡◌, ◌∙◌, ℕ, List, Bor, map, ap, sym, length, take, inl, inr, refl}
+use Rattle.std.proofs.lemmas.List.{length-map}
+use Rattle.prop_procedures.specs.Kept.{stored_of}
+use Rattle.prop_language.specs.Said.{words, step_of}
+use Rattle.prop_compound.specs.Definitions.{Definitions}
+use Rattle.prop_compound.specs.Kept.{all_bare}
+use Rattle.prop_compound.proofs.Judging.{IsRightly, said_within, said_first, said_behind, refused_words, refused_uses, not_refused, rightly}
+use Rattle.prop_compound.proofs.Resolved.{used_seen, kept_new, same_count, numbered_so, definition_so, steps_over}
+use Rattle.prop_compound.proofs.definitions.Definitions.resolved.Goals as goal
+
+pub words_refusal-requires-clause-count : goal.words_refusal-requires-clause-count
+words_refusal-requires-clause-count g c =
+    said_within c.args.params.now c.args.scope.now (map step_of c.args.steps.now) c.requires
+
+pub words_refusal-requires-clause-locals : goal.words_refusal-requires-clause-locals
+words_refusal-requires-clause-locals g c =
+    said_behind c.args.params.now c.args.scope.now (map step_of c.args.steps.now) c.requires
+
+pub returns-in-Some-clause-err : goal.returns-in-Some-clause-err
+returns-in-Some-clause-err g c =
+    let steps = map step_of c.args.steps.now in
+    inl (refused_words (stored_of g.R.Rule.value_of c.args.library.now) c.args.words.now c.args.self.now (words c.args.params.now) steps (take (length c.args.params.now) c.args.scope.now) (said_first c.args.params.now c.args.scope.now steps c.requires) c.words_refusal.result c.words_refusal.ensures c.in-Some.refusal c.in-Some.is)
+
+pub returns-in-Some-uses_refusal-clause-err : goal.returns-in-Some-uses_refusal-clause-err
+returns-in-Some-uses_refusal-clause-err g c =
+    let steps = map step_of c.args.steps.now in
+    inl (refused_uses (stored_of g.R.Rule.value_of c.args.library.now) c.args.words.now c.args.self.now (words c.args.params.now) steps (take (length c.args.params.now) c.args.scope.now) (said_first c.args.params.now c.args.scope.now steps c.requires) c.words_refusal.result c.words_refusal.ensures c.in_default.is c.uses_refusal.result c.uses_refusal.ensures c.in-Some-uses_refusal.refusal c.in-Some-uses_refusal.is)
+
+pub push_numbered-requires : goal.push_numbered-requires
+push_numbered-requires g c = c.new-numbered.ensures.items
+
+pub counted-requires-clause-kept : goal.counted-requires-clause-kept
+counted-requires-clause-kept g c = rw c.deref.ensures.value c.self.invariant.1
+
+pub counted-requires-clause-used : goal.counted-requires-clause-used
+counted-requires-clause-used g c =
+    let library = stored_of g.R.Rule.value_of c.args.library.now in
+    let definitions = c.args.self.now in
+    let params = words c.args.params.now in
+    let steps = map step_of c.args.steps.now in
+    let same = same_count c.self.inside.names c.self.inside.definitions.items definitions c.self.view_is c.self.invariant in
+    let right : IsRightly library c.args.words.now definitions params steps =
+    rightly library c.args.words.now definitions params steps (take (length c.args.params.now) c.args.scope.now) (said_first c.args.params.now c.args.scope.now steps c.requires) c.words_refusal.result c.words_refusal.ensures c.in_default.is c.uses_refusal.result c.uses_refusal.ensures c.in_default-uses_refusal.is in
+    let items = numbered_so library c.args.words.now definitions params steps same right c.args.scope.now c.push_numbered.new.all.items c.requires c.in-Ok.ensures in
+    let seen : definitions.definitions ≡ all_bare c.deref.result.now = ap (λ (d : Definitions). d.definitions) (sym c.self.view_is) ∙ ap all_bare (sym c.deref.ensures.value) in
+    used_seen library c.args.words.now definitions params steps same right c.deref.result.now c.push_numbered.new.all.items seen items
+
+pub returns-in-Ok-clause-definition : goal.returns-in-Ok-clause-definition
+returns-in-Ok-clause-definition g c =
+    let library = stored_of g.R.Rule.value_of c.args.library.now in
+    let definitions = c.args.self.now in
+    let params = words c.args.params.now in
+    let steps = map step_of c.args.steps.now in
+    let same = same_count c.self.inside.names c.self.inside.definitions.items definitions c.self.view_is c.self.invariant in
+    let right : IsRightly library c.args.words.now definitions params steps =
+    rightly library c.args.words.now definitions params steps (take (length c.args.params.now) c.args.scope.now) (said_first c.args.params.now c.args.scope.now steps c.requires) c.words_refusal.result c.words_refusal.ensures c.in_default.is c.uses_refusal.result c.uses_refusal.ensures c.in_default-uses_refusal.is in
+    let items = numbered_so library c.args.words.now definitions params steps same right c.args.scope.now c.push_numbered.new.all.items c.requires c.in-Ok.ensures in
+    let count = c.counted.ensures.params ∙ sym (length-map c.args.params.now (λ (w : Bor (List ℕ)). w.now)) in
+    definition_so library c.args.words.now definitions params steps same right c.counted.result c.push_numbered.new.all.items items count c.counted.ensures.steps
+
+pub returns-in-Ok-clause-kept : goal.returns-in-Ok-clause-kept
+returns-in-Ok-clause-kept g c =
+    let library = stored_of g.R.Rule.value_of c.args.library.now in
+    let definitions = c.args.self.now in
+    let params = words c.args.params.now in
+    let steps = map step_of c.args.steps.now in
+    let same = same_count c.self.inside.names c.self.inside.definitions.items definitions c.self.view_is c.self.invariant in
+    let right : IsRightly library c.args.words.now definitions params steps =
+    rightly library c.args.words.now definitions params steps (take (length c.args.params.now) c.args.scope.now) (said_first c.args.params.now c.args.scope.now steps c.requires) c.words_refusal.result c.words_refusal.ensures c.in_default.is c.uses_refusal.result c.uses_refusal.ensures c.in_default-uses_refusal.is in
+    let items = numbered_so library c.args.words.now definitions params steps same right c.args.scope.now c.push_numbered.new.all.items c.requires c.in-Ok.ensures in
+    let seen : definitions.definitions ≡ all_bare c.deref.result.now = ap (λ (d : Definitions). d.definitions) (sym c.self.view_is) ∙ ap all_bare (sym c.deref.ensures.value) in
+    let count = c.counted.ensures.params ∙ sym (length-map c.args.params.now (λ (w : Bor (List ℕ)). w.now)) in
+    let made = c.counted.ensures in
+    kept_new library c.args.words.now definitions params steps same right c.counted.result c.push_numbered.new.all.items (all_bare c.deref.result.now) seen items count made.steps made.takes made.fresh made.instances
+
+pub returns-in-Ok-clause-over : goal.returns-in-Ok-clause-over
+returns-in-Ok-clause-over g c =
+    let library = stored_of g.R.Rule.value_of c.args.library.now in
+    let definitions = c.args.self.now in
+    let params = words c.args.params.now in
+    let steps = map step_of c.args.steps.now in
+    let same = same_count c.self.inside.names c.self.inside.definitions.items definitions c.self.view_is c.self.invariant in
+    let right : IsRightly library c.args.words.now definitions params steps =
+    rightly library c.args.words.now definitions params steps (take (length c.args.params.now) c.args.scope.now) (said_first c.args.params.now c.args.scope.now steps c.requires) c.words_refusal.result c.words_refusal.ensures c.in_default.is c.uses_refusal.result c.uses_refusal.ensures c.in_default-uses_refusal.is in
+    let items = numbered_so library c.args.words.now definitions params steps same right c.args.scope.now c.push_numbered.new.all.items c.requires c.in-Ok.ensures in
+    steps_over library c.args.words.now definitions params steps same right c.counted.result c.push_numbered.new.all.items items c.counted.ensures.steps
+
+pub returns-in-Ok-clause-fits : goal.returns-in-Ok-clause-fits
+returns-in-Ok-clause-fits g c =
+    let steps = map step_of c.args.steps.now in
+    not_refused (stored_of g.R.Rule.value_of c.args.library.now) c.args.words.now c.args.self.now (words c.args.params.now) steps (take (length c.args.params.now) c.args.scope.now) (said_first c.args.params.now c.args.scope.now steps c.requires) c.words_refusal.result c.words_refusal.ensures c.in_default.is c.uses_refusal.result c.uses_refusal.ensures c.in_default-uses_refusal.is
+
+pub returns-in-Err-clause-err : goal.returns-in-Err-clause-err
+returns-in-Err-clause-err g c = inr refl
