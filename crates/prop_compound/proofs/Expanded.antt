@@ -1,13 +1,12 @@
 -- Why a whole use is refused, in the order in which it is tested, and what it stands for where it is not.
-use Rattle.std.proofs.Common.{◌≡◌, ◌∙◌, ℕ, ◌+◌, ◌-◌, ◌<◌, ◌≤◌, ◌==◌, List, [], ◌∷◌, All, Bool, true, false, not, length, map, take, Option, Some, None, refl, sym, ap, arith, inl, inr}
+use Rattle.std.proofs.Common.{◌≡◌, ◌∙◌, ℕ, ◌+◌, ◌-◌, ◌<◌, ◌≤◌, ◌==◌, List, [], ◌∷◌, All, Bool, false, not, length, take, Option, Some, None, refl, sym, ap, arith, inl, inr}
 use Rattle.std.specs.Prelude.{is_none}
-use Rattle.std.specs.List.{list_any, range_with_len}
+use Rattle.std.specs.List.{range_with_len}
 use Rattle.std.specs.Option.{option_map_or}
-use Rattle.std.proofs.lemmas.Bool.{or_parts}
 use Rattle.std.proofs.lemmas.List.Elements.{All-weaker}
 use Rattle.std.proofs.lemmas.Option.{slice_get_cases}
 use Rattle.prop_lattice.specs.declared.refusal.Refusal.{Refusal}
-use Rattle.prop_lattice.specs.declared.refusal.Refusal.TheVariants.{NoSuchProcedure, WrongCount, WrongKind, WrongParameter}
+use Rattle.prop_lattice.specs.declared.refusal.Refusal.TheVariants.{NoSuchProcedure, WrongCount}
 use Rattle.prop_procedures.specs.declared.shape.Kinded.{Kinded}
 use Rattle.prop_procedures.specs.declared.shape.Param.{Param}
 use Rattle.prop_procedures.specs.Stored.{Stored}
@@ -17,11 +16,10 @@ use Rattle.prop_compound.specs.declared.definition.Passing.{Passing}
 use Rattle.prop_compound.specs.declared.definition.Used.{Used}
 use Rattle.prop_compound.specs.declared.flat.Flat.{Flat}
 use Rattle.prop_compound.specs.Definitions.{Definitions, used_named, cells_wanted, is_miscounted}
-use Rattle.prop_compound.specs.Expansion.{Walk, Placed, start, param_meant, meant, all_meant, passing_of, expanded_in, expanded}
-use Rattle.prop_compound.specs.Expanding.{is_misplaced, is_misgiven, is_param_wrong, size_refusal, fit_refusal, expand_refusal}
+use Rattle.prop_compound.specs.Expansion.{Walk, Placed, start, param_meant, all_meant, passing_of, expanded_in, expanded}
+use Rattle.prop_compound.specs.Expanding.{size_refusal, fit_refusal, expand_refusal}
 use Rattle.prop_compound.specs.Flattened.{expansion_of_flat, IsFlatOver}
 use Rattle.prop_compound.specs.Kept.{fresh_used, instances_used, fresh_of, instances_of, total_of, IsRight, AreRight}
-use Rattle.prop_compound.proofs.Firsts.{stops, neither}
 use Rattle.prop_compound.proofs.Flattening.{flat_over}
 use Rattle.prop_compound.proofs.Using.{expanded_is, sizes_are, first_kinds, enough_kinds}
 
@@ -67,15 +65,6 @@ module _ (library : List Stored) (words : Vocabulary) (definitions : Definitions
     size_stops o r s e =
         passes_count ∙ ap (λ z. first_of (z ∷ fit_refusal library (all_meant (param_meant words given) uses_it) ∷ [])) (sym s ∙ e)
 
-  -- the count of cells is wrong
-  pub count_stops : (wrong : Bool) → wrong ≡ not (length kinds == cells_wanted library definitions used) → wrong ≡ true → expand_refusal library words definitions name kinds given ≡ Some WrongCount
-  count_stops wrong wrong_is e =
-      let named : is_none (used_named library definitions name) ≡ false = ap is_none is in
-      let counted : is_miscounted library definitions name (length kinds) ≡ true = ap (λ o. option_map_or (λ u. not (length kinds == cells_wanted library definitions u)) o false) is ∙ sym wrong_is ∙ e in
-      let sizes_here = size_refusal (length (expanded library words definitions name kinds given).kinds - length kinds) (length (expanded library words definitions name kinds given).placed) in
-      let fit = fit_refusal library (expanded library words definitions name kinds given) in
-      λ i. first_of (when NoSuchProcedure (named i) ∷ when WrongCount (counted i) ∷ sizes_here ∷ fit ∷ [])
-
   module _ (passing : Passing) (passing_is : passing ≡ passing_of given) (walk : Walk) (walk_with : walk ≡ expanded_in definitions.definitions used (range_with_len 0 (length kinds)) passing (start kinds)) where
     walk_is : walk ≡ uses_it
     walk_is =
@@ -103,17 +92,3 @@ module _ (library : List Stored) (words : Vocabulary) (definitions : Definitions
 
       pub flat_safe : AreRight library walk → IsFlatOver library (length kinds) flat
       flat_safe h = flat_over library kinds flat walk (param_meant words given) flat_same h
-
--- the name is nothing's
-pub unknown_stops : (library : List Stored) (words : Vocabulary) (definitions : Definitions) (name : List ℕ) (kinds : List Kinded) (given : Option Param) → used_named library definitions name ≡ None → expand_refusal library words definitions name kinds given ≡ Some NoSuchProcedure
-unknown_stops library words definitions name kinds given e =
-    let wrong = is_miscounted library definitions name (length kinds) in
-    let sizes_here = size_refusal (length (expanded library words definitions name kinds given).kinds - length kinds) (length (expanded library words definitions name kinds given).placed) in
-    let fit = fit_refusal library (expanded library words definitions name kinds given) in
-    stops NoSuchProcedure (is_none (used_named library definitions name)) (when WrongCount wrong ∷ sizes_here ∷ fit ∷ []) (ap is_none e)
-
--- nothing is spare where all fits
-pub not_spare : (library : List Stored) (mean : Passing → Option Param) (walk : Walk) → fit_refusal library (all_meant mean walk) ≡ None → walk.spare ≡ false
-not_spare library mean walk e =
-    let fits = neither WrongKind WrongParameter (list_any (is_misplaced library walk.kinds) (map (meant mean) walk.placed)) (is_param_wrong library (all_meant mean walk)) e in
-    (or_parts walk.spare (list_any (is_misgiven library) (map (meant mean) walk.placed)) fits.1).0
