@@ -14,7 +14,7 @@ use Rattle.prop_vocabulary.specs.Refusing.{when, first_of}
 use Rattle.prop_vocabulary.specs.Vocabulary.{Vocabulary}
 use Rattle.prop_compound.specs.declared.definition.Passing.{Passing}
 use Rattle.prop_compound.specs.declared.definition.Used.{Used}
-use Rattle.prop_compound.specs.declared.flat.Flat.{Flat}
+use Rattle.prop_procedures.specs.declared.flat.Flat.{Flat}
 use Rattle.prop_compound.specs.Definitions.{Definitions, used_named, cells_wanted, is_miscounted}
 use Rattle.prop_compound.specs.Expansion.{Walk, Placed, start, param_meant, all_meant, passing_of, expanded_in, expanded}
 use Rattle.prop_compound.specs.Expanding.{size_refusal, fit_refusal, expand_refusal}

@@ -10,10 +10,11 @@ use Rattle.prop_procedures.specs.declared.shape.Param.{Param}
 use Rattle.prop_procedures.specs.Stored.{Stored}
 use Rattle.prop_compound.specs.declared.definition.Passing.{Passing}
 use Rattle.prop_compound.specs.declared.definition.Passing.TheVariants as passings
-use Rattle.prop_compound.specs.declared.flat.Placed as instances
-use Rattle.prop_compound.specs.declared.flat.Flat.{Flat}
+use Rattle.prop_procedures.specs.declared.flat.Placed as instances
+use Rattle.prop_procedures.specs.declared.flat.Flat.{Flat}
 use Rattle.prop_compound.specs.Expansion.{Walk, Placed, meant, all_meant}
-use Rattle.prop_compound.specs.Flattened.{param_at, placed_of, cells_of, expansion_of_flat, IsInstanceOver, IsFlatOver}
+use Rattle.prop_procedures.specs.Flats.{param_at, cells_of}
+use Rattle.prop_compound.specs.Flattened.{placed_of, expansion_of_flat, IsInstanceOver, IsFlatOver}
 use Rattle.prop_compound.specs.Kept.{AreRight}
 
 -- the place is there, where there is one

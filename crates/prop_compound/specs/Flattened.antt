@@ -1,19 +1,12 @@
 -- What is handed out for a use: its fresh cells and instances, in one list each.
 use Rattle.std.specs.Prelude.{◌≡◌, ◌<◌, ℕ, ◌+◌, List, [], ◌∷◌, ◌++◌, All, Option, Some, false, length, map, slice_get}
-use Rattle.std.specs.Option.{option_and_then}
 use Rattle.prop_procedures.specs.declared.shape.Kinded.{Kinded}
 use Rattle.prop_procedures.specs.declared.shape.Param.{Param}
 use Rattle.prop_procedures.specs.Stored.{Stored}
-use Rattle.prop_compound.specs.declared.flat.Placed as instances
-use Rattle.prop_compound.specs.declared.flat.Flat.{Flat}
+use Rattle.prop_procedures.specs.declared.flat.Placed as instances
+use Rattle.prop_procedures.specs.declared.flat.Flat.{Flat}
+use Rattle.prop_procedures.specs.Flats.{cells_of, param_at}
 use Rattle.prop_compound.specs.Expansion.{Placed, Expansion}
-
-abbrev pub cells_of : instances.Placed → List ℕ
-cells_of x = x.inputs.items ++ x.output ∷ []
-
--- the parameter at the place, where there is a place
-abbrev pub param_at : List Param → Option ℕ → Option Param
-param_at params place = option_and_then (λ n. slice_get params n) place
 
 -- the instance, with its parameter looked up among these
 abbrev pub placed_of : List Param → instances.Placed → Placed (Option Param)

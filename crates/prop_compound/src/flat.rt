@@ -3,31 +3,14 @@ ghost use Rattle.std.specs.Prelude.{◌≡◌, ◌<◌, ◌++◌, ◌≤◌, fal
 ghost use Rattle.std.specs.Option.{option_and_then};
 ghost use Rattle.prop_procedures.specs.declared.shape.Param.{Param as Parameter};
 ghost use Rattle.prop_compound.specs.Expansion.{param_meant, meant, all_meant};
-ghost use Rattle.prop_compound.specs.Flattened.{param_at, placed_of, cells_of, expansion_of_flat};
+ghost use Rattle.prop_procedures.specs.Flats.{param_at};
+ghost use Rattle.prop_compound.specs.Flattened.{placed_of, expansion_of_flat};
 
 use crate::definition::Passing;
 use crate::walk::{Instance, Walk};
-use prop_procedures::{Kinded, Param};
+use prop_procedures::{Flat, Param, Placed};
 use prop_vocabulary::Vocabulary;
 use std::alloc::{AllocError, Global};
-
-/// An instance: a procedure by its number, the place of its parameter in a list where it is given one, and its cells.
-#[derive(Drop)]
-pub struct Placed {
-    pub procedure: usize,
-    pub param: Option<usize>,
-    pub inputs: Vec<usize>,
-    pub output: usize,
-}
-
-/// The kinds of the fresh cells, parameters, and the instances in order. A cell is a place among the given cells followed by the
-/// fresh ones.
-#[derive(Drop)]
-pub struct Flat {
-    pub fresh: Vec<Kinded>,
-    pub params: Vec<Param>,
-    pub instances: Vec<Placed>,
-}
 
 /// Adds what is meant to the parameters, where it is not there yet. Answers its place, where something is meant.
 fn param_place(

@@ -8,15 +8,15 @@ pub mod definition;
 pub mod definitions;
 mod expanding;
 mod fitting;
-pub mod flat;
+mod flat;
 mod resolving;
 mod scope;
 pub mod uses;
 mod walk;
 
 pub use definitions::Definitions;
-pub use flat::{Flat, Placed};
 pub use prop_language::{
     By, Command, KindWord, Meant, Passed, Step, Value, number_in, read_line, read_value,
     reads_what_is_spelled,
 };
+pub use prop_procedures::{Flat, Placed};

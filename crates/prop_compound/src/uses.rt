@@ -12,10 +12,10 @@ use crate::definition::{Passing, Used};
 use crate::definitions::Definitions;
 use crate::expanding::expand_definition;
 use crate::fitting::judge;
-use crate::flat::{Flat, flatten};
+use crate::flat::flatten;
 use crate::walk::Walk;
 use prop_lattice::{Limit, Refusal};
-use prop_procedures::{Kinded, Library, Param, Rule};
+use prop_procedures::{Flat, Kinded, Library, Param, Rule};
 use prop_vocabulary::Vocabulary;
 use std::alloc::{AllocError, Global};
 

@@ -1,11 +1,14 @@
 -- What a network between runs keeps, as cells, instances and statements are added.
-use Rattle.std.proofs.Common.{◌≡◌, ◌∙◌, ◌+◌, ◌<◌, ℕ, Bool, true, false, List, [], ◌∷◌, ◌++◌, Option, Some, None, All, Contains, map, length, slice_get, refl, sym, ap, arith, inl, inr}
+use Rattle.std.proofs.Common.{◌≡◌, ◌∙◌, ◌+◌, ◌<◌, ◌≤◌, ◌⊎◌, ℕ, append-nil, Bool, true, false, List, [], ◌∷◌, ◌++◌, Option, Some, None, All, Contains, map, length, slice_get, refl, sym, ap, arith, inl, inr}
 use Rattle.std.proofs.lemmas.List.Elements.{All-weaker, All-push, All-contains, Contains-append_left, Contains-push}
-use Rattle.std.proofs.lemmas.List.{length-append, map-append, length-map}
-use Rattle.std.proofs.lemmas.Option.{slice_get_within}
+use Rattle.std.proofs.lemmas.List.{append_assoc, get_or_append_left, map-append, length-map}
+use Rattle.std.proofs.lemmas.Bool.{cases_lt}
+use Rattle.std.proofs.lemmas.Option.{slice_get_within, slice_get-get_or, get_or_from_slice_get}
 use Rattle.prop_lattice.specs.declared.info.Info.{Info}
 use Rattle.prop_lattice.specs.declared.info.Info.TheVariants.{Nothing}
 use Rattle.prop_lattice.specs.OrderLaws.{info_laws}
+use Rattle.prop_lattice.specs.declared.refusal.Refusal.{Refusal}
+use Rattle.std.specs.Prelude.{⊤, Result, Ok, Err, OnOk, OnErr}
 use Rattle.prop_premises.specs.Sets.{is_within}
 use Rattle.prop_tms.proofs.MergedLemmas.{join-bottom}
 use Rattle.prop_procedures.specs.declared.shape.Kinded.{Kinded}
@@ -26,16 +29,7 @@ use Rattle.prop_scheduler.specs.Agendas.{Alerted, AllAlerted}
 use Rattle.prop_scheduler.specs.Turns.{IsUnderWay}
 use Rattle.prop_scheduler.proofs.Steps.{from_map, all_after_alerts}
 
--- ---- nothing yet
-
-pub under_way_new : (library : List Stored) (s : Premises) (d : Data) (line : List ℕ) → IsKept library d → d ≡ no_data → line ≡ [] → IsUnderWay library s d line
-under_way_new library s d line kept e f = record {
-  kept = kept;
-  line_below = rw f (λ k x l. absurd (omega (arith, l)));
-  met = rw (e, f) (record { met = λ j c at idle. cc });
-}
-
--- ---- one more cell or parameter
+-- ---- one more cell
 
 pub under_way_cell : (library : List Stored) (s : Premises) (d new : Data) (line : List ℕ) (k : Kinded) → IsUnderWay library s d line → IsKept library new →
     new ≡ record d { kinds = d.kinds ++ k ∷ []; contents = d.contents ++ [] ∷ [] } → IsUnderWay library s new line
@@ -45,46 +39,44 @@ under_way_cell library s d new line k u kept e = record {
   met = rw (e, beliefs-push s d.contents) u.met;
 }
 
-pub under_way_param : (library : List Stored) (s : Premises) (d new : Data) (line : List ℕ) (param : Param) → IsUnderWay library s d line → IsKept library new → new ≡ record d { params = d.params ++ param ∷ [] } → IsUnderWay library s new line
-under_way_param library s d new line param u kept e = record { kept = kept; line_below = rw e u.line_below; met = rw e u.met }
+-- the same where a cell is made or refused
+pub under_way_one_cell : (library library' : List Stored) (s : Premises) (d new : Data) (line : List ℕ) (k : Kinded) (r : Result ⊤ Refusal) → library' ≡ library → IsKept library' new →
+    OnOk r (new ≡ record d { kinds = d.kinds ++ k ∷ []; contents = d.contents ++ [] ∷ [] }) → OnErr r (new ≡ d) → IsUnderWay library s d line → IsUnderWay library' s new line
+under_way_one_cell library library' s d new line k (Ok t) same kept e f u = rw same (under_way_cell library s d new line k u (rw same at kept) e)
+under_way_one_cell library library' s d new line k (Err refusal) same kept e f u = rw (same, f) u
 
--- ---- one more instance, which waits
+-- ---- more cells, parameters and instances, which wait
 
-at_one : (constraints : List Constraint) (new : Constraint) (line line' : List ℕ) (a : Assignment) → OthersMeet constraints line a → ((k : ℕ) → Contains line k → Contains line' k) → Contains line' (length constraints) →
-    OthersMeet (constraints ++ new ∷ []) line' a
-at_one constraints new line line' a o kept waits = record {
-  met = λ j c at idle.
-      elim (slice_get-push_cases constraints new c j at) as (λ _. Meets a c) [
-        | inl old ↦ o.met j c old (λ w. idle (kept j w))
-        | inr here ↦ absurd (idle (rw here.0 waits))
-      ];
-}
+-- cells of which nothing is known change no belief
+beliefs_fresh : (t : Premises) (contents : List (List Entry)) (fresh : List Kinded) → beliefs t (contents ++ map (λ k. []) fresh) ≡ beliefs t contents
+beliefs_fresh t contents [] = ap (beliefs t) (append-nil contents)
+beliefs_fresh t contents (k ∷ fresh) =
+    ap (beliefs t) (sym (append_assoc contents ([] ∷ []) (map (λ k. []) fresh))) ∙ beliefs_fresh t (contents ++ [] ∷ []) fresh ∙ beliefs-push t contents
 
-alerted_kept : (old new : List ℕ) (j k : ℕ) → Alerted old new j → Contains old k → Contains new k
-alerted_kept old new j k (inl h) c = rw h.1 c
-alerted_kept old new j k (inr h) c = rw h.1 (Contains-append_left old (j ∷ []) k c)
+front_get : {X : Type 0} (xs ys : List X) (i : ℕ) (x : X) → slice_get (xs ++ ys) i ≡ Some x → i < length xs → slice_get xs i ≡ Some x
+front_get xs ys i x at l =
+    slice_get-get_or xs i x l ∙ ap Some (sym (get_or_append_left xs ys x i l) ∙ get_or_from_slice_get (xs ++ ys) i x x at)
 
-alerted_here : (old new : List ℕ) (j : ℕ) → Alerted old new j → Contains new j
-alerted_here old new j (inl h) = rw h.1 h.0
-alerted_here old new j (inr h) = rw h.1 (Contains-push old j)
+-- where all instances that are new wait, the others are met as before
+others_met : (old new : List Constraint) (line line' : List ℕ) (a : ℕ → Info) → OthersMeet old line a → ((i : ℕ) → Contains line i → Contains line' i) →
+    ((i : ℕ) → length old ≤ i → i < length (old ++ new) → Contains line' i) → OthersMeet (old ++ new) line' a
+others_met old new line line' a o kept waits = record { met = λ j c at idle. by j c at idle (cases_lt j (length old)) }
+  where
+    by : (j : ℕ) (c : Constraint) → slice_get (old ++ new) j ≡ Some c → (Contains line' j → ⊥) → (j < length old) ⊎ (length old ≤ j) → Meets a c
+    by j c at idle (inl h) = o.met j c (front_get old new j c at h) (λ w. idle (kept j w))
+    by j c at idle (inr h) = absurd (idle (waits j h (slice_get_within (old ++ new) j c at)))
 
-alerted_below : (old new : List ℕ) (j n : ℕ) → Alerted old new j → j < n → All (λ k. k < n) old → All (λ k. k < n) new
-alerted_below old new j n (inl h) l all = rw h.1 all
-alerted_below old new j n (inr h) l all = rw h.1 (All-push (λ k. k < n) old j all l)
-
-pub under_way_attach : (library : List Stored) (s : Premises) (d new : Data) (line line' : List ℕ) (n : ℕ) (param : Option ℕ) (ins : List ℕ) (out j : ℕ) → IsUnderWay library s d line → IsKept library new → n < length library →
-    attach_refusal library d n param ins out ≡ None → new ≡ record d { instances = d.instances ++ attached library d.params n param ins out } → j ≡ length d.instances → Alerted line line' j → IsUnderWay library s new line'
-under_way_attach library s d new line line' n param ins out j u kept l fits e here alerted =
-    let one = attached_one library n d param ins out l fits in
-    let x = one.0 in
-    let e' : new ≡ record d { instances = d.instances ++ x ∷ [] } = e ∙ (λ i. record d { instances = d.instances ++ one.1 i }) in
-    let more = length-append d.instances (x ∷ []) in
-    let place : j ≡ length (map (constraint_of library) d.instances) = here ∙ sym (length-map d.instances (constraint_of library)) in
+pub under_way_made : (library : List Stored) (s : Premises) (d new : Data) (line line' : List ℕ) (fresh : List Kinded) (params : List Param) (xs : List Instance) → IsUnderWay library s d line → IsKept library new →
+    new ≡ record d { kinds = d.kinds ++ fresh; contents = d.contents ++ map (λ k. []) fresh; params = d.params ++ params; instances = d.instances ++ xs } →
+    ((i : ℕ) → Contains line i → Contains line' i) → ((i : ℕ) → length d.instances ≤ i → i < length (d.instances ++ xs) → Contains line' i) → All (λ k. k < length (d.instances ++ xs)) line' → IsUnderWay library s new line'
+under_way_made library s d new line line' fresh params xs u kept e before waits below =
+    let of = constraint_of library in
+    let n = length-map d.instances of in
+    let m : length (map of d.instances ++ map of xs) ≡ length (d.instances ++ xs) = ap length (sym (map-append of d.instances xs)) ∙ length-map (d.instances ++ xs) of in
     record {
       kept = kept;
-      line_below = rw e' (alerted_below line line' j (length (d.instances ++ x ∷ [])) alerted (omega (arith, here, more))
-          (All-weaker (λ k. k < length d.instances) (λ k. k < length (d.instances ++ x ∷ [])) (λ k h. omega (arith, h, more)) line u.line_below));
-      met = rw (e', map-append) (at_one (map (constraint_of library) d.instances) (constraint_of library x) line line' (beliefs s d.contents) u.met (λ k c. alerted_kept line line' j k alerted c) (rw (← place) (alerted_here line line' j alerted)));
+      line_below = rw e below;
+      met = rw (e, map-append, beliefs_fresh s d.contents fresh) (others_met (map of d.instances) (map of xs) line line' (beliefs s d.contents) u.met before (λ i l h. waits i (rw n at l) (rw m at h)));
     }
 
 -- ---- one more statement: the readers of its cell wait, where what is believed of the cell changed
@@ -155,10 +147,3 @@ under_way_all library s d line kept below all = record {
 -- where another worldview believes the same of every cell, it is as far
 pub under_way_believed : (library : List Stored) (s t : Premises) (d : Data) (line : List ℕ) → beliefs t d.contents ≡ beliefs s d.contents → IsUnderWay library s d line → IsUnderWay library t d line
 under_way_believed library s t d line same u = record { kept = u.kept; line_below = u.line_below; met = rw same u.met }
-
--- an attachment adds one instance
-pub attached_more : (library : List Stored) (d new : Data) (n : ℕ) (param : Option ℕ) (ins : List ℕ) (out : ℕ) → n < length library → attach_refusal library d n param ins out ≡ None →
-    new ≡ record d { instances = d.instances ++ attached library d.params n param ins out } → length new.instances ≡ length d.instances + 1
-attached_more library d new n param ins out l fits e =
-    let one = attached_one library n d param ins out l fits in
-    ap (λ x. length x.instances) e ∙ ap (λ xs. length (d.instances ++ xs)) one.1 ∙ length-append d.instances (one.0 ∷ [])

@@ -1,4 +1,4 @@
--- What a use leaves: the network is under way, and its fresh cells are of kinds that are there.
+-- The fresh cells of a use are of kinds that are there.
 use Rattle.std.proofs.Common.{◌≡◌, ◌∙◌, ℕ, ◌<◌, ◌≤◌, ◌==◌, Bool, true, false, cond, not, ◌&&◌, List, [], ◌∷◌, ◌++◌, Option, Some, None, All, Contains, map, length, slice_get, ◌⊎◌, inl, inr, sym, ap, subst}
 use Rattle.std.specs.Prelude.{reverse}
 use Rattle.std.specs.Option.{option_map_or}
@@ -26,40 +26,6 @@ use Rattle.prop_compound.specs.Definitions.{Definition, Definitions, used_named,
 use Rattle.prop_procedures.specs.Fitting.{kind_at}
 use Rattle.prop_compound.specs.Expansion.{Walk, cell_at, cells_at, passed, is_something, with_fresh, with_spare, passing_of, start, steps_expanded, definition_expanded, expanded_in, expanded}
 use Rattle.prop_workbench.specs.Sessions.{IsLocalOf, AreLocalsOf}
-
--- ---- under way
-
--- cells of which nothing is known change no belief
-beliefs_fresh : (t : Premises) (contents : List (List Entry)) (fresh : List Kinded) → beliefs t (contents ++ map (λ k. []) fresh) ≡ beliefs t contents
-beliefs_fresh t contents [] = ap (beliefs t) (append-nil contents)
-beliefs_fresh t contents (k ∷ fresh) =
-    ap (beliefs t) (sym (append_assoc contents ([] ∷ []) (map (λ k. []) fresh))) ∙ beliefs_fresh t (contents ++ [] ∷ []) fresh ∙ beliefs-push t contents
-
-front_get : {X : Type 0} (xs ys : List X) (i : ℕ) (x : X) → slice_get (xs ++ ys) i ≡ Some x → i < length xs → slice_get xs i ≡ Some x
-front_get xs ys i x at l =
-    slice_get-get_or xs i x l ∙ ap Some (sym (get_or_append_left xs ys x i l) ∙ get_or_from_slice_get (xs ++ ys) i x x at)
-
--- where all instances that are new wait, the others are met as before
-others_met : (old new : List Constraint) (line line' : List ℕ) (a : ℕ → Info) → OthersMeet old line a → ((i : ℕ) → Contains line i → Contains line' i) →
-    ((i : ℕ) → length old ≤ i → i < length (old ++ new) → Contains line' i) → OthersMeet (old ++ new) line' a
-others_met old new line line' a o kept waits = record { met = λ j c at idle. by j c at idle (cases_lt j (length old)) }
-  where
-    by : (j : ℕ) (c : Constraint) → slice_get (old ++ new) j ≡ Some c → (Contains line' j → ⊥) → (j < length old) ⊎ (length old ≤ j) → Meets a c
-    by j c at idle (inl h) = o.met j c (front_get old new j c at h) (λ w. idle (kept j w))
-    by j c at idle (inr h) = absurd (idle (waits j h (slice_get_within (old ++ new) j c at)))
-
-pub under_way_made : (library : List Stored) (s : Premises) (d new : Data) (line line' : List ℕ) (fresh : List Kinded) (params : List Param) (xs : List Instance) → IsUnderWay library s d line → IsKept library new →
-    new ≡ record d { kinds = d.kinds ++ fresh; contents = d.contents ++ map (λ k. []) fresh; params = d.params ++ params; instances = d.instances ++ xs } →
-    ((i : ℕ) → Contains line i → Contains line' i) → ((i : ℕ) → length d.instances ≤ i → i < length (d.instances ++ xs) → Contains line' i) → All (λ k. k < length (d.instances ++ xs)) line' → IsUnderWay library s new line'
-under_way_made library s d new line line' fresh params xs u kept e before waits below =
-    let of = constraint_of library in
-    let n = length-map d.instances of in
-    let m : length (map of d.instances ++ map of xs) ≡ length (d.instances ++ xs) = ap length (sym (map-append of d.instances xs)) ∙ length-map (d.instances ++ xs) of in
-    record {
-      kept = kept;
-      line_below = rw e below;
-      met = rw (e, map-append, beliefs_fresh s d.contents fresh) (others_met (map of d.instances) (map of xs) line line' (beliefs s d.contents) u.met before (λ i l h. waits i (rw n at l) (rw m at h)));
-    }
 
 -- ---- kinds
 

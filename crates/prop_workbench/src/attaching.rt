@@ -51,45 +51,6 @@ fn kinds_of(alloc: Global, held: &Cells, cells: &[usize]) -> Result<Vec<Kinded>,
     Ok(kinds)
 }
 
-/// Makes the instances with these numbers wait.
-fn alert_between(agenda: &mut Agenda, first: usize, end: usize)
-    requires { end ≤ agenda.old.room }
-    ensures before { (i : ℕ) → Contains agenda.old.line i → Contains agenda.new.line i }
-    ensures alerted { (i : ℕ) → first ≤ i → i < end → Contains agenda.new.line i }
-    ensures below { (n : ℕ) → end ≤ n → All (λ i. i < n) agenda.old.line → All (λ i. i < n) agenda.new.line }
-    ensures room { agenda.new.room ≡ agenda.old.room }
-{
-    for instance in first..end {
-        agenda.alert(instance);
-    }
-}
-
-/// Makes room for so many fresh cells and instances more, or tells which limit they pass.
-fn make_room<R: Rule + Drop>(
-    network: &Network<R>,
-    agenda: &mut Agenda,
-    fresh: usize,
-    instances: usize,
-) -> Result<(), Refusal>
-    ensures line { agenda.new.line ≡ agenda.old.line }
-    ensures more { agenda.old.room ≤ agenda.new.room }
-    ensures room { OnOk result (length network.now.cells.instances + instances ≤ agenda.new.room) }
-    ensures fits { OnOk result (room_refusal (length network.now.cells.kinds + fresh) (length network.now.cells.instances + instances) ≡ None) }
-    ensures err { IfErr result (λ e. (room_refusal (length network.now.cells.kinds + fresh) (length network.now.cells.instances + instances) ≡ Some e) ⊎ (e ≡ Refusal.Memory)) }
-{
-    if network.cells().saturating_add(fresh) > Limit::Cells.most() {
-        return Err(Refusal::LimitReached(Limit::Cells));
-    }
-    let count = network.instances().saturating_add(instances);
-    if count > Limit::Instances.most() {
-        return Err(Refusal::LimitReached(Limit::Instances));
-    }
-    match agenda.room(count) {
-        Ok(()) => Ok(()),
-        Err(AllocError) => Err(Refusal::Memory),
-    }
-}
-
 impl<R: Rule + Drop, O: Order + Drop> Session<R, O> {
     ghost use Rattle.std.specs.Prelude.{◌≡◌, ◌<◌, ◌≤◌, ◌+◌, ◌⊎◌, ℕ, All, length, map, None, Some, IfOk, IfErr, OnOk, OnErr};
     ghost use Rattle.prop_lattice.specs.declared.refusal.Refusal.TheVariants.{Memory};

@@ -22,36 +22,6 @@ use prop_scheduler::{Agenda, Order};
 use prop_vocabulary::Vocabulary;
 use std::alloc::AllocError;
 
-/// Makes a statement; where what is believed of its cell changes, the cell's readers wait.
-fn state_in<R: Rule + Drop>(
-    network: &mut Network<R>,
-    agenda: &mut Agenda,
-    worldview: &Worldview,
-    premise: Option<Premise>,
-    cell: usize,
-    info: Info,
-) -> Result<(), Refusal>
-    requires cell { cell < length network.old.cells.kinds }
-    requires under_way { IsUnderWay (stored_of R.value_of network.old.library) (set_of worldview.now) network.old.cells agenda.old.line }
-    requires room { length network.old.cells.instances ≤ agenda.old.room }
-    ensures same { network.new.library ≡ network.old.library }
-    ensures under_way { IsUnderWay (stored_of R.value_of network.new.library) (set_of worldview.now) network.new.cells agenda.new.line }
-    ensures room { agenda.new.room ≡ agenda.old.room }
-    ensures fits { OnOk result (state_refusal network.old.cells cell info ≡ None) }
-    ensures ok { OnOk result (States network.old.cells network.new.cells (record { premise = premise; cell = cell; info = info })) }
-    ensures err { IfErr result (λ e. (state_refusal network.old.cells cell info ≡ Some e) ⊎ (e ≡ Memory)) }
-    ensures err_same { OnErr result (network.new.cells ≡ network.old.cells) }
-    ensures err_line { OnErr result (agenda.new ≡ agenda.old) }
-{
-    let before = network.belief(cell, worldview);
-    network.state_under(premise, cell, info)?;
-    let after = network.belief(cell, worldview);
-    if !before.implies(after) {
-        agenda.alert_all(network.readers(cell));
-    }
-    Ok(())
-}
-
 /// What a value means at a cell of a kind.
 fn meaning<'a>(words: &Vocabulary, kind: Kind, value: &Value<'a>) -> Result<Meant<'a>, Refusal>
     requires { IsKnown words.now kind }

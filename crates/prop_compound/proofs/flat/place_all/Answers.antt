@@ -1,8 +1,9 @@
 use Rattle.std.proofs.Common.{◌≡◌, ◌∙◌, ◌++◌, ap}
 use Rattle.std.proofs.lemmas.List.Elements.{All-push}
-use Rattle.prop_compound.specs.declared.flat.Placed as instances
+use Rattle.prop_procedures.specs.declared.flat.Placed as instances
 use Rattle.prop_compound.specs.Expansion.{param_meant, meant}
-use Rattle.prop_compound.specs.Flattened.{param_at, placed_of}
+use Rattle.prop_procedures.specs.Flats.{param_at}
+use Rattle.prop_compound.specs.Flattened.{placed_of}
 use Rattle.prop_compound.proofs.Flattening.{IsPlaceIn, place_more, places_still, place_still, param_still}
 use Rattle.prop_compound.proofs.flat.place_all.Goals as goal
 

@@ -1,7 +1,8 @@
 use Rattle.std.proofs.Common.{◌≡◌, All, map, take}
-use Rattle.prop_compound.specs.declared.flat.Placed as instances
+use Rattle.prop_procedures.specs.declared.flat.Placed as instances
 use Rattle.prop_compound.specs.Expansion.{param_meant, meant}
-use Rattle.prop_compound.specs.Flattened.{param_at, placed_of}
+use Rattle.prop_procedures.specs.Flats.{param_at}
+use Rattle.prop_compound.specs.Flattened.{placed_of}
 use Rattle.prop_compound.proofs.Flattening.{IsPlaceIn}
 use Rattle.prop_compound.proofs.flat.place_all.Given as goal
 

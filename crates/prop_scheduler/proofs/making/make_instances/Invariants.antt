@@ -2,8 +2,8 @@ use Rattle.std.proofs.Common.{◌≡◌, ◌++◌, drop, map, take}
 use Rattle.prop_procedures.specs.Kept.{stored_of}
 use Rattle.prop_cells.specs.Data.{Data, IsKept}
 use Rattle.prop_cells.specs.Back.{GoesBackTo}
-use Rattle.prop_workbench.specs.Placing.{made_of}
-use Rattle.prop_workbench.proofs.placing.make_instances.Given as goal
+use Rattle.prop_scheduler.specs.Making.{made_of}
+use Rattle.prop_scheduler.proofs.making.make_instances.Given as goal
 
 abbrev pub invariant-loop-x : goal.invariant-loop-x
 invariant-loop-x g l = record {

@@ -1,7 +1,7 @@
 use Rattle.std.proofs.Common.{◌∙◌, ◌<◌, Contains, arith, inl, inr}
 use Rattle.std.proofs.lemmas.Bool.Decides.{eqb_tells}
 use Rattle.prop_scheduler.proofs.Line.{alerted_kept, alerted_here, alerted_all}
-use Rattle.prop_workbench.proofs.attaching.alert_between.Goals as goal
+use Rattle.prop_scheduler.proofs.making.alert_between.Goals as goal
 
 pub loop-instance-preserved : goal.loop-instance-preserved
 loop-instance-preserved c =

@@ -1,5 +1,5 @@
 use Rattle.std.proofs.Common.{◌≡◌, ◌<◌, ◌≤◌, ℕ, All, Contains}
-use Rattle.prop_workbench.proofs.attaching.alert_between.Given as goal
+use Rattle.prop_scheduler.proofs.making.alert_between.Given as goal
 
 abbrev pub invariant-loop-instance : goal.invariant-loop-instance
 invariant-loop-instance l = record {

@@ -3,14 +3,14 @@ use Rattle.prop_lattice.specs.Refusals.{most}
 use Rattle.prop_lattice.specs.declared.refusal.Limit.TheVariants.{Instances}
 use Rattle.prop_procedures.specs.Kept.{stored_of}
 use Rattle.prop_cells.proofs.Backing.{goes_back-same}
-use Rattle.prop_workbench.proofs.FlatLemmas.{first_there, each_may, room_for, all_made}
-use Rattle.prop_workbench.proofs.placing.make_some.Goals as goal
+use Rattle.prop_scheduler.proofs.Stages.{first_there, each_may, room_for, all_made}
+use Rattle.prop_scheduler.proofs.making.make_some.Goals as goal
 
 pub make_cells-made-requires-clause-kept : goal.make_cells-made-requires-clause-kept
 make_cells-made-requires-clause-kept g c = c.requires.kept
 
 pub make_cells-made-requires-clause-room : goal.make_cells-made-requires-clause-room
-make_cells-made-requires-clause-room g c = rw c.deref.ensures.value c.requires.may.few_cells
+make_cells-made-requires-clause-room g c = rw c.deref.ensures.value c.requires.few_cells
 
 pub returns-in-Err-clause-same : goal.returns-in-Err-clause-same
 returns-in-Err-clause-same g c = c.make_cells-made.ensures.same
@@ -58,13 +58,13 @@ pub make_instances-made-requires-clause-may : goal.make_instances-made-requires-
 make_instances-made-requires-clause-may g c =
     each_may (stored_of g.R.Rule.value_of c.args.network.now.library) (stored_of g.R.Rule.value_of c.add_params.new.network.library) c.args.network.now.cells c.make_cells-made.new.network.cells c.add_params.new.network.cells c.args.cells.now c.args.base.cell c.args.base.param
     c.args.flat c.deref.result.now c.deref-2.result.now (λ i. stored_of g.R.Rule.value_of ((c.add_params.ensures.same ∙ c.make_cells-made.ensures.same) i)) c.requires.cell c.requires.param c.deref.ensures.value c.deref-2.ensures.value
-    c.in_default.ensures.ok c.in_default-add_params.ensures.ok c.requires.may.each
+    c.in_default.ensures.ok c.in_default-add_params.ensures.ok c.requires.may
 
 pub make_instances-made-requires-clause-room : goal.make_instances-made-requires-clause-room
 make_instances-made-requires-clause-room g c =
     room_for (stored_of g.R.Rule.value_of c.args.network.now.library) (stored_of g.R.Rule.value_of c.add_params.new.network.library) c.args.network.now.cells c.make_cells-made.new.network.cells c.add_params.new.network.cells c.args.cells.now c.args.base.cell c.args.base.param
     c.args.flat c.deref.result.now c.deref-2.result.now (λ i. stored_of g.R.Rule.value_of ((c.add_params.ensures.same ∙ c.make_cells-made.ensures.same) i)) c.requires.cell c.requires.param c.deref.ensures.value c.deref-2.ensures.value
-    c.in_default.ensures.ok c.in_default-add_params.ensures.ok (most Instances) c.requires.may.few_instances
+    c.in_default.ensures.ok c.in_default-add_params.ensures.ok (most Instances) c.requires.few_instances
 
 pub returns-clause-same : goal.returns-clause-same
 returns-clause-same g c = c.make_instances-made.ensures.same ∙ c.add_params.ensures.same ∙ c.make_cells-made.ensures.same

@@ -3,7 +3,7 @@ use Rattle.prop_procedures.specs.Kept.{stored_of}
 use Rattle.prop_cells.specs.Data.{Data, IsKept}
 use Rattle.prop_cells.specs.Back.{GoesBackTo}
 use Rattle.std.specs.Vec.Iter.{into_iter_items}
-use Rattle.prop_workbench.proofs.placing.add_params.Given as goal
+use Rattle.prop_scheduler.proofs.making.add_params.Given as goal
 
 abbrev pub invariant-loop-param : goal.invariant-loop-param
 invariant-loop-param g l = record {

@@ -2,8 +2,8 @@ use Rattle.std.proofs.Common.{◌≡◌, take}
 use Rattle.prop_procedures.specs.Kept.{stored_of}
 use Rattle.prop_cells.specs.Data.{Data, IsKept, IsWellMade}
 use Rattle.prop_cells.specs.Back.{GoesBackTo}
-use Rattle.prop_workbench.specs.Placing.{with_fresh_cells}
-use Rattle.prop_workbench.proofs.placing.make_cells.Given as goal
+use Rattle.prop_scheduler.specs.Making.{with_fresh_cells}
+use Rattle.prop_scheduler.proofs.making.make_cells.Given as goal
 
 abbrev pub invariant-loop-kind : goal.invariant-loop-kind
 invariant-loop-kind g l = record {

@@ -9,7 +9,7 @@ use Rattle.prop_cells.specs.Data.{IsKept, beliefs}
 use Rattle.prop_cells.proofs.Reading.{readers_are}
 use Rattle.prop_cells.proofs.Adding.{adds_grow}
 use Rattle.prop_scheduler.proofs.UnderWay.{under_way_same, under_way_grown}
-use Rattle.prop_workbench.proofs.stating.state_in.Goals as goal
+use Rattle.prop_scheduler.proofs.stating.state.Goals as goal
 
 pub alert_all-requires : goal.alert_all-requires
 alert_all-requires g c =

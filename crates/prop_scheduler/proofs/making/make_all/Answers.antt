@@ -2,7 +2,7 @@ use Rattle.std.proofs.Common.{◌≡◌, ◌∙◌, ap, length, subst, sym}
 use Rattle.prop_procedures.specs.Kept.{stored_of}
 use Rattle.prop_cells.specs.Data.{Data, IsKept, IsWellMade}
 use Rattle.prop_cells.specs.Back.{taken_back}
-use Rattle.prop_workbench.proofs.placing.make_all.Goals as goal
+use Rattle.prop_scheduler.proofs.making.make_all.Goals as goal
 
 pub make_some-requires-clause-kept : goal.make_some-requires-clause-kept
 make_some-requires-clause-kept g c = c.requires.kept
@@ -15,6 +15,12 @@ make_some-requires-clause-param g c = ap length c.params.ensures ∙ ap (λ (d :
 
 pub make_some-requires-clause-may : goal.make_some-requires-clause-may
 make_some-requires-clause-may g c = c.requires.may
+
+pub make_some-requires-clause-few_cells : goal.make_some-requires-clause-few_cells
+make_some-requires-clause-few_cells g c = c.requires.few_cells
+
+pub make_some-requires-clause-few_instances : goal.make_some-requires-clause-few_instances
+make_some-requires-clause-few_instances g c = c.requires.few_instances
 
 pub back-requires-clause-made : goal.back-requires-clause-made
 back-requires-clause-made g c =

@@ -1,15 +1,15 @@
 use Rattle.std.proofs.Common.{◌≡◌, ◌∙◌, ◌<◌, ◌+◌, ◌-◌, ◌^◌, Some, length, map, ap, List, refl}
 use Rattle.std.proofs.lemmas.List.Elements.{All-pop}
 use Rattle.std.proofs.lemmas.Option.{slice_get_within}
-use Rattle.prop_compound.specs.Flattened.{cells_of}
+use Rattle.prop_procedures.specs.Flats.{cells_of}
 use Rattle.std.proofs.lemmas.List.{length-map}
 use Rattle.prop_procedures.specs.Kept.{stored_of}
 use Rattle.prop_procedures.specs.declared.shape.Param.{Param}
 use Rattle.prop_cells.specs.Data.{Data}
-use Rattle.prop_workbench.specs.Effects.{cell_placed}
-use Rattle.prop_workbench.specs.Placing.{param_number}
-use Rattle.prop_workbench.proofs.PlaceLemmas.{made_ok, made_err, cells_are_made}
-use Rattle.prop_workbench.proofs.placing.make_instance.Goals as goal
+use Rattle.prop_scheduler.specs.Making.{cell_placed}
+use Rattle.prop_scheduler.specs.Making.{param_number}
+use Rattle.prop_scheduler.proofs.Placing.{made_ok, made_err}
+use Rattle.prop_scheduler.proofs.making.make_instance.Goals as goal
 
 pub returns-clause-ok : goal.returns-clause-ok
 returns-clause-ok g c =
@@ -21,8 +21,7 @@ returns-clause-ok g c =
     let ins_are : ins ≡ map (cell_placed cells c.args.base.cell) x.inputs.items = c.deref-2.ensures.value ∙ c.in-Ok.ensures ∙ ap (map (cell_placed cells c.args.base.cell)) c.deref.ensures.value in
     let count : c.params.result.now ≡ d.params = c.params.ensures ∙ ap (λ (held : Data). held.params) c.data.ensures in
     let number : c.param_number-param.result ≡ param_number c.args.base.param (length d.params) x.param = c.param_number-param.ensures ∙ ap (λ (ps : List Param). param_number c.args.base.param (length ps) x.param) count in
-    made_ok (stored_of g.R.Rule.value_of c.args.network.now.library) d cells c.args.base.cell c.args.base.param x ins out c.requires.may
-    (cells_are_made cells c.args.base.cell x ins out ins_are c.cell_placed-out.ensures) c.attach.result c.param_number-param.result c.attach.new.self.cells number c.attach.ensures.ok
+    made_ok (stored_of g.R.Rule.value_of c.args.network.now.library) d cells c.args.base.cell c.args.base.param x ins out c.requires.may ins_are c.cell_placed-out.ensures c.attach.result c.param_number-param.result c.attach.new.self.cells number c.attach.ensures.ok
 
 pub returns-clause-err : goal.returns-clause-err
 returns-clause-err g c =
@@ -35,8 +34,7 @@ returns-clause-err g c =
     let few : length ins ≡ length x.inputs.items = ap length ins_are ∙ length-map x.inputs.items (cell_placed cells c.args.base.cell) in
     let count : c.params.result.now ≡ d.params = c.params.ensures ∙ ap (λ (held : Data). held.params) c.data.ensures in
     let number : c.param_number-param.result ≡ param_number c.args.base.param (length d.params) x.param = c.param_number-param.ensures ∙ ap (λ (ps : List Param). param_number c.args.base.param (length ps) x.param) count in
-    made_err (stored_of g.R.Rule.value_of c.args.network.now.library) d cells c.args.base.cell c.args.base.param x ins out c.requires.may
-    (cells_are_made cells c.args.base.cell x ins out ins_are c.cell_placed-out.ensures) c.attach.result c.param_number-param.result number few c.requires.room c.attach.ensures.err
+    made_err (stored_of g.R.Rule.value_of c.args.network.now.library) d cells c.args.base.cell c.args.base.param x ins out c.requires.may ins_are c.cell_placed-out.ensures c.attach.result c.param_number-param.result number few c.requires.room c.attach.ensures.err
 
 pub cells_placed-requires : goal.cells_placed-requires
 cells_placed-requires g c =

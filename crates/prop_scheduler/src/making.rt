@@ -1,18 +1,33 @@
-//! Making what a use stands for in a network: fresh cells, parameters and instances, all of them or none.
-ghost use Rattle.std.specs.Prelude.{◌≡◌, ◌≤◌, ◌<◌, ◌^◌, ◌+◌, ◌-◌, ◌++◌, ◌∷◌, [], All, drop, length, map, IfOk, IfErr, OnOk, OnErr};
+//! Making what a use stands for in a network: fresh cells, parameters and instances, which wait. All of them are made or none.
+ghost use Rattle.std.specs.Prelude.{◌≡◌, ◌≤◌, ◌<◌, ◌^◌, ◌+◌, ◌-◌, ◌++◌, ◌∷◌, [], ◌⊎◌, ℕ, List, All, Contains, None, Some, drop, length, map, IfOk, IfErr, OnOk, OnErr};
 ghost use Rattle.prop_lattice.specs.Refusals.{most};
 ghost use Rattle.prop_lattice.specs.declared.refusal.Limit.TheVariants.{Cells, Instances};
 ghost use Rattle.prop_procedures.specs.Kept.{stored_of};
 ghost use Rattle.prop_cells.specs.Data.{Data as Held, IsKept, IsWellMade};
+ghost use Rattle.prop_cells.specs.Problems.{Premises};
 ghost use Rattle.prop_cells.specs.Back.{GoesBackTo};
-ghost use Rattle.prop_workbench.specs.Effects.{cell_placed};
-ghost use Rattle.prop_workbench.specs.Placing.{param_number, made_of, with_fresh_cells, with_flat, MayBeMade, MayMake};
+ghost use Rattle.prop_cells.specs.Refusing.{cell_refusal};
+ghost use Rattle.prop_scheduler.specs.Making.{room_refusal, cell_placed, param_number, made_of, with_fresh_cells, with_flat, MayBeMade, MayMake};
+ghost use Rattle.prop_scheduler.specs.Turns.{IsUnderWay};
 
+use crate::agenda::Agenda;
 use prop_cells::Network;
-use prop_compound::{Flat, Placed};
-use prop_lattice::Refusal;
-use prop_procedures::{Kinded, Param, Rule};
+use prop_lattice::{Limit, Refusal};
+use prop_procedures::{Flat, Kinded, Param, Placed, Rule};
 use std::alloc::{AllocError, Global};
+
+/// Makes a cell of this kind. Refused as by `Network::new_cell`, it makes nothing.
+pub fn new_cell<R: Rule + Drop>(network: &mut Network<R>, kind: Kinded) -> Result<(), Refusal>
+    requires kept { IsKept (stored_of R.value_of network.old.library) network.old.cells }
+    ensures same { network.new.library ≡ network.old.library }
+    ensures under_way { (s : Premises) (line : List ℕ) → IsUnderWay (stored_of R.value_of network.old.library) s network.old.cells line → IsUnderWay (stored_of R.value_of network.new.library) s network.new.cells line }
+    ensures fits { OnOk result (cell_refusal network.old.cells ≡ None) }
+    ensures ok { OnOk result (network.new.cells ≡ with_fresh_cells network.old.cells (kind ∷ [])) }
+    ensures err { IfErr result (λ e. (cell_refusal network.old.cells ≡ Some e) ⊎ (e ≡ Refusal.Memory)) }
+    ensures err_same { OnErr result (network.new.cells ≡ network.old.cells) }
+{
+    network.new_cell(kind.kind, kind.size)
+}
 
 /// The numbers that the fresh cells, the parameters and the instances of a use begin with.
 #[derive(Clone, Copy)]
@@ -155,6 +170,8 @@ fn make_some<R: Rule + Drop>(
     requires cell { base.cell ≡ length network.old.cells.kinds }
     requires param { base.param ≡ length network.old.cells.params }
     requires may { MayMake (stored_of R.value_of network.old.library) network.old.cells cells.now flat }
+    requires few_cells { length network.old.cells.kinds + length flat.fresh.items ≤ most Cells }
+    requires few_instances { length network.old.cells.instances + length flat.instances.items ≤ most Instances }
     ensures same { network.new.library ≡ network.old.library }
     ensures kept { IsKept (stored_of R.value_of network.new.library) network.new.cells }
     ensures ok { OnOk result (network.new.cells ≡ with_flat (stored_of R.value_of network.old.library) network.old.cells cells.now flat) }
@@ -182,8 +199,8 @@ fn make_some<R: Rule + Drop>(
     made
 }
 
-/// Makes what a use on these cells stands for, all of it. Refused with 90, it makes nothing.
-pub(crate) fn make_all<R: Rule + Drop>(
+/// Makes what a use on these cells stands for, for which there is room. Refused with 90, it makes nothing.
+fn make_all<R: Rule + Drop>(
     alloc: Global,
     network: &mut Network<R>,
     cells: &[usize],
@@ -191,6 +208,8 @@ pub(crate) fn make_all<R: Rule + Drop>(
 ) -> Result<(), Refusal>
     requires kept { IsKept (stored_of R.value_of network.old.library) network.old.cells }
     requires may { MayMake (stored_of R.value_of network.old.library) network.old.cells cells.now flat }
+    requires few_cells { length network.old.cells.kinds + length flat.fresh.items ≤ most Cells }
+    requires few_instances { length network.old.cells.instances + length flat.instances.items ≤ most Instances }
     ensures same { network.new.library ≡ network.old.library }
     ensures kept { IsKept (stored_of R.value_of network.new.library) network.new.cells }
     ensures ok { OnOk result (network.new.cells ≡ with_flat (stored_of R.value_of network.old.library) network.old.cells cells.now flat) }
@@ -210,4 +229,71 @@ pub(crate) fn make_all<R: Rule + Drop>(
             Err(refusal)
         }
     }
+}
+
+/// Makes the instances with these numbers wait.
+fn alert_between(agenda: &mut Agenda, first: usize, end: usize)
+    requires { end ≤ agenda.old.room }
+    ensures before { (i : ℕ) → Contains agenda.old.line i → Contains agenda.new.line i }
+    ensures alerted { (i : ℕ) → first ≤ i → i < end → Contains agenda.new.line i }
+    ensures below { (n : ℕ) → end ≤ n → All (λ i. i < n) agenda.old.line → All (λ i. i < n) agenda.new.line }
+    ensures room { agenda.new.room ≡ agenda.old.room }
+{
+    for instance in first..end {
+        agenda.alert(instance);
+    }
+}
+
+/// Makes room for the cells and instances of a use, or tells which limit they pass.
+fn make_room<R: Rule + Drop>(
+    network: &Network<R>,
+    agenda: &mut Agenda,
+    flat: &Flat,
+) -> Result<(), Refusal>
+    ensures line { agenda.new.line ≡ agenda.old.line }
+    ensures more { agenda.old.room ≤ agenda.new.room }
+    ensures room { OnOk result (length network.now.cells.instances + length flat.now.instances.items ≤ agenda.new.room) }
+    ensures fits { OnOk result (room_refusal (length network.now.cells.kinds + length flat.now.fresh.items) (length network.now.cells.instances + length flat.now.instances.items) ≡ None) }
+    ensures err { IfErr result (λ e. (room_refusal (length network.now.cells.kinds + length flat.now.fresh.items) (length network.now.cells.instances + length flat.now.instances.items) ≡ Some e) ⊎ (e ≡ Refusal.Memory)) }
+{
+    if network.cells().saturating_add(flat.fresh.len()) > Limit::Cells.most() {
+        return Err(Refusal::LimitReached(Limit::Cells));
+    }
+    let count = network.instances().saturating_add(flat.instances.len());
+    if count > Limit::Instances.most() {
+        return Err(Refusal::LimitReached(Limit::Instances));
+    }
+    match agenda.room(count) {
+        Ok(()) => Ok(()),
+        Err(AllocError) => Err(Refusal::Memory),
+    }
+}
+
+/// Makes what a use on these cells stands for, and its instances wait. Refused, it makes nothing: with 16 for more cells or instances
+/// than there can be, with 90.
+pub fn make<R: Rule + Drop>(
+    alloc: Global,
+    network: &mut Network<R>,
+    agenda: &mut Agenda,
+    cells: &[usize],
+    flat: Flat,
+) -> Result<(), Refusal>
+    requires kept { IsKept (stored_of R.value_of network.old.library) network.old.cells }
+    requires may { length network.old.cells.kinds + length flat.fresh.items ≤ most Cells → MayMake (stored_of R.value_of network.old.library) network.old.cells cells.now flat }
+    ensures same { network.new.library ≡ network.old.library }
+    ensures under_way { (s : Premises) → IsUnderWay (stored_of R.value_of network.old.library) s network.old.cells agenda.old.line → IsUnderWay (stored_of R.value_of network.new.library) s network.new.cells agenda.new.line }
+    ensures room { length network.old.cells.instances ≤ agenda.old.room → length network.new.cells.instances ≤ agenda.new.room }
+    ensures fits { OnOk result (room_refusal (length network.old.cells.kinds + length flat.fresh.items) (length network.old.cells.instances + length flat.instances.items) ≡ None) }
+    ensures ok { OnOk result (network.new.cells ≡ with_flat (stored_of R.value_of network.old.library) network.old.cells cells.now flat) }
+    ensures err { IfErr result (λ e. (room_refusal (length network.old.cells.kinds + length flat.fresh.items) (length network.old.cells.instances + length flat.instances.items) ≡ Some e) ⊎ (e ≡ Refusal.Memory)) }
+    ensures err_same { OnErr result (network.new.cells ≡ network.old.cells) }
+{
+    if let Err(refusal) = make_room(network, agenda, &flat) {
+        drop(flat);
+        return Err(refusal);
+    }
+    let first = network.instances();
+    make_all(alloc, network, cells, flat)?;
+    alert_between(agenda, first, network.instances());
+    Ok(())
 }

@@ -1,6 +1,6 @@
 use Rattle.std.proofs.Common.{◌≡◌, map, take}
-use Rattle.prop_workbench.specs.Effects.{cell_placed}
-use Rattle.prop_workbench.proofs.placing.cells_placed.Given as goal
+use Rattle.prop_scheduler.specs.Making.{cell_placed}
+use Rattle.prop_scheduler.proofs.making.cells_placed.Given as goal
 
 abbrev pub invariant-loop-place : goal.invariant-loop-place
 invariant-loop-place l = l.numbers.items ≡ map (cell_placed l.cells l.next) (take l.place-index l.places)

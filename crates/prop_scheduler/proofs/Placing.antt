@@ -20,22 +20,11 @@ use Rattle.prop_cells.specs.Data.{Data}
 use Rattle.prop_procedures.specs.Fitting.{kinds_fit, fitting_param}
 use Rattle.prop_cells.specs.Instances.{Instance, sides_given, param_in, attached, instance_of}
 use Rattle.prop_cells.specs.Refusing.{refusal_at, attach_refusal, or_else, when}
-use Rattle.prop_compound.specs.declared.flat.Placed as flats
-use Rattle.prop_compound.specs.Flattened.{param_at}
-use Rattle.prop_workbench.specs.Effects.{inputs_of, output_of, cell_placed}
-use Rattle.prop_workbench.specs.Placing.{param_number, cells_made, made_of, MayBeMade}
+use Rattle.prop_procedures.specs.declared.flat.Placed as flats
+use Rattle.prop_procedures.specs.Flats.{param_at}
+use Rattle.prop_scheduler.specs.Making.{cell_placed, param_number, cells_made, made_of, MayBeMade}
 
 -- ---- parameters
-
-inputs_of-push : (ins : List ℕ) (out : ℕ) → inputs_of (ins ++ out ∷ []) ≡ ins
-inputs_of-push [] out = refl
-inputs_of-push (a ∷ []) out = refl
-inputs_of-push (a ∷ b ∷ ins) out = ap (λ l. a ∷ l) (inputs_of-push (b ∷ ins) out)
-
-output_of-push : (ins : List ℕ) (out : ℕ) → output_of (ins ++ out ∷ []) ≡ out
-output_of-push [] out = refl
-output_of-push (a ∷ []) out = refl
-output_of-push (a ∷ b ∷ ins) out = output_of-push (b ∷ ins) out
 
 eq-refl : (n : ℕ) → (n == n) ≡ true
 eq-refl n = grind (arith, nat_tests)
@@ -97,7 +86,10 @@ unfolding rows
 rows_none strange count kind param full a b c d e = rw (a, b, c, d, e) refl
 
 module _ (library : List Stored) (d : Data) (cells : List ℕ) (next first : ℕ) (x : flats.Placed) (ins : List ℕ) (out : ℕ)
-    (may : MayBeMade library d.kinds (drop first d.params) cells next x) (cells_are : ins ++ out ∷ [] ≡ cells_made cells next x) where
+    (may : MayBeMade library d.kinds (drop first d.params) cells next x) (ins_are : ins ≡ map (cell_placed cells next) x.inputs.items) (out_is : out ≡ cell_placed cells next x.output) where
+  cells_are : ins ++ out ∷ [] ≡ cells_made cells next x
+  cells_are = (λ i. ins_are i ++ out_is i ∷ []) ∙ sym (map-append (cell_placed cells next) x.inputs.items (x.output ∷ []))
+
   -- the network does not refuse it
   pub not_refused : length ins ≡ length x.inputs.items → length d.instances < most Instances → attach_refusal library d x.procedure (param_number first (length d.params) x.param) ins out ≡ None
   unfolding rows
@@ -129,11 +121,9 @@ module _ (library : List Stored) (d : Data) (cells : List ℕ) (next first : ℕ
           let in_network : param_in p.need d.params number ≡ Some f = param_behind d.params first p.need x.param ∙ e in
           let param : unwrap_or (option_and_then (λ q. fitting_param q.need given) (slice_get library x.procedure)) Plain ≡ f =
           ap (λ (o : Option Stored). unwrap_or (option_and_then (λ q. fitting_param q.need given) o) Plain) may.at ∙ ap (λ (o : Option Param). unwrap_or o Plain) e in
-          let inputs : inputs_of (cells_made cells next x) ≡ ins = ap inputs_of (sym cells_are) ∙ inputs_of-push ins out in
-          let output : output_of (cells_made cells next x) ≡ out = ap output_of (sym cells_are) ∙ output_of-push ins out in
           ap (λ (o : Option Stored). option_map_or (λ q. option_map_or (λ f. instance_of x.procedure ins out f ∷ []) (param_in q.need d.params number) []) o []) may.at
           ∙ ap (λ (o : Option Param). option_map_or (λ f. instance_of x.procedure ins out f ∷ []) o []) in_network
-          ∙ (λ i. record { procedure = x.procedure; param = sym param i; inputs = sym inputs i; output = sym output i } ∷ [])
+          ∙ (λ i. record { procedure = x.procedure; param = sym param i; inputs = ins_are i; output = out_is i } ∷ [])
 
   -- nor does it lack anything but memory
   pub made_ok : (r : Result ⊤ Refusal) (number : Option ℕ) (new : Data) → number ≡ param_number first (length d.params) x.param →
@@ -148,7 +138,3 @@ module _ (library : List Stored) (d : Data) (cells : List ℕ) (next first : ℕ
       let none : None ≡ Some refusal = sym (not_refused count room) ∙ ap (λ (n : Option ℕ). attach_refusal library d x.procedure n ins out) (sym e) ∙ refused in
       cc
   made_err (Err refusal) number e count room (inr m) = m
-
--- the cells of an instance, its inputs and then its output
-pub cells_are_made : (cells : List ℕ) (next : ℕ) (x : flats.Placed) (ins : List ℕ) (out : ℕ) → ins ≡ map (cell_placed cells next) x.inputs.items → out ≡ cell_placed cells next x.output → ins ++ out ∷ [] ≡ cells_made cells next x
-cells_are_made cells next x ins out e f = (λ i. e i ++ f i ∷ []) ∙ sym (map-append (cell_placed cells next) x.inputs.items (x.output ∷ []))

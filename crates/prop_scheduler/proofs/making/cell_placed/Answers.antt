@@ -1,6 +1,6 @@
 use Rattle.std.proofs.Common.{sym, ap, cond, get_or, length, ◌+◌, ◌-◌, arith}
 use Rattle.std.proofs.lemmas.Bool.{lt-ltb, le-ltb}
-use Rattle.prop_workbench.proofs.placing.cell_placed.Goals as goal
+use Rattle.prop_scheduler.proofs.making.cell_placed.Goals as goal
 
 pub returns-then-place-cells : goal.returns-then-place-cells
 returns-then-place-cells c =

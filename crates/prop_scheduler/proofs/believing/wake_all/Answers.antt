@@ -1,0 +1,16 @@
+use Rattle.std.proofs.Common.{◌<◌, ℕ, Contains, length, arith, inl, inr}
+use Rattle.std.proofs.lemmas.List.Elements.{All-contains}
+use Rattle.prop_procedures.specs.Kept.{stored_of}
+use Rattle.prop_cells.proofs.Fixpoint.{All-from_contains}
+use Rattle.prop_scheduler.proofs.UnderWay.{under_way_all}
+use Rattle.prop_scheduler.proofs.believing.wake_all.Goals as goal
+
+pub returns-clause-under_way : goal.returns-clause-under_way
+returns-clause-under_way g c =
+    let d = c.args.network.now.cells in
+    let n = length d.instances in
+    let line = c.alert_first.new.self.line in
+    let first = c.alert_first.ensures.alerted in
+    let count = c.instances.ensures.count in
+    let below : (j : ℕ) → Contains line j → j < n = λ j k. elim (first.only j k) as (λ _. j < n) [ inl was ↦ All-contains (λ i. i < n) c.args.agenda.now.line j c.requires.line was | inr l ↦ omega (arith, l, count) ] in
+    λ s. under_way_all (stored_of g.R.Rule.value_of c.args.network.now.library) s d line c.requires.kept (All-from_contains (λ j. j < n) line below) (λ j l. first.alerted j (omega (arith, l, count)))

@@ -1,0 +1,26 @@
+use Rattle.std.proofs.Common.{◌≡◌, ◌<◌, ◌++◌, map, length, ap, arith}
+use Rattle.std.proofs.lemmas.List.{length-append}
+use Rattle.std.proofs.lemmas.List.Elements.{All-weaker}
+use Rattle.prop_procedures.specs.Kept.{stored_of}
+use Rattle.prop_scheduler.specs.Making.{made_of}
+use Rattle.prop_scheduler.proofs.UnderWay.{under_way_made}
+use Rattle.prop_scheduler.proofs.making.make.Goals as goal
+
+pub returns-clause-under_way : goal.returns-clause-under_way
+returns-clause-under_way g c = λ s u.
+    let d = c.args.network.now.cells in
+    let new = c.make_all.new.network.cells in
+    let flat = c.args.flat in
+    let library = stored_of g.R.Rule.value_of c.args.network.now.library in
+    let made = map (made_of library flat.params.items c.args.cells.now (length d.kinds)) flat.instances.items in
+    let is = c.in_ok-make_all.ensures.ok in
+    let count = c.instances.ensures.count in
+    let first = c.instances-first.ensures.count in
+    let all : length new.instances ≡ length (d.instances ++ made) = ap (λ x. length x.instances) is in
+    let more = length-append d.instances made in
+    rw c.make_all.ensures.same (under_way_made library s d new c.args.agenda.now.line c.alert_between.new.agenda.line flat.fresh.items flat.params.items made
+    u (rw c.make_all.ensures.same at c.make_all.ensures.kept) is
+    (λ i waits. c.alert_between.ensures.before i (rw c.in_default.ensures.line waits))
+    (λ i from below. c.alert_between.ensures.alerted i (omega (arith, from, first)) (omega (arith, below, count, all)))
+    (c.alert_between.ensures.below (length (d.instances ++ made)) (omega (arith, count, all))
+    (rw c.in_default.ensures.line (All-weaker (λ j. j < length d.instances) (λ j. j < length (d.instances ++ made)) (λ j l. omega (arith, l, more)) c.args.agenda.now.line u.line_below))))

@@ -1,0 +1,21 @@
+//! Another worldview for a network under way.
+ghost use Rattle.std.specs.Prelude.{◌≡◌, ◌<◌, ◌≤◌, All, length};
+ghost use Rattle.prop_procedures.specs.Kept.{stored_of};
+ghost use Rattle.prop_cells.specs.Data.{IsKept};
+ghost use Rattle.prop_cells.specs.Problems.{Premises};
+ghost use Rattle.prop_scheduler.specs.Turns.{IsUnderWay};
+
+use crate::agenda::Agenda;
+use prop_cells::Network;
+use prop_procedures::Rule;
+
+/// Every instance waits, so the network is under way in whatever worldview. It takes no memory.
+pub fn wake_all<R: Rule + Drop>(network: &Network<R>, agenda: &mut Agenda)
+    requires kept { IsKept (stored_of R.value_of network.now.library) network.now.cells }
+    requires line { All (λ j. j < length network.now.cells.instances) agenda.old.line }
+    requires room { length network.now.cells.instances ≤ agenda.old.room }
+    ensures under_way { (s : Premises) → IsUnderWay (stored_of R.value_of network.now.library) s network.now.cells agenda.new.line }
+    ensures room { agenda.new.room ≡ agenda.old.room }
+{
+    agenda.alert_first(network.instances());
+}

@@ -1,0 +1,43 @@
+//! Statements in a network under way.
+ghost use Rattle.std.specs.Prelude.{◌≡◌, ◌<◌, ◌≤◌, ◌⊎◌, None, Some, OnOk, OnErr, IfErr, length};
+ghost use Rattle.prop_premises.specs.Sets.{set_of};
+ghost use Rattle.prop_procedures.specs.Kept.{stored_of};
+ghost use Rattle.prop_cells.specs.Data.{States};
+ghost use Rattle.prop_cells.specs.Refusing.{state_refusal};
+ghost use Rattle.prop_scheduler.specs.Turns.{IsUnderWay};
+
+use crate::agenda::Agenda;
+use prop_cells::Network;
+use prop_lattice::{Info, Partial, Refusal};
+use prop_premises::{Premise, Worldview};
+use prop_procedures::Rule;
+
+/// Makes a statement; where what is believed of its cell changes, the cell's readers wait. Refused as by `Network::state_under`, it changes nothing.
+pub fn state<R: Rule + Drop>(
+    network: &mut Network<R>,
+    agenda: &mut Agenda,
+    worldview: &Worldview,
+    premise: Option<Premise>,
+    cell: usize,
+    info: Info,
+) -> Result<(), Refusal>
+    requires cell { cell < length network.old.cells.kinds }
+    requires under_way { IsUnderWay (stored_of R.value_of network.old.library) (set_of worldview.now) network.old.cells agenda.old.line }
+    requires room { length network.old.cells.instances ≤ agenda.old.room }
+    ensures same { network.new.library ≡ network.old.library }
+    ensures under_way { IsUnderWay (stored_of R.value_of network.new.library) (set_of worldview.now) network.new.cells agenda.new.line }
+    ensures room { agenda.new.room ≡ agenda.old.room }
+    ensures fits { OnOk result (state_refusal network.old.cells cell info ≡ None) }
+    ensures ok { OnOk result (States network.old.cells network.new.cells (record { premise = premise; cell = cell; info = info })) }
+    ensures err { IfErr result (λ e. (state_refusal network.old.cells cell info ≡ Some e) ⊎ (e ≡ Refusal.Memory)) }
+    ensures err_same { OnErr result (network.new.cells ≡ network.old.cells) }
+    ensures err_line { OnErr result (agenda.new ≡ agenda.old) }
+{
+    let before = network.belief(cell, worldview);
+    network.state_under(premise, cell, info)?;
+    let after = network.belief(cell, worldview);
+    if !before.implies(after) {
+        agenda.alert_all(network.readers(cell));
+    }
+    Ok(())
+}
