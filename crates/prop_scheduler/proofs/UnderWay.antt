@@ -1,6 +1,6 @@
 -- What a network between runs keeps, as cells, instances and statements are added.
-use Rattle.std.proofs.Common.{◌≡◌, ◌∙◌, ◌+◌, ◌<◌, ◌≤◌, ◌⊎◌, ℕ, append-nil, Bool, true, false, List, [], ◌∷◌, ◌++◌, Option, Some, None, All, Contains, map, length, slice_get, refl, sym, ap, arith, inl, inr}
-use Rattle.std.proofs.lemmas.List.Elements.{All-weaker, All-push, All-contains, Contains-append_left, Contains-push}
+use Rattle.std.proofs.Common.{◌≡◌, ◌∙◌, ◌<◌, ◌≤◌, ◌⊎◌, ℕ, append-nil, Bool, true, false, List, [], ◌∷◌, ◌++◌, Some, All, Contains, map, length, slice_get, refl, sym, ap, arith, inl, inr}
+use Rattle.std.proofs.lemmas.List.Elements.{All-contains}
 use Rattle.std.proofs.lemmas.List.{append_assoc, get_or_append_left, map-append, length-map}
 use Rattle.std.proofs.lemmas.Bool.{cases_lt}
 use Rattle.std.proofs.lemmas.Option.{slice_get_within, slice_get-get_or, get_or_from_slice_get}
@@ -15,17 +15,14 @@ use Rattle.prop_procedures.specs.declared.shape.Kinded.{Kinded}
 use Rattle.prop_procedures.specs.declared.shape.Param.{Param}
 use Rattle.prop_procedures.specs.Stored.{Stored}
 use Rattle.prop_cells.specs.declared.instance.Statement.{Statement}
-use Rattle.prop_cells.specs.Problems.{Premises, OthersMeet, Constraint, Meets, Assignment, MergesAt}
-use Rattle.prop_cells.specs.Instances.{Instance, constraint_of, attached, readers_of}
-use Rattle.prop_cells.specs.Data.{Data, Entry, IsKept, States, beliefs, support_of, no_data}
+use Rattle.prop_cells.specs.Problems.{Premises, OthersMeet, Constraint, Meets, MergesAt}
+use Rattle.prop_cells.specs.Instances.{Instance, constraint_of, readers_of}
+use Rattle.prop_cells.specs.Data.{Data, Entry, IsKept, States, beliefs, support_of}
 use Rattle.prop_cells.proofs.Adding.{adds_merges, adds_same}
-use Rattle.prop_cells.specs.Refusing.{attach_refusal}
-use Rattle.prop_cells.proofs.Lists.{slice_get-push_cases}
 use Rattle.prop_cells.proofs.Making.{beliefs-push}
 use Rattle.prop_cells.proofs.Fixpoint.{others_meet-step}
 use Rattle.prop_cells.proofs.Reading.{readers_are}
-use Rattle.prop_cells.proofs.Refused.{attached_one}
-use Rattle.prop_scheduler.specs.Agendas.{Alerted, AllAlerted}
+use Rattle.prop_scheduler.specs.Agendas.{AllAlerted}
 use Rattle.prop_scheduler.specs.Turns.{IsUnderWay}
 use Rattle.prop_scheduler.proofs.Steps.{from_map, all_after_alerts}
 

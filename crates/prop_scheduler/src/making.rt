@@ -26,7 +26,8 @@ pub fn new_cell<R: Rule + Drop>(network: &mut Network<R>, kind: Kinded) -> Resul
     ensures err { IfErr result (λ e. (cell_refusal network.old.cells ≡ Some e) ⊎ (e ≡ Refusal.Memory)) }
     ensures err_same { OnErr result (network.new.cells ≡ network.old.cells) }
 {
-    network.new_cell(kind.kind, kind.size)
+    let Kinded { kind, size } = kind;
+    network.new_cell(kind, size)
 }
 
 /// The numbers that the fresh cells, the parameters and the instances of a use begin with.

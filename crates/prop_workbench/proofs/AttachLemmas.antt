@@ -1,17 +1,19 @@
 -- Putting procedures and definitions between cells: what is refused and made is what the machine says.
-use Rattle.std.proofs.Common.{◌≡◌, ◌∙◌, ℕ, ◌<◌, ◌≤◌, ◌+◌, ◌-◌, ◌^◌, Bool, true, false, not, List, [], ◌∷◌, ◌++◌, Option, Some, None, All, map, drop, length, get_or, nat_lt, zip, is_none, ◌||◌, cond, ◌⊎◌, inl, inr, refl, sym, ap, subst, arith}
+use Rattle.std.proofs.Common.{◌≡◌, ◌∙◌, ℕ, ◌<◌, ◌≤◌, ◌+◌, ◌-◌, ◌^◌, Bool, true, false, not, List, [], ◌∷◌, ◌++◌, Option, Some, None, All, map, drop, length, get_or, zip, is_none, unwrap_or, slice_get, Result, Ok, Err, OnOk, OnErr, ◌||◌, cond, ◌⊎◌, inl, inr, refl, sym, ap, subst, arith}
+use Rattle.std.specs.Prelude.{⊤}
 use Rattle.std.specs.List.{list_any}
 use Rattle.std.specs.Option.{option_map_or, option_and_then}
-use Rattle.std.proofs.lemmas.Bool.{cases_lt, lt-ltb, le-ltb, ltb-false}
+use Rattle.std.proofs.lemmas.Bool.{cases_lt, lt-ltb, le-ltb}
 use Rattle.std.proofs.lemmas.List.{length-append, length-map, get_or_append_left, get_or-append-add, get_or-map}
 use Rattle.std.proofs.Math.Seq.{drop-append_seam}
 use Rattle.std.proofs.lemmas.List.Elements.{All-append, All-cons, All-head, All-tail, All-map, All-weaker}
 use Rattle.prop_lattice.specs.Refusals.{most}
-use Rattle.prop_lattice.specs.declared.refusal.Limit.TheVariants.{Cells, Instances}
+use Rattle.prop_lattice.specs.declared.refusal.Limit.TheVariants.{Cells}
 use Rattle.prop_lattice.specs.declared.refusal.Refusal.{Refusal}
-use Rattle.prop_lattice.specs.declared.refusal.Refusal.TheVariants.{NoSuchRelation, NoSuchCell, NoSuchProcedure, WrongCount, WrongKind, WrongParameter, LimitReached, Memory}
+use Rattle.prop_lattice.specs.declared.refusal.Refusal.TheVariants.{NoSuchRelation, NoSuchCell, NoSuchProcedure, WrongCount, WrongKind, WrongParameter, Memory}
 use Rattle.prop_procedures.specs.declared.shape.Kinded.{Kinded}
 use Rattle.prop_procedures.specs.declared.shape.Param.{Param}
+use Rattle.prop_procedures.specs.declared.shape.Param.TheVariants.{Plain}
 use Rattle.prop_procedures.specs.Stored.{Stored, span_kind, sides_of, are_right}
 use Rattle.prop_premises.specs.Origins.{Origin}
 use Rattle.prop_cells.specs.Data.{Data}
@@ -21,17 +23,18 @@ use Rattle.prop_language.specs.Commands.{By}
 use Rattle.prop_compound.specs.Definitions.{Definitions, used_named, is_miscounted}
 use Rattle.prop_compound.specs.Expansion.{Expansion, expanded}
 use Rattle.prop_compound.specs.Expanding.{expand_refusal, size_refusal, fit_refusal, is_misplaced, is_misgiven, is_param_wrong}
-use Rattle.prop_compound.specs.Flattened.{cells_of, param_at, placed_of, expansion_of_flat, IsFlatOver, IsInstanceOver}
-use Rattle.prop_compound.specs.declared.flat.Placed as flats
-use Rattle.prop_compound.specs.declared.flat.Flat.{Flat}
+use Rattle.prop_compound.specs.Flattened.{placed_of, expansion_of_flat, IsFlatOver, IsInstanceOver}
+use Rattle.prop_procedures.specs.declared.flat.Placed as flats
+use Rattle.prop_procedures.specs.declared.flat.Flat.{Flat}
+use Rattle.prop_procedures.specs.Flats.{cells_of, param_at}
 use Rattle.prop_engine.specs.Answers.{Done, Refused}
 use Rattle.prop_vocabulary.specs.Cells.{CellNames, cells_named, is_cell_missing}
 use Rattle.prop_vocabulary.specs.Refusing.{first_of, when}
 use Rattle.prop_vocabulary.specs.Vocabulary.{Vocabulary}
-use Rattle.prop_workbench.specs.Effects.{cell_placed, instance_placed, with_use}
+use Rattle.prop_scheduler.specs.Making.{room_refusal, cell_placed, made_of, with_flat, MayBeMade, MayMake}
+use Rattle.prop_workbench.specs.Effects.{inputs_of, output_of, instance_placed, with_use}
 use Rattle.prop_workbench.specs.Machine.{State}
-use Rattle.prop_workbench.specs.Placing.{made_of, with_flat, MayBeMade, MayMake}
-use Rattle.prop_workbench.specs.Refusing.{refusal_of, is_unknown, given_by, used, use_refusal, room_refusal}
+use Rattle.prop_workbench.specs.Refusing.{refusal_of, is_unknown, given_by, used, use_refusal}
 use Rattle.prop_workbench.specs.Sessions.{state_from, IsSized, AreLocalsOf}
 use Rattle.prop_workbench.specs.Steps.{Obeys}
 use Rattle.prop_workbench.proofs.UseLemmas.{kind_of_place, kinds_of_use}
@@ -74,6 +77,28 @@ no_cell_step library s name cells by e f = rw (e, f) refl
 
 -- ---- what a use stands for, as it is handed out
 
+inputs_of-push : (f : ℕ → ℕ) (ins : List ℕ) (out : ℕ) → inputs_of (map f (ins ++ out ∷ [])) ≡ map f ins
+inputs_of-push f [] out = refl
+inputs_of-push f (a ∷ []) out = refl
+inputs_of-push f (a ∷ b ∷ ins) out = ap (λ l. f a ∷ l) (inputs_of-push f (b ∷ ins) out)
+
+output_of-push : (f : ℕ → ℕ) (ins : List ℕ) (out : ℕ) → output_of (map f (ins ++ out ∷ [])) ≡ f out
+output_of-push f [] out = refl
+output_of-push f (a ∷ []) out = refl
+output_of-push f (a ∷ b ∷ ins) out = output_of-push f (b ∷ ins) out
+
+-- the instance that is made is the one that stands at its places
+is_placed : (library : List Stored) (params : List Param) (cells : List ℕ) (next : ℕ) (x : flats.Placed) → made_of library params cells next x ≡ instance_placed library cells next (placed_of params x)
+is_placed library params cells next x =
+    let inputs : map (cell_placed cells next) x.inputs.items ≡ inputs_of (map (cell_placed cells next) (cells_of x)) = sym (inputs_of-push (cell_placed cells next) x.inputs.items x.output) in
+    let output : cell_placed cells next x.output ≡ output_of (map (cell_placed cells next) (cells_of x)) = sym (output_of-push (cell_placed cells next) x.inputs.items x.output) in
+    λ i. record {
+      procedure = x.procedure;
+      param = unwrap_or (option_and_then (λ p. fitting_param p.need (param_at params x.param)) (slice_get library x.procedure)) Plain;
+      inputs = inputs i;
+      output = output i;
+    }
+
 module _ (library : List Stored) (names : CellNames) (words : Vocabulary) (definitions : Definitions) (premises : List Origin) (d : Data) (limit : ℕ) (name : List ℕ) (cells : List ℕ) (by : By) (flat : Flat)
     (is : expansion_of_flat (map (kind_at d.kinds) cells) flat ≡ used library (state_from names words definitions premises d limit) name cells by) where
   fresh_count : length (map (kind_at d.kinds) cells ++ flat.fresh.items) - length cells ≡ length flat.fresh.items
@@ -113,7 +138,7 @@ module _ (library : List Stored) (names : CellNames) (words : Vocabulary) (defin
     where
       map_twice : (xs : List flats.Placed) → map (made_of library flat.params.items cells (length d.kinds)) xs ≡ map (instance_placed library cells (length d.kinds)) (map (placed_of flat.params.items) xs)
       map_twice [] = refl
-      map_twice (x ∷ xs) = ap (λ l. made_of library flat.params.items cells (length d.kinds) x ∷ l) (map_twice xs)
+      map_twice (x ∷ xs) = λ i. is_placed library flat.params.items cells (length d.kinds) x i ∷ map_twice xs i
 
 -- ---- the places of a use
 
@@ -216,21 +241,20 @@ fit_of None None None None e = refl
 
 pub may_make : (library : List Stored) (words : Vocabulary) (definitions : Definitions) (d : Data) (name : List ℕ) (cells : List ℕ) (given : Option Param) (flat : Flat) → All (λ c. c < length d.kinds) cells →
     expand_refusal library words definitions name (map (kind_at d.kinds) cells) given ≡ None → expansion_of_flat (map (kind_at d.kinds) cells) flat ≡ expanded library words definitions name (map (kind_at d.kinds) cells) given →
-    IsFlatOver library (length cells) flat → room_refusal (length d.kinds + length flat.fresh.items) (length d.instances + length flat.instances.items) ≡ None → MayMake library d cells flat
-may_make library words definitions d name cells given flat below fits is safe room =
+    IsFlatOver library (length cells) flat → length d.kinds + length flat.fresh.items ≤ most Cells → MayMake library d cells flat
+may_make library words definitions d name cells given flat below fits is safe few =
     let e = expansion_of_flat (map (kind_at d.kinds) cells) flat in
     let fit : fit_refusal library e ≡ None = subst (λ (x : Expansion (Option Param)). fit_refusal library x ≡ None) (sym is) (fit_of (when NoSuchProcedure (is_none (used_named library definitions name))) (when WrongCount (is_miscounted library definitions name (length (map (kind_at d.kinds) cells))))
     (size_refusal (length (expanded library words definitions name (map (kind_at d.kinds) cells) given).kinds - length (map (kind_at d.kinds) cells)) (length (expanded library words definitions name (map (kind_at d.kinds) cells) given).placed)) (fit_refusal library (expanded library words definitions name (map (kind_at d.kinds) cells) given)) fits) in
     let rows = both_none (when WrongKind (list_any (is_misplaced library e.kinds) e.placed)) (when WrongParameter (is_param_wrong library e)) fit in
-    let cells_few = both_none (when (LimitReached Cells) (nat_lt (most Cells) (length d.kinds + length flat.fresh.items))) (when (LimitReached Instances) (nat_lt (most Instances) (length d.instances + length flat.instances.items))) room in
-    let few : length d.kinds + length flat.fresh.items ≤ most Cells = ltb-false (most Cells) (length d.kinds + length flat.fresh.items) (holds_not (LimitReached Cells) _ cells_few.0) in
-    record {
-      each = each_may library d cells flat below few flat.instances.items safe (holds_not WrongKind _ rows.0) (holds_not WrongParameter _ rows.1);
-      few_cells = few;
-      few_instances = ltb-false (most Instances) (length d.instances + length flat.instances.items) (holds_not (LimitReached Instances) _ cells_few.1);
-    }
+    each_may library d cells flat below few flat.instances.items safe (holds_not WrongKind _ rows.0) (holds_not WrongParameter _ rows.1)
 
 -- ---- what stays sound
+
+-- what is true of the data before and of what is made is true of the data after, whether it was made or refused
+pub made_or_not : (P : Data → Type 0) (d new made : Data) (r : Result ⊤ Refusal) → OnOk r (new ≡ made) → OnErr r (new ≡ d) → P d → P made → P new
+made_or_not P d new made (Ok t) e f before after = subst P (sym e) after
+made_or_not P d new made (Err refusal) e f before after = subst P (sym f) before
 
 all_behind : {X : Type 0} (P : X → Type 0) (xs ys : List X) → All P (xs ++ ys) → All P ys
 all_behind P [] ys all = all

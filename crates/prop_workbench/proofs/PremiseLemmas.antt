@@ -48,9 +48,6 @@ known_more n m statements x l known h =
 pub same_set : (s t : Members) → IsSame s t → s ≡ t
 same_set s t h = λ i p. h p i
 
-pub under_way_at : (library : List Stored) (s t : Members) (d : Data) (line : List ℕ) → IsSame s t → IsUnderWay library s d line → IsUnderWay library t d line
-under_way_at library s t d line same u = rw (sym (same_set s t same)) u
-
 -- ---- worldviews that agree on the known premises
 
 or_second : (a b : Bool) → b ≡ true → (a || b) ≡ true

@@ -10,12 +10,13 @@ use Rattle.prop_language.specs.Commands.{By}
 use Rattle.prop_compound.specs.Definitions.{Definitions}
 use Rattle.prop_compound.specs.Expanding.{expand_refusal}
 use Rattle.prop_compound.specs.Flattened.{expansion_of_flat}
-use Rattle.prop_compound.specs.declared.flat.Flat.{Flat}
+use Rattle.prop_procedures.specs.declared.flat.Flat.{Flat}
 use Rattle.prop_vocabulary.specs.Cells.{CellNames}
 use Rattle.prop_vocabulary.specs.Refusing.{first_of}
 use Rattle.prop_vocabulary.specs.Vocabulary.{Vocabulary}
 use Rattle.prop_workbench.specs.Machine.{State}
-use Rattle.prop_workbench.specs.Refusing.{given_by, used, use_refusal, room_refusal}
+use Rattle.prop_scheduler.specs.Making.{room_refusal}
+use Rattle.prop_workbench.specs.Refusing.{given_by, used, use_refusal}
 use Rattle.prop_workbench.specs.Sessions.{state_from}
 use Rattle.prop_workbench.proofs.AttachLemmas.{use_rows}
 
@@ -28,17 +29,16 @@ unexpanded library s name cells by refusal (inr m) = inr m
 
 module _ (library : List Stored) (names : CellNames) (words : Vocabulary) (definitions : Definitions) (premises : List Origin) (d : Data) (limit : ℕ) (name : List ℕ) (cells : List ℕ) (by : By) (flat : Flat)
     (is : expansion_of_flat (map (kind_at d.kinds) cells) flat ≡ used library (state_from names words definitions premises d limit) name cells by)
-    (fits : expand_refusal library words definitions name (map (kind_at d.kinds) cells) (given_by words by) ≡ None)
-    (fresh instances : ℕ) (all_fresh : length flat.fresh.items ≡ fresh) (all_instances : length flat.instances.items ≡ instances) where
-  rows : use_refusal library (state_from names words definitions premises d limit) name cells by ≡ first_of (None ∷ room_refusal (length d.kinds + fresh) (length d.instances + instances) ∷ [])
-  rows = use_rows library names words definitions premises d limit name cells by flat is ∙ (λ i. first_of (fits i ∷ room_refusal (length d.kinds + all_fresh i) (length d.instances + all_instances i) ∷ []))
+    (fits : expand_refusal library words definitions name (map (kind_at d.kinds) cells) (given_by words by) ≡ None) where
+  rows : use_refusal library (state_from names words definitions premises d limit) name cells by ≡ first_of (None ∷ room_refusal (length d.kinds + length flat.fresh.items) (length d.instances + length flat.instances.items) ∷ [])
+  rows = use_rows library names words definitions premises d limit name cells by flat is ∙ (λ i. first_of (fits i ∷ room_refusal (length d.kinds + length flat.fresh.items) (length d.instances + length flat.instances.items) ∷ []))
 
   -- where there is no room, for that
-  pub no_room : (refusal : Refusal) → (room_refusal (length d.kinds + fresh) (length d.instances + instances) ≡ Some refusal) ⊎ (refusal ≡ Memory) →
+  pub no_room : (refusal : Refusal) → (room_refusal (length d.kinds + length flat.fresh.items) (length d.instances + length flat.instances.items) ≡ Some refusal) ⊎ (refusal ≡ Memory) →
       (use_refusal library (state_from names words definitions premises d limit) name cells by ≡ Some refusal) ⊎ (refusal ≡ Memory)
   no_room refusal (inl e) = inl (rows ∙ (λ i. first_of (None ∷ e i ∷ [])))
   no_room refusal (inr m) = inr m
 
   -- where there is room, for nothing
-  pub with_room : room_refusal (length d.kinds + fresh) (length d.instances + instances) ≡ None → use_refusal library (state_from names words definitions premises d limit) name cells by ≡ None
+  pub with_room : room_refusal (length d.kinds + length flat.fresh.items) (length d.instances + length flat.instances.items) ≡ None → use_refusal library (state_from names words definitions premises d limit) name cells by ≡ None
   with_room e = rows ∙ (λ i. first_of (None ∷ e i ∷ []))

@@ -1,21 +1,14 @@
 -- The fresh cells of a use are of kinds that are there.
-use Rattle.std.proofs.Common.{◌≡◌, ◌∙◌, ℕ, ◌<◌, ◌≤◌, ◌==◌, Bool, true, false, cond, not, ◌&&◌, List, [], ◌∷◌, ◌++◌, Option, Some, None, All, Contains, map, length, slice_get, ◌⊎◌, inl, inr, sym, ap, subst}
+use Rattle.std.proofs.Common.{ℕ, ◌<◌, ◌≤◌, ◌==◌, Bool, true, false, cond, not, ◌&&◌, List, [], ◌∷◌, ◌++◌, Option, Some, None, All, length, ◌⊎◌, inl, inr, sym, subst}
 use Rattle.std.specs.Prelude.{reverse}
 use Rattle.std.specs.Option.{option_map_or}
 use Rattle.std.specs.List.{range_with_len}
 use Rattle.std.proofs.lemmas.Bool.{cases_lt}
-use Rattle.std.proofs.lemmas.List.{length-map, map-append, append_assoc, append-nil, reverse-append, get_or_past, get_or_append_left}
+use Rattle.std.proofs.lemmas.List.{reverse-append, get_or_past}
 use Rattle.std.proofs.lemmas.List.Elements.{All-nil, All-append, All-cons, All-head, All-tail, All-push}
-use Rattle.std.proofs.lemmas.Option.{slice_get_within, slice_get-get_or, get_or_from_slice_get}
-use Rattle.prop_lattice.specs.declared.info.Info.{Info}
 use Rattle.prop_procedures.specs.declared.shape.Kinded.{Kinded}
 use Rattle.prop_procedures.specs.declared.shape.Param.{Param}
 use Rattle.prop_procedures.specs.Stored.{Stored, span_kind}
-use Rattle.prop_cells.specs.Problems.{Premises, OthersMeet, Constraint, Meets}
-use Rattle.prop_cells.specs.Instances.{Instance, constraint_of}
-use Rattle.prop_cells.specs.Data.{Data, Entry, IsKept, beliefs}
-use Rattle.prop_cells.proofs.Making.{beliefs-push}
-use Rattle.prop_scheduler.specs.Turns.{IsUnderWay}
 use Rattle.prop_vocabulary.specs.Vocabulary.{Vocabulary}
 use Rattle.prop_compound.specs.declared.definition.Passing.{Passing}
 use Rattle.prop_compound.specs.declared.definition.Used.{Used}

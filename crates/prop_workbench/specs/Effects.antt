@@ -1,5 +1,5 @@
 -- What a command that isn't refused does to the state.
-use Rattle.std.specs.Prelude.{◌≡◌, ℕ, IsTrue, List, [], ◌∷◌, ◌++◌, Option, Some, None, true, false, cond, ◌+◌, ◌-◌, nat_lt, drop, map, length, slice_get, slice_index_or, unwrap_or}
+use Rattle.std.specs.Prelude.{◌≡◌, ℕ, IsTrue, List, [], ◌∷◌, ◌++◌, Option, Some, None, true, false, drop, map, length, slice_get, unwrap_or}
 use Rattle.std.specs.Result.{result_unwrap_or}
 use Rattle.std.specs.Borrow.{Bor}
 use Rattle.std.specs.Option.{option_map, option_map_or, option_and_then}
@@ -18,6 +18,7 @@ use Rattle.prop_procedures.specs.declared.shape.Param.TheVariants.{Plain}
 use Rattle.prop_procedures.specs.Fitting.{fitting_param}
 use Rattle.prop_cells.specs.Instances.{Instance}
 use Rattle.prop_cells.specs.Refusing.{may_be_stated}
+use Rattle.prop_scheduler.specs.Making.{cell_placed}
 use Rattle.prop_vocabulary.specs.Vocabulary.{Vocabulary, symbol_number, with_symbol, with_domain, with_relation}
 use Rattle.prop_workbench.specs.Machine.{State}
 use Rattle.prop_workbench.specs.Refusing.{value_at, used}
@@ -43,10 +44,6 @@ instance_made library n given cells = record {
   inputs = inputs_of cells;
   output = output_of cells;
 }
-
--- the number of the cell at a place: these cells have the first places, and the fresh ones, numbered from next on, those behind
-abbrev pub cell_placed : List ℕ → ℕ → ℕ → ℕ
-cell_placed cells next place = cond (nat_lt place (length cells)) (slice_index_or cells place 0) (next + (place - length cells))
 
 -- the instance that stands at places
 abbrev pub instance_placed : List Stored → List ℕ → ℕ → Placed (Option Param) → Instance

@@ -1,9 +1,9 @@
 -- For what a command is refused in a state: each condition by itself, and which of them comes first.
-use Rattle.std.specs.Prelude.{ℕ, List, [], ◌∷◌, Bool, false, ◌+◌, ◌==◌, ◌&&◌, nat_le, Option, Some, None, Result, Ok, Err, length, is_some, is_none, map, nat_lt, ◌-◌}
+use Rattle.std.specs.Prelude.{ℕ, List, [], ◌∷◌, Bool, false, ◌+◌, ◌==◌, ◌&&◌, nat_le, Option, Some, None, Result, Ok, Err, length, is_some, is_none, map, ◌-◌}
 use Rattle.std.specs.List.{list_any}
 use Rattle.std.specs.Option.{option_map, option_map_or}
 use Rattle.prop_lattice.specs.declared.info.Kind.{Kind}
-use Rattle.prop_lattice.specs.declared.refusal.Limit.TheVariants.{Cells, Instances, Premises, Statements}
+use Rattle.prop_lattice.specs.declared.refusal.Limit.TheVariants.{Cells, Premises, Statements}
 use Rattle.prop_lattice.specs.declared.refusal.Refusal.{Refusal}
 use Rattle.prop_lattice.specs.declared.refusal.Refusal.TheVariants.{NotAName, NotANumber, NameTaken, NoSuchDomain, NoSuchRelation, NoSuchCell, NoSuchPremise, WrongKind, NotInTheDomain, EmptyValue, LimitReached}
 use Rattle.prop_lattice.specs.Refusals.{number_of, most}
@@ -17,6 +17,7 @@ use Rattle.prop_procedures.specs.Fitting.{kind_at}
 use Rattle.prop_vocabulary.specs.Vocabulary.{Vocabulary, domain_number, relation_named}
 use Rattle.prop_vocabulary.specs.Texts.{elements_of_kind}
 use Rattle.prop_vocabulary.specs.Refusing.{when, first_of, domain_refusal, relation_refusal, symbol_refusal}
+use Rattle.prop_scheduler.specs.Making.{room_refusal}
 use Rattle.prop_workbench.specs.Machine.{State}
 use Rattle.prop_vocabulary.specs.Cells.{cell_named, cells_named, is_cell_missing}
 use Rattle.prop_compound.specs.Expansion.{Expansion, expanded}
@@ -121,11 +122,6 @@ limit_refusal s command = None
 -- what the use of the name on these cells stands for, the cells being counted from 0 and followed by the fresh ones
 abbrev pub used : List Stored → State → List ℕ → List ℕ → By → Expansion (Option Param)
 used library s name cells by = expanded library s.words s.definitions name (map (kind_at s.kinds) cells) (given_by s.words by)
-
--- so many cells, or instances, are more than there can be
-abbrev pub room_refusal : ℕ → ℕ → Option Refusal
-room_refusal cells instances =
-    first_of (when (LimitReached Cells) (nat_lt (most Cells) cells) ∷ when (LimitReached Instances) (nat_lt (most Instances) instances) ∷ [])
 
 -- why a use of the name on the cells of these numbers is refused
 abbrev pub use_refusal : List Stored → State → List ℕ → List ℕ → By → Option Refusal

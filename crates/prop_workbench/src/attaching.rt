@@ -1,17 +1,16 @@
 //! The command that puts procedures and definitions between cells.
-ghost use Rattle.std.specs.Prelude.{◌≡◌, ◌<◌, ◌≤◌, ◌+◌, ◌⊎◌, ℕ, All, Contains, length, map, None, Some, IfOk, IfErr, OnOk, OnErr};
+ghost use Rattle.std.specs.Prelude.{◌≡◌, ◌<◌, All, length, map, IfOk};
 ghost use Rattle.prop_procedures.specs.Fitting.{kind_at};
 ghost use Rattle.prop_language.specs.Said.{by_of};
-ghost use Rattle.prop_workbench.specs.Refusing.{is_unknown, given_by, room_refusal};
+ghost use Rattle.prop_workbench.specs.Refusing.{is_unknown, given_by};
 
-use crate::placing::make_all;
 use crate::session::Session;
-use prop_cells::{Cells, Network};
+use prop_cells::Cells;
 use prop_compound::{By, Flat};
 use prop_engine::Reply;
-use prop_lattice::{Limit, Refusal};
+use prop_lattice::Refusal;
 use prop_procedures::{Kinded, Param, Rule};
-use prop_scheduler::{Agenda, Order};
+use prop_scheduler::{Order, make};
 use prop_vocabulary::Vocabulary;
 use std::alloc::{AllocError, Global};
 
@@ -101,25 +100,10 @@ impl<R: Rule + Drop, O: Order + Drop> Session<R, O> {
         ensures err { IfErr result (λ e. (use_refusal (library_of R.value_of self.old) (state_of self.old) name.now cells.now (by_of by.entry) ≡ Some e) ⊎ (e ≡ Memory)) }
         ensures err_same { OnErr result (state_of self.new ≡ state_of self.old) }
     {
-        let flat = match self.expanded(name, cells, by) {
-            Ok(flat) => flat,
-            Err(refusal) => return Err(refusal),
-        };
-        if let Err(refusal) = make_room(
-            &self.network,
-            &mut self.agenda,
-            flat.fresh.len(),
-            flat.instances.len(),
-        ) {
-            drop(flat);
-            return Err(refusal);
+        match self.expanded(name, cells, by) {
+            Ok(flat) => make(self.alloc, &mut self.network, &mut self.agenda, cells, flat),
+            Err(refusal) => Err(refusal),
         }
-        let first = self.network.instances();
-        if let Err(refusal) = make_all(self.alloc, &mut self.network, cells, flat) {
-            return Err(refusal);
-        }
-        alert_between(&mut self.agenda, first, self.network.instances());
-        Ok(())
     }
 
     /// What a use of the name on the cells of these numbers stands for.

@@ -7,7 +7,7 @@ use prop_engine::Reply;
 use prop_lattice::Refusal;
 use prop_premises::{Premise, Premises};
 use prop_procedures::Rule;
-use prop_scheduler::Order;
+use prop_scheduler::{Order, wake_all};
 use std::alloc::AllocError;
 
 /// The premise is believed from now on, or no longer.
@@ -77,7 +77,7 @@ impl<R: Rule + Drop, O: Order + Drop> Session<R, O> {
         match self.premises.worldview(&[]) {
             Ok(worldview) => {
                 self.worldview = worldview;
-                self.agenda.alert_first(self.network.instances());
+                wake_all(&self.network, &mut self.agenda);
                 Ok(())
             }
             Err(AllocError) => {

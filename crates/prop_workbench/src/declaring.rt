@@ -11,7 +11,7 @@ use prop_engine::Reply;
 use prop_lattice::{Kind, Refusal};
 use prop_procedures::fitting::span_kinded;
 use prop_procedures::{Kinded, Rule};
-use prop_scheduler::Order;
+use prop_scheduler::{Order, new_cell};
 use prop_vocabulary::Vocabulary;
 use std::alloc::AllocError;
 
@@ -137,7 +137,7 @@ impl<R: Rule + Drop, O: Order + Drop> Session<R, O> {
             Ok(()) => {}
             Err(AllocError) => return Reply::Refused(Refusal::Memory),
         }
-        match self.network.new_cell(kind.kind, kind.size) {
+        match new_cell(&mut self.network, kind) {
             Ok(()) => Reply::Done,
             Err(refusal) => {
                 self.names.pop();

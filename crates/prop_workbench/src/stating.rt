@@ -1,24 +1,18 @@
 //! The commands that state what is known.
 ghost use Rattle.std.specs.Prelude.{◌≡◌, ◌<◌, ◌≤◌, ◌++◌, ◌∷◌, [], ℕ, ◌⊎◌, None, Some, Ok, Err, OnOk, OnErr, IfOk, IfErr, length};
 ghost use Rattle.prop_lattice.specs.declared.refusal.Refusal.TheVariants.{Memory};
-ghost use Rattle.prop_premises.specs.Sets.{set_of};
-ghost use Rattle.prop_procedures.specs.Kept.{stored_of};
-ghost use Rattle.prop_cells.specs.Data.{States};
-ghost use Rattle.prop_cells.specs.Refusing.{state_refusal};
-ghost use Rattle.prop_scheduler.specs.Turns.{IsUnderWay};
 ghost use Rattle.prop_language.specs.Said.{value_of, meant_of};
 ghost use Rattle.prop_vocabulary.specs.Texts.{elements_of_kind};
 ghost use Rattle.prop_workbench.specs.Refusing.{meaning_at};
 ghost use Rattle.prop_workbench.specs.Sessions.{IsKnown};
 
 use crate::session::Session;
-use prop_cells::Network;
 use prop_compound::{Meant, Value, read_value};
 use prop_engine::Reply;
-use prop_lattice::{Info, Kind, Limit, Partial, Refusal};
-use prop_premises::{Premise, Worldview};
+use prop_lattice::{Info, Kind, Limit, Refusal};
+use prop_premises::Premise;
 use prop_procedures::Rule;
-use prop_scheduler::{Agenda, Order};
+use prop_scheduler::{Order, state};
 use prop_vocabulary::Vocabulary;
 use std::alloc::AllocError;
 
@@ -231,7 +225,7 @@ impl<R: Rule + Drop, O: Order + Drop> Session<R, O> {
         ensures err { IfErr result (λ e. (state_refusal self.old.network.cells cell info ≡ Some e) ⊎ (e ≡ Memory)) }
         ensures err_same { OnErr result (state_of self.new ≡ state_of self.old) }
     {
-        state_in(
+        state(
             &mut self.network,
             &mut self.agenda,
             &self.worldview,
@@ -269,7 +263,7 @@ impl<R: Rule + Drop, O: Order + Drop> Session<R, O> {
                 return Err(Refusal::Memory);
             }
         };
-        match state_in(
+        match state(
             &mut self.network,
             &mut self.agenda,
             &worldview,

@@ -1,11 +1,8 @@
-use Rattle.std.proofs.Common.{◌≡◌, ◌∙◌, ◌<◌, ℕ, not, Contains, ap, sym, length, arith, inl, inr}
-use Rattle.std.proofs.lemmas.List.Elements.{All-contains}
+use Rattle.std.proofs.Common.{◌≡◌, ◌∙◌, not, ap, sym, length}
 use Rattle.prop_premises.specs.Origins.{believed_in, with_belief_at}
-use Rattle.prop_procedures.specs.Kept.{stored_of}
-use Rattle.prop_cells.proofs.Fixpoint.{All-from_contains}
-use Rattle.prop_scheduler.proofs.UnderWay.{under_way_all}
+use Rattle.prop_premises.specs.Sets.{set_of}
 use Rattle.prop_workbench.specs.Sessions.{state_from}
-use Rattle.prop_workbench.proofs.PremiseLemmas.{with_belief_same, with_belief_back, user_still, length-with_belief_at, beq_same, beq_other}
+use Rattle.prop_workbench.proofs.PremiseLemmas.{same_set, with_belief_same, with_belief_back, user_still, length-with_belief_at, beq_same, beq_other}
 use Rattle.prop_workbench.proofs.session.Session.believe.Goals as goal
 
 pub returns-then-is_in-believed-clause-ok : goal.returns-then-is_in-believed-clause-ok
@@ -21,22 +18,16 @@ set_belief-requires-in-Err g c = rw c.set_belief.ensures (user_still c.args.self
 pub returns-in-Ok-clause-sound : goal.returns-in-Ok-clause-sound
 returns-in-Ok-clause-sound g c =
     let s = c.args.self.now in
-    let library = stored_of g.R.Rule.value_of s.network.library in
-    let n = length s.network.cells.instances in
-    let line = c.alert_first.new.self.line in
-    let first = c.alert_first.ensures.alerted in
-    let count = c.instances.ensures.count in
     let same : length c.set_belief.new.premises ≡ length s.premises = ap length c.set_belief.ensures ∙ length-with_belief_at s.premises c.in_ok-premise.premise c.args.believed in
-    let below : (j : ℕ) → Contains line j → j < n = λ j k. elim (first.only j k) as (λ _. j < n) [ inl was ↦ All-contains (λ i. i < n) s.agenda.line j c.requires.sound.under_way.line_below was | inr l ↦ omega (arith, l, count) ] in
     record {
-      under_way = under_way_all library (believed_in c.set_belief.new.premises) s.network.cells line c.requires.sound.under_way.kept (All-from_contains (λ j. j < n) line below) (λ j l. first.alerted j (omega (arith, l, count)));
-      worldview = c.in-Ok.ensures;
+      under_way = c.wake_all.ensures.under_way (believed_in c.set_belief.new.premises);
+      worldview = same_set (set_of c.in-Ok.worldview) (believed_in c.set_belief.new.premises) c.in-Ok.ensures;
       known = rw same c.requires.sound.known;
       sized = c.requires.sound.sized;
       locals = c.requires.sound.locals;
       defined = c.requires.sound.defined;
       named = c.requires.sound.named;
-      roomy = rw c.alert_first.ensures.room c.requires.sound.roomy;
+      roomy = rw c.wake_all.ensures.room c.requires.sound.roomy;
     }
 
 pub returns-in-Err-clause-sound : goal.returns-in-Err-clause-sound

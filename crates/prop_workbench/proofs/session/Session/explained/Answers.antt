@@ -1,9 +1,7 @@
 use Rattle.std.proofs.Common.{length, string_bytes}
-use Rattle.prop_premises.specs.Sets.{set_of}
-use Rattle.prop_premises.specs.Origins.{believed_in}
 use Rattle.prop_procedures.specs.Kept.{stored_of}
 use Rattle.prop_cells.specs.Data.{problem_of}
-use Rattle.prop_workbench.proofs.PremiseLemmas.{same_set, support_known}
+use Rattle.prop_workbench.proofs.PremiseLemmas.{support_known}
 use Rattle.prop_workbench.proofs.AskLemmas.{explained_by}
 use Rattle.prop_workbench.proofs.ReasonLemmas.{lean_explained}
 use Rattle.prop_workbench.proofs.session.Session.explained.Goals as goal
@@ -16,13 +14,13 @@ because-requires g c =
 pub returns-in-Ok-because-clause-explained : goal.returns-in-Ok-because-clause-explained
 returns-in-Ok-because-clause-explained g c =
     let s = c.args.self.now in
-    let worldview = same_set (set_of s.worldview) (believed_in s.premises) c.requires.sound.worldview in
+    let worldview = c.requires.sound.worldview in
     explained_by (stored_of g.R.Rule.value_of s.network.library) s.names s.words s.definitions s.premises s.network.cells s.limit c.args.cell c.in-Ok.why.value c.args.name.now c.args.mark.now c.in-Ok.why.support (string_bytes c.in-Ok-because.mark) _
     (rw worldview at c.in-Ok.ensures.value) c.in-Ok-because.ensures.in_order (rw worldview at c.in-Ok.ensures.explains) c.in-Ok-because.ensures.text (rw c.deref.ensures at c.value_of.ensures)
 
 pub returns-in-Ok-because-clause-lean : goal.returns-in-Ok-because-clause-lean
 returns-in-Ok-because-clause-lean g c =
     let s = c.args.self.now in
-    let worldview = same_set (set_of s.worldview) (believed_in s.premises) c.requires.sound.worldview in
+    let worldview = c.requires.sound.worldview in
     lean_explained s.names s.words s.definitions s.premises s.network.cells s.limit c.args.cell c.in-Ok.why.value c.args.name.now c.args.mark.now c.in-Ok.why.support (string_bytes c.in-Ok-because.mark) _
     (rw worldview at c.in-Ok.ensures.value) (rw worldview at c.in-Ok.ensures.lean) c.in-Ok-because.ensures.text (rw c.deref.ensures at c.value_of.ensures)

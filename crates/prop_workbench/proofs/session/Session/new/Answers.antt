@@ -9,7 +9,7 @@ returns-clause-sound g c = record {
     line_below = rw c.new-2.ensures (λ k d l. absurd (omega (arith, l)));
     met = rw c.requires.empty (record { met = λ j x at idle. absurd (none-some _ at) });
   };
-  worldview = rw (c.empty.ensures, c.new-5.ensures) (λ p. refl);
+  worldview = rw (c.empty.ensures, c.new-5.ensures) refl;
   known = rw c.requires.empty (λ k d l. absurd (omega (arith, l)));
   sized = rw c.requires.empty (λ k d l. absurd (omega (arith, l)));
   named = rw c.new-3.ensures (λ k d l. absurd (omega (arith, l)));
