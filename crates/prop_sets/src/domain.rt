@@ -1,5 +1,5 @@
 //! Domains: finite lists of named elements.
-ghost use Rattle.std.specs.Prelude.{◌≡◌, ◌<◌, ◌≤◌, ◌++◌, ◌∷◌, [], List, ℕ, false, true, length, bytes_eq, position, slice_get, Some, IfSome, IfOk, OnOk, MatchResult};
+ghost use Rattle.std.specs.Prelude.{◌≡◌, ◌<◌, ◌++◌, ◌∷◌, [], List, ℕ, false, true, length, bytes_eq, position, slice_get, Some, IfSome, IfOk, OnOk, MatchResult};
 ghost use Rattle.std.specs.List.{list_any};
 ghost use Rattle.prop_sets.specs.Names.{texts_of, names_of, is_among, has_repeat, AreElements, IsWhy};
 
