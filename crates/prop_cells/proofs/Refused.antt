@@ -1,5 +1,5 @@
 -- What the tests before a statement and an attachment tell.
-use Rattle.std.proofs.Common.{◌≡◌, ◌∙◌, ◌<◌, ◌≤◌, ◌^◌, ◌/◌, ◌==◌, ◌↔◌, ℕ, min, Bool, true, false, not, is_none, nat_le, ◌||◌, IsTrue, List, [], ◌∷◌, ◌++◌, Option, Some, None, All, length, slice_get, get_or, refl, sym, ap, arith, inl, inr}
+use Rattle.std.proofs.Common.{◌≡◌, ◌∙◌, ◌<◌, ◌≤◌, ◌^◌, ◌/◌, ◌==◌, ◌↔◌, ◌⊎◌, ℕ, min, Bool, true, false, not, is_none, nat_le, ◌||◌, IsTrue, List, [], ◌∷◌, ◌++◌, Option, Some, None, IfSome, All, length, slice_get, get_or, refl, sym, ap, subst, arith, inl, inr}
 use Rattle.std.specs.List.{list_any}
 use Rattle.std.specs.Option.{option_map_or}
 use Rattle.std.specs.Bool.{Decides}
@@ -95,6 +95,13 @@ table a b c e f =
     (or_else (when WrongKind (not c))
     (or_else (when WrongParameter e) (when (LimitReached Instances) f))))
 
+-- what is neither of the first two is a later one
+later_in_table : (T : Refusal → Type 0) (c e f : Bool) → IfSome (table false true c e f) (λ r. ((r ≡ NoSuchCell) ⊎ (r ≡ WrongCount)) → T r)
+later_in_table T false e f = λ h. elim h [ inl x ↦ absurd (cc) | inr x ↦ absurd (cc) ]
+later_in_table T true true f = λ h. elim h [ inl x ↦ absurd (cc) | inr x ↦ absurd (cc) ]
+later_in_table T true false true = λ h. elim h [ inl x ↦ absurd (cc) | inr x ↦ absurd (cc) ]
+later_in_table T true false false = tt
+
 module _ (library : List Stored) (n : ℕ) (p : Stored) (d : Data) (param : Option ℕ) (ins : List ℕ) (out : ℕ) (at : slice_get library n ≡ Some p) where
   by_table : (a b c e f : Bool) → list_any (λ cell. nat_le (length d.kinds) cell) (ins ++ out ∷ []) ≡ a → (length ins == length p.ins) ≡ b → kinds_fit p d.kinds (sides_given d.params param) (ins ++ out ∷ []) ≡ c →
       is_none (param_in p.need d.params param) ≡ e → nat_le (most Instances) (length d.instances) ≡ f → attach_refusal library d n param ins out ≡ table a b c e f
@@ -105,6 +112,12 @@ module _ (library : List Stored) (n : ℕ) (p : Stored) (d : Data) (param : Opti
 
   pub refused_12 : list_any (λ cell. nat_le (length d.kinds) cell) (ins ++ out ∷ []) ≡ false → (length ins ≡ length p.ins → ⊥) → attach_refusal library d n param ins out ≡ Some WrongCount
   refused_12 ha hb = by_table false false _ _ _ ha (ne_eqb (length ins) (length p.ins) hb) refl refl refl
+
+  pub refused_later : (T : Refusal → Type 0) → list_any (λ cell. nat_le (length d.kinds) cell) (ins ++ out ∷ []) ≡ false → length ins ≡ length p.ins →
+      IfSome (attach_refusal library d n param ins out) (λ e. ((e ≡ NoSuchCell) ⊎ (e ≡ WrongCount)) → T e)
+  refused_later T ha hb =
+      let same = by_table false true (kinds_fit p d.kinds (sides_given d.params param) (ins ++ out ∷ [])) (is_none (param_in p.need d.params param)) (nat_le (most Instances) (length d.instances)) ha (eq-eqb (length ins) (length p.ins) hb) refl refl refl in
+      subst (λ (o : Option Refusal). IfSome o (λ e. ((e ≡ NoSuchCell) ⊎ (e ≡ WrongCount)) → T e)) (sym same) (later_in_table T _ _ _)
 
   pub refused_13 : list_any (λ cell. nat_le (length d.kinds) cell) (ins ++ out ∷ []) ≡ false → length ins ≡ length p.ins → kinds_fit p d.kinds (sides_given d.params param) (ins ++ out ∷ []) ≡ false →
       attach_refusal library d n param ins out ≡ Some WrongKind

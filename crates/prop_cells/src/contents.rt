@@ -1,5 +1,5 @@
 //! The entries of cells, in one worldview.
-ghost use Rattle.std.specs.Prelude.{◌≡◌, ◌≢◌, ◌<◌, ℕ, List, [], length, map, All, IfOk, IfSome, OnOk, OnErr, None};
+ghost use Rattle.std.specs.Prelude.{◌≡◌, ◌≢◌, ◌<◌, ℕ, List, [], length, map, All, IsOk, IfOk, IfSome, OnOk, OnErr, None};
 ghost use Rattle.std.specs.List.{list_any};
 ghost use Rattle.prop_premises.specs.Sets.{set_of};
 ghost use Rattle.prop_cells.specs.Problems.{is_contradiction};
@@ -25,6 +25,7 @@ pub(crate) fn strongest_of(
     worldview: &Worldview,
 ) -> Result<Supported<Info>, AllocError>
     requires { cell < length contents.now }
+    ensures nothing { beliefs (set_of worldview.now) contents.now cell ≡ Info.Nothing → IsOk result }
     ensures value { IfOk result (λ e. e.value ≡ beliefs (set_of worldview.now) contents.now cell) }
     ensures lean { IfOk result (λ e. IsLeanAt (set_of worldview.now) contents.now cell e.support) }
 {

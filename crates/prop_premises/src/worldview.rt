@@ -1,5 +1,5 @@
 //! What is believed.
-ghost use Rattle.std.specs.Prelude.{◌≡◌, List, [], ℕ, false, slice_index_or, IfOk};
+ghost use Rattle.std.specs.Prelude.{◌≡◌, List, [], ℕ, false, slice_index_or, IsOk, IfOk};
 ghost use Rattle.prop_premises.specs.Sets.{set_of, is_within};
 ghost use Rattle.prop_premises.specs.Flags.{numbers_from};
 
@@ -36,9 +36,10 @@ impl Worldview {
         }
     }
 
-    /// The worldview that believes just the premises of the set.
+    /// The worldview that believes just the premises of the set. It takes no memory where there are none.
     pub fn of(alloc: Global, premises: &PremiseSet) -> Result<Worldview, AllocError>
-        ensures { IfOk result (λ w. w ≡ premises.now) }
+        ensures none { premises.now ≡ [] → IsOk result }
+        ensures of { IfOk result (λ w. w ≡ premises.now) }
     {
         let mut beliefs = Vec::new(alloc);
         for premise in premises.iter() {

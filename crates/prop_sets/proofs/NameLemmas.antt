@@ -125,6 +125,30 @@ pub repeat_from_kept : (names : List (Bor (List ℕ))) (kept : List (List ℕ)) 
 repeat_from_kept names kept i d l e h =
     repeat_from_before (texts_of names) i [] (omega (arith, length-texts names)) (rw (texts_at names i d [] l, ← e) h)
 
+pub absent_from_kept : (names : List (Bor (List ℕ))) (kept : List (List ℕ)) (i : ℕ) (d : Bor (List ℕ)) → i < length names → kept ≡ take i (texts_of names) → has_repeat (texts_of names) ≡ false → is_among (get_or names i d).now kept ≡ false
+absent_from_kept names kept i d l e h = by (is_among (get_or names i d).now kept) refl
+  where
+    by : (t : Bool) → is_among (get_or names i d).now kept ≡ t → t ≡ false
+    by true f = sym (repeat_from_kept names kept i d l e f) ∙ h
+    by false f = refl
+
+-- the first i names do not stand twice
+
+among_before : (name : List ℕ) (names : List (Bor (List ℕ))) (i : ℕ) → list_any (λ other. bytes_eq name other.now) (take i names) ≡ is_among name (take i (texts_of names))
+among_before name [] zero = refl
+among_before name [] (suc i) = refl
+among_before name (x ∷ xs) zero = refl
+among_before name (x ∷ xs) (suc i) = ap (λ b. bytes_eq name x.now || b) (among_before name xs i)
+
+pub repeats_at : (names : List (Bor (List ℕ))) (i : ℕ) (d : Bor (List ℕ)) → i < length names → list_any (λ other. bytes_eq (get_or names i d).now other.now) (take i names) ≡ true → has_repeat (texts_of names) ≡ true
+repeats_at names i d l h =
+    repeat_from_kept names (take i (texts_of names)) i d l refl (sym (among_before (get_or names i d).now names i) ∙ h)
+
+pub no_repeat_yet : (names : List (Bor (List ℕ))) (i : ℕ) (d : Bor (List ℕ)) → i < length names → has_repeat (take i (texts_of names)) ≡ false → list_any (λ other. bytes_eq (get_or names i d).now other.now) (take i names) ≡ false →
+    has_repeat (take (i + 1) (texts_of names)) ≡ false
+no_repeat_yet names i d l h k =
+    ap has_repeat (sym (kept_more names (take i (texts_of names)) i d l refl)) ∙ no_repeat-push (take i (texts_of names)) (get_or names i d).now h (sym (among_before (get_or names i d).now names i) ∙ k)
+
 -- bytes that are no text are no name
 pub no_text : {A : Type 0} (keys : List (String A)) (name : List ℕ) → (IsUtf8 name → ⊥) → position (bytes_eq name) (names_of keys) ≡ None
 no_text {A = A} keys name bad = rw (at_end keys, length-names keys) (past (length keys))

@@ -1,5 +1,5 @@
 -- Lists of names.
-use Rattle.std.specs.Prelude.{◌≡◌, ℕ, ◌<◌, ◌≤◌, Bool, false, true, ◌||◌, List, [], ◌∷◌, length, map, bytes_eq, ⊤, String, string_bytes}
+use Rattle.std.specs.Prelude.{◌≡◌, ℕ, ◌<◌, ◌≤◌, Bool, false, true, ◌||◌, List, [], ◌∷◌, length, map, bytes_eq, String, string_bytes}
 use Rattle.std.specs.Borrow.{Bor}
 use Rattle.std.specs.List.{list_any}
 use Rattle.prop_lattice.specs.declared.refusal.Refusal.{Refusal}
@@ -29,9 +29,9 @@ pub record AreElements (names : List (List ℕ)) : Type 0 where
   pub few : length names ≤ 64
   pub apart : has_repeat names ≡ false
 
--- why these names make no domain
+-- why these names make no domain; want of memory is said of such alone as could be one
 abbrev pub IsWhy : List (List ℕ) → Refusal → Type 0
 IsWhy names NameTaken = has_repeat names ≡ true
 IsWhy names (LimitReached Elements) = (has_repeat names ≡ false) × (64 < length names)
-IsWhy names Memory = ⊤
+IsWhy names Memory = AreElements names
 IsWhy names refusal = ⊥

@@ -1,5 +1,6 @@
 //! Domains: finite lists of named elements.
-ghost use Rattle.std.specs.Prelude.{◌≡◌, ◌<◌, ◌≤◌, ◌⊎◌, ◌++◌, ◌∷◌, [], List, ℕ, false, true, length, take, bytes_eq, position, slice_get, Some, IfSome, IfErr, OnOk, MatchResult};
+ghost use Rattle.std.specs.Prelude.{◌≡◌, ◌<◌, ◌++◌, ◌∷◌, [], List, ℕ, false, true, length, bytes_eq, position, slice_get, Some, IfSome, IfOk, OnOk, MatchResult};
+ghost use Rattle.std.specs.List.{list_any};
 ghost use Rattle.prop_sets.specs.Names.{texts_of, names_of, is_among, has_repeat, AreElements, IsWhy};
 
 use indexmap::IndexSet;
@@ -24,26 +25,44 @@ impl Model for Domain {
     ghost invariant = { λ d. AreElements (names_of d.names.keys) };
 }
 
-/// Puts one more name last, `NameTaken` where it is there already.
-fn push_name(names: &mut IndexSet<String>, name: &str) -> Result<(), Refusal>
-    ensures ok { OnOk result (names_of names.new.keys ≡ names_of names.old.keys ++ name.now ∷ []) }
-    ensures new { OnOk result (is_among name.now (names_of names.old.keys) ≡ false) }
-    ensures why { IfErr result (λ e. ((e ≡ Refusal.NameTaken) × (is_among name.now (names_of names.old.keys) ≡ true)) ⊎ (e ≡ Refusal.Memory)) }
+/// Whether the name is one of the names.
+fn is_among(name: &str, names: &[&str]) -> bool
+    ensures { result ≡ list_any (λ other. bytes_eq name.now other.now) names.now }
 {
-    let alloc = *names.allocator();
-    let Ok(name) = String::from_str(alloc, name) else {
-        return Err(Refusal::Memory);
-    };
-    match names.insert(name) {
-        Ok(true) => Ok(()),
-        Ok(false) => Err(Refusal::NameTaken),
-        Err(_) => Err(Refusal::Memory),
-    }
+    names.iter().any(
+        |other: &&str| -> bool
+            ensures { result ≡ bytes_eq name.entry.now other.now.now }
+        { name == *other },
+    )
 }
 
-/// The names in order, `NameTaken` where one stands twice.
-fn without_repeats(alloc: Global, names: &[&str]) -> Result<IndexSet<String>, Refusal>
-    ensures { MatchResult result (λ kept. (names_of kept.keys ≡ texts_of names.now) × (has_repeat (texts_of names.now) ≡ false)) (λ e. ((e ≡ Refusal.NameTaken) × (has_repeat (texts_of names.now) ≡ true)) ⊎ (e ≡ Refusal.Memory)) }
+/// Whether a name stands twice. It takes no memory.
+pub fn has_repeat(names: &[&str]) -> bool
+    ensures { result ≡ has_repeat (texts_of names.now) }
+{
+    for i in 0..names.len() {
+        let before = &names[..i];
+        if is_among(names[i], before) {
+            return true;
+        }
+    }
+    false
+}
+
+/// Puts one more name last.
+fn push_name(names: &mut IndexSet<String>, name: &str) -> Result<(), AllocError>
+    requires { is_among name.now (names_of names.old.keys) ≡ false }
+    ensures { OnOk result (names_of names.new.keys ≡ names_of names.old.keys ++ name.now ∷ []) }
+{
+    let name = String::from_str(*names.allocator(), name)?;
+    names.insert(name)?;
+    Ok(())
+}
+
+/// The names in order.
+fn in_order(alloc: Global, names: &[&str]) -> Result<IndexSet<String>, AllocError>
+    requires { has_repeat (texts_of names.now) ≡ false }
+    ensures { IfOk result (λ kept. names_of kept.keys ≡ texts_of names.now) }
 {
     let mut kept = IndexSet::new(alloc);
     for name in names {
@@ -55,16 +74,22 @@ fn without_repeats(alloc: Global, names: &[&str]) -> Result<IndexSet<String>, Re
 impl Domain {
     /// A domain with these elements, in order.
     ///
-    /// A name that stands twice is `NameTaken`, more than 64 of them are `LimitReached`, want of memory is `Memory`.
+    /// A name that stands twice is `NameTaken`, more than 64 of them are `LimitReached`; both are seen before any memory is
+    /// taken. Want of memory is `Memory`.
     pub fn new(alloc: Global, names: &[&str]) -> Result<Domain, Refusal>
         requires { 0 < length names.now }
         ensures { MatchResult result (λ d. (d ≡ texts_of names.now) × AreElements (texts_of names.now)) (IsWhy (texts_of names.now)) }
     {
-        let names = without_repeats(alloc, names)?;
+        if has_repeat(names) {
+            return Err(Refusal::NameTaken);
+        }
         if names.len() > MOST {
             return Err(Refusal::LimitReached(Limit::Elements));
         }
-        Ok(Domain { names })
+        match in_order(alloc, names) {
+            Ok(names) => Ok(Domain { names }),
+            Err(AllocError) => Err(Refusal::Memory),
+        }
     }
 
     /// How many elements it has, from 1 to 64.

@@ -44,6 +44,10 @@ module _ {V : Type 0} {below : V → V → Type 0} {bottom top : V} {join : V �
       (All-from_recursion (λ y. is_within w y.support ≡ true → below y.value z) es
       (unfiltered (λ y. is_within w y.support) (λ y. below y.value z) es (below_merged laws (believed_of w es))))
 
+  -- where the believed entries say nothing, each of them says nothing
+  pub says_nothing : (w : Members) (es : List (Supported V)) (x : Supported V) (v : V) → Contains es x → is_within w x.support ≡ true → belief_of bottom join w es ≡ bottom → below x.value v
+  says_nothing w es x v here on none = laws.transitive x.value bottom v (rw none at (below_belief w es x here on)) (laws.from_bottom v)
+
   believed_too : (w : Members) (a b : Supported V) → Subsumes below a b → is_within w b.support ≡ true → is_within w a.support ≡ true
   believed_too w a b s h = is_within-trans w a.support b.support h s.support
 

@@ -1,5 +1,5 @@
 //! What the believed entries say together, and premises that are enough for it.
-ghost use Rattle.std.specs.Prelude.{◌≡◌, ℕ, [], map, All, Contains, IsTrue, IfOk};
+ghost use Rattle.std.specs.Prelude.{◌≡◌, ℕ, [], map, All, Contains, IsTrue, IsOk, IfOk};
 ghost use Rattle.prop_premises.specs.Sets.{set_of, is_within};
 ghost use Rattle.prop_tms.specs.Beliefs.{belief_of, merge_of_all, IsLean};
 ghost use Rattle.prop_tms.specs.Gains.{AreGains, gained_of};
@@ -29,6 +29,7 @@ fn gains<'a, V: Partial>(
     entries: &'a [Supported<V>],
     worldview: &Worldview,
 ) -> Result<Vec<Gain<'a, V>>, AllocError>
+    ensures nothing { belief_of V.bottom V.join (set_of worldview.now) entries.now ≡ V.bottom → IfOk result (λ v. v.items ≡ []) × IsOk result }
     ensures gains { IfOk result (λ v. AreGains V.join V.bottom v.items) }
     ensures among { IfOk result (λ v. All (Contains entries.now) (gained_of v.items)) }
     ensures believed { IfOk result (λ v. All (λ e. IsTrue (is_within (set_of worldview.now) e.support)) (gained_of v.items)) }
@@ -51,6 +52,7 @@ pub(crate) fn strongest<V: Partial>(
     entries: &[Supported<V>],
     worldview: &Worldview,
 ) -> Result<Supported<V>, AllocError>
+    ensures nothing { belief_of V.bottom V.join (set_of worldview.now) entries.now ≡ V.bottom → IsOk result }
     ensures value { IfOk result (λ e. e.value ≡ belief_of V.bottom V.join (set_of worldview.now) entries.now) }
     ensures lean { IfOk result (λ e. IsLean V.bottom V.join entries.now (set_of worldview.now) e.value e.support) }
 {

@@ -1,5 +1,5 @@
 //! The entries of one value.
-ghost use Rattle.std.specs.Prelude.{◌≡◌, ◌↔◌, ◌≤◌, ◌+◌, Any, List, [], length, filter, vec_capacity, vec_len, IsTrue, IfOk, OnOk, OnErr};
+ghost use Rattle.std.specs.Prelude.{◌≡◌, ◌↔◌, ◌≤◌, ◌+◌, Any, List, [], length, filter, vec_capacity, vec_len, IsTrue, Ok, IsOk, IfOk, OnOk, OnErr};
 ghost use Rattle.prop_premises.specs.Sets.{Members, set_of, is_within, is_below, IsBelow};
 ghost use Rattle.prop_tms.specs.Beliefs.{belief_of, IsLeastBelief, Subsumes, NoneSubsumed, IsNeedless, Adds, IsLean};
 ghost use Rattle.prop_tms.specs.Kept.{IsLeftWithout};
@@ -80,10 +80,12 @@ impl<V: Partial> Tms<V> {
         self.entries.len()
     }
 
-    /// Adds a value that is known where the support is believed. After want of memory nothing has changed.
+    /// Adds a value that is known where the support is believed. What says nothing new takes no memory; after want of
+    /// memory nothing has changed.
     pub fn add(&mut self, value: V, support: PremiseSet) -> Result<Change, AllocError>
         ensures adds { OnOk result (Adds V.bottom V.join self.old self.new (record { value = value; support = support })) }
         ensures same { IfOk result (λ change. (change ≡ Change.Same) ↔ IsNeedless V.below V.bottom self.old (record { value = value; support = support })) }
+        ensures needless { IsNeedless V.below V.bottom self.old (record { value = value; support = support }) → result ≡ Ok Change.Same }
         ensures unchanged { IfOk result (λ change. change ≡ Change.Same → self.new ≡ self.old) }
         ensures apart { NoneSubsumed V.below self.new }
         ensures len { length self.new ≤ length self.old + 1 }
@@ -107,9 +109,11 @@ impl<V: Partial> Tms<V> {
         belief(&self.entries, worldview)
     }
 
-    /// What the believed entries say together, with the support of believed entries that say so, none of which can be left out.
+    /// What the believed entries say together, with the support of believed entries that say so, none of which can be left
+    /// out. Where they say nothing it takes no memory.
     pub fn strongest(&self, worldview: &Worldview) -> Result<Supported<V>, AllocError>
         ensures value { IfOk result (λ e. e.value ≡ belief_of V.bottom V.join (set_of worldview.now) self.now) }
+        ensures nothing { belief_of V.bottom V.join (set_of worldview.now) self.now ≡ V.bottom → IsOk result }
         ensures lean { IfOk result (λ e. IsLean V.bottom V.join self.now (set_of worldview.now) e.value e.support) }
         ensures believed { IfOk result (λ e. IsTrue (is_within (set_of worldview.now) e.support)) }
         ensures enough { IfOk result (λ e. belief_of V.bottom V.join (set_of e.support) self.now ≡ e.value) }

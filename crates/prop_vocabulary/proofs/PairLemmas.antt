@@ -1,15 +1,12 @@
 -- Pairs of elements, one more at a time.
-use Rattle.std.proofs.Common.{◌≡◌, ◌∙◌, ℕ, zero, suc, ◌+◌, ◌<◌, Bool, true, false, ◌||◌, List, [], ◌∷◌, ◌++◌, Some, None, length, take, get_or, map, fold, is_none, unwrap_or, refl, sym, ap, arith}
+use Rattle.std.proofs.Common.{◌≡◌, ◌∙◌, ℕ, ◌+◌, ◌<◌, Bool, true, false, ◌||◌, List, [], ◌∷◌, ◌++◌, Some, None, length, take, get_or, map, fold, unwrap_or, refl, sym, ap}
 use Rattle.std.specs.Borrow.{Bor}
 use Rattle.std.specs.List.{list_any}
-use Rattle.std.proofs.lemmas.Bool.{or_from, or_left, or_right}
 use Rattle.std.proofs.lemmas.List.{take_more, map-append}
-use Rattle.std.proofs.lemmas.List.Folds.{list_any-append}
 use Rattle.std.proofs.lemmas.List.Sums.{fold-append}
 use Rattle.prop_lattice.specs.declared.refusal.Refusal.TheVariants.{NotInTheDomain}
 use Rattle.prop_sets.specs.Relation.{Relation, with_pair, no_pairs}
-use Rattle.prop_vocabulary.specs.Names.{number_in}
-use Rattle.prop_vocabulary.specs.Pairs.{texts_of_pairs, with_named_pair, with_pairs, is_pair_outside, is_outside}
+use Rattle.prop_vocabulary.specs.Pairs.{texts_of_pairs, place_of, with_named_pair, with_pairs, is_pair_outside, is_outside}
 use Rattle.prop_vocabulary.specs.Refusing.{is_word_outside, pairs_refusal}
 use Rattle.prop_vocabulary.specs.Vocabulary.{Vocabulary, domain_number, elements_of, side_at, relation_between, relation_of, HasSides}
 use Rattle.prop_vocabulary.proofs.RefusalLemmas.{word_outside, pairs_allowed}
@@ -22,58 +19,31 @@ texts_more pairs i d l =
 
 -- the relation with one pair more
 pub pairs_more : (first second : List (List ℕ)) (start before after : Relation) (pairs : List (Bor (List ℕ) × Bor (List ℕ))) (i : ℕ) (d : Bor (List ℕ) × Bor (List ℕ)) (a b : ℕ) → i < length pairs →
-    before ≡ with_pairs first second start (texts_of_pairs (take i pairs)) → number_in first (get_or pairs i d).0.now ≡ Some a → number_in second (get_or pairs i d).1.now ≡ Some b → after ≡ with_pair before a b →
+    before ≡ with_pairs first second start (texts_of_pairs (take i pairs)) → a ≡ place_of first (get_or pairs i d).0.now → b ≡ place_of second (get_or pairs i d).1.now → after ≡ with_pair before a b →
     after ≡ with_pairs first second start (texts_of_pairs (take (i + 1) pairs))
 pairs_more first second start before after pairs i d a b l e p q is =
     let pair : List ℕ × List ℕ = ((get_or pairs i d).0.now, (get_or pairs i d).1.now) in
     let texts = texts_of_pairs (take i pairs) in
     let f = with_named_pair first second in
-    let same : with_pair before a b ≡ f before pair = ap (λ n. with_pair before (unwrap_or n 0) b) (sym p) ∙ ap (λ n. with_pair before (unwrap_or (number_in first pair.0) 0) (unwrap_or n 0)) (sym q) in
+    let same : with_pair before a b ≡ f before pair = (λ t. with_pair before (p t) (q t)) in
     is ∙ same ∙ ap (λ m. f m pair) e ∙ sym (fold-append f start texts (pair ∷ [])) ∙ ap (λ t. fold f start t) (sym (texts_more pairs i d l))
-
--- both words of one pair more are elements
-pub inside_more : (first second : List (List ℕ)) (pairs : List (Bor (List ℕ) × Bor (List ℕ))) (i : ℕ) (d : Bor (List ℕ) × Bor (List ℕ)) (a b : ℕ) → i < length pairs →
-    is_outside first second (texts_of_pairs (take i pairs)) ≡ false → number_in first (get_or pairs i d).0.now ≡ Some a → number_in second (get_or pairs i d).1.now ≡ Some b →
-    is_outside first second (texts_of_pairs (take (i + 1) pairs)) ≡ false
-inside_more first second pairs i d a b l e p q =
-    let pair : List ℕ × List ℕ = ((get_or pairs i d).0.now, (get_or pairs i d).1.now) in
-    let test = is_pair_outside first second in
-    let here : test pair ≡ false = or_from _ _ (ap is_none p) (ap is_none q) in
-    ap (is_outside first second) (texts_more pairs i d l) ∙ list_any-append test (texts_of_pairs (take i pairs)) (pair ∷ []) ∙ or_from _ _ e (or_from _ _ here refl)
-
-any_at : {X : Type 0} (p : X → Bool) (xs : List X) (i : ℕ) (d : X) → i < length xs → p (get_or xs i d) ≡ true → list_any p xs ≡ true
-any_at p [] i d l h = absurd (omega (arith, l))
-any_at p (x ∷ xs) zero d l h = or_left _ _ h
-any_at p (x ∷ xs) (suc i) d l h = or_right _ _ (any_at p xs i d (omega (arith, l)) h)
 
 list_any-map : {X Y : Type 0} (f : X → Y) (p : Y → Bool) (xs : List X) → list_any p (map f xs) ≡ list_any (λ x. p (f x)) xs
 list_any-map f p [] = refl
 list_any-map f p (x ∷ xs) = ap (λ b. p (f x) || b) (list_any-map f p xs)
 
-outside_at : (first second : List (List ℕ)) (pairs : List (Bor (List ℕ) × Bor (List ℕ))) (i : ℕ) (d : Bor (List ℕ) × Bor (List ℕ)) → i < length pairs →
-    is_pair_outside first second ((get_or pairs i d).0.now, (get_or pairs i d).1.now) ≡ true → is_outside first second (texts_of_pairs pairs) ≡ true
-outside_at first second pairs i d l h =
-    let f : Bor (List ℕ) × Bor (List ℕ) → List ℕ × List ℕ = λ pair. (pair.0.now, pair.1.now) in
-    list_any-map f (is_pair_outside first second) pairs ∙ any_at (λ x. is_pair_outside first second (f x)) pairs i d l h
-
--- a first word that is no element
-pub first_outside : (first second : List (List ℕ)) (pairs : List (Bor (List ℕ) × Bor (List ℕ))) (i : ℕ) (d : Bor (List ℕ) × Bor (List ℕ)) → i < length pairs →
-    number_in first (get_or pairs i d).0.now ≡ None → is_outside first second (texts_of_pairs pairs) ≡ true
-first_outside first second pairs i d l h = outside_at first second pairs i d l (or_left _ _ (ap is_none h))
-
--- and a second word
-pub second_outside : (first second : List (List ℕ)) (pairs : List (Bor (List ℕ) × Bor (List ℕ))) (i : ℕ) (d : Bor (List ℕ) × Bor (List ℕ)) → i < length pairs →
-    number_in second (get_or pairs i d).1.now ≡ None → is_outside first second (texts_of_pairs pairs) ≡ true
-second_outside first second pairs i d l h = outside_at first second pairs i d l (or_right _ _ (ap is_none h))
+-- a word of one of the pairs is outside
+pub outside_among : (first second : List (List ℕ)) (pairs : List (Bor (List ℕ) × Bor (List ℕ))) (r : Bool) → r ≡ list_any (λ pair. is_pair_outside first second (pair.0.now, pair.1.now)) pairs → r ≡ is_outside first second (texts_of_pairs pairs)
+outside_among first second pairs r e =
+    e ∙ sym (list_any-map (λ (pair : Bor (List ℕ) × Bor (List ℕ)). (pair.0.now, pair.1.now)) (is_pair_outside first second) pairs)
 
 -- ---- the domains by their names
 
 -- pairs put into the relation without pairs make the relation
-pub made_of : (v : Vocabulary) (from to : List ℕ) (pairs : List (List ℕ × List ℕ)) (a b : ℕ) (x y : List (List ℕ)) (m n : Relation) → domain_number v from ≡ Some a → domain_number v to ≡ Some b →
-    x ≡ elements_of v a → y ≡ elements_of v b → m ≡ no_pairs (side_at v a) (side_at v b) → n ≡ with_pairs x y m pairs → n ≡ relation_of v from to pairs
-made_of v from to pairs a b x y m n e f p q r s =
+pub made_between : (v : Vocabulary) (pairs : List (List ℕ × List ℕ)) (a b : ℕ) (x y : List (List ℕ)) (m n : Relation) →
+    x ≡ elements_of v a → y ≡ elements_of v b → m ≡ no_pairs (side_at v a) (side_at v b) → n ≡ with_pairs x y m pairs → n ≡ relation_between v a b pairs
+made_between v pairs a b x y m n p q r s =
     s ∙ ap (λ x. with_pairs x y m pairs) p ∙ ap (λ y. with_pairs (elements_of v a) y m pairs) q ∙ ap (λ m. with_pairs (elements_of v a) (elements_of v b) m pairs) r
-    ∙ ap (λ o. relation_between v (unwrap_or o 0) b pairs) (sym e) ∙ ap (λ o. relation_between v (unwrap_or (domain_number v from) 0) (unwrap_or o 0) pairs) (sym f)
 
 words_same : (v : Vocabulary) (from to : List ℕ) (pairs : List (List ℕ × List ℕ)) (a b : ℕ) (x y : List (List ℕ)) → domain_number v from ≡ Some a → domain_number v to ≡ Some b →
     x ≡ elements_of v a → y ≡ elements_of v b → is_word_outside v from to pairs ≡ is_outside x y pairs

@@ -1,5 +1,5 @@
 //! The domains of a vocabulary.
-ghost use Rattle.std.specs.Prelude.{◌≡◌, ◌<◌, ◌⊎◌, length, None, Some, IfSome, IfErr, OnOk, OnErr, MatchResult};
+ghost use Rattle.std.specs.Prelude.{◌≡◌, ◌<◌, ◌⊎◌, length, None, Some, Err, IfSome, IfErr, OnOk, OnErr, MatchResult};
 ghost use Rattle.prop_sets.specs.Names.{texts_of, AreElements};
 ghost use Rattle.prop_vocabulary.specs.Vocabulary.{domain_number, elements_of, with_domain, IsWhole};
 ghost use Rattle.prop_vocabulary.specs.Refusing.{domain_refusal};
@@ -8,6 +8,7 @@ use crate::growth::push_named;
 use crate::vocabulary::Vocabulary;
 use prop_lattice::{Limit, Refusal};
 use prop_sets::Domain;
+use prop_sets::domain::has_repeat;
 use std::alloc::AllocError;
 
 impl Vocabulary {
@@ -40,13 +41,14 @@ impl Vocabulary {
     /// Declares a domain with these elements, in order; it has the next number.
     ///
     /// `NameTaken` where a declared domain has the name or an element stands twice; then `LimitReached` where there
-    /// are 1,024 declared domains or more than 64 elements. Want of memory is `Memory`. After an error nothing has
-    /// changed.
+    /// are 1,024 declared domains or more than 64 elements. Want of memory is `Memory`, and only where none of these
+    /// holds. After an error nothing has changed.
     pub fn declare_domain(&mut self, name: &str, elements: &[&str]) -> Result<(), Refusal>
         requires { 0 < length elements.now }
         ensures ok { OnOk result (self.new ≡ with_domain self.old name.now (texts_of elements.now)) }
         ensures allowed { OnOk result (domain_refusal self.old name.now (texts_of elements.now) ≡ None) }
         ensures err { OnErr result (self.new ≡ self.old) }
+        ensures refused { IfSome (domain_refusal self.old name.now (texts_of elements.now)) (λ e. result ≡ Err e) }
         ensures why { IfErr result (λ e. (domain_refusal self.old name.now (texts_of elements.now) ≡ Some e) ⊎ (e ≡ Refusal.Memory)) }
     {
         let domain = self.domain_to_declare(name, elements)?;
@@ -66,19 +68,15 @@ impl Vocabulary {
     fn domain_to_declare(&self, name: &str, elements: &[&str]) -> Result<Domain, Refusal>
         requires { 0 < length elements.now }
         ensures ok { MatchResult result (λ d. (d ≡ texts_of elements.now) × AreElements (texts_of elements.now)) (λ e. (domain_refusal self.now name.now (texts_of elements.now) ≡ Some e) ⊎ (e ≡ Refusal.Memory)) }
+        ensures refused { IfSome (domain_refusal self.now name.now (texts_of elements.now)) (λ e. result ≡ Err e) }
         ensures allowed { OnOk result (domain_refusal self.now name.now (texts_of elements.now) ≡ None) }
     {
-        if self.domain_names.find(name).is_some() {
+        if self.domain_names.find(name).is_some() || has_repeat(elements) {
             return Err(Refusal::NameTaken);
         }
-        let domain = Domain::new(self.alloc, elements);
-        if self.domain_names.len() < Limit::Domains.most() {
-            return domain;
+        if self.domain_names.len() >= Limit::Domains.most() {
+            return Err(Refusal::LimitReached(Limit::Domains));
         }
-        match domain {
-            Err(Refusal::NameTaken) => Err(Refusal::NameTaken),
-            Err(Refusal::Memory) => Err(Refusal::Memory),
-            _ => Err(Refusal::LimitReached(Limit::Domains)),
-        }
+        Domain::new(self.alloc, elements)
     }
 }

@@ -1,13 +1,13 @@
 //! The relations of a vocabulary.
-ghost use Rattle.std.specs.Prelude.{◌≡◌, ◌<◌, ◌⊎◌, length, None, Some, IfSome, IfErr, IfOk, OnOk, OnErr, MatchResult, option_copied};
+ghost use Rattle.std.specs.Prelude.{◌≡◌, ◌<◌, ◌⊎◌, length, None, Some, Err, IfSome, IfErr, IfOk, OnOk, OnErr, MatchResult, option_copied};
 ghost use Rattle.prop_sets.specs.Relation.{no_pairs};
 ghost use Rattle.prop_vocabulary.specs.Laws.{HaveJustTheirPairs};
 ghost use Rattle.prop_vocabulary.specs.Pairs.{texts_of_pairs};
-ghost use Rattle.prop_vocabulary.specs.Vocabulary.{elements_of, side_at, relation_named, relation_of, with_relation, IsSideOf, HasSides};
+ghost use Rattle.prop_vocabulary.specs.Vocabulary.{elements_of, side_at, domain_number, relation_named, relation_between, relation_of, with_relation, IsSideOf, HasSides};
 ghost use Rattle.prop_vocabulary.specs.Refusing.{pairs_refusal, relation_refusal};
 
 use crate::growth::push_named;
-use crate::pairs::add_pairs;
+use crate::pairs::{add_pairs, is_outside};
 use crate::vocabulary::Vocabulary;
 use prop_lattice::{Limit, Refusal};
 use prop_sets::{Rows, Side};
@@ -27,8 +27,8 @@ impl Vocabulary {
     ///
     /// `NameTaken` where a relation has the name, then `NoSuchDomain` where one of the domains is not declared, then
     /// `NotInTheDomain` where the first word of a pair is no element of the first domain or the second none of the
-    /// second, then `LimitReached` where there are 1,024 relations. Want of memory is `Memory`. After an error
-    /// nothing has changed.
+    /// second, then `LimitReached` where there are 1,024 relations. Want of memory is `Memory`, and only where
+    /// none of these holds. After an error nothing has changed.
     pub fn declare_relation(
         &mut self,
         name: &str,
@@ -39,6 +39,7 @@ impl Vocabulary {
         ensures ok { OnOk result (self.new ≡ with_relation self.old name.now from.now to.now (texts_of_pairs pairs.now)) }
         ensures allowed { OnOk result (relation_refusal self.old name.now from.now to.now (texts_of_pairs pairs.now) ≡ None) }
         ensures err { OnErr result (self.new ≡ self.old) }
+        ensures refused { IfSome (relation_refusal self.old name.now from.now to.now (texts_of_pairs pairs.now)) (λ e. result ≡ Err e) }
         ensures why { IfErr result (λ e. (relation_refusal self.old name.now from.now to.now (texts_of_pairs pairs.now) ≡ Some e) ⊎ (e ≡ Refusal.Memory)) }
     {
         let rows = self.relation_to_declare(name, from, to, pairs)?;
@@ -63,23 +64,35 @@ impl Vocabulary {
         pairs: &[(&[u8], &[u8])],
     ) -> Result<Rows, Refusal>
         ensures ok { MatchResult result (λ m. (m ≡ relation_of self.now from.now to.now (texts_of_pairs pairs.now)) × HasSides self.now.domains m) (λ e. (relation_refusal self.now name.now from.now to.now (texts_of_pairs pairs.now) ≡ Some e) ⊎ (e ≡ Refusal.Memory)) }
+        ensures refused { IfSome (relation_refusal self.now name.now from.now to.now (texts_of_pairs pairs.now)) (λ e. result ≡ Err e) }
         ensures allowed { OnOk result (relation_refusal self.now name.now from.now to.now (texts_of_pairs pairs.now) ≡ None) }
     {
         if self.relation_names.find(name).is_some() {
             return Err(Refusal::NameTaken);
         }
-        let rows = self.rows_of(from, to, pairs)?;
+        let (first, second) = self.domains_of(from, to, pairs)?;
         if self.relation_names.len() >= Limit::Relations.most() {
             return Err(Refusal::LimitReached(Limit::Relations));
         }
-        Ok(rows)
+        match self.rows_of(first, second, pairs) {
+            Ok(rows) => Ok(rows),
+            Err(AllocError) => Err(Refusal::Memory),
+        }
     }
 
-    /// The relation between two declared domains with these pairs.
-    #[tactic(auto, using(crate::proofs::PairLemmas::made_of, crate::proofs::PairLemmas::words_inside, crate::proofs::PairLemmas::words_outside, crate::proofs::PairLemmas::same_sides, crate::proofs::RefusalLemmas::no_from, crate::proofs::RefusalLemmas::no_to))]
-    fn rows_of(&self, from: &str, to: &str, pairs: &[(&[u8], &[u8])]) -> Result<Rows, Refusal>
-        ensures ok { MatchResult result (λ m. (m ≡ relation_of self.now from.now to.now (texts_of_pairs pairs.now)) × HasSides self.now.domains m) (λ e. (pairs_refusal self.now from.now to.now (texts_of_pairs pairs.now) ≡ Some e) ⊎ (e ≡ Refusal.Memory)) }
-        ensures allowed { OnOk result (pairs_refusal self.now from.now to.now (texts_of_pairs pairs.now) ≡ None) }
+    /// The numbers of two declared domains, where each word of the pairs is an element of its domain. It takes no memory.
+    #[tactic(auto, using(crate::proofs::PairLemmas::words_inside, crate::proofs::PairLemmas::words_outside, crate::proofs::RefusalLemmas::no_from, crate::proofs::RefusalLemmas::no_to))]
+    fn domains_of(
+        &self,
+        from: &str,
+        to: &str,
+        pairs: &[(&[u8], &[u8])],
+    ) -> Result<(u16, u16), Refusal>
+        ensures ok { MatchResult result (λ n. pairs_refusal self.now from.now to.now (texts_of_pairs pairs.now) ≡ None) (λ e. pairs_refusal self.now from.now to.now (texts_of_pairs pairs.now) ≡ Some e) }
+        ensures from { IfOk result (λ n. domain_number self.now from.now ≡ Some n.0) }
+        ensures to { IfOk result (λ n. domain_number self.now to.now ≡ Some n.1) }
+        ensures first { IfOk result (λ n. n.0 < length self.now.domains) }
+        ensures second { IfOk result (λ n. n.1 < length self.now.domains) }
     {
         let Some(first) = self.domain_number(from) else {
             return Err(Refusal::NoSuchDomain);
@@ -87,13 +100,23 @@ impl Vocabulary {
         let Some(second) = self.domain_number(to) else {
             return Err(Refusal::NoSuchDomain);
         };
-        let Ok(mut rows) = self.rows_between(first, second) else {
-            return Err(Refusal::Memory);
-        };
-        match add_pairs(&mut rows, self.domain(first), self.domain(second), pairs) {
-            Ok(()) => Ok(rows),
-            Err(refusal) => Err(refusal),
+        if is_outside(self.domain(first), self.domain(second), pairs) {
+            return Err(Refusal::NotInTheDomain);
         }
+        Ok((first, second))
+    }
+
+    /// The relation with these pairs between the domains with these numbers.
+    #[tactic(auto, using(crate::proofs::PairLemmas::made_between, crate::proofs::PairLemmas::same_sides))]
+    fn rows_of(&self, first: u16, second: u16, pairs: &[(&[u8], &[u8])]) -> Result<Rows, AllocError>
+        requires first { first < length self.now.domains }
+        requires second { second < length self.now.domains }
+        ensures rows { IfOk result (λ m. m ≡ relation_between self.now first second (texts_of_pairs pairs.now)) }
+        ensures sides { IfOk result (λ m. HasSides self.now.domains m) }
+    {
+        let mut rows = self.rows_between(first, second)?;
+        add_pairs(&mut rows, self.domain(first), self.domain(second), pairs);
+        Ok(rows)
     }
 
     /// A relation without pairs between the domains with these numbers.

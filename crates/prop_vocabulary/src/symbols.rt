@@ -1,5 +1,5 @@
 //! The symbols of a vocabulary.
-ghost use Rattle.std.specs.Prelude.{◌≡◌, ◌<◌, ◌⊎◌, length, take, slice_get, None, Some, IfSome, IfOk, IfErr, OnOk, OnErr};
+ghost use Rattle.std.specs.Prelude.{◌≡◌, ◌<◌, ◌⊎◌, length, take, slice_get, None, Some, Ok, Err, IfSome, IfOk, IfErr, OnOk, OnErr};
 ghost use Rattle.prop_vocabulary.specs.Names.{number_in};
 ghost use Rattle.prop_vocabulary.specs.Vocabulary.{symbol_number, with_symbol, with_first_symbols};
 ghost use Rattle.prop_vocabulary.specs.Refusing.{symbol_refusal};
@@ -35,13 +35,15 @@ impl Vocabulary {
 
     /// The number of the symbol with this name; a new one gets the next number.
     ///
-    /// There can be 100,000 symbols: one more is `LimitReached`. Want of memory is `Memory`. After an error nothing
-    /// has changed.
+    /// There can be 100,000 symbols: one more is `LimitReached`. Want of memory is `Memory`, and only where the
+    /// symbol is new and there is one more to be had. After an error nothing has changed.
     pub fn add_symbol(&mut self, name: &str) -> Result<u32, Refusal>
+        ensures known { IfSome (number_in self.old.symbols name.now) (λ n. result ≡ Ok n) }
         ensures number { IfOk result (λ n. n ≡ symbol_number self.old name.now) }
         ensures ok { OnOk result (self.new ≡ with_symbol self.old name.now) }
         ensures allowed { OnOk result (symbol_refusal self.old name.now ≡ None) }
         ensures err { OnErr result (self.new ≡ self.old) }
+        ensures refused { IfSome (symbol_refusal self.old name.now) (λ e. result ≡ Err e) }
         ensures why { IfErr result (λ e. (symbol_refusal self.old name.now ≡ Some e) ⊎ (e ≡ Refusal.Memory)) }
     {
         match self.symbol(name) {
@@ -57,6 +59,7 @@ impl Vocabulary {
         ensures ok { OnOk result (self.new ≡ with_symbol self.old name.now) }
         ensures allowed { OnOk result (symbol_refusal self.old name.now ≡ None) }
         ensures err { OnErr result (self.new ≡ self.old) }
+        ensures refused { IfSome (symbol_refusal self.old name.now) (λ e. result ≡ Err e) }
         ensures why { IfErr result (λ e. (symbol_refusal self.old name.now ≡ Some e) ⊎ (e ≡ Refusal.Memory)) }
     {
         let number = self.symbols.len();

@@ -1,10 +1,14 @@
-use Rattle.std.proofs.Common.{◌++◌, ◌∷◌, [], ◌≡◌, All, Contains, IsTrue, arith}
+use Rattle.std.proofs.Common.{◌++◌, ◌∷◌, [], ◌≡◌, ◌∙◌, sym, List, All, Contains, IsTrue, arith}
 use Rattle.std.proofs.lemmas.List.{nil_from_length}
 use Rattle.prop_premises.specs.Sets.{set_of, is_within}
 use Rattle.prop_tms.specs.Beliefs.{merge_of_all}
 use Rattle.prop_tms.specs.Gains.{AreGains, gained_of}
 use Rattle.prop_tms.proofs.LeanLemmas.{IsThinned, IsThinned-init, IsLean-thinned, IsThinned-skip, IsThinned-keep, AreGains-front, AreGains-last, gained_of-push, All-front, All-last}
 use Rattle.prop_tms.proofs.strongest.strongest.Goals as goal
+
+none_left : {X : Type 0} (xs : List X) (x : X) → xs ++ x ∷ [] ≡ [] → ⊥
+none_left [] x e = absurd (cc)
+none_left (y ∷ ys) x e = absurd (cc)
 
 pub loop-gain-preserved-then-not-implies : goal.loop-gain-preserved-then-not-implies
 loop-gain-preserved-then-not-implies g c =
@@ -26,6 +30,7 @@ loop-gain-preserved-then-not-implies g c =
       gains = AreGains-front laws g.V.Partial.bottom left gain gains;
       among = All-front (Contains es) (gained_of left) e among;
       believed = All-front (λ x. IsTrue (is_within w x.support)) (gained_of left) e believed;
+      nothing = λ n. absurd (none_left left gain (sym items ∙ kept.nothing n));
       thinned = rw c.merge-after.ensures (IsThinned-keep laws es w c.belief-value.result (gained_of left) e c.loop-gain.after c.loop-gain.support c.in_ok-support.support thinned needed
           (All-last (Contains es) (gained_of left) e among) (All-last (λ x. IsTrue (is_within w x.support)) (gained_of left) e believed) c.in_ok-support.ensures);
     }
@@ -50,6 +55,7 @@ loop-gain-preserved g c =
       gains = AreGains-front laws g.V.Partial.bottom left gain gains;
       among = All-front (Contains es) (gained_of left) e among;
       believed = All-front (λ x. IsTrue (is_within w x.support)) (gained_of left) e believed;
+      nothing = λ n. absurd (none_left left gain (sym items ∙ kept.nothing n));
       thinned = IsThinned-skip laws es w c.belief-value.result (gained_of left) e c.loop-gain.after c.loop-gain.support thinned reached;
     }
 
@@ -59,6 +65,7 @@ loop-gain-init g c =
       gains = c.in_ok-gains.ensures.gains;
       among = c.in_ok-gains.ensures.among;
       believed = c.in_ok-gains.ensures.believed;
+      nothing = λ n. (c.in_ok-gains.ensures.nothing n).0;
       thinned = rw (c.nothing-after.ensures, c.empty-support.ensures) (IsThinned-init g.met.V.Partial.laws c.args.entries.now (set_of c.args.worldview.now) c.belief-value.result (gained_of c.in_ok-gains.gains.items) (rw c.belief-value.ensures c.in_ok-gains.ensures.merged));
     }
 
@@ -70,3 +77,6 @@ pub returns-clause-lean : goal.returns-clause-lean
 returns-clause-lean g c =
     let nothing : c.loop-gain.gains.items ≡ [] = nil_from_length c.loop-gain.gains.items (omega (arith, c.in_default.ensures.cases, c.loop-gain.gains.ok.0)) in
     IsLean-thinned g.met.V.Partial.laws c.args.entries.now (set_of c.args.worldview.now) c.belief-value.result c.loop-gain.after c.loop-gain.support (rw nothing at c.loop-gain.invariant.thinned)
+
+pub returns-in_err-support-clause-nothing : goal.returns-in_err-support-clause-nothing
+returns-in_err-support-clause-nothing g c = λ n. absurd (none_left c.pop.new.self.items c.in-Some.gain (sym c.in-Some.ensures.items ∙ c.loop-gain.invariant.nothing n))

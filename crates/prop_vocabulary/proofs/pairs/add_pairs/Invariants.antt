@@ -1,5 +1,5 @@
-use Rattle.std.proofs.Common.{◌≡◌, false, take}
-use Rattle.prop_vocabulary.specs.Pairs.{texts_of_pairs, with_pairs, is_outside}
+use Rattle.std.proofs.Common.{◌≡◌, take}
+use Rattle.prop_vocabulary.specs.Pairs.{texts_of_pairs, with_pairs}
 use Rattle.prop_vocabulary.proofs.pairs.add_pairs.Given as goal
 
 abbrev pub invariant-loop-pair : goal.invariant-loop-pair
@@ -7,5 +7,4 @@ invariant-loop-pair l = record {
   made : l.rows ≡ with_pairs l.first l.second l.initial.rows (texts_of_pairs (take l.pair-index l.pairs));
   from : l.rows.from ≡ l.initial.rows.from;
   to : l.rows.to ≡ l.initial.rows.to;
-  inside : is_outside l.first l.second (texts_of_pairs (take l.pair-index l.pairs)) ≡ false;
 }

@@ -1,7 +1,17 @@
-use Rattle.std.proofs.Common.{rules, ◌∷◌, ◌∙◌, [], arith, append_assoc, vec_len}
+use Rattle.std.proofs.Common.{rules, ◌≡◌, ◌++◌, ◌∷◌, ◌∙◌, [], List, arith, append_assoc, vec_len}
 use Rattle.prop_premises.proofs.FlagLemmas.{numbers_from-next, from_none, from_next}
 use Rattle.prop_premises.proofs.MergeLemmas.{rising_from_increasing}
 use Rattle.prop_premises.proofs.worldview.Worldview.of.Goals as goal
+
+some_left : {X : Type 0} (xs ys : List X) (x : X) → xs ++ x ∷ ys ≡ [] → ⊥
+some_left [] ys x e = absurd (cc)
+some_left (z ∷ zs) ys x e = absurd (cc)
+
+pub returns-in_err-resize-clause-none : goal.returns-in_err-resize-clause-none
+returns-in_err-resize-clause-none c = λ n. absurd (some_left c.loop-premise.yielded c.next.new.self c.in-Some.premise (rw c.in-Some.ensures.steps at c.loop-premise.invariant.so_far ∙ n))
+
+pub returns-in_err-push-clause-none : goal.returns-in_err-push-clause-none
+returns-in_err-push-clause-none c = λ n. absurd (some_left c.loop-premise.yielded c.next.new.self c.in-Some.premise (rw c.in-Some.ensures.steps at c.loop-premise.invariant.so_far ∙ n))
 
 pub loop-premise-init : goal.loop-premise-init
 loop-premise-init c =

@@ -16,6 +16,18 @@ returns-then-is_needless-clause-same g c =
     let needless : IsNeedless g.V.Partial.below g.V.Partial.bottom c.args.self.now e = rw (← c.self.view_is) (rw c.deref.ensures.value at (c.is_needless.ensures.0 c.if-is_needless.true)) in
     (λ t. needless, λ n. refl)
 
+pub returns-in_err-reserve-clause-needless : goal.returns-in_err-reserve-clause-needless
+returns-in_err-reserve-clause-needless g c =
+    let e : Supported _ = record { value = c.args.value; support = c.args.support } in
+    let needed : ¬ (IsNeedless g.V.Partial.below g.V.Partial.bottom c.self.inside.entries.items e) = λ n. cc (c.if-is_needless.false, c.is_needless.ensures.1 (rw c.deref.ensures.value n)) in
+    λ n. absurd (needed (rw c.self.view_is n))
+
+pub returns-clause-needless : goal.returns-clause-needless
+returns-clause-needless g c =
+    let e : Supported _ = record { value = c.args.value; support = c.args.support } in
+    let needed : ¬ (IsNeedless g.V.Partial.below g.V.Partial.bottom c.self.inside.entries.items e) = λ n. cc (c.if-is_needless.false, c.is_needless.ensures.1 (rw c.deref.ensures.value n)) in
+    λ n. absurd (needed (rw c.self.view_is n))
+
 pub invariant_of-self-2 : goal.invariant_of-self-2
 invariant_of-self-2 g c =
     let e : Supported _ = record { value = c.args.value; support = c.args.support } in
