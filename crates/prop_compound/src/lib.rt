@@ -17,6 +17,5 @@ mod walk;
 pub use definitions::Definitions;
 pub use flat::{Flat, Placed};
 pub use prop_language::{
-    By, Command, KindWord, Meant, Passed, Step, Value, number_in, read_line, read_value,
-    reads_what_is_spelled,
+    By, Command, KindWord, Passed, Step, Value, number_in, read_line, reads_what_is_spelled,
 };
