@@ -16,7 +16,6 @@ mod walk;
 
 pub use definitions::Definitions;
 pub use prop_language::{
-    By, Command, KindWord, Meant, Passed, Step, Value, number_in, read_line, read_value,
-    reads_what_is_spelled,
+    By, Command, KindWord, Passed, Step, Value, number_in, read_line, reads_what_is_spelled,
 };
 pub use prop_procedures::{Flat, Placed};

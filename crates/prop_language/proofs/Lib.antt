@@ -2,7 +2,5 @@ pub mod Lexing
 pub mod Digits
 pub mod Forming
 pub mod StepLaws
-pub mod Halving
 pub mod SpellingLaws
 pub mod RefusalLaws
-pub mod Choosing

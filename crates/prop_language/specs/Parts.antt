@@ -1,5 +1,5 @@
 -- What the parts of the reader answer.
-use Rattle.std.specs.Prelude.{◌≡◌, ℕ, List, [], ◌∷◌, ◌++◌, Bool, true, false, cond, not, nat_le, bytes_eq, codes, ◌||◌, Option, Some, None, is_some, ⊤, Contains, Result, Ok, Err}
+use Rattle.std.specs.Prelude.{◌≡◌, ℕ, List, [], ◌∷◌, Bool, true, false, cond, not, nat_le, bytes_eq, codes, ◌||◌, Option, Some, None, is_some, ⊤, Contains, Result, Ok, Err}
 use Rattle.std.specs.Option.{option_map, option_and_then}
 use Rattle.std.specs.List.{list_all}
 use Rattle.std.specs.Borrow.{Bor}
@@ -165,10 +165,6 @@ form_entry (word, command) = (word.now, form_of command)
 abbrev pub read_by : Option CommandWord → List Token → Result (Option Command) Refusal
 read_by None ts = Err UnknownCommand
 read_by (Some word) ts = command_in_form (form_of word ts)
-
--- these bytes before what stands before two dots
-abbrev pub behind_front : List ℕ → List ℕ × Option (List ℕ) → List ℕ × Option (List ℕ)
-behind_front front (left, right) = (front ++ left, right)
 
 abbrev pub BeginsOpen : List Token → Type 0
 BeginsOpen (Open ∷ ts) = ⊤

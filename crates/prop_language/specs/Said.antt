@@ -5,7 +5,6 @@ use Rattle.prop_lattice.specs.declared.refusal.Refusal.{Refusal}
 use Rattle.prop_lattice.specs.declared.refusal.Refusal.TheVariants.{Memory}
 use Rattle.prop_language.specs.Tokens.{Token, Word, Open}
 use Rattle.prop_language.specs.Commands as commands
-use Rattle.prop_language.specs.Values as values
 use Rattle.prop_language.specs.declared.command.Value.{Value}
 use Rattle.prop_language.specs.declared.command.Value.TheVariants.{Bare, Braces}
 use Rattle.prop_language.specs.declared.command.KindWord.{KindWord}
@@ -18,8 +17,6 @@ use Rattle.prop_language.specs.declared.command.Step.{Step}
 use Rattle.prop_language.specs.declared.command.Step.TheVariants as steps
 use Rattle.prop_language.specs.declared.command.Command.{Command}
 use Rattle.prop_language.specs.declared.command.Command.TheVariants.{Silent, Domain, Relation, Cell, Define, Attach, Fix, Tell, Kick, Bring, Settle, Ask, Why, Worldview}
-use Rattle.prop_language.specs.declared.values.Meant.{Meant}
-use Rattle.prop_language.specs.declared.values.Meant.TheVariants.{Known, Name}
 
 abbrev pub words : List (Bor (List ℕ)) → List (List ℕ)
 words items = map (λ (w : Bor (List ℕ)). w.now) items
@@ -50,10 +47,6 @@ abbrev pub step_of : Step → commands.Step
 step_of (steps.Local name kind) = commands.Step.Local name.now (kind_of kind)
 step_of (steps.Like name like) = commands.Step.Like name.now like.now
 step_of (steps.Use name cells passed) = commands.Step.Use name.now (words cells.items) (passed_of passed)
-
-abbrev pub meant_of : Meant → values.Meant
-meant_of (Known info) = values.Known info
-meant_of (Name name) = values.Name name.now
 
 -- what the command says, None where it is silent
 abbrev pub said : Command → Option commands.Command

@@ -8,9 +8,8 @@ mod numbers;
 mod reading;
 mod steps;
 mod tokens;
-mod values;
 
 pub use command::{By, Command, KindWord, Passed, Step, Value};
+pub use names::name;
 pub use numbers::number_in;
 pub use reading::{read_line, reads_what_is_spelled};
-pub use values::{Meant, read_value};

@@ -1,18 +1,20 @@
 //! The commands that state what is known.
 ghost use Rattle.std.specs.Prelude.{◌≡◌, ◌<◌, ◌≤◌, ◌++◌, ◌∷◌, [], ℕ, ◌⊎◌, None, Some, Ok, Err, OnOk, OnErr, IfOk, IfErr, length};
 ghost use Rattle.prop_lattice.specs.declared.refusal.Refusal.TheVariants.{Memory};
-ghost use Rattle.prop_language.specs.Said.{value_of, meant_of};
+ghost use Rattle.prop_language.specs.Said.{value_of};
+ghost use Rattle.prop_values.specs.Said.{meant_of};
 ghost use Rattle.prop_vocabulary.specs.Texts.{elements_of_kind};
 ghost use Rattle.prop_workbench.specs.Refusing.{meaning_at};
 ghost use Rattle.prop_workbench.specs.Sessions.{IsKnown};
 
 use crate::session::Session;
-use prop_compound::{Meant, Value, read_value};
+use prop_compound::Value;
 use prop_engine::Reply;
 use prop_lattice::{Info, Kind, Limit, Refusal};
 use prop_premises::Premise;
 use prop_procedures::Rule;
 use prop_scheduler::{Order, state};
+use prop_values::{Meant, read_value};
 use prop_vocabulary::Vocabulary;
 use std::alloc::AllocError;
 
@@ -41,8 +43,8 @@ impl<R: Rule + Drop, O: Order + Drop> Session<R, O> {
     ghost use Rattle.prop_cells.specs.Refusing.{may_be_stated, state_refusal};
     ghost use Rattle.prop_engine.specs.Answers.{answer_of};
     ghost use Rattle.prop_workbench.specs.Effects.{number_given, name_of, stating, stated, with_meant, info_meant, MayMean};
-    ghost use Rattle.prop_language.specs.Said.{meant_of};
-    ghost use Rattle.prop_language.specs.Values.{Name};
+    ghost use Rattle.prop_values.specs.Said.{meant_of};
+    ghost use Rattle.prop_values.specs.Values.{Name};
     ghost use Rattle.prop_vocabulary.specs.Vocabulary.{with_symbol, symbol_number};
     ghost use Rattle.prop_workbench.specs.Refusing.{telling_limit, statement_limit, stating_limit};
     ghost use Rattle.prop_workbench.specs.Sessions.{state_of, steps_of, library_of, IsSound, IsMeant};

@@ -1,12 +1,11 @@
 //! What a value says at a cell.
 ghost use Rattle.std.specs.Prelude.{◌≡◌, IfOk, IfErr, Some, None, Ok, Err};
 ghost use Rattle.std.specs.Option.{option_map};
-ghost use Rattle.prop_language.specs.Values.{halves, bounded_number, span_value, set_value, value_said};
-ghost use Rattle.prop_language.specs.Said.{words, value_of, meant_of};
+ghost use Rattle.prop_values.specs.Values.{halves, bounded_number, span_value, set_value, value_said};
+ghost use Rattle.prop_values.specs.Said.{meant_of};
+ghost use Rattle.prop_language.specs.Said.{words, value_of};
 
-use crate::command::Value;
-use crate::names::name;
-use crate::numbers::number_in;
+use prop_language::{Value, name, number_in};
 use prop_lattice::span::B;
 use prop_lattice::{Info, Kind, Refusal};
 use prop_sets::Domain;

@@ -1,10 +1,13 @@
 -- Two dots in a row, a byte at a time.
-use Rattle.std.proofs.Common.{◌≡◌, ℕ, ◌<◌, ◌≤◌, ◌+◌, ◌-◌, List, [], ◌∷◌, length, take, drop, get_or, false, eqb, refl, sym, ◌∙◌, ap, subst, arith, inl, inr, zero, suc, None}
+use Rattle.std.proofs.Common.{◌≡◌, ℕ, ◌<◌, ◌≤◌, ◌+◌, ◌-◌, List, [], ◌∷◌, ◌++◌, length, take, drop, get_or, false, eqb, refl, sym, ◌∙◌, ap, subst, arith, inl, inr, zero, suc, Option, None}
 use Rattle.std.specs.Prelude.{◌&&◌}
 use Rattle.std.proofs.lemmas.List.{take-append-drop, length-drop}
 use Rattle.std.proofs.lemmas.Bool.Decides.{eqb_tells}
-use Rattle.prop_language.specs.Values.{halves}
-use Rattle.prop_language.specs.Parts.{behind_front}
+use Rattle.prop_values.specs.Values.{halves}
+
+-- these bytes before what stands before two dots
+abbrev pub behind_front : List ℕ → List ℕ × Option (List ℕ) → List ℕ × Option (List ℕ)
+behind_front front (left, right) = (front ++ left, right)
 
 not_both : (a b : ℕ) → (a ≡ 46 → b ≡ 46 → ⊥) → (eqb a 46 && eqb b 46) ≡ false
 not_both a b h = elim (eqb_tells a 46) [
