@@ -2,5 +2,6 @@ pub mod Definitions
 pub mod Expansion
 pub mod Defining
 pub mod Expanding
+pub mod Shortcuts
 pub mod Kept
 pub mod Flattened

@@ -108,7 +108,7 @@ impl Definitions {
         }
         let mut numbered = Vec::new(alloc);
         match self.push_numbered(alloc, library, words, scope, steps, &mut numbered) {
-            Ok(()) => Ok(counted(&self.definitions, params.len(), numbered)),
+            Ok(()) => counted(alloc, &self.definitions, params.len(), numbered),
             Err(AllocError) => Err(Refusal::Memory),
         }
     }

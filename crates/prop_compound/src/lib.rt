@@ -11,6 +11,7 @@ mod fitting;
 pub mod flat;
 mod resolving;
 mod scope;
+mod shortening;
 pub mod uses;
 mod walk;
 

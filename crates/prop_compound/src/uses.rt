@@ -111,6 +111,7 @@ impl Definitions {
         match used {
             Used::Procedure(number) => walk.add_instance(number, given, cells),
             Used::Definition(number) => {
+                walk.note(self.definitions[number].is_spare(given));
                 expand_definition(alloc, &self.definitions, number, cells, given, walk)
             }
         }
