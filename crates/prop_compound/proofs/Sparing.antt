@@ -15,7 +15,7 @@ use Rattle.prop_compound.specs.declared.definition.NumberedStep.TheVariants.{Loc
 use Rattle.prop_compound.specs.Definitions.{Definition, is_taking}
 use Rattle.prop_procedures.specs.Fitting.{kind_at}
 use Rattle.prop_compound.specs.Expansion.{Walk, cell_at, cells_at, with_fresh, with_spare, passed, is_something, use_expanded, steps_expanded, definition_expanded, expanded_in}
-use Rattle.prop_compound.specs.Shortcuts.{definition_made, spare_used, spare_of, spare_in, is_spare}
+use Rattle.prop_compound.specs.Shortcuts.{definition_made, spare_of, spare_in, is_spare}
 use Rattle.prop_compound.specs.Kept.{bare, all_bare, IsUseBelow, IsUseThere, AreKept}
 use Rattle.prop_compound.proofs.Unrolling.{Adds}
 use Rattle.prop_compound.proofs.Walking.{kept_here}

@@ -7,7 +7,7 @@ use Rattle.prop_compound.specs.declared.definition.Passing.{Passing}
 use Rattle.prop_compound.specs.declared.definition.Used.{Used}
 use Rattle.prop_compound.specs.declared.definition.Used.TheVariants as uses
 use Rattle.prop_compound.specs.declared.definition.NumberedStep.{NumberedStep}
-use Rattle.prop_compound.specs.declared.definition.NumberedStep.TheVariants.{Local, Like, Use}
+use Rattle.prop_compound.specs.declared.definition.NumberedStep.TheVariants.{Use}
 use Rattle.prop_compound.specs.Definitions.{Definition, is_taking}
 use Rattle.prop_compound.specs.Expansion.{Walk, cells_at, passed, is_something, steps_expanded}
 
