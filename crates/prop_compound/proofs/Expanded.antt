@@ -1,6 +1,6 @@
 -- Why a whole use is refused, in the order in which it is tested, and what it stands for where it is not.
-use Rattle.std.proofs.Common.{◌≡◌, ◌∙◌, ℕ, ◌+◌, ◌-◌, ◌<◌, ◌≤◌, ◌==◌, List, [], ◌∷◌, All, Bool, false, not, length, take, Option, Some, None, refl, sym, ap, arith, inl, inr}
-use Rattle.std.specs.Prelude.{is_none}
+use Rattle.std.proofs.Common.{◌≡◌, ◌∙◌, ℕ, ◌+◌, ◌<◌, ◌≤◌, ◌==◌, List, [], ◌∷◌, All, Bool, false, not, length, take, Option, Some, None, refl, sym, ap, subst, arith, inl, inr}
+use Rattle.std.specs.Prelude.{is_none, Result, Err, IfSome}
 use Rattle.std.specs.List.{range_with_len}
 use Rattle.std.specs.Option.{option_map_or}
 use Rattle.std.proofs.lemmas.List.Elements.{All-weaker}
@@ -18,6 +18,7 @@ use Rattle.prop_procedures.specs.declared.flat.Flat.{Flat}
 use Rattle.prop_compound.specs.Definitions.{Definitions, used_named, cells_wanted, is_miscounted}
 use Rattle.prop_compound.specs.Expansion.{Walk, Placed, start, param_meant, all_meant, passing_of, expanded_in, expanded}
 use Rattle.prop_compound.specs.Expanding.{size_refusal, fit_refusal, expand_refusal}
+use Rattle.prop_compound.specs.AtOnce.{refused_at_once}
 use Rattle.prop_compound.specs.Flattened.{expansion_of_flat, IsFlatOver}
 use Rattle.prop_compound.specs.Kept.{fresh_used, instances_used, fresh_of, instances_of, total_of, IsRight, AreRight}
 use Rattle.prop_compound.proofs.Flattening.{flat_over}
@@ -59,6 +60,21 @@ module _ (library : List Stored) (words : Vocabulary) (definitions : Definitions
         let sizes_here = sizes_are library words definitions name kinds given used is in
         let e = expanded_is library words definitions name kinds given used is in
         λ i. first_of (when NoSuchProcedure (named i) ∷ when WrongCount (counted i) ∷ sizes_here i ∷ fit_refusal library (e i) ∷ [])
+
+    at_once_is : refused_at_once library words definitions name kinds given ≡ sizes
+    at_once_is =
+        let named : is_none (used_named library definitions name) ≡ false = ap is_none is in
+        let counted : is_miscounted library definitions name (length kinds) ≡ false = ap (λ o. option_map_or (λ u. not (length kinds == cells_wanted library definitions u)) o false) is ∙ sym wrong_is ∙ right in
+        let sizes_here = sizes_are library words definitions name kinds given used is in
+        (λ i. first_of (when NoSuchProcedure (named i) ∷ when WrongCount (counted i) ∷ sizes_here i ∷ [])) ∙ alone sizes
+
+    -- a size that is over its limit is told at once
+    pub size_at_once : {X : Type 0} (r : Result X Refusal) (o : Option Refusal) (e : Refusal) → o ≡ sizes → o ≡ Some e → r ≡ Err e → IfSome (refused_at_once library words definitions name kinds given) (λ e. r ≡ Err e)
+    size_at_once r o e s h is_err = subst (λ o. IfSome o (λ e. r ≡ Err e)) (sym (at_once_is ∙ sym s ∙ h)) is_err
+
+    -- where none is, nothing is refused at once
+    pub none_at_once : (o : Option Refusal) (P : Refusal → Type 0) → o ≡ sizes → o ≡ None → IfSome (refused_at_once library words definitions name kinds given) P
+    none_at_once o P s h = subst (λ o. IfSome o P) (sym (at_once_is ∙ sym s ∙ h)) tt
 
     -- a size is over its limit
     pub size_stops : (o : Option Refusal) (r : Refusal) → o ≡ sizes → o ≡ Some r → expand_refusal library words definitions name kinds given ≡ Some r

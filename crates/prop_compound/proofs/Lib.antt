@@ -1,6 +1,8 @@
 pub mod Latest
 pub mod Unrolling
 pub mod Walking
+pub mod Sparing
+pub mod Shorter
 pub mod Sizes
 pub mod Ranges
 mod Expanded

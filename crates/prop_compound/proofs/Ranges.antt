@@ -31,7 +31,7 @@ longer_length e e' n h = omega (arith, ap length h.is, length-append e.kinds h.m
 cells_still : (n m : ℕ) → n ≤ m → (cells : List ℕ) → All (λ cell. cell < n) cells → All (λ cell. cell < m) cells
 cells_still n m l cells h = All-weaker (λ cell. cell < n) (λ cell. cell < m) (λ cell c. omega (arith, c, l)) cells h
 
-chosen_within : (n : ℕ) (cells places : List ℕ) → All (λ cell. cell < n) cells → All (λ place. place < length cells) places → All (λ cell. cell < n) (cells_at cells places)
+pub chosen_within : (n : ℕ) (cells places : List ℕ) → All (λ cell. cell < n) cells → All (λ place. place < length cells) places → All (λ cell. cell < n) (cells_at cells places)
 chosen_within n cells places h k =
     All-map (λ cell. cell < n) (cell_at cells) places (All-weaker (λ place. place < length cells) (λ place. cell_at cells place < n) (λ place l. h place 0 l) places k)
 

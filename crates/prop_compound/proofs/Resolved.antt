@@ -1,5 +1,5 @@
 -- What is true of the numbers that stand for the words of a definition that is not refused.
-use Rattle.std.proofs.Common.{◌≡◌, ◌∙◌, ℕ, zero, suc, ◌+◌, ◌-◌, ◌<◌, ◌≤◌, ◌==◌, min, Bool, false, not, cond, List, [], ◌∷◌, ◌++◌, Option, Some, None, All, map, length, take, drop, get_or, is_none, unwrap_or, refl, sym, ap, subst, arith, inl, inr}
+use Rattle.std.proofs.Common.{◌≡◌, ◌∙◌, ℕ, zero, suc, ◌+◌, ◌-◌, ◌<◌, ◌≤◌, ◌==◌, min, Bool, false, not, ◌||◌, cond, List, [], ◌∷◌, ◌++◌, Option, Some, None, All, map, length, take, drop, get_or, is_none, unwrap_or, refl, sym, ap, subst, arith, inl, inr}
 use Rattle.std.specs.Prelude.{reverse, slice_get, sum_by, ◌⊎◌, Result, Ok, Err, IfOk, IfErr, OnOk, OnErr}
 use Rattle.std.specs.List.{list_any, flat_map}
 use Rattle.std.specs.Option.{option_map, option_map_or, option_or}
@@ -17,6 +17,8 @@ use Rattle.prop_vocabulary.specs.Names.{number_in, numbers_in, is_missing}
 use Rattle.prop_vocabulary.specs.Vocabulary.{Vocabulary}
 use Rattle.prop_vocabulary.proofs.Lookups.{number_below}
 use Rattle.prop_language.specs.Commands.{Passed, Step}
+use Rattle.prop_compound.specs.declared.definition.Passing.{Passing}
+use Rattle.prop_compound.specs.declared.definition.Passing.TheVariants as passings
 use Rattle.prop_compound.specs.declared.definition.Used.{Used}
 use Rattle.prop_compound.specs.declared.definition.Used.TheVariants as uses
 use Rattle.prop_compound.specs.declared.definition.KeptDefinition.{KeptDefinition}
@@ -24,9 +26,13 @@ use Rattle.prop_compound.specs.declared.definition.NumberedStep.{NumberedStep}
 use Rattle.prop_compound.specs.declared.definition.NumberedStep.TheVariants as numbered
 use Rattle.prop_compound.specs.Definitions.{Definition, Definitions, used_named, cells_wanted, is_passing_on}
 use Rattle.prop_compound.specs.Defining.{scope_of, definition_of, with_definition, locals_of, cells_in, step_numbered, passing_named, is_cell_missing, is_unknown, is_count_wrong}
-use Rattle.prop_compound.specs.Kept.{bare, all_bare, fresh_of, instances_of, total_in, total_of, places_made, IsInScope, AreInScope, IsUseBelow, IsUseOver, IsThere, IsKept, AreKept, IsDefinedOver}
+use Rattle.prop_compound.specs.Expansion.{steps_expanded}
+use Rattle.prop_compound.specs.Shortcuts.{definition_made, spare_of, is_spare, shortened}
+use Rattle.prop_compound.specs.Kept.{bare, all_bare, fresh_of, instances_of, total_in, total_of, places_made, IsInScope, AreInScope, IsUseBelow, IsUseOver, IsThere, IsKept, AreKept, IsCounted, IsDefinedOver}
 use Rattle.prop_compound.proofs.Scoping.{late_at, late_is, taken_on, dropped_on, within_on}
 use Rattle.prop_compound.proofs.Judging.{IsRightly}
+use Rattle.prop_compound.proofs.Sparing.{spare_same, spare_last}
+use Rattle.prop_compound.proofs.Shorter.{all_make, all_scope, all_below, same_later}
 
 -- ---- places
 
@@ -156,7 +162,12 @@ kept_still : (ds : List Definition) (d : Definition) (n : ℕ) (k : KeptDefiniti
 kept_still ds d n k l h = record {
   in_scope = h.in_scope;
   uses = All-weaker (IsUseBelow ds n) (IsUseBelow (ds ++ d ∷ []) n) (below_still ds (d ∷ []) n (omega (arith, l))) k.steps.items h.uses;
-  takes = h.takes;
+  plan_in_scope = h.plan_in_scope;
+  plan_uses = All-weaker (IsUseBelow ds n) (IsUseBelow (ds ++ d ∷ []) n) (below_still ds (d ∷ []) n (omega (arith, l))) k.plan.items h.plan_uses;
+  same =
+      λ cells given e count. same_later ds d n (omega (arith, l)) k.plan.items k.steps.items h.plan_uses h.uses given cells e (h.same cells given e count);
+  spare_given = h.spare_given ∙ sym (spare_same ds d passings.Own n l);
+  spare_bare = h.spare_bare ∙ sym (spare_same ds d passings.Nothing n l);
   fresh = h.fresh ∙ ap (λ m. min (most Cells + 1) m) (sym (total_same fresh_of ds d n l));
   instances = h.instances ∙ ap (λ m. min (most Instances + 1) m) (sym (total_same instances_of ds d n l));
 }
@@ -189,6 +200,37 @@ pub one_popped : {X : Type 0} (xs xs' xs'' : List X) (x : X) (n : ℕ) → xs' �
 one_popped xs xs' xs'' x n e l f =
     f ∙ ap (take (n - 1)) e ∙ take_at xs (x ∷ []) (n - 1) (omega (arith, l, ap length e, length-append xs (x ∷ [])))
 
+-- what is counted of steps that are in scope and use definitions that there are is right behind those
+kept_last : (ks : List KeptDefinition) (count : ℕ) (items : List NumberedStep) (k : KeptDefinition) → AreKept ks → AreInScope count items → All (IsUseBelow (all_bare ks) (length ks)) items → IsCounted ks count items k → IsKept (all_bare ks ++ bare k ∷ []) (length (all_bare ks)) k
+kept_last ks count items k kept scope below h =
+    let ds = all_bare ks in
+    let d = bare k in
+    let n = length ks in
+    let counted : length ds ≡ n = length-map ks bare in
+    let here : n ≤ length ds = omega (arith, counted) in
+    let short_below = all_below ks kept items below in
+    let spare = λ (given : Passing). spare_last ds d given in
+    let still = λ (steps : List NumberedStep) (b : All (IsUseBelow ds n) steps). subst (λ m. All (IsUseBelow (ds ++ d ∷ []) m) steps) (sym counted) (All-weaker (IsUseBelow ds n) (IsUseBelow (ds ++ d ∷ []) n) (below_still ds (d ∷ []) n here) steps b) in
+    let steps = h.steps in
+    let plan = h.plan in
+    let params = h.params in
+    record {
+      in_scope = rw (params, steps) scope;
+      uses = subst (All (IsUseBelow (ds ++ d ∷ []) (length ds))) (sym steps) (still items below);
+      plan_in_scope = rw (params, plan) (all_scope ks kept items below count scope);
+      plan_uses = subst (All (IsUseBelow (ds ++ d ∷ []) (length ds))) (sym plan) (still (flat_map (shortened ks) items) short_below);
+      same =
+          λ cells given e l. (
+          ap (λ it. steps_expanded (definition_made (reverse (ds ++ d ∷ []))) given cells it e) plan ∙
+          same_later ds d n here (flat_map (shortened ks) items) items short_below below given cells e (all_make ks kept items below given cells e) ∙
+          ap (λ it. steps_expanded (definition_made (reverse (ds ++ d ∷ []))) given cells it e) (sym steps)
+          );
+      spare_given = h.spare_given ∙ (λ i. not (list_any is_passing_on (sym steps i)) || list_any (spare_of (is_spare ds) passings.Own) (sym steps i)) ∙ sym (spare passings.Own);
+      spare_bare = h.spare_bare ∙ ap (list_any (spare_of (is_spare ds) passings.Nothing)) (sym steps) ∙ sym (spare passings.Nothing);
+      fresh = h.fresh ∙ (λ i. min (most Cells + 1) (sum_by (fresh_of (total_of fresh_of ds)) (sym steps i))) ∙ ap (λ m. min (most Cells + 1) m) (sym (total_last fresh_of ds d));
+      instances = h.instances ∙ (λ i. min (most Instances + 1) (sum_by (instances_of (total_of instances_of ds)) (sym steps i))) ∙ ap (λ m. min (most Instances + 1) m) (sym (total_last instances_of ds d));
+    }
+
 -- ---- a definition that is not refused
 
 module _ (library : List Stored) (words : Vocabulary) (definitions : Definitions) (params : List (List ℕ)) (steps : List Step) (same : length definitions.names ≡ length definitions.definitions) (right : IsRightly library words definitions params steps) where
@@ -214,20 +256,18 @@ module _ (library : List Stored) (words : Vocabulary) (definitions : Definitions
       all_in_scope library words definitions (scope_of params steps) steps (length params) (omega (arith, length-append params locals)) (drop_at params locals (length params) refl)
       (ap (λ cells. is_cell_missing cells steps) first ∙ right.cells)
 
+  -- where the definitions are looked through
+  pub used_seen : (ks : List KeptDefinition) (items : List NumberedStep) → definitions.definitions ≡ all_bare ks → items ≡ map (step_numbered library words definitions (scope_of params steps)) steps → All (IsUseBelow (all_bare ks) (length ks)) items
+  used_seen ks items e h =
+      let seen : length definitions.definitions ≡ length ks = ap length e ∙ length-map ks bare in
+      subst (All (IsUseBelow (all_bare ks) (length ks))) (sym h) (subst (λ n. All (IsUseBelow (all_bare ks) n) all) seen (subst (λ ds. All (IsUseBelow ds (length definitions.definitions)) all) e used_below))
+
   -- what is kept beside it is right
-  pub kept_new : (k : KeptDefinition) (items : List NumberedStep) (seen : List Definition) → definitions.definitions ≡ seen → items ≡ map (step_numbered library words definitions (scope_of params steps)) steps → k.params ≡ length params → k.steps.items ≡ items → k.takes ≡ list_any is_passing_on items →
-      k.fresh ≡ min (most Cells + 1) (sum_by (fresh_of (total_of fresh_of seen)) items) → k.instances ≡ min (most Instances + 1) (sum_by (instances_of (total_of instances_of seen)) items) →
+  pub kept_new : (ks : List KeptDefinition) (items : List NumberedStep) (k : KeptDefinition) → AreKept ks → definitions.definitions ≡ all_bare ks → items ≡ map (step_numbered library words definitions (scope_of params steps)) steps → IsCounted ks (length params) items k →
       IsKept (definitions.definitions ++ bare k ∷ []) (length definitions.definitions) k
-  kept_new k items seen s e count is takes fresh instances =
-      let ds = definitions.definitions in
-      let is_all : k.steps.items ≡ all = is ∙ e in
-      record {
-        in_scope = rw (count, is_all) in_scope;
-        uses = subst (All (IsUseBelow (ds ++ bare k ∷ []) (length ds))) (sym is_all) (All-weaker (IsUseBelow ds (length ds)) (IsUseBelow (ds ++ bare k ∷ []) (length ds)) (below_still ds (bare k ∷ []) (length ds) (omega arith)) all used_below);
-        takes = takes ∙ ap (list_any is_passing_on) (sym is);
-        fresh = fresh ∙ (λ i. min (most Cells + 1) (sum_by (fresh_of (total_of fresh_of (sym s i))) (sym is i))) ∙ ap (λ m. min (most Cells + 1) m) (sym (total_last fresh_of ds (bare k)));
-        instances = instances ∙ (λ i. min (most Instances + 1) (sum_by (instances_of (total_of instances_of (sym s i))) (sym is i))) ∙ ap (λ m. min (most Instances + 1) m) (sym (total_last instances_of ds (bare k)));
-      }
+  kept_new ks items k kept s e h =
+      let here : IsKept (all_bare ks ++ bare k ∷ []) (length (all_bare ks)) k = kept_last ks (length params) items k kept (subst (AreInScope (length params)) (sym e) in_scope) (used_seen ks items s e) h in
+      subst (λ (ds : List Definition). IsKept (ds ++ bare k ∷ []) (length ds) k) (sym s) here
 
   -- it is the definition that the words say
   pub definition_so : (k : KeptDefinition) (items : List NumberedStep) → items ≡ map (step_numbered library words definitions (scope_of params steps)) steps → k.params ≡ length params → k.steps.items ≡ items → bare k ≡ definition_of library words definitions params steps
@@ -240,12 +280,6 @@ module _ (library : List Stored) (words : Vocabulary) (definitions : Definitions
   -- the steps by numbers, the scope being that of the parameters and steps
   pub numbered_so : (scope : List (List ℕ)) (items : List NumberedStep) → scope ≡ scope_of params steps → items ≡ map (step_numbered library words definitions scope) steps → items ≡ map (step_numbered library words definitions (scope_of params steps)) steps
   numbered_so scope items e h = h ∙ ap (λ scope. map (step_numbered library words definitions scope) steps) e
-
-  -- where the definitions are looked through
-  pub used_seen : (ks : List KeptDefinition) (items : List NumberedStep) → definitions.definitions ≡ all_bare ks → items ≡ map (step_numbered library words definitions (scope_of params steps)) steps → All (IsUseBelow (all_bare ks) (length ks)) items
-  used_seen ks items e h =
-      let seen : length definitions.definitions ≡ length ks = ap length e ∙ length-map ks bare in
-      subst (All (IsUseBelow (all_bare ks) (length ks))) (sym h) (subst (λ n. All (IsUseBelow (all_bare ks) n) all) seen (subst (λ ds. All (IsUseBelow ds (length definitions.definitions)) all) e used_below))
 
 -- one definition more, which was made over the library
 module _ (library : List Stored) (words : Vocabulary) (definitions : Definitions) (name : List ℕ) (params : List (List ℕ)) (steps : List Step) (k : KeptDefinition) (is : bare k ≡ definition_of library words definitions params steps) where
@@ -266,6 +300,11 @@ module _ (library : List Stored) (words : Vocabulary) (definitions : Definitions
 pub on_ok : {X E : Type 0} {P : Type 0} (r : Result X E) → P → OnOk r P
 on_ok (Ok x) p = p
 on_ok (Err e) p = tt
+
+-- what follows from what is known of a value is known of it too
+pub if_ok : {T E : Type 0} (P Q : T → Type 0) → ((x : T) → P x → Q x) → (r : Result T E) → IfOk r P → IfOk r Q
+if_ok P Q f (Ok x) h = f x h
+if_ok P Q f (Err e) h = h
 
 -- on the way out of a `?` there is no value of which anything is wanted
 pub no_value : {T E : Type 0} (P : T → Type 0) (r : Result T E) (y : E) → r ≡ Err y → IfOk r P

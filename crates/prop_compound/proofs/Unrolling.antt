@@ -1,5 +1,5 @@
--- A use of a definition adds what its steps add, among all the definitions as among the earlier ones.
-use Rattle.std.proofs.Common.{◌≡◌, ◌∙◌, ℕ, ◌<◌, List, [], ◌∷◌, ◌++◌, All, Bool, not, ◌&&◌, cond, length, refl, sym, ap, arith, inl, inr}
+-- A use of a definition makes what its steps make, among all the definitions as among the earlier ones.
+use Rattle.std.proofs.Common.{◌≡◌, ◌∙◌, ℕ, ◌<◌, List, [], ◌∷◌, ◌++◌, All, Bool, cond, length, refl, sym, ap, arith, inl, inr}
 use Rattle.std.specs.Prelude.{⊤}
 use Rattle.std.proofs.lemmas.Bool.{cases_eq, eq-eqb, ne_eqb}
 use Rattle.std.proofs.lemmas.List.Elements.{All-head, All-tail}
@@ -7,9 +7,10 @@ use Rattle.prop_compound.specs.declared.definition.Passing.{Passing}
 use Rattle.prop_compound.specs.declared.definition.Used.TheVariants as uses
 use Rattle.prop_compound.specs.declared.definition.NumberedStep.{NumberedStep}
 use Rattle.prop_compound.specs.declared.definition.NumberedStep.TheVariants.{Local, Like, Use}
-use Rattle.prop_compound.specs.Definitions.{Definition, is_taking}
+use Rattle.prop_compound.specs.Definitions.{Definition}
 use Rattle.prop_procedures.specs.Fitting.{kind_at}
-use Rattle.prop_compound.specs.Expansion.{Walk, cell_at, cells_at, with_fresh, with_spare, passed, is_something, use_expanded, steps_expanded, definition_expanded}
+use Rattle.prop_compound.specs.Expansion.{Walk, cell_at, cells_at, with_fresh, passed, use_expanded, steps_expanded}
+use Rattle.prop_compound.specs.Shortcuts.{definition_made}
 use Rattle.prop_compound.proofs.Latest.{latest_at}
 
 -- the step uses no definition, or one with a number below n
@@ -49,32 +50,27 @@ module _ (f g : Adds) (n : ℕ) (agree : (m : ℕ) → m < n → f m ≡ g m) wh
       same_steps steps (All-tail (IsEarlier n) (Use used places passing) steps h) given cells (use_expanded g used (cells_at cells places) (passed given passing) e)
 
 -- a later definition more
-pub one_later : (d : Definition) (earlier : List Definition) (m : ℕ) → m < length earlier → definition_expanded (d ∷ earlier) m ≡ definition_expanded earlier m
+pub one_later : (d : Definition) (earlier : List Definition) (m : ℕ) → m < length earlier → definition_made (d ∷ earlier) m ≡ definition_made earlier m
 one_later d earlier m l i cells given e =
-    cond (ne_eqb m (length earlier) (λ same. omega (arith, same, l)) i) (steps_expanded (definition_expanded earlier) given cells d.steps (with_spare e (is_something given && not (is_taking d)))) (definition_expanded earlier m cells given e)
-
--- what a use of this definition adds, where `definition` says it of those that it uses
-abbrev pub its_steps : Adds → Definition → List ℕ → Passing → Walk → Walk
-its_steps definition d cells given e =
-    steps_expanded definition given cells d.steps (with_spare e (is_something given && not (is_taking d)))
+    cond (ne_eqb m (length earlier) (λ same. omega (arith, same, l)) i) (steps_expanded (definition_made earlier) given cells d.steps e) (definition_made earlier m cells given e)
 
 pub unrolled : (latest : List Definition) → AreOrdered latest → (n : ℕ) (x : Definition) → n < length latest → (cells : List ℕ) (given : Passing) (e : Walk) →
-    definition_expanded latest n cells given e ≡ its_steps (definition_expanded latest) (latest_at latest n x) cells given e
+    definition_made latest n cells given e ≡ steps_expanded (definition_made latest) given cells (latest_at latest n x).steps e
 unrolled [] h n x l cells given e = absurd (omega (arith, l))
 unrolled (d ∷ earlier) h n x l cells given e =
     let later = one_later d earlier in
     elim (cases_eq n (length earlier)) [
       | inl same ↦
           (let is_it = eq-eqb n (length earlier) same in
-          (λ i. cond (is_it i) (its_steps (definition_expanded earlier) d cells given e) (definition_expanded earlier n cells given e)) ∙
-          sym (same_steps (definition_expanded (d ∷ earlier)) (definition_expanded earlier) (length earlier) later d.steps (ordered_head d earlier h) given cells (with_spare e (is_something given && not (is_taking d)))) ∙
-          (λ i. its_steps (definition_expanded (d ∷ earlier)) (cond (sym is_it i) d (latest_at earlier n x)) cells given e))
+          (λ i. cond (is_it i) (steps_expanded (definition_made earlier) given cells d.steps e) (definition_made earlier n cells given e)) ∙
+          sym (same_steps (definition_made (d ∷ earlier)) (definition_made earlier) (length earlier) later d.steps (ordered_head d earlier h) given cells e) ∙
+          (λ i. steps_expanded (definition_made (d ∷ earlier)) given cells (cond (sym is_it i) d (latest_at earlier n x)).steps e))
       | inr other ↦
           (let m : n < length earlier = omega (arith, l, other) in
           let is_not = ne_eqb n (length earlier) other in
           let it = latest_at earlier n x in
-          (λ i. cond (is_not i) (its_steps (definition_expanded earlier) d cells given e) (definition_expanded earlier n cells given e)) ∙
+          (λ i. cond (is_not i) (steps_expanded (definition_made earlier) given cells d.steps e) (definition_made earlier n cells given e)) ∙
           unrolled earlier (ordered_tail d earlier h) n x m cells given e ∙
-          sym (same_steps (definition_expanded (d ∷ earlier)) (definition_expanded earlier) n (λ k below. later k (omega (arith, below, m))) it.steps (ordered_tail d earlier h n x m) given cells (with_spare e (is_something given && not (is_taking it)))) ∙
-          (λ i. its_steps (definition_expanded (d ∷ earlier)) (cond (sym is_not i) d it) cells given e))
+          sym (same_steps (definition_made (d ∷ earlier)) (definition_made earlier) n (λ k below. later k (omega (arith, below, m))) it.steps (ordered_tail d earlier h n x m) given cells e) ∙
+          (λ i. steps_expanded (definition_made (d ∷ earlier)) given cells (cond (sym is_not i) d it).steps e))
     ]

@@ -1,5 +1,5 @@
 -- Going through the steps of a definition.
-use Rattle.std.proofs.Common.{◌≡◌, ◌∙◌, ℕ, ◌+◌, ◌<◌, List, [], ◌∷◌, ◌++◌, Bool, not, ◌&&◌, length, drop, get_or, subst, refl, sym, ap, arith, inl, inr, Some}
+use Rattle.std.proofs.Common.{◌≡◌, ◌∙◌, ℕ, ◌+◌, ◌<◌, List, [], ◌∷◌, ◌++◌, length, drop, get_or, subst, refl, sym, ap, arith, inl, inr, Some}
 use Rattle.std.specs.Prelude.{reverse, slice_get, Result, Ok, Err, OnOk}
 use Rattle.std.specs.Option.{option_map, option_map_or}
 use Rattle.std.proofs.lemmas.List.{drop_more, length-map, length-append, length-reverse, get_or-map}
@@ -14,10 +14,11 @@ use Rattle.prop_compound.specs.declared.definition.KeptDefinition.{KeptDefinitio
 use Rattle.prop_compound.specs.declared.definition.NumberedStep.{NumberedStep}
 use Rattle.prop_compound.specs.declared.definition.NumberedStep.TheVariants.{Local, Like, Use}
 use Rattle.prop_compound.specs.Definitions.{Definition}
-use Rattle.prop_compound.specs.Expansion.{Walk, cell_at, cells_at, with_fresh, with_spare, passed, is_something, use_expanded, steps_expanded, definition_expanded}
+use Rattle.prop_compound.specs.Expansion.{Walk, cell_at, cells_at, with_fresh, passed, use_expanded, steps_expanded}
+use Rattle.prop_compound.specs.Shortcuts.{definition_made}
 use Rattle.prop_compound.specs.Kept.{bare, all_bare, places_made, IsInScope, AreInScope, IsUseBelow, IsKept, AreKept}
 use Rattle.prop_compound.proofs.Latest.{latest_at, latest_of}
-use Rattle.prop_compound.proofs.Unrolling.{IsEarlier, AreOrdered, its_steps, unrolled}
+use Rattle.prop_compound.proofs.Unrolling.{IsEarlier, AreOrdered, unrolled}
 
 pub kept_at : (ks : List KeptDefinition) (n : ℕ) → n < length ks → (k : KeptDefinition) × (get_or ks n k ≡ k)
 kept_at ks n l =
@@ -26,7 +27,7 @@ kept_at ks n l =
       | inr past ↦ absurd (omega (arith, past.0, l))
     ]
 
-earlier_of : (ds : List Definition) (n : ℕ) (step : NumberedStep) → IsUseBelow ds n step → IsEarlier n step
+pub earlier_of : (ds : List Definition) (n : ℕ) (step : NumberedStep) → IsUseBelow ds n step → IsEarlier n step
 earlier_of ds n (Local kind) h = tt
 earlier_of ds n (Like place) h = tt
 earlier_of ds n (Use (uses.Procedure k) cells passing) h = tt
@@ -49,14 +50,14 @@ ordered ks kept n d l =
     rw (bare_at ks n k d m (sym found.1)) (All-weaker (IsUseBelow (all_bare ks) n) (IsEarlier n) (earlier_of (all_bare ks) n) k.steps.items here.uses)
 
 -- before the first step
-pub begins : (ks : List KeptDefinition) (n : ℕ) (k : KeptDefinition) (cells : List ℕ) (given : Passing) (e e' : Walk) (spare : Bool) → AreKept ks → n < length ks → k ≡ get_or ks n k → spare ≡ (is_something given && not k.takes) → e' ≡ with_spare e spare →
-    steps_expanded (definition_expanded (reverse (all_bare ks))) given cells k.steps.items e' ≡ definition_expanded (reverse (all_bare ks)) n cells given e
-begins ks n k cells given e e' spare kept l at s w =
-    let D = definition_expanded (reverse (all_bare ks)) in
+pub begins : (ks : List KeptDefinition) (n : ℕ) (k : KeptDefinition) (cells : List ℕ) (given : Passing) (e : Walk) → AreKept ks → n < length ks → k ≡ get_or ks n k → length cells ≡ k.params →
+    steps_expanded (definition_made (reverse (all_bare ks))) given cells k.plan.items e ≡ definition_made (reverse (all_bare ks)) n cells given e
+begins ks n k cells given e kept l at count =
+    let M = definition_made (reverse (all_bare ks)) in
     let here = kept_here ks n k kept l at in
     let in_all : n < length (reverse (all_bare ks)) = omega (arith, l, length-reverse (all_bare ks), length-map ks bare) in
-    ap (steps_expanded D given cells k.steps.items) (w ∙ ap (with_spare e) s ∙ ap (λ t. with_spare e (is_something given && not t)) here.takes) ∙
-    sym (unrolled (reverse (all_bare ks)) (ordered ks kept) n (bare k) in_all cells given e ∙ ap (λ d. its_steps D d cells given e) (bare_at ks n k (bare k) l at))
+    here.same cells given e count ∙
+    sym (unrolled (reverse (all_bare ks)) (ordered ks kept) n (bare k) in_all cells given e ∙ ap (λ d. steps_expanded M given cells d.steps e) (bare_at ks n k (bare k) l at))
 
 -- the count of the cells of a use is that of the parameters
 pub params_at : (ks : List KeptDefinition) (n : ℕ) (k : KeptDefinition) (count : ℕ) → n < length ks → k ≡ get_or ks n k → option_map_or (λ (d : Definition). d.params) (slice_get (all_bare ks) n) 0 ≡ count → k.params ≡ count

@@ -1,17 +1,20 @@
 -- What is kept beside each definition, and what is true of the definitions that are kept.
-use Rattle.std.specs.Prelude.{◌≡◌, ◌<◌, ℕ, ◌+◌, ◌==◌, min, List, [], ◌∷◌, All, cond, length, map, reverse, slice_get, slice_index_or, sum_by, ⊤}
+use Rattle.std.specs.Prelude.{◌≡◌, ◌<◌, ℕ, ◌+◌, ◌==◌, min, List, [], ◌∷◌, All, cond, not, ◌||◌, length, map, reverse, slice_get, slice_index_or, sum_by, ⊤}
+use Rattle.std.specs.List.{list_any, flat_map}
 use Rattle.std.specs.Option.{option_map_or}
 use Rattle.prop_lattice.specs.Refusals.{most}
 use Rattle.prop_lattice.specs.declared.refusal.Limit.TheVariants.{Cells, Instances}
 use Rattle.prop_procedures.specs.Stored.{Stored}
 use Rattle.prop_compound.specs.declared.definition.KeptDefinition.{KeptDefinition}
 use Rattle.prop_compound.specs.declared.definition.Passing.{Passing}
+use Rattle.prop_compound.specs.declared.definition.Passing.TheVariants as passings
 use Rattle.prop_compound.specs.declared.definition.Used.{Used}
 use Rattle.prop_compound.specs.declared.definition.Used.TheVariants as uses
 use Rattle.prop_compound.specs.declared.definition.NumberedStep.{NumberedStep}
 use Rattle.prop_compound.specs.declared.definition.NumberedStep.TheVariants.{Local, Like, Use}
-use Rattle.prop_compound.specs.Definitions.{Definition, Definitions, is_taking}
-use Rattle.prop_compound.specs.Expansion.{Walk, Placed}
+use Rattle.prop_compound.specs.Definitions.{Definition, Definitions, is_passing_on}
+use Rattle.prop_compound.specs.Expansion.{Walk, Placed, steps_expanded}
+use Rattle.prop_compound.specs.Shortcuts.{definition_made, spare_of, is_spare, shortened}
 
 -- the definition alone
 abbrev pub bare : KeptDefinition → Definition
@@ -79,18 +82,33 @@ IsUseBelow definitions n step = ⊤
 
 -- ---- what is kept
 
--- the n-th of the definitions: its steps name places that are there and use earlier definitions, and what is kept beside it is right,
--- numbers up to one past their limit
+-- The n-th of the definitions: its steps name places that are there and use earlier definitions, its plan does so too and makes the same
+-- cells and instances, and what is kept beside it is right, numbers up to one past their limit.
 pub record IsKept (definitions : List Definition) (n : ℕ) (k : KeptDefinition) : Type 0 where
   pub in_scope : AreInScope k.params k.steps.items
   pub uses : All (IsUseBelow definitions n) k.steps.items
-  pub takes : k.takes ≡ is_taking (bare k)
+  pub plan_in_scope : AreInScope k.params k.plan.items
+  pub plan_uses : All (IsUseBelow definitions n) k.plan.items
+  pub same : (cells : List ℕ) (given : Passing) (e : Walk) → length cells ≡ k.params →
+      steps_expanded (definition_made (reverse definitions)) given cells k.plan.items e ≡ steps_expanded (definition_made (reverse definitions)) given cells k.steps.items e
+  pub spare_given : k.spare_given ≡ is_spare definitions n passings.Own
+  pub spare_bare : k.spare_bare ≡ is_spare definitions n passings.Nothing
   pub fresh : k.fresh ≡ min (most Cells + 1) (total_of fresh_of definitions n)
   pub instances : k.instances ≡ min (most Instances + 1) (total_of instances_of definitions n)
 
 -- each of them is kept so
 abbrev pub AreKept : List KeptDefinition → Type 0
 AreKept definitions = (n : ℕ) (d : KeptDefinition) → n < length definitions → IsKept (all_bare definitions) n (slice_index_or definitions n d)
+
+-- what is kept for a use of so many cells and these steps, behind the definitions
+pub record IsCounted (definitions : List KeptDefinition) (count : ℕ) (items : List NumberedStep) (k : KeptDefinition) : Type 0 where
+  pub params : k.params ≡ count
+  pub steps : k.steps.items ≡ items
+  pub plan : k.plan.items ≡ flat_map (shortened definitions) items
+  pub spare_given : k.spare_given ≡ (not (list_any is_passing_on items) || list_any (spare_of (is_spare (all_bare definitions)) passings.Own) items)
+  pub spare_bare : k.spare_bare ≡ list_any (spare_of (is_spare (all_bare definitions)) passings.Nothing) items
+  pub fresh : k.fresh ≡ min (most Cells + 1) (sum_by (fresh_of (total_of fresh_of (all_bare definitions))) items)
+  pub instances : k.instances ≡ min (most Instances + 1) (sum_by (instances_of (total_of instances_of (all_bare definitions))) items)
 
 -- the procedure or definition is one of so many
 abbrev pub IsThere : ℕ → ℕ → Used → Type 0

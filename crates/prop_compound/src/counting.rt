@@ -1,30 +1,55 @@
 //! For how much a use of a definition stands, known before anything is made.
-ghost use Rattle.std.specs.Prelude.{◌≡◌, ◌+◌, min, All, length, sum_by};
+ghost use Rattle.std.specs.Prelude.{◌≡◌, ◌+◌, min, All, length, sum_by, IfOk, IfErr};
 ghost use Rattle.std.specs.List.{list_any};
 ghost use Rattle.prop_lattice.specs.Refusals.{most};
 ghost use Rattle.prop_lattice.specs.declared.refusal.Limit.TheVariants.{Cells, Instances};
 ghost use Rattle.prop_compound.specs.Definitions.{is_passing_on};
-ghost use Rattle.prop_compound.specs.Kept.{all_bare, fresh_of, instances_of, total_of, IsUseBelow, AreKept};
+ghost use Rattle.prop_compound.specs.Kept.{all_bare, fresh_of, instances_of, total_of, IsUseBelow, AreKept, IsCounted};
+ghost use Rattle.prop_compound.specs.Shortcuts.{spare_of, is_spare};
 
-use crate::definition::{KeptDefinition, NumberedStep, Passing, Used};
-use prop_lattice::Limit;
+use crate::definition::{KeptDefinition, NumberedStep, Passing, Used, passed};
+use crate::shortening::push_plan;
+use prop_lattice::{Limit, Refusal};
+use std::alloc::{AllocError, Global};
 
-/// Whether the step hands on what the definition itself is given.
-fn is_passing_on(step: &NumberedStep) -> bool
-    ensures { result ≡ is_passing_on step.now }
-{
-    matches!(step, NumberedStep::Use(_, _, Passing::Own))
-}
-
-/// Whether some step does.
+/// Whether some step hands on what the definition itself is given.
 fn is_taking(steps: &[NumberedStep]) -> bool
     ensures { result ≡ list_any is_passing_on steps.now }
 {
     steps.iter().any(
         |step: &NumberedStep| -> bool
             ensures { result ≡ is_passing_on step.now }
-        { is_passing_on(step) },
+        { matches!(step, NumberedStep::Use(_, _, Passing::Own)) },
     )
+}
+
+/// Whether the step, in a definition that is given this, gives some definition a parameter that it does not take.
+fn is_spare(definitions: &[KeptDefinition], step: &NumberedStep, given: Passing) -> bool
+    requires kept { AreKept definitions.now }
+    requires used { IsUseBelow (all_bare definitions.now) (length definitions.now) step.now }
+    ensures { result ≡ spare_of (is_spare (all_bare definitions.now)) given step.now }
+{
+    match step {
+        NumberedStep::Local(_) | NumberedStep::Like(_) => false,
+        NumberedStep::Use(used, _, passing) => match *used {
+            Used::Procedure(_) => false,
+            Used::Definition(earlier) => definitions[earlier].is_spare(passed(given, *passing)),
+        },
+    }
+}
+
+/// Whether some step does.
+fn has_spare(definitions: &[KeptDefinition], steps: &[NumberedStep], given: Passing) -> bool
+    requires kept { AreKept definitions.now }
+    requires used { All (IsUseBelow (all_bare definitions.now) (length definitions.now)) steps.now }
+    ensures { result ≡ list_any (spare_of (is_spare (all_bare definitions.now)) given) steps.now }
+{
+    for step in steps {
+        if is_spare(definitions, step, given) {
+            return true;
+        }
+    }
+    false
 }
 
 /// How many fresh cells the step stands for, up to one past the limit.
@@ -79,25 +104,29 @@ fn all_instances(definitions: &[KeptDefinition], steps: &[NumberedStep]) -> usiz
     total
 }
 
-/// The definition with these steps, and what is known of its uses.
+/// The definition with these steps, and what is known of its uses, or 90.
 pub(crate) fn counted(
+    alloc: Global,
     definitions: &[KeptDefinition],
     params: usize,
     steps: Vec<NumberedStep>,
-) -> KeptDefinition
+) -> Result<KeptDefinition, Refusal>
     requires kept { AreKept definitions.now }
     requires used { All (IsUseBelow (all_bare definitions.now) (length definitions.now)) steps.items }
-    ensures params { result.params ≡ params }
-    ensures steps { result.steps.items ≡ steps.items }
-    ensures takes { result.takes ≡ list_any is_passing_on steps.items }
-    ensures fresh { result.fresh ≡ min (most Cells + 1) (sum_by (fresh_of (total_of fresh_of (all_bare definitions.now))) steps.items) }
-    ensures instances { result.instances ≡ min (most Instances + 1) (sum_by (instances_of (total_of instances_of (all_bare definitions.now))) steps.items) }
+    ensures counted { IfOk result (IsCounted definitions.now params steps.items) }
+    ensures err { IfErr result (λ e. e ≡ Refusal.Memory) }
 {
-    KeptDefinition {
-        params,
-        takes: is_taking(&steps),
-        fresh: all_fresh(definitions, &steps),
-        instances: all_instances(definitions, &steps),
-        steps,
+    let mut plan = Vec::new(alloc);
+    match push_plan(alloc, definitions, &steps, &mut plan) {
+        Ok(()) => Ok(KeptDefinition {
+            params,
+            spare_given: !is_taking(&steps) || has_spare(definitions, &steps, Passing::Own),
+            spare_bare: has_spare(definitions, &steps, Passing::Nothing),
+            fresh: all_fresh(definitions, &steps),
+            instances: all_instances(definitions, &steps),
+            steps,
+            plan,
+        }),
+        Err(AllocError) => Err(Refusal::Memory),
     }
 }

@@ -1,11 +1,12 @@
 //! Making a definition.
-ghost use Rattle.std.specs.Prelude.{◌≡◌, ◌≤◌, ◌++◌, ◌∷◌, ◌⊎◌, ℕ, List, [], true, false, All, nat_le, length, map, take, drop, IfOk, IfErr, OnOk, OnErr, None, Some};
+ghost use Rattle.std.specs.Prelude.{◌≡◌, ◌≤◌, ◌++◌, ◌∷◌, ◌⊎◌, ℕ, List, [], true, false, All, nat_le, length, map, take, drop, IfOk, IfErr, IfSome, OnOk, OnErr, Err, None, Some};
 ghost use Rattle.std.specs.List.{list_any, flat_map};
 ghost use Rattle.prop_lattice.specs.Refusals.{most};
 ghost use Rattle.prop_procedures.specs.Kept.{stored_of};
 ghost use Rattle.prop_vocabulary.specs.Names.{number_in};
 ghost use Rattle.prop_vocabulary.specs.Refusing.{when, first_of};
 ghost use Rattle.prop_language.specs.Said.{words as words_of, step_of};
+ghost use Rattle.prop_compound.specs.Definitions.{used_named};
 ghost use Rattle.prop_compound.specs.Defining.{locals_of, scope_of, definition_of, with_definition, define_refusal, is_name_taken, is_nowhere, is_unrelated, is_cell_missing, is_unknown, is_count_wrong};
 ghost use Rattle.prop_compound.specs.Kept.{bare, IsKept, IsUseOver, IsDefinedOver};
 
@@ -75,6 +76,7 @@ impl Definitions {
         ensures scope { OnOk result (scope.new ≡ scope_of (words_of params.now) (map step_of steps.now)) }
         ensures new { OnOk result (is_name_taken (stored_of R.value_of library.now) self.now name.now (words_of params.now) (map step_of steps.now) ≡ false) }
         ensures why { IfErr result (λ e. ((e ≡ Refusal.NameTaken) × (is_name_taken (stored_of R.value_of library.now) self.now name.now (words_of params.now) (map step_of steps.now) ≡ true)) ⊎ (e ≡ Refusal.Memory)) }
+        ensures at_once { IfSome (used_named (stored_of R.value_of library.now) self.now name.now) (λ _. result ≡ Err Refusal.NameTaken) }
     {
         if library.find(name).is_some() || self.find(name).is_some() {
             return Err(Refusal::NameTaken);
@@ -108,7 +110,7 @@ impl Definitions {
         }
         let mut numbered = Vec::new(alloc);
         match self.push_numbered(alloc, library, words, scope, steps, &mut numbered) {
-            Ok(()) => Ok(counted(&self.definitions, params.len(), numbered)),
+            Ok(()) => counted(alloc, &self.definitions, params.len(), numbered),
             Err(AllocError) => Err(Refusal::Memory),
         }
     }
@@ -130,6 +132,7 @@ impl Definitions {
         ensures over { IfOk result (λ k. All (IsUseOver (stored_of R.value_of library.now)) k.steps.items) }
         ensures fits { OnOk result (define_refusal (stored_of R.value_of library.now) words.now self.now name.now (words_of params.now) (map step_of steps.now) ≡ None) }
         ensures err { IfErr result (λ e. (define_refusal (stored_of R.value_of library.now) words.now self.now name.now (words_of params.now) (map step_of steps.now) ≡ Some e) ⊎ (e ≡ Refusal.Memory)) }
+        ensures at_once { IfSome (used_named (stored_of R.value_of library.now) self.now name.now) (λ _. result ≡ Err Refusal.NameTaken) }
     {
         self.name_all(alloc, library, scope, name, params, steps)?;
         self.resolved(alloc, library, words, scope, params, steps)
@@ -150,6 +153,7 @@ impl Definitions {
         ensures over { IfOk result (λ k. All (IsUseOver (stored_of R.value_of library.now)) k.steps.items) }
         ensures fits { OnOk result (define_refusal (stored_of R.value_of library.now) words.now self.now name.now (words_of params.now) (map step_of steps.now) ≡ None) }
         ensures err { IfErr result (λ e. (define_refusal (stored_of R.value_of library.now) words.now self.now name.now (words_of params.now) (map step_of steps.now) ≡ Some e) ⊎ (e ≡ Refusal.Memory)) }
+        ensures at_once { IfSome (used_named (stored_of R.value_of library.now) self.now name.now) (λ _. result ≡ Err Refusal.NameTaken) }
     {
         let mut scope = Names::new(alloc);
         self.made_in(alloc, library, words, &mut scope, name, params, steps)
@@ -180,8 +184,8 @@ impl Definitions {
     /// Refused with 7 where a procedure or a definition has the name or a parameter or local stands twice, with 8 where the kind
     /// of a local names no domain, with 19 where there is no such relation, with 9 where a step names a cell that is neither a
     /// parameter nor an earlier local, with 11 where it uses what is neither a procedure nor a definition that is there already,
-    /// with 12 where it does so on another number of cells, with 16 where there are 1,024 definitions, and with 90. A refusal
-    /// changes nothing.
+    /// with 12 where it does so on another number of cells, with 16 where there are 1,024 definitions, and with 90, which never stands
+    /// in the place of 7 for a name that a procedure or a definition has. A refusal changes nothing.
     pub fn define<R: Rule + Drop>(
         &mut self,
         alloc: Global,
@@ -197,6 +201,7 @@ impl Definitions {
         ensures ok { OnOk result (self.new ≡ with_definition (stored_of R.value_of library.now) words.now self.old name.now (words_of params.now) (map step_of steps.now)) }
         ensures err { IfErr result (λ e. (define_refusal (stored_of R.value_of library.now) words.now self.old name.now (words_of params.now) (map step_of steps.now) ≡ Some e) ⊎ (e ≡ Refusal.Memory)) }
         ensures err_same { OnErr result (self.new ≡ self.old) }
+        ensures at_once { IfSome (used_named (stored_of R.value_of library.now) self.old name.now) (λ _. result ≡ Err Refusal.NameTaken) }
     {
         let definition = self.made(alloc, library, words, name, params, steps)?;
         self.push(alloc, name, definition)

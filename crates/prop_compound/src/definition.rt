@@ -1,4 +1,6 @@
 //! A definition, its words resolved to numbers.
+ghost use Rattle.std.specs.Prelude.{◌≡◌, cond};
+ghost use Rattle.prop_compound.specs.Expansion.{passed, is_something};
 
 use prop_procedures::Kinded;
 use std::marker::Model;
@@ -57,13 +59,39 @@ pub enum NumberedStep {
     Use(Used, Places, Passing),
 }
 
-/// A definition, with what is known of its uses: whether they take a parameter, and for how many fresh cells and instances one
-/// stands, each counted up to one past its limit.
+/// What a step passes in a definition that is itself given this.
+pub(crate) fn passed(given: Passing, passing: Passing) -> Passing
+    ensures { result ≡ passed given passing }
+{
+    match passing {
+        Passing::Own => given,
+        Passing::Nothing | Passing::Scale(_) | Passing::Relation(_) => passing,
+    }
+}
+
+/// A definition, with what is known of its uses: shorter steps that make the same, whether a use that is given something or nothing
+/// gives some definition a parameter that it does not take, and for how many fresh cells and instances one stands, each counted up to
+/// one past its limit.
 #[derive(Drop)]
 pub(crate) struct KeptDefinition {
     pub(crate) params: usize,
     pub(crate) steps: Vec<NumberedStep>,
-    pub(crate) takes: bool,
+    pub(crate) plan: Vec<NumberedStep>,
+    pub(crate) spare_given: bool,
+    pub(crate) spare_bare: bool,
     pub(crate) fresh: usize,
     pub(crate) instances: usize,
+}
+
+impl KeptDefinition {
+    /// Whether a use that is given this gives some definition a parameter that it does not take.
+    pub(crate) fn is_spare(&self, given: Passing) -> bool
+        ensures { result ≡ cond (is_something given) self.now.spare_given self.now.spare_bare }
+    {
+        if matches!(given, Passing::Nothing) {
+            self.spare_bare
+        } else {
+            self.spare_given
+        }
+    }
 }

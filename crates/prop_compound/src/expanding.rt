@@ -1,34 +1,22 @@
 //! The instances and fresh cells that a use stands for.
-ghost use Rattle.std.specs.Prelude.{◌≡◌, ◌<◌, ◌+◌, ◌∷◌, ◌++◌, [], ◌&&◌, not, List, All, length, reverse, slice_get, IfOk, OnOk};
+ghost use Rattle.std.specs.Prelude.{◌≡◌, ◌<◌, ◌+◌, ◌∷◌, ◌++◌, [], List, All, length, reverse, slice_get, IfOk, OnOk};
 ghost use Rattle.std.specs.Option.{option_map_or};
 ghost use Rattle.prop_compound.specs.declared.definition.NumberedStep.{NumberedStep as Numbered};
-ghost use Rattle.prop_compound.specs.Expansion.{cells_at, passed, is_something, with_fresh, definition_expanded, steps_expanded};
+ghost use Rattle.prop_compound.specs.Expansion.{cells_at, with_fresh, steps_expanded};
+ghost use Rattle.prop_compound.specs.Shortcuts.{definition_made};
 ghost use Rattle.prop_compound.specs.Kept.{all_bare, places_made, IsInScope, IsUseBelow, AreKept};
 
-use crate::definition::{KeptDefinition, NumberedStep, Passing, Used};
+use crate::definition::{KeptDefinition, NumberedStep, Passing, Used, passed};
 use crate::walk::Walk;
 use prop_procedures::Kinded;
 use std::alloc::{AllocError, Global};
 
-/// What a step passes in a definition that is itself given this.
-fn passed(given: Passing, passing: Passing) -> Passing
-    ensures { result ≡ passed given passing }
-{
-    match passing {
-        Passing::Own => given,
-        Passing::Nothing | Passing::Scale(_) | Passing::Relation(_) => passing,
-    }
-}
-
-/// Whether something is given.
-fn is_something(given: Passing) -> bool
-    ensures { result ≡ is_something given }
-{
-    !matches!(given, Passing::Nothing)
-}
-
 /// The cells at these places.
-fn cells_at(alloc: Global, cells: &[usize], places: &[usize]) -> Result<Vec<usize>, AllocError>
+pub(crate) fn cells_at(
+    alloc: Global,
+    cells: &[usize],
+    places: &[usize],
+) -> Result<Vec<usize>, AllocError>
     requires { All (λ place. place < length cells.now) places.now }
     ensures { IfOk result (λ chosen. chosen.items ≡ cells_at cells.now places.now) }
 {
@@ -37,13 +25,6 @@ fn cells_at(alloc: Global, cells: &[usize], places: &[usize]) -> Result<Vec<usiz
         chosen.push(cells[*place])?;
     }
     Ok(chosen)
-}
-
-/// Whether what is given is spare, where the definition takes a parameter or none.
-fn is_spare(given: Passing, takes: bool) -> bool
-    ensures { result ≡ (is_something given && not takes) }
-{
-    is_something(given) && !takes
 }
 
 /// A local of this kind: a fresh cell, which has the next place.
@@ -56,7 +37,7 @@ fn add_local(kind: Kinded, cells: &mut Vec<usize>, walk: &mut Walk) -> Result<()
     Ok(())
 }
 
-/// Adds what a use of the definition with this number stands for, on these cells and given this.
+/// Adds the cells and instances that a use of the definition with this number stands for, on these cells and given this.
 #[cycle(expanding)]
 pub(crate) fn expand_definition(
     alloc: Global,
@@ -69,17 +50,16 @@ pub(crate) fn expand_definition(
     requires number { number < length definitions.now }
     requires kept { AreKept definitions.now }
     requires count { option_map_or (λ d. d.params) (slice_get (all_bare definitions.now) number) 0 ≡ length cells.items }
-    ensures { OnOk result (walk.new ≡ definition_expanded (reverse (all_bare definitions.now)) number cells.items given walk.old) }
+    ensures { OnOk result (walk.new ≡ definition_made (reverse (all_bare definitions.now)) number cells.items given walk.old) }
 {
     let definition = &definitions[number];
-    walk.note(is_spare(given, definition.takes));
-    for step in &definition.steps {
+    for step in &definition.plan {
         expand_step(alloc, definitions, number, step, given, &mut cells, walk)?;
     }
     Ok(())
 }
 
-/// Adds what a step of the definition with this number stands for, on the cells of the places so far.
+/// Adds the cells and instances that a step of the definition with this number stands for, on the cells of the places so far.
 #[cycle(expanding)]
 fn expand_step(
     alloc: Global,
@@ -94,7 +74,7 @@ fn expand_step(
     requires kept { AreKept definitions.now }
     requires in_scope { IsInScope (length cells.old.items) step.now }
     requires used { IsUseBelow (all_bare definitions.now) number step.now }
-    ensures steps { OnOk result ((steps : List Numbered) → steps_expanded (definition_expanded (reverse (all_bare definitions.now))) given cells.old.items (step.now ∷ steps) walk.old ≡ steps_expanded (definition_expanded (reverse (all_bare definitions.now))) given cells.new.items steps walk.new) }
+    ensures steps { OnOk result ((steps : List Numbered) → steps_expanded (definition_made (reverse (all_bare definitions.now))) given cells.old.items (step.now ∷ steps) walk.old ≡ steps_expanded (definition_made (reverse (all_bare definitions.now))) given cells.new.items steps walk.new) }
     ensures places { OnOk result (length cells.new.items ≡ length cells.old.items + places_made step.now) }
 {
     match step {

@@ -11,6 +11,7 @@ mod fitting;
 mod flat;
 mod resolving;
 mod scope;
+mod shortening;
 pub mod uses;
 mod walk;
 

@@ -1,10 +1,11 @@
 //! What a use of a name stands for, and why it is refused.
-ghost use Rattle.std.specs.Prelude.{◌≡◌, ◌<◌, ◌+◌, ◌==◌, ◌⊎◌, not, length, IfOk, IfErr, IfSome, OnOk, None, Some};
+ghost use Rattle.std.specs.Prelude.{◌≡◌, ◌<◌, ◌+◌, ◌==◌, ◌⊎◌, not, length, IfOk, IfErr, IfSome, OnOk, Err, None, Some};
 ghost use Rattle.std.specs.List.{range_with_len};
 ghost use Rattle.prop_procedures.specs.Kept.{stored_of};
 ghost use Rattle.prop_compound.specs.Definitions.{used_named, cells_wanted};
 ghost use Rattle.prop_compound.specs.Expansion.{start, passing_of, expanded_in, expanded};
 ghost use Rattle.prop_compound.specs.Expanding.{size_refusal, expand_refusal};
+ghost use Rattle.prop_compound.specs.AtOnce.{refused_at_once};
 ghost use Rattle.prop_compound.specs.Flattened.{expansion_of_flat, IsFlatOver};
 ghost use Rattle.prop_compound.specs.Kept.{fresh_used, instances_used, fresh_of, instances_of, total_of, IsDefinedOver, IsThere, IsUseThere, AreRight};
 
@@ -111,6 +112,7 @@ impl Definitions {
         match used {
             Used::Procedure(number) => walk.add_instance(number, given, cells),
             Used::Definition(number) => {
+                walk.note(self.definitions[number].is_spare(given));
                 expand_definition(alloc, &self.definitions, number, cells, given, walk)
             }
         }
@@ -143,7 +145,7 @@ impl Definitions {
     ///
     /// Refused with 11 where the name is neither a procedure's nor a definition's, with 12 for the count of cells, with 16 for
     /// more than 100,000 fresh cells or 200,000 instances, with 13 where the kinds of some instance's cells do not fit, with 14 where
-    /// an instance or a definition does not take what it is given, and with 90.
+    /// an instance or a definition does not take what it is given, and with 90, which never stands in the place of 11, 12 or 16.
     pub fn expand<R: Rule + Drop>(
         &self,
         alloc: Global,
@@ -158,6 +160,7 @@ impl Definitions {
         ensures ok { IfOk result (λ flat. expansion_of_flat cells.now flat ≡ expanded (stored_of R.value_of library.now) words.now self.now name.now cells.now given) }
         ensures safe { IfOk result (λ flat. IsFlatOver (stored_of R.value_of library.now) (length cells.now) flat) }
         ensures err { IfErr result (λ e. (expand_refusal (stored_of R.value_of library.now) words.now self.now name.now cells.now given ≡ Some e) ⊎ (e ≡ Refusal.Memory)) }
+        ensures at_once { IfSome (refused_at_once (stored_of R.value_of library.now) words.now self.now name.now cells.now given) (λ e. result ≡ Err e) }
     {
         let Some(used) = self.used(library, name) else {
             return Err(Refusal::NoSuchProcedure);

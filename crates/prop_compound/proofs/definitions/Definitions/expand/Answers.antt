@@ -1,7 +1,7 @@
-use Rattle.std.proofs.Common.{◌∙◌, sym, inl}
+use Rattle.std.proofs.Common.{◌∙◌, refl, sym, inl}
 use Rattle.std.proofs.lemmas.Result.{err_from_is_err_and}
 use Rattle.prop_procedures.specs.Kept.{stored_of}
-use Rattle.prop_compound.proofs.Expanded.{all_cells_there, size_stops, fit_decides, cells_among, flat_means, flat_safe}
+use Rattle.prop_compound.proofs.Expanded.{all_cells_there, size_at_once, none_at_once, size_stops, fit_decides, cells_among, flat_means, flat_safe}
 use Rattle.prop_compound.proofs.definitions.Definitions.expand.Goals as goal
 
 pub returns-in-Some-size_refusal-clause-err : goal.returns-in-Some-size_refusal-clause-err
@@ -33,3 +33,23 @@ returns-in-Ok-flatten-clause-ok g c =
 pub returns-in-Ok-flatten-clause-safe : goal.returns-in-Ok-flatten-clause-safe
 returns-in-Ok-flatten-clause-safe g c =
     flat_safe (stored_of g.R.Rule.value_of c.args.library.now) c.args.words.now c.args.self.now c.args.name.now c.args.cells.now c.args.given c.in-Some.used (sym c.used.ensures.used ∙ c.in-Some.is) c.passing_of.result c.passing_of.ensures c.in-Ok.walk c.in-Ok.ensures.walk c.in-Ok-flatten.flat c.in-Ok-flatten.ensures c.in-Ok.ensures.right
+
+pub returns-in-Some-size_refusal-clause-at_once : goal.returns-in-Some-size_refusal-clause-at_once
+returns-in-Some-size_refusal-clause-at_once g c =
+    size_at_once (stored_of g.R.Rule.value_of c.args.library.now) c.args.words.now c.args.self.now c.args.name.now c.args.cells.now c.args.given c.in-Some.used (sym c.used.ensures.used ∙ c.in-Some.is) c.is_miscounted.result c.is_miscounted.ensures c.if-is_miscounted.false _ c.size_refusal.result c.in-Some-size_refusal.refusal c.size_refusal.ensures c.in-Some-size_refusal.is refl
+
+pub returns-in_default-walk-clause-at_once : goal.returns-in_default-walk-clause-at_once
+returns-in_default-walk-clause-at_once g c =
+    none_at_once (stored_of g.R.Rule.value_of c.args.library.now) c.args.words.now c.args.self.now c.args.name.now c.args.cells.now c.args.given c.in-Some.used (sym c.used.ensures.used ∙ c.in-Some.is) c.is_miscounted.result c.is_miscounted.ensures c.if-is_miscounted.false c.size_refusal.result _ c.size_refusal.ensures c.in_default-size_refusal.is
+
+pub returns-in_err-judge-clause-at_once : goal.returns-in_err-judge-clause-at_once
+returns-in_err-judge-clause-at_once g c =
+    none_at_once (stored_of g.R.Rule.value_of c.args.library.now) c.args.words.now c.args.self.now c.args.name.now c.args.cells.now c.args.given c.in-Some.used (sym c.used.ensures.used ∙ c.in-Some.is) c.is_miscounted.result c.is_miscounted.ensures c.if-is_miscounted.false c.size_refusal.result _ c.size_refusal.ensures c.in_default-size_refusal.is
+
+pub returns-in-Ok-flatten-clause-at_once : goal.returns-in-Ok-flatten-clause-at_once
+returns-in-Ok-flatten-clause-at_once g c =
+    none_at_once (stored_of g.R.Rule.value_of c.args.library.now) c.args.words.now c.args.self.now c.args.name.now c.args.cells.now c.args.given c.in-Some.used (sym c.used.ensures.used ∙ c.in-Some.is) c.is_miscounted.result c.is_miscounted.ensures c.if-is_miscounted.false c.size_refusal.result _ c.size_refusal.ensures c.in_default-size_refusal.is
+
+pub returns-clause-at_once : goal.returns-clause-at_once
+returns-clause-at_once g c =
+    none_at_once (stored_of g.R.Rule.value_of c.args.library.now) c.args.words.now c.args.self.now c.args.name.now c.args.cells.now c.args.given c.in-Some.used (sym c.used.ensures.used ∙ c.in-Some.is) c.is_miscounted.result c.is_miscounted.ensures c.if-is_miscounted.false c.size_refusal.result _ c.size_refusal.ensures c.in_default-size_refusal.is

@@ -1,11 +1,13 @@
-use Rattle.std.proofs.Common.{◌≡◌, ◌∙◌, ℕ, List, Bor, map, ap, sym, length, take, inl, inr, refl}
+use Rattle.std.proofs.Common.{◌≡◌, ◌∙◌, ℕ, List, [], ◌∷◌, ◌++◌, All, subst, Bor, map, ap, sym, length, take, inl, inr, refl}
 use Rattle.std.proofs.lemmas.List.{length-map}
 use Rattle.prop_procedures.specs.Kept.{stored_of}
 use Rattle.prop_language.specs.Said.{words, step_of}
 use Rattle.prop_compound.specs.Definitions.{Definitions}
-use Rattle.prop_compound.specs.Kept.{all_bare}
+use Rattle.prop_compound.specs.Defining.{definition_of}
+use Rattle.prop_compound.specs.Kept.{bare, all_bare, IsCounted, IsKept, AreKept, IsUseOver}
+use Rattle.prop_compound.specs.declared.definition.KeptDefinition.{KeptDefinition}
 use Rattle.prop_compound.proofs.Judging.{IsRightly, said_within, said_first, said_behind, refused_words, refused_uses, not_refused, rightly}
-use Rattle.prop_compound.proofs.Resolved.{used_seen, kept_new, same_count, numbered_so, definition_so, steps_over}
+use Rattle.prop_compound.proofs.Resolved.{used_seen, kept_new, same_count, numbered_so, definition_so, steps_over, if_ok, on_ok, or_memory}
 use Rattle.prop_compound.proofs.definitions.Definitions.resolved.Goals as goal
 
 pub words_refusal-requires-clause-count : goal.words_refusal-requires-clause-count
@@ -55,8 +57,11 @@ returns-in-Ok-clause-definition g c =
     let right : IsRightly library c.args.words.now definitions params steps =
     rightly library c.args.words.now definitions params steps (take (length c.args.params.now) c.args.scope.now) (said_first c.args.params.now c.args.scope.now steps c.requires) c.words_refusal.result c.words_refusal.ensures c.in_default.is c.uses_refusal.result c.uses_refusal.ensures c.in_default-uses_refusal.is in
     let items = numbered_so library c.args.words.now definitions params steps same right c.args.scope.now c.push_numbered.new.all.items c.requires c.in-Ok.ensures in
-    let count = c.counted.ensures.params ∙ sym (length-map c.args.params.now (λ (w : Bor (List ℕ)). w.now)) in
-    definition_so library c.args.words.now definitions params steps same right c.counted.result c.push_numbered.new.all.items items count c.counted.ensures.steps
+    let count : length c.args.params.now ≡ length params = sym (length-map c.args.params.now (λ (w : Bor (List ℕ)). w.now)) in
+    let numbered = c.push_numbered.new.all.items in
+    let Counted = IsCounted c.deref.result.now (length c.args.params.now) numbered in
+    if_ok Counted (λ (k : KeptDefinition). bare k ≡ definition_of library c.args.words.now definitions params steps)
+    (λ k h. definition_so library c.args.words.now definitions params steps same right k numbered items (h.params ∙ count) h.steps) c.counted.result c.counted.ensures.counted
 
 pub returns-in-Ok-clause-kept : goal.returns-in-Ok-clause-kept
 returns-in-Ok-clause-kept g c =
@@ -68,10 +73,14 @@ returns-in-Ok-clause-kept g c =
     let right : IsRightly library c.args.words.now definitions params steps =
     rightly library c.args.words.now definitions params steps (take (length c.args.params.now) c.args.scope.now) (said_first c.args.params.now c.args.scope.now steps c.requires) c.words_refusal.result c.words_refusal.ensures c.in_default.is c.uses_refusal.result c.uses_refusal.ensures c.in_default-uses_refusal.is in
     let items = numbered_so library c.args.words.now definitions params steps same right c.args.scope.now c.push_numbered.new.all.items c.requires c.in-Ok.ensures in
-    let seen : definitions.definitions ≡ all_bare c.deref.result.now = ap (λ (d : Definitions). d.definitions) (sym c.self.view_is) ∙ ap all_bare (sym c.deref.ensures.value) in
-    let count = c.counted.ensures.params ∙ sym (length-map c.args.params.now (λ (w : Bor (List ℕ)). w.now)) in
-    let made = c.counted.ensures in
-    kept_new library c.args.words.now definitions params steps same right c.counted.result c.push_numbered.new.all.items (all_bare c.deref.result.now) seen items count made.steps made.takes made.fresh made.instances
+    let count : length c.args.params.now ≡ length params = sym (length-map c.args.params.now (λ (w : Bor (List ℕ)). w.now)) in
+    let numbered = c.push_numbered.new.all.items in
+    let Counted = IsCounted c.deref.result.now (length c.args.params.now) numbered in
+    let ks = c.deref.result.now in
+    let seen : definitions.definitions ≡ all_bare ks = ap (λ (d : Definitions). d.definitions) (sym c.self.view_is) ∙ ap all_bare (sym c.deref.ensures.value) in
+    let kept : AreKept ks = rw c.deref.ensures.value c.self.invariant.1 in
+    if_ok Counted (λ (k : KeptDefinition). IsKept (definitions.definitions ++ bare k ∷ []) (length definitions.definitions) k)
+    (λ k h. kept_new library c.args.words.now definitions params steps same right ks numbered k kept seen items (subst (λ n. IsCounted ks n numbered k) count h)) c.counted.result c.counted.ensures.counted
 
 pub returns-in-Ok-clause-over : goal.returns-in-Ok-clause-over
 returns-in-Ok-clause-over g c =
@@ -83,12 +92,20 @@ returns-in-Ok-clause-over g c =
     let right : IsRightly library c.args.words.now definitions params steps =
     rightly library c.args.words.now definitions params steps (take (length c.args.params.now) c.args.scope.now) (said_first c.args.params.now c.args.scope.now steps c.requires) c.words_refusal.result c.words_refusal.ensures c.in_default.is c.uses_refusal.result c.uses_refusal.ensures c.in_default-uses_refusal.is in
     let items = numbered_so library c.args.words.now definitions params steps same right c.args.scope.now c.push_numbered.new.all.items c.requires c.in-Ok.ensures in
-    steps_over library c.args.words.now definitions params steps same right c.counted.result c.push_numbered.new.all.items items c.counted.ensures.steps
+    let count : length c.args.params.now ≡ length params = sym (length-map c.args.params.now (λ (w : Bor (List ℕ)). w.now)) in
+    let numbered = c.push_numbered.new.all.items in
+    let Counted = IsCounted c.deref.result.now (length c.args.params.now) numbered in
+    if_ok Counted (λ (k : KeptDefinition). All (IsUseOver library) k.steps.items)
+    (λ k h. steps_over library c.args.words.now definitions params steps same right k numbered items h.steps) c.counted.result c.counted.ensures.counted
 
 pub returns-in-Ok-clause-fits : goal.returns-in-Ok-clause-fits
 returns-in-Ok-clause-fits g c =
     let steps = map step_of c.args.steps.now in
-    not_refused (stored_of g.R.Rule.value_of c.args.library.now) c.args.words.now c.args.self.now (words c.args.params.now) steps (take (length c.args.params.now) c.args.scope.now) (said_first c.args.params.now c.args.scope.now steps c.requires) c.words_refusal.result c.words_refusal.ensures c.in_default.is c.uses_refusal.result c.uses_refusal.ensures c.in_default-uses_refusal.is
+    on_ok c.counted.result (not_refused (stored_of g.R.Rule.value_of c.args.library.now) c.args.words.now c.args.self.now (words c.args.params.now) steps (take (length c.args.params.now) c.args.scope.now) (said_first c.args.params.now c.args.scope.now steps c.requires) c.words_refusal.result c.words_refusal.ensures c.in_default.is c.uses_refusal.result c.uses_refusal.ensures c.in_default-uses_refusal.is)
+
+pub returns-in-Ok-clause-err : goal.returns-in-Ok-clause-err
+returns-in-Ok-clause-err g c =
+    or_memory _ c.counted.result c.counted.ensures.err
 
 pub returns-in-Err-clause-err : goal.returns-in-Err-clause-err
 returns-in-Err-clause-err g c = inr refl

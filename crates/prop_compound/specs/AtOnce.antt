@@ -1,0 +1,23 @@
+-- What a use is refused for at once, before any memory is taken, so that want of memory never stands in its place.
+use Rattle.std.specs.Prelude.{ℕ, ◌-◌, List, [], ◌∷◌, Option, length, is_none}
+use Rattle.prop_lattice.specs.declared.refusal.Refusal.{Refusal}
+use Rattle.prop_lattice.specs.declared.refusal.Refusal.TheVariants.{NoSuchProcedure, WrongCount}
+use Rattle.prop_procedures.specs.declared.shape.Kinded.{Kinded}
+use Rattle.prop_procedures.specs.declared.shape.Param.{Param}
+use Rattle.prop_procedures.specs.Stored.{Stored}
+use Rattle.prop_vocabulary.specs.Refusing.{when, first_of}
+use Rattle.prop_vocabulary.specs.Vocabulary.{Vocabulary}
+use Rattle.prop_compound.specs.Definitions.{Definitions, used_named, is_miscounted}
+use Rattle.prop_compound.specs.Expansion.{expanded}
+use Rattle.prop_compound.specs.Expanding.{size_refusal}
+
+-- the name stands for nothing, or for something that wants another number of cells or is over its size
+abbrev pub refused_at_once : List Stored → Vocabulary → Definitions → List ℕ → List Kinded → Option Param → Option Refusal
+refused_at_once library words definitions name kinds given =
+    let e = expanded library words definitions name kinds given in
+    first_of (
+    when NoSuchProcedure (is_none (used_named library definitions name))
+    ∷ when WrongCount (is_miscounted library definitions name (length kinds))
+    ∷ size_refusal (length e.kinds - length kinds) (length e.placed)
+    ∷ []
+    )
