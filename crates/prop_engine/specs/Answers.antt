@@ -1,5 +1,5 @@
 -- What a line is answered, and what is written for it.
-use Rattle.std.specs.Prelude.{◌≡◌, ◌⊎◌, ℕ, List, [], ◌∷◌, ◌++◌, codes, Bool, true, false, string_bytes}
+use Rattle.std.specs.Prelude.{◌≡◌, ◌⊎◌, ℕ, List, [], ◌∷◌, ◌++◌, codes, Bool, true, false, Result, Ok, Err, string_bytes}
 use Rattle.prop_lattice.specs.declared.refusal.Refusal.{Refusal}
 use Rattle.prop_lattice.specs.declared.refusal.Refusal.TheVariants.{Memory}
 use Rattle.prop_lattice.specs.Refusals.{reply_to}
@@ -17,6 +17,11 @@ answer_of Reply.Silent = Silent
 answer_of Reply.Done = Done
 answer_of (Reply.Text text) = Text (string_bytes text)
 answer_of (Reply.Refused refusal) = Refused refusal
+
+-- the answer to a command that is carried out without a word, or refused
+abbrev pub answer_done : {A : Type 0} → Result A Refusal → Answer
+answer_done (Ok done) = Done
+answer_done (Err refusal) = Refused refusal
 
 -- what is written for an answer: its text and a line feed, or nothing
 abbrev pub text_written : Answer → List ℕ

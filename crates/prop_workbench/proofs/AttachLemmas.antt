@@ -1,5 +1,5 @@
 -- Putting procedures and definitions between cells: what is refused and made is what the machine says.
-use Rattle.std.proofs.Common.{◌≡◌, ◌∙◌, ℕ, ◌<◌, ◌≤◌, ◌+◌, ◌-◌, ◌^◌, Bool, true, false, not, List, [], ◌∷◌, ◌++◌, Option, Some, None, All, map, drop, length, get_or, zip, is_none, unwrap_or, slice_get, Result, Ok, Err, OnOk, OnErr, ◌||◌, cond, ◌⊎◌, inl, inr, refl, sym, ap, subst, arith}
+use Rattle.std.proofs.Common.{◌≡◌, ◌∙◌, ℕ, ◌<◌, ◌≤◌, ◌+◌, ◌-◌, ◌^◌, Bool, true, false, not, List, [], ◌∷◌, ◌++◌, Option, Some, None, All, map, drop, length, get_or, zip, is_none, unwrap_or, slice_get, Result, Ok, Err, OnOk, OnErr, IfErr, ◌||◌, cond, ◌⊎◌, inl, inr, refl, sym, ap, subst, arith}
 use Rattle.std.specs.Prelude.{⊤}
 use Rattle.std.specs.List.{list_any}
 use Rattle.std.specs.Option.{option_map_or, option_and_then}
@@ -27,7 +27,7 @@ use Rattle.prop_compound.specs.Flattened.{placed_of, expansion_of_flat, IsFlatOv
 use Rattle.prop_procedures.specs.declared.flat.Placed as flats
 use Rattle.prop_procedures.specs.declared.flat.Flat.{Flat}
 use Rattle.prop_procedures.specs.Flats.{cells_of, param_at}
-use Rattle.prop_engine.specs.Answers.{Done, Refused}
+use Rattle.prop_engine.specs.Answers.{Done, Refused, answer_done}
 use Rattle.prop_vocabulary.specs.Cells.{CellNames, cells_named, is_cell_missing}
 use Rattle.prop_vocabulary.specs.Refusing.{first_of, when}
 use Rattle.prop_vocabulary.specs.Vocabulary.{Vocabulary}
@@ -56,18 +56,24 @@ attach_rows : (library : List Stored) (s : State) (name : List ℕ) (cells : Lis
 attach_rows library s name cells by numbers relation missing same =
     rw (relation, missing, ← same) (first_of-one (use_refusal library s name numbers by))
 
-pub attached_step : (library : List Stored) (s new : State) (name : List ℕ) (cells : List (List ℕ)) (by : By) (numbers : List ℕ) → is_unknown s.words by ≡ false → is_cell_missing s.names cells ≡ false → numbers ≡ cells_named s.names cells →
+attached_step : (library : List Stored) (s new : State) (name : List ℕ) (cells : List (List ℕ)) (by : By) (numbers : List ℕ) → is_unknown s.words by ≡ false → is_cell_missing s.names cells ≡ false → numbers ≡ cells_named s.names cells →
     use_refusal library s name numbers by ≡ None → new ≡ with_use library s numbers (used library s name numbers by) → Obeys library s (commands.Command.Attach name cells by) Done new 0
 attached_step library s new name cells by numbers relation missing same fits e =
     obeys library s new (commands.Command.Attach name cells by) Done 0 (attach_rows library s name cells by numbers relation missing same ∙ fits)
     (record { answer_is = refl; new_is = e ∙ ap (λ (l : List ℕ). with_use library s l (used library s name l by)) same; no_steps = refl })
 
-pub unattached_step : (library : List Stored) (s new : State) (name : List ℕ) (cells : List (List ℕ)) (by : By) (numbers : List ℕ) (refusal : Refusal) → is_unknown s.words by ≡ false → is_cell_missing s.names cells ≡ false → numbers ≡ cells_named s.names cells →
+unattached_step : (library : List Stored) (s new : State) (name : List ℕ) (cells : List (List ℕ)) (by : By) (numbers : List ℕ) (refusal : Refusal) → is_unknown s.words by ≡ false → is_cell_missing s.names cells ≡ false → numbers ≡ cells_named s.names cells →
     (use_refusal library s name numbers by ≡ Some refusal) ⊎ (refusal ≡ Memory) → new ≡ s → Obeys library s (commands.Command.Attach name cells by) (Refused refusal) new 0
 unattached_step library s new name cells by numbers refusal relation missing same (inl e) back =
     refuses_or_lacks library s new (commands.Command.Attach name cells by) refusal (inl (attach_rows library s name cells by numbers relation missing same ∙ e)) back
 unattached_step library s new name cells by numbers refusal relation missing same (inr m) back =
     refuses_or_lacks library s new (commands.Command.Attach name cells by) refusal (inr m) back
+
+pub attached_or_not : (library : List Stored) (s new : State) (name : List ℕ) (cells : List (List ℕ)) (by : By) (numbers : List ℕ) → is_unknown s.words by ≡ false → is_cell_missing s.names cells ≡ false → numbers ≡ cells_named s.names cells →
+    (r : Result ⊤ Refusal) → OnOk r (use_refusal library s name numbers by ≡ None) → OnOk r (new ≡ with_use library s numbers (used library s name numbers by)) → IfErr r (λ e. (use_refusal library s name numbers by ≡ Some e) ⊎ (e ≡ Memory)) → OnErr r (new ≡ s) →
+    Obeys library s (commands.Command.Attach name cells by) (answer_done r) new 0
+attached_or_not library s new name cells by numbers relation missing same (Ok t) fits made why back = attached_step library s new name cells by numbers relation missing same fits made
+attached_or_not library s new name cells by numbers relation missing same (Err refusal) fits made why back = unattached_step library s new name cells by numbers refusal relation missing same why back
 
 pub no_relation_step : (library : List Stored) (s : State) (name : List ℕ) (cells : List (List ℕ)) (by : By) → is_unknown s.words by ≡ true → refusal_of library s (commands.Command.Attach name cells by) ≡ Some NoSuchRelation
 no_relation_step library s name cells by e = rw e refl
@@ -250,11 +256,6 @@ may_make library words definitions d name cells given flat below fits is safe fe
     each_may library d cells flat below few flat.instances.items safe (holds_not WrongKind _ rows.0) (holds_not WrongParameter _ rows.1)
 
 -- ---- what stays sound
-
--- what is true of the data before and of what is made is true of the data after, whether it was made or refused
-pub made_or_not : (P : Data → Type 0) (d new made : Data) (r : Result ⊤ Refusal) → OnOk r (new ≡ made) → OnErr r (new ≡ d) → P d → P made → P new
-made_or_not P d new made (Ok t) e f before after = subst P (sym e) after
-made_or_not P d new made (Err refusal) e f before after = subst P (sym f) before
 
 all_behind : {X : Type 0} (P : X → Type 0) (xs ys : List X) → All P (xs ++ ys) → All P ys
 all_behind P [] ys all = all

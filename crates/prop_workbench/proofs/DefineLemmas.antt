@@ -50,20 +50,14 @@ module _ (words : Vocabulary) (whole : IsWhole words) where
   somewhere None r c d e f true h = cc
   somewhere None r c d e f false h = refl
 
-  pub locals_defined : (library : List Stored) (definitions new : Definitions) (name : List ℕ) (params : List (List ℕ)) (steps : List Step) → define_refusal library words definitions name params steps ≡ None →
+  locals_defined : (library : List Stored) (definitions new : Definitions) (name : List ℕ) (params : List (List ℕ)) (steps : List Step) → define_refusal library words definitions name params steps ≡ None →
       new ≡ with_definition library words definitions name params steps → AreLocalsOf (IsSized words) definitions → AreLocalsOf (IsSized words) new
   locals_defined library definitions new name params steps fits e all =
       let added : All (IsLocalOf (IsSized words)) (definition_of library words definitions params steps).steps = sized_steps library definitions (scope_of params steps) steps (somewhere _ _ _ _ _ _ (list_any (is_nowhere words) steps) fits) in
       rw e (All-push (λ (d : Definition). All (IsLocalOf (IsSized words)) d.steps) definitions.definitions (definition_of library words definitions params steps) all added)
 
--- ---- the step
-
-pub defined_step : (library : List Stored) (s : State) (new : Definitions) (name : List ℕ) (params : List (List ℕ)) (steps : List Step) → define_refusal library s.words s.definitions name params steps ≡ None →
-    new ≡ with_definition library s.words s.definitions name params steps → Obeys library s (commands.Command.Define name params steps) Done (record s { definitions = new }) 0
-defined_step library s new name params steps fits e =
-    obeys library s (record s { definitions = new }) (commands.Command.Define name params steps) Done 0 fits (record { answer_is = refl; new_is = λ i. record s { definitions = e i }; no_steps = refl })
-
-pub undefined_step : (library : List Stored) (s : State) (new : Definitions) (name : List ℕ) (params : List (List ℕ)) (steps : List Step) (refusal : Refusal) → (define_refusal library s.words s.definitions name params steps ≡ Some refusal) ⊎ (refusal ≡ Memory) →
-    new ≡ s.definitions → Obeys library s (commands.Command.Define name params steps) (Refused refusal) (record s { definitions = new }) 0
-undefined_step library s new name params steps refusal why same =
-    refuses_or_lacks library s (record s { definitions = new }) (commands.Command.Define name params steps) refusal why (λ i. record s { definitions = same i })
+  -- the same, whether it is defined or refused
+  pub locals_defined_or_not : (library : List Stored) (definitions new : Definitions) (name : List ℕ) (params : List (List ℕ)) (steps : List Step) (r : Result ⊤ Refusal) → OnOk r (define_refusal library words definitions name params steps ≡ None) →
+      OnOk r (new ≡ with_definition library words definitions name params steps) → OnErr r (new ≡ definitions) → AreLocalsOf (IsSized words) definitions → AreLocalsOf (IsSized words) new
+  locals_defined_or_not library definitions new name params steps (Ok t) fits e f all = locals_defined library definitions new name params steps fits e all
+  locals_defined_or_not library definitions new name params steps (Err refusal) fits e f all = rw f all

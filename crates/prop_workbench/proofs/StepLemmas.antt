@@ -13,7 +13,8 @@ use Rattle.prop_workbench.specs.Sessions.{state_from}
 use Rattle.prop_procedures.specs.Stored.{Stored}
 use Rattle.prop_language.specs.Commands as commands
 use Rattle.prop_language.specs.Commands.{KindWord, Command}
-use Rattle.prop_engine.specs.Answers.{Answer, Silent, Done, Text, Refused}
+use Rattle.std.specs.Prelude.{⊤, OnOk, OnErr, IfErr}
+use Rattle.prop_engine.specs.Answers.{Answer, Silent, Done, Text, Refused, answer_done}
 use Rattle.prop_workbench.specs.Machine.{State}
 use Rattle.prop_workbench.specs.Refusing.{refusal_of, limit_refusal, is_nowhere}
 use Rattle.prop_vocabulary.specs.Refusing.{first_of}
@@ -42,6 +43,12 @@ pub refuses_or_lacks : (library : List Stored) (old new : State) (command : Comm
 refuses_or_lacks library old new command refusal (inl e) same = refuses library old new command refusal e same
 refuses_or_lacks library old new command refusal (inr m) same =
     subst (λ (r : Refusal). Obeys library old command (Refused r) new 0) (sym m) (lacks library old new command 0 same)
+
+-- what is carried out without a word, or refused
+pub obeys_done : (library : List Stored) (old new : State) (command : Command) (r : Result ⊤ Refusal) → OnOk r (refusal_of library old command ≡ None) → OnOk r (Carries library old command Done new 0) →
+    IfErr r (λ e. (refusal_of library old command ≡ Some e) ⊎ (e ≡ Memory)) → OnErr r (new ≡ old) → Obeys library old command (answer_done r) new 0
+obeys_done library old new command (Ok t) fits carries why same = obeys library old new command Done 0 fits carries
+obeys_done library old new command (Err refusal) fits carries why same = refuses_or_lacks library old new command refusal why same
 
 -- a cell of a new name is refused for the limit alone
 pub cell_rows : (library : List Stored) (s : State) (name : List ℕ) (kind : KindWord) → cell_named s.names name ≡ None → is_nowhere s.words kind ≡ false →

@@ -1,6 +1,6 @@
 -- What a value says at a cell, and why it is refused.
 use Rattle.std.proofs.Common.{◌≡◌, ◌∙◌, ℕ, ℤ, pos, neg_ℤ, ◌≤ℤ◌, ◌<◌, ◌≤◌, ◌^◌, ◌/◌, zero, suc, bytes_eq, nat_le, length, Bool, true, false, cond, ◌&&◌, ◌||◌, List, [], ◌∷◌, Option, Some, None, Result, Ok, Err, is_none, unwrap_or, ◌⊎◌, inl, inr, refl, sym, ap, subst, arith, slice_index_or, eq-eqb}
-use Rattle.std.specs.Prelude.{int_le, int_lt}
+use Rattle.std.specs.Prelude.{⊤, OnOk, OnErr, IfErr, int_le, int_lt}
 use Rattle.std.specs.Result.{result_unwrap_or}
 use Rattle.std.specs.Option.{option_map, option_map_or, option_and_then}
 use Rattle.std.specs.List.{list_all}
@@ -35,10 +35,10 @@ use Rattle.prop_vocabulary.specs.Texts.{elements_of_kind}
 use Rattle.prop_workbench.specs.Machine.{State}
 use Rattle.prop_workbench.specs.Refusing.{refusal_of, telling_limit, stating_limit, stating_limit_at, meaning_at, is_error}
 use Rattle.prop_vocabulary.specs.Refusing.{first_of, when}
-use Rattle.prop_engine.specs.Answers.{Done}
+use Rattle.prop_engine.specs.Answers.{Done, answer_done}
 use Rattle.prop_workbench.specs.Steps.{Obeys, Carries}
 use Rattle.prop_workbench.specs.Effects.{stated, stating, meant_at, words_at, info_at, with_meant, info_meant, MayMean}
-use Rattle.prop_workbench.proofs.StepLemmas.{first_of-one, obeys}
+use Rattle.prop_workbench.proofs.StepLemmas.{first_of-one, obeys, refuses_or_lacks}
 use Rattle.prop_vocabulary.specs.Cells.{cell_named}
 
 -- ---- the refusals of values
@@ -260,16 +260,23 @@ changes library s new None name value e = record { answer_is = refl; new_is = e;
 changes library s new (Some premise) name value e = record { answer_is = refl; new_is = e; no_steps = refl }
 
 -- what a session states is what the machine does
-pub value_done : (library : List Stored) (s new : State) (premise : Option (List ℕ)) (name : List ℕ) (value : Value) (cell : ℕ) (meant : Meant) → cell_named s.names name ≡ Some cell → meaning_at s.words (kind_at s.kinds cell).kind value ≡ Ok meant →
+value_done : (library : List Stored) (s new : State) (premise : Option (List ℕ)) (name : List ℕ) (value : Value) (cell : ℕ) (meant : Meant) → cell_named s.names name ≡ Some cell → meaning_at s.words (kind_at s.kinds cell).kind value ≡ Ok meant →
     stating_limit s premise meant ≡ None → new ≡ stated s premise cell (with_meant s.words meant) (info_meant s.words meant) → Obeys library s (stating premise name value) Done new 0
 value_done library s new premise name value cell meant found said fits e =
     obeys library s new (stating premise name value) Done 0 (value_limited library s premise name value cell meant found said ∙ fits)
     (changes library s new premise name value (e ∙ made_statement s premise name value cell meant found said))
 
-pub value_stopped : (library : List Stored) (s : State) (premise : Option (List ℕ)) (name : List ℕ) (value : Value) (cell : ℕ) (meant : Meant) (e : Refusal) → cell_named s.names name ≡ Some cell → meaning_at s.words (kind_at s.kinds cell).kind value ≡ Ok meant →
+value_stopped : (library : List Stored) (s : State) (premise : Option (List ℕ)) (name : List ℕ) (value : Value) (cell : ℕ) (meant : Meant) (e : Refusal) → cell_named s.names name ≡ Some cell → meaning_at s.words (kind_at s.kinds cell).kind value ≡ Ok meant →
     (stating_limit s premise meant ≡ Some e) ⊎ (e ≡ Memory) → (refusal_of library s (stating premise name value) ≡ Some e) ⊎ (e ≡ Memory)
 value_stopped library s premise name value cell meant e found said (inl h) = inl (value_limited library s premise name value cell meant found said ∙ h)
 value_stopped library s premise name value cell meant e found said (inr m) = inr m
+
+pub value_done_or_not : (library : List Stored) (s new : State) (premise : Option (List ℕ)) (name : List ℕ) (value : Value) (cell : ℕ) (meant : Meant) → cell_named s.names name ≡ Some cell → meaning_at s.words (kind_at s.kinds cell).kind value ≡ Ok meant →
+    (r : Result ⊤ Refusal) → OnOk r (stating_limit s premise meant ≡ None) → OnOk r (new ≡ stated s premise cell (with_meant s.words meant) (info_meant s.words meant)) → IfErr r (λ e. (stating_limit s premise meant ≡ Some e) ⊎ (e ≡ Memory)) → OnErr r (new ≡ s) →
+    Obeys library s (stating premise name value) (answer_done r) new 0
+value_done_or_not library s new premise name value cell meant found said (Ok t) fits made why same = value_done library s new premise name value cell meant found said fits made
+value_done_or_not library s new premise name value cell meant found said (Err refusal) fits made why same =
+    refuses_or_lacks library s new (stating premise name value) refusal (value_stopped library s premise name value cell meant refusal found said why) same
 
 pub no_cell : (library : List Stored) (s : State) (premise : Option (List ℕ)) (name : List ℕ) (value : Value) → cell_named s.names name ≡ None → refusal_of library s (stating premise name value) ≡ Some NoSuchCell
 no_cell library s None name value none = rw none refl

@@ -34,16 +34,14 @@ impl<R: Rule + Drop, O: Order + Drop> Session<R, O> {
     ghost use Rattle.prop_workbench.specs.Questions.{command_of, IsNamed, HasRun, MaySay};
     ghost use Rattle.prop_workbench.specs.Reasons.{IsLeanExplanation, IsLeanAnswer};
     ghost use Rattle.prop_workbench.specs.Running.{Settled, Unsettled, Explained};
-    ghost use Rattle.prop_workbench.specs.Sessions.{state_of, steps_of, library_of, IsSound, IsMeant};
+    ghost use Rattle.prop_workbench.specs.Sessions.{state_of, library_of, IsSound, Keeps, IsMeant};
     ghost use Rattle.prop_workbench.specs.Steps.{Obeys};
 
     /// Runs the network, and tells how that ended and in how many steps.
     fn run_network(&mut self) -> Result<(Run, u64), AllocError>
         requires means { IsMeant R.value_of self.old }
         requires sound { IsSound R.value_of self.old }
-        ensures same { self.new.network.library ≡ self.old.network.library }
-        ensures sound { IsSound R.value_of self.new }
-        ensures steps { steps_of self.new ≡ steps_of self.old }
+        ensures keeps { Keeps R.value_of self.old self.new }
         ensures names { self.new.names ≡ self.old.names }
         ensures words { self.new.words ≡ self.old.words }
         ensures definitions { self.new.definitions ≡ self.old.definitions }
@@ -67,9 +65,7 @@ impl<R: Rule + Drop, O: Order + Drop> Session<R, O> {
         requires means { IsMeant R.value_of self.old }
         requires sound { IsSound R.value_of self.old }
         requires named { IsNamed (state_of self.old) question }
-        ensures same { self.new.network.library ≡ self.old.network.library }
-        ensures sound { IsSound R.value_of self.new }
-        ensures steps { steps_of self.new ≡ steps_of self.old }
+        ensures keeps { Keeps R.value_of self.old self.new }
         ensures step { Obeys (library_of R.value_of self.old) (state_of self.old) (command_of question.entry) (answer_of result.0) (state_of self.new) result.1 }
         ensures lean { IsLeanAnswer self.new.network.cells (state_of self.old) (Ok (Some (command_of question.entry))) (answer_of result.0) }
     {
@@ -130,9 +126,7 @@ impl<R: Rule + Drop, O: Order + Drop> Session<R, O> {
     pub(crate) fn ask(&mut self, name: &str) -> (Reply, u64)
         requires means { IsMeant R.value_of self.old }
         requires sound { IsSound R.value_of self.old }
-        ensures same { self.new.network.library ≡ self.old.network.library }
-        ensures sound { IsSound R.value_of self.new }
-        ensures steps { steps_of self.new ≡ steps_of self.old }
+        ensures keeps { Keeps R.value_of self.old self.new }
         ensures step { Obeys (library_of R.value_of self.old) (state_of self.old) (commands.Command.Ask name.now) (answer_of result.0) (state_of self.new) result.1 }
     {
         match self.names.find(name) {
@@ -145,9 +139,7 @@ impl<R: Rule + Drop, O: Order + Drop> Session<R, O> {
     pub(crate) fn why(&mut self, name: &str) -> (Reply, u64)
         requires means { IsMeant R.value_of self.old }
         requires sound { IsSound R.value_of self.old }
-        ensures same { self.new.network.library ≡ self.old.network.library }
-        ensures sound { IsSound R.value_of self.new }
-        ensures steps { steps_of self.new ≡ steps_of self.old }
+        ensures keeps { Keeps R.value_of self.old self.new }
         ensures step { Obeys (library_of R.value_of self.old) (state_of self.old) (commands.Command.Why name.now) (answer_of result.0) (state_of self.new) result.1 }
         ensures lean { IsLeanAnswer self.new.network.cells (state_of self.old) (Ok (Some (commands.Command.Why name.now))) (answer_of result.0) }
     {

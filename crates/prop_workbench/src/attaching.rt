@@ -7,7 +7,6 @@ ghost use Rattle.prop_workbench.specs.Refusing.{is_unknown, given_by};
 use crate::session::Session;
 use prop_cells::Cells;
 use prop_compound::{By, Flat};
-use prop_engine::Reply;
 use prop_lattice::Refusal;
 use prop_procedures::{Kinded, Param, Rule};
 use prop_scheduler::{Order, make};
@@ -53,7 +52,7 @@ fn kinds_of(alloc: Global, held: &Cells, cells: &[usize]) -> Result<Vec<Kinded>,
 impl<R: Rule + Drop, O: Order + Drop> Session<R, O> {
     ghost use Rattle.std.specs.Prelude.{◌≡◌, ◌<◌, ◌≤◌, ◌+◌, ◌⊎◌, ℕ, All, length, map, None, Some, IfOk, IfErr, OnOk, OnErr};
     ghost use Rattle.prop_lattice.specs.declared.refusal.Refusal.TheVariants.{Memory};
-    ghost use Rattle.prop_engine.specs.Answers.{answer_of};
+    ghost use Rattle.prop_engine.specs.Answers.{answer_done};
     ghost use Rattle.prop_language.specs.Commands as commands;
     ghost use Rattle.prop_language.specs.Said.{by_of, words};
     ghost use Rattle.prop_workbench.specs.Refusing.{used, use_refusal, given_by};
@@ -61,40 +60,33 @@ impl<R: Rule + Drop, O: Order + Drop> Session<R, O> {
     ghost use Rattle.prop_compound.specs.Expanding.{expand_refusal};
     ghost use Rattle.prop_compound.specs.Flattened.{expansion_of_flat, IsFlatOver};
     ghost use Rattle.prop_workbench.specs.Effects.{with_use};
-    ghost use Rattle.prop_workbench.specs.Sessions.{state_of, steps_of, library_of, IsSound};
+    ghost use Rattle.prop_workbench.specs.Sessions.{state_of, library_of, IsSound, Keeps};
     ghost use Rattle.prop_workbench.specs.Steps.{Obeys};
 
     /// Puts a procedure or a definition between cells.
-    pub(crate) fn attach(&mut self, name: &str, cells: &[&str], by: By) -> Reply
+    pub(crate) fn attach(&mut self, name: &str, cells: &[&str], by: By) -> Result<(), Refusal>
         requires sound { IsSound R.value_of self.old }
-        ensures same { self.new.network.library ≡ self.old.network.library }
-        ensures sound { IsSound R.value_of self.new }
-        ensures steps { steps_of self.new ≡ steps_of self.old }
-        ensures step { Obeys (library_of R.value_of self.old) (state_of self.old) (commands.Command.Attach name.now (words cells.now) (by_of by.entry)) (answer_of result) (state_of self.new) 0 }
+        ensures keeps { Keeps R.value_of self.old self.new }
+        ensures step { Obeys (library_of R.value_of self.old) (state_of self.old) (commands.Command.Attach name.now (words cells.now) (by_of by.entry)) (answer_done result) (state_of self.new) 0 }
     {
         if is_unknown(&self.words, by) {
-            return Reply::Refused(Refusal::NoSuchRelation);
+            return Err(Refusal::NoSuchRelation);
         }
         if self.names.is_missing(cells) {
-            return Reply::Refused(Refusal::NoSuchCell);
+            return Err(Refusal::NoSuchCell);
         }
         let numbers = match self.names.numbers(self.alloc, cells) {
             Ok(numbers) => numbers,
-            Err(AllocError) => return Reply::Refused(Refusal::Memory),
+            Err(AllocError) => return Err(Refusal::Memory),
         };
-        match self.use_on(name, &numbers, by) {
-            Ok(()) => Reply::Done,
-            Err(refusal) => Reply::Refused(refusal),
-        }
+        self.use_on(name, &numbers, by)
     }
 
     /// Puts the procedure or definition of a name between the cells of these numbers, whole or not at all.
     fn use_on(&mut self, name: &str, cells: &[usize], by: By) -> Result<(), Refusal>
         requires sound { IsSound R.value_of self.old }
         requires cells { All (λ c. c < length self.old.network.cells.kinds) cells.now }
-        ensures same { self.new.network.library ≡ self.old.network.library }
-        ensures sound { IsSound R.value_of self.new }
-        ensures steps { steps_of self.new ≡ steps_of self.old }
+        ensures keeps { Keeps R.value_of self.old self.new }
         ensures fits { OnOk result (use_refusal (library_of R.value_of self.old) (state_of self.old) name.now cells.now (by_of by.entry) ≡ None) }
         ensures ok { OnOk result (state_of self.new ≡ with_use (library_of R.value_of self.old) (state_of self.old) cells.now (used (library_of R.value_of self.old) (state_of self.old) name.now cells.now (by_of by.entry))) }
         ensures err { IfErr result (λ e. (use_refusal (library_of R.value_of self.old) (state_of self.old) name.now cells.now (by_of by.entry) ≡ Some e) ⊎ (e ≡ Memory)) }

@@ -3,7 +3,6 @@ ghost use Rattle.std.specs.Prelude.{◌≡◌, IsTrue};
 ghost use Rattle.prop_premises.specs.Origins.{is_user_at, with_belief_at};
 
 use crate::session::Session;
-use prop_engine::Reply;
 use prop_lattice::Refusal;
 use prop_premises::{Premise, Premises};
 use prop_procedures::Rule;
@@ -27,44 +26,32 @@ impl<R: Rule + Drop, O: Order + Drop> Session<R, O> {
     ghost use Rattle.prop_lattice.specs.declared.refusal.Refusal.TheVariants.{Memory, NoSuchPremise};
     ghost use Rattle.prop_premises.specs.Origins.{premise_number, with_belief_at};
     ghost use Rattle.prop_language.specs.Commands as commands;
-    ghost use Rattle.prop_engine.specs.Answers.{answer_of};
-    ghost use Rattle.prop_workbench.specs.Sessions.{state_of, steps_of, library_of, IsSound};
+    ghost use Rattle.prop_engine.specs.Answers.{answer_done};
+    ghost use Rattle.prop_workbench.specs.Sessions.{state_of, library_of, IsSound, Keeps};
     ghost use Rattle.prop_workbench.specs.Steps.{Obeys};
 
     /// The premise with a name is no longer believed.
-    pub(crate) fn kick(&mut self, name: &str) -> Reply
+    pub(crate) fn kick(&mut self, name: &str) -> Result<(), Refusal>
         requires sound { IsSound R.value_of self.old }
-        ensures same { self.new.network.library ≡ self.old.network.library }
-        ensures sound { IsSound R.value_of self.new }
-        ensures steps { steps_of self.new ≡ steps_of self.old }
-        ensures step { Obeys (library_of R.value_of self.old) (state_of self.old) (commands.Command.Kick name.now) (answer_of result) (state_of self.new) 0 }
+        ensures keeps { Keeps R.value_of self.old self.new }
+        ensures step { Obeys (library_of R.value_of self.old) (state_of self.old) (commands.Command.Kick name.now) (answer_done result) (state_of self.new) 0 }
     {
-        match self.believe(name, false) {
-            Ok(()) => Reply::Done,
-            Err(refusal) => Reply::Refused(refusal),
-        }
+        self.believe(name, false)
     }
 
     /// The premise with a name is believed from now on.
-    pub(crate) fn bring(&mut self, name: &str) -> Reply
+    pub(crate) fn bring(&mut self, name: &str) -> Result<(), Refusal>
         requires sound { IsSound R.value_of self.old }
-        ensures same { self.new.network.library ≡ self.old.network.library }
-        ensures sound { IsSound R.value_of self.new }
-        ensures steps { steps_of self.new ≡ steps_of self.old }
-        ensures step { Obeys (library_of R.value_of self.old) (state_of self.old) (commands.Command.Bring name.now) (answer_of result) (state_of self.new) 0 }
+        ensures keeps { Keeps R.value_of self.old self.new }
+        ensures step { Obeys (library_of R.value_of self.old) (state_of self.old) (commands.Command.Bring name.now) (answer_done result) (state_of self.new) 0 }
     {
-        match self.believe(name, true) {
-            Ok(()) => Reply::Done,
-            Err(refusal) => Reply::Refused(refusal),
-        }
+        self.believe(name, true)
     }
 
     /// Changes whether the premise with a name is believed. Where that is a change, every instance waits.
     fn believe(&mut self, name: &str, believed: bool) -> Result<(), Refusal>
         requires sound { IsSound R.value_of self.old }
-        ensures same { self.new.network.library ≡ self.old.network.library }
-        ensures sound { IsSound R.value_of self.new }
-        ensures steps { steps_of self.new ≡ steps_of self.old }
+        ensures keeps { Keeps R.value_of self.old self.new }
         ensures ok { OnOk result ((p : ℕ) × (premise_number self.old.premises name.now ≡ Some p) × (state_of self.new ≡ record (state_of self.old) { premises = with_belief_at self.old.premises p believed })) }
         ensures err { IfErr result (λ e. ((premise_number self.old.premises name.now ≡ None) × (e ≡ NoSuchPremise)) ⊎ (e ≡ Memory)) }
         ensures err_same { OnErr result (state_of self.new ≡ state_of self.old) }

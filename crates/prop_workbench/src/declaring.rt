@@ -7,7 +7,6 @@ ghost use Rattle.prop_workbench.specs.Sessions.{IsSized};
 
 use crate::session::Session;
 use prop_compound::{KindWord, Step};
-use prop_engine::Reply;
 use prop_lattice::{Kind, Refusal};
 use prop_procedures::fitting::span_kinded;
 use prop_procedures::{Kinded, Rule};
@@ -56,23 +55,18 @@ impl<R: Rule + Drop, O: Order + Drop> Session<R, O> {
     ghost use Rattle.prop_lattice.specs.declared.refusal.Refusal.TheVariants.{Memory};
     ghost use Rattle.prop_language.specs.Commands as commands;
     ghost use Rattle.prop_language.specs.Said.{kind_of, words, pairs_of, step_of};
-    ghost use Rattle.prop_engine.specs.Answers.{answer_of};
-    ghost use Rattle.prop_workbench.specs.Sessions.{state_of, steps_of, library_of, IsSound, IsMeant};
+    ghost use Rattle.prop_engine.specs.Answers.{answer_done};
+    ghost use Rattle.prop_workbench.specs.Sessions.{state_of, library_of, IsSound, Keeps, IsMeant};
     ghost use Rattle.prop_workbench.specs.Steps.{Obeys};
 
     /// Declares a domain.
-    pub(crate) fn domain(&mut self, name: &str, elements: &[&str]) -> Reply
+    pub(crate) fn domain(&mut self, name: &str, elements: &[&str]) -> Result<(), Refusal>
         requires sound { IsSound R.value_of self.old }
         requires some { 0 < length elements.now }
-        ensures same { self.new.network.library ≡ self.old.network.library }
-        ensures sound { IsSound R.value_of self.new }
-        ensures steps { steps_of self.new ≡ steps_of self.old }
-        ensures step { Obeys (library_of R.value_of self.old) (state_of self.old) (commands.Command.Domain name.now (words elements.now)) (answer_of result) (state_of self.new) 0 }
+        ensures keeps { Keeps R.value_of self.old self.new }
+        ensures step { Obeys (library_of R.value_of self.old) (state_of self.old) (commands.Command.Domain name.now (words elements.now)) (answer_done result) (state_of self.new) 0 }
     {
-        match self.words.declare_domain(name, elements) {
-            Ok(()) => Reply::Done,
-            Err(refusal) => Reply::Refused(refusal),
-        }
+        self.words.declare_domain(name, elements)
     }
 
     /// Declares a relation.
@@ -82,66 +76,54 @@ impl<R: Rule + Drop, O: Order + Drop> Session<R, O> {
         from: &str,
         to: &str,
         pairs: &[(&[u8], &[u8])],
-    ) -> Reply
+    ) -> Result<(), Refusal>
         requires sound { IsSound R.value_of self.old }
-        ensures same { self.new.network.library ≡ self.old.network.library }
-        ensures sound { IsSound R.value_of self.new }
-        ensures steps { steps_of self.new ≡ steps_of self.old }
-        ensures step { Obeys (library_of R.value_of self.old) (state_of self.old) (commands.Command.Relation name.now from.now to.now (pairs_of pairs.now)) (answer_of result) (state_of self.new) 0 }
+        ensures keeps { Keeps R.value_of self.old self.new }
+        ensures step { Obeys (library_of R.value_of self.old) (state_of self.old) (commands.Command.Relation name.now from.now to.now (pairs_of pairs.now)) (answer_done result) (state_of self.new) 0 }
     {
-        match self.words.declare_relation(name, from, to, pairs) {
-            Ok(()) => Reply::Done,
-            Err(refusal) => Reply::Refused(refusal),
-        }
+        self.words.declare_relation(name, from, to, pairs)
     }
 
     /// Makes a definition.
-    pub(crate) fn define(&mut self, name: &str, params: &[&str], steps: &[Step]) -> Reply
+    pub(crate) fn define(&mut self, name: &str, params: &[&str], steps: &[Step]) -> Result<(), Refusal>
         requires sound { IsSound R.value_of self.old }
-        ensures same { self.new.network.library ≡ self.old.network.library }
-        ensures sound { IsSound R.value_of self.new }
-        ensures steps { steps_of self.new ≡ steps_of self.old }
-        ensures step { Obeys (library_of R.value_of self.old) (state_of self.old) (commands.Command.Define name.now (words params.now) (map step_of steps.now)) (answer_of result) (state_of self.new) 0 }
+        ensures keeps { Keeps R.value_of self.old self.new }
+        ensures step { Obeys (library_of R.value_of self.old) (state_of self.old) (commands.Command.Define name.now (words params.now) (map step_of steps.now)) (answer_done result) (state_of self.new) 0 }
     {
         self.words.domain_count();
-        match self.definitions.define(
+        self.definitions.define(
             self.alloc,
             self.network.library(),
             &self.words,
             name,
             params,
             steps,
-        ) {
-            Ok(()) => Reply::Done,
-            Err(refusal) => Reply::Refused(refusal),
-        }
+        )
     }
 
     /// Makes a cell.
-    pub(crate) fn cell(&mut self, name: &str, kind: KindWord) -> Reply
+    pub(crate) fn cell(&mut self, name: &str, kind: KindWord) -> Result<(), Refusal>
         requires sound { IsSound R.value_of self.old }
-        ensures same { self.new.network.library ≡ self.old.network.library }
-        ensures sound { IsSound R.value_of self.new }
-        ensures steps { steps_of self.new ≡ steps_of self.old }
-        ensures step { Obeys (library_of R.value_of self.old) (state_of self.old) (commands.Command.Cell name.now (kind_of kind.entry)) (answer_of result) (state_of self.new) 0 }
+        ensures keeps { Keeps R.value_of self.old self.new }
+        ensures step { Obeys (library_of R.value_of self.old) (state_of self.old) (commands.Command.Cell name.now (kind_of kind.entry)) (answer_done result) (state_of self.new) 0 }
     {
         match self.names.find(name) {
-            Some(_) => return Reply::Refused(Refusal::NameTaken),
+            Some(_) => return Err(Refusal::NameTaken),
             None => {}
         }
         let kind = match kind_named(&self.words, kind) {
             Some(kind) => kind,
-            None => return Reply::Refused(Refusal::NoSuchDomain),
+            None => return Err(Refusal::NoSuchDomain),
         };
         match self.names.push(self.alloc, name, self.network.cells()) {
             Ok(()) => {}
-            Err(AllocError) => return Reply::Refused(Refusal::Memory),
+            Err(AllocError) => return Err(Refusal::Memory),
         }
         match new_cell(&mut self.network, kind) {
-            Ok(()) => Reply::Done,
+            Ok(()) => Ok(()),
             Err(refusal) => {
                 self.names.pop();
-                Reply::Refused(refusal)
+                Err(refusal)
             }
         }
     }

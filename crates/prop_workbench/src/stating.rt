@@ -9,7 +9,6 @@ ghost use Rattle.prop_workbench.specs.Sessions.{IsKnown};
 
 use crate::session::Session;
 use prop_compound::Value;
-use prop_engine::Reply;
 use prop_lattice::{Info, Kind, Limit, Refusal};
 use prop_premises::Premise;
 use prop_procedures::Rule;
@@ -41,58 +40,36 @@ impl<R: Rule + Drop, O: Order + Drop> Session<R, O> {
     ghost use Rattle.prop_language.specs.Said.{value_of};
     ghost use Rattle.prop_procedures.specs.Fitting.{kind_at};
     ghost use Rattle.prop_cells.specs.Refusing.{may_be_stated, state_refusal};
-    ghost use Rattle.prop_engine.specs.Answers.{answer_of};
+    ghost use Rattle.prop_engine.specs.Answers.{answer_done};
     ghost use Rattle.prop_workbench.specs.Effects.{number_given, name_of, stating, stated, with_meant, info_meant, MayMean};
     ghost use Rattle.prop_values.specs.Said.{meant_of};
     ghost use Rattle.prop_values.specs.Values.{Name};
     ghost use Rattle.prop_vocabulary.specs.Vocabulary.{with_symbol, symbol_number};
     ghost use Rattle.prop_workbench.specs.Refusing.{telling_limit, statement_limit, stating_limit};
-    ghost use Rattle.prop_workbench.specs.Sessions.{state_of, steps_of, library_of, IsSound, IsMeant};
+    ghost use Rattle.prop_workbench.specs.Sessions.{state_of, library_of, IsSound, Keeps, IsMeant};
     ghost use Rattle.prop_workbench.specs.Steps.{Obeys};
 
-    /// States what a value says at a cell, under no premise.
-    pub(crate) fn fix(&mut self, name: &str, value: &Value) -> Reply
-        requires sound { IsSound R.value_of self.old }
-        ensures same { self.new.network.library ≡ self.old.network.library }
-        ensures sound { IsSound R.value_of self.new }
-        ensures steps { steps_of self.new ≡ steps_of self.old }
-        ensures step { Obeys (library_of R.value_of self.old) (state_of self.old) (commands.Command.Fix name.now (value_of value.now)) (answer_of result) (state_of self.new) 0 }
-    {
-        self.say(None, name, value)
-    }
-
-    /// States what a value says at a cell, under the premise with a name, which may be new.
-    pub(crate) fn tell(&mut self, premise: &str, name: &str, value: &Value) -> Reply
-        requires sound { IsSound R.value_of self.old }
-        ensures same { self.new.network.library ≡ self.old.network.library }
-        ensures sound { IsSound R.value_of self.new }
-        ensures steps { steps_of self.new ≡ steps_of self.old }
-        ensures step { Obeys (library_of R.value_of self.old) (state_of self.old) (commands.Command.Tell premise.now name.now (value_of value.now)) (answer_of result) (state_of self.new) 0 }
-    {
-        self.say(Some(premise), name, value)
-    }
-
     /// States what a value says at a cell, under the premise with a name or under none.
-    fn say(&mut self, premise: Option<&str>, name: &str, value: &Value) -> Reply
+    pub(crate) fn say(
+        &mut self,
+        premise: Option<&str>,
+        name: &str,
+        value: &Value,
+    ) -> Result<(), Refusal>
         requires sound { IsSound R.value_of self.old }
-        ensures same { self.new.network.library ≡ self.old.network.library }
-        ensures sound { IsSound R.value_of self.new }
-        ensures steps { steps_of self.new ≡ steps_of self.old }
-        ensures step { Obeys (library_of R.value_of self.old) (state_of self.old) (stating (name_of premise.entry) name.now (value_of value.now)) (answer_of result) (state_of self.new) 0 }
+        ensures keeps { Keeps R.value_of self.old self.new }
+        ensures step { Obeys (library_of R.value_of self.old) (state_of self.old) (stating (name_of premise.entry) name.now (value_of value.now)) (answer_done result) (state_of self.new) 0 }
     {
         let cell = match self.names.find(name) {
             Some(cell) => cell,
-            None => return Reply::Refused(Refusal::NoSuchCell),
+            None => return Err(Refusal::NoSuchCell),
         };
         let kind = self.network.data().kind(cell).kind;
         let meant = match meaning(&self.words, kind, value) {
             Ok(meant) => meant,
-            Err(refusal) => return Reply::Refused(refusal),
+            Err(refusal) => return Err(refusal),
         };
-        match self.state_meant(premise, cell, meant) {
-            Ok(()) => Reply::Done,
-            Err(refusal) => Reply::Refused(refusal),
-        }
+        self.state_meant(premise, cell, meant)
     }
 
     /// States what a value means at a cell. A symbol that it names is new or known.
@@ -105,9 +82,7 @@ impl<R: Rule + Drop, O: Order + Drop> Session<R, O> {
         requires sound { IsSound R.value_of self.old }
         requires cell { cell < length self.old.network.cells.kinds }
         requires may { MayMean (kind_at self.old.network.cells.kinds cell) (meant_of meant) }
-        ensures same { self.new.network.library ≡ self.old.network.library }
-        ensures sound { IsSound R.value_of self.new }
-        ensures steps { steps_of self.new ≡ steps_of self.old }
+        ensures keeps { Keeps R.value_of self.old self.new }
         ensures fits { OnOk result (stating_limit (state_of self.old) (name_of premise.entry) (meant_of meant.entry) ≡ None) }
         ensures ok { OnOk result (state_of self.new ≡ stated (state_of self.old) (name_of premise.entry) cell (with_meant self.old.words (meant_of meant.entry)) (info_meant self.old.words (meant_of meant.entry))) }
         ensures err { IfErr result (λ e. (stating_limit (state_of self.old) (name_of premise.entry) (meant_of meant.entry) ≡ Some e) ⊎ (e ≡ Memory)) }
@@ -129,9 +104,7 @@ impl<R: Rule + Drop, O: Order + Drop> Session<R, O> {
         requires sound { IsSound R.value_of self.old }
         requires cell { cell < length self.old.network.cells.kinds }
         requires may { (kind_at self.old.network.cells.kinds cell).kind ≡ Kind.Symbol }
-        ensures same { self.new.network.library ≡ self.old.network.library }
-        ensures sound { IsSound R.value_of self.new }
-        ensures steps { steps_of self.new ≡ steps_of self.old }
+        ensures keeps { Keeps R.value_of self.old self.new }
         ensures fits { OnOk result (stating_limit (state_of self.old) (name_of premise.entry) (Name symbol.now) ≡ None) }
         ensures ok { OnOk result (state_of self.new ≡ stated (state_of self.old) (name_of premise.entry) cell (with_symbol self.old.words symbol.now) (Info.Sym (symbol_number self.old.words symbol.now))) }
         ensures err { IfErr result (λ e. (stating_limit (state_of self.old) (name_of premise.entry) (Name symbol.now) ≡ Some e) ⊎ (e ≡ Memory)) }
@@ -178,9 +151,7 @@ impl<R: Rule + Drop, O: Order + Drop> Session<R, O> {
         requires sound { IsSound R.value_of self.old }
         requires cell { cell < length self.old.network.cells.kinds }
         requires may { IsTrue (may_be_stated (kind_at self.old.network.cells.kinds cell).kind (kind_at self.old.network.cells.kinds cell).size info) }
-        ensures same { self.new.network.library ≡ self.old.network.library }
-        ensures sound { IsSound R.value_of self.new }
-        ensures steps { steps_of self.new ≡ steps_of self.old }
+        ensures keeps { Keeps R.value_of self.old self.new }
         ensures words { self.new.words ≡ self.old.words }
         ensures fits { OnOk result (statement_limit (state_of self.old) (name_of premise.entry) ≡ None) }
         ensures ok { OnOk result (state_of self.new ≡ stated (state_of self.old) (name_of premise.entry) cell self.old.words info) }
@@ -198,9 +169,7 @@ impl<R: Rule + Drop, O: Order + Drop> Session<R, O> {
         requires sound { IsSound R.value_of self.old }
         requires cell { cell < length self.old.network.cells.kinds }
         requires may { IsTrue (may_be_stated (kind_at self.old.network.cells.kinds cell).kind (kind_at self.old.network.cells.kinds cell).size info) }
-        ensures same { self.new.network.library ≡ self.old.network.library }
-        ensures sound { IsSound R.value_of self.new }
-        ensures steps { steps_of self.new ≡ steps_of self.old }
+        ensures keeps { Keeps R.value_of self.old self.new }
         ensures words { self.new.words ≡ self.old.words }
         ensures fits { OnOk result (telling_limit (state_of self.old) premise.now ≡ None) }
         ensures ok { OnOk result (state_of self.new ≡ record (state_of self.old) { premises = with_name (state_of self.old).premises premise.now; statements = (state_of self.old).statements ++ record { premise = Some (number_given (state_of self.old).premises premise.now); cell = cell; info = info } ∷ [] }) }
@@ -218,9 +187,7 @@ impl<R: Rule + Drop, O: Order + Drop> Session<R, O> {
         requires sound { IsSound R.value_of self.old }
         requires cell { cell < length self.old.network.cells.kinds }
         requires known { (p : ℕ) → premise ≡ Some p → p < length self.old.premises }
-        ensures same { self.new.network.library ≡ self.old.network.library }
-        ensures sound { IsSound R.value_of self.new }
-        ensures steps { steps_of self.new ≡ steps_of self.old }
+        ensures keeps { Keeps R.value_of self.old self.new }
         ensures words { self.new.words ≡ self.old.words }
         ensures fits { OnOk result (state_refusal self.old.network.cells cell info ≡ None) }
         ensures ok { OnOk result (state_of self.new ≡ record (state_of self.old) { statements = (state_of self.old).statements ++ record { premise = premise; cell = cell; info = info } ∷ [] }) }
@@ -244,9 +211,7 @@ impl<R: Rule + Drop, O: Order + Drop> Session<R, O> {
         requires cell { cell < length self.old.network.cells.kinds }
         requires may { IsTrue (may_be_stated (kind_at self.old.network.cells.kinds cell).kind (kind_at self.old.network.cells.kinds cell).size info) }
         requires new { premise_number self.old.premises name.now ≡ None }
-        ensures same { self.new.network.library ≡ self.old.network.library }
-        ensures sound { IsSound R.value_of self.new }
-        ensures steps { steps_of self.new ≡ steps_of self.old }
+        ensures keeps { Keeps R.value_of self.old self.new }
         ensures words { self.new.words ≡ self.old.words }
         ensures fits { OnOk result (telling_limit (state_of self.old) name.now ≡ None) }
         ensures ok { OnOk result (state_of self.new ≡ record (state_of self.old) { premises = with_name (state_of self.old).premises name.now; statements = (state_of self.old).statements ++ record { premise = Some (length self.old.premises); cell = cell; info = info } ∷ [] }) }

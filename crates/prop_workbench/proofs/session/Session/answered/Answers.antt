@@ -12,7 +12,7 @@ use Rattle.prop_workbench.proofs.StepLemmas.{lacks}
 use Rattle.prop_workbench.proofs.session.Session.answered.Goals as goal
 
 pub reply_to-requires-clause-sound : goal.reply_to-requires-clause-sound
-reply_to-requires-clause-sound g c = c.run_network.ensures.sound
+reply_to-requires-clause-sound g c = c.run_network.ensures.keeps.sound
 
 pub reply_to-requires-clause-named : goal.reply_to-requires-clause-named
 reply_to-requires-clause-named g c = subst (λ (t : State). IsNamed t c.args.question) (sym c.run_network.ensures.state) c.requires.named
@@ -23,17 +23,11 @@ reply_to-requires-clause-run g c = c.in-Ok.ensures.run
 pub returns-in-Ok-clause-step : goal.returns-in-Ok-clause-step
 returns-in-Ok-clause-step g c =
     let library = stored_of g.R.Rule.value_of c.args.self.now.network.library in
-    subst (λ (t : State). Obeys library t (command_of c.args.question) (answer_of c.reply_to.result) (state_of c.run_network.new.self) c.in-Ok.steps) c.run_network.ensures.state (rw c.run_network.ensures.same at c.reply_to.ensures.step)
+    subst (λ (t : State). Obeys library t (command_of c.args.question) (answer_of c.reply_to.result) (state_of c.run_network.new.self) c.in-Ok.steps) c.run_network.ensures.state (rw c.run_network.ensures.keeps.library at c.reply_to.ensures.step)
 
 pub returns-in-Ok-clause-lean : goal.returns-in-Ok-clause-lean
 returns-in-Ok-clause-lean g c =
     subst (λ (t : State). IsLeanAnswer c.run_network.new.self.network.cells t (Ok (Some (command_of c.args.question))) (answer_of c.reply_to.result)) c.run_network.ensures.state c.reply_to.ensures.lean
-
-pub returns-in-Ok-clause-sound : goal.returns-in-Ok-clause-sound
-returns-in-Ok-clause-sound g c = c.run_network.ensures.sound
-
-pub returns-in-Err-clause-sound : goal.returns-in-Err-clause-sound
-returns-in-Err-clause-sound g c = c.run_network.ensures.sound
 
 pub returns-in-Err-clause-step : goal.returns-in-Err-clause-step
 returns-in-Err-clause-step g c =
@@ -42,3 +36,9 @@ returns-in-Err-clause-step g c =
 
 pub returns-in-Err-clause-lean : goal.returns-in-Err-clause-lean
 returns-in-Err-clause-lean g c = lean_refused c.run_network.new.self.network.cells (state_of c.args.self.now) c.args.question Memory
+
+pub returns-in-Ok-clause-keeps : goal.returns-in-Ok-clause-keeps
+returns-in-Ok-clause-keeps g c = c.run_network.ensures.keeps
+
+pub returns-in-Err-clause-keeps : goal.returns-in-Err-clause-keeps
+returns-in-Err-clause-keeps g c = c.run_network.ensures.keeps

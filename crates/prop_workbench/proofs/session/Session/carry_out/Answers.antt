@@ -5,65 +5,98 @@ use Rattle.prop_workbench.proofs.session.Session.carry_out.Goals as goal
 pub domain-requires-clause-some : goal.domain-requires-clause-some
 domain-requires-clause-some g c = rw c.deref.ensures.value (some_elements c.in-Domain.name.now c.in-Domain.elements.items (rw c.in-Domain.is at c.requires.some))
 
+pub returns-in-Silent-clause-keeps : goal.returns-in-Silent-clause-keeps
+returns-in-Silent-clause-keeps g c = record { library = refl; sound = c.requires.sound; steps = refl }
+
 pub returns-in-Silent-clause-step : goal.returns-in-Silent-clause-step
 returns-in-Silent-clause-step g c = rw c.in-Silent.is (refl, refl, refl)
 
 pub returns-in-Silent-clause-lean : goal.returns-in-Silent-clause-lean
 returns-in-Silent-clause-lean g c = rw c.in-Silent.is tt
 
+pub returns-in-Domain-clause-keeps : goal.returns-in-Domain-clause-keeps
+returns-in-Domain-clause-keeps g c = c.domain.ensures.keeps
+
 pub returns-in-Domain-clause-step : goal.returns-in-Domain-clause-step
-returns-in-Domain-clause-step g c = rw (c.in-Domain.is, ← c.deref.ensures.value) c.domain.ensures.step
+returns-in-Domain-clause-step g c = rw (c.in-Domain.is, c.of.ensures, ← c.deref.ensures.value) c.domain.ensures.step
 
 pub returns-in-Domain-clause-lean : goal.returns-in-Domain-clause-lean
 returns-in-Domain-clause-lean g c = rw c.in-Domain.is tt
 
+pub returns-in-Relation-clause-keeps : goal.returns-in-Relation-clause-keeps
+returns-in-Relation-clause-keeps g c = c.relation.ensures.keeps
+
 pub returns-in-Relation-clause-step : goal.returns-in-Relation-clause-step
-returns-in-Relation-clause-step g c = rw (c.in-Relation.is, ← c.deref-in-Relation.ensures.value) c.relation.ensures.step
+returns-in-Relation-clause-step g c = rw (c.in-Relation.is, c.of-in-Relation.ensures, ← c.deref-in-Relation.ensures.value) c.relation.ensures.step
 
 pub returns-in-Relation-clause-lean : goal.returns-in-Relation-clause-lean
 returns-in-Relation-clause-lean g c = rw c.in-Relation.is tt
 
+pub returns-in-Cell-clause-keeps : goal.returns-in-Cell-clause-keeps
+returns-in-Cell-clause-keeps g c = c.cell.ensures.keeps
+
 pub returns-in-Cell-clause-step : goal.returns-in-Cell-clause-step
-returns-in-Cell-clause-step g c = rw c.in-Cell.is c.cell.ensures.step
+returns-in-Cell-clause-step g c = rw (c.in-Cell.is, c.of-in-Cell.ensures) c.cell.ensures.step
 
 pub returns-in-Cell-clause-lean : goal.returns-in-Cell-clause-lean
 returns-in-Cell-clause-lean g c = rw c.in-Cell.is tt
 
+pub returns-in-Define-clause-keeps : goal.returns-in-Define-clause-keeps
+returns-in-Define-clause-keeps g c = c.define.ensures.keeps
+
 pub returns-in-Define-clause-step : goal.returns-in-Define-clause-step
-returns-in-Define-clause-step g c = rw (c.in-Define.is, ← c.deref-in-Define.ensures.value, ← c.deref-in-Define-2.ensures.value) c.define.ensures.step
+returns-in-Define-clause-step g c = rw (c.in-Define.is, c.of-in-Define.ensures, ← c.deref-in-Define.ensures.value, ← c.deref-in-Define-2.ensures.value) c.define.ensures.step
 
 pub returns-in-Define-clause-lean : goal.returns-in-Define-clause-lean
 returns-in-Define-clause-lean g c = rw c.in-Define.is tt
 
+pub returns-in-Attach-clause-keeps : goal.returns-in-Attach-clause-keeps
+returns-in-Attach-clause-keeps g c = c.attach.ensures.keeps
+
 pub returns-in-Attach-clause-step : goal.returns-in-Attach-clause-step
-returns-in-Attach-clause-step g c = rw (c.in-Attach.is, ← c.deref-in-Attach.ensures.value) c.attach.ensures.step
+returns-in-Attach-clause-step g c = rw (c.in-Attach.is, c.of-in-Attach.ensures, ← c.deref-in-Attach.ensures.value) c.attach.ensures.step
 
 pub returns-in-Attach-clause-lean : goal.returns-in-Attach-clause-lean
 returns-in-Attach-clause-lean g c = rw c.in-Attach.is tt
 
+pub returns-in-Fix-clause-keeps : goal.returns-in-Fix-clause-keeps
+returns-in-Fix-clause-keeps g c = c.say.ensures.keeps
+
 pub returns-in-Fix-clause-step : goal.returns-in-Fix-clause-step
-returns-in-Fix-clause-step g c = rw c.in-Fix.is c.fix.ensures.step
+returns-in-Fix-clause-step g c = rw (c.in-Fix.is, c.of-in-Fix.ensures) c.say.ensures.step
 
 pub returns-in-Fix-clause-lean : goal.returns-in-Fix-clause-lean
 returns-in-Fix-clause-lean g c = rw c.in-Fix.is tt
 
+pub returns-in-Tell-clause-keeps : goal.returns-in-Tell-clause-keeps
+returns-in-Tell-clause-keeps g c = c.say-in-Tell.ensures.keeps
+
 pub returns-in-Tell-clause-step : goal.returns-in-Tell-clause-step
-returns-in-Tell-clause-step g c = rw c.in-Tell.is c.tell.ensures.step
+returns-in-Tell-clause-step g c = rw (c.in-Tell.is, c.of-in-Tell.ensures) c.say-in-Tell.ensures.step
 
 pub returns-in-Tell-clause-lean : goal.returns-in-Tell-clause-lean
 returns-in-Tell-clause-lean g c = rw c.in-Tell.is tt
 
+pub returns-in-Kick-clause-keeps : goal.returns-in-Kick-clause-keeps
+returns-in-Kick-clause-keeps g c = c.kick.ensures.keeps
+
 pub returns-in-Kick-clause-step : goal.returns-in-Kick-clause-step
-returns-in-Kick-clause-step g c = rw c.in-Kick.is c.kick.ensures.step
+returns-in-Kick-clause-step g c = rw (c.in-Kick.is, c.of-in-Kick.ensures) c.kick.ensures.step
 
 pub returns-in-Kick-clause-lean : goal.returns-in-Kick-clause-lean
 returns-in-Kick-clause-lean g c = rw c.in-Kick.is tt
 
+pub returns-in-Bring-clause-keeps : goal.returns-in-Bring-clause-keeps
+returns-in-Bring-clause-keeps g c = c.bring.ensures.keeps
+
 pub returns-in-Bring-clause-step : goal.returns-in-Bring-clause-step
-returns-in-Bring-clause-step g c = rw c.in-Bring.is c.bring.ensures.step
+returns-in-Bring-clause-step g c = rw (c.in-Bring.is, c.of-in-Bring.ensures) c.bring.ensures.step
 
 pub returns-in-Bring-clause-lean : goal.returns-in-Bring-clause-lean
 returns-in-Bring-clause-lean g c = rw c.in-Bring.is tt
+
+pub returns-in-Settle-clause-keeps : goal.returns-in-Settle-clause-keeps
+returns-in-Settle-clause-keeps g c = c.answered.ensures.keeps
 
 pub returns-in-Settle-clause-step : goal.returns-in-Settle-clause-step
 returns-in-Settle-clause-step g c = rw c.in-Settle.is c.answered.ensures.step
@@ -71,17 +104,26 @@ returns-in-Settle-clause-step g c = rw c.in-Settle.is c.answered.ensures.step
 pub returns-in-Settle-clause-lean : goal.returns-in-Settle-clause-lean
 returns-in-Settle-clause-lean g c = rw c.in-Settle.is tt
 
+pub returns-in-Ask-clause-keeps : goal.returns-in-Ask-clause-keeps
+returns-in-Ask-clause-keeps g c = c.ask.ensures.keeps
+
 pub returns-in-Ask-clause-step : goal.returns-in-Ask-clause-step
 returns-in-Ask-clause-step g c = rw c.in-Ask.is c.ask.ensures.step
 
 pub returns-in-Ask-clause-lean : goal.returns-in-Ask-clause-lean
 returns-in-Ask-clause-lean g c = rw c.in-Ask.is tt
 
+pub returns-in-Why-clause-keeps : goal.returns-in-Why-clause-keeps
+returns-in-Why-clause-keeps g c = c.why.ensures.keeps
+
 pub returns-in-Why-clause-step : goal.returns-in-Why-clause-step
 returns-in-Why-clause-step g c = rw c.in-Why.is c.why.ensures.step
 
 pub returns-in-Why-clause-lean : goal.returns-in-Why-clause-lean
 returns-in-Why-clause-lean g c = rw c.in-Why.is c.why.ensures.lean
+
+pub returns-in-Worldview-clause-keeps : goal.returns-in-Worldview-clause-keeps
+returns-in-Worldview-clause-keeps g c = c.answered-in-Worldview.ensures.keeps
 
 pub returns-in-Worldview-clause-step : goal.returns-in-Worldview-clause-step
 returns-in-Worldview-clause-step g c = rw c.in-Worldview.is c.answered-in-Worldview.ensures.step

@@ -1,18 +1,38 @@
-use Rattle.std.proofs.Common.{refl}
+use Rattle.std.proofs.Common.{All, refl}
+use Rattle.std.proofs.lemmas.Result.{on_ok_weaker, on_err_weaker}
 use Rattle.prop_language.specs.Commands as commands
 use Rattle.prop_language.specs.Said.{words}
 use Rattle.prop_procedures.specs.Kept.{stored_of}
-use Rattle.prop_workbench.specs.Sessions.{state_of}
-use Rattle.prop_workbench.proofs.StepLemmas.{obeys, refuses_or_lacks}
+use Rattle.prop_vocabulary.specs.Vocabulary.{Vocabulary, with_domain}
+use Rattle.prop_workbench.specs.Sessions.{state_of, IsSized, AreLocalsOf}
+use Rattle.prop_workbench.proofs.SoundLemmas.{made_or_not}
+use Rattle.prop_workbench.proofs.StepLemmas.{obeys_done}
+use Rattle.prop_workbench.proofs.WordLemmas.{sized_more, locals_more}
 use Rattle.prop_workbench.proofs.session.Session.domain.Goals as goal
 
-pub returns-in-Ok-clause-step : goal.returns-in-Ok-clause-step
-returns-in-Ok-clause-step g c =
+pub returns-clause-keeps : goal.returns-clause-keeps
+returns-clause-keeps g c =
     let s = c.args.self.now in
-    obeys (stored_of g.R.Rule.value_of s.network.library) (state_of s) _ (commands.Command.Domain c.args.name.now (words c.args.elements.now)) _ 0 c.in-Ok.ensures.allowed
-    (record { answer_is = refl; new_is = λ i. record (state_of s) { words = c.in-Ok.ensures.ok i }; no_steps = refl })
+    let made = with_domain s.words c.args.name.now (words c.args.elements.now) in
+    let r = c.declare_domain.result in
+    record {
+      library = refl;
+      sound = record {
+        under_way = c.requires.sound.under_way;
+        worldview = c.requires.sound.worldview;
+        known = c.requires.sound.known;
+        sized = made_or_not (λ (w : Vocabulary). All (IsSized w) s.network.cells.kinds) s.words c.declare_domain.new.self made r c.declare_domain.ensures.ok c.declare_domain.ensures.err c.requires.sound.sized (sized_more s.words c.args.name.now (words c.args.elements.now) s.network.cells.kinds c.requires.sound.sized);
+        locals = made_or_not (λ (w : Vocabulary). AreLocalsOf (IsSized w) s.definitions) s.words c.declare_domain.new.self made r c.declare_domain.ensures.ok c.declare_domain.ensures.err c.requires.sound.locals (locals_more s.words c.args.name.now (words c.args.elements.now) s.definitions c.requires.sound.locals);
+        named = c.requires.sound.named;
+        defined = c.requires.sound.defined;
+        roomy = c.requires.sound.roomy;
+      };
+      steps = refl;
+    }
 
-pub returns-in-Err-clause-step : goal.returns-in-Err-clause-step
-returns-in-Err-clause-step g c =
+pub returns-clause-step : goal.returns-clause-step
+returns-clause-step g c =
     let s = c.args.self.now in
-    refuses_or_lacks (stored_of g.R.Rule.value_of s.network.library) (state_of s) _ (commands.Command.Domain c.args.name.now (words c.args.elements.now)) c.in-Err.refusal c.in-Err.ensures.why (λ i. record (state_of s) { words = c.in-Err.ensures.err i })
+    obeys_done (stored_of g.R.Rule.value_of s.network.library) (state_of s) _ (commands.Command.Domain c.args.name.now (words c.args.elements.now)) c.declare_domain.result c.declare_domain.ensures.allowed
+    (on_ok_weaker c.declare_domain.result (λ e. record { answer_is = refl; new_is = λ i. record (state_of s) { words = e i }; no_steps = refl }) c.declare_domain.ensures.ok) c.declare_domain.ensures.why
+    (on_err_weaker c.declare_domain.result (λ e i. record (state_of s) { words = e i }) c.declare_domain.ensures.err)

@@ -29,3 +29,9 @@ returns-in-None-clause-err g c =
     let s = c.args.self.now in
     let same = sym (state_limited s.network.cells c.args.cell c.args.info c.requires.cell c.requires.may) in
     rw c.in-None.is (IfErr-weaker c.state.result _ _ (λ e h. same_refusal _ _ e same h) c.state.ensures.err)
+
+pub returns-in-Some-clause-keeps : goal.returns-in-Some-clause-keeps
+returns-in-Some-clause-keeps g c = c.state_told.ensures.keeps
+
+pub returns-in-None-clause-keeps : goal.returns-in-None-clause-keeps
+returns-in-None-clause-keeps g c = c.state.ensures.keeps

@@ -18,11 +18,15 @@ returns-in-Some-clause-err g c =
 
 -- ---- the symbol is refused
 
-pub returns-in-Err-clause-sound : goal.returns-in-Err-clause-sound
-returns-in-Err-clause-sound g c =
-    let sound = c.requires.sound in
-    let same = c.in-Err.ensures.err in
-    record { under_way = sound.under_way; worldview = sound.worldview; known = sound.known; sized = rw same sound.sized; locals = rw same sound.locals; named = sound.named; defined = sound.defined; roomy = sound.roomy }
+pub returns-in-Err-clause-keeps : goal.returns-in-Err-clause-keeps
+returns-in-Err-clause-keeps g c = record {
+  library = refl;
+  sound =
+      let sound = c.requires.sound in
+      let same = c.in-Err.ensures.err in
+      record { under_way = sound.under_way; worldview = sound.worldview; known = sound.known; sized = rw same sound.sized; locals = rw same sound.locals; named = sound.named; defined = sound.defined; roomy = sound.roomy };
+  steps = refl;
+}
 
 pub returns-in-Err-clause-err : goal.returns-in-Err-clause-err
 returns-in-Err-clause-err g c =
@@ -68,22 +72,26 @@ returns-in-Ok-state_said-clause-ok g c =
 
 -- ---- the statement is refused
 
-pub returns-in-Err-state_said-clause-sound : goal.returns-in-Err-state_said-clause-sound
-returns-in-Err-state_said-clause-sound g c =
-    let said = c.state_said.new.self in
-    let words = c.keep_symbols.new.self in
-    let sound = c.state_said.ensures.sound in
-    let same : words.domains ≡ said.words.domains = ap (λ w. w.domains) c.keep_symbols.ensures in
-    record {
-      under_way = sound.under_way;
-      worldview = sound.worldview;
-      known = sound.known;
-      sized = sized_same said.words words said.network.cells.kinds same sound.sized;
-      locals = locals_same said.words words said.definitions same sound.locals;
-      named = sound.named;
-      defined = sound.defined;
-      roomy = sound.roomy;
-    }
+pub returns-in-Err-state_said-clause-keeps : goal.returns-in-Err-state_said-clause-keeps
+returns-in-Err-state_said-clause-keeps g c = record {
+  library = c.state_said.ensures.keeps.library;
+  sound =
+      let said = c.state_said.new.self in
+      let words = c.keep_symbols.new.self in
+      let sound = c.state_said.ensures.keeps.sound in
+      let same : words.domains ≡ said.words.domains = ap (λ w. w.domains) c.keep_symbols.ensures in
+      record {
+        under_way = sound.under_way;
+        worldview = sound.worldview;
+        known = sound.known;
+        sized = sized_same said.words words said.network.cells.kinds same sound.sized;
+        locals = locals_same said.words words said.definitions same sound.locals;
+        named = sound.named;
+        defined = sound.defined;
+        roomy = sound.roomy;
+      };
+  steps = c.state_said.ensures.keeps.steps;
+}
 
 pub returns-in-Err-state_said-clause-err : goal.returns-in-Err-state_said-clause-err
 returns-in-Err-state_said-clause-err g c =
@@ -96,3 +104,9 @@ returns-in-Err-state_said-clause-err_same g c =
     let n = c.symbol_count-count.result in
     let back : c.keep_symbols.new.self ≡ s.words = c.keep_symbols.ensures ∙ ap (λ w. with_first_symbols w n) (c.state_said.ensures.words ∙ c.in-Ok.ensures.ok) ∙ ap (with_first_symbols _) c.symbol_count-count.ensures ∙ symbol_back s.words c.args.symbol.now in
     λ i. record (c.in-Err-state_said.ensures.err_same i) { words = back i }
+
+pub returns-in-Some-clause-keeps : goal.returns-in-Some-clause-keeps
+returns-in-Some-clause-keeps g c = record { library = refl; sound = c.requires.sound; steps = refl }
+
+pub returns-in-Ok-state_said-clause-keeps : goal.returns-in-Ok-state_said-clause-keeps
+returns-in-Ok-state_said-clause-keeps g c = record { library = c.state_said.ensures.keeps.library; sound = c.state_said.ensures.keeps.sound; steps = c.state_said.ensures.keeps.steps }

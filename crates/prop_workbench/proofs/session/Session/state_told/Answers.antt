@@ -39,3 +39,9 @@ pub returns-in-Err-clause-ok : goal.returns-in-Err-clause-ok
 returns-in-Err-clause-ok g c =
     let s = c.args.self.now in
     on_ok_weaker c.state_under_new.result (told_new (state_of s) (state_of c.state_under_new.new.self) c.args.premise.now c.args.cell c.args.info c.in-Err.ensures.found.1) c.state_under_new.ensures.ok
+
+pub returns-in-Ok-clause-keeps : goal.returns-in-Ok-clause-keeps
+returns-in-Ok-clause-keeps g c = c.state.ensures.keeps
+
+pub returns-in-Err-clause-keeps : goal.returns-in-Err-clause-keeps
+returns-in-Err-clause-keeps g c = c.state_under_new.ensures.keeps

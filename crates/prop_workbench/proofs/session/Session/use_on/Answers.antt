@@ -7,7 +7,8 @@ use Rattle.prop_language.specs.Said.{by_of}
 use Rattle.prop_scheduler.specs.Making.{with_flat}
 use Rattle.prop_workbench.specs.Refusing.{given_by}
 use Rattle.prop_workbench.specs.Sessions.{state_of, state_from, AreKnown, IsSized}
-use Rattle.prop_workbench.proofs.AttachLemmas.{may_make, made_or_not, sized_made, named_made, state_made}
+use Rattle.prop_workbench.proofs.AttachLemmas.{may_make, sized_made, named_made, state_made}
+use Rattle.prop_workbench.proofs.SoundLemmas.{made_or_not}
 use Rattle.prop_workbench.proofs.RefusedLemmas.{unexpanded, no_room, with_room}
 use Rattle.prop_workbench.proofs.session.Session.use_on.Goals as goal
 
@@ -21,32 +22,30 @@ make-requires-clause-may g c =
     let s = c.args.self.now in
     may_make (stored_of g.R.Rule.value_of s.network.library) s.words s.definitions s.network.cells c.args.name.now c.args.cells.now (given_by s.words (by_of c.args.by)) c.in-Ok.flat c.requires.cells c.in-Ok.ensures.fits c.in-Ok.ensures.ok c.in-Ok.ensures.safe
 
-pub returns-in-Ok-clause-same : goal.returns-in-Ok-clause-same
-returns-in-Ok-clause-same g c = c.make.ensures.same
-
-pub returns-in-Ok-clause-sound : goal.returns-in-Ok-clause-sound
-returns-in-Ok-clause-sound g c =
-    let s = c.args.self.now in
-    let d = s.network.cells in
-    let new = c.make.new.network.cells in
-    let cells = c.args.cells.now in
-    let library = stored_of g.R.Rule.value_of s.network.library in
-    let made = with_flat library d cells c.in-Ok.flat in
-    let was = c.requires.sound in
-    record {
-      under_way = c.make.ensures.under_way (believed_in s.premises) was.under_way;
-      worldview = was.worldview;
-      known = made_or_not (λ (x : Data). AreKnown (length s.premises) x.statements) d new made c.make.result c.make.ensures.ok c.make.ensures.err_same was.known was.known;
-      sized = made_or_not (λ (x : Data). All (IsSized s.words) x.kinds) d new made c.make.result c.make.ensures.ok c.make.ensures.err_same was.sized
-          (sized_made library s.words s.definitions d c.args.name.now cells (given_by s.words (by_of c.args.by)) c.in-Ok.flat c.in-Ok.ensures.ok was.sized was.locals);
-      locals = was.locals;
-      named = made_or_not (λ (x : Data). All (λ cell. cell < length x.kinds) s.names.cells) d new made c.make.result c.make.ensures.ok c.make.ensures.err_same was.named (named_made s.names.cells d.kinds c.in-Ok.flat.fresh.items was.named);
-      defined = rw c.make.ensures.same was.defined;
-      roomy = c.make.ensures.room was.roomy;
-    }
-
-pub returns-in-Ok-clause-steps : goal.returns-in-Ok-clause-steps
-returns-in-Ok-clause-steps g c = refl
+pub returns-in-Ok-clause-keeps : goal.returns-in-Ok-clause-keeps
+returns-in-Ok-clause-keeps g c = record {
+  library = c.make.ensures.same;
+  sound =
+      let s = c.args.self.now in
+      let d = s.network.cells in
+      let new = c.make.new.network.cells in
+      let cells = c.args.cells.now in
+      let library = stored_of g.R.Rule.value_of s.network.library in
+      let made = with_flat library d cells c.in-Ok.flat in
+      let was = c.requires.sound in
+      record {
+        under_way = c.make.ensures.under_way (believed_in s.premises) was.under_way;
+        worldview = was.worldview;
+        known = made_or_not (λ (x : Data). AreKnown (length s.premises) x.statements) d new made c.make.result c.make.ensures.ok c.make.ensures.err_same was.known was.known;
+        sized = made_or_not (λ (x : Data). All (IsSized s.words) x.kinds) d new made c.make.result c.make.ensures.ok c.make.ensures.err_same was.sized
+            (sized_made library s.words s.definitions d c.args.name.now cells (given_by s.words (by_of c.args.by)) c.in-Ok.flat c.in-Ok.ensures.ok was.sized was.locals);
+        locals = was.locals;
+        named = made_or_not (λ (x : Data). All (λ cell. cell < length x.kinds) s.names.cells) d new made c.make.result c.make.ensures.ok c.make.ensures.err_same was.named (named_made s.names.cells d.kinds c.in-Ok.flat.fresh.items was.named);
+        defined = rw c.make.ensures.same was.defined;
+        roomy = c.make.ensures.room was.roomy;
+      };
+  steps = refl;
+}
 
 pub returns-in-Ok-clause-fits : goal.returns-in-Ok-clause-fits
 returns-in-Ok-clause-fits g c =
@@ -79,8 +78,8 @@ expanded-requires-clause-sound g c = c.requires.sound
 pub expanded-requires-clause-cells : goal.expanded-requires-clause-cells
 expanded-requires-clause-cells g c = c.requires.cells
 
-pub returns-in-Err-clause-sound : goal.returns-in-Err-clause-sound
-returns-in-Err-clause-sound g c = c.requires.sound
+pub returns-in-Err-clause-keeps : goal.returns-in-Err-clause-keeps
+returns-in-Err-clause-keeps g c = record { library = refl; sound = c.requires.sound; steps = refl }
 
 pub returns-in-Err-clause-err : goal.returns-in-Err-clause-err
 returns-in-Err-clause-err g c =

@@ -9,10 +9,13 @@ use Rattle.prop_workbench.proofs.session.Session.why.Goals as goal
 pub answered-requires-clause-named : goal.answered-requires-clause-named
 answered-requires-clause-named g c = sym c.in-Some.ensures.number
 
-pub returns-in-None-clause-sound : goal.returns-in-None-clause-sound
-returns-in-None-clause-sound g c = c.requires.sound
-
 pub returns-in-None-clause-step : goal.returns-in-None-clause-step
 returns-in-None-clause-step g c =
     let s = c.args.self.now in
     refuses (stored_of g.R.Rule.value_of s.network.library) (state_of s) (state_of s) (commands.Command.Why c.args.name.now) _ (nowhere_why (stored_of g.R.Rule.value_of s.network.library) (state_of s) c.args.name.now (sym c.in-None.ensures.number)) refl
+
+pub returns-in-None-clause-keeps : goal.returns-in-None-clause-keeps
+returns-in-None-clause-keeps g c = record { library = refl; sound = c.requires.sound; steps = refl }
+
+pub returns-in-Some-clause-keeps : goal.returns-in-Some-clause-keeps
+returns-in-Some-clause-keeps g c = c.answered.ensures.keeps
