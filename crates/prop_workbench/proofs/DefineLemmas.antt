@@ -1,10 +1,11 @@
 -- Making a definition: its locals are of kinds that are there.
-use Rattle.std.proofs.Common.{◌≡◌, ℕ, ◌<◌, ◌+◌, Bool, true, false, List, [], ◌∷◌, Option, Some, None, All, map, length, is_none, unwrap_or, ◌⊎◌, refl, arith}
+use Rattle.std.proofs.Common.{◌≡◌, ℕ, ◌<◌, ◌+◌, Bool, true, false, List, [], ◌∷◌, Option, Some, None, Result, Ok, Err, All, map, length, is_none, unwrap_or, refl, arith}
+use Rattle.std.specs.Prelude.{⊤, OnOk, OnErr}
 use Rattle.std.specs.List.{list_any}
 use Rattle.std.specs.Option.{option_map}
 use Rattle.std.proofs.lemmas.List.Elements.{All-cons, All-nil, All-push}
 use Rattle.prop_lattice.specs.declared.refusal.Refusal.{Refusal}
-use Rattle.prop_lattice.specs.declared.refusal.Refusal.TheVariants.{NoSuchDomain, Memory}
+use Rattle.prop_lattice.specs.declared.refusal.Refusal.TheVariants.{NoSuchDomain}
 use Rattle.prop_procedures.specs.Stored.{Stored}
 use Rattle.prop_vocabulary.specs.Names.{number_in}
 use Rattle.prop_vocabulary.specs.Refusing.{when, first_of}
@@ -13,11 +14,6 @@ use Rattle.prop_vocabulary.proofs.Lookups.{number_below, or_false}
 use Rattle.prop_language.specs.Commands.{KindWord, Spans, Truths, Symbols, Named, Step}
 use Rattle.prop_compound.specs.Definitions.{Definition, Definitions}
 use Rattle.prop_compound.specs.Defining.{domain_kind, step_numbered, scope_of, definition_of, with_definition, is_nowhere, define_refusal}
-use Rattle.prop_language.specs.Commands as commands
-use Rattle.prop_engine.specs.Answers.{Done, Refused}
-use Rattle.prop_workbench.specs.Machine.{State}
-use Rattle.prop_workbench.specs.Steps.{Obeys}
-use Rattle.prop_workbench.proofs.StepLemmas.{obeys, refuses_or_lacks}
 use Rattle.prop_workbench.specs.Sessions.{IsSized, IsLocalOf, AreLocalsOf}
 
 module _ (words : Vocabulary) (whole : IsWhole words) where
