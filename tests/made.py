@@ -41,6 +41,39 @@ def large_uses():
     )
 
 
+def linked(name, params, first, links, passed=""):
+    """A definition that does this first, and so many more, each of which does nothing but use the one before on its parameters from the
+    last to the first, and passes this."""
+    lines = [f"define {name}0 {' '.join(params)} = {first}"]
+    return lines + [f"define {name}{n + 1} {' '.join(params)} = {name}{n} {' '.join(params[::-1])}{passed}" for n in range(links)]
+
+
+def long_ways():
+    """Uses that go down through 1,000 definitions cost no more than what they make."""
+    params = " ".join(f"p{n}" for n in range(60))
+    cells = [f"c{n}" for n in range(60)]
+    lines = linked("d", params.split(), "copier p0 p59", 982) + [f"define w0 {params} = d982 {params}"]
+    lines += [f"define w{n + 1} {params} = w{n} {params} ; w{n} {params}" for n in range(17)]
+    lines += [f"cell {cell} span" for cell in cells] + [f"attach w17 {' '.join(cells)}", "fix c0 7"]
+    yield Case(
+        "long ways: 131,072 instances, each down through 1,000 definitions",
+        sent(*lines, "ask c59", "ask c58"),
+        answered(len(lines), "c59 = 7", "c58 = nothing"),
+    )
+    lines = linked("d", ["x", "y", "z"], "adder x y z", 999) + [f"cell {cell} span" for cell in "abce"]
+    lines += ["attach d999 a b c", "attach d998 c c e", "fix b 2", "fix c 3"]
+    yield Case("long ways: which cell is which", sent(*lines, "ask a", "ask e"), answered(len(lines), "a = 5", "e = 6"))
+    lines = linked("m", ["x", "y", "z"], "multiplier x y z by *", 500, " by *") + linked("n", ["x", "y", "z"], "m500 x y z", 50)
+    lines += linked("k", ["x", "y"], "copier x y", 1, " by 2") + linked("l", ["x", "y"], "k1 x y", 400)
+    lines += [f"cell {cell} span" for cell in "abc"] + ["attach m500 a b c by 10", "fix a 60", "fix b 7"]
+    wrong = "error 14: wrong parameter"
+    yield Case(
+        "long ways: what is passed, and where nobody takes it",
+        sent(*lines, "attach n50 a b c by 10", "attach l400 a b", "attach n50 a b c by 0", "ask c", "attach k0 a b", "attach k0 a b by 2"),
+        answered(len(lines), wrong, wrong, "error 6: not a number in range", "c = 42", "ok", wrong),
+    )
+
+
 def limits():
     """Each limit: what stands before, a line for each number below the limit, and one too many, which is refused and changes nothing."""
     elements = [f"e{n}" for n in range(65)]
@@ -120,6 +153,7 @@ def prelude():
 
 def cases():
     yield from large_uses()
+    yield from long_ways()
     yield from limits()
     yield from line_lengths()
     yield from command_lines()

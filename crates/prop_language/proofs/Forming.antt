@@ -322,9 +322,9 @@ elements_refused ts elements n refusal d (inl memory) = inl memory
 elements_refused ts elements n refusal d (inr h) =
     inr (ap command_in_form d ∙ unnamed (n ∷ front_words elements) true (Some (Command.Domain n (front_words elements))) refusal h)
 
-pub domain_read : (ts elements : List Token) (n n' : List ℕ) (es : List (List ℕ)) → domain ts ≡ Some (Command.Domain n (front_words elements)) → (n' ≡ n) × (is_name n ≡ true) → (es ≡ front_words elements) × (list_all is_name (front_words elements) ≡ true) → command_in_form (domain ts) ≡ Ok (Some (Command.Domain n' es))
-domain_read ts elements n n' es d u v =
-    ap command_in_form d ∙ all_named (n ∷ front_words elements) (Some (Command.Domain n (front_words elements))) (both_named n (front_words elements) u.1 v.1) ∙ ap (λ m. Ok (Some (Command.Domain m (front_words elements)))) (sym u.0) ∙ ap (λ l. Ok (Some (Command.Domain n' l))) (sym v.0)
+pub domain_read : (ts elements : List Token) (n : List ℕ) → domain ts ≡ Some (Command.Domain n (front_words elements)) → list_all is_name (n ∷ front_words elements) ≡ true → command_in_form (domain ts) ≡ Ok (Some (Command.Domain n (front_words elements)))
+domain_read ts elements n d h =
+    ap command_in_form d ∙ all_named (n ∷ front_words elements) (Some (Command.Domain n (front_words elements))) h
 
 -- the refusal of an element among others
 pub element_refused : (xs : List (List ℕ)) (y : List ℕ) (ts rest : List Token) (all : List (List ℕ)) (refusal : Refusal) → ts ≡ Word y ∷ rest → xs ++ front_words ts ≡ all → (refusal ≡ Memory) ⊎ ((refusal ≡ NotAName) × (is_name y ≡ false)) → (refusal ≡ Memory) ⊎ ((refusal ≡ NotAName) × (list_all is_name all ≡ false))

@@ -1,7 +1,7 @@
 -- A form reads just the commands that the tokens spell.
-use Rattle.std.proofs.Common.{◌≡◌, ◌≢◌, ℕ, List, [], ◌∷◌, ◌++◌, Bool, true, false, cond, refl, sym, ◌∙◌, ap, subst, Some, None, map, append-nil, append_assoc, inl, inr, ap₂}
+use Rattle.std.proofs.Common.{◌≡◌, ◌≢◌, ℕ, List, [], ◌∷◌, ◌++◌, Bool, true, false, cond, refl, sym, ◌∙◌, ap, subst, Some, None, map, append-nil, append_assoc, inl, inr}
 use Rattle.std.specs.Bool.{Decides}
-use Rattle.std.specs.Prelude.{Option, ◌⊎◌, bytes_eq, codes, find, pos, ◌&&◌}
+use Rattle.std.specs.Prelude.{Option, bytes_eq, codes, find, pos, ◌&&◌}
 use Rattle.std.specs.Option.{option_map, option_and_then, option_or}
 use Rattle.std.specs.List.{AllByRecursion, slice_split, onto_first}
 use Rattle.std.proofs.lemmas.Slice.Eq.{bytes_eq-Decides}

@@ -1,25 +1,27 @@
 -- What the parts of a definition make together.
-use Rattle.std.proofs.Common.{◌≡◌, ℕ, ◌+◌, ◌<◌, List, [], ◌∷◌, ◌++◌, length, take, drop, map, Bool, true, false, cond, refl, sym, ◌∙◌, ap, subst, arith, suc, Some, None, Ok, Err, inl, inr}
+use Rattle.std.proofs.Common.{◌≡◌, ◌≢◌, ℕ, ◌+◌, ◌<◌, List, [], ◌∷◌, ◌++◌, append-nil, length, take, drop, get_or, map, Bool, true, false, cond, refl, sym, ◌∙◌, ap, subst, arith, zero, suc, Some, None, Ok, Err, inl, inr}
 use Rattle.std.specs.Borrow.{Bor}
-use Rattle.std.specs.Prelude.{Option, Result, ◌⊎◌, ◌==◌, ◌&&◌, not, Contains, flat_map}
-use Rattle.std.specs.Option.{option_map, option_and_then}
+use Rattle.std.specs.Prelude.{Option, Result, ◌⊎◌, ◌==◌, ◌&&◌, not, bytes_eq, codes, flat_map}
+use Rattle.std.specs.Option.{option_map, option_map_or, option_and_then, option_or}
 use Rattle.std.specs.List.{list_all, slice_split, onto_first, before_first, after_first, position_or_len}
+use Rattle.std.proofs.Math.Bool.{and-false}
 use Rattle.std.proofs.lemmas.Bool.{false≢true}
 use Rattle.std.proofs.lemmas.Bool.Decides.{eqb_tells}
-use Rattle.std.proofs.lemmas.List.Elements.{Contains-append_cases, Contains-append_right, Contains-push_cases}
+use Rattle.std.proofs.lemmas.Grind.{flat_map-append}
+use Rattle.std.proofs.lemmas.List.{map-append}
 use Rattle.std.proofs.lemmas.List.Folds.{list_all-append}
+use Rattle.std.proofs.lemmas.Slice.Eq.{bytes_eq-Decides}
 use Rattle.prop_lattice.specs.declared.refusal.Refusal.{Refusal}
 use Rattle.prop_lattice.specs.declared.refusal.Refusal.TheVariants.{WrongForm, NotAName, NotANumber, Memory}
-use Rattle.prop_language.specs.Tokens.{Token, Word, Open, Close, Semicolon, Equals, Star, tokens, front_word, with_word, onto_front, is_blank, mark_of}
+use Rattle.prop_language.specs.Tokens.{Token, Word, Open, Close, Equals, Star, tokens, front_word, with_word, is_blank, mark_of}
 use Rattle.prop_language.specs.Names.{is_name}
-use Rattle.prop_language.specs.Commands.{Step, Command}
-use Rattle.prop_language.specs.Forms.{join, only_words, each, is_semicolon, is_equals, step, steps, define}
-use Rattle.prop_language.specs.Reading.{step_names, is_step_in_range, command_in_range, command_in_form}
-use Rattle.prop_language.specs.Parts.{front_words, judged, step_in_range, step_in_form, body}
-
--- what each step is, or why it is refused
-abbrev pub reads : List (List Token) → List (Result Step Refusal)
-reads parts = map (λ ts. step_in_form (step ts)) parts
+use Rattle.prop_language.specs.Commands.{KindWord, Step, Command}
+use Rattle.prop_language.specs.Forms.{join, only_words, each, is_semicolon, is_equals, kind_word, cell, local_of_kind, local_like, use_step, step, steps, define}
+use Rattle.prop_language.specs.Reading.{kind_names, step_names, is_step_in_range, command_in_form}
+use Rattle.prop_language.specs.Said.{step_of, steps_said}
+use Rattle.prop_language.specs.Parts.{behind_word, front_words, judged, step_in_form, steps_in_range, body, Says}
+use Rattle.prop_language.specs.declared.command.Step as kept
+use Rattle.prop_language.proofs.Forming.{unnamed, all_named}
 
 -- ---- the bytes of each step
 
@@ -104,14 +106,29 @@ cut (b ∷ bytes) = at (is_blank b) (mark_of b) refl refl (cut bytes)
 tokens_cut : (bytes : List ℕ) → map tokens (pieces bytes) ≡ slice_split is_semicolon (tokens bytes)
 tokens_cut bytes = let k = cut bytes in ap (map tokens) k.2 ∙ sym (cut_tokens bytes k)
 
-parts_apart : (parts : List (Bor (List ℕ))) → map (λ part. step_in_form (step (tokens part.now))) parts ≡ reads (map tokens (map (λ part. part.now) parts))
+parts_apart : (parts : List (Bor (List ℕ))) → map (λ part. tokens part.now) parts ≡ map tokens (map (λ part. part.now) parts)
 parts_apart [] = refl
-parts_apart (part ∷ parts) = ap (λ l. step_in_form (step (tokens part.now)) ∷ l) (parts_apart parts)
+parts_apart (part ∷ parts) = ap (λ l. tokens part.now ∷ l) (parts_apart parts)
 
--- all parts by themselves are the steps by themselves
-pub all_parts : (parts : List (Bor (List ℕ))) (bytes : List ℕ) → map (λ part. part.now) parts ≡ pieces bytes → map (λ part. step_in_form (step (tokens part.now))) parts ≡ reads (slice_split is_semicolon (tokens bytes))
+-- the steps of all parts are the steps
+pub all_parts : (parts : List (Bor (List ℕ))) (bytes : List ℕ) → map (λ part. part.now) parts ≡ pieces bytes → each step (map (λ part. tokens part.now) parts) ≡ steps (tokens bytes)
 all_parts parts bytes e =
-    parts_apart parts ∙ ap (λ l. reads (map tokens l)) e ∙ ap reads (tokens_cut bytes)
+    ap (each step) (parts_apart parts ∙ ap (map tokens) e ∙ tokens_cut bytes)
+
+none_joined : {X : Type 0} (o : Option X) → join o None ≡ None
+none_joined None = refl
+none_joined (Some x) = refl
+
+none_at : (parts : List (List ℕ)) (i : ℕ) (part : List ℕ) → i < length parts → part ≡ get_or parts i part → step (tokens part) ≡ None → each step (map tokens parts) ≡ None
+none_at [] i part l e h = absurd (omega arith)
+none_at (p ∷ parts) zero part l e h = rw (ap (λ w. step (tokens w)) (sym e) ∙ h) refl
+none_at (p ∷ parts) (suc i) part l e h = rw (none_at parts i part (omega arith) e h) (none_joined (step (tokens p)))
+
+-- a part without a form
+pub misformed_among : (bytes : List ℕ) (i : ℕ) (part : List ℕ) (refusal : Refusal) → i < length (pieces bytes) → part ≡ get_or (pieces bytes) i part → (refusal ≡ Memory) ⊎ ((refusal ≡ WrongForm) × (step (tokens part) ≡ None)) → (refusal ≡ Memory) ⊎ ((refusal ≡ WrongForm) × (steps (tokens bytes) ≡ None))
+misformed_among bytes i part refusal l e (inl memory) = inl memory
+misformed_among bytes i part refusal l e (inr h) =
+    inr (h.0, ap (each step) (sym (tokens_cut bytes)) ∙ none_at (pieces bytes) i part l e h.1)
 
 -- ---- what stands before the equals sign
 
@@ -175,10 +192,8 @@ bodiless n p others (Headless (inl none) d) h = rw none refl
 bodiless n p others (Headless (inr none) d) h = rw none (no_steps (only_words (before_first is_equals others)))
 
 -- the refusal where no equals sign follows the parameters
-pub body_misformed : (ts params others : List Token) (n p : List ℕ) (refusal : Refusal) → ts ≡ Word n ∷ params → params ≡ Word p ∷ others → (refusal ≡ WrongForm) × (body others ≡ None) → command_in_form (define ts) ≡ Err refusal
-body_misformed ts params others n p refusal e f h =
-    let none : define ts ≡ None = rw (e, f) (bodiless n p others (head others) h.1) in
-    ap command_in_form none ∙ ap Err (sym h.0)
+pub body_misformed : (ts params others : List Token) (n p : List ℕ) (refusal : Refusal) → ts ≡ Word n ∷ params → params ≡ Word p ∷ others → (refusal ≡ WrongForm) × (body others ≡ None) → (refusal ≡ WrongForm) × (define ts ≡ None)
+body_misformed ts params others n p refusal e f h = (h.0, rw (e, f) (bodiless n p others (head others) h.1))
 
 pub bodied : (n p : List ℕ) (others rest : List Token) → Head others → body others ≡ Some rest → define (Word n ∷ Word p ∷ others) ≡ option_map (Command.Define n (p ∷ front_words others)) (steps rest)
 bodied n p others rest (Headed ps rest' e b a d f) h =
@@ -189,30 +204,88 @@ bodied n p others rest (Headless none d) h = cc
 defined : (ts params others rest : List Token) (n p : List ℕ) → Defines ts params others rest n p → define ts ≡ option_map (Command.Define n (front_words params)) (steps rest)
 defined ts params others rest n p d = rw (d.0, d.1) (bodied n p others rest (head others) d.2)
 
--- ---- membership
+-- what the words of a definition say
+pub words_read : (ts params others rest : List Token) (n p : List ℕ) → Defines ts params others rest n p → define ts ≡ option_map (Command.Define n (front_words params)) (steps rest)
+words_read ts params others rest n p d = rw (d.0, d.1) (bodied n p others rest (head others) d.2)
 
-none_within : {X : Type 0} (x : X) → Contains [] x → ⊥
-none_within x (k, l, e) = omega (arith, l)
+-- ---- locals
 
-only_within : {X : Type 0} (y x : X) → Contains (y ∷ []) x → y ≡ x
-only_within y x h = elim (Contains-push_cases [] y x h) [
-  | inl none ↦ absurd (none_within x none)
-  | inr e ↦ e
-]
+behind_local : (ts rest : List Token) → Some rest ≡ behind_word (codes "local") ts → ts ≡ Word (codes "local") ∷ rest
+behind_local [] rest h = cc
+behind_local (Word w ∷ ts) rest h = by (bytes_eq w (codes "local")) refl h
+  where
+    by : (b : Bool) → bytes_eq w (codes "local") ≡ b → Some rest ≡ cond b (Some ts) None → Word w ∷ ts ≡ Word (codes "local") ∷ rest
+    by true e h =
+        let same : w ≡ codes "local" = (bytes_eq-Decides w (codes "local")).0 e in
+        let left : ts ≡ rest = cc in
+        ap (λ w. Word w ∷ ts) same ∙ ap (λ l. Word (codes "local") ∷ l) left
+    by false e h = cc
+behind_local (t ∷ ts) rest h = cc
 
-first_or : {X : Type 0} (y x : X) (ys : List X) → Contains (y ∷ ys) x → (y ≡ x) ⊎ Contains ys x
-first_or y x ys h = elim (Contains-append_cases (y ∷ []) ys x h) [
-  | inl first ↦ inl (only_within y x first)
-  | inr later ↦ inr later
-]
+no_kind : (rest : List Token) → cell rest ≡ None → local_of_kind (Word (codes "local") ∷ rest) ≡ None
+no_kind [] h = refl
+no_kind (Word n ∷ []) h = refl
+no_kind (Word n ∷ Word k ∷ []) h = cc
+no_kind (Word n ∷ Word k ∷ t ∷ ts) h = refl
+no_kind (Word n ∷ t ∷ ts) h = refl
+no_kind (t ∷ ts) h = refl
 
-first_within : {X : Type 0} (y x : X) (ys : List X) → y ≡ x → Contains (y ∷ ys) x
-first_within y x ys e = (0, omega arith, e)
+-- behind the word `local` stand a name and a kind
+abbrev pub IsOfKind : (ts rest : List Token) (n kind : List ℕ) → Type 0
+IsOfKind ts rest n kind = (Some rest ≡ behind_word (codes "local") ts) × (rest ≡ Word n ∷ Word kind ∷ [])
 
-later_within : {X : Type 0} (y x : X) (ys : List X) → Contains ys x → Contains (y ∷ ys) x
-later_within y x ys h = Contains-append_right (y ∷ []) ys x h
+of_kind : (ts rest : List Token) (n kind : List ℕ) → IsOfKind ts rest n kind → step ts ≡ Some (Step.Local n (kind_word kind))
+of_kind ts rest n kind h = rw (behind_local ts rest h.0, h.1) refl
 
--- ---- the steps by themselves
+pub local_unnamed : (ts rest : List Token) (n kind : List ℕ) (refusal : Refusal) → IsOfKind ts rest n kind → (refusal ≡ NotAName) × (list_all is_name (n ∷ kind_names (kind_word kind)) ≡ false) → step_in_form (step ts) ≡ Err refusal
+local_unnamed ts rest n kind refusal h u =
+    ap step_in_form (of_kind ts rest n kind h) ∙ unnamed (n ∷ kind_names (kind_word kind)) true (Step.Local n (kind_word kind)) refusal u
+
+pub local_named : (ts rest : List Token) (n kind : List ℕ) (k : KindWord) → IsOfKind ts rest n kind → kind_word kind ≡ k → list_all is_name (n ∷ kind_names k) ≡ true → step_in_form (step ts) ≡ Ok (Step.Local n k)
+local_named ts rest n kind k h e named =
+    ap step_in_form (of_kind ts rest n kind h ∙ ap (λ k. Some (Step.Local n k)) e) ∙ all_named (n ∷ kind_names k) (Step.Local n k) named
+
+-- behind the word `local` stands no name and kind, but this
+abbrev pub IsLike : (ts rest : List Token) → Option Step → Type 0
+IsLike ts rest like =
+    (Some rest ≡ behind_word (codes "local") ts) × (cell rest ≡ None) × (like ≡ local_like (Word (codes "local") ∷ rest))
+
+like_or_use : (ts rest : List Token) (like : Option Step) → IsLike ts rest like → step ts ≡ option_or like (use_step ts)
+like_or_use ts rest like h = rw (behind_local ts rest h.0, no_kind rest h.1, h.2) refl
+
+pub like_unnamed : (ts rest : List Token) (n p : List ℕ) (refusal : Refusal) → IsLike ts rest (Some (Step.Like n p)) → (refusal ≡ NotAName) × (list_all is_name (n ∷ p ∷ []) ≡ false) → step_in_form (step ts) ≡ Err refusal
+like_unnamed ts rest n p refusal h u =
+    ap step_in_form (like_or_use ts rest (Some (Step.Like n p)) h) ∙ unnamed (n ∷ p ∷ []) true (Step.Like n p) refusal u
+
+pub like_named : (ts rest : List Token) (n p : List ℕ) → IsLike ts rest (Some (Step.Like n p)) → list_all is_name (n ∷ p ∷ []) ≡ true → step_in_form (step ts) ≡ Ok (Step.Like n p)
+like_named ts rest n p h named =
+    ap step_in_form (like_or_use ts rest (Some (Step.Like n p)) h) ∙ all_named (n ∷ p ∷ []) (Step.Like n p) named
+
+-- a use of the name `local`
+pub used_local : (ts rest : List Token) → IsLike ts rest None → step ts ≡ use_step ts
+used_local ts rest h = like_or_use ts rest None h
+
+-- a use of another name
+pub used_other : (ts : List Token) → None ≡ behind_word (codes "local") ts → step ts ≡ use_step ts
+used_other [] h = refl
+used_other (Word w ∷ ts) h = by (bytes_eq w (codes "local")) refl h
+  where
+    by : (b : Bool) → bytes_eq w (codes "local") ≡ b → None ≡ cond b (Some ts) None → step (Word w ∷ ts) ≡ use_step (Word w ∷ ts)
+    by true e h = cc
+    by false e h = other ts
+      where
+        other : (ts : List Token) → step (Word w ∷ ts) ≡ use_step (Word w ∷ ts)
+        other [] = refl
+        other (Word n ∷ []) = refl
+        other (Word n ∷ Word k ∷ []) = rw e refl
+        other (Word n ∷ Word k ∷ Word p ∷ []) = rw e refl
+        other (Word n ∷ Word k ∷ Word p ∷ t ∷ ts) = refl
+        other (Word n ∷ Word k ∷ t ∷ ts) = refl
+        other (Word n ∷ t ∷ ts) = refl
+        other (t ∷ ts) = refl
+used_other (t ∷ ts) h = refl
+
+-- ---- one step more
 
 -- why something is refused for a word of it
 abbrev Judgement : (names : List (List ℕ)) (in_range : Bool) (refusal : Refusal) → Type 0
@@ -235,159 +308,152 @@ right_judged {X = X} names in_range x y h = at (list_all is_name names) in_range
     at true false e f h = cc
     at true true e f h = (cc, e, f)
 
-lacks_form : (o : Option Step) → step_in_form o ≡ Err WrongForm → o ≡ None
-lacks_form None h = refl
-lacks_form (Some s) h = elim (why_judged (step_names s) (is_step_in_range s) s WrongForm h) [
-  | inl w ↦ cc w.0
-  | inr w ↦ cc w.0
-]
+-- a step behind others, where there are both
+behind : Option (List Step) → Option Step → Option (List Step)
+behind (Some ss) (Some s) = Some (ss ++ s ∷ [])
+behind (Some ss) None = None
+behind None o = None
 
-none_joined : {X : Type 0} (o : Option X) → join o None ≡ None
-none_joined None = refl
-none_joined (Some x) = refl
+first_behind : (o : Option Step) (all : Option (List Step)) (last : Option Step) → join o (behind all last) ≡ behind (join o all) last
+unfolding behind
+first_behind (Some s) (Some ss) (Some l) = refl
+first_behind (Some s) (Some ss) None = refl
+first_behind (Some s) None last = refl
+first_behind None all last = refl
 
-misformed : (parts : List (List Token)) → Contains (reads parts) (Err WrongForm) → each step parts ≡ None
-misformed [] h = absurd (none_within (Err WrongForm) h)
-misformed (ts ∷ parts) h = elim (first_or (step_in_form (step ts)) (Err WrongForm) (reads parts) h) [
-  | inl first ↦ rw (lacks_form (step ts) first) refl
-  | inr later ↦ rw (misformed parts later) (none_joined (step ts))
-]
-
--- steps that all have a form
-abbrev Formed : List (List Token) → Type 0
-Formed parts = (ss : List Step) × (each step parts ≡ Some ss) × (reads parts ≡ map step_in_range ss)
-
-formed : (parts : List (List Token)) → ¬ (Contains (reads parts) (Err WrongForm)) → Formed parts
-formed [] n = ([], refl, refl)
-formed (ts ∷ parts) n = at (step ts) refl (formed parts (λ h. n (later_within (step_in_form (step ts)) (Err WrongForm) (reads parts) h)))
+each_more : (parts : List (List Token)) (ts : List Token) → each step (parts ++ ts ∷ []) ≡ behind (each step parts) (step ts)
+unfolding behind
+each_more [] ts = at (step ts)
   where
-    at : (o : Option Step) → step ts ≡ o → Formed parts → Formed (ts ∷ parts)
-    at None e more = absurd (n (first_within (step_in_form (step ts)) (Err WrongForm) (reads parts) (ap step_in_form e)))
-    at (Some s) e more = (s ∷ more.0, rw (e, more.1) refl, rw (e, more.2) refl)
+    at : (o : Option Step) → join o (Some []) ≡ behind (Some []) o
+    at None = refl
+    at (Some s) = refl
+each_more (part ∷ parts) ts = ap (join (step part)) (each_more parts ts) ∙ first_behind (step part) (each step parts) (step ts)
 
--- the words of the steps that are to be names
-abbrev names_of_steps : List Step → List (List ℕ)
-names_of_steps ss = flat_map step_names ss
+-- what steps say, by whether all words in a name's place are names and all numbers in range
+abbrev by_words : (named in_range : Bool) (ss : List Step) → Result (List Step) Refusal
+by_words named in_range ss = cond (not named) (Err NotAName) (cond (not in_range) (Err NotANumber) (Ok ss))
 
-none_true : (b : Bool) → (b && false) ≡ false
-none_true true = refl
-none_true false = refl
+names_more : (ss : List Step) (s : Step) → list_all is_name (flat_map step_names (ss ++ s ∷ [])) ≡ (list_all is_name (flat_map step_names ss) && list_all is_name (step_names s))
+names_more ss s =
+    ap (list_all is_name) (flat_map-append step_names ss (s ∷ []) ∙ ap (λ l. flat_map step_names ss ++ l) (append-nil (step_names s))) ∙ list_all-append is_name (flat_map step_names ss) (step_names s)
 
-steps_unnamed : (ss : List Step) → Contains (map step_in_range ss) (Err NotAName) → list_all is_name (names_of_steps ss) ≡ false
-steps_unnamed [] h = absurd (none_within (Err NotAName) h)
-steps_unnamed (s ∷ ss) h = list_all-append is_name (step_names s) (names_of_steps ss) ∙ elim (first_or (step_in_range s) (Err NotAName) (map step_in_range ss) h) [
-  | inl first ↦ elim (why_judged (step_names s) (is_step_in_range s) s NotAName first) [ inl w ↦ rw w.1 refl | inr w ↦ cc w.0 ]
-  | inr later ↦ rw (steps_unnamed ss later) (none_true (list_all is_name (step_names s)))
-]
+all_more : (ss : List Step) (s : Step) → steps_in_range (ss ++ s ∷ []) ≡ by_words (list_all is_name (flat_map step_names ss) && list_all is_name (step_names s)) (list_all is_step_in_range ss && (is_step_in_range s && true)) (ss ++ s ∷ [])
+all_more ss s = rw (names_more ss s, list_all-append is_step_in_range ss (s ∷ [])) refl
 
--- why some step is refused, where none is for a name
-steps_refused : (ss : List Step) (refusal : Refusal) → ¬ (Contains (map step_in_range ss) (Err NotAName)) → Contains (map step_in_range ss) (Err refusal) → (refusal ≡ NotANumber) × (list_all is_step_in_range ss ≡ false)
-steps_refused [] refusal n h = absurd (none_within (Err refusal) h)
-steps_refused (s ∷ ss) refusal n h = elim (first_or (step_in_range s) (Err refusal) (map step_in_range ss) h) [
-  | inl first ↦ elim (why_judged (step_names s) (is_step_in_range s) s refusal first) [
-    | inl w ↦ absurd (n (first_within (step_in_range s) (Err NotAName) (map step_in_range ss) (first ∙ ap Err w.0)))
-    | inr w ↦ (w.0, rw w.2 refl)
-  ]
-  | inr later ↦
-      let more = steps_refused ss refusal (λ m. n (later_within (step_in_range s) (Err NotAName) (map step_in_range ss) m)) later in
-      (more.0, rw more.1 (none_true (is_step_in_range s)))
-]
+right_more : (named in_range : Bool) (ss : List Step) (s : Step) (read : List kept.Step) (last : kept.Step) (refused : Option Refusal) → s ≡ step_of last → by_words named in_range ss ≡ steps_said read refused →
+    by_words (named && true) (in_range && true) (ss ++ s ∷ []) ≡ steps_said (read ++ last ∷ []) refused
+right_more true true ss s read last None e h =
+    let same : ss ≡ map step_of read = cc in
+    ap Ok (ap (λ l. l ++ s ∷ []) same ∙ ap (λ x. map step_of read ++ x ∷ []) e ∙ sym (map-append step_of read (last ∷ [])))
+right_more true true ss s read last (Some refusal) e h = cc
+right_more true false ss s read last None e h = cc
+right_more true false ss s read last (Some refusal) e h = h
+right_more false in_range ss s read last None e h = cc
+right_more false in_range ss s read last (Some refusal) e h = h
 
-steps_named : (ss : List Step) → ¬ (Contains (map step_in_range ss) (Err NotAName)) → list_all is_name (names_of_steps ss) ≡ true
-steps_named [] n = refl
-steps_named (s ∷ ss) n = list_all-append is_name (step_names s) (names_of_steps ss) ∙ rw (steps_named ss (λ m. n (later_within (step_in_range s) (Err NotAName) (map step_in_range ss) m))) (at (list_all is_name (step_names s)) refl)
+-- a step that is read
+pub one_read : (parts : List (List Token)) (ts : List Token) (read : List kept.Step) (last : kept.Step) (refused : Option Refusal) → Says parts read refused → step_in_form (step ts) ≡ Ok (step_of last) → Says (parts ++ ts ∷ []) (read ++ last ∷ []) refused
+unfolding behind
+one_read parts ts read last refused h e = ap (option_map steps_in_range) (each_more parts ts) ∙ at (each step parts) (step ts) h e
   where
-    at : (named : Bool) → list_all is_name (step_names s) ≡ named → (named && true) ≡ true
-    at true e = refl
-    at false e = absurd (n (first_within (step_in_range s) (Err NotAName) (map step_in_range ss) (rw e refl)))
+    at : (all : Option (List Step)) (o : Option Step) → option_map steps_in_range all ≡ Some (steps_said read refused) → step_in_form o ≡ Ok (step_of last) → option_map steps_in_range (behind all o) ≡ Some (steps_said (read ++ last ∷ []) refused)
+    at None o h e = cc
+    at (Some ss) None h e = cc
+    at (Some ss) (Some s) h e =
+        let r = right_judged (step_names s) (is_step_in_range s) s (step_of last) e in
+        let before : steps_in_range ss ≡ steps_said read refused = cc in
+        ap Some (all_more ss s ∙ rw (r.1, r.2) (right_more _ _ ss s read last refused r.0 before))
 
--- steps of which none is refused
-abbrev Accepted : (ss read : List Step) → Type 0
-Accepted ss read = (ss ≡ read) × (list_all is_name (names_of_steps ss) ≡ true) × (list_all is_step_in_range ss ≡ true)
+-- a step with a word that is no name
+unnamed_more : (named in_range r : Bool) (ss : List Step) → by_words (named && false) (in_range && (r && true)) ss ≡ Err NotAName
+unnamed_more named in_range r ss = rw (and-false named) refl
 
-accepted : (ss read : List Step) → map step_in_range ss ≡ map Ok read → Accepted ss read
-accepted [] [] h = (refl, refl, refl)
-accepted [] (r ∷ read) h = cc
-accepted (s ∷ ss) [] h = cc
-accepted (s ∷ ss) (r ∷ read) h =
-    let first : step_in_range s ≡ Ok r = cc in
-    let later : map step_in_range ss ≡ map Ok read = cc in
-    let one = right_judged (step_names s) (is_step_in_range s) s r first in
-    let more = accepted ss read later in (
-      ap (λ x. x ∷ ss) one.0 ∙ ap (λ l. r ∷ l) more.0,
-      list_all-append is_name (step_names s) (names_of_steps ss) ∙ rw (one.1, more.1) refl,
-      rw (one.2, more.2) refl,
-    )
+pub one_unnamed : (parts : List (List Token)) (ts : List Token) (read : List kept.Step) (refused : Option Refusal) → Says parts read refused → step_in_form (step ts) ≡ Err NotAName → Says (parts ++ ts ∷ []) read (Some NotAName)
+unfolding behind
+one_unnamed parts ts read refused h e = ap (option_map steps_in_range) (each_more parts ts) ∙ at (each step parts) (step ts) h e
+  where
+    at : (all : Option (List Step)) (o : Option Step) → option_map steps_in_range all ≡ Some (steps_said read refused) → step_in_form o ≡ Err NotAName → option_map steps_in_range (behind all o) ≡ Some (Err NotAName)
+    at None o h e = cc
+    at (Some ss) None h e = cc
+    at (Some ss) (Some s) h e = elim (why_judged (step_names s) (is_step_in_range s) s NotAName e) [
+      | inl w ↦ ap Some (all_more ss s ∙ rw w.1 (unnamed_more _ _ _ (ss ++ s ∷ [])))
+      | inr w ↦ cc w.0
+    ]
+
+-- a step with a number out of range
+numbered_more : (named in_range : Bool) (ss more : List Step) (read : List kept.Step) (refused : Option Refusal) → by_words named in_range ss ≡ steps_said read refused → by_words (named && true) (in_range && false) more ≡ steps_said read (option_or refused (Some NotANumber))
+numbered_more true true ss more read None h = refl
+numbered_more true false ss more read (Some refusal) h = h
+numbered_more false in_range ss more read (Some refusal) h = h
+numbered_more true true ss more read (Some refusal) h = cc
+numbered_more true false ss more read None h = cc
+numbered_more false in_range ss more read None h = cc
+
+pub one_out_of_range : (parts : List (List Token)) (ts : List Token) (read : List kept.Step) (refused : Option Refusal) → Says parts read refused → step_in_form (step ts) ≡ Err NotANumber → Says (parts ++ ts ∷ []) read (option_or refused (Some NotANumber))
+unfolding behind
+one_out_of_range parts ts read refused h e = ap (option_map steps_in_range) (each_more parts ts) ∙ at (each step parts) (step ts) h e
+  where
+    at : (all : Option (List Step)) (o : Option Step) → option_map steps_in_range all ≡ Some (steps_said read refused) → step_in_form o ≡ Err NotANumber → option_map steps_in_range (behind all o) ≡ Some (steps_said read (option_or refused (Some NotANumber)))
+    at None o h e = cc
+    at (Some ss) None h e = cc
+    at (Some ss) (Some s) h e = elim (why_judged (step_names s) (is_step_in_range s) s NotANumber e) [
+      | inl w ↦ cc w.0
+      | inr w ↦
+          let before : steps_in_range ss ≡ steps_said read refused = cc in
+          ap Some (all_more ss s ∙ rw (w.1, w.2) (numbered_more _ _ ss (ss ++ s ∷ []) read refused before))
+    ]
+
+-- a step without a form
+pub one_misformed : (ts : List Token) (refusal : Refusal) → refusal ≢ NotAName → refusal ≢ NotANumber → (refusal ≡ Memory) ⊎ (step_in_form (step ts) ≡ Err refusal) → (refusal ≡ Memory) ⊎ ((refusal ≡ WrongForm) × (step ts ≡ None))
+one_misformed ts refusal n r (inl memory) = inl memory
+one_misformed ts refusal n r (inr e) = inr (at (step ts) refl e)
+  where
+    at : (o : Option Step) → step ts ≡ o → step_in_form o ≡ Err refusal → (refusal ≡ WrongForm) × (step ts ≡ None)
+    at None f e = (cc, f)
+    at (Some s) f e = elim (why_judged (step_names s) (is_step_in_range s) s refusal e) [ inl w ↦ absurd (n w.0) | inr w ↦ absurd (r w.0) ]
 
 -- ---- definitions
 
--- the steps behind the equals sign, each by itself
-abbrev pub AreRead : (rest : List Token) (read : List (Result Step Refusal)) → Type 0
-AreRead rest read = read ≡ reads (slice_split is_semicolon rest)
+-- the words of a definition, and its steps
+abbrev pub Defined : (ts rest : List Token) (n : List ℕ) (ps : List (List ℕ)) → Type 0
+Defined ts rest n ps = define ts ≡ option_map (Command.Define n ps) (steps rest)
 
--- the refusal of a step without a form
-pub steps_misformed : (ts params others rest : List Token) (n p : List ℕ) (read : List (Result Step Refusal)) (refusal : Refusal) → Defines ts params others rest n p → AreRead rest read → (refusal ≡ WrongForm) × Contains read (Err WrongForm) → command_in_form (define ts) ≡ Err refusal
-steps_misformed ts params others rest n p read refusal d r h =
-    let none : steps rest ≡ None = misformed (slice_split is_semicolon rest) (subst (λ l. Contains l (Err WrongForm)) r h.1) in
-    ap command_in_form (defined ts params others rest n p d ∙ ap (option_map (Command.Define n (front_words params))) none) ∙ ap Err (sym h.0)
+pub steps_misformed : (ts rest : List Token) (n : List ℕ) (ps : List (List ℕ)) (refusal : Refusal) → Defined ts rest n ps → (refusal ≡ Memory) ⊎ ((refusal ≡ WrongForm) × (steps rest ≡ None)) → (refusal ≡ Memory) ⊎ (command_in_form (define ts) ≡ Err refusal)
+steps_misformed ts rest n ps refusal d (inl memory) = inl memory
+steps_misformed ts rest n ps refusal d (inr h) =
+    inr (ap command_in_form (d ∙ ap (option_map (Command.Define n ps)) h.1) ∙ ap Err (sym h.0))
 
--- a definition of well formed steps
-abbrev pub WellFormed : (ts params others rest : List Token) (n p : List ℕ) (read : List (Result Step Refusal)) → Type 0
-WellFormed ts params others rest n p read =
-    Defines ts params others rest n p × AreRead rest read × ¬ (Contains read (Err WrongForm))
+-- what a definition says, by the words in a name's place and by its steps
+whole : (n : List ℕ) (ps : List (List ℕ)) (ss : List Step) → command_in_form (Some (Command.Define n ps ss)) ≡ cond (not (list_all is_name (n ∷ ps) && list_all is_name (flat_map step_names ss))) (Err NotAName) (cond (not (list_all is_step_in_range ss)) (Err NotANumber) (Ok (Some (Command.Define n ps ss))))
+whole n ps ss = rw (list_all-append is_name (n ∷ ps) (flat_map step_names ss)) refl
 
--- the definition, of which the steps are these
-abbrev Definition : (ts params : List Token) (n : List ℕ) (read : List (Result Step Refusal)) → Type 0
-Definition ts params n read =
-    (ss : List Step) × (command_in_form (define ts) ≡ judged ((n ∷ front_words params) ++ names_of_steps ss) (list_all is_step_in_range ss) (Some (Command.Define n (front_words params) ss))) × (read ≡ map step_in_range ss)
+-- the refusal of a definition's name or of a parameter
+pub names_refused : (ts rest : List Token) (n : List ℕ) (ps : List (List ℕ)) (read : List kept.Step) (refused : Option Refusal) (refusal : Refusal) → Defined ts rest n ps → option_map steps_in_range (steps rest) ≡ Some (steps_said read refused) →
+    (refusal ≡ Memory) ⊎ ((refusal ≡ NotAName) × (list_all is_name (n ∷ ps) ≡ false)) → (refusal ≡ Memory) ⊎ (command_in_form (define ts) ≡ Err refusal)
+names_refused ts rest n ps read refused refusal d r (inl memory) = inl memory
+names_refused ts rest n ps read refused refusal d r (inr h) = inr (ap command_in_form d ∙ at (steps rest) r)
+  where
+    at : (all : Option (List Step)) → option_map steps_in_range all ≡ Some (steps_said read refused) → command_in_form (option_map (Command.Define n ps) all) ≡ Err refusal
+    at None r = cc
+    at (Some ss) r = whole n ps ss ∙ rw (h.1, h.0) refl
 
-definition : (ts params others rest : List Token) (n p : List ℕ) (read : List (Result Step Refusal)) → WellFormed ts params others rest n p read → Definition ts params n read
-definition ts params others rest n p read w =
-    let f = formed (slice_split is_semicolon rest) (λ h. w.2 (subst (λ l. Contains l (Err WrongForm)) (sym w.1) h)) in
-    (f.0, ap command_in_form (defined ts params others rest n p w.0 ∙ ap (option_map (Command.Define n (front_words params))) f.1), w.1 ∙ f.2)
+said_named : (named in_range : Bool) (n : List ℕ) (ps : List (List ℕ)) (ss : List Step) (read : List kept.Step) (refused : Option Refusal) → by_words named in_range ss ≡ steps_said read refused →
+    cond (not (true && named)) (Err NotAName) (cond (not in_range) (Err NotANumber) (Ok (Some (Command.Define n ps ss)))) ≡ option_map_or (λ refusal. Err refusal) refused (Ok (Some (Command.Define n ps (map step_of read))))
+said_named true true n ps ss read None h = let same : ss ≡ map step_of read = cc in ap (λ l. Ok (Some (Command.Define n ps l))) same
+said_named true true n ps ss read (Some refusal) h = cc
+said_named true false n ps ss read None h = cc
+said_named true false n ps ss read (Some refusal) h = cc
+said_named false in_range n ps ss read None h = cc
+said_named false in_range n ps ss read (Some refusal) h = cc
 
-judged_unnamed : {X : Type 0} (front more : List (List ℕ)) (in_range : Bool) (x : X) → (list_all is_name front && list_all is_name more) ≡ false → judged (front ++ more) in_range x ≡ Err NotAName
-judged_unnamed front more in_range x h = rw (list_all-append is_name front more ∙ h) refl
-
--- the refusal of a definition's name
-pub definition_unnamed : (ts params others rest : List Token) (n p : List ℕ) (read : List (Result Step Refusal)) (refusal : Refusal) → WellFormed ts params others rest n p read → (refusal ≡ NotAName) × (is_name n ≡ false) → command_in_form (define ts) ≡ Err refusal
-definition_unnamed ts params others rest n p read refusal w h =
-    let d = definition ts params others rest n p read w in
-    d.1 ∙ judged_unnamed (n ∷ front_words params) (names_of_steps d.0) _ _ (rw h.1 refl) ∙ ap Err (sym h.0)
-
--- the refusal of its parameters
-pub params_refused : (ts params others rest : List Token) (n p : List ℕ) (read : List (Result Step Refusal)) (refusal : Refusal) → WellFormed ts params others rest n p read → is_name n ≡ true → (refusal ≡ Memory) ⊎ ((refusal ≡ NotAName) × (list_all is_name (front_words params) ≡ false)) → (refusal ≡ Memory) ⊎ (command_in_form (define ts) ≡ Err refusal)
-params_refused ts params others rest n p read refusal w named (inl memory) = inl memory
-params_refused ts params others rest n p read refusal w named (inr h) =
-    let d = definition ts params others rest n p read w in
-    inr (d.1 ∙ judged_unnamed (n ∷ front_words params) (names_of_steps d.0) _ _ (rw (named, h.1) refl) ∙ ap Err (sym h.0))
-
--- the refusal of a step's name
-pub step_unnamed : (ts params others rest : List Token) (n p : List ℕ) (read : List (Result Step Refusal)) (refusal : Refusal) → WellFormed ts params others rest n p read → (refusal ≡ NotAName) × Contains read (Err NotAName) → command_in_form (define ts) ≡ Err refusal
-step_unnamed ts params others rest n p read refusal w h =
-    let d = definition ts params others rest n p read w in
-    let one : list_all is_name (names_of_steps d.0) ≡ false = steps_unnamed d.0 (subst (λ l. Contains l (Err NotAName)) d.2 h.1) in
-    d.1 ∙ judged_unnamed (n ∷ front_words params) (names_of_steps d.0) _ _ (rw one (none_true (list_all is_name (n ∷ front_words params)))) ∙ ap Err (sym h.0)
-
--- a definition whose names are names
-abbrev pub WellNamed : (params : List Token) (n : List ℕ) (read : List (Result Step Refusal)) → Type 0
-WellNamed params n read =
-    (is_name n ≡ true) × (list_all is_name (front_words params) ≡ true) × ¬ (Contains read (Err NotAName))
-
-judged_named : {X : Type 0} (n : List ℕ) (ps more : List (List ℕ)) (in_range : Bool) (x : X) → is_name n ≡ true → list_all is_name ps ≡ true → list_all is_name more ≡ true → judged ((n ∷ ps) ++ more) in_range x ≡ cond (not in_range) (Err NotANumber) (Ok x)
-judged_named n ps more in_range x e f g = rw (list_all-append is_name (n ∷ ps) more, e, f, g) refl
-
--- the refusal of a step's number
-pub step_refused : (ts params others rest : List Token) (n p : List ℕ) (read : List (Result Step Refusal)) (refusal : Refusal) → WellFormed ts params others rest n p read → WellNamed params n read → (refusal ≡ Memory) ⊎ Contains read (Err refusal) → (refusal ≡ Memory) ⊎ (command_in_form (define ts) ≡ Err refusal)
-step_refused ts params others rest n p read refusal w u (inl memory) = inl memory
-step_refused ts params others rest n p read refusal w u (inr h) =
-    let d = definition ts params others rest n p read w in
-    let lacks : ¬ (Contains (map step_in_range d.0) (Err NotAName)) = λ m. u.2 (subst (λ l. Contains l (Err NotAName)) (sym d.2) m) in
-    let one = steps_refused d.0 refusal lacks (subst (λ l. Contains l (Err refusal)) d.2 h) in
-    inr (d.1 ∙ judged_named n (front_words params) (names_of_steps d.0) _ _ u.0 u.1 (steps_named d.0 lacks) ∙ rw one.1 refl ∙ ap Err (sym one.0))
-
-pub definition_read : (ts params others rest : List Token) (n p : List ℕ) (read : List (Result Step Refusal)) (ss : List Step) → WellFormed ts params others rest n p read → WellNamed params n read → read ≡ map Ok ss → command_in_form (define ts) ≡ Ok (Some (Command.Define n (front_words params) ss))
-definition_read ts params others rest n p read ss w u h =
-    let d = definition ts params others rest n p read w in
-    let all = accepted d.0 ss (sym d.2 ∙ h) in
-    d.1 ∙ judged_named n (front_words params) (names_of_steps d.0) _ _ u.0 u.1 all.1 ∙ rw all.2 (ap (λ l. Ok (Some (Command.Define n (front_words params) l))) all.0)
+-- what a definition says whose name and parameters are names
+pub definition_read : (ts rest : List Token) (n : List ℕ) (ps : List (List ℕ)) (read : List kept.Step) (refused : Option Refusal) → Defined ts rest n ps → option_map steps_in_range (steps rest) ≡ Some (steps_said read refused) → list_all is_name (n ∷ ps) ≡ true →
+    command_in_form (define ts) ≡ option_map_or (λ refusal. Err refusal) refused (Ok (Some (Command.Define n ps (map step_of read))))
+definition_read ts rest n ps read refused d r named = ap command_in_form d ∙ at (steps rest) r
+  where
+    at : (all : Option (List Step)) → option_map steps_in_range all ≡ Some (steps_said read refused) → command_in_form (option_map (Command.Define n ps) all) ≡ option_map_or (λ refusal. Err refusal) refused (Ok (Some (Command.Define n ps (map step_of read))))
+    at None r = cc
+    at (Some ss) r =
+        let same : steps_in_range ss ≡ steps_said read refused = cc in
+        whole n ps ss ∙ rw named (said_named _ _ n ps ss read refused same)

@@ -1,5 +1,5 @@
 -- What the parts of the reader answer.
-use Rattle.std.specs.Prelude.{◌≡◌, ℕ, List, [], ◌∷◌, Bool, true, false, cond, not, nat_le, bytes_eq, codes, ◌||◌, Option, Some, None, is_some, ⊤, Contains, Result, Ok, Err}
+use Rattle.std.specs.Prelude.{◌≡◌, ℕ, List, [], ◌∷◌, Bool, true, false, cond, not, nat_le, bytes_eq, codes, ◌||◌, Option, Some, None, is_some, flat_map, ⊤, Contains, Result, Ok, Err}
 use Rattle.std.specs.Option.{option_map, option_and_then}
 use Rattle.std.specs.List.{list_all}
 use Rattle.std.specs.Borrow.{Bor}
@@ -8,8 +8,10 @@ use Rattle.prop_lattice.specs.declared.refusal.Refusal.TheVariants.{UnknownComma
 use Rattle.prop_language.specs.Tokens.{Token, Word, Open, Close, Semicolon, Equals, Star, is_blank, mark_of}
 use Rattle.prop_language.specs.Names.{is_name, digits_number}
 use Rattle.prop_language.specs.Commands.{Value, By, Passed, Step, Command}
-use Rattle.prop_language.specs.Forms.{join, bare, on_word, domain, relation, cell, define, attach, fix, tell, parameter, values}
+use Rattle.prop_language.specs.Forms.{join, bare, each, step, on_word, domain, relation, cell, define, attach, fix, tell, parameter, values}
 use Rattle.prop_language.specs.Reading.{by_names, is_by_in_range, passed_names, is_passed_in_range, step_names, is_step_in_range, command_in_form}
+use Rattle.prop_language.specs.Said.{steps_said}
+use Rattle.prop_language.specs.declared.command.Step as kept
 use Rattle.prop_language.specs.declared.tokens.Token as read
 use Rattle.prop_language.specs.declared.tokens.Token.TheVariants as reads
 use Rattle.prop_language.specs.declared.steps.Given.{Given}
@@ -121,10 +123,17 @@ passed_in_range passed = judged (passed_names passed) (is_passed_in_range passed
 abbrev pub step_in_range : Step → Result Step Refusal
 step_in_range step = judged (step_names step) (is_step_in_range step) step
 
+abbrev pub steps_in_range : List Step → Result (List Step) Refusal
+steps_in_range steps = judged (flat_map step_names steps) (list_all is_step_in_range steps) steps
+
 -- the step by itself
 abbrev pub step_in_form : Option Step → Result Step Refusal
 step_in_form None = Err WrongForm
 step_in_form (Some step) = step_in_range step
+
+-- what was read of some parts is what their steps say
+abbrev pub Says : (parts : List (List Token)) → List kept.Step → Option Refusal → Type 0
+Says parts read refused = option_map steps_in_range (each step parts) ≡ Some (steps_said read refused)
 
 -- the tokens after this word
 abbrev pub behind_word : List ℕ → List Token → Option (List Token)

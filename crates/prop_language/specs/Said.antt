@@ -65,10 +65,10 @@ said (Ask cell) = Some (commands.Command.Ask cell.now)
 said (Why cell) = Some (commands.Command.Why cell.now)
 said Worldview = Some commands.Command.Worldview
 
--- a step by itself, or why it is refused
-abbrev pub step_read : Result Step Refusal → Result commands.Step Refusal
-step_read (Ok step) = Ok (step_of step)
-step_read (Err refusal) = Err refusal
+-- the steps, or why they are refused
+abbrev pub steps_said : List Step → Option Refusal → Result (List commands.Step) Refusal
+steps_said steps None = Ok (map step_of steps)
+steps_said steps (Some refusal) = Err refusal
 
 -- What a reader answers is what the grammar reads, and a refusal is the grammar's, unless memory runs out.
 abbrev pub Reads : Result Command Refusal → Result (Option commands.Command) Refusal → Type 0

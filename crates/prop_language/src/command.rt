@@ -8,7 +8,7 @@ pub enum Value<'a> {
 }
 
 /// The word for a cell's kind: `span`, `truth`, `symbol`, or a domain's name.
-#[derive(Clone, Copy, PartialEq, Eq)]
+#[derive(Clone, Copy)]
 pub enum KindWord<'a> {
     Spans,
     Truths,

@@ -109,7 +109,10 @@ fn push_name<'a>(names: &mut Vec<&'a str>, word: &'a [u8]) -> Result<(), Refusal
     ensures ok { OnOk result ((words names.new.items ≡ words names.old.items ++ word.now ∷ []) × (is_name word.now ≡ true)) }
     ensures err { IfErr result (λ refusal. (refusal ≡ Refusal.Memory) ⊎ ((refusal ≡ Refusal.NotAName) × (is_name word.now ≡ false))) }
 {
-    names.push(name(word)?).map_err(|_| Refusal::Memory)
+    match names.push(name(word)?) {
+        Ok(()) => Ok(()),
+        Err(_) => Err(Refusal::Memory),
+    }
 }
 
 /// The words up to a mark, which are to be names.
@@ -124,6 +127,19 @@ pub(crate) fn names_of<'a>(alloc: Global, bytes: &'a [u8]) -> Result<Vec<&'a str
         left = rest;
     }
     Ok(found)
+}
+
+/// The name that the word is, and those that the words up to a mark are.
+pub(crate) fn listed_names<'a>(
+    alloc: Global,
+    word: &'a [u8],
+    bytes: &'a [u8],
+) -> Result<(&'a str, Vec<&'a str>), Refusal>
+    ensures ok { IfOk result (λ found. (found.0.now ≡ word.now) × (words found.1.items ≡ front_words (tokens bytes.now)) × (list_all is_name (word.now ∷ front_words (tokens bytes.now)) ≡ true)) }
+    ensures err { IfErr result (λ refusal. (refusal ≡ Refusal.Memory) ⊎ ((refusal ≡ Refusal.NotAName) × (list_all is_name (word.now ∷ front_words (tokens bytes.now)) ≡ false))) }
+{
+    let first = name(word)?;
+    Ok((first, names_of(alloc, bytes)?))
 }
 
 /// The word of a domain, and its elements: words and no marks, of which there is at least one.
@@ -142,8 +158,8 @@ pub fn domain<'a>(alloc: Global, rest: &'a [u8]) -> Result<Command<'a>, Refusal>
     ensures { Reads result (command_in_form (forms.domain (tokens rest.now))) }
 {
     let (domain, elements) = domain_words(rest)?;
-    let domain = name(domain)?;
-    Ok(Command::Domain(domain, names_of(alloc, elements)?))
+    let (domain, elements) = listed_names(alloc, domain, elements)?;
+    Ok(Command::Domain(domain, elements))
 }
 
 /// What stands behind an equals sign.
@@ -189,7 +205,9 @@ fn pairs<'a>(alloc: Global, bytes: &'a [u8]) -> Result<Vec<(&'a [u8], &'a [u8])>
     let mut left = bytes;
     loop {
         let (pair, behind) = pair(left)?;
-        found.push(pair).map_err(|_| Refusal::Memory)?;
+        if found.push(pair).is_err() {
+            return Err(Refusal::Memory);
+        }
         match behind {
             Some(rest) => left = rest,
             None => return Ok(found),
@@ -416,7 +434,9 @@ fn braces<'a>(alloc: Global, bytes: &'a [u8]) -> Result<(Value<'a>, &'a [u8]), R
     loop {
         match next_token(left) {
             Some((Token::Word(word), rest)) => {
-                words.push(word).map_err(|_| Refusal::Memory)?;
+                if words.push(word).is_err() {
+                    return Err(Refusal::Memory);
+                }
                 left = rest;
             }
             Some((Token::Close, rest)) => return Ok((Value::Braces(words), rest)),

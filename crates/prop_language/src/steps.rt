@@ -1,20 +1,19 @@
 //! The form of a definition: what is read from the bytes behind its word.
-ghost use Rattle.std.specs.Prelude.{◌≡◌, ◌↔◌, ◌∷◌, ◌⊎◌, IsTrue, IfOk, IfErr, OnOk, Contains, Ok, Err, Some, None, map};
-ghost use Rattle.std.specs.List.{slice_split};
+ghost use Rattle.std.specs.Prelude.{◌≡◌, ◌∷◌, ◌++◌, [], ◌⊎◌, List, codes, IfOk, IfErr, OnOk, Ok, Err, Some, None};
 ghost use Rattle.std.specs.Option.{option_map};
-ghost use Rattle.prop_language.specs.Tokens.{tokens};
+ghost use Rattle.prop_language.specs.Tokens as words;
+ghost use Rattle.prop_language.specs.Tokens.{tokens, Word};
 ghost use Rattle.prop_language.specs.Forms as forms;
 ghost use Rattle.prop_language.specs.Commands as commands;
 ghost use Rattle.prop_language.specs.Reading.{command_in_form};
-ghost use Rattle.prop_language.specs.Said.{Reads, step_of, passed_of, step_read};
-ghost use Rattle.prop_language.specs.Parts.{behind_word, given, passed_said, passed_in_range, step_in_form, body};
+ghost use Rattle.prop_language.specs.Said.{Reads, step_of, passed_of, steps_said};
+ghost use Rattle.prop_language.specs.Parts.{behind_word, front_words, given, passed_said, passed_in_range, step_in_form, steps_in_range, body, Says};
 
 use crate::command::{Command, Passed, Step};
 use crate::forms::{
-    behind_by, end, named_kind, names_of, only_two_words, only_word, parameter, two_names,
+    behind_by, end, listed_names, named_kind, only_two_words, only_word, parameter, two_names,
     two_words, used_names, word,
 };
-use crate::names::name;
 use crate::tokens::{Token, next_token};
 use prop_lattice::Refusal;
 use std::alloc::Global;
@@ -36,23 +35,17 @@ fn behind_word<'a>(bytes: &'a [u8], wanted: &[u8]) -> Option<&'a [u8]>
     }
 }
 
-/// The name's word and the kind's, where the step is `local n KIND`.
-fn local_of_kind(bytes: &[u8]) -> Option<(&[u8], &[u8])>
-    ensures { option_map (λ found. commands.Step.Local found.0.now (forms.kind_word found.1.now)) result ≡ forms.local_of_kind (tokens bytes.now) }
+/// The words of the two names, where behind `local` stands `n like p`.
+fn like_words(bytes: &[u8]) -> Option<(&[u8], &[u8])>
+    ensures { option_map (λ found. commands.Step.Like found.0.now found.1.now) result ≡ forms.local_like (Word (codes "local") ∷ tokens bytes.now) }
 {
-    let rest = behind_word(bytes, b"local")?;
-    only_two_words(rest).ok()
-}
-
-/// The words of the two names, where the step is `local n like p`.
-fn local_like(bytes: &[u8]) -> Option<(&[u8], &[u8])>
-    ensures { option_map (λ found. commands.Step.Like found.0.now found.1.now) result ≡ forms.local_like (tokens bytes.now) }
-{
-    let rest = behind_word(bytes, b"local")?;
-    let (local, rest) = word(rest).ok()?;
-    let rest = behind_word(rest, b"like")?;
-    let like = only_word(rest).ok()?;
-    Some((local, like))
+    match two_words(bytes) {
+        Ok(((local, word), rest)) if word == b"like".as_slice() => {
+            let like = only_word(rest).ok()?;
+            Some((local, like))
+        }
+        _ => None,
+    }
 }
 
 /// One word or one star and no more.
@@ -107,68 +100,57 @@ fn step<'a>(alloc: Global, bytes: &'a [u8]) -> Result<Step<'a>, Refusal>
     ensures ok { IfOk result (λ step. step_in_form (forms.step (tokens bytes.now)) ≡ Ok (step_of step)) }
     ensures err { IfErr result (λ refusal. (refusal ≡ Refusal.Memory) ⊎ (step_in_form (forms.step (tokens bytes.now)) ≡ Err refusal)) }
 {
-    if let Some((local, kind)) = local_of_kind(bytes) {
-        let (local, kind) = named_kind(local, kind)?;
-        return Ok(Step::Local(local, kind));
-    }
-    if let Some((local, like)) = local_like(bytes) {
-        let (local, like) = two_names(local, like)?;
-        return Ok(Step::Like(local, like));
+    if let Some(rest) = behind_word(bytes, b"local") {
+        if let Ok((local, kind)) = only_two_words(rest) {
+            let (local, kind) = named_kind(local, kind)?;
+            return Ok(Step::Local(local, kind));
+        }
+        if let Some((local, like)) = like_words(rest) {
+            let (local, like) = two_names(local, like)?;
+            return Ok(Step::Like(local, like));
+        }
     }
     use_step(alloc, bytes)
 }
 
-/// What each step is by itself, or why it is refused. A semicolon stands between each two steps.
-fn read_steps<'a>(alloc: Global, bytes: &'a [u8]) -> Result<Vec<Result<Step<'a>, Refusal>>, Refusal>
-    ensures ok { IfOk result (λ read. map step_read read.items ≡ map (λ ts. step_in_form (forms.step ts)) (slice_split forms.is_semicolon (tokens bytes.now))) }
-    ensures err { IfErr result (λ refusal. refusal ≡ Refusal.Memory) }
-{
-    let mut read = Vec::new(alloc);
-    for part in bytes.split(|byte| *byte == b';') {
-        let step = step(alloc, part);
-        if matches!(step, Err(Refusal::Memory)) || read.push(step).is_err() {
-            return Err(Refusal::Memory);
-        }
-    }
-    Ok(read)
+/// The steps that were read, and why they are refused, if they are: a word that is no name comes before a number out of range.
+#[derive(Drop)]
+struct Steps<'a> {
+    read: Vec<Step<'a>>,
+    refused: Option<Refusal>,
 }
 
-/// Whether the step is refused this way.
-fn is_refused(step: &Result<Step<'_>, Refusal>, refusal: Refusal) -> bool
-    ensures { IsTrue result ↔ (step_read step.now ≡ Err refusal) }
+/// Adds the step that the bytes are.
+fn add_step<'a>(alloc: Global, steps: &mut Steps<'a>, bytes: &'a [u8]) -> Result<(), Refusal>
+    ensures ok { OnOk result ((parts : List (List words.Token)) → Says parts steps.old.read.items steps.old.refused → Says (parts ++ tokens bytes.now ∷ []) steps.new.read.items steps.new.refused) }
+    ensures err { IfErr result (λ refusal. (refusal ≡ Refusal.Memory) ⊎ ((refusal ≡ Refusal.WrongForm) × (forms.step (tokens bytes.now) ≡ None))) }
 {
-    match step {
-        Ok(_) => false,
-        Err(other) => *other == refusal,
-    }
-}
-
-/// Refuses where a step is refused this way.
-fn none_refused(read: &[Result<Step<'_>, Refusal>], refusal: Refusal) -> Result<(), Refusal>
-    ensures ok { OnOk result (¬ (Contains (map step_read read.now) (Err refusal))) }
-    ensures err { IfErr result (λ other. (other ≡ refusal) × Contains (map step_read read.now) (Err refusal)) }
-{
-    for step in read {
-        if is_refused(step, refusal) {
-            return Err(refusal);
+    match step(alloc, bytes) {
+        Ok(step) => {
+            if steps.read.push(step).is_err() {
+                return Err(Refusal::Memory);
+            }
         }
+        Err(refusal) => match refusal {
+            Refusal::NotAName => steps.refused = Some(refusal),
+            Refusal::NotANumber => steps.refused = steps.refused.or(Some(refusal)),
+            _ => return Err(refusal),
+        },
     }
     Ok(())
 }
 
-/// The steps, where none is refused.
-fn all_read<'a>(
-    alloc: Global,
-    read: Vec<Result<Step<'a>, Refusal>>,
-) -> Result<Vec<Step<'a>>, Refusal>
-    ensures ok { IfOk result (λ steps. map step_read read.entry.items ≡ map Ok (map step_of steps.items)) }
-    ensures err { IfErr result (λ refusal. (refusal ≡ Refusal.Memory) ⊎ Contains (map step_read read.entry.items) (Err refusal)) }
+/// All steps, of which each has a form. A semicolon stands between each two.
+fn read_steps<'a>(alloc: Global, bytes: &'a [u8]) -> Result<Steps<'a>, Refusal>
+    ensures ok { IfOk result (λ steps. option_map steps_in_range (forms.steps (tokens bytes.now)) ≡ Some (steps_said steps.read.items steps.refused)) }
+    ensures err { IfErr result (λ refusal. (refusal ≡ Refusal.Memory) ⊎ ((refusal ≡ Refusal.WrongForm) × (forms.steps (tokens bytes.now) ≡ None))) }
 {
-    let mut steps = Vec::new(alloc);
-    for step in read {
-        if steps.push(step?).is_err() {
-            return Err(Refusal::Memory);
-        }
+    let mut steps = Steps {
+        read: Vec::new(alloc),
+        refused: None,
+    };
+    for part in bytes.split(|byte| *byte == b';') {
+        add_step(alloc, &mut steps, part)?;
     }
     Ok(steps)
 }
@@ -188,18 +170,26 @@ fn body(bytes: &[u8]) -> Result<&[u8], Refusal>
     }
 }
 
+/// A definition's word, the bytes from its first parameter on, and what stands behind the equals sign.
+fn definition_words(bytes: &[u8]) -> Result<(&[u8], &[u8], &[u8]), Refusal>
+    ensures ok { IfOk result (λ found. forms.define (tokens bytes.now) ≡ option_map (commands.Command.Define found.0.now (front_words (tokens found.1.now))) (forms.steps (tokens found.2.now))) }
+    ensures err { IfErr result (λ refusal. (refusal ≡ Refusal.WrongForm) × (forms.define (tokens bytes.now) ≡ None)) }
+{
+    let (defined, params) = word(bytes)?;
+    let (_first, others) = word(params)?;
+    Ok((defined, params, body(others)?))
+}
+
 /// `define N p.. = step ; step ..`, behind its first word. Over all steps a wrong form comes before a word that is no name, and
 /// such a word before a number out of range.
 pub fn define<'a>(alloc: Global, rest: &'a [u8]) -> Result<Command<'a>, Refusal>
     ensures { Reads result (command_in_form (forms.define (tokens rest.now))) }
 {
-    let (defined, params) = word(rest)?;
-    let (_first, others) = word(params)?;
-    let read = read_steps(alloc, body(others)?)?;
-    none_refused(&read, Refusal::WrongForm)?;
-    let defined = name(defined)?;
-    let params = names_of(alloc, params)?;
-    none_refused(&read, Refusal::NotAName)?;
-    let steps = all_read(alloc, read)?;
-    Ok(Command::Define(defined, params, steps))
+    let (defined, params, body) = definition_words(rest)?;
+    let steps = read_steps(alloc, body)?;
+    let (defined, params) = listed_names(alloc, defined, params)?;
+    match steps.refused {
+        None => Ok(Command::Define(defined, params, steps.read)),
+        Some(refusal) => Err(refusal),
+    }
 }

@@ -1,4 +1,5 @@
 use Rattle.std.proofs.Common.{◌≡◌, ℕ, List, ◌∷◌, [], ◌++◌, Bool, true, cond, Bor, ap, sym, ◌∙◌}
+use Rattle.std.specs.Prelude.{not}
 use Rattle.std.proofs.lemmas.List.{map-append}
 use Rattle.std.proofs.lemmas.Result.{err_from_is_err_and}
 use Rattle.prop_language.specs.Tokens.{tokens}
@@ -19,9 +20,9 @@ returns-in_err-pair-clause-err c =
 pub loop-found-preserved : goal.loop-found-preserved
 loop-found-preserved c =
     one_more_remains c.in_ok-pair.behind c.in-Some.rest (pairs_of c.loop-found.found.items) (pairs_of c.push.new.self.items) (tokens c.loop-found.left.now) (tokens c.args.bytes.now) c.in_ok-pair.pair.0.now c.in_ok-pair.pair.1.now
-    c.in-Some.is c.in_ok-pair.ensures.ok c.loop-found.invariant (pushed _ _ c.in_ok-pair.pair _ c.in_ok-map_err.ensures.variant c.push.ensures.items)
+    c.in-Some.is c.in_ok-pair.ensures.ok c.loop-found.invariant (pushed _ _ c.in_ok-pair.pair _ (sym (c.is_err.ensures.negation ∙ ap not c.if-is_err.false)) c.push.ensures.items)
 
 pub returns-in-None-clause-ok : goal.returns-in-None-clause-ok
 returns-in-None-clause-ok c =
     no_more_remain c.in_ok-pair.behind (pairs_of c.loop-found.found.items) (pairs_of c.push.new.self.items) (tokens c.loop-found.left.now) (tokens c.args.bytes.now) c.in_ok-pair.pair.0.now c.in_ok-pair.pair.1.now
-    c.in-None.is c.in_ok-pair.ensures.ok c.loop-found.invariant (pushed _ _ c.in_ok-pair.pair _ c.in_ok-map_err.ensures.variant c.push.ensures.items)
+    c.in-None.is c.in_ok-pair.ensures.ok c.loop-found.invariant (pushed _ _ c.in_ok-pair.pair _ (sym (c.is_err.ensures.negation ∙ ap not c.if-is_err.false)) c.push.ensures.items)
