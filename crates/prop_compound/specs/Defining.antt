@@ -1,5 +1,5 @@
 -- What a definition in words means, and for what it is refused: each condition by itself, and which of them comes first.
-use Rattle.std.specs.Prelude.{ℕ, List, [], ◌∷◌, ◌++◌, Bool, false, ◌||◌, nat_le, Option, Some, None, length, map, is_none, is_some, unwrap_or}
+use Rattle.std.specs.Prelude.{ℕ, List, [], ◌∷◌, ◌++◌, Bool, false, ◌||◌, nat_le, Option, length, map, is_none, is_some, unwrap_or}
 use Rattle.std.specs.List.{list_any, flat_map}
 use Rattle.std.specs.Option.{option_map_or}
 use Rattle.prop_lattice.specs.Refusals.{most}

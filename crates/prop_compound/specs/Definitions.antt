@@ -1,15 +1,14 @@
 -- Definitions of compounds, their words resolved to numbers.
-use Rattle.std.specs.Prelude.{ℕ, ◌+◌, List, [], ◌∷◌, ◌++◌, Bool, true, false, not, ◌==◌, Option, length, slice_get}
+use Rattle.std.specs.Prelude.{ℕ, ◌+◌, List, [], Bool, true, false, not, ◌==◌, Option, length, slice_get}
 use Rattle.std.specs.List.{list_any}
 use Rattle.std.specs.Option.{option_map, option_map_or, option_or}
 use Rattle.prop_procedures.specs.Stored.{Stored, procedure_number}
 use Rattle.prop_vocabulary.specs.Names.{number_in}
-use Rattle.prop_compound.specs.declared.definition.Passing.{Passing}
 use Rattle.prop_compound.specs.declared.definition.Passing.TheVariants as passings
 use Rattle.prop_compound.specs.declared.definition.Used.{Used}
 use Rattle.prop_compound.specs.declared.definition.Used.TheVariants as uses
 use Rattle.prop_compound.specs.declared.definition.NumberedStep.{NumberedStep}
-use Rattle.prop_compound.specs.declared.definition.NumberedStep.TheVariants.{Local, Like, Use}
+use Rattle.prop_compound.specs.declared.definition.NumberedStep.TheVariants.{Use}
 
 -- how many cells a use of it names, and its steps in order
 pub record Definition : Type 0 where

@@ -1,5 +1,5 @@
 -- What is handed out for a use: its fresh cells and instances, in one list each.
-use Rattle.std.specs.Prelude.{◌≡◌, ◌<◌, ℕ, ◌+◌, List, [], ◌∷◌, ◌++◌, All, Option, Some, false, length, map, slice_get}
+use Rattle.std.specs.Prelude.{◌≡◌, ◌<◌, ℕ, ◌+◌, List, ◌++◌, All, Option, Some, false, length, map, slice_get}
 use Rattle.prop_procedures.specs.declared.shape.Kinded.{Kinded}
 use Rattle.prop_procedures.specs.declared.shape.Param.{Param}
 use Rattle.prop_procedures.specs.Stored.{Stored}

@@ -1,5 +1,5 @@
 -- Steps that change what is believed.
-use Rattle.std.proofs.Common.{◌≡◌, ◌∙◌, ℕ, Bool, true, false, List, [], ◌∷◌, Option, Some, None, Result, Ok, Err, ◌⊎◌, inl, inr, refl, sym, ap, length, unwrap_or}
+use Rattle.std.proofs.Common.{◌≡◌, ◌∙◌, ℕ, Bool, true, false, List, Some, None, Result, Ok, Err, ◌⊎◌, inl, inr, refl, sym, ap}
 use Rattle.std.specs.Prelude.{⊤, OnOk, OnErr, IfErr}
 use Rattle.prop_lattice.specs.declared.refusal.Refusal.{Refusal}
 use Rattle.prop_lattice.specs.declared.refusal.Refusal.TheVariants.{Memory, NoSuchPremise}
@@ -7,7 +7,7 @@ use Rattle.prop_premises.specs.Origins.{premise_number, with_belief_at}
 use Rattle.prop_procedures.specs.Stored.{Stored}
 use Rattle.prop_language.specs.Commands as commands
 use Rattle.prop_language.specs.Commands.{Command}
-use Rattle.prop_engine.specs.Answers.{Done, Refused, answer_done}
+use Rattle.prop_engine.specs.Answers.{Done, answer_done}
 use Rattle.prop_workbench.specs.Machine.{State}
 use Rattle.prop_workbench.specs.Refusing.{refusal_of}
 use Rattle.prop_workbench.specs.Steps.{Obeys, Carries}

@@ -11,7 +11,7 @@ use Rattle.prop_vocabulary.specs.Names.{number_in}
 use Rattle.prop_vocabulary.specs.Refusing.{when, first_of}
 use Rattle.prop_vocabulary.specs.Vocabulary.{Vocabulary, IsWhole, domain_number}
 use Rattle.prop_vocabulary.proofs.Lookups.{number_below, or_false}
-use Rattle.prop_language.specs.Commands.{KindWord, Spans, Truths, Symbols, Named, Step}
+use Rattle.prop_language.specs.Commands.{Spans, Truths, Symbols, Named, Step}
 use Rattle.prop_compound.specs.Definitions.{Definition, Definitions}
 use Rattle.prop_compound.specs.Defining.{domain_kind, step_numbered, scope_of, definition_of, with_definition, is_nowhere, define_refusal}
 use Rattle.prop_workbench.specs.Sessions.{IsSized, IsLocalOf, AreLocalsOf}

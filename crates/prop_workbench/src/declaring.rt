@@ -85,7 +85,12 @@ impl<R: Rule + Drop, O: Order + Drop> Session<R, O> {
     }
 
     /// Makes a definition.
-    pub(crate) fn define(&mut self, name: &str, params: &[&str], steps: &[Step]) -> Result<(), Refusal>
+    pub(crate) fn define(
+        &mut self,
+        name: &str,
+        params: &[&str],
+        steps: &[Step],
+    ) -> Result<(), Refusal>
         requires sound { IsSound R.value_of self.old }
         ensures keeps { Keeps R.value_of self.old self.new }
         ensures step { Obeys (library_of R.value_of self.old) (state_of self.old) (commands.Command.Define name.now (words params.now) (map step_of steps.now)) (answer_done result) (state_of self.new) 0 }
