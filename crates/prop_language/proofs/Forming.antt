@@ -8,12 +8,12 @@ use Rattle.std.proofs.lemmas.List.Folds.{list_all-append}
 use Rattle.prop_lattice.specs.declared.refusal.Refusal.{Refusal}
 use Rattle.prop_lattice.specs.declared.refusal.Refusal.TheVariants.{WrongForm, NotAName, NotANumber, Memory}
 use Rattle.std.specs.Borrow.{Bor}
-use Rattle.prop_language.specs.Tokens.{Token, Word, Open, Close, Semicolon, Equals, tokens}
+use Rattle.prop_language.specs.Tokens.{Token, Word, Open, Close, Equals, tokens}
 use Rattle.prop_language.specs.Names.{is_name}
 use Rattle.prop_language.specs.Commands.{Value, KindWord, By, Passed, Step, Command}
-use Rattle.prop_language.specs.Forms.{join, on_word, only_words, domain, pairs, relation, kind_word, cell, tell, values, in_braces, one_value, only_value, cells_by, by_form, attach, with_cell, passed_form, use_step}
-use Rattle.prop_language.specs.Reading.{kind_names, by_names, is_by_in_range, passed_names, is_passed_in_range, command_in_range, command_in_form}
-use Rattle.prop_language.specs.Parts.{front, one_word, are_words, front_words, behind_equals, further, before_pairs, behind_by, given, before_by, judged, step_in_form, BeginsOpen}
+use Rattle.prop_language.specs.Forms.{join, only_words, domain, pairs, relation, kind_word, cell, tell, values, in_braces, one_value, only_value, cells_by, by_form, attach, with_cell, passed_form, use_step}
+use Rattle.prop_language.specs.Reading.{kind_names, by_names, is_by_in_range, passed_names, is_passed_in_range, command_in_form}
+use Rattle.prop_language.specs.Parts.{front, one_word, are_words, front_words, before_pairs, behind_by, given, before_by, judged, step_in_form, BeginsOpen}
 
 -- ---- values
 
@@ -105,13 +105,6 @@ no_attach (Word a ∷ Word b ∷ ts) h = cc
 no_attach (Word a ∷ t ∷ ts) h = refl
 no_attach (t ∷ ts) h = refl
 
-pub no_use_step : (ts : List Token) → LacksTwo ts → use_step ts ≡ None
-no_use_step [] h = refl
-no_use_step (Word a ∷ []) h = refl
-no_use_step (Word a ∷ Word b ∷ ts) h = cc
-no_use_step (Word a ∷ t ∷ ts) h = refl
-no_use_step (t ∷ ts) h = refl
-
 pub no_tell : (ts : List Token) → LacksTwo ts → tell ts ≡ None
 no_tell [] h = refl
 no_tell (Word a ∷ []) h = refl
@@ -129,33 +122,6 @@ no_kind a [] h = refl
 no_kind a (Word b ∷ []) h = cc
 no_kind a (Word b ∷ t ∷ ts) h = refl
 no_kind a (t ∷ ts) h = refl
-
--- a name in the place of the one word
-on_word_is : (made : List ℕ → Command) (ts : List Token) → on_word made ts ≡ option_map made (one_word ts)
-on_word_is made [] = refl
-on_word_is made (Word w ∷ []) = refl
-on_word_is made (Word w ∷ t ∷ ts) = refl
-on_word_is made (t ∷ ts) = refl
-
--- why one word is refused
-abbrev pub NotOneName : List Token → Refusal → Type 0
-NotOneName ts refusal =
-    ((refusal ≡ WrongForm) × (one_word ts ≡ None)) ⊎ ((refusal ≡ NotAName) × (option_map is_name (one_word ts) ≡ Some false))
-
-pub name_misread : (made : List ℕ → Command) (ts : List Token) (refusal : Refusal) → ((w : List ℕ) → command_in_range (made w) ≡ judged (w ∷ []) true (Some (made w))) → NotOneName ts refusal → command_in_form (on_word made ts) ≡ Err refusal
-name_misread made ts refusal e (inl h) =
-    ap command_in_form (on_word_is made ts ∙ ap (option_map made) h.1) ∙ ap Err (sym h.0)
-name_misread made ts refusal e (inr h) = ap command_in_form (on_word_is made ts) ∙ at (one_word ts) h.1
-  where
-    at : (o : Option (List ℕ)) → option_map is_name o ≡ Some false → command_in_form (option_map made o) ≡ Err refusal
-    at None g = cc
-    at (Some w) g =
-        let no : is_name w ≡ false = cc in
-        e w ∙ unnamed (w ∷ []) true (Some (made w)) refusal (h.0, first_unnamed w [] no)
-
-pub needs_no_memory : {X : Type 0} (ts : List Token) (refusal : Refusal) (result : Result X Refusal) → NotOneName ts refusal → result ≡ Err refusal → result ≡ Err Memory → ⊥
-needs_no_memory ts refusal result (inl h) e g = cc (h.0, e, g)
-needs_no_memory ts refusal result (inr h) e g = cc (h.0, e, g)
 
 -- a cell's words
 pub cell_unnamed : (ts : List Token) (x k : List ℕ) (refusal : Refusal) → ts ≡ Word x ∷ Word k ∷ [] → (refusal ≡ NotAName) × (list_all is_name (x ∷ kind_names (kind_word k)) ≡ false) → command_in_form (cell ts) ≡ Err refusal
@@ -308,13 +274,13 @@ abbrev pub Declares : (ts elements others : List Token) (n e : List ℕ) → Typ
 Declares ts elements others n e = (ts ≡ Word n ∷ elements) × (elements ≡ Word e ∷ others)
 
 -- a mark among a domain's elements
-pub domain_misformed : (ts elements others : List Token) (n e : List ℕ) (refusal : Refusal) → Declares ts elements others n e → (refusal ≡ WrongForm) × (are_words others ≡ false) → (refusal ≡ WrongForm) × (domain ts ≡ None)
-domain_misformed ts elements others n e refusal d h =
-    (h.0, rw (d.0, d.1) (ap (option_map (λ es. Command.Domain n (e ∷ es))) (no_words others h.1)))
+pub no_domain : (ts elements others : List Token) (n e : List ℕ) → Declares ts elements others n e → are_words elements ≡ false → domain ts ≡ None
+no_domain ts elements others n e d h =
+    rw (d.0, d.1) (ap (option_map (λ es. Command.Domain n (e ∷ es))) (no_words others (sym (ap are_words d.1) ∙ h)))
 
-pub domain_formed : (ts elements others : List Token) (n e : List ℕ) → Declares ts elements others n e → are_words others ≡ true → domain ts ≡ Some (Command.Domain n (front_words elements))
+pub domain_formed : (ts elements others : List Token) (n e : List ℕ) → Declares ts elements others n e → are_words elements ≡ true → domain ts ≡ Some (Command.Domain n (front_words elements))
 domain_formed ts elements others n e d h =
-    rw (d.0, d.1) (ap (option_map (λ es. Command.Domain n (e ∷ es))) (words_are others h))
+    rw (d.0, d.1) (ap (option_map (λ es. Command.Domain n (e ∷ es))) (words_are others (sym (ap are_words d.1) ∙ h)))
 
 -- the refusal of a domain's name or elements
 pub elements_refused : (ts elements : List Token) (n : List ℕ) (refusal : Refusal) → domain ts ≡ Some (Command.Domain n (front_words elements)) → (refusal ≡ Memory) ⊎ ((refusal ≡ NotAName) × (list_all is_name (n ∷ front_words elements) ≡ false)) → (refusal ≡ Memory) ⊎ (command_in_form (domain ts) ≡ Err refusal)
@@ -353,29 +319,10 @@ no_pair (Word a ∷ Word b ∷ ts) h = cc
 no_pair (Word a ∷ t ∷ ts) h = refl
 no_pair (t ∷ ts) h = refl
 
-pub no_further : (a b : List ℕ) (ts : List Token) → further ts ≡ None → pairs (Word a ∷ Word b ∷ ts) ≡ None
-no_further a b [] h = cc
-no_further a b (Semicolon ∷ ts) h = cc
-no_further a b (t ∷ ts) h = refl
-
-ends_with : (a b : List ℕ) (ts : List Token) → further ts ≡ Some None → pairs (Word a ∷ Word b ∷ ts) ≡ Some ((a, b) ∷ [])
-ends_with a b [] h = refl
-ends_with a b (Semicolon ∷ ts) h = cc
-ends_with a b (t ∷ ts) h = cc
-
-goes_on : (a b : List ℕ) (ts rest : List Token) → further ts ≡ Some (Some rest) → pairs (Word a ∷ Word b ∷ ts) ≡ join (Some (a, b)) (pairs rest)
-goes_on a b [] rest h = cc
-goes_on a b (Semicolon ∷ ts) rest h = let same : ts ≡ rest = cc in ap (λ l. join (Some (a, b)) (pairs l)) same
-goes_on a b (t ∷ ts) rest h = cc
-
 -- what a pair and what stands behind it say of all pairs
 abbrev pub ReadsPair : Option (Bor (List ℕ)) → List Token → List ℕ → List ℕ → Type 0
 ReadsPair behind ts a b =
     MatchOption behind (pairs ts ≡ Some ((a, b) ∷ [])) (λ rest. pairs ts ≡ join (Some (a, b)) (pairs (tokens rest.now)))
-
-pub pair_read : (behind : Option (Bor (List ℕ))) (ts rest : List Token) (a b : List ℕ) → ts ≡ Word a ∷ Word b ∷ rest → further rest ≡ Some (option_map (λ rest. tokens rest.now) behind) → ReadsPair behind ts a b
-pair_read None ts rest a b e f = ap pairs e ∙ ends_with a b rest f
-pair_read (Some left) ts rest a b e f = ap pairs e ∙ goes_on a b rest (tokens left.now) f
 
 -- the pairs so far and those to come are all pairs
 abbrev pub Remain : (ps : List (List ℕ × List ℕ)) (ts all : List Token) → Type 0
@@ -407,11 +354,6 @@ no_domains n (Word a ∷ []) h = refl
 no_domains n (Word a ∷ Word b ∷ ts) h = cc
 no_domains n (Word a ∷ t ∷ ts) h = refl
 no_domains n (t ∷ ts) h = refl
-
-pub no_equals : (n d e : List ℕ) (ts : List Token) → behind_equals ts ≡ None → relation (Word n ∷ Word d ∷ Word e ∷ ts) ≡ None
-no_equals n d e [] h = refl
-no_equals n d e (Equals ∷ ts) h = cc
-no_equals n d e (t ∷ ts) h = refl
 
 -- the front of a relation
 abbrev pub Relates : (ts rest : List Token) (n d e : List ℕ) → Type 0

@@ -178,8 +178,8 @@ head (Word w ∷ ts) = more (head ts)
 head (t ∷ ts) = Headless (inl (mark_first t ts refl (λ us. refl))) refl
 
 -- the front of a definition
-abbrev pub Defines : (ts params others rest : List Token) (n p : List ℕ) → Type 0
-Defines ts params others rest n p = (ts ≡ Word n ∷ params) × (params ≡ Word p ∷ others) × (body others ≡ Some rest)
+abbrev pub Begins : (ts params others : List Token) (n p : List ℕ) → Type 0
+Begins ts params others n p = (ts ≡ Word n ∷ params) × (params ≡ Word p ∷ others)
 
 no_steps : {X : Type 0} (o : Option X) → option_and_then {U = Command} (λ x. None) o ≡ None
 no_steps None = refl
@@ -191,9 +191,9 @@ bodiless n p others (Headed ps rest e b a d f) h = cc
 bodiless n p others (Headless (inl none) d) h = rw none refl
 bodiless n p others (Headless (inr none) d) h = rw none (no_steps (only_words (before_first is_equals others)))
 
--- the refusal where no equals sign follows the parameters
-pub body_misformed : (ts params others : List Token) (n p : List ℕ) (refusal : Refusal) → ts ≡ Word n ∷ params → params ≡ Word p ∷ others → (refusal ≡ WrongForm) × (body others ≡ None) → (refusal ≡ WrongForm) × (define ts ≡ None)
-body_misformed ts params others n p refusal e f h = (h.0, rw (e, f) (bodiless n p others (head others) h.1))
+-- no equals sign follows the parameters
+pub no_body : (ts params others : List Token) (n p : List ℕ) → Begins ts params others n p → body params ≡ None → define ts ≡ None
+no_body ts params others n p b h = rw (b.0, b.1) (bodiless n p others (head others) (sym (ap body b.1) ∙ h))
 
 pub bodied : (n p : List ℕ) (others rest : List Token) → Head others → body others ≡ Some rest → define (Word n ∷ Word p ∷ others) ≡ option_map (Command.Define n (p ∷ front_words others)) (steps rest)
 bodied n p others rest (Headed ps rest' e b a d f) h =
@@ -201,12 +201,9 @@ bodied n p others rest (Headed ps rest' e b a d f) h =
     rw (b, words_alone ps, a, same, f) refl
 bodied n p others rest (Headless none d) h = cc
 
-defined : (ts params others rest : List Token) (n p : List ℕ) → Defines ts params others rest n p → define ts ≡ option_map (Command.Define n (front_words params)) (steps rest)
-defined ts params others rest n p d = rw (d.0, d.1) (bodied n p others rest (head others) d.2)
-
 -- what the words of a definition say
-pub words_read : (ts params others rest : List Token) (n p : List ℕ) → Defines ts params others rest n p → define ts ≡ option_map (Command.Define n (front_words params)) (steps rest)
-words_read ts params others rest n p d = rw (d.0, d.1) (bodied n p others rest (head others) d.2)
+pub words_read : (ts params others rest : List Token) (n p : List ℕ) → Begins ts params others n p → body params ≡ Some rest → define ts ≡ option_map (Command.Define n (front_words params)) (steps rest)
+words_read ts params others rest n p b h = rw (b.0, b.1) (bodied n p others rest (head others) (sym (ap body b.1) ∙ h))
 
 -- ---- locals
 

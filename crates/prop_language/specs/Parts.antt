@@ -70,17 +70,6 @@ abbrev pub front_words : List Token → List (List ℕ)
 front_words (Word w ∷ ts) = w ∷ front_words ts
 front_words ts = []
 
--- the tokens after an equals sign
-abbrev pub behind_equals : List Token → Option (List Token)
-behind_equals (Equals ∷ ts) = Some ts
-behind_equals ts = None
-
--- what stands behind a semicolon, if it is one that the tokens begin with; they may also be none
-abbrev pub further : List Token → Option (Option (List Token))
-further [] = Some None
-further (Semicolon ∷ ts) = Some (Some ts)
-further ts = None
-
 -- these pairs before others, where there are others
 abbrev pub before_pairs : List (List ℕ × List ℕ) → Option (List (List ℕ × List ℕ)) → Option (List (List ℕ × List ℕ))
 before_pairs [] others = others

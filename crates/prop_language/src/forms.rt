@@ -8,7 +8,7 @@ ghost use Rattle.prop_language.specs.Forms as forms;
 ghost use Rattle.prop_language.specs.Commands as commands;
 ghost use Rattle.prop_language.specs.Reading.{command_in_form, kind_names};
 ghost use Rattle.prop_language.specs.Said.{Reads, words, pairs_of, kind_of, by_of, value_of};
-ghost use Rattle.prop_language.specs.Parts.{front, one_word, are_words, front_words, behind_equals, further, behind_by, given, parameter_said, before_by, by_in_range, some_values, BeginsOpen};
+ghost use Rattle.prop_language.specs.Parts.{front, one_word, are_words, front_words, behind_by, given, parameter_said, before_by, by_in_range, some_values, BeginsOpen};
 
 use crate::command::{By, Command, KindWord, Value};
 use crate::names::name;
@@ -50,21 +50,6 @@ pub(crate) fn only_word(bytes: &[u8]) -> Result<&[u8], Refusal>
     Ok(word)
 }
 
-/// Words and no marks.
-fn only_words(bytes: &[u8]) -> Result<(), Refusal>
-    ensures ok { OnOk result (are_words (tokens bytes.now) ≡ true) }
-    ensures err { IfErr result (λ refusal. (refusal ≡ Refusal.WrongForm) × (are_words (tokens bytes.now) ≡ false)) }
-{
-    let mut left = bytes;
-    while let Some((token, rest)) = next_token(left) {
-        let Token::Word(_) = token else {
-            return Err(Refusal::WrongForm);
-        };
-        left = rest;
-    }
-    Ok(())
-}
-
 /// The first two words, and what stands behind them.
 pub(crate) fn two_words(bytes: &[u8]) -> Result<((&[u8], &[u8]), &[u8]), Refusal>
     ensures ok { IfOk result (λ found. tokens bytes.now ≡ Word found.0.0.now ∷ Word found.0.1.now ∷ tokens found.1.now) }
@@ -86,7 +71,7 @@ pub(crate) fn only_two_words(bytes: &[u8]) -> Result<(&[u8], &[u8]), Refusal>
 }
 
 /// One name and no more.
-fn only_name(bytes: &[u8]) -> Result<&str, Refusal>
+pub fn only_name(bytes: &[u8]) -> Result<&str, Refusal>
     ensures ok { IfOk result (λ name. (tokens bytes.now ≡ Word name.now ∷ []) × (is_name name.now ≡ true)) }
     ensures err { IfErr result (λ refusal. ((refusal ≡ Refusal.WrongForm) × (one_word (tokens bytes.now) ≡ None)) ⊎ ((refusal ≡ Refusal.NotAName) × (option_map is_name (one_word (tokens bytes.now)) ≡ Some false))) }
 {
@@ -148,8 +133,13 @@ fn domain_words(bytes: &[u8]) -> Result<(&[u8], &[u8]), Refusal>
     ensures err { IfErr result (λ refusal. (refusal ≡ Refusal.WrongForm) × (forms.domain (tokens bytes.now) ≡ None)) }
 {
     let (domain, elements) = word(bytes)?;
-    let (_first, others) = word(elements)?;
-    only_words(others)?;
+    let (_first, mut left) = word(elements)?;
+    while let Some((token, rest)) = next_token(left) {
+        let Token::Word(_) = token else {
+            return Err(Refusal::WrongForm);
+        };
+        left = rest;
+    }
     Ok((domain, elements))
 }
 
@@ -162,38 +152,18 @@ pub fn domain<'a>(alloc: Global, rest: &'a [u8]) -> Result<Command<'a>, Refusal>
     Ok(Command::Domain(domain, elements))
 }
 
-/// What stands behind an equals sign.
-fn behind_equals(bytes: &[u8]) -> Result<&[u8], Refusal>
-    ensures ok { IfOk result (λ rest. tokens bytes.now ≡ Equals ∷ tokens rest.now) }
-    ensures err { IfErr result (λ refusal. (refusal ≡ Refusal.WrongForm) × (behind_equals (tokens bytes.now) ≡ None)) }
-{
-    match next_token(bytes) {
-        Some((Token::Equals, rest)) => Ok(rest),
-        _ => Err(Refusal::WrongForm),
-    }
-}
-
-/// What stands behind a semicolon, if there is anything.
-fn further(bytes: &[u8]) -> Result<Option<&[u8]>, Refusal>
-    ensures ok { IfOk result (λ behind. further (tokens bytes.now) ≡ Some (option_map (λ rest. tokens rest.now) behind)) }
-    ensures err { IfErr result (λ refusal. (refusal ≡ Refusal.WrongForm) × (further (tokens bytes.now) ≡ None)) }
-    ensures shorter { IfOk result (λ behind. IfSome behind (λ rest. length rest.now < length bytes.now)) }
-{
-    match next_token(bytes) {
-        None => Ok(None),
-        Some((Token::Semicolon, rest)) => Ok(Some(rest)),
-        _ => Err(Refusal::WrongForm),
-    }
-}
-
 /// The pair of words that the bytes begin with, and what stands behind a semicolon, if there is anything.
 fn pair(bytes: &[u8]) -> Result<((&[u8], &[u8]), Option<&[u8]>), Refusal>
     ensures ok { IfOk result (λ found. MatchOption found.1 (forms.pairs (tokens bytes.now) ≡ Some ((found.0.0.now, found.0.1.now) ∷ [])) (λ rest. forms.pairs (tokens bytes.now) ≡ forms.join (Some (found.0.0.now, found.0.1.now)) (forms.pairs (tokens rest.now)))) }
     ensures err { IfErr result (λ refusal. (refusal ≡ Refusal.WrongForm) × (forms.pairs (tokens bytes.now) ≡ None)) }
     ensures shorter { IfOk result (λ found. IfSome found.1 (λ rest. length rest.now < length bytes.now)) }
 {
-    let ((first, second), rest) = two_words(bytes)?;
-    Ok(((first, second), further(rest)?))
+    let (pair, rest) = two_words(bytes)?;
+    match next_token(rest) {
+        None => Ok((pair, None)),
+        Some((Token::Semicolon, rest)) => Ok((pair, Some(rest))),
+        _ => Err(Refusal::WrongForm),
+    }
 }
 
 /// Pairs of words, with a semicolon between each two pairs.
@@ -222,20 +192,10 @@ fn relation_words(bytes: &[u8]) -> Result<(&[u8], (&[u8], &[u8]), &[u8]), Refusa
 {
     let (relation, rest) = word(bytes)?;
     let (domains, rest) = two_words(rest)?;
-    Ok((relation, domains, behind_equals(rest)?))
-}
-
-/// The names that three words are.
-fn three_names<'a>(
-    first: &'a [u8],
-    others: (&'a [u8], &'a [u8]),
-) -> Result<(&'a str, &'a str, &'a str), Refusal>
-    ensures ok { IfOk result (λ names. (names.0.now ≡ first.now) × (names.1.now ≡ others.entry.0.now) × (names.2.now ≡ others.entry.1.now) × (list_all is_name (first.now ∷ others.entry.0.now ∷ others.entry.1.now ∷ []) ≡ true)) }
-    ensures err { IfErr result (λ refusal. (refusal ≡ Refusal.NotAName) × (list_all is_name (first.now ∷ others.entry.0.now ∷ others.entry.1.now ∷ []) ≡ false)) }
-{
-    let first = name(first)?;
-    let (second, third) = two_names(others.0, others.1)?;
-    Ok((first, second, third))
+    match next_token(rest) {
+        Some((Token::Equals, rest)) => Ok((relation, domains, rest)),
+        _ => Err(Refusal::WrongForm),
+    }
 }
 
 /// `relation R D E = a b ; c d ..`, behind its first word.
@@ -244,7 +204,8 @@ pub fn relation<'a>(alloc: Global, rest: &'a [u8]) -> Result<Command<'a>, Refusa
 {
     let (relation, domains, rest) = relation_words(rest)?;
     let pairs = pairs(alloc, rest)?;
-    let (relation, from, to) = three_names(relation, domains)?;
+    let relation = name(relation)?;
+    let (from, to) = two_names(domains.0, domains.1)?;
     Ok(Command::Relation(relation, from, to, pairs))
 }
 
@@ -292,38 +253,6 @@ pub fn settle(rest: &[u8]) -> Result<Command<'_>, Refusal>
 {
     end(rest)?;
     Ok(Command::Settle)
-}
-
-/// `kick P`, behind its first word.
-pub fn kick(rest: &[u8]) -> Result<Command<'_>, Refusal>
-    ensures read { Reads result (command_in_form (forms.on_word commands.Command.Kick (tokens rest.now))) }
-    ensures memory { result ≢ Err Refusal.Memory }
-{
-    Ok(Command::Kick(only_name(rest)?))
-}
-
-/// `bring P`, behind its first word.
-pub fn bring(rest: &[u8]) -> Result<Command<'_>, Refusal>
-    ensures read { Reads result (command_in_form (forms.on_word commands.Command.Bring (tokens rest.now))) }
-    ensures memory { result ≢ Err Refusal.Memory }
-{
-    Ok(Command::Bring(only_name(rest)?))
-}
-
-/// `ask X`, behind its first word.
-pub fn ask(rest: &[u8]) -> Result<Command<'_>, Refusal>
-    ensures read { Reads result (command_in_form (forms.on_word commands.Command.Ask (tokens rest.now))) }
-    ensures memory { result ≢ Err Refusal.Memory }
-{
-    Ok(Command::Ask(only_name(rest)?))
-}
-
-/// `why X`, behind its first word.
-pub fn why(rest: &[u8]) -> Result<Command<'_>, Refusal>
-    ensures read { Reads result (command_in_form (forms.on_word commands.Command.Why (tokens rest.now))) }
-    ensures memory { result ≢ Err Refusal.Memory }
-{
-    Ok(Command::Why(only_name(rest)?))
 }
 
 /// `worldview`, behind its first word.

@@ -104,11 +104,11 @@ fn read_form<'a>(
         CommandWord::Attach => forms::attach(alloc, rest),
         CommandWord::Fix => forms::fix(alloc, rest),
         CommandWord::Tell => forms::tell(alloc, rest),
-        CommandWord::Kick => forms::kick(rest),
-        CommandWord::Bring => forms::bring(rest),
+        CommandWord::Kick => Ok(Command::Kick(forms::only_name(rest)?)),
+        CommandWord::Bring => Ok(Command::Bring(forms::only_name(rest)?)),
         CommandWord::Settle => forms::settle(rest),
-        CommandWord::Ask => forms::ask(rest),
-        CommandWord::Why => forms::why(rest),
+        CommandWord::Ask => Ok(Command::Ask(forms::only_name(rest)?)),
+        CommandWord::Why => Ok(Command::Why(forms::only_name(rest)?)),
         CommandWord::Worldview => forms::worldview(rest),
     }
 }

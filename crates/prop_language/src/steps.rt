@@ -48,28 +48,20 @@ fn like_words(bytes: &[u8]) -> Option<(&[u8], &[u8])>
     }
 }
 
-/// One word or one star and no more.
-fn word_or_star(bytes: &[u8]) -> Result<Given<'_>, Refusal>
-    ensures ok { IfOk result (λ found. forms.passed_form (Some (tokens bytes.now)) ≡ Some (passed_said found)) }
-    ensures err { IfErr result (λ refusal. (refusal ≡ Refusal.WrongForm) × (forms.passed_form (Some (tokens bytes.now)) ≡ None)) }
-{
-    match next_token(bytes) {
-        Some((Token::Star, rest)) => {
-            end(rest)?;
-            Ok(Given::Own)
-        }
-        _ => Ok(Given::Said(Some(only_word(bytes)?))),
-    }
-}
-
-/// The word or the star behind the first `by`, if there is a `by`. Before it stand words alone.
+/// The word or the star behind the first `by`, if there is a `by`. Before it stand words alone, and behind it nothing more.
 fn given_behind_by(bytes: &[u8]) -> Result<Given<'_>, Refusal>
     ensures ok { IfOk result (λ found. given forms.passed_form (tokens bytes.now) ≡ Some (passed_said found)) }
     ensures err { IfErr result (λ refusal. (refusal ≡ Refusal.WrongForm) × (given forms.passed_form (tokens bytes.now) ≡ None)) }
 {
-    match behind_by(bytes)? {
-        Some(rest) => word_or_star(rest),
-        None => Ok(Given::Said(None)),
+    let Some(rest) = behind_by(bytes)? else {
+        return Ok(Given::Said(None));
+    };
+    match next_token(rest) {
+        Some((Token::Star, rest)) => {
+            end(rest)?;
+            Ok(Given::Own)
+        }
+        _ => Ok(Given::Said(Some(only_word(rest)?))),
     }
 }
 
@@ -155,29 +147,21 @@ fn read_steps<'a>(alloc: Global, bytes: &'a [u8]) -> Result<Steps<'a>, Refusal>
     Ok(steps)
 }
 
-/// What stands behind the first equals sign. Before it stand words alone.
-fn body(bytes: &[u8]) -> Result<&[u8], Refusal>
-    ensures ok { IfOk result (λ rest. body (tokens bytes.now) ≡ Some (tokens rest.now)) }
-    ensures err { IfErr result (λ refusal. (refusal ≡ Refusal.WrongForm) × (body (tokens bytes.now) ≡ None)) }
-{
-    let mut left = bytes;
-    loop {
-        match next_token(left) {
-            Some((Token::Word(_), rest)) => left = rest,
-            Some((Token::Equals, rest)) => return Ok(rest),
-            _ => return Err(Refusal::WrongForm),
-        }
-    }
-}
-
-/// A definition's word, the bytes from its first parameter on, and what stands behind the equals sign.
+/// A definition's word, the bytes from its first parameter on, and what stands behind the first equals sign. Before that stand
+/// words alone.
 fn definition_words(bytes: &[u8]) -> Result<(&[u8], &[u8], &[u8]), Refusal>
     ensures ok { IfOk result (λ found. forms.define (tokens bytes.now) ≡ option_map (commands.Command.Define found.0.now (front_words (tokens found.1.now))) (forms.steps (tokens found.2.now))) }
     ensures err { IfErr result (λ refusal. (refusal ≡ Refusal.WrongForm) × (forms.define (tokens bytes.now) ≡ None)) }
 {
     let (defined, params) = word(bytes)?;
-    let (_first, others) = word(params)?;
-    Ok((defined, params, body(others)?))
+    let (_first, mut left) = word(params)?;
+    loop {
+        match next_token(left) {
+            Some((Token::Word(_), rest)) => left = rest,
+            Some((Token::Equals, rest)) => return Ok((defined, params, rest)),
+            _ => return Err(Refusal::WrongForm),
+        }
+    }
 }
 
 /// `define N p.. = step ; step ..`, behind its first word. Over all steps a wrong form comes before a word that is no name, and

@@ -1,8 +1,7 @@
-use Rattle.std.proofs.Common.{◌∷◌, ◌∙◌, ap}
+use Rattle.std.proofs.Common.{◌∙◌, ap}
 use Rattle.std.proofs.lemmas.Result.{err_from_is_err_and}
-use Rattle.prop_language.specs.Tokens.{Word}
 use Rattle.prop_language.specs.Forms.{relation}
-use Rattle.prop_language.proofs.Forming.{no_relation, no_domains, no_equals}
+use Rattle.prop_language.proofs.Forming.{no_relation, no_domains}
 use Rattle.prop_language.proofs.forms.relation_words.Goals as goal
 
 pub returns-in_err-relation-clause-err : goal.returns-in_err-relation-clause-err
@@ -14,8 +13,3 @@ pub returns-in_err-domains-clause-err : goal.returns-in_err-domains-clause-err
 returns-in_err-domains-clause-err c =
     let p = err_from_is_err_and c.from_residual-in_err-domains.result c.from_residual-in_err-domains.ensures.1 in
     rw (p.1, p.2) (c.in_err-domains.ensures.err.0, ap relation c.in_ok-relation.ensures.ok ∙ no_domains _ _ c.in_err-domains.ensures.err.1)
-
-pub returns-in_err-behind_equals-clause-err : goal.returns-in_err-behind_equals-clause-err
-returns-in_err-behind_equals-clause-err c =
-    let p = err_from_is_err_and c.from_residual-in_err-behind_equals.result c.from_residual-in_err-behind_equals.ensures.1 in
-    rw (p.1, p.2) (c.in_err-behind_equals.ensures.err.0, ap relation c.in_ok-relation.ensures.ok ∙ ap (λ l. relation (Word c.in_ok-relation.relation.now ∷ l)) c.in_ok-domains.ensures.ok ∙ no_equals _ _ _ _ c.in_err-behind_equals.ensures.err.1)

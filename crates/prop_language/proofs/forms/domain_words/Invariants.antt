@@ -1,10 +1,10 @@
 use Rattle.std.proofs.Common.{◌≡◌, length}
 use Rattle.prop_language.specs.Tokens.{tokens}
 use Rattle.prop_language.specs.Parts.{are_words}
-use Rattle.prop_language.proofs.forms.only_words.Given as goal
+use Rattle.prop_language.proofs.forms.domain_words.Given as goal
 
 abbrev pub invariant-loop-token : goal.invariant-loop-token
-invariant-loop-token l = are_words (tokens l.left) ≡ are_words (tokens l.bytes)
+invariant-loop-token l = are_words (tokens l.left) ≡ are_words (tokens l.elements)
 
 abbrev pub decreases-loop-token : goal.decreases-loop-token
 decreases-loop-token l = length l.left
