@@ -1,14 +1,13 @@
 -- What the parts of a form make together.
-use Rattle.std.proofs.Common.{◌≡◌, ℕ, List, [], ◌∷◌, ◌++◌, Bool, true, false, cond, refl, sym, ◌∙◌, ap, arith, Some, None, Ok, Err, inl, inr, subst}
-use Rattle.std.specs.Prelude.{Option, Result, ⊤, ◌⊎◌, ◌≢◌, Contains, MatchOption, bytes_eq, codes, not, ◌&&◌}
+use Rattle.std.proofs.Common.{◌≡◌, ℕ, List, [], ◌∷◌, ◌++◌, Bool, true, false, cond, refl, sym, ◌∙◌, ap, arith, Some, None, Ok, Err, inl, inr}
+use Rattle.std.specs.Prelude.{Option, Result, ⊤, ◌⊎◌, ◌≢◌, Contains, bytes_eq, codes, not, ◌&&◌}
 use Rattle.std.specs.Option.{option_map, option_and_then}
 use Rattle.std.specs.List.{list_all}
 use Rattle.std.proofs.lemmas.Bool.{false≢true}
 use Rattle.std.proofs.lemmas.List.Folds.{list_all-append}
 use Rattle.prop_lattice.specs.declared.refusal.Refusal.{Refusal}
 use Rattle.prop_lattice.specs.declared.refusal.Refusal.TheVariants.{WrongForm, NotAName, NotANumber, Memory}
-use Rattle.std.specs.Borrow.{Bor}
-use Rattle.prop_language.specs.Tokens.{Token, Word, Open, Close, Equals, tokens}
+use Rattle.prop_language.specs.Tokens.{Token, Word, Open, Close, Semicolon, Equals}
 use Rattle.prop_language.specs.Names.{is_name}
 use Rattle.prop_language.specs.Commands.{Value, KindWord, By, Passed, Step, Command}
 use Rattle.prop_language.specs.Forms.{join, only_words, domain, pairs, relation, kind_word, cell, tell, values, in_braces, one_value, only_value, cells_by, by_form, attach, with_cell, passed_form, use_step}
@@ -319,11 +318,6 @@ no_pair (Word a ∷ Word b ∷ ts) h = cc
 no_pair (Word a ∷ t ∷ ts) h = refl
 no_pair (t ∷ ts) h = refl
 
--- what a pair and what stands behind it say of all pairs
-abbrev pub ReadsPair : Option (Bor (List ℕ)) → List Token → List ℕ → List ℕ → Type 0
-ReadsPair behind ts a b =
-    MatchOption behind (pairs ts ≡ Some ((a, b) ∷ [])) (λ rest. pairs ts ≡ join (Some (a, b)) (pairs (tokens rest.now)))
-
 -- the pairs so far and those to come are all pairs
 abbrev pub Remain : (ps : List (List ℕ × List ℕ)) (ts all : List Token) → Type 0
 Remain ps ts all = before_pairs ps (pairs ts) ≡ pairs all
@@ -331,15 +325,19 @@ Remain ps ts all = before_pairs ps (pairs ts) ≡ pairs all
 pub none_remain : (ps : List (List ℕ × List ℕ)) (ts all : List Token) (refusal : Refusal) → Remain ps ts all → (refusal ≡ WrongForm) × (pairs ts ≡ None) → (refusal ≡ Memory) ⊎ ((refusal ≡ WrongForm) × (pairs all ≡ None))
 none_remain ps ts all refusal r h = inr (h.0, sym r ∙ ap (before_pairs ps) h.1 ∙ none_after ps)
 
-pub one_more_remains : (behind : Option (Bor (List ℕ))) (rest : Bor (List ℕ)) (ps qs : List (List ℕ × List ℕ)) (ts all : List Token) (a b : List ℕ) → behind ≡ Some rest → ReadsPair behind ts a b → Remain ps ts all → qs ≡ ps ++ (a, b) ∷ [] → Remain qs (tokens rest.now) all
-one_more_remains behind rest ps qs ts all a b at p r e =
-    let left : ReadsPair (Some rest) ts a b = subst (λ o. ReadsPair o ts a b) at p in
-    ap (λ l. before_pairs l (pairs (tokens rest.now))) e ∙ one_more ps (a, b) (pairs (tokens rest.now)) ∙ ap (before_pairs ps) (sym left) ∙ r
+-- the pairs so far, and one that is read
+abbrev pub IsNext : (ps qs : List (List ℕ × List ℕ)) (ts rest : List Token) (a b : List ℕ) → Type 0
+IsNext ps qs ts rest a b = (ts ≡ Word a ∷ Word b ∷ rest) × (qs ≡ ps ++ (a, b) ∷ [])
 
-pub no_more_remain : (behind : Option (Bor (List ℕ))) (ps qs : List (List ℕ × List ℕ)) (ts all : List Token) (a b : List ℕ) → behind ≡ None → ReadsPair behind ts a b → Remain ps ts all → qs ≡ ps ++ (a, b) ∷ [] → pairs all ≡ Some qs
-no_more_remain behind ps qs ts all a b at p r e =
-    let last : ReadsPair None ts a b = subst (λ o. ReadsPair o ts a b) at p in
-    sym r ∙ ap (before_pairs ps) last ∙ all_before ps ((a, b) ∷ []) ∙ ap Some (sym e)
+pub one_more_remains : (ps qs : List (List ℕ × List ℕ)) (ts rest behind all : List Token) (a b : List ℕ) → IsNext ps qs ts rest a b → rest ≡ Semicolon ∷ behind → Remain ps ts all → Remain qs behind all
+one_more_remains ps qs ts rest behind all a b n e r =
+    let here : pairs ts ≡ join (Some (a, b)) (pairs behind) = rw (n.0, e) refl in
+    ap (λ l. before_pairs l (pairs behind)) n.1 ∙ one_more ps (a, b) (pairs behind) ∙ ap (before_pairs ps) (sym here) ∙ r
+
+pub no_more_remain : (ps qs : List (List ℕ × List ℕ)) (ts rest all : List Token) (a b : List ℕ) → IsNext ps qs ts rest a b → rest ≡ [] → Remain ps ts all → pairs all ≡ Some qs
+no_more_remain ps qs ts rest all a b n e r =
+    let last : pairs ts ≡ Some ((a, b) ∷ []) = rw (n.0, e) refl in
+    sym r ∙ ap (before_pairs ps) last ∙ all_before ps ((a, b) ∷ []) ∙ ap Some (sym n.1)
 
 -- ---- relations
 

@@ -1,5 +1,5 @@
 //! The form of each command: what is read from the bytes behind its word.
-ghost use Rattle.std.specs.Prelude.{◌≡◌, ◌≢◌, ◌<◌, ◌∷◌, ◌++◌, [], ◌⊎◌, MatchOption, IfOk, IfErr, OnOk, true, false, Contains, Ok, Err, None, Some, IfSome, length};
+ghost use Rattle.std.specs.Prelude.{◌≡◌, ◌≢◌, ◌<◌, ◌∷◌, ◌++◌, [], ◌⊎◌, ◌↔◌, MatchOption, IsTrue, IfOk, IfErr, OnOk, true, false, Contains, Ok, Err, None, Some, IfSome, length};
 ghost use Rattle.std.specs.List.{list_all};
 ghost use Rattle.std.specs.Option.{option_map, option_and_then};
 ghost use Rattle.prop_language.specs.Tokens.{tokens, Word, Open, Equals};
@@ -29,15 +29,11 @@ pub(crate) fn word(bytes: &[u8]) -> Result<(&[u8], &[u8]), Refusal>
     }
 }
 
-/// Nothing but spaces and tabs.
-pub(crate) fn end(bytes: &[u8]) -> Result<(), Refusal>
-    ensures ok { OnOk result (tokens bytes.now ≡ []) }
-    ensures err { IfErr result (λ refusal. (refusal ≡ Refusal.WrongForm) × (tokens bytes.now ≢ [])) }
+/// Whether there is nothing but spaces and tabs.
+pub(crate) fn is_end(bytes: &[u8]) -> bool
+    ensures { IsTrue result ↔ (tokens bytes.now ≡ []) }
 {
-    match next_token(bytes) {
-        None => Ok(()),
-        Some(_) => Err(Refusal::WrongForm),
-    }
+    next_token(bytes).is_none()
 }
 
 /// One word and no more.
@@ -45,9 +41,10 @@ pub(crate) fn only_word(bytes: &[u8]) -> Result<&[u8], Refusal>
     ensures ok { IfOk result (λ word. tokens bytes.now ≡ Word word.now ∷ []) }
     ensures err { IfErr result (λ refusal. (refusal ≡ Refusal.WrongForm) × (one_word (tokens bytes.now) ≡ None)) }
 {
-    let (word, rest) = word(bytes)?;
-    end(rest)?;
-    Ok(word)
+    match word(bytes) {
+        Ok((word, rest)) if is_end(rest) => Ok(word),
+        _ => Err(Refusal::WrongForm),
+    }
 }
 
 /// The first two words, and what stands behind them.
@@ -66,8 +63,10 @@ pub(crate) fn only_two_words(bytes: &[u8]) -> Result<(&[u8], &[u8]), Refusal>
     ensures ok { IfOk result (λ found. tokens bytes.now ≡ Word found.0.now ∷ Word found.1.now ∷ []) }
     ensures err { IfErr result (λ refusal. (refusal ≡ Refusal.WrongForm) × (forms.cell (tokens bytes.now) ≡ None)) }
 {
-    let (first, rest) = word(bytes)?;
-    Ok((first, only_word(rest)?))
+    match two_words(bytes) {
+        Ok((words, rest)) if is_end(rest) => Ok(words),
+        _ => Err(Refusal::WrongForm),
+    }
 }
 
 /// One name and no more.
@@ -152,20 +151,6 @@ pub fn domain<'a>(alloc: Global, rest: &'a [u8]) -> Result<Command<'a>, Refusal>
     Ok(Command::Domain(domain, elements))
 }
 
-/// The pair of words that the bytes begin with, and what stands behind a semicolon, if there is anything.
-fn pair(bytes: &[u8]) -> Result<((&[u8], &[u8]), Option<&[u8]>), Refusal>
-    ensures ok { IfOk result (λ found. MatchOption found.1 (forms.pairs (tokens bytes.now) ≡ Some ((found.0.0.now, found.0.1.now) ∷ [])) (λ rest. forms.pairs (tokens bytes.now) ≡ forms.join (Some (found.0.0.now, found.0.1.now)) (forms.pairs (tokens rest.now)))) }
-    ensures err { IfErr result (λ refusal. (refusal ≡ Refusal.WrongForm) × (forms.pairs (tokens bytes.now) ≡ None)) }
-    ensures shorter { IfOk result (λ found. IfSome found.1 (λ rest. length rest.now < length bytes.now)) }
-{
-    let (pair, rest) = two_words(bytes)?;
-    match next_token(rest) {
-        None => Ok((pair, None)),
-        Some((Token::Semicolon, rest)) => Ok((pair, Some(rest))),
-        _ => Err(Refusal::WrongForm),
-    }
-}
-
 /// Pairs of words, with a semicolon between each two pairs.
 fn pairs<'a>(alloc: Global, bytes: &'a [u8]) -> Result<Vec<(&'a [u8], &'a [u8])>, Refusal>
     ensures ok { IfOk result (λ found. forms.pairs (tokens bytes.now) ≡ Some (pairs_of found.items)) }
@@ -174,13 +159,14 @@ fn pairs<'a>(alloc: Global, bytes: &'a [u8]) -> Result<Vec<(&'a [u8], &'a [u8])>
     let mut found = Vec::new(alloc);
     let mut left = bytes;
     loop {
-        let (pair, behind) = pair(left)?;
+        let (pair, rest) = two_words(left)?;
         if found.push(pair).is_err() {
             return Err(Refusal::Memory);
         }
-        match behind {
-            Some(rest) => left = rest,
+        match next_token(rest) {
             None => return Ok(found),
+            Some((Token::Semicolon, rest)) => left = rest,
+            _ => return Err(Refusal::WrongForm),
         }
     }
 }
@@ -251,8 +237,11 @@ pub fn settle(rest: &[u8]) -> Result<Command<'_>, Refusal>
     ensures read { Reads result (command_in_form (forms.bare commands.Command.Settle (tokens rest.now))) }
     ensures memory { result ≢ Err Refusal.Memory }
 {
-    end(rest)?;
-    Ok(Command::Settle)
+    if is_end(rest) {
+        Ok(Command::Settle)
+    } else {
+        Err(Refusal::WrongForm)
+    }
 }
 
 /// `worldview`, behind its first word.
@@ -260,8 +249,11 @@ pub fn worldview(rest: &[u8]) -> Result<Command<'_>, Refusal>
     ensures read { Reads result (command_in_form (forms.bare commands.Command.Worldview (tokens rest.now))) }
     ensures memory { result ≢ Err Refusal.Memory }
 {
-    end(rest)?;
-    Ok(Command::Worldview)
+    if is_end(rest) {
+        Ok(Command::Worldview)
+    } else {
+        Err(Refusal::WrongForm)
+    }
 }
 
 /// What stands behind the first `by`, if there is a `by`. Before it stand words alone.
@@ -394,8 +386,11 @@ fn only_value<'a>(alloc: Global, bytes: &'a [u8]) -> Result<Value<'a>, Refusal>
     ensures memory { (result ≡ Err Refusal.Memory) → BeginsOpen (tokens bytes.now) }
 {
     let (value, rest) = value(alloc, bytes)?;
-    end(rest)?;
-    Ok(value)
+    if is_end(rest) {
+        Ok(value)
+    } else {
+        Err(Refusal::WrongForm)
+    }
 }
 
 /// `fix X V`, behind its first word.

@@ -11,7 +11,7 @@ ghost use Rattle.prop_language.specs.Parts.{behind_word, front_words, given, pas
 
 use crate::command::{Command, Passed, Step};
 use crate::forms::{
-    behind_by, end, listed_names, named_kind, only_two_words, only_word, parameter, two_names,
+    behind_by, is_end, listed_names, named_kind, only_two_words, only_word, parameter, two_names,
     two_words, used_names, word,
 };
 use crate::tokens::{Token, next_token};
@@ -57,10 +57,7 @@ fn given_behind_by(bytes: &[u8]) -> Result<Given<'_>, Refusal>
         return Ok(Given::Said(None));
     };
     match next_token(rest) {
-        Some((Token::Star, rest)) => {
-            end(rest)?;
-            Ok(Given::Own)
-        }
+        Some((Token::Star, rest)) if is_end(rest) => Ok(Given::Own),
         _ => Ok(Given::Said(Some(only_word(rest)?))),
     }
 }
