@@ -182,7 +182,7 @@ part_refused names in_range part whole refusal h = at (not (list_all is_name nam
     at false true h = cc
     at false false h = cc
 
-part_judged : {X Y : Type 0} (names : List (List ℕ)) (in_range : Bool) (part part' : X) (made : X → Y) → judged names in_range part ≡ Ok part' → judged names in_range (made part) ≡ Ok (made part')
+pub part_judged : {X Y : Type 0} (names : List (List ℕ)) (in_range : Bool) (part part' : X) (made : X → Y) → judged names in_range part ≡ Ok part' → judged names in_range (made part) ≡ Ok (made part')
 part_judged {X = X} {Y = Y} names in_range part part' made h = at (not (list_all is_name names)) (not in_range) h
   where
     at : (unnamed outside : Bool) → cond {A = Result X Refusal} unnamed (Err NotAName) (cond outside (Err NotANumber) (Ok part)) ≡ Ok part' → cond {A = Result Y Refusal} unnamed (Err NotAName) (cond outside (Err NotANumber) (Ok (made part))) ≡ Ok (made part')

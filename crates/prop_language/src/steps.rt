@@ -62,17 +62,6 @@ fn given_behind_by(bytes: &[u8]) -> Result<Given<'_>, Refusal>
     }
 }
 
-/// What a step's use is given, where its word is a name, or a number of the range.
-fn passed(given: Given<'_>) -> Result<Passed<'_>, Refusal>
-    ensures ok { IfOk result (λ passed. passed_in_range (passed_said given.entry) ≡ Ok (passed_of passed)) }
-    ensures err { IfErr result (λ refusal. passed_in_range (passed_said given.entry) ≡ Err refusal) }
-{
-    match given {
-        Given::Said(word) => Ok(Passed::Said(parameter(word)?)),
-        Given::Own => Ok(Passed::Own),
-    }
-}
-
 /// A step that is a use: `M a.. [by P]`.
 fn use_step<'a>(alloc: Global, bytes: &'a [u8]) -> Result<Step<'a>, Refusal>
     ensures ok { IfOk result (λ step. step_in_form (forms.use_step (tokens bytes.now)) ≡ Ok (step_of step)) }
@@ -81,7 +70,11 @@ fn use_step<'a>(alloc: Global, bytes: &'a [u8]) -> Result<Step<'a>, Refusal>
     let (front, rest) = two_words(bytes)?;
     let given = given_behind_by(rest)?;
     let (used, cells) = used_names(alloc, front, rest)?;
-    Ok(Step::Use(used, cells, passed(given)?))
+    let passed = match given {
+        Given::Said(word) => Passed::Said(parameter(word)?),
+        Given::Own => Passed::Own,
+    };
+    Ok(Step::Use(used, cells, passed))
 }
 
 /// One step: a local where it has one of the two forms, and else a use.
