@@ -23,7 +23,7 @@ use Rattle.prop_texts.specs.Texts.{because, contradiction_text}
 
 module _ (library : List Stored) (related : ℕ → Param → List Point → Point → Type 0) (sound : AreSoundBy library related) (s : State) (fit : AreFitting library (attached_in s)) where
   -- what the answer says of points
-  Bears : Command → List ℕ → Type 0
+  abbrev Bears : Command → List ℕ → Type 0
   Bears command text = ((ps : List ℕ) × (text ≡ contradiction_text s.premises ps) × IsPart (set_of ps) (worldview_of s) × AreRefuted related s ps) ⊎ ((points : ℕ → Point) → Satisfy related s points → BearsOut s points command text)
 
   -- premises in conflict are refuted
