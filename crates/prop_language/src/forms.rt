@@ -232,6 +232,17 @@ pub fn cell(rest: &[u8]) -> Result<Command<'_>, Refusal>
     Ok(Command::Cell(cell, kind))
 }
 
+/// `limit N`, behind its first word: a number from 0 to 1,000,000,000,000,000.
+pub fn limit(rest: &[u8]) -> Result<Command<'_>, Refusal>
+    ensures read { Reads result (command_in_form (forms.on_word forms.limit_of (tokens rest.now))) }
+    ensures memory { result ≢ Err Refusal.Memory }
+{
+    match number_in(0, 1_000_000_000_000_000, only_word(rest)?) {
+        Some(steps) => Ok(Command::Limit(steps.unsigned_abs())),
+        None => Err(Refusal::NotANumber),
+    }
+}
+
 /// `settle`, behind its first word.
 pub fn settle(rest: &[u8]) -> Result<Command<'_>, Refusal>
     ensures read { Reads result (command_in_form (forms.bare commands.Command.Settle (tokens rest.now))) }
