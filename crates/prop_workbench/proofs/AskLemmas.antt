@@ -44,19 +44,19 @@ free library s Worldview named = refl
 free library s (Ask cell name) named = rw named refl
 free library s (Why cell name) named = rw named refl
 
-carries : (library : List Stored) (s : State) (question : Question) (answer : Answer) (steps : ℕ) → Runs library s (command_of question) answer s steps → Carries library s (command_of question) answer s steps
-carries library s Settle answer steps r = r
-carries library s Worldview answer steps r = r
-carries library s (Ask cell name) answer steps r = r
-carries library s (Why cell name) answer steps r = r
+carries : (library : List Stored) (s t : State) (question : Question) (answer : Answer) (steps : ℕ) → Runs library s (command_of question) answer t steps → Carries library s (command_of question) answer t steps
+carries library s t Settle answer steps r = r
+carries library s t Worldview answer steps r = r
+carries library s t (Ask cell name) answer steps r = r
+carries library s t (Why cell name) answer steps r = r
 
 -- the run ended so, and what is answered may be said then
-pub ran : (library : List Stored) (s : State) (question : Question) (outcome : Outcome) (answer : Answer) (steps : ℕ) → IsNamed s question → MayEnd library s outcome → MaySay library s (command_of question) outcome steps answer → steps ≤ s.limit →
-    Obeys library s (command_of question) answer s steps
-ran library s question outcome answer steps named ends (inl (text, replies, e)) within =
-    obeys library s s (command_of question) answer steps (free library s question named)
-    (carries library s question answer steps (record { outcome = outcome; ends = ends; text = text; replies = replies; answer_is = e; same = refl; within = within }))
-ran library s question outcome answer steps named ends (inr m) within = inr (record { answer_is = m; same = refl })
+pub ran : (library : List Stored) (s t : State) (question : Question) (outcome : Outcome) (answer : Answer) (steps : ℕ) → t ≡ s → IsNamed s question → MayEnd library s outcome → MaySay library s (command_of question) outcome steps answer → steps ≤ s.limit →
+    Obeys library s (command_of question) answer t steps
+ran library s t question outcome answer steps same named ends (inl (text, replies, e)) within =
+    obeys library s t (command_of question) answer steps (free library s question named)
+    (carries library s t question answer steps (record { outcome = outcome; ends = ends; text = text; replies = replies; answer_is = e; same = same; within = within }))
+ran library s t question outcome answer steps same named ends (inr m) within = inr (record { answer_is = m; same = same })
 
 -- a contradiction may be said to each question
 pub may_contradict : (library : List Stored) (s : State) (question : Question) (support : List ℕ) (answer : Answer) (steps : ℕ) → IsStrictlyIncreasing support → Says answer (contradiction_text s.premises support) →

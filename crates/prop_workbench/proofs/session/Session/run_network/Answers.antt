@@ -1,5 +1,6 @@
 use Rattle.std.proofs.Common.{ap, refl}
 use Rattle.prop_workbench.proofs.AskLemmas.{has_run}
+use Rattle.prop_workbench.proofs.EarnedLemmas.{has_gone}
 use Rattle.prop_workbench.proofs.session.Session.run_network.Goals as goal
 
 pub run-requires-clause-under_way : goal.run-requires-clause-under_way
@@ -28,3 +29,8 @@ pub returns-clause-run : goal.returns-clause-run
 returns-clause-run g c =
     let believed = c.requires.sound.worldview in
     has_run g.R.Rule.value_of _ c.run.result (rw believed at c.run.ensures.quiet) (rw believed at c.run.ensures.conflict) (rw believed at c.run.ensures.clash) c.run.ensures.steps c.run.ensures.spent
+
+pub returns-clause-gone : goal.returns-clause-gone
+returns-clause-gone g c =
+    let believed = c.requires.sound.worldview in
+    has_gone g.R.Rule.value_of c.args.self.now _ c.run.result (rw believed at c.run.ensures.turns) (rw believed at c.run.ensures.clash) c.run.ensures.left
