@@ -35,7 +35,7 @@ reading-kept_of line = elim (cases_lt 4097 (length line)) [
 pub workbench_asks_by_front : (library : List Stored) (related : ℕ → Param → List Point → Point → Type 0) → AsksByFront (workbench library related)
 workbench_asks_by_front library related old line answer new s = record {
   steps = s.steps;
-  points = λ sound points command text p read e. s.points sound points command text p (reading-kept_of line ∙ read) e;
+  points = λ sound command text read e. s.points sound command text (reading-kept_of line ∙ read) e;
   step = subst (λ (read : Result (Option Command) Refusal). Follows library old read answer new s.steps) (reading-kept_of line) s.step;
 }
 
@@ -53,4 +53,4 @@ follows_somehow library old (Err refusal) = (Refused Memory, record { steps = 0;
 pub workbench_is_total : (library : List Stored) (related : ℕ → Param → List Point → Point → Type 0) → IsTotal (workbench library related)
 workbench_is_total library related old line =
     let somehow = follows_somehow library old (reading line) in
-    (somehow.0, record { steps = somehow.1.steps; step = somehow.1.follows; points = λ sound points command text p read e. absurd (somehow.1.no_text text e) })
+    (somehow.0, record { steps = somehow.1.steps; step = somehow.1.follows; points = λ sound command text read e. absurd (somehow.1.no_text text e) })

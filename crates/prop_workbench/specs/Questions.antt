@@ -6,6 +6,7 @@ use Rattle.prop_lattice.specs.declared.refusal.Refusal.TheVariants.{Memory}
 use Rattle.prop_premises.specs.Origins.{believed_in}
 use Rattle.prop_procedures.specs.declared.shape.Param.{Param}
 use Rattle.prop_procedures.specs.Stored.{Stored}
+use Rattle.prop_cells.specs.Problems.{Premises}
 use Rattle.prop_cells.specs.Data.{IsClash}
 use Rattle.prop_scheduler.specs.Ends.{IfClash}
 use Rattle.prop_scheduler.specs.Turns.{IsSettled, Turns}
@@ -18,10 +19,10 @@ use Rattle.prop_engine.specs.Answers.{Answer, Text, Refused}
 use Rattle.prop_workbench.specs.declared.asking.Question.{Question}
 use Rattle.prop_workbench.specs.declared.asking.Question.TheVariants.{Settle, Worldview, Ask, Why}
 use Rattle.prop_workbench.specs.declared.session.Session.{Session}
-use Rattle.prop_workbench.specs.Machine.{State}
+use Rattle.prop_workbench.specs.Machine.{State, worldview_of}
 use Rattle.prop_workbench.specs.Reasons.{IsLeanAnswer}
 use Rattle.prop_workbench.specs.Running.{Outcome, outcome_of, MayEnd, Replies}
-use Rattle.prop_workbench.specs.Sessions.{state_of, library_of}
+use Rattle.prop_workbench.specs.Sessions.{Work, state_of, library_of}
 
 -- the command that asks so
 abbrev pub command_of : Question → Command
@@ -45,32 +46,32 @@ pub record HasRun {R O : Type 0} {X : Type 0} {F : X → Type 0} {g : _} (value 
   pub within : steps ≤ (state_of s).limit
   pub spent : end ≡ Spent → steps ≡ (state_of s).limit
 
--- The network went from the one session to the other by exactly so many steps, each of which called a waiting procedure. Where a contradiction ended that, it is
--- there now, and where the steps were used up, some procedure still waits.
-pub record HasGone {R O : Type 0} {X : Type 0} {F : X → Type 0} {g : _} (value : R → Param → List Info → Info) (old new : Session R O X F g) (end : Run) (steps : ℕ) : Type 0 where
-  pub turns : Turns (library_of value old) (believed_in old.premises) old.network.cells old.agenda.line steps new.network.cells new.agenda.line
-  pub clash : IfClash end (IsClash (believed_in old.premises) new.network.cells)
-  pub left : end ≡ Spent → 0 < length new.agenda.line
+-- From the one network to the other it took exactly so many steps, each of which called a waiting procedure. Where a contradiction ended that, it is there now,
+-- and where the steps were used up, some procedure still waits.
+pub record HasGone (library : List Stored) (s : Premises) (old new : Work) (end : Run) (steps : ℕ) : Type 0 where
+  pub turns : Turns library s old.cells old.line steps new.cells new.line
+  pub clash : IfClash end (IsClash s new.cells)
+  pub left : end ≡ Spent → 0 < length new.line
 
 -- the answer is a text that the machine may reply where a run ended so, or memory was refused
 abbrev pub MaySay : List Stored → State → Command → Outcome → ℕ → Answer → Type 0
 MaySay library s command outcome steps answer = ((text : List ℕ) × Replies library s command outcome steps text × (answer ≡ Text text)) ⊎ (answer ≡ Refused Memory)
 
--- the text replies to the command as the network went from the one session to the other
-pub record IsEarned {R O : Type 0} {X : Type 0} {F : X → Type 0} {g : _} (value : R → Param → List Info → Info) (old new : Session R O X F g) (command : Command) (text : List ℕ) (steps : ℕ) : Type 0 where
+-- the text replies to the command as the network went from the one to the other
+pub record IsEarned (library : List Stored) (s : State) (old new : Work) (command : Command) (text : List ℕ) (steps : ℕ) : Type 0 where
   pub end : Run
-  pub gone : HasGone value old new end steps
-  pub replies : Replies (library_of value old) (state_of old) command (outcome_of end) steps text
+  pub gone : HasGone library (worldview_of s) old new end steps
+  pub replies : Replies library s command (outcome_of end) steps text
 
 -- what a line that was read so is answered: a text to what runs the network is earned by the calls that it counts
-abbrev pub Earns : {R O : Type 0} {X : Type 0} {F : X → Type 0} {g : _} → (R → Param → List Info → Info) → (old new : Session R O X F g) → Result (Option Command) Refusal → Answer → ℕ → Type 0
-Earns value old new (Ok (Some commands.Command.Settle)) (Text text) steps = IsEarned value old new commands.Command.Settle text steps
-Earns value old new (Ok (Some (commands.Command.Ask x))) (Text text) steps = IsEarned value old new (commands.Command.Ask x) text steps
-Earns value old new (Ok (Some (commands.Command.Why x))) (Text text) steps = IsEarned value old new (commands.Command.Why x) text steps
-Earns value old new (Ok (Some commands.Command.Worldview)) (Text text) steps = IsEarned value old new commands.Command.Worldview text steps
-Earns value old new read answer steps = ⊤
+abbrev pub Earns : List Stored → State → Work → Work → Result (Option Command) Refusal → Answer → ℕ → Type 0
+Earns library s old new (Ok (Some commands.Command.Settle)) (Text text) steps = IsEarned library s old new commands.Command.Settle text steps
+Earns library s old new (Ok (Some (commands.Command.Ask x))) (Text text) steps = IsEarned library s old new (commands.Command.Ask x) text steps
+Earns library s old new (Ok (Some (commands.Command.Why x))) (Text text) steps = IsEarned library s old new (commands.Command.Why x) text steps
+Earns library s old new (Ok (Some commands.Command.Worldview)) (Text text) steps = IsEarned library s old new commands.Command.Worldview text steps
+Earns library s old new read answer steps = ⊤
 
 -- what an answer rests on: an explanation is lean, and a text is earned
-pub record RestsOn {R O : Type 0} {X : Type 0} {F : X → Type 0} {g : _} (value : R → Param → List Info → Info) (old new : Session R O X F g) (read : Result (Option Command) Refusal) (answer : Answer) (steps : ℕ) : Type 0 where
-  pub lean : IsLeanAnswer new.network.cells (state_of old) read answer
-  pub earned : Earns value old new read answer steps
+pub record RestsOn (library : List Stored) (s : State) (old new : Work) (read : Result (Option Command) Refusal) (answer : Answer) (steps : ℕ) : Type 0 where
+  pub lean : IsLeanAnswer new.cells s read answer
+  pub earned : Earns library s old new read answer steps

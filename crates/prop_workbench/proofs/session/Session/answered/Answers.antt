@@ -1,11 +1,11 @@
-use Rattle.std.proofs.Common.{Ok, Some, sym, subst}
+use Rattle.std.proofs.Common.{ap, Ok, Some, sym, subst}
 use Rattle.prop_lattice.specs.declared.refusal.Refusal.TheVariants.{Memory}
 use Rattle.prop_procedures.specs.Kept.{stored_of}
 use Rattle.prop_workbench.specs.Machine.{State}
 use Rattle.prop_engine.specs.Answers.{answer_of}
 use Rattle.prop_workbench.specs.Questions.{command_of, IsNamed}
 use Rattle.prop_workbench.specs.Reasons.{IsLeanAnswer}
-use Rattle.prop_workbench.specs.Sessions.{state_of}
+use Rattle.prop_workbench.specs.Sessions.{state_of, work_of}
 use Rattle.prop_workbench.specs.Running.{outcome_of}
 use Rattle.prop_workbench.proofs.AskLemmas.{ran}
 use Rattle.prop_workbench.proofs.EarnedLemmas.{earns, earns_refused}
@@ -28,7 +28,7 @@ returns-in-Ok-clause-step g c =
     let t = c.run_network.new.self in
     let said = c.in-Ok.ensures.run in
     ran (stored_of g.R.Rule.value_of s.network.library) (state_of s) (state_of t) c.args.question (outcome_of c.in-Ok.end) _ c.in-Ok.steps c.run_network.ensures.state c.requires.named
-    (rw (c.run_network.ensures.keeps.library, c.run_network.ensures.state) at said.ends) (rw (c.run_network.ensures.keeps.library, c.run_network.ensures.state) at c.reply_to.ensures.says) (rw c.run_network.ensures.state at said.within)
+    (rw (c.run_network.ensures.keeps.library, c.run_network.ensures.state) at said.ends) (rw (c.run_network.ensures.keeps.library, c.run_network.ensures.state) at c.reply_to.ensures.says) (rw (ap (λ (u : State). u.limit) c.run_network.ensures.state) at said.within)
 
 pub returns-in-Ok-clause-rests : goal.returns-in-Ok-clause-rests
 returns-in-Ok-clause-rests g c =
@@ -36,7 +36,7 @@ returns-in-Ok-clause-rests g c =
     let t = c.run_network.new.self in
     record {
       lean = subst (λ (u : State). IsLeanAnswer t.network.cells u (Ok (Some (command_of c.args.question))) (answer_of c.reply_to.result)) c.run_network.ensures.state c.reply_to.ensures.lean;
-      earned = earns g.R.Rule.value_of s t c.args.question c.in-Ok.end c.in-Ok.steps _ c.in-Ok.ensures.gone (rw (c.run_network.ensures.keeps.library, c.run_network.ensures.state) at c.reply_to.ensures.says);
+      earned = earns (stored_of g.R.Rule.value_of s.network.library) (state_of s) (work_of s) (work_of t) c.args.question c.in-Ok.end c.in-Ok.steps _ c.in-Ok.ensures.gone (rw (c.run_network.ensures.keeps.library, c.run_network.ensures.state) at c.reply_to.ensures.says);
     }
 
 pub returns-in-Err-clause-step : goal.returns-in-Err-clause-step
@@ -47,7 +47,7 @@ returns-in-Err-clause-step g c =
 pub returns-in-Err-clause-rests : goal.returns-in-Err-clause-rests
 returns-in-Err-clause-rests g c = record {
   lean = lean_refused c.run_network.new.self.network.cells (state_of c.args.self.now) c.args.question Memory;
-  earned = earns_refused g.R.Rule.value_of c.args.self.now c.run_network.new.self (Ok (Some (command_of c.args.question))) Memory 0;
+  earned = earns_refused (stored_of g.R.Rule.value_of c.args.self.now.network.library) (state_of c.args.self.now) (work_of c.args.self.now) (work_of c.run_network.new.self) (Ok (Some (command_of c.args.question))) Memory 0;
 }
 
 pub returns-in-Ok-clause-keeps : goal.returns-in-Ok-clause-keeps

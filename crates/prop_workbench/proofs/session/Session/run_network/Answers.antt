@@ -1,5 +1,6 @@
 use Rattle.std.proofs.Common.{ap, refl}
 use Rattle.prop_workbench.proofs.AskLemmas.{has_run}
+use Rattle.prop_workbench.specs.Sessions.{work_of}
 use Rattle.prop_workbench.proofs.EarnedLemmas.{has_gone}
 use Rattle.prop_workbench.proofs.session.Session.run_network.Goals as goal
 
@@ -33,4 +34,4 @@ returns-clause-run g c =
 pub returns-clause-gone : goal.returns-clause-gone
 returns-clause-gone g c =
     let believed = c.requires.sound.worldview in
-    has_gone g.R.Rule.value_of c.args.self.now _ c.run.result (rw believed at c.run.ensures.turns) (rw believed at c.run.ensures.clash) c.run.ensures.left
+    has_gone _ _ (work_of c.args.self.now) _ c.run.result (rw believed at c.run.ensures.turns) (rw believed at c.run.ensures.clash) c.run.ensures.left
