@@ -1,21 +1,24 @@
 -- No potential is more than the most steps of its problem.
-use Rattle.std.proofs.Common.{◌≡◌, ◌≢◌, ℕ, suc, ◌+◌, ◌<◌, ◌≤◌, ◌==◌, Bool, true, false, cond, List, [], ◌∷◌, Option, Some, None, All, Contains, length, get_or, slice_get, count_by, sum_by, map, refl, sym, ap, arith, inl, inr}
-use Rattle.std.specs.List.{list_any, IsDistinct}
+use Rattle.std.proofs.Common.{◌≡◌, ◌≢◌, ℕ, ◌<◌, ◌≤◌, ◌==◌, Bool, false, cond, List, [], ◌∷◌, Option, Some, None, All, length, get_or, slice_get, count_by, refl, sym, ap, arith, inl, inr}
+use Rattle.std.specs.List.{IsDistinct}
 use Rattle.std.proofs.lemmas.Bool.{eq-eqb, eqb-true}
 use Rattle.std.proofs.lemmas.Bool.Decides.{eqb_tells}
 use Rattle.std.proofs.lemmas.List.Elements.{All-contains, recursion_from_All}
-use Rattle.std.proofs.lemmas.List.Sums.{sum_by-cons, sum_by-le-sum_by, get_or-le-sum_by}
+use Rattle.std.proofs.lemmas.List.Sums.{sum_by-cons, sum_by-le, sum_by-le-sum_by, get_or-le-sum_by}
 use Rattle.std.proofs.lemmas.Map.Keys.{IsDistinct-cons}
 use Rattle.std.proofs.lemmas.Map.Steps.{length-le_from_distinct_below}
 use Rattle.std.proofs.lemmas.Map.Views.{Contains-from_any}
 use Rattle.prop_lattice.specs.declared.info.Info.{Info}
 use Rattle.prop_lattice.specs.declared.info.Info.TheVariants.{Nothing, Span, Set, Sym, Contradiction}
 use Rattle.prop_lattice.specs.declared.info.Kind.{Kind}
+use Rattle.prop_lattice.specs.declared.info.Kind.TheVariants.{Span as SpanKind, Set as SetKind, Symbol}
 use Rattle.prop_lattice.specs.Rank.{IsOf, rank_of}
 use Rattle.prop_lattice.proofs.RankLemmas.{rank_falls}
 use Rattle.prop_procedures.specs.declared.shape.Kinded.{Kinded}
-use Rattle.prop_cells.specs.Problems.{Problem, Assignment, AreOfKinds}
-use Rattle.prop_scheduler.specs.Potential.{rank_in, input_places, potential, most_steps}
+use Rattle.prop_cells.specs.Problems.{Assignment, AreOfKinds}
+use Rattle.prop_cells.proofs.Keeping.{All-at}
+use Rattle.prop_scheduler.specs.Potential.{rank_in, input_places}
+use Rattle.prop_scheduler.specs.Bounds.{IsSmall, MostIsMost, MostOfSmall}
 
 -- ---- the line
 
@@ -63,10 +66,25 @@ rank_at kinds a are cell (Some k) at = rank_within k.kind k.size (a cell) (are.o
 
 -- ---- both
 
-pub potential_within : (problem : Problem) (a : Assignment) (line : List ℕ) → AreOfKinds problem.cells a → ((j : ℕ) → count_by (λ k. k == j) line ≤ 1) → All (λ j. j < length problem.constraints) line →
-    potential problem a line ≤ most_steps problem
-potential_within problem a line are once below =
-    let few = few_below line (length problem.constraints) once below in
+pub most_is_most : MostIsMost
+most_is_most problem a line are is =
+    let few = few_below line (length problem.constraints) is.once is.below in
     let ranks = sum_by-le-sum_by (λ cell. rank_in (slice_get problem.cells cell) (a cell)) (λ cell. rank_in (slice_get problem.cells cell) Nothing) (input_places problem)
     (λ cell. rank_at problem.cells a are cell (slice_get problem.cells cell) refl) in
     omega (arith, few, ranks)
+
+-- ---- sets and symbols
+
+small_rank : (kind : Kind) (size : ℕ) → kind ≢ SpanKind → size ≤ 64 → rank_of kind size Nothing ≤ 65
+small_rank SpanKind size no_span few = absurd (no_span refl)
+small_rank (SetKind domain) size no_span few = omega (arith, few)
+small_rank Symbol size no_span few = omega arith
+
+small_at : (kinds : List Kinded) → All IsSmall kinds → (cell : ℕ) (k : Option Kinded) → slice_get kinds cell ≡ k → rank_in k Nothing ≤ 65
+small_at kinds all cell None at = omega arith
+small_at kinds all cell (Some k) at = let small = All-at IsSmall kinds cell k all at in small_rank k.kind k.size small.no_span small.size
+
+pub most_of_small : MostOfSmall
+most_of_small problem small =
+    let ranks = sum_by-le (λ cell. rank_in (slice_get problem.cells cell) Nothing) 65 (input_places problem) (λ i d l. small_at problem.cells small (get_or (input_places problem) i d) (slice_get problem.cells (get_or (input_places problem) i d)) refl) in
+    omega (arith, ranks)

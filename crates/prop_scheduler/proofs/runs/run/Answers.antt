@@ -1,4 +1,4 @@
-use Rattle.std.proofs.Common.{◌≡◌, ◌∙◌, ◌+◌, refl, ap, subst, arith, ℕ, List, length, Result, Ok, Err, OnErr}
+use Rattle.std.proofs.Common.{◌≡◌, ◌∙◌, ◌+◌, refl, ap, subst, arith, ℕ, List, length, Result, Ok, Err, OnErr, inl, inr}
 use Rattle.std.proofs.lemmas.List.{nil_from_length}
 use Rattle.prop_premises.specs.Sets.{set_of}
 use Rattle.prop_procedures.specs.Stored.{Stored}
@@ -6,7 +6,7 @@ use Rattle.prop_procedures.specs.Kept.{stored_of}
 use Rattle.prop_cells.specs.Problems.{Premises}
 use Rattle.prop_cells.specs.Data.{Data, IsClash, IsWellMade}
 use Rattle.prop_cells.proofs.Founding.{clash_conflicts}
-use Rattle.prop_scheduler.specs.Turns.{Turn, Turns}
+use Rattle.prop_scheduler.specs.Turns.{Interrupted, Turn}
 use Rattle.prop_scheduler.specs.Turns.Turns.{none, more}
 use Rattle.prop_scheduler.proofs.Steps.{settled}
 use Rattle.prop_scheduler.proofs.Ending.{no_turns, under_way_within}
@@ -110,8 +110,8 @@ returns-in_err-support-clause-room g c =
 
 pub returns-in_err-support-clause-err : goal.returns-in_err-support-clause-err
 returns-in_err-support-clause-err g c =
-    let reached : (n : ℕ) × (last : g.row.O.Denot) × Turns g.O.Order.picks (stored_of g.R.Rule.value_of c.args.network.now.library) (set_of c.args.worldview.now) c.args.network.now.cells c.args.agenda.now.line c.args.order.now n c.args.network.now.cells c.args.agenda.now.line last = (0, c.args.order.now, none) in
-    on_err _ reached
+    let stopped : Interrupted g.O.Order.picks (stored_of g.R.Rule.value_of c.args.network.now.library) (set_of c.args.worldview.now) c.args.network.now.cells c.args.agenda.now.line c.args.order.now c.args.network.now.cells c.args.agenda.now.line c.args.order.now = record { steps = 0; last = c.args.order.now; turns = none; picked = inl refl } in
+    on_err _ stopped
 
 pub loop-steps-init : goal.loop-steps-init
 loop-steps-init g c = record {
@@ -239,8 +239,8 @@ returns-in_err-why-in-Some-clash-clause-room g c =
 pub returns-in_err-why-in-Some-clash-clause-err : goal.returns-in_err-why-in-Some-clash-clause-err
 returns-in_err-why-in-Some-clash-clause-err g c =
     let turn : Turn (stored_of g.R.Rule.value_of c.args.network.now.library) (set_of c.args.worldview.now) c.pick-place.result c.loop-steps.network.cells c.turn.new.network.cells c.loop-steps.agenda.line c.turn.new.agenda.line = turn_on (stored_of g.R.Rule.value_of) (set_of c.args.worldview.now) c.pick-place.result c.loop-steps.network.cells c.turn.new.network.cells c.loop-steps.agenda.line c.turn.new.agenda.line c.args.network.now.library c.loop-steps.network.library c.loop-steps.invariant.same c.in_ok-clash.ensures.turn in
-    let reached : (n : ℕ) × (last : g.row.O.Denot) × Turns g.O.Order.picks (stored_of g.R.Rule.value_of c.args.network.now.library) (set_of c.args.worldview.now) c.args.network.now.cells c.args.agenda.now.line c.args.order.now n c.turn.new.network.cells c.turn.new.agenda.line last = (c.loop-steps.steps + 1, c.pick-place.new.self, more c.loop-steps.steps c.pick-place.result c.loop-steps.network.cells _ c.loop-steps.agenda.line _ c.loop-steps.order _ c.loop-steps.invariant.turns (rw c.loop-steps.invariant.waiting at c.pick-place.ensures.picks) turn) in
-    on_err _ reached
+    let stopped : Interrupted g.O.Order.picks (stored_of g.R.Rule.value_of c.args.network.now.library) (set_of c.args.worldview.now) c.args.network.now.cells c.args.agenda.now.line c.args.order.now c.turn.new.network.cells c.turn.new.agenda.line c.pick-place.new.self = record { steps = c.loop-steps.steps + 1; last = c.pick-place.new.self; turns = more c.loop-steps.steps c.pick-place.result c.loop-steps.network.cells _ c.loop-steps.agenda.line _ c.loop-steps.order _ c.loop-steps.invariant.turns (rw c.loop-steps.invariant.waiting at c.pick-place.ensures.picks) turn; picked = inl refl } in
+    on_err _ stopped
 
 pub loop-steps-preserved : goal.loop-steps-preserved
 loop-steps-preserved g c =
@@ -276,8 +276,8 @@ returns-in_err-clash-clause-room g c =
 
 pub returns-in_err-clash-clause-err : goal.returns-in_err-clash-clause-err
 returns-in_err-clash-clause-err g c =
-    let reached : (n : ℕ) × (last : g.row.O.Denot) × Turns g.O.Order.picks (stored_of g.R.Rule.value_of c.args.network.now.library) (set_of c.args.worldview.now) c.args.network.now.cells c.args.agenda.now.line c.args.order.now n c.turn.new.network.cells c.turn.new.agenda.line last = (c.loop-steps.steps, c.loop-steps.order, rw (c.in_err-clash.ensures.err, c.in_err-clash.ensures.err_line) c.loop-steps.invariant.turns) in
-    on_err _ reached
+    let stopped : Interrupted g.O.Order.picks (stored_of g.R.Rule.value_of c.args.network.now.library) (set_of c.args.worldview.now) c.args.network.now.cells c.args.agenda.now.line c.args.order.now c.turn.new.network.cells c.turn.new.agenda.line c.pick-place.new.self = record { steps = c.loop-steps.steps; last = c.loop-steps.order; turns = rw (c.in_err-clash.ensures.err, c.in_err-clash.ensures.err_line) c.loop-steps.invariant.turns; picked = inr (c.pick-place.result, rw (c.in_err-clash.ensures.err_line, ← c.loop-steps.invariant.waiting) c.pick-place.ensures.picks) } in
+    on_err _ stopped
 
 pub returns-then-waiting-eq0-clause-same : goal.returns-then-waiting-eq0-clause-same
 returns-then-waiting-eq0-clause-same g c =
