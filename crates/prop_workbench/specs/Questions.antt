@@ -46,10 +46,14 @@ pub record HasRun {R O : Type 0} {X : Type 0} {F : X → Type 0} {g : _} (value 
   pub within : steps ≤ (state_of s).limit
   pub spent : end ≡ Spent → steps ≡ (state_of s).limit
 
--- From the one network to the other it took exactly so many steps, each of which called a waiting procedure. Where a contradiction ended that, it is there now,
--- and where the steps were used up, some procedure still waits.
-pub record HasGone (library : List Stored) (s : Premises) (old new : Work) (end : Run) (steps : ℕ) : Type 0 where
-  pub turns : Turns library s old.cells old.line steps new.cells new.line
+-- which place an order may pick among how many that wait, and how it goes on
+abbrev pub Picks : Type 0 → Type 1
+Picks O = O → ℕ → ℕ → O → Type 0
+
+-- From the one network to the other it took exactly so many steps, each of which called a waiting procedure that the order picked. Where a contradiction ended that,
+-- it is there now, and where the steps were used up, some procedure still waits.
+pub record HasGone {O : Type 0} (picks : Picks O) (library : List Stored) (s : Premises) (old new : Work O) (end : Run) (steps : ℕ) : Type 0 where
+  pub turns : Turns picks library s old.cells old.line old.order steps new.cells new.line new.order
   pub clash : IfClash end (IsClash s new.cells)
   pub left : end ≡ Spent → 0 < length new.line
 
@@ -58,20 +62,20 @@ abbrev pub MaySay : List Stored → State → Command → Outcome → ℕ → An
 MaySay library s command outcome steps answer = ((text : List ℕ) × Replies library s command outcome steps text × (answer ≡ Text text)) ⊎ (answer ≡ Refused Memory)
 
 -- the text replies to the command as the network went from the one to the other
-pub record IsEarned (library : List Stored) (s : State) (old new : Work) (command : Command) (text : List ℕ) (steps : ℕ) : Type 0 where
+pub record IsEarned {O : Type 0} (picks : Picks O) (library : List Stored) (s : State) (old new : Work O) (command : Command) (text : List ℕ) (steps : ℕ) : Type 0 where
   pub end : Run
-  pub gone : HasGone library (worldview_of s) old new end steps
+  pub gone : HasGone picks library (worldview_of s) old new end steps
   pub replies : Replies library s command (outcome_of end) steps text
 
 -- what a line that was read so is answered: a text to what runs the network is earned by the calls that it counts
-abbrev pub Earns : List Stored → State → Work → Work → Result (Option Command) Refusal → Answer → ℕ → Type 0
-Earns library s old new (Ok (Some commands.Command.Settle)) (Text text) steps = IsEarned library s old new commands.Command.Settle text steps
-Earns library s old new (Ok (Some (commands.Command.Ask x))) (Text text) steps = IsEarned library s old new (commands.Command.Ask x) text steps
-Earns library s old new (Ok (Some (commands.Command.Why x))) (Text text) steps = IsEarned library s old new (commands.Command.Why x) text steps
-Earns library s old new (Ok (Some commands.Command.Worldview)) (Text text) steps = IsEarned library s old new commands.Command.Worldview text steps
-Earns library s old new read answer steps = ⊤
+abbrev pub Earns : {O : Type 0} → Picks O → List Stored → State → Work O → Work O → Result (Option Command) Refusal → Answer → ℕ → Type 0
+Earns picks library s old new (Ok (Some commands.Command.Settle)) (Text text) steps = IsEarned picks library s old new commands.Command.Settle text steps
+Earns picks library s old new (Ok (Some (commands.Command.Ask x))) (Text text) steps = IsEarned picks library s old new (commands.Command.Ask x) text steps
+Earns picks library s old new (Ok (Some (commands.Command.Why x))) (Text text) steps = IsEarned picks library s old new (commands.Command.Why x) text steps
+Earns picks library s old new (Ok (Some commands.Command.Worldview)) (Text text) steps = IsEarned picks library s old new commands.Command.Worldview text steps
+Earns picks library s old new read answer steps = ⊤
 
 -- what an answer rests on: an explanation is lean, and a text is earned
-pub record RestsOn (library : List Stored) (s : State) (old new : Work) (read : Result (Option Command) Refusal) (answer : Answer) (steps : ℕ) : Type 0 where
+pub record RestsOn {O : Type 0} (picks : Picks O) (library : List Stored) (s : State) (old new : Work O) (read : Result (Option Command) Refusal) (answer : Answer) (steps : ℕ) : Type 0 where
   pub lean : IsLeanAnswer new.cells s read answer
-  pub earned : Earns library s old new read answer steps
+  pub earned : Earns picks library s old new read answer steps

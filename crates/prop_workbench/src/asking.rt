@@ -49,7 +49,7 @@ impl<R: Rule + Drop, O: Order + Drop> Session<R, O> {
         ensures worldview { self.new.worldview ≡ self.old.worldview }
         ensures state { state_of self.new ≡ state_of self.old }
         ensures run { IfOk result (λ r. HasRun R.value_of self.new r.0 r.1) }
-        ensures gone { IfOk result (λ r. HasGone (library_of R.value_of self.old) (believed_in self.old.premises) (work_of self.old) (work_of self.new) r.0 r.1) }
+        ensures gone { IfOk result (λ r. HasGone O.picks (library_of R.value_of self.old) (believed_in self.old.premises) (work_of self.old) (work_of self.new) r.0 r.1) }
     {
         run(
             self.alloc,
@@ -68,7 +68,7 @@ impl<R: Rule + Drop, O: Order + Drop> Session<R, O> {
         requires named { IsNamed (state_of self.old) question }
         ensures keeps { Keeps R.value_of self.old self.new }
         ensures step { Obeys (library_of R.value_of self.old) (state_of self.old) (command_of question.entry) (answer_of result.0) (state_of self.new) result.1 }
-        ensures rests { RestsOn (library_of R.value_of self.old) (state_of self.old) (work_of self.old) (work_of self.new) (Ok (Some (command_of question.entry))) (answer_of result.0) result.1 }
+        ensures rests { RestsOn O.picks (library_of R.value_of self.old) (state_of self.old) (work_of self.old) (work_of self.new) (Ok (Some (command_of question.entry))) (answer_of result.0) result.1 }
     {
         match self.run_network() {
             Ok((end, steps)) => (self.reply_to(question, &end, steps), steps),
@@ -129,7 +129,7 @@ impl<R: Rule + Drop, O: Order + Drop> Session<R, O> {
         requires sound { IsInOrder R.value_of self.old }
         ensures keeps { Keeps R.value_of self.old self.new }
         ensures step { Obeys (library_of R.value_of self.old) (state_of self.old) (commands.Command.Ask name.now) (answer_of result.0) (state_of self.new) result.1 }
-        ensures rests { RestsOn (library_of R.value_of self.old) (state_of self.old) (work_of self.old) (work_of self.new) (Ok (Some (commands.Command.Ask name.now))) (answer_of result.0) result.1 }
+        ensures rests { RestsOn O.picks (library_of R.value_of self.old) (state_of self.old) (work_of self.old) (work_of self.new) (Ok (Some (commands.Command.Ask name.now))) (answer_of result.0) result.1 }
     {
         match self.names.find(name) {
             Some(cell) => self.answered(Question::Ask(cell, name)),
@@ -143,7 +143,7 @@ impl<R: Rule + Drop, O: Order + Drop> Session<R, O> {
         requires sound { IsInOrder R.value_of self.old }
         ensures keeps { Keeps R.value_of self.old self.new }
         ensures step { Obeys (library_of R.value_of self.old) (state_of self.old) (commands.Command.Why name.now) (answer_of result.0) (state_of self.new) result.1 }
-        ensures rests { RestsOn (library_of R.value_of self.old) (state_of self.old) (work_of self.old) (work_of self.new) (Ok (Some (commands.Command.Why name.now))) (answer_of result.0) result.1 }
+        ensures rests { RestsOn O.picks (library_of R.value_of self.old) (state_of self.old) (work_of self.old) (work_of self.new) (Ok (Some (commands.Command.Why name.now))) (answer_of result.0) result.1 }
     {
         match self.names.find(name) {
             Some(cell) => self.answered(Question::Why(cell, name)),

@@ -36,7 +36,7 @@ returns-in-Ok-clause-rests g c =
     let t = c.run_network.new.self in
     record {
       lean = subst (λ (u : State). IsLeanAnswer t.network.cells u (Ok (Some (command_of c.args.question))) (answer_of c.reply_to.result)) c.run_network.ensures.state c.reply_to.ensures.lean;
-      earned = earns (stored_of g.R.Rule.value_of s.network.library) (state_of s) (work_of s) (work_of t) c.args.question c.in-Ok.end c.in-Ok.steps _ c.in-Ok.ensures.gone (rw (c.run_network.ensures.keeps.library, c.run_network.ensures.state) at c.reply_to.ensures.says);
+      earned = earns _ (stored_of g.R.Rule.value_of s.network.library) (state_of s) (work_of s) (work_of t) c.args.question c.in-Ok.end c.in-Ok.steps _ c.in-Ok.ensures.gone (rw (c.run_network.ensures.keeps.library, c.run_network.ensures.state) at c.reply_to.ensures.says);
     }
 
 pub returns-in-Err-clause-step : goal.returns-in-Err-clause-step
@@ -47,7 +47,7 @@ returns-in-Err-clause-step g c =
 pub returns-in-Err-clause-rests : goal.returns-in-Err-clause-rests
 returns-in-Err-clause-rests g c = record {
   lean = lean_refused c.run_network.new.self.network.cells (state_of c.args.self.now) c.args.question Memory;
-  earned = earns_refused (stored_of g.R.Rule.value_of c.args.self.now.network.library) (state_of c.args.self.now) (work_of c.args.self.now) (work_of c.run_network.new.self) (Ok (Some (command_of c.args.question))) Memory 0;
+  earned = earns_refused _ (stored_of g.R.Rule.value_of c.args.self.now.network.library) (state_of c.args.self.now) (work_of c.args.self.now) (work_of c.run_network.new.self) (Ok (Some (command_of c.args.question))) Memory 0;
 }
 
 pub returns-in-Ok-clause-keeps : goal.returns-in-Ok-clause-keeps

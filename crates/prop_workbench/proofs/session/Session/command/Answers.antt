@@ -44,7 +44,7 @@ returns-clause-sound g c = record {
 }
 
 pub returns-then-is_memory-clause-earned : goal.returns-then-is_memory-clause-earned
-returns-then-is_memory-clause-earned g c = earns_none (stored_of g.R.Rule.value_of c.args.self.now.network.library) (state_of c.args.self.now) (work_of c.args.self.now) _ (reading c.args.line.now) _ _ (c.is_memory.ensures.0 c.if-is_memory.true)
+returns-then-is_memory-clause-earned g c = earns_none _ (stored_of g.R.Rule.value_of c.args.self.now.network.library) (state_of c.args.self.now) (work_of c.args.self.now) _ (reading c.args.line.now) _ _ (c.is_memory.ensures.0 c.if-is_memory.true)
 
 pub returns-clause-earned : goal.returns-clause-earned
 returns-clause-earned g c = c.follow-reply.ensures.rests.earned

@@ -18,7 +18,7 @@ carry_out-requires-clause-some g c = has_elements c.args.line.now _ c.in-Ok.ensu
 pub returns-in-Err-clause-rests : goal.returns-in-Err-clause-rests
 returns-in-Err-clause-rests g c = record {
   lean = lean_read_refused c.args.self.now.network.cells (state_of c.args.self.now) (reading c.args.line.now) c.in-Err.refusal;
-  earned = earns_refused (stored_of g.R.Rule.value_of c.args.self.now.network.library) (state_of c.args.self.now) (work_of c.args.self.now) (work_of c.args.self.now) (reading c.args.line.now) c.in-Err.refusal 0;
+  earned = earns_refused _ (stored_of g.R.Rule.value_of c.args.self.now.network.library) (state_of c.args.self.now) (work_of c.args.self.now) (work_of c.args.self.now) (reading c.args.line.now) c.in-Err.refusal 0;
 }
 
 pub returns-in-Err-clause-keeps : goal.returns-in-Err-clause-keeps
