@@ -1,10 +1,12 @@
 -- Two sessions that are given the same lines agree.
-use Rattle.std.proofs.Common.{◌≡◌, ◌≢◌, ◌∙◌, ◌⊎◌, ℕ, List, [], ◌∷◌, Option, Some, None, Result, Ok, Err, All, IsTrue, get_or, inl, inr, sym, ap, subst, zero, suc, arith, length}
+use Rattle.std.proofs.Common.{◌≡◌, ◌≢◌, ◌∙◌, ◌⊎◌, ℕ, List, [], ◌∷◌, Option, Some, None, Result, Ok, Err, All, IsTrue, get_or, inl, inr, refl, sym, ap, subst}
 use Rattle.std.proofs.lemmas.List.Elements.{All-head, All-tail}
 use Rattle.prop_lattice.specs.declared.info.Info.{Info}
 use Rattle.prop_lattice.specs.declared.refusal.Refusal.{Refusal}
 use Rattle.prop_lattice.specs.declared.refusal.Refusal.TheVariants.{Memory}
 use Rattle.prop_premises.specs.Sets.{set_of, IsPart}
+use Rattle.prop_lattice.specs.Points.{Point}
+use Rattle.prop_procedures.specs.declared.shape.Param.{Param}
 use Rattle.prop_procedures.specs.Stored.{Stored}
 use Rattle.prop_cells.specs.Problems.{Problem, Premises, Assignment, IsConsistent, is_member}
 use Rattle.prop_cells.proofs.ProblemLaws.{least_unique}
@@ -66,15 +68,19 @@ answers_meet library old first second line answer other steps others r q n m = (
 
 -- ---- runs
 
-pub runs_meet_all : (library : List Stored) (related : _) → RunsMeet (workbench library related)
+-- the answer is not that memory was refused
+abbrev IsNoWant : Answer → Type 0
+IsNoWant answer = answer ≢ Refused Memory
+
+pub runs_meet_all : (library : List Stored) (related : ℕ → Param → List Point → Point → Type 0) → RunsMeet (workbench library related)
 runs_meet_all library related old first second [] [] [] r q n m = q ∙ sym r
 runs_meet_all library related old first second [] [] (b ∷ ks) r q n m = absurd q
 runs_meet_all library related old first second [] (a ∷ ls) ks r q n m = absurd r
 runs_meet_all library related old first second (line ∷ lines) [] ks r q n m = absurd r
 runs_meet_all library related old first second (line ∷ lines) (a ∷ ls) [] r q n m = absurd q
 runs_meet_all library related old first second (line ∷ lines) (a ∷ ls) (b ∷ ks) (mid, step, rest) (mid', step', rest') n m =
-    let same : mid' ≡ mid = (follows_meet library old mid mid' (reading line) a b step.steps step'.steps step.step step'.step (All-head _ a ls n) (All-head _ b ks m)).0 in
-    runs_meet_all library related mid first second lines ls ks rest (subst (λ (s : State). Run (workbench library related) s lines ks second) same rest') (All-tail _ a ls n) (All-tail _ b ks m)
+    let same : mid' ≡ mid = (follows_meet library old mid mid' (reading line) a b step.steps step'.steps step.step step'.step (All-head IsNoWant a ls n) (All-head IsNoWant b ks m)).0 in
+    runs_meet_all library related mid first second lines ls ks rest (subst (λ (s : State). Run (workbench library related) s lines ks second) same rest') (All-tail IsNoWant a ls n) (All-tail IsNoWant b ks m)
 
 -- ---- what settles
 
