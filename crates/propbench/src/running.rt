@@ -8,13 +8,13 @@ ghost use Rattle.prop_cells.specs.Points.{AreSoundBy};
 ghost use Rattle.prop_workbench.specs.Machine.{new_state};
 ghost use Rattle.prop_workbench.specs.Sessions.{state_of, library_of, IsSound, IsMeant};
 
-use crate::chosen::Options;
+use crate::chosen::{Options, Pick};
 use crate::fault::Fault;
 use prop_arith::{KITS, Kit};
 use prop_cells::Network;
 use prop_lattice::Info;
 use prop_procedures::{Library, Param, Procedure, Shape};
-use prop_scheduler::Fifo;
+use prop_scheduler::{Fifo, Lifo, Mixed, Order};
 use prop_workbench::{Counts, Session, Watched};
 use smallvec::SmallVec;
 use std::alloc::{AllocError, Global};
@@ -52,7 +52,7 @@ pub fn run<Rd: Read, W: Write>(
     serve(alloc, procedures, options, reader, writer)
 }
 
-/// Makes a session with the kit's procedures and runs it.
+/// Makes a session with the kit's procedures, in the order that was chosen, and runs it.
 fn serve<Rd: Read, W: Write>(
     alloc: Global,
     procedures: Vec<Procedure<Kit>>,
@@ -68,8 +68,33 @@ fn serve<Rd: Read, W: Write>(
     ensures ok { IfOk result (IsAnswered (Rd.remaining (device reader.old)) (W.contents (device writer.old)) (W.contents (device writer.new)) options.limit) }
     ensures err { OnErr result (IsAnsweredInFront (Rd.remaining (device reader.old)) (W.contents (device writer.old)) (W.contents (device writer.new)) options.limit) }
 {
+    let Options { limit, order, seed } = options;
+    match order {
+        Pick::Fifo => serve_in(alloc, procedures, Fifo, limit, reader, writer),
+        Pick::Lifo => serve_in(alloc, procedures, Lifo, limit, reader, writer),
+        Pick::Mixed => serve_in(alloc, procedures, Mixed::new(seed), limit, reader, writer),
+    }
+}
+
+/// Makes a session with the kit's procedures and runs it in this order.
+fn serve_in<O: Order + Drop, Rd: Read, W: Write>(
+    alloc: Global,
+    procedures: Vec<Procedure<Kit>>,
+    order: O,
+    limit: u64,
+    reader: &mut Watched<Rd>,
+    writer: &mut Watched<W>,
+) -> Result<Counts, Fault>
+    requires reader { IsFresh reader.old }
+    requires writer { IsFresh writer.old }
+    requires means { AllMean value_of procedures.items }
+    requires listed { map (stored_as value_of) procedures.items ≡ kit_library }
+    requires ruled { map (λ p. p.rule) procedures.items ≡ in_order }
+    ensures ok { IfOk result (IsAnswered (Rd.remaining (device reader.old)) (W.contents (device writer.old)) (W.contents (device writer.new)) limit) }
+    ensures err { OnErr result (IsAnsweredInFront (Rd.remaining (device reader.old)) (W.contents (device writer.old)) (W.contents (device writer.new)) limit) }
+{
     let network = Network::new(alloc, Library::new(procedures));
-    let mut session = Session::new(alloc, network, Fifo, options.limit)?;
+    let mut session = Session::new(alloc, network, order, limit)?;
     let counts = answer(&mut session, reader, writer);
     // One call in place of the drop of each part, which a proof would go through one by one.
     drop(session);
@@ -77,8 +102,8 @@ fn serve<Rd: Read, W: Write>(
 }
 
 /// Loads the prelude into a session over the kit that has only begun, and runs it.
-fn answer<Rd: Read, W: Write>(
-    session: &mut Session<Kit, Fifo>,
+fn answer<O: Order + Drop, Rd: Read, W: Write>(
+    session: &mut Session<Kit, O>,
     reader: &mut Watched<Rd>,
     writer: &mut Watched<W>,
 ) -> Result<Counts, Fault>

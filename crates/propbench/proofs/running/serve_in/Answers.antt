@@ -5,7 +5,7 @@ use Rattle.prop_engine.proofs.Io.{on_err}
 use Rattle.prop_procedures.specs.Kept.{stored_as, stored_of}
 use Rattle.prop_arith.specs.Kit.{value_of}
 use Rattle.propbench.proofs.Starts.{nothing_yet}
-use Rattle.propbench.proofs.running.serve.Goals as goal
+use Rattle.propbench.proofs.running.serve_in.Goals as goal
 
 pub returns-in_err-session-clause-err : goal.returns-in_err-session-clause-err
 returns-in_err-session-clause-err g c = on_err _ _ (nothing_yet _ _ _)
@@ -21,5 +21,5 @@ answer-counts-requires-clause-ruled g c = ap (λ l. map (λ p. p.rule) l.procedu
 
 pub returns-clause-err : goal.returns-clause-err
 returns-clause-err g c =
-    let limit : c.in_ok-session.session.limit ≡ c.args.options.limit = ap (λ (s : State). s.limit) c.in_ok-session.ensures.state in
+    let limit : c.in_ok-session.session.limit ≡ c.args.limit = ap (λ (s : State). s.limit) c.in_ok-session.ensures.state in
     rw limit at c.answer-counts.ensures.err
