@@ -1,11 +1,11 @@
 -- What the tests before a statement and an attachment tell.
-use Rattle.std.proofs.Common.{◌≡◌, ◌∙◌, ◌<◌, ◌≤◌, ◌^◌, ◌/◌, ◌==◌, ◌↔◌, ◌⊎◌, ℕ, min, Bool, true, false, not, is_none, nat_le, ◌||◌, IsTrue, List, [], ◌∷◌, ◌++◌, Option, Some, None, IfSome, All, length, slice_get, get_or, refl, sym, ap, subst, arith, inl, inr}
+use Rattle.std.proofs.Common.{◌≡◌, ◌∙◌, ◌<◌, ◌≤◌, ◌^◌, ◌/◌, ◌==◌, ◌↔◌, ℕ, min, Bool, true, false, not, is_none, nat_le, ◌||◌, IsTrue, List, [], ◌∷◌, ◌++◌, Option, Some, None, All, length, slice_get, get_or, refl, sym, ap, arith, inl, inr}
 use Rattle.std.specs.List.{list_any}
 use Rattle.std.specs.Option.{option_map_or}
 use Rattle.std.specs.Bool.{Decides}
 use Rattle.std.proofs.lemmas.Bool.{cases_lt, le-leb, lt-leb, eq-eqb, ne_eqb, eqb-true, both_ways}
 use Rattle.std.proofs.lemmas.Bool.Decides.{same_from_decides}
-use Rattle.std.proofs.lemmas.Option.{slice_get_cases}
+use Rattle.std.proofs.lemmas.List.Elements.{All-pop}
 use Rattle.std.proofs.lemmas.List.Folds.{list_any_at, list_any-append}
 use Rattle.prop_lattice.specs.Refusals.{most}
 use Rattle.prop_lattice.specs.Rank.{IsOf}
@@ -25,10 +25,11 @@ use Rattle.prop_procedures.specs.declared.shape.Need.{Need}
 use Rattle.prop_procedures.specs.declared.shape.Shape.{Shape}
 use Rattle.prop_procedures.specs.Stored.{Stored}
 use Rattle.prop_procedures.specs.Fitting.{kind_at, kinds_fit}
-use Rattle.prop_cells.specs.Instances.{Instance, sides_given, param_in, instance_of, attached}
+use Rattle.prop_cells.specs.Instances.{Instance, IsFitting, IsWithin, sides_given, param_in, instance_of, attached}
 use Rattle.prop_cells.specs.Data.{Data}
 use Rattle.prop_cells.specs.Problems.{is_contradiction}
 use Rattle.prop_cells.proofs.RowLemmas.{or_none}
+use Rattle.prop_cells.proofs.Keeping.{fit_attached}
 use Rattle.prop_cells.specs.Refusing.{when, or_else, may_be_stated, state_refusal, refusal_at, attach_refusal}
 
 -- ---- statements
@@ -162,3 +163,19 @@ module _ (library : List Stored) (n : ℕ) (p : Stored) (d : Data) (param : Opti
   attached_is given he =
       ap (λ o. option_map_or (λ q. option_map_or (λ fitting. instance_of n ins out fitting ∷ []) (param_in q.need d.params param) []) o []) at ∙
         ap (λ o. option_map_or (λ fitting. instance_of n ins out fitting ∷ []) o []) he
+
+  -- and what is made fits, stands on cells that are there, and is what is to be attached
+  pub fitting_made : attach_refusal library d n param ins out ≡ None → (need : Need) → need ≡ p.need → (params : List Param) → params ≡ d.params → (found : Option Param) → found ≡ param_in need params param → (given : Param) → found ≡ Some given → (x : Instance) → x ≡ instance_of n ins out given →
+      IsFitting library d.kinds x × IsWithin (length d.kinds) x × (attached library d.params n param ins out ≡ x ∷ [])
+  fitting_made h need need_is params params_are found found_is given is x x_is =
+      let passed = tests_passed h in
+      let given_is : param_in p.need d.params param ≡ Some given = sym (found_is ∙ (λ i. param_in (need_is i) (params_are i) param)) ∙ is in
+      let below = All-pop (λ cell. cell < length d.kinds) (ins ++ out ∷ []) ins (Some out) refl (no_strangers d.kinds (length d.kinds) (ins ++ out ∷ []) refl (sym passed.0)) in (
+        rw x_is (fit_attached library n p d.kinds d.params param given ins out at passed.1 passed.2 given_is),
+        rw x_is (record { inputs = below.0; output = below.1 }),
+        rw x_is (attached_is given given_is),
+      )
+
+-- the one instance that was made is what is attached
+pub as_attached : (d new : Data) (x : Instance) (xs : List Instance) → new ≡ record d { instances = d.instances ++ x ∷ [] } → xs ≡ x ∷ [] → new ≡ record d { instances = d.instances ++ xs }
+as_attached d new x xs made one = rw one made

@@ -1,4 +1,4 @@
-use Rattle.std.proofs.Common.{◌≡◌, ◌∙◌, ◌++◌, ◌∷◌, [], length, ap}
+use Rattle.std.proofs.Common.{◌∙◌, ◌++◌, ◌∷◌, [], length, ap}
 use Rattle.prop_procedures.specs.Kept.{stored_of, stored_as}
 use Rattle.prop_cells.proofs.Refused.{no_strangers, refused_9, refused_12, refused_13, refused_14, refused_16, not_refused}
 use Rattle.prop_cells.proofs.network.Network.attachment_refusal.Goals as goal
