@@ -162,7 +162,7 @@ module _ (library : List Stored) (n : ℕ) (p : Stored) (d : Data) (param : Opti
   pub attached_is : (given : Param) → param_in p.need d.params param ≡ Some given → attached library d.params n param ins out ≡ instance_of n ins out given ∷ []
   attached_is given he =
       ap (λ o. option_map_or (λ q. option_map_or (λ fitting. instance_of n ins out fitting ∷ []) (param_in q.need d.params param) []) o []) at ∙
-        ap (λ o. option_map_or (λ fitting. instance_of n ins out fitting ∷ []) o []) he
+      ap (λ o. option_map_or (λ fitting. instance_of n ins out fitting ∷ []) o []) he
 
   -- and what is made fits, stands on cells that are there, and is what is to be attached
   pub fitting_made : attach_refusal library d n param ins out ≡ None → (need : Need) → need ≡ p.need → (params : List Param) → params ≡ d.params → (found : Option Param) → found ≡ param_in need params param → (given : Param) → found ≡ Some given → (x : Instance) → x ≡ instance_of n ins out given →
