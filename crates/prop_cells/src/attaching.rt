@@ -1,16 +1,18 @@
 //! What is tested where a statement is made or a procedure attached.
-ghost use Rattle.std.specs.Prelude.{◌≡◌, ◌<◌, ◌≤◌, ◌+◌, ◌++◌, ◌∷◌, [], nat_le, ℕ, List, length, map, zip, All, IfOk, None, Some, slice_index_or};
+ghost use Rattle.std.specs.Prelude.{◌≡◌, ◌<◌, ◌≤◌, ◌+◌, ◌++◌, ◌∷◌, [], nat_le, ℕ, List, length, map, zip, All, IfOk, None, Some, is_none, slice_index_or};
 ghost use Rattle.std.specs.List.{list_any};
 ghost use Rattle.prop_procedures.specs.Stored.{span_kind, sides_of};
-ghost use Rattle.prop_procedures.specs.Fitting.{kind_at, scale_in_range, relation_alone, fitting_param};
+ghost use Rattle.prop_procedures.specs.Kept.{stored_as};
+ghost use Rattle.prop_procedures.specs.Fitting.{kind_at, kinds_fit, scale_in_range, relation_alone, fitting_param};
 ghost use Rattle.prop_cells.specs.Instances.{param_in, sides_given};
 ghost use Rattle.prop_cells.specs.Refusing.{may_be_stated};
 
 use crate::cells::Cells;
 use prop_lattice::Info;
-use prop_procedures::fitting::{is_scale, shape_at, sides_of};
-use prop_procedures::{Kinded, Need, Param, Shape};
+use prop_procedures::fitting::{are_right, is_scale, shape_at, sides_of};
+use prop_procedures::{Kinded, Need, Param, Procedure, Rule, Shape};
 use prop_sets::Side;
+use smallvec::SmallVec;
 use std::alloc::{AllocError, Global};
 
 /// Whether an information may be stated at a cell of a kind: it is of the kind, and no contradiction.
@@ -49,7 +51,7 @@ fn relation_alone(alloc: Global, param: &Param) -> Result<Option<Param>, AllocEr
     ensures { IfOk result (λ o. o ≡ relation_alone param.now) }
 {
     match param {
-        Param::Rows(rows) => Ok(Some(Param::Rows(rows.copy(alloc)?))),
+        Param::Rows(relation) => Ok(Some(Param::Rows(relation.copy(alloc)?))),
         Param::Plain | Param::Scale(_) => Ok(None),
     }
 }
@@ -92,6 +94,28 @@ pub(crate) fn param_in(
     }
 }
 
+/// Whether the parameter is none that a procedure with this need takes.
+fn is_unfit(need: Need, given: &Param) -> bool
+    ensures { result ≡ is_none (fitting_param need (Some given.now)) }
+{
+    match (need, given) {
+        (Need::Scale, Param::Scale(k)) => !is_scale(*k),
+        (Need::Rows, Param::Rows(_)) => false,
+        _ => true,
+    }
+}
+
+/// Whether there is no parameter that an instance has where one is given by its number or none is. It takes no memory.
+pub(crate) fn lacks_param(need: Need, params: &[Param], given: Option<usize>) -> bool
+    ensures { result ≡ is_none (param_in need params.now given) }
+{
+    match given {
+        None => matches!(need, Need::Rows),
+        Some(n) if n < params.len() => is_unfit(need, &params[n]),
+        Some(_) => true,
+    }
+}
+
 /// The sides of the relation, where the parameter of this number is one.
 pub(crate) fn sides_given(params: &[Param], given: Option<usize>) -> Option<(Side, Side)>
     ensures { result ≡ sides_given params.now given }
@@ -110,22 +134,42 @@ fn cell_at(ins: &[usize], out: usize, i: usize) -> usize
     if i < ins.len() { ins[i] } else { out }
 }
 
-/// The shapes of a procedure's places, each with the kind of its cell.
-pub(crate) fn places(
+/// The shapes of a procedure's places, each with the kind of its cell. It takes no memory.
+fn places(
     alloc: Global,
     shapes: &[Shape],
     shape: Shape,
     held: &Cells,
     ins: &[usize],
     out: usize,
-) -> Result<Vec<(Shape, Kinded)>, AllocError>
+) -> SmallVec<(Shape, Kinded), 9>
+    requires few { length ins.now ≤ 8 }
     requires count { length ins.now ≡ length shapes.now }
     requires cells { All (λ c. c < length held.now.kinds) (ins.now ++ out ∷ []) }
-    ensures { IfOk result (λ v. v.items ≡ zip (shapes.now ++ shape ∷ []) (map (kind_at held.now.kinds) (ins.now ++ out ∷ []))) }
+    ensures { result.items ≡ zip (shapes.now ++ shape ∷ []) (map (kind_at held.now.kinds) (ins.now ++ out ∷ [])) }
 {
-    let mut places = Vec::new(alloc);
+    let mut places = SmallVec::new(alloc);
     for i in 0..ins.len() + 1 {
-        places.push((shape_at(shapes, shape, i), held.kind(cell_at(ins, out, i))))?;
+        places.push_reserved((shape_at(shapes, shape, i), held.kind(cell_at(ins, out, i))));
     }
-    Ok(places)
+    places
+}
+
+/// Whether the kinds of as many cells as the procedure has places fit them, with the parameter of a number or without one. It takes
+/// no memory.
+pub(crate) fn kinds_fit<R: Rule + Drop>(
+    alloc: Global,
+    p: &Procedure<R>,
+    held: &Cells,
+    param: Option<usize>,
+    ins: &[usize],
+    out: usize,
+) -> bool
+    requires count { length ins.now ≡ length p.now.ins.items }
+    requires cells { All (λ c. c < length held.now.kinds) (ins.now ++ out ∷ []) }
+    ensures { result ≡ kinds_fit (stored_as R.value_of p.now) held.now.kinds (sides_given held.now.params param) (ins.now ++ out ∷ []) }
+{
+    let given = sides_given(held.params(), param);
+    let places = places(alloc, p.ins(), p.out(), held, ins, out);
+    are_right(p.need(), given, &places)
 }
