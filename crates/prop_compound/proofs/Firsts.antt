@@ -11,7 +11,10 @@ use Rattle.prop_lattice.specs.declared.refusal.Refusal.TheVariants.{WrongKind, W
 use Rattle.prop_procedures.specs.declared.shape.Kinded.{Kinded}
 use Rattle.prop_procedures.specs.declared.shape.Param.{Param}
 use Rattle.prop_procedures.specs.Stored.{Stored}
+use Rattle.prop_procedures.specs.declared.flat.Placed as instances
+use Rattle.prop_compound.specs.declared.walk.Walk as walks
 use Rattle.prop_compound.specs.Expansion.{Placed, Expansion}
+use Rattle.prop_compound.specs.Flattened.{placed_of, walk_of}
 use Rattle.prop_compound.specs.Expanding.{is_misplaced, is_misgiven, is_param_wrong, fit_refusal}
 use Rattle.prop_vocabulary.specs.Refusing.{when, first_of}
 
@@ -66,30 +69,31 @@ misgiven_is library x s at b need n e =
 
 -- ---- whether what a use stands for fits
 
-module _ {X : Type 0} (library : List Stored) (kinds : List Kinded) (spare : Bool) (mean : X → Placed (Option Param)) (xs : List X) (b : Bool) (is : b ≡ list_any (λ x. is_misplaced library kinds (mean x)) xs) where
-  abbrev all : Expansion (Option Param)
-  all = record { kinds = kinds; placed = map mean xs; spare = spare }
-
-  misplaced : list_any (is_misplaced library kinds) (map mean xs) ≡ b
-  misplaced = list_any-map mean (is_misplaced library kinds) xs ∙ sym is
+module _ (library : List Stored) (walk : walks.Walk) (kinds : List Kinded) (params : List Param) (xs : List instances.Placed) (same_kinds : kinds ≡ walk.kinds.items) (same_params : params ≡ walk.params.items) (same_instances : xs ≡ walk.instances.items)
+    (b : Bool) (is : b ≡ list_any (λ x. is_misplaced library kinds (placed_of params x)) xs) where
+  misplaced : list_any (is_misplaced library walk.kinds.items) (walk_of walk).placed ≡ b
+  misplaced =
+      list_any-map (placed_of walk.params.items) (is_misplaced library walk.kinds.items) walk.instances.items ∙ sym (is ∙ (λ i. list_any (λ x. is_misplaced library (same_kinds i) (placed_of (same_params i) x)) (same_instances i)))
 
   -- some kind does not
-  pub kind_stops : b ≡ true → fit_refusal library (record { kinds = kinds; placed = map mean xs; spare = spare }) ≡ Some WrongKind
-  kind_stops e = stops WrongKind (list_any (is_misplaced library kinds) (map mean xs)) (when WrongParameter (is_param_wrong library all) ∷ []) (misplaced ∙ e)
+  pub kind_stops : b ≡ true → fit_refusal library (walk_of walk) ≡ Some WrongKind
+  kind_stops e = stops WrongKind (list_any (is_misplaced library walk.kinds.items) (walk_of walk).placed) (when WrongParameter (is_param_wrong library (walk_of walk)) ∷ []) (misplaced ∙ e)
 
   -- the kinds do: what is said of the parameters is said
-  decides : (wrong : Bool) → b ≡ false → wrong ≡ is_param_wrong library all → fit_refusal library all ≡ first_of (when WrongParameter wrong ∷ [])
+  decides : (wrong : Bool) → b ≡ false → wrong ≡ is_param_wrong library (walk_of walk) → fit_refusal library (walk_of walk) ≡ first_of (when WrongParameter wrong ∷ [])
   decides wrong e w =
-      passes WrongKind (list_any (is_misplaced library kinds) (map mean xs)) (when WrongParameter (is_param_wrong library all) ∷ []) (first_of (when WrongParameter wrong ∷ [])) (misplaced ∙ e) (ap (λ t. first_of (when WrongParameter t ∷ [])) (sym w))
+      passes WrongKind (list_any (is_misplaced library walk.kinds.items) (walk_of walk).placed) (when WrongParameter (is_param_wrong library (walk_of walk)) ∷ []) (first_of (when WrongParameter wrong ∷ [])) (misplaced ∙ e) (ap (λ t. first_of (when WrongParameter t ∷ [])) (sym w))
 
   -- a definition is given something and takes nothing
-  pub spare_stops : b ≡ false → spare ≡ true → fit_refusal library (record { kinds = kinds; placed = map mean xs; spare = spare }) ≡ Some WrongParameter
-  spare_stops e t = decides true e (ap (λ z. z || list_any (is_misgiven library) (map mean xs)) (sym t))
+  pub spare_stops : b ≡ false → walk.spare ≡ true → fit_refusal library (walk_of walk) ≡ Some WrongParameter
+  spare_stops e t = decides true e (ap (λ z. z || list_any (is_misgiven library) (walk_of walk).placed) (sym t))
 
   -- no definition is: what is said of the instances is said
-  pub given_decides : (misgiven : Bool) → b ≡ false → spare ≡ false → misgiven ≡ list_any (λ x. is_misgiven library (mean x)) xs → fit_refusal library (record { kinds = kinds; placed = map mean xs; spare = spare }) ≡ first_of (when WrongParameter misgiven ∷ [])
-  given_decides misgiven e t m =
-      decides misgiven e (m ∙ sym (list_any-map mean (is_misgiven library) xs) ∙ ap (λ z. z || list_any (is_misgiven library) (map mean xs)) (sym t))
+  pub given_decides : (params' : List Param) (xs' : List instances.Placed) (misgiven : Bool) → b ≡ false → walk.spare ≡ false → params' ≡ walk.params.items → xs' ≡ walk.instances.items →
+      misgiven ≡ list_any (λ x. is_misgiven library (placed_of params' x)) xs' → fit_refusal library (walk_of walk) ≡ first_of (when WrongParameter misgiven ∷ [])
+  given_decides params' xs' misgiven e t p x m =
+      let any : misgiven ≡ list_any (is_misgiven library) (walk_of walk).placed = m ∙ (λ i. list_any (λ y. is_misgiven library (placed_of (p i) y)) (x i)) ∙ sym (list_any-map (placed_of walk.params.items) (is_misgiven library) walk.instances.items) in
+      decides misgiven e (any ∙ ap (λ z. z || list_any (is_misgiven library) (walk_of walk).placed) (sym t))
 
 -- what fits gives no definition a parameter that it does not take
 pub fits_bare : (library : List Stored) (e : Expansion (Option Param)) → fit_refusal library e ≡ None → e.spare ≡ false

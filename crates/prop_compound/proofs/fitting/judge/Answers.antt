@@ -2,11 +2,27 @@ use Rattle.std.proofs.Common.{[], ◌∷◌, inl, ap, ◌∙◌}
 use Rattle.prop_lattice.specs.declared.refusal.Refusal.TheVariants.{WrongParameter}
 use Rattle.prop_procedures.specs.Kept.{stored_of}
 use Rattle.prop_vocabulary.specs.Refusing.{when, first_of}
-use Rattle.prop_compound.specs.Flattened.{placed_of}
 use Rattle.prop_compound.proofs.Firsts.{kind_stops, spare_stops, given_decides}
 use Rattle.prop_compound.proofs.fitting.judge.Goals as goal
+use Rattle.prop_compound.proofs.fitting.judge.Goals.{then-walk-via-then-walk, then-walk-via-else-walk+then-has_misgiven}
 
 pub returns-in-Ok-true-clause-err : goal.returns-in-Ok-true-clause-err
 returns-in-Ok-true-clause-err g c =
+    inl (kind_stops (stored_of g.R.Rule.value_of c.args.library.now) c.args.walk.now c.deref-2.result.now c.deref.result.now c.deref-3.result.now c.deref-2.ensures.value c.deref.ensures.value c.deref-3.ensures.value c.in-Ok-true.field-0 c.in-Ok-true.ensures c.in-Ok-true.field-0-test)
+
+pub returns-then-walk-clause-err : goal.returns-then-walk-clause-err
+returns-then-walk-clause-err g c =
+    let library = stored_of g.R.Rule.value_of c.args.library.now in
     let walk = c.args.walk.now in
-    inl (kind_stops (stored_of g.R.Rule.value_of c.args.library.now) walk.kinds.items walk.spare (placed_of walk.params.items) walk.instances.items c.in-Ok-true.field-0 c.in-Ok-true.ensures c.in-Ok-true.field-0-test)
+    elim c.then-walk.branch [
+      | then-walk-via-then-walk w ↦
+          inl (spare_stops library walk c.deref-2.result.now c.deref.result.now c.deref-3.result.now c.deref-2.ensures.value c.deref.ensures.value c.deref-3.ensures.value c.in-Ok-false.field-0 c.in-Ok-false.ensures c.in-Ok-false.field-0-test w.if-walk.true)
+      | then-walk-via-else-walk+then-has_misgiven w ↦
+          inl (given_decides library walk c.deref-2.result.now c.deref.result.now c.deref-3.result.now c.deref-2.ensures.value c.deref.ensures.value c.deref-3.ensures.value c.in-Ok-false.field-0 c.in-Ok-false.ensures w.deref-else-walk.result.now w.deref-else-walk-2.result.now w.has_misgiven.result c.in-Ok-false.field-0-test w.if-walk.false w.deref-else-walk.ensures.value w.deref-else-walk-2.ensures.value w.has_misgiven.ensures ∙
+          ap (λ b. first_of (when WrongParameter b ∷ [])) w.if-has_misgiven.true)
+    ]
+
+pub returns-clause-fits : goal.returns-clause-fits
+returns-clause-fits g c =
+    given_decides (stored_of g.R.Rule.value_of c.args.library.now) c.args.walk.now c.deref-2.result.now c.deref.result.now c.deref-3.result.now c.deref-2.ensures.value c.deref.ensures.value c.deref-3.ensures.value c.in-Ok-false.field-0 c.in-Ok-false.ensures c.deref-else-walk.result.now c.deref-else-walk-2.result.now c.has_misgiven.result c.in-Ok-false.field-0-test c.if-walk.false c.deref-else-walk.ensures.value c.deref-else-walk-2.ensures.value c.has_misgiven.ensures ∙
+    ap (λ b. first_of (when WrongParameter b ∷ [])) c.if-has_misgiven.false
