@@ -1,12 +1,12 @@
 -- Why a whole use is refused, in the order in which it is tested, and what it stands for where it is not.
 use Rattle.std.proofs.Common.{◌≡◌, ◌∙◌, ℕ, ◌+◌, ◌<◌, ◌≤◌, ◌==◌, List, [], ◌∷◌, ◌++◌, Bool, false, not, length, map, take, drop, Option, Some, None, refl, sym, ap, subst, arith, inl, inr}
-use Rattle.std.specs.Prelude.{is_none, Result, Err, IfSome}
+use Rattle.std.specs.Prelude.{is_none, ◌⊎◌, Result, Ok, Err, IfOk, IfErr, IfSome, OnOk}
 use Rattle.std.specs.List.{range_with_len}
 use Rattle.std.specs.Option.{option_map_or}
 use Rattle.std.proofs.lemmas.Bool.{eqb-true, not-false}
 use Rattle.std.proofs.lemmas.List.{length-append, take-append-drop}
 use Rattle.prop_lattice.specs.declared.refusal.Refusal.{Refusal}
-use Rattle.prop_lattice.specs.declared.refusal.Refusal.TheVariants.{NoSuchProcedure, WrongCount}
+use Rattle.prop_lattice.specs.declared.refusal.Refusal.TheVariants.{NoSuchProcedure, WrongCount, Memory}
 use Rattle.prop_procedures.specs.declared.shape.Kinded.{Kinded}
 use Rattle.prop_procedures.specs.declared.shape.Param.{Param}
 use Rattle.prop_procedures.specs.Stored.{Stored}
@@ -19,7 +19,7 @@ use Rattle.prop_compound.specs.declared.walk.Walk as walks
 use Rattle.prop_compound.specs.Expansion.{Expansion, before, expanded_in, expanded}
 use Rattle.prop_compound.specs.Expanding.{size_refusal, fit_refusal, expand_refusal}
 use Rattle.prop_compound.specs.AtOnce.{refused_at_once}
-use Rattle.prop_compound.specs.Flattened.{placed_of, walk_of, expansion_of_flat, IsInstanceOver, IsFlatOver, AreRight}
+use Rattle.prop_compound.specs.Flattened.{placed_of, walk_of, expansion_of_flat, IsFlatOver, AreRight, IsBehind}
 use Rattle.prop_compound.specs.Kept.{all_bare, fresh_used, instances_used, fresh_of, instances_of, total_of, IsDefinedOver, IsThere, AreKept}
 use Rattle.prop_compound.specs.declared.definition.KeptDefinition.{KeptDefinition}
 use Rattle.prop_compound.proofs.Firsts.{fits_bare}
@@ -85,21 +85,37 @@ module _ (library : List Stored) (words : Vocabulary) (definitions : Definitions
         let count : length kinds ≡ cells_wanted library definitions used = eqb-true (length kinds) (cells_wanted library definitions used) (not-false _ (sym wrong_is ∙ right)) in
         right_of library walk (subst (ranges.AreRight library) (sym walk_is) (uses_right library words ks definitions used kinds given _ kept same over there count))
 
-    module _ (flat : Flat) (fresh : flat.fresh.items ≡ drop (length kinds) walk.kinds.items) (params : flat.params ≡ walk.params) (instances : flat.instances ≡ walk.instances) where
-      all_kinds : kinds ++ flat.fresh.items ≡ walk.kinds.items
-      all_kinds =
-          let first : kinds ≡ take (length kinds) walk.kinds.items = sym (ap (λ e. take (length kinds) e.kinds) walk_is ∙ first_kinds library words definitions name kinds given used) in
-          (λ i. first i ++ fresh i) ∙ take-append-drop (length kinds) walk.kinds.items
+    all_kinds : (flat : Flat) → IsBehind walk (length kinds) flat → kinds ++ flat.fresh.items ≡ walk.kinds.items
+    all_kinds flat h =
+        let first : kinds ≡ take (length kinds) walk.kinds.items = sym (ap (λ e. take (length kinds) e.kinds) walk_is ∙ first_kinds library words definitions name kinds given used) in
+        let fresh = h.fresh in
+        (λ i. first i ++ fresh i) ∙ take-append-drop (length kinds) walk.kinds.items
 
-      pub flat_means : fit_refusal library (walk_of walk) ≡ None → expansion_of_flat kinds flat ≡ expanded library words definitions name kinds given
-      flat_means fits =
-          (λ i. record {
-            kinds = all_kinds i;
-            placed = map (placed_of (params i).items) (instances i).items;
-            spare = sym (fits_bare library (walk_of walk) fits) i;
-          }) ∙ walk_is ∙ sym (expanded_is library words definitions name kinds given used is)
+    pub flat_means : (r : Result Flat Refusal) → OnOk r (fit_refusal library (walk_of walk) ≡ None) → IfOk r (IsBehind walk (length kinds)) → IfOk r (λ flat. expansion_of_flat kinds flat ≡ expanded library words definitions name kinds given)
+    flat_means (Ok flat) fits h =
+        let all = all_kinds flat h in
+        let params = h.params in
+        let same = h.instances in
+        let bare = fits_bare library (walk_of walk) fits in
+        (λ i. record {
+          kinds = all i;
+          placed = map (placed_of (params i).items) (same i).items;
+          spare = sym bare i;
+        }) ∙ walk_is ∙ sym (expanded_is library words definitions name kinds given used is)
+    flat_means (Err e) fits h = h
 
-      pub flat_safe : AreRight library walk → IsFlatOver library (length kinds) flat
-      flat_safe h =
-          let count : length walk.kinds.items ≡ length kinds + length flat.fresh.items = ap length (sym all_kinds) ∙ length-append kinds flat.fresh.items in
-          rw (instances, ← count) h
+    pub flat_safe : (r : Result Flat Refusal) → AreRight library walk → IfOk r (IsBehind walk (length kinds)) → IfOk r (IsFlatOver library (length kinds))
+    flat_safe (Ok flat) right h =
+        let count : length walk.kinds.items ≡ length kinds + length flat.fresh.items = ap length (sym (all_kinds flat h)) ∙ length-append kinds flat.fresh.items in
+        let same = h.instances in
+        rw (same, ← count) right
+    flat_safe (Err e) right h = h
+
+    -- what is said of how it fits is said
+    module _ (decided : expand_refusal library words definitions name kinds given ≡ fit_refusal library (walk_of walk)) where
+      pub flat_fits : (r : Result Flat Refusal) → OnOk r (fit_refusal library (walk_of walk) ≡ None) → OnOk r (expand_refusal library words definitions name kinds given ≡ None)
+      flat_fits (Ok flat) h = decided ∙ h
+      flat_fits (Err e) h = h
+
+      pub flat_why : (r : Result Flat Refusal) → IfErr r (λ e. (fit_refusal library (walk_of walk) ≡ Some e) ⊎ (e ≡ Memory)) → IfErr r (λ e. (expand_refusal library words definitions name kinds given ≡ Some e) ⊎ (e ≡ Memory))
+      flat_why r h = subst (λ o. IfErr r (λ e. (o ≡ Some e) ⊎ (e ≡ Memory))) (sym decided) h

@@ -178,7 +178,7 @@ kept_still ds d n k l h = record {
   plan_in_scope = h.plan_in_scope;
   plan_uses = All-weaker (IsUseBelow ds n) (IsUseBelow (ds ++ d ∷ []) n) (below_still ds (d ∷ []) n (omega (arith, l))) k.plan.items h.plan_uses;
   same =
-      λ words cells given e count. same_later words ds d n (omega (arith, l)) k.plan.items k.steps.items h.plan_uses h.uses given cells e (h.same words cells given e count);
+      λ words cells given e count. same_later ds d words n (omega (arith, l)) k.plan.items k.steps.items h.plan_uses h.uses given cells e (h.same words cells given e count);
   spare_given = h.spare_given ∙ sym (spare_same ds d true n l);
   spare_bare = h.spare_bare ∙ sym (spare_same ds d false n l);
   fresh = h.fresh ∙ ap (λ m. min (most Cells + 1) m) (sym (total_same fresh_of ds d n l));
@@ -235,7 +235,7 @@ kept_last ks count items k kept scope below h =
       same =
           λ words cells given e l. (
           ap (λ it. steps_expanded words (definition_expanded words (reverse (ds ++ d ∷ []))) given cells it e) plan ∙
-          same_later words ds d n here (flat_map (shortened ks) items) items short_below below given cells e (all_make words ks kept items below given cells e) ∙
+          same_later ds d words n here (flat_map (shortened ks) items) items short_below below given cells e (all_make ks kept words items below given cells e) ∙
           ap (λ it. steps_expanded words (definition_expanded words (reverse (ds ++ d ∷ []))) given cells it e) (sym steps)
           );
       spare_given = h.spare_given ∙ (λ i. not (list_any is_passing_on (sym steps i)) || list_any (spare_of (is_spare ds) true) (sym steps i)) ∙ sym (spare true);

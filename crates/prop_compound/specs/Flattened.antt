@@ -1,5 +1,5 @@
 -- What is handed out for a use: its fresh cells and instances, in one list each; and what is at hand of it while it is made.
-use Rattle.std.specs.Prelude.{◌≡◌, ◌<◌, ℕ, ◌+◌, List, ◌++◌, All, IfSome, Option, Some, false, length, map, slice_get}
+use Rattle.std.specs.Prelude.{◌≡◌, ◌<◌, ℕ, ◌+◌, List, ◌++◌, All, IfSome, Option, Some, false, drop, length, map, slice_get}
 use Rattle.prop_procedures.specs.declared.shape.Kinded.{Kinded}
 use Rattle.prop_procedures.specs.declared.shape.Param.{Param}
 use Rattle.prop_procedures.specs.Stored.{Stored}
@@ -59,3 +59,9 @@ pub record IsFurther (old new : Walk) : Type 0 where
 -- each instance so far is one of a procedure of the library, on cells that are there
 abbrev pub AreRight : List Stored → Walk → Type 0
 AreRight library walk = All (IsInstanceOver library (length walk.kinds.items)) walk.instances.items
+
+-- it is what was expanded, behind the first so many cells
+pub record IsBehind (walk : Walk) (count : ℕ) (flat : Flat) : Type 0 where
+  pub fresh : flat.fresh.items ≡ drop count walk.kinds.items
+  pub params : flat.params ≡ walk.params
+  pub instances : flat.instances ≡ walk.instances

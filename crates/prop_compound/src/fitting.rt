@@ -1,16 +1,16 @@
 //! Whether the cells and parameters of instances fit their procedures.
-ghost use Rattle.std.specs.Prelude.{◌≡◌, ◌<◌, ◌++◌, ◌∷◌, ◌⊎◌, [], is_none, All, length, map, zip, IfOk, IfErr, OnOk, None, Some};
+ghost use Rattle.std.specs.Prelude.{◌≡◌, ◌<◌, ◌≤◌, ◌++◌, ◌∷◌, ◌⊎◌, [], is_none, All, length, map, zip, IfOk, IfErr, OnOk, None, Some};
 ghost use Rattle.std.specs.List.{list_any};
 ghost use Rattle.prop_procedures.specs.Kept.{stored_of};
 ghost use Rattle.prop_procedures.specs.Flats.{param_at};
 ghost use Rattle.prop_procedures.specs.Fitting.{kind_at, fitting_param};
 ghost use Rattle.prop_compound.specs.Expanding.{is_misplaced, is_misgiven, fit_refusal};
-ghost use Rattle.prop_compound.specs.Flattened.{placed_of, walk_of, IsInstanceOver, AreRight};
+ghost use Rattle.prop_compound.specs.Flattened.{placed_of, walk_of, IsInstanceOver, AreRight, IsBehind};
 
-use crate::walk::{Walk, kind_at, param_at};
+use crate::walk::{Walk, flat_behind, kind_at, param_at};
 use prop_lattice::Refusal;
 use prop_procedures::fitting::{are_right, is_scale, sides_of};
-use prop_procedures::{Kinded, Library, Need, Param, Placed, Rule, Shape};
+use prop_procedures::{Flat, Kinded, Library, Need, Param, Placed, Rule, Shape};
 use std::alloc::{AllocError, Global};
 
 /// Whether a procedure with this need does not take a parameter.
@@ -111,7 +111,7 @@ fn has_misgiven<R: Rule + Drop>(
 }
 
 /// Refuses what a use stands for where its cells or parameters do not fit: with 13 and 14, and with 90.
-pub(crate) fn judge<R: Rule + Drop>(
+fn judge<R: Rule + Drop>(
     alloc: Global,
     library: &Library<R>,
     walk: &Walk,
@@ -129,4 +129,27 @@ pub(crate) fn judge<R: Rule + Drop>(
         return Err(Refusal::WrongParameter);
     }
     Ok(())
+}
+
+/// What is handed out for a use of so many cells, or the refusal where its cells or parameters do not fit: 13 and 14, and 90.
+pub(crate) fn fitted<R: Rule + Drop>(
+    alloc: Global,
+    library: &Library<R>,
+    walk: Walk,
+    count: usize,
+) -> Result<Flat, Refusal>
+    requires right { AreRight (stored_of R.value_of library.now) walk }
+    requires count { count ≤ length walk.kinds.items }
+    ensures fits { OnOk result (fit_refusal (stored_of R.value_of library.now) (walk_of walk) ≡ None) }
+    ensures flat { IfOk result (IsBehind walk count) }
+    ensures err { IfErr result (λ e. (fit_refusal (stored_of R.value_of library.now) (walk_of walk) ≡ Some e) ⊎ (e ≡ Refusal.Memory)) }
+{
+    if let Err(refusal) = judge(alloc, library, &walk) {
+        drop(walk);
+        return Err(refusal);
+    }
+    match flat_behind(alloc, walk, count) {
+        Ok(flat) => Ok(flat),
+        Err(AllocError) => Err(Refusal::Memory),
+    }
 }

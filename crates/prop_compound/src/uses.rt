@@ -13,8 +13,8 @@ ghost use Rattle.prop_compound.specs.Kept.{fresh_used, instances_used, fresh_of,
 use crate::definition::Used;
 use crate::definitions::Definitions;
 use crate::expanding::{expand_definition, placed};
-use crate::fitting::judge;
-use crate::walk::{Walk, flat_behind};
+use crate::fitting::fitted;
+use crate::walk::Walk;
 use prop_lattice::{Limit, Refusal};
 use prop_procedures::{Flat, Kinded, Library, Param, Rule};
 use prop_vocabulary::Vocabulary;
@@ -184,6 +184,7 @@ impl Definitions {
         ensures err { IfErr result (λ e. (expand_refusal (stored_of R.value_of library.now) words.now self.now name.now cells.now given ≡ Some e) ⊎ (e ≡ Refusal.Memory)) }
         ensures at_once { IfSome (refused_at_once (stored_of R.value_of library.now) words.now self.now name.now cells.now given) (λ e. result ≡ Err e) }
     {
+        let _ = &self.names;
         let Some(used) = self.used(library, name) else {
             return Err(Refusal::NoSuchProcedure);
         };
@@ -196,10 +197,6 @@ impl Definitions {
         let Ok(walk) = self.walk(alloc, words, used, cells, given) else {
             return Err(Refusal::Memory);
         };
-        judge(alloc, library, &walk)?;
-        match flat_behind(alloc, walk, cells.len()) {
-            Ok(flat) => Ok(flat),
-            Err(AllocError) => Err(Refusal::Memory),
-        }
+        fitted(alloc, library, walk, cells.len())
     }
 }

@@ -1,10 +1,10 @@
 //! What a use stands for, while it is expanded.
-ghost use Rattle.std.specs.Prelude.{◌≡◌, ◌<◌, ◌≤◌, ◌++◌, List, length, drop, option_copied, IfOk, OnOk};
+ghost use Rattle.std.specs.Prelude.{◌≡◌, ◌<◌, ◌≤◌, ◌++◌, List, length, option_copied, IfOk, OnOk};
 ghost use Rattle.prop_procedures.specs.declared.shape.Param.{Param as Parameter};
 ghost use Rattle.prop_procedures.specs.Fitting.{kind_at};
 ghost use Rattle.prop_procedures.specs.Flats.{param_at};
 ghost use Rattle.prop_compound.specs.Expansion.{param_passed};
-ghost use Rattle.prop_compound.specs.Flattened.{IsPlaceIn};
+ghost use Rattle.prop_compound.specs.Flattened.{IsPlaceIn, IsBehind};
 
 use crate::definition::Passing;
 use prop_procedures::fitting::span_kinded;
@@ -72,9 +72,7 @@ pub(crate) fn param_place(
 /// What the walk came upon behind the first `count` cells.
 pub(crate) fn flat_behind(alloc: Global, walk: Walk, count: usize) -> Result<Flat, AllocError>
     requires { count ≤ length walk.kinds.items }
-    ensures fresh { IfOk result (λ flat. flat.fresh.items ≡ drop count walk.kinds.items) }
-    ensures params { IfOk result (λ flat. flat.params ≡ walk.params) }
-    ensures instances { IfOk result (λ flat. flat.instances ≡ walk.instances) }
+    ensures { IfOk result (IsBehind walk count) }
 {
     let Walk {
         kinds,
