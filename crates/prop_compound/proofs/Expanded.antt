@@ -1,5 +1,5 @@
 -- Why a whole use is refused, in the order in which it is tested, and what it stands for where it is not.
-use Rattle.std.proofs.Common.{◌≡◌, ◌∙◌, ℕ, ◌+◌, ◌<◌, ◌≤◌, ◌==◌, List, [], ◌∷◌, ◌++◌, Bool, false, not, length, map, take, drop, Option, Some, None, refl, sym, ap, subst, arith, inl, inr}
+use Rattle.std.proofs.Common.{◌≡◌, ◌∙◌, ℕ, ◌+◌, ◌≤◌, ◌==◌, List, [], ◌∷◌, ◌++◌, Bool, false, not, length, map, take, Option, Some, None, refl, sym, ap, subst}
 use Rattle.std.specs.Prelude.{is_none, ◌⊎◌, Result, Ok, Err, IfOk, IfErr, IfSome, OnOk}
 use Rattle.std.specs.List.{range_with_len}
 use Rattle.std.specs.Option.{option_map_or}

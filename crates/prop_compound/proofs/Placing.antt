@@ -1,17 +1,16 @@
 -- What is at hand of a use while it is expanded: more parameters change no instance so far, and each instance is right.
-use Rattle.std.proofs.Common.{◌≡◌, ◌∙◌, ℕ, zero, suc, ◌+◌, ◌<◌, ◌≤◌, List, [], ◌∷◌, ◌++◌, All, length, map, get_or, take, drop, Option, Some, None, refl, sym, ap, subst, arith, inl, inr}
-use Rattle.std.specs.Prelude.{slice_get, IfSome, Result, Ok, Err, OnOk}
+use Rattle.std.proofs.Common.{◌≡◌, ◌∙◌, ℕ, zero, suc, ◌+◌, ◌<◌, List, [], ◌∷◌, ◌++◌, All, length, map, get_or, Option, Some, None, refl, sym, ap, subst, arith, inl, inr}
+use Rattle.std.specs.Prelude.{slice_get, Result, Ok, Err, OnOk}
 use Rattle.std.specs.Option.{option_map_or}
 use Rattle.std.proofs.lemmas.List.{length-map, length-append, get_or-map, map-append, append-nil, append_assoc}
 use Rattle.std.proofs.lemmas.List.Elements.{All-head, All-tail, All-push, All-weaker}
 use Rattle.std.proofs.lemmas.Option.{slice_get_cases}
-use Rattle.prop_procedures.specs.declared.shape.Kinded.{Kinded}
 use Rattle.prop_procedures.specs.declared.shape.Param.{Param}
 use Rattle.prop_procedures.specs.Stored.{Stored}
 use Rattle.prop_procedures.specs.declared.flat.Placed as instances
 use Rattle.prop_procedures.specs.Flats.{param_at, cells_of}
 use Rattle.prop_compound.specs.declared.walk.Walk as walks
-use Rattle.prop_compound.specs.Expansion.{Walk, Placed, with_placed}
+use Rattle.prop_compound.specs.Expansion.{Placed, with_placed}
 use Rattle.prop_compound.specs.Flattened.{placed_of, walk_of, IsPlaceIn, ArePlaced, IsFurther, IsInstanceOver, AreRight}
 use Rattle.prop_compound.proofs.Ranges as ranges
 

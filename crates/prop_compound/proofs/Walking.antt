@@ -16,7 +16,7 @@ use Rattle.prop_compound.specs.declared.definition.KeptDefinition.{KeptDefinitio
 use Rattle.prop_compound.specs.declared.definition.NumberedStep.{NumberedStep}
 use Rattle.prop_compound.specs.declared.definition.NumberedStep.TheVariants.{Local, Like, Use}
 use Rattle.prop_compound.specs.Definitions.{Definition}
-use Rattle.prop_compound.specs.Expansion.{Walk, cell_at, cells_at, with_fresh, param_passed, use_expanded, steps_expanded, definition_expanded}
+use Rattle.prop_compound.specs.Expansion.{Walk, cell_at, cells_at, param_passed, use_expanded, steps_expanded, definition_expanded}
 use Rattle.prop_compound.specs.Kept.{bare, all_bare, places_made, IsInScope, AreInScope, IsUseBelow, IsKept, AreKept}
 use Rattle.prop_compound.proofs.Latest.{latest_at, latest_of}
 use Rattle.prop_compound.proofs.Unrolling.{Adds, IsEarlier, AreOrdered, unrolled}

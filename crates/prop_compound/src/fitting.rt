@@ -111,11 +111,7 @@ fn has_misgiven<R: Rule + Drop>(
 }
 
 /// Refuses what a use stands for where its cells or parameters do not fit: with 13 and 14, and with 90.
-fn judge<R: Rule + Drop>(
-    alloc: Global,
-    library: &Library<R>,
-    walk: &Walk,
-) -> Result<(), Refusal>
+fn judge<R: Rule + Drop>(alloc: Global, library: &Library<R>, walk: &Walk) -> Result<(), Refusal>
     requires { AreRight (stored_of R.value_of library.now) walk.now }
     ensures fits { OnOk result (fit_refusal (stored_of R.value_of library.now) (walk_of walk.now) ≡ None) }
     ensures err { IfErr result (λ e. (fit_refusal (stored_of R.value_of library.now) (walk_of walk.now) ≡ Some e) ⊎ (e ≡ Refusal.Memory)) }

@@ -1,14 +1,11 @@
-use Rattle.std.proofs.Common.{length, ap, refl, subst, sym, arith, ◌∙◌, ◌≡◌}
-use Rattle.std.proofs.lemmas.List.{get_or_default}
+use Rattle.std.proofs.Common.{length, ap, refl, subst, sym, ◌∙◌}
 use Rattle.std.specs.Prelude.{reverse}
-use Rattle.prop_procedures.specs.Fitting.{kind_at}
 use Rattle.prop_procedures.specs.Flats.{param_at}
 use Rattle.prop_compound.specs.Expansion.{cells_at, definition_expanded}
 use Rattle.prop_compound.specs.Flattened.{walk_of}
-use Rattle.prop_compound.specs.Kept.{all_bare, places_made, IsInScope, IsUseBelow}
-use Rattle.prop_compound.proofs.Walking.{Goes, kept_here, begins, params_at, local_goes, like_goes, one_made, use_goes, use_goes_if, scope_here, scope_behind, goes_on, below_all, reach_below}
+use Rattle.prop_compound.specs.Kept.{all_bare, places_made}
+use Rattle.prop_compound.proofs.Walking.{Goes, kept_here, begins, params_at, local_goes, one_made, use_goes, use_goes_if, scope_behind, goes_on}
 use Rattle.prop_compound.proofs.Placing.{param_still, none_further, mid_same, pushed_means, further_on}
-use Rattle.prop_compound.proofs.Firsts.{all_here}
 use Rattle.prop_compound.proofs.expanding.+expanding.Goals as goal
 
 pub expand_definition-loop-step-init : goal.expand_definition-loop-step-init

@@ -1,7 +1,6 @@
-use Rattle.std.proofs.Common.{◌≡◌, ◌∙◌, refl, sym, ap, inl}
+use Rattle.std.proofs.Common.{◌∙◌, refl, sym, ap, inl}
 use Rattle.prop_procedures.specs.Kept.{stored_of}
 use Rattle.prop_compound.specs.Definitions.{Definitions}
-use Rattle.prop_compound.specs.Kept.{all_bare}
 use Rattle.prop_compound.proofs.Expanded.{size_at_once, none_at_once, size_stops, fit_decides, cells_among, walk_right, flat_means, flat_safe, flat_fits, flat_why}
 use Rattle.prop_compound.proofs.definitions.Definitions.expand.Goals as goal
 
