@@ -22,8 +22,22 @@ pub fn options(alloc: Global, words: &[String]) -> Result<Options, Error>
     ensures err { IfErr result (λ e. AreTaken (map string_bytes words.now) → IsWantOfMemory e ⊎ AreOutOfRange (map string_bytes words.now)) }
 {
     let mut command = program(alloc)?;
+    let options = read(&mut command, words);
+    // One call in place of the drop of each part, which a proof would go through one by one.
+    drop(command);
+    options
+}
+
+/// The options that the words give, by the program as the option reader sees it.
+fn read<'a>(command: &mut Command<'a>, words: &'a [String]) -> Result<Options, Error>
+    requires { app_of command.old ≡ program }
+    ensures ok { IfOk result (AreGiven (map string_bytes words.now)) }
+    ensures err { IfErr result (λ e. AreTaken (map string_bytes words.now) → IsWantOfMemory e ⊎ AreOutOfRange (map string_bytes words.now)) }
+{
     let matches = command.try_get_matches_from_mut(words)?;
-    match limit_of(&matches) {
+    let limit = limit_of(&matches);
+    drop(matches);
+    match limit {
         Some(limit) => Ok(Options { limit }),
         None => Err(command.error(
             ErrorKind::ValueValidation,
