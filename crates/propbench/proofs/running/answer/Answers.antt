@@ -1,4 +1,4 @@
-use Rattle.std.proofs.Common.{◌∙◌, ◌≡◌, ap, inl, inr, refl}
+use Rattle.std.proofs.Common.{◌≡◌, inl, inr, refl}
 use Rattle.prop_workbench.specs.Engine.{workbench, machine_of}
 use Rattle.prop_workbench.specs.Sessions.{state_of, library_of, related_in}
 use Rattle.prop_engine.proofs.Io.{on_err}

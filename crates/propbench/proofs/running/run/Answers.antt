@@ -1,11 +1,8 @@
-use Rattle.std.proofs.Common.{◌∙◌, ◌≡◌, ap, map, arith, inr}
-use Rattle.prop_workbench.specs.Engine.{workbench, machine_of}
-use Rattle.prop_workbench.specs.Sessions.{state_of}
-use Rattle.propbench.specs.Kits.{kit_library, kit_related}
+use Rattle.std.proofs.Common.{◌∙◌, arith}
 use Rattle.prop_engine.proofs.Io.{on_err}
-use Rattle.prop_procedures.specs.Kept.{AllMean-push, stored_as, stored_of, related_of}
+use Rattle.prop_procedures.specs.Kept.{AllMean-push}
 use Rattle.std.proofs.lemmas.List.{take_all}
-use Rattle.prop_arith.specs.Kit.{in_order, value_of, Related}
+use Rattle.prop_arith.specs.Kit.{in_order, value_of}
 use Rattle.propbench.proofs.Starts.{nothing_yet, stored_is, listed_more, all_listed, ruled_more, kit_is_sound}
 use Rattle.propbench.proofs.running.run.Goals as goal
 

@@ -1,4 +1,4 @@
-use Rattle.std.proofs.Common.{◌∙◌, ◌≡◌, ap}
+use Rattle.std.proofs.Common.{◌∙◌, ap}
 use Rattle.prop_engine.proofs.Io.{on_err}
 use Rattle.propbench.proofs.Starts.{nothing_yet, answered_by_kit, answered_in_front_by_kit}
 use Rattle.propbench.proofs.running.serve.Goals as goal
