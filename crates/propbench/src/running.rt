@@ -3,17 +3,16 @@ ghost use Rattle.std.specs.Prelude.{◌≡◌, IfOk, OnErr, map};
 ghost use Rattle.prop_arith.specs.Kit.{value_of, in_order};
 ghost use Rattle.prop_procedures.specs.Kept.{AllMean, stored_as};
 ghost use Rattle.prop_engine.specs.Watched.{device, IsFresh};
-ghost use Rattle.propbench.specs.Kits.{kit_library, kit_related, IsAnswered, IsAnsweredInFront};
+ghost use Rattle.propbench.specs.Kits.{kit_library, kit_related, IsAnswered, IsAnsweredInFront, IsAnsweredBy, IsAnsweredInFrontBy};
 ghost use Rattle.prop_cells.specs.Points.{AreSoundBy};
-ghost use Rattle.prop_workbench.specs.Machine.{new_state};
-ghost use Rattle.prop_workbench.specs.Sessions.{state_of, library_of, IsSound, IsMeant};
+ghost use Rattle.prop_workbench.specs.Sessions.{state_of, library_of, related_in, IsSound, IsMeant};
 
 use crate::chosen::{Options, Pick};
 use crate::fault::Fault;
 use prop_arith::{KITS, Kit};
 use prop_cells::Network;
 use prop_lattice::Info;
-use prop_procedures::{Library, Param, Procedure, Shape};
+use prop_procedures::{Library, Param, Procedure, Rule, Shape};
 use prop_scheduler::{Fifo, Lifo, Mixed, Order};
 use prop_workbench::{Counts, Session, Watched};
 use smallvec::SmallVec;
@@ -24,7 +23,6 @@ use std::io::{Read, Write};
 const READS: u64 = 1 << 32;
 
 /// Makes the kit's procedures, loads the prelude and runs a session with them.
-#[tactic(auto, using(crate::proofs::Starts::kit_is_sound))]
 pub fn run<Rd: Read, W: Write>(
     alloc: Global,
     options: Options,
@@ -101,21 +99,18 @@ fn serve_in<O: Order + Drop, Rd: Read, W: Write>(
     counts
 }
 
-/// Loads the prelude into a session over the kit that has only begun, and runs it.
-fn answer<O: Order + Drop, Rd: Read, W: Write>(
-    session: &mut Session<Kit, O>,
+/// Loads the prelude into a session and runs it. Over a session of any rule and order the proof does not go through what the kit's rules are.
+fn answer<R: Rule + Drop, O: Order + Drop, Rd: Read, W: Write>(
+    session: &mut Session<R, O>,
     reader: &mut Watched<Rd>,
     writer: &mut Watched<W>,
 ) -> Result<Counts, Fault>
     requires reader { IsFresh reader.old }
     requires writer { IsFresh writer.old }
-    requires means { IsMeant value_of session.old }
-    requires sound { IsSound value_of session.old }
-    requires listed { library_of value_of session.old ≡ kit_library }
-    requires ruled { map (λ p. p.rule) session.old.network.library.procedures.items ≡ in_order }
-    requires begun { state_of session.old ≡ new_state session.old.limit }
-    ensures ok { IfOk result (IsAnswered (Rd.remaining (device reader.old)) (W.contents (device writer.old)) (W.contents (device writer.new)) session.old.limit) }
-    ensures err { OnErr result (IsAnsweredInFront (Rd.remaining (device reader.old)) (W.contents (device writer.old)) (W.contents (device writer.new)) session.old.limit) }
+    requires means { IsMeant R.value_of session.old }
+    requires sound { IsSound R.value_of session.old }
+    ensures ok { IfOk result (IsAnsweredBy (library_of R.value_of session.old) (related_in R.related session.old) (state_of session.old) (Rd.remaining (device reader.old)) (W.contents (device writer.old)) (W.contents (device writer.new))) }
+    ensures err { OnErr result (IsAnsweredInFrontBy (library_of R.value_of session.old) (related_in R.related session.old) (state_of session.old) (Rd.remaining (device reader.old)) (W.contents (device writer.old)) (W.contents (device writer.new))) }
 {
     match session.load_prelude() {
         Ok(()) => {}
