@@ -8,18 +8,18 @@ use crate::reply::Reply;
 
 /// What carries out lines, one after another, as one machine all along.
 pub trait Interpreter {
+    /// What no line changes.
+    type Setting;
+
     /// What a line may change.
     ghost State: { Type 0 };
 
-    /// What no line changes.
-    ghost Setting: { Type 0 };
+    ghost setting: { Self → Self.Setting };
 
     ghost state: { Self → State };
 
-    ghost setting: { Self → Setting };
-
-    /// The machine that it is a state of, in its setting.
-    ghost machine: { Setting → Machine State };
+    /// In which setting what may be answered, and what state follows.
+    ghost machine: { Self.Setting → Machine State };
 
     /// What has to hold between lines.
     ghost is_ready: { Self → Type 0 };
@@ -31,7 +31,7 @@ pub trait Interpreter {
         ensures same { setting self.new ≡ setting self.old }
         ensures step { machine (setting self.old) (state self.old) line.now (answer_of result) (state self.new) };
 
-    ghost asks_by_front: { (at : Setting) → AsksByFront (machine at) };
+    ghost asks_by_front: { (at : Self.Setting) → AsksByFront (machine at) };
 
-    ghost total: { (at : Setting) → IsTotal (machine at) };
+    ghost total: { (at : Self.Setting) → IsTotal (machine at) };
 }
