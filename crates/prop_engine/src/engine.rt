@@ -151,7 +151,13 @@ fn run<M: Interpreter, Rd: Read, W: Write>(
             }
             return Ok(counts);
         }
-        feed(interpreter, &piece[..count], &mut pending, writer, &mut counts)?;
+        feed(
+            interpreter,
+            &piece[..count],
+            &mut pending,
+            writer,
+            &mut counts,
+        )?;
     }
     Err(EngineFault::Reads)
 }

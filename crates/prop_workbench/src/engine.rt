@@ -1,9 +1,7 @@
 //! Sessions over a reader and a writer.
-ghost use Rattle.std.specs.Prelude.{◌≡◌, ℕ, ◌+◌, ◌<◌, ◌≤◌, ◌^◌, List, length, min, max, true, false, OnOk, OnErr, IfOk, IfErr, MatchResult, IsErrOf, ◌↔◌, ◌⊎◌};
+ghost use Rattle.std.specs.Prelude.{◌≡◌, ℕ, ◌+◌, ◌≤◌, List, min, max, true, false, OnErr, IfOk, IsErrOf, ◌↔◌, ◌⊎◌};
 ghost use Rattle.std.specs.Io.KnownBytes.{Appends, Consumes};
-ghost use Rattle.prop_engine.specs.Watched.{device, has_failed, has_stopped, calls, widest, AppendsFront, IsFaulty, IsFresh};
-ghost use Rattle.prop_engine.specs.Answers.{Answer, text_written};
-ghost use Rattle.prop_engine.specs.Progress.{CountsAnswer, Advances, Stops, GrowsAtMost};
+ghost use Rattle.prop_engine.specs.Watched.{device, has_failed, has_stopped, calls, widest, IsFaulty, IsFresh};
 
 use crate::session::Session;
 use prop_engine::{Counts, EngineFault, Watched, run_session};
