@@ -1,24 +1,20 @@
 use Rattle.std.proofs.Common.{◌≡◌, ℕ, ◌+◌, ◌≤◌, List, ◌∙◌, drop, refl, sym, subst, arith}
 use Rattle.std.specs.Prelude.{Option, Result, OnErr, true, false, cond}
 use Rattle.std.specs.Io.KnownBytes.{Appends}
-use Rattle.prop_procedures.specs.Kept.{stored_of, related_of}
 use Rattle.prop_engine.specs.Answers.{Answer, is_refusal}
-use Rattle.prop_workbench.specs.Sessions.{state_of}
-use Rattle.prop_workbench.specs.Engine.{machine_of, workbench}
 use Rattle.prop_engine.specs.Transcripts.{Machine}
 use Rattle.prop_engine.specs.Progress.{Stops, CountsAnswer, GrowsAtMost, refusals}
 use Rattle.prop_engine.specs.declared.outcome.Counts.{Counts}
 use Rattle.prop_engine.proofs.Io.{on_err}
-use Rattle.prop_workbench.proofs.Machines.{workbench_asks_by_front}
 use Rattle.prop_engine.proofs.Machines.{same_step}
 use Rattle.prop_engine.proofs.Feeds.{feed_start, feed_byte, feed_line, feed_stop, feed_end, at_place, next_place}
-use Rattle.prop_workbench.proofs.session.Session.feed.Goals as goal
-use Rattle.prop_workbench.proofs.session.Session.feed.Goals.{then-byte-eq10+in_ok-answer, else-byte-eq10}
+use Rattle.prop_engine.proofs.engine.feed.Goals as goal
+use Rattle.prop_engine.proofs.engine.feed.Goals.{then-byte-eq10+in_ok-answer, else-byte-eq10}
 
 pub loop-byte-init : goal.loop-byte-init
 loop-byte-init g c = record {
   same = refl;
-  sound = c.requires.sound;
+  ready = c.requires.ready;
   so_far = feed_start _ _ _ _ _;
   bounded = record { lines = omega arith; refused = omega arith };
   fresh = λ h. h;
@@ -31,9 +27,9 @@ pub returns-in_err-answer-clause-err : goal.returns-in_err-answer-clause-err
 returns-in_err-answer-clause-err g c =
     let s = c.in_err-answer.ensures.step in
     let here = at_place c.args.piece.now c.loop-byte.byte-index 10 c.loop-byte-test.true c.if-byte-eq10.true in
-    let step : machine_of g.R.Rule.value_of g.R.Rule.related c.loop-byte.self (state_of c.loop-byte.self) c.loop-byte.pending s.0 (state_of c.answer.new.self) = rw (← c.as_slice.ensures) s.1 in
-    let step' = same_step (λ l. workbench (stored_of g.R.Rule.value_of l) (related_of g.R.Rule.related l)) _ _ c.loop-byte.invariant.same _ _ _ _ step in
-    let r = feed_stop _ (workbench_asks_by_front _ _) _ _ _ _ _ _ _ _ _ _ _ _ (drop (c.loop-byte.byte-index + 1) c.args.piece.now) c.loop-byte.invariant.so_far step' s.2 in
+    let step : g.M.Interpreter.machine (g.M.Interpreter.setting c.loop-byte.interpreter) (g.M.Interpreter.state c.loop-byte.interpreter) c.loop-byte.pending s.0 (g.M.Interpreter.state c.answer.new.interpreter) = rw (← c.as_slice.ensures) s.1 in
+    let step' = same_step g.M.Interpreter.machine _ _ c.loop-byte.invariant.same _ _ _ _ step in
+    let r = feed_stop _ (g.met.M.Interpreter.asks_by_front _) _ _ _ _ _ _ _ _ _ _ _ _ (drop (c.loop-byte.byte-index + 1) c.args.piece.now) c.loop-byte.invariant.so_far step' s.2 in
     stop_at _ _ _ _ _ _ _ _ _ _ here r
 
 pub returns-clause-ok : goal.returns-clause-ok
@@ -55,19 +51,19 @@ loop-byte-preserved g c =
     elim c.if-byte-eq10.branch [
       | then-byte-eq10+in_ok-answer w ↦
           let s = w.in_ok-answer.ensures.step in
-          let step : machine_of g.R.Rule.value_of g.R.Rule.related c.loop-byte.self (state_of c.loop-byte.self) c.loop-byte.pending s.0 (state_of w.answer.new.self) = rw (← w.as_slice.ensures) s.1 in
-          let step' = same_step (λ l. workbench (stored_of g.R.Rule.value_of l) (related_of g.R.Rule.related l)) _ _ c.loop-byte.invariant.same _ _ _ _ step in
-          rw (w.self-is, w.pending-is, w.writer-is, w.counts-is, w.clear.ensures, next_place piece i 10 c.loop-byte-test.true w.if-byte-eq10.true) record {
+          let step : g.M.Interpreter.machine (g.M.Interpreter.setting c.loop-byte.interpreter) (g.M.Interpreter.state c.loop-byte.interpreter) c.loop-byte.pending s.0 (g.M.Interpreter.state w.answer.new.interpreter) = rw (← w.as_slice.ensures) s.1 in
+          let step' = same_step g.M.Interpreter.machine _ _ c.loop-byte.invariant.same _ _ _ _ step in
+          rw (w.interpreter-is, w.pending-is, w.writer-is, w.counts-is, w.clear.ensures, next_place piece i 10 c.loop-byte-test.true w.if-byte-eq10.true) record {
             same = w.in_ok-answer.ensures.same ∙ c.loop-byte.invariant.same;
-            sound = w.in_ok-answer.ensures.sound;
-            so_far = feed_line _ (workbench_asks_by_front _ _) _ _ _ _ _ _ _ _ _ _ _ _ _ c.loop-byte.invariant.so_far step' s.2.0 s.2.1;
+            ready = w.in_ok-answer.ensures.ready;
+            so_far = feed_line _ (g.met.M.Interpreter.asks_by_front _) _ _ _ _ _ _ _ _ _ _ _ _ _ c.loop-byte.invariant.so_far step' s.2.0 s.2.1;
             bounded = grows _ _ _ _ s.0 c.loop-byte.invariant.bounded s.2.1;
             fresh = λ h. w.in_ok-answer.ensures.fresh (c.loop-byte.invariant.fresh h);
           }
       | else-byte-eq10 w ↦
-          rw (w.self-is, w.pending-is, w.writer-is, w.counts-is, next_place piece i _ c.loop-byte-test.true refl) record {
+          rw (w.interpreter-is, w.pending-is, w.writer-is, w.counts-is, next_place piece i _ c.loop-byte-test.true refl) record {
             same = c.loop-byte.invariant.same;
-            sound = c.loop-byte.invariant.sound;
+            ready = c.loop-byte.invariant.ready;
             so_far = feed_byte _ _ _ _ _ _ _ _ _ _ _ _ c.loop-byte.invariant.so_far w.if-byte-eq10.false w.push.ensures;
             bounded = grows_more _ _ _ c.loop-byte.invariant.bounded;
             fresh = c.loop-byte.invariant.fresh;

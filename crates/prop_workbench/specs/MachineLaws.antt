@@ -1,4 +1,4 @@
--- That the workbench has what the engine asks of a machine.
+-- The workbench has what the engine asks of a machine.
 use Rattle.std.proofs.Common.{◌≡◌, ◌≢◌, ℕ, ◌≤◌, ◌<◌, List, length, take, refl, sym, ◌∙◌, ap, subst, inl, inr, arith}
 use Rattle.std.specs.Prelude.{Option, Some, None, Result, Ok, Err}
 use Rattle.std.proofs.lemmas.List.{length-take, take_all}
@@ -15,7 +15,7 @@ use Rattle.prop_engine.specs.Answers.{Answer, Silent, Text, Refused}
 use Rattle.prop_workbench.specs.Machine.{State}
 use Rattle.prop_workbench.specs.Steps.{Follows}
 use Rattle.prop_workbench.specs.Engine.{workbench}
-use Rattle.prop_engine.proofs.Machines.{AsksByFront, IsTotal}
+use Rattle.prop_engine.specs.Machines.{AsksByFront, IsTotal}
 
 -- a front of limit bytes is the line, or as long as the limit
 front_of_line : (limit : ℕ) (line : List ℕ) → (length line ≤ limit → take limit line ≡ line) × (limit < length line → length (take limit line) ≡ limit)

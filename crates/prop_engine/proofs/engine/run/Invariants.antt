@@ -2,18 +2,16 @@ use Rattle.std.proofs.Common.{◌≤◌, ◌≡◌, ◌*◌, ◌+◌, ◌^◌, �
 use Rattle.std.specs.Io.KnownBytes.{Appends, Consumes}
 use Rattle.prop_engine.specs.Watched.{device, calls, widest, IsFresh}
 use Rattle.prop_engine.specs.Progress.{Progress}
-use Rattle.prop_workbench.specs.Sessions.{state_of, IsSound}
-use Rattle.prop_workbench.specs.Engine.{machine_of}
-use Rattle.prop_workbench.proofs.session.Session.run.Given as goal
+use Rattle.prop_engine.proofs.engine.run.Given as goal
 
 abbrev pub invariant-loop-turn : goal.invariant-loop-turn
 invariant-loop-turn g l = record {
-  same : l.self.network.library ≡ l.fn.self.network.library;
-  sound : IsSound g.R.Rule.value_of l.self;
+  same : g.M.Interpreter.setting l.interpreter ≡ g.M.Interpreter.setting l.fn.interpreter;
+  ready : g.M.Interpreter.is_ready l.interpreter;
   so_far : (input : List ℕ) × (output : List ℕ)
       × Consumes (g.Rd.Read.remaining (device l.fn.reader)) (g.Rd.Read.remaining (device l.reader)) input
       × Appends (g.W.Write.contents (device l.fn.writer)) (g.W.Write.contents (device l.writer)) output
-      × Progress (machine_of g.R.Rule.value_of g.R.Rule.related l.fn.self) (state_of l.fn.self) input l.pending output l.counts (state_of l.self);
+      × Progress (g.M.Interpreter.machine (g.M.Interpreter.setting l.fn.interpreter)) (g.M.Interpreter.state l.fn.interpreter) input l.pending output l.counts (g.M.Interpreter.state l.interpreter);
   lines : l.counts.lines ≤ 4096 * l._turn;
   refused : l.counts.refused ≤ 4096 * l._turn;
   reader : IsFresh l.reader;

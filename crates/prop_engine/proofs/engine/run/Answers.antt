@@ -1,18 +1,14 @@
 use Rattle.std.proofs.Common.{◌≡◌, ◌<◌, ◌∙◌, ◌↔◌, Bool, Result, Ok, Err, IsErrOf, inl, inr, length, true, false, refl, sym, ap, arith}
 use Rattle.std.proofs.lemmas.Result.{err_from_is_err_and}
 use Rattle.std.proofs.lemmas.Bool.{false≢true}
-use Rattle.prop_procedures.specs.Kept.{stored_of, related_of}
 use Rattle.prop_engine.specs.declared.outcome.Counts.{Counts}
 use Rattle.prop_engine.specs.declared.outcome.EngineFault.{EngineFault}
 use Rattle.prop_engine.specs.declared.outcome.EngineFault.TheVariants.{Read, Write, Reads}
 use Rattle.prop_engine.specs.Watched.{has_stopped}
-use Rattle.prop_workbench.specs.Sessions.{state_of}
-use Rattle.prop_workbench.specs.Engine.{machine_of, workbench}
 use Rattle.prop_engine.proofs.Io.{not_failed, not_stopped}
-use Rattle.prop_workbench.proofs.Machines.{workbench_asks_by_front}
 use Rattle.prop_engine.proofs.Machines.{same_step}
 use Rattle.prop_engine.proofs.Pieces.{started, read_failed, too_many, at_end, ended_plain, ended_line, ended_fault, fed, feed_fault, same_advance, same_stop, told_by}
-use Rattle.prop_workbench.proofs.session.Session.run.Goals as goal
+use Rattle.prop_engine.proofs.engine.run.Goals as goal
 
 -- where no read has failed, none is answered as failed
 none_failed : (result : Result Counts EngineFault) (failed : Bool) → (result ≡ Err Read → ⊥) → failed ≡ false → IsErrOf result Read ↔ (failed ≡ true)
@@ -30,7 +26,7 @@ write_is_no_reads result e f = let g : Err Write ≡ Err Reads = sym e ∙ f in 
 pub loop-turn-init : goal.loop-turn-init
 loop-turn-init g c = record {
   same = refl;
-  sound = c.requires.sound;
+  ready = c.requires.ready;
   so_far = started _ _ _ _ _ _ c.new-pending.ensures refl refl;
   lines = omega arith;
   refused = omega arith;
@@ -47,25 +43,25 @@ pub returns-in_err-answer-clause-told : goal.returns-in_err-answer-clause-told
 returns-in_err-answer-clause-told g c =
     let p = err_from_is_err_and c.from_residual.result c.from_residual.ensures.1 in
     let s = c.in_err-answer.ensures.step in
-    let step : machine_of g.R.Rule.value_of g.R.Rule.related c.loop-turn.self (state_of c.loop-turn.self) c.loop-turn.pending s.0 (state_of c.answer.new.self) = rw (← c.as_slice.ensures) s.1 in
-    let step' = same_step (λ l. workbench (stored_of g.R.Rule.value_of l) (related_of g.R.Rule.related l)) _ _ c.loop-turn.invariant.same _ _ _ _ step in
+    let step : g.M.Interpreter.machine (g.M.Interpreter.setting c.loop-turn.interpreter) (g.M.Interpreter.state c.loop-turn.interpreter) c.loop-turn.pending s.0 (g.M.Interpreter.state c.answer.new.interpreter) = rw (← c.as_slice.ensures) s.1 in
+    let step' = same_step g.M.Interpreter.machine _ _ c.loop-turn.invariant.same _ _ _ _ step in
     let consumed = rw c.if-count-eq0.true at c.in-Ok.ensures.bytes.0 in
     let room : 0 < length c.read.new.buffer = omega (arith, c.read.auto.buffer) in
     let told : has_stopped c.read.new.self ≡ true = at_end _ _ _ _ c.if-count-eq0.true room c.in-Ok.ensures.stopped in
     let end = c.in-Ok.ensures.bytes.1 c.if-count-eq0.true room in
     told_by _ _ _ _ _ _ _ _ _ _ p.1 (p.2 ∙ c.in_err-answer.ensures.fault.0)
-    (ended_fault _ (workbench_asks_by_front _ _) _ _ _ _ _ _ _ _ _ _ _ s.0 _ c.loop-turn.invariant.so_far (λ e. false≢true (sym c.if-not-is_empty.true ∙ c.is_empty.ensures.1 e)) consumed end told step' s.2)
+    (ended_fault _ (g.met.M.Interpreter.asks_by_front _) _ _ _ _ _ _ _ _ _ _ _ s.0 _ c.loop-turn.invariant.so_far (λ e. false≢true (sym c.if-not-is_empty.true ∙ c.is_empty.ensures.1 e)) consumed end told step' s.2)
 
 pub returns-in_ok-answer-clause-told : goal.returns-in_ok-answer-clause-told
 returns-in_ok-answer-clause-told g c =
     let s = c.in_ok-answer.ensures.step in
-    let step : machine_of g.R.Rule.value_of g.R.Rule.related c.loop-turn.self (state_of c.loop-turn.self) c.loop-turn.pending s.0 (state_of c.answer.new.self) = rw (← c.as_slice.ensures) s.1 in
-    let step' = same_step (λ l. workbench (stored_of g.R.Rule.value_of l) (related_of g.R.Rule.related l)) _ _ c.loop-turn.invariant.same _ _ _ _ step in
+    let step : g.M.Interpreter.machine (g.M.Interpreter.setting c.loop-turn.interpreter) (g.M.Interpreter.state c.loop-turn.interpreter) c.loop-turn.pending s.0 (g.M.Interpreter.state c.answer.new.interpreter) = rw (← c.as_slice.ensures) s.1 in
+    let step' = same_step g.M.Interpreter.machine _ _ c.loop-turn.invariant.same _ _ _ _ step in
     let consumed = rw c.if-count-eq0.true at c.in-Ok.ensures.bytes.0 in
     let room : 0 < length c.read.new.buffer = omega (arith, c.read.auto.buffer) in
     let told : has_stopped c.read.new.self ≡ true = at_end _ _ _ _ c.if-count-eq0.true room c.in-Ok.ensures.stopped in
     let end = c.in-Ok.ensures.bytes.1 c.if-count-eq0.true room in
-    ended_line _ (workbench_asks_by_front _ _) _ _ _ _ _ _ _ _ _ _ _ s.0 _ _ c.loop-turn.invariant.so_far (λ e. false≢true (sym c.if-not-is_empty.true ∙ c.is_empty.ensures.1 e)) consumed end told step' s.2.0 s.2.1
+    ended_line _ (g.met.M.Interpreter.asks_by_front _) _ _ _ _ _ _ _ _ _ _ _ s.0 _ _ c.loop-turn.invariant.so_far (λ e. false≢true (sym c.if-not-is_empty.true ∙ c.is_empty.ensures.1 e)) consumed end told step' s.2.0 s.2.1
 
 pub returns-else-not-is_empty-clause-told : goal.returns-else-not-is_empty-clause-told
 returns-else-not-is_empty-clause-told g c =
@@ -78,15 +74,15 @@ returns-else-not-is_empty-clause-told g c =
 pub returns-in_err-feed-clause-told : goal.returns-in_err-feed-clause-told
 returns-in_err-feed-clause-told g c =
     let p = err_from_is_err_and c.from_residual-in_err-feed.result c.from_residual-in_err-feed.ensures.1 in
-    let stopped = same_stop (λ l. workbench (stored_of g.R.Rule.value_of l) (related_of g.R.Rule.related l)) _ _ c.loop-turn.invariant.same _ _ _ _ _ _ _ c.in_err-feed.ensures.err in
+    let stopped = same_stop g.M.Interpreter.machine _ _ c.loop-turn.invariant.same _ _ _ _ _ _ _ c.in_err-feed.ensures.err in
     told_by _ _ _ _ _ _ _ _ _ _ p.1 (p.2 ∙ c.in_err-feed.ensures.fault.0)
     (feed_fault _ _ _ _ _ _ _ _ _ _ _ _ _ _ c.loop-turn.invariant.so_far (not_stopped _ _ _ _ c.if-count-eq0.false c.in-Ok.ensures.stopped ∙ c.loop-turn.invariant.reader.not_stopped) c.in-Ok.ensures.bytes.0 stopped)
 
 pub loop-turn-preserved : goal.loop-turn-preserved
 loop-turn-preserved g c =
-    let advanced = same_advance (λ l. workbench (stored_of g.R.Rule.value_of l) (related_of g.R.Rule.related l)) _ _ c.loop-turn.invariant.same _ _ _ _ _ _ _ _ _ c.in_ok-feed.ensures.ok in record {
+    let advanced = same_advance g.M.Interpreter.machine _ _ c.loop-turn.invariant.same _ _ _ _ _ _ _ _ _ c.in_ok-feed.ensures.ok in record {
       same = c.in_ok-feed.ensures.same ∙ c.loop-turn.invariant.same;
-      sound = c.in_ok-feed.ensures.sound;
+      ready = c.in_ok-feed.ensures.ready;
       so_far = fed _ _ _ _ _ _ _ _ _ _ _ _ _ _ _ c.loop-turn.invariant.so_far c.in-Ok.ensures.bytes.0 advanced;
       lines = omega (arith, c.in_ok-feed.ensures.bounded.lines, c.in-Ok.ensures.bound.0, c.in-Ok.ensures.bound.1, c.loop-turn.invariant.lines, c.read.auto.buffer);
       refused = omega (arith, c.in_ok-feed.ensures.bounded.refused, c.in-Ok.ensures.bound.0, c.in-Ok.ensures.bound.1, c.loop-turn.invariant.refused, c.read.auto.buffer);
