@@ -4,10 +4,11 @@ use Rattle.prop_premises.specs.Sets.{set_of}
 use Rattle.prop_procedures.specs.Stored.{Stored}
 use Rattle.prop_procedures.specs.Kept.{stored_of}
 use Rattle.prop_cells.specs.Problems.{Premises}
-use Rattle.prop_cells.specs.Data.{Data, IsClash, IsWellMade}
+use Rattle.prop_cells.specs.Data.{Data, IsClash, IsWellMade, problem_of}
 use Rattle.prop_cells.proofs.Founding.{clash_conflicts}
 use Rattle.prop_scheduler.specs.Turns.{Interrupted, Turn}
 use Rattle.prop_scheduler.specs.Turns.Turns.{none, more}
+use Rattle.prop_scheduler.specs.Potential.{most_steps}
 use Rattle.prop_scheduler.proofs.Steps.{settled}
 use Rattle.prop_scheduler.proofs.Ending.{no_turns, under_way_within}
 use Rattle.prop_scheduler.proofs.runs.run.Goals as goal
@@ -413,4 +414,6 @@ returns-clause-earned g c =
     λ spent.
     let made : IsWellMade c.args.network.now.cells = rw c.data.ensures at c.well_made.ensures in
     let most = under_way_within (stored_of g.R.Rule.value_of c.args.network.now.library) (set_of c.args.worldview.now) c.args.network.now.cells c.args.agenda.now made c.waiting-waiting.ensures.line c.requires.under_way in
-    omega (arith, most, c.loop-steps.invariant.falls, c.loop-steps.invariant.waiting)
+    let same : most_steps (problem_of (stored_of g.R.Rule.value_of c.loop-steps.network.library) c.loop-steps.network.cells) ≡ most_steps (problem_of (stored_of g.R.Rule.value_of c.args.network.now.library) c.args.network.now.cells) =
+    λ i. most_steps (problem_of (stored_of g.R.Rule.value_of (c.loop-steps.invariant.same i)) (c.loop-steps.invariant.rest i)) in
+    omega (arith, most, c.loop-steps.invariant.falls, c.loop-steps.invariant.waiting, same)
