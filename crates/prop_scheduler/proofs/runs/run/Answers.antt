@@ -4,10 +4,11 @@ use Rattle.prop_premises.specs.Sets.{set_of}
 use Rattle.prop_procedures.specs.Stored.{Stored}
 use Rattle.prop_procedures.specs.Kept.{stored_of}
 use Rattle.prop_cells.specs.Problems.{Premises}
-use Rattle.prop_cells.specs.Data.{Data, IsClash, IsWellMade}
+use Rattle.prop_cells.specs.Data.{Data, IsClash, IsWellMade, problem_of}
 use Rattle.prop_cells.proofs.Founding.{clash_conflicts}
 use Rattle.prop_scheduler.specs.Turns.{Interrupted, Turn}
 use Rattle.prop_scheduler.specs.Turns.Turns.{none, more}
+use Rattle.prop_scheduler.specs.Potential.{most_steps}
 use Rattle.prop_scheduler.proofs.Steps.{settled}
 use Rattle.prop_scheduler.proofs.Ending.{no_turns, under_way_within}
 use Rattle.prop_scheduler.proofs.runs.run.Goals as goal
@@ -82,7 +83,7 @@ returns-in-Some-clause-steps g c =
 
 pub returns-in-Some-clause-at_rest : goal.returns-in-Some-clause-at_rest
 returns-in-Some-clause-at_rest g c =
-    λ none free. let clash : IsClash (set_of c.args.worldview.now) c.args.network.now.cells _ = rw c.in-Some.is at c.in_ok-support.ensures.clash in absurd (free clash.cell clash.clash)
+    λ empty free. let clash : IsClash (set_of c.args.worldview.now) c.args.network.now.cells _ = rw c.in-Some.is at c.in_ok-support.ensures.clash in absurd (free clash.cell clash.clash)
 
 pub returns-in-Some-clause-falls : goal.returns-in-Some-clause-falls
 returns-in-Some-clause-falls g c =
@@ -206,9 +207,9 @@ returns-in-Some-clash-clause-steps g c =
 
 pub returns-in-Some-clash-clause-at_rest : goal.returns-in-Some-clash-clause-at_rest
 returns-in-Some-clash-clause-at_rest g c =
-    λ none free.
+    λ empty free.
     let turn : Turn (stored_of g.R.Rule.value_of c.args.network.now.library) (set_of c.args.worldview.now) c.pick-place.result c.loop-steps.network.cells c.turn.new.network.cells c.loop-steps.agenda.line c.turn.new.agenda.line = turn_on (stored_of g.R.Rule.value_of) (set_of c.args.worldview.now) c.pick-place.result c.loop-steps.network.cells c.turn.new.network.cells c.loop-steps.agenda.line c.turn.new.agenda.line c.args.network.now.library c.loop-steps.network.library c.loop-steps.invariant.same c.in_ok-clash.ensures.turn in
-    let idle = no_turns g.O.Order.picks (stored_of g.R.Rule.value_of c.args.network.now.library) (set_of c.args.worldview.now) c.args.network.now.cells c.args.agenda.now.line c.args.order.now (c.loop-steps.steps + 1) c.turn.new.network.cells c.turn.new.agenda.line c.pick-place.new.self (more c.loop-steps.steps c.pick-place.result c.loop-steps.network.cells _ c.loop-steps.agenda.line _ c.loop-steps.order _ c.loop-steps.invariant.turns (rw c.loop-steps.invariant.waiting at c.pick-place.ensures.picks) turn) (ap length none) in
+    let idle = no_turns g.O.Order.picks (stored_of g.R.Rule.value_of c.args.network.now.library) (set_of c.args.worldview.now) c.args.network.now.cells c.args.agenda.now.line c.args.order.now (c.loop-steps.steps + 1) c.turn.new.network.cells c.turn.new.agenda.line c.pick-place.new.self (more c.loop-steps.steps c.pick-place.result c.loop-steps.network.cells _ c.loop-steps.agenda.line _ c.loop-steps.order _ c.loop-steps.invariant.turns (rw c.loop-steps.invariant.waiting at c.pick-place.ensures.picks) turn) (ap length empty) in
     absurd (omega (arith, idle.0))
 
 pub returns-in-Some-clash-clause-falls : goal.returns-in-Some-clash-clause-falls
@@ -340,7 +341,7 @@ returns-then-waiting-eq0-clause-steps g c =
 
 pub returns-then-waiting-eq0-clause-at_rest : goal.returns-then-waiting-eq0-clause-at_rest
 returns-then-waiting-eq0-clause-at_rest g c =
-    λ none free. (refl, (no_turns g.O.Order.picks (stored_of g.R.Rule.value_of c.args.network.now.library) (set_of c.args.worldview.now) c.args.network.now.cells c.args.agenda.now.line c.args.order.now c.loop-steps.steps c.loop-steps.network.cells c.loop-steps.agenda.line c.loop-steps.order c.loop-steps.invariant.turns (ap length none)).0)
+    λ empty free. (refl, (no_turns g.O.Order.picks (stored_of g.R.Rule.value_of c.args.network.now.library) (set_of c.args.worldview.now) c.args.network.now.cells c.args.agenda.now.line c.args.order.now c.loop-steps.steps c.loop-steps.network.cells c.loop-steps.agenda.line c.loop-steps.order c.loop-steps.invariant.turns (ap length empty)).0)
 
 pub returns-then-waiting-eq0-clause-falls : goal.returns-then-waiting-eq0-clause-falls
 returns-then-waiting-eq0-clause-falls g c =
@@ -400,8 +401,8 @@ returns-clause-steps g c =
 
 pub returns-clause-at_rest : goal.returns-clause-at_rest
 returns-clause-at_rest g c =
-    λ none free.
-    let idle = no_turns g.O.Order.picks (stored_of g.R.Rule.value_of c.args.network.now.library) (set_of c.args.worldview.now) c.args.network.now.cells c.args.agenda.now.line c.args.order.now c.loop-steps.steps c.loop-steps.network.cells c.loop-steps.agenda.line c.loop-steps.order c.loop-steps.invariant.turns (ap length none) in
+    λ empty free.
+    let idle = no_turns g.O.Order.picks (stored_of g.R.Rule.value_of c.args.network.now.library) (set_of c.args.worldview.now) c.args.network.now.cells c.args.agenda.now.line c.args.order.now c.loop-steps.steps c.loop-steps.network.cells c.loop-steps.agenda.line c.loop-steps.order c.loop-steps.invariant.turns (ap length empty) in
     absurd (omega (arith, idle.1, c.loop-steps.invariant.waiting, c.if-waiting-eq0.false))
 
 pub returns-clause-falls : goal.returns-clause-falls
@@ -413,4 +414,6 @@ returns-clause-earned g c =
     λ spent.
     let made : IsWellMade c.args.network.now.cells = rw c.data.ensures at c.well_made.ensures in
     let most = under_way_within (stored_of g.R.Rule.value_of c.args.network.now.library) (set_of c.args.worldview.now) c.args.network.now.cells c.args.agenda.now made c.waiting-waiting.ensures.line c.requires.under_way in
-    omega (arith, most, c.loop-steps.invariant.falls, c.loop-steps.invariant.waiting)
+    let same : most_steps (problem_of (stored_of g.R.Rule.value_of c.loop-steps.network.library) c.loop-steps.network.cells) ≡ most_steps (problem_of (stored_of g.R.Rule.value_of c.args.network.now.library) c.args.network.now.cells) =
+    λ i. most_steps (problem_of (stored_of g.R.Rule.value_of (c.loop-steps.invariant.same i)) (c.loop-steps.invariant.rest i)) in
+    omega (arith, most, c.loop-steps.invariant.falls, c.loop-steps.invariant.waiting, same)
