@@ -1,8 +1,4 @@
-use Rattle.std.proofs.Common.{◌≡◌, ◌<◌, IfOk, ap, refl, sym, subst}
-use Rattle.prop_procedures.specs.Kept.{stored_of}
-use Rattle.prop_cells.specs.Data.{Data, problem_of}
-use Rattle.prop_scheduler.specs.Potential.{most_steps}
-use Rattle.prop_scheduler.specs.declared.outcome.Run.TheVariants.{Spent}
+use Rattle.std.proofs.Common.{ap, refl}
 use Rattle.prop_workbench.proofs.AskLemmas.{has_run}
 use Rattle.prop_workbench.specs.Sessions.{work_of}
 use Rattle.prop_workbench.proofs.EarnedLemmas.{has_gone}
@@ -33,8 +29,7 @@ returns-clause-keeps g c = record {
 pub returns-clause-run : goal.returns-clause-run
 returns-clause-run g c =
     let believed = c.requires.sound.worldview in
-    has_run g.R.Rule.value_of _ c.run.result (rw believed at c.run.ensures.quiet) (rw believed at c.run.ensures.conflict) (rw believed at c.run.ensures.clash) c.run.ensures.steps c.run.ensures.spent
-    (subst (λ (d : Data). IfOk c.run.result (λ x. x.0 ≡ Spent → c.args.self.now.limit < most_steps (problem_of (stored_of g.R.Rule.value_of c.run.new.network.library) d))) (sym c.run.ensures.rest) (rw c.run.ensures.same c.run.ensures.earned))
+    has_run g.R.Rule.value_of _ c.run.result (rw believed at c.run.ensures.quiet) (rw believed at c.run.ensures.conflict) (rw believed at c.run.ensures.clash) c.run.ensures.steps c.run.ensures.spent c.run.ensures.earned
 
 pub returns-clause-gone : goal.returns-clause-gone
 returns-clause-gone g c =
