@@ -149,7 +149,7 @@ module _ (library : List Stored) (n : ℕ) (p : Stored) (d : Data) (param : Opti
 
   -- where nothing refuses it, each test passed
   pub tests_passed : attach_refusal library d n param ins out ≡ None →
-      (list_any (λ cell. nat_le (length d.kinds) cell) (ins ++ out ∷ []) ≡ false) × (length ins ≡ length p.ins) × (kinds_fit p d.kinds (sides_given d.params param) (ins ++ out ∷ []) ≡ true)
+      (list_any (λ cell. nat_le (length d.kinds) cell) (ins ++ out ∷ []) ≡ false) × (length ins ≡ length p.ins) × (kinds_fit p d.kinds (sides_given d.params param) (ins ++ out ∷ []) ≡ true) × (is_none (param_in p.need d.params param) ≡ false)
   tests_passed h =
       let strange = list_any (λ cell. nat_le (length d.kinds) cell) (ins ++ out ∷ []) in
       let counted = length ins == length p.ins in
@@ -157,19 +157,22 @@ module _ (library : List Stored) (n : ℕ) (p : Stored) (d : Data) (param : Opti
       let lacking = is_none (param_in p.need d.params param) in
       let full = nat_le (most Instances) (length d.instances) in
       let passed = none_in_table strange counted right lacking full (sym (by_table strange counted right lacking full refl refl refl refl refl) ∙ h) in
-      (passed.0, eqb-true (length ins) (length p.ins) passed.1, passed.2)
+      (passed.0, eqb-true (length ins) (length p.ins) passed.1, passed.2, passed.3)
 
   pub attached_is : (given : Param) → param_in p.need d.params param ≡ Some given → attached library d.params n param ins out ≡ instance_of n ins out given ∷ []
   attached_is given he =
       ap (λ o. option_map_or (λ q. option_map_or (λ fitting. instance_of n ins out fitting ∷ []) (param_in q.need d.params param) []) o []) at ∙
       ap (λ o. option_map_or (λ fitting. instance_of n ins out fitting ∷ []) o []) he
 
+  pub takes_one : attach_refusal library d n param ins out ≡ None → (need : Need) → need ≡ p.need → (params : List Param) → params ≡ d.params → is_none (param_in need params param) ≡ false
+  takes_one h need need_is params params_are = (λ i. is_none (param_in (need_is i) (params_are i) param)) ∙ (tests_passed h).3
+
   -- and what is made fits, stands on cells that are there, and is what is to be attached
-  pub fitting_made : attach_refusal library d n param ins out ≡ None → (need : Need) → need ≡ p.need → (params : List Param) → params ≡ d.params → (found : Option Param) → found ≡ param_in need params param → (given : Param) → found ≡ Some given → (x : Instance) → x ≡ instance_of n ins out given →
+  pub fitting_made : attach_refusal library d n param ins out ≡ None → (need : Need) → need ≡ p.need → (params : List Param) → params ≡ d.params → (given : Param) → param_in need params param ≡ Some given → (x : Instance) → x ≡ instance_of n ins out given →
       IsFitting library d.kinds x × IsWithin (length d.kinds) x × (attached library d.params n param ins out ≡ x ∷ [])
-  fitting_made h need need_is params params_are found found_is given is x x_is =
+  fitting_made h need need_is params params_are given found x x_is =
       let passed = tests_passed h in
-      let given_is : param_in p.need d.params param ≡ Some given = sym (found_is ∙ (λ i. param_in (need_is i) (params_are i) param)) ∙ is in
+      let given_is : param_in p.need d.params param ≡ Some given = sym (λ i. param_in (need_is i) (params_are i) param) ∙ found in
       let below = All-pop (λ cell. cell < length d.kinds) (ins ++ out ∷ []) ins (Some out) refl (no_strangers d.kinds (length d.kinds) (ins ++ out ∷ []) refl (sym passed.0)) in (
         rw x_is (fit_attached library n p d.kinds d.params param given ins out at passed.1 passed.2 given_is),
         rw x_is (record { inputs = below.0; output = below.1 }),

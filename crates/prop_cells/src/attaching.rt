@@ -1,9 +1,9 @@
 //! What is tested where a statement is made or a procedure attached.
-ghost use Rattle.std.specs.Prelude.{◌≡◌, ◌<◌, ◌≤◌, ◌+◌, ◌++◌, ◌∷◌, [], nat_le, ℕ, List, length, map, zip, All, IfOk, None, Some, is_none, slice_index_or};
+ghost use Rattle.std.specs.Prelude.{◌≡◌, ◌<◌, ◌≤◌, ◌+◌, ◌++◌, ◌∷◌, [], nat_le, ℕ, List, length, map, zip, All, IfOk, Some, false, is_none, slice_index_or};
 ghost use Rattle.std.specs.List.{list_any};
 ghost use Rattle.prop_procedures.specs.Stored.{span_kind, sides_of};
 ghost use Rattle.prop_procedures.specs.Kept.{stored_as};
-ghost use Rattle.prop_procedures.specs.Fitting.{kind_at, kinds_fit, scale_in_range, relation_alone, fitting_param};
+ghost use Rattle.prop_procedures.specs.Fitting.{kind_at, kinds_fit, fitting_param};
 ghost use Rattle.prop_cells.specs.Instances.{param_in, sides_given};
 ghost use Rattle.prop_cells.specs.Refusing.{may_be_stated};
 
@@ -36,64 +36,6 @@ pub(crate) fn is_strange(ins: &[usize], out: usize, count: usize) -> bool
     has_stranger(ins, count) || out >= count
 }
 
-/// A scale, where it is one that a procedure takes.
-fn scale_in_range(param: &Param) -> Option<Param>
-    ensures { result ≡ scale_in_range param.now }
-{
-    match param {
-        Param::Scale(k) if is_scale(*k) => Some(Param::Scale(*k)),
-        _ => None,
-    }
-}
-
-/// A relation once more; `None` where the parameter is none.
-fn relation_alone(alloc: Global, param: &Param) -> Result<Option<Param>, AllocError>
-    ensures { IfOk result (λ o. o ≡ relation_alone param.now) }
-{
-    match param {
-        Param::Rows(relation) => Ok(Some(Param::Rows(relation.copy(alloc)?))),
-        Param::Plain | Param::Scale(_) => Ok(None),
-    }
-}
-
-/// The parameter that an instance has where this one is given, if it fits.
-fn param_given(alloc: Global, need: Need, given: &Param) -> Result<Option<Param>, AllocError>
-    ensures { IfOk result (λ o. o ≡ fitting_param need (Some given.now)) }
-{
-    match need {
-        Need::Nothing => Ok(None),
-        Need::Scale => Ok(scale_in_range(given)),
-        Need::Rows => relation_alone(alloc, given),
-    }
-}
-
-/// The parameter that an instance has where none is given, if there is one.
-fn param_without(need: Need) -> Option<Param>
-    ensures { result ≡ fitting_param need None }
-{
-    match need {
-        Need::Nothing => Some(Param::Plain),
-        Need::Scale => Some(Param::Scale(1)),
-        Need::Rows => None,
-    }
-}
-
-/// The parameter that an instance has where one is given by its number or none is, if that fits.
-pub(crate) fn param_in(
-    alloc: Global,
-    need: Need,
-    params: &[Param],
-    given: Option<usize>,
-) -> Result<Option<Param>, AllocError>
-    ensures { IfOk result (λ o. o ≡ param_in need params.now given) }
-{
-    match given {
-        None => Ok(param_without(need)),
-        Some(n) if n < params.len() => param_given(alloc, need, &params[n]),
-        Some(_) => Ok(None),
-    }
-}
-
 /// Whether the parameter is none that a procedure with this need takes.
 fn is_unfit(need: Need, given: &Param) -> bool
     ensures { result ≡ is_none (fitting_param need (Some given.now)) }
@@ -113,6 +55,26 @@ pub(crate) fn lacks_param(need: Need, params: &[Param], given: Option<usize>) ->
         None => matches!(need, Need::Rows),
         Some(n) if n < params.len() => is_unfit(need, &params[n]),
         Some(_) => true,
+    }
+}
+
+/// The parameter that an instance has where one is given by its number or none is. It takes no memory; of a relation there can be too
+/// many owners to count.
+pub(crate) fn param_in(
+    alloc: Global,
+    need: Need,
+    params: &[Param],
+    given: Option<usize>,
+) -> Result<Param, AllocError>
+    requires { is_none (param_in need params.now given) ≡ false }
+    ensures { IfOk result (λ param. param_in need params.now given ≡ Some param) }
+{
+    match given {
+        None => match need {
+            Need::Scale => Ok(Param::Scale(1)),
+            _ => Ok(Param::Plain),
+        },
+        Some(n) => params[n].copy(alloc),
     }
 }
 
