@@ -1,5 +1,5 @@
 -- How a session begins.
-use Rattle.std.proofs.Common.{◌≡◌, ◌∙◌, ℕ, zero, suc, ◌+◌, ◌<◌, ◌≤◌, ap, List, [], ◌∷◌, ◌++◌, length, map, take, get_or, inl, refl, subst}
+use Rattle.std.proofs.Common.{◌≡◌, ◌∙◌, ℕ, zero, suc, ◌+◌, ◌<◌, ◌≤◌, ap, List, [], ◌∷◌, ◌++◌, length, map, take, get_or, inl, refl, arith, subst}
 use Rattle.std.proofs.lemmas.List.{take_more, take_all, map-append}
 use Rattle.std.specs.Prelude.{Option, Some, slice_get, IsSomeAnd, Result, IfOk, OnErr}
 use Rattle.std.proofs.lemmas.Option.{none-some, same_Some}
@@ -15,6 +15,7 @@ use Rattle.prop_procedures.specs.declared.procedure.Procedure.{Procedure}
 use Rattle.prop_arith.specs.Kit.{in_order, name_of, ins_of, out_of, need_of, value_of, Related}
 use Rattle.prop_arith.specs.KitLaws.{kit_sound}
 use Rattle.prop_arith.specs.declared.kit.Kit.{Kit}
+use Rattle.prop_arith.specs.declared.kit.Kit.TheVariants.{Add, Sub, Mul, Div, Square, Root, Less, Below, Above, Copy, Alike, Apart, Switch, Not, And, AndBack, Or, OrBack, Image, Coimage}
 use Rattle.prop_engine.specs.declared.outcome.Counts.{Counts}
 use Rattle.prop_workbench.specs.Machine.{State, new_state}
 use Rattle.propbench.specs.declared.fault.Fault.{Fault}
@@ -23,6 +24,29 @@ use Rattle.propbench.specs.Kits.{stored_kit, kit_library, kit_related, IsAnswere
 -- before the session nothing is written
 pub nothing_yet : (left held : Option (List ℕ)) (limit : ℕ) → IsAnsweredInFront left held held limit
 nothing_yet left held limit = inl refl
+
+-- each rule has an input, and at most eight
+pub inputs_fit : (rule : Kit) → (1 ≤ length (ins_of rule)) × (length (ins_of rule) ≤ 8)
+inputs_fit Add = (omega arith, omega arith)
+inputs_fit Sub = (omega arith, omega arith)
+inputs_fit Mul = (omega arith, omega arith)
+inputs_fit Div = (omega arith, omega arith)
+inputs_fit Square = (omega arith, omega arith)
+inputs_fit Root = (omega arith, omega arith)
+inputs_fit Less = (omega arith, omega arith)
+inputs_fit Below = (omega arith, omega arith)
+inputs_fit Above = (omega arith, omega arith)
+inputs_fit Copy = (omega arith, omega arith)
+inputs_fit Alike = (omega arith, omega arith)
+inputs_fit Apart = (omega arith, omega arith)
+inputs_fit Switch = (omega arith, omega arith)
+inputs_fit Not = (omega arith, omega arith)
+inputs_fit And = (omega arith, omega arith)
+inputs_fit AndBack = (omega arith, omega arith)
+inputs_fit Or = (omega arith, omega arith)
+inputs_fit OrBack = (omega arith, omega arith)
+inputs_fit Image = (omega arith, omega arith)
+inputs_fit Coimage = (omega arith, omega arith)
 
 -- a procedure with the name, the form and the value of a rule
 pub stored_is : {X : Type 0} {F : X → Type 0} {g : _} → (p : Procedure Kit X F g) (k : Kit) → p.name.now ≡ name_of k → p.ins.items ≡ ins_of k → p.out ≡ out_of k → p.need ≡ need_of k → p.rule ≡ k → stored_as value_of p ≡ stored_kit k

@@ -3,7 +3,7 @@ use Rattle.prop_engine.proofs.Io.{on_err}
 use Rattle.prop_procedures.specs.Kept.{AllMean-push}
 use Rattle.std.proofs.lemmas.List.{take_all}
 use Rattle.prop_arith.specs.Kit.{in_order, value_of}
-use Rattle.propbench.proofs.Starts.{nothing_yet, stored_is, listed_more, all_listed, ruled_more, kit_is_sound}
+use Rattle.propbench.proofs.Starts.{nothing_yet, stored_is, listed_more, all_listed, ruled_more, kit_is_sound, inputs_fit}
 use Rattle.propbench.proofs.running.run.Goals as goal
 
 pub returns-in_err-ins-clause-err : goal.returns-in_err-ins-clause-err
@@ -23,6 +23,15 @@ returns-in_err-call-clause-err g c = on_err _ _ (nothing_yet _ _ _)
 
 pub returns-in_err-push-clause-err : goal.returns-in_err-push-clause-err
 returns-in_err-push-clause-err g c = on_err _ _ (nothing_yet _ _ _)
+
+pub new-requires-in-loop-rule-clause-some_inputs : goal.new-requires-in-loop-rule-clause-some_inputs
+new-requires-in-loop-rule-clause-some_inputs g c = rw (c.in_ok-ins.ensures.ok, c.ins.ensures) (inputs_fit _).0
+
+pub new-requires-in-loop-rule-clause-few_inputs : goal.new-requires-in-loop-rule-clause-few_inputs
+new-requires-in-loop-rule-clause-few_inputs g c = rw (c.in_ok-ins.ensures.ok, c.ins.ensures) (inputs_fit _).1
+
+pub new-requires-in-loop-rule-clause-formed : goal.new-requires-in-loop-rule-clause-formed
+new-requires-in-loop-rule-clause-formed g c = (c.in_ok-ins.ensures.ok ∙ c.ins.ensures, c.out.ensures, c.need.ensures)
 
 pub loop-rule-preserved : goal.loop-rule-preserved
 loop-rule-preserved g c =
