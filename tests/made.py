@@ -137,16 +137,16 @@ def command_lines():
     ]:
         yield Case(f"command lines: {options}", b"settle\n", b"", options, status=1, told=told)
     for options, told in [
-        (["--order", "random"], b"random"),
+        (["--order", "random"], b"the order is none of fifo, lifo and mixed"),
         (["--order"], b"--order"),
-        (["--seed", "-1"], b"-1"),
-        (["--seed", "18446744073709551616"], b"18446744073709551616"),
-        (["--seed", "x"], b"x"),
+        (["--seed=-1"], b"the seed is not a number from 0 to 18446744073709551615"),
+        (["--seed", "18446744073709551616"], b"the seed is not a number from 0 to 18446744073709551615"),
+        (["--seed", "x"], b"the seed is not a number from 0 to 18446744073709551615"),
     ]:
         yield Case(f"command lines: {options}", b"settle\n", b"", options, status=1, told=told)
     for options in [["--order", "fifo"], ["--order=lifo"], ["--order", "mixed"], ["--order", "mixed", "--seed", "18446744073709551615"], ["--seed=0"]]:
         yield Case(f"command lines: {options}", stepping, answered(5, "contradiction: no premise"), options)
-    yield Case("command lines: help", b"settle\n", lambda output: None if b"--limit <N>" in output else f"it wrote {output!r}", ["--help"])
+    yield Case("command lines: help", b"settle\n", lambda output: None if all(it in output for it in [b"--limit <N>", b"--order <ORDER>", b"--seed <N>"]) else f"it wrote {output!r}", ["--help"])
 
 
 def steps():
