@@ -1,5 +1,5 @@
 //! The options of the program.
-ghost use Rattle.std.specs.Prelude.{◌≡◌, ◌⊎◌, IfOk, IfErr, OnErr, map, string_bytes};
+ghost use Rattle.std.specs.Prelude.{◌≡◌, ◌⊎◌, false, IfOk, IfErr, OnErr, map, string_bytes};
 ghost use Rattle.clap.specs.Words.{app_of, found_of, rule_of};
 ghost use Rattle.propbench.specs.Program.{program, value_rule, word_of, number_given, order_given, AreChosen, AreWrong, AreGiven, AreOutOfRange, AreTaken, IsWantOfMemory};
 
@@ -58,7 +58,8 @@ fn program<'a>(alloc: Global) -> Result<Command<'a>, AllocError>
 
 /// An option with this name, which takes one value.
 fn value<'a>(alloc: Global, name: &'a str, said: &'a str) -> Arg<'a>
-    ensures { rule_of result ≡ value_rule name.now }
+    ensures rule { rule_of result ≡ value_rule name.now }
+    ensures here { result.global ≡ false }
 {
     Arg::new(alloc, name)
         .long(name)
