@@ -1,11 +1,16 @@
-use Rattle.std.proofs.Common.{length, ap, refl, subst, sym, ◌∙◌}
+use Rattle.std.proofs.Common.{◌≡◌, length, ap, refl, subst, sym, arith, ◌∙◌}
+use Rattle.std.proofs.lemmas.List.{get_or_default, length-map}
 use Rattle.std.specs.Prelude.{reverse}
+use Rattle.prop_procedures.specs.Fitting.{kind_at}
 use Rattle.prop_procedures.specs.Flats.{param_at}
-use Rattle.prop_compound.specs.Expansion.{cells_at, definition_expanded}
+use Rattle.prop_compound.specs.declared.definition.Used.TheVariants as uses
+use Rattle.prop_compound.specs.declared.definition.NumberedStep.TheVariants.{Use}
+use Rattle.prop_compound.specs.Expansion.{cell_at, cells_at, definition_expanded}
 use Rattle.prop_compound.specs.Flattened.{walk_of}
-use Rattle.prop_compound.specs.Kept.{all_bare, places_made}
-use Rattle.prop_compound.proofs.Walking.{Goes, kept_here, begins, params_at, local_goes, one_made, use_goes, use_goes_if, scope_behind, goes_on}
-use Rattle.prop_compound.proofs.Placing.{param_still, none_further, mid_same, pushed_means, further_on}
+use Rattle.prop_compound.specs.Kept.{all_bare, places_made, IsInScope, IsUseBelow}
+use Rattle.prop_compound.proofs.Walking.{Goes, kept_here, begins, params_at, local_goes, like_goes, one_made, use_goes, use_goes_if, scope_here, scope_behind, goes_on, below_all, reach, reach_below}
+use Rattle.prop_compound.proofs.Firsts.{all_here}
+use Rattle.prop_compound.proofs.Placing.{param_still, place_still, none_further, same_further, mid_placed, mid_same, pushed_further, pushed_means, then_further, further_on}
 use Rattle.prop_compound.proofs.expanding.+expanding.Goals as goal
 
 pub expand_definition-loop-step-init : goal.expand_definition-loop-step-init
@@ -70,3 +75,72 @@ expand_definition-loop-step-preserved t c =
       uses = inv.uses;
       further = further_on old walk c.expand_step.new.walk inv.further step.further;
     }
+
+pub expand_step-returns-in-Local-clause-further : goal.expand_step-returns-in-Local-clause-further
+expand_step-returns-in-Local-clause-further t c =
+    let old = c.args.walk.now in
+    same_further c.add_local.result old (record old { kinds = c.add_local.new.kinds }) refl refl c.requires.placed
+
+pub expand_step-returns-in-Like-clause-further : goal.expand_step-returns-in-Like-clause-further
+expand_step-returns-in-Like-clause-further t c =
+    let old = c.args.walk.now in
+    same_further c.add_local-in-Like.result old (record old { kinds = c.add_local-in-Like.new.kinds }) refl refl c.requires.placed
+
+pub expand_step-returns-in-Like-clause-steps : goal.expand_step-returns-in-Like-clause-steps
+expand_step-returns-in-Like-clause-steps t c =
+    let walk = c.args.walk.now in
+    let cell = c.index.ensures ∙ get_or_default c.args.cells.now.items c.in-Like.place c.index.result.now 0 (subst (IsInScope (length c.args.cells.now.items)) c.in-Like.is c.requires.in_scope) in
+    like_goes c.args.words.now (definition_expanded c.args.words.now (reverse (all_bare c.args.definitions.now))) (param_at walk.params.items c.args.given) c.args.cells.now.items c.args.step.now (walk_of walk) c.kind_at-kind.result c.add_local-in-Like.new.cells.items c.add_local-in-Like.new.kinds.items c.add_local-in-Like.result c.in-Like.place c.in-Like.is (c.kind_at-kind.ensures ∙ (λ i. kind_at (c.deref.ensures.value i) (cell i))) c.add_local-in-Like.ensures.kinds c.add_local-in-Like.ensures.cells
+
+pub expand_step-returns-in-Like-clause-places : goal.expand_step-returns-in-Like-clause-places
+expand_step-returns-in-Like-clause-places t c =
+    let walk = c.args.walk.now in
+    one_made c.args.words.now (definition_expanded c.args.words.now (reverse (all_bare c.args.definitions.now))) (param_at walk.params.items c.args.given) c.args.cells.now.items c.args.step.now (walk_of walk) c.add_local-in-Like.result c.add_local-in-Like.new.cells.items (ap places_made c.in-Like.is) c.add_local-in-Like.ensures.cells
+
+pub expand_step-returns-in_ok-push-in-Procedure-clause-further : goal.expand_step-returns-in_ok-push-in-Procedure-clause-further
+expand_step-returns-in_ok-push-in-Procedure-clause-further t c =
+    let old = c.args.walk.now in
+    let mid = record old { params = c.param_place.new.params } in
+    let more = c.in_ok-passed-in-Use.ensures.more in
+    pushed_further old mid more.0 more.1 refl refl refl c.requires.placed (record mid { instances = c.push.new.self }) c.placed.result refl c.in_ok-push-in-Procedure.ensures.items (rw c.placed.ensures.param c.in_ok-passed-in-Use.ensures.there)
+
+pub expand_step-returns-in-Definition-clause-further : goal.expand_step-returns-in-Definition-clause-further
+expand_step-returns-in-Definition-clause-further t c =
+    let old = c.args.walk.now in
+    let mid = record old { params = c.param_place.new.params } in
+    let more = c.in_ok-passed-in-Use.ensures.more in
+    then_further old mid more.0 more.1 refl refl refl c.requires.placed c.expand_definition.result c.expand_definition.new.walk c.expand_definition.ensures.further
+
+pub expand_definition-expand_step-requires : goal.expand_definition-expand_step-requires
+expand_definition-expand_step-requires t c =
+    let inv = c.loop-step.invariant in
+    let ks = c.args.definitions.now in
+    let old = c.args.walk.now in
+    let step = c.step-item.result in
+    let number = c.requires.number in
+    let below : IsUseBelow (all_bare ks) c.args.number step = all_here c.deref-step-items.result.now c.loop-step.step-index step c.loop-step-test.true c.step-item.is (IsUseBelow (all_bare ks) c.args.number) inv.uses in (
+      omega (arith, c.decreases, reach_below (all_bare ks) c.args.number step below),
+      (
+        c.requires.kept,
+        (
+          scope_here c.deref-step-items.result.now c.loop-step.step-index step c.loop-step-test.true c.step-item.is (length c.loop-step.cells.items) inv.in_scope,
+          (
+            below_all (all_bare ks) c.args.number (length ks) (omega (arith, number)) step below,
+            (place_still old.params.items c.loop-step.walk.params.items inv.further.more inv.further.params c.args.given c.requires.given, inv.further.placed),
+          ),
+        ),
+      ),
+    )
+
+pub expand_step-expand_definition-requires : goal.expand_step-expand_definition-requires
+expand_step-expand_definition-requires t c =
+    let ks = c.args.definitions.now in
+    let old = c.args.walk.now in
+    let mid = record old { params = c.param_place.new.params } in
+    let more = c.in_ok-passed-in-Use.ensures.more in
+    let is : c.args.step.now ≡ Use (uses.Definition c.in-Definition.earlier) c.in-Use.places c.in-Use.passing = c.in-Use.is ∙ ap (λ u. Use u c.in-Use.places c.in-Use.passing) c.in-Definition.is in
+    let below : IsUseBelow (all_bare ks) (length ks) (Use (uses.Definition c.in-Definition.earlier) c.in-Use.places c.in-Use.passing) = subst (IsUseBelow (all_bare ks) (length ks)) is c.requires.used in
+    let chosen = ap length (c.in_ok-chosen-in-Use.ensures ∙ (λ i. cells_at (c.deref-in-Use.ensures.value i) (c.as_slice.ensures i))) ∙ length-map c.in-Use.places (cell_at c.args.cells.now.items) in (
+      omega (arith, c.decreases, ap reach is),
+      (below.0, (c.requires.kept, (below.1 ∙ sym chosen, (c.in_ok-passed-in-Use.ensures.there, mid_placed old mid more.0 more.1 refl refl refl c.requires.placed)))),
+    )
