@@ -99,7 +99,7 @@ fn serve_in<O: Order + Drop, Rd: Read, W: Write>(
     counts
 }
 
-/// Loads the prelude into a session and runs it. Over a session of any rule and order the proof does not go through what the kit's rules are.
+/// Loads the prelude into a session and runs it.
 fn answer<R: Rule + Drop, O: Order + Drop, Rd: Read, W: Write>(
     session: &mut Session<R, O>,
     reader: &mut Watched<Rd>,
