@@ -3,10 +3,13 @@ import os
 import subprocess
 import sys
 import time
-from dataclasses import dataclass, field
+from dataclasses import dataclass, field, replace
 from typing import Callable, Optional
 
 SECONDS = 60
+
+# The orders in which waiting procedures may be called, as options of the program; the first is the one where none is chosen.
+ORDERS = [[], ["--order", "lifo"], ["--order", "mixed", "--seed", "7"]]
 
 
 def first_difference(got, wanted):
@@ -89,3 +92,10 @@ class Unheard(Case):
 
 if __name__ == "__main__":
     sys.exit("tests/run runs the cases")
+
+
+def in_each_order(cases):
+    """Each case in each order, but for one that chooses its order itself."""
+    for case in cases:
+        for order in [[]] if "--order" in case.options else ORDERS:
+            yield replace(case, name=" ".join([case.name, *order]), options=[*case.options, *order])

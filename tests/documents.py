@@ -10,7 +10,7 @@ from case import Case
 
 TOP = os.path.dirname(os.path.dirname(os.path.realpath(__file__)))
 DOCUMENTS = ["README.md", "docs/TUTORIAL.md", "docs/LANGUAGE.md"]
-COMMANDS = "domain relation cell attach define fix tell kick bring ask why settle worldview".split()
+COMMANDS = "domain relation cell attach define fix tell kick bring limit ask why settle worldview".split()
 
 
 def is_command(line):

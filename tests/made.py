@@ -1,7 +1,8 @@
 """Sessions that are made: large ones, command lines, devices that fail."""
 import os
+import re
 
-from case import ByteByByte, Case, OnDevices, Unheard
+from case import ORDERS, ByteByByte, Case, OnDevices, Unheard
 
 # (a session that says something)
 FIRST = os.path.join(os.path.dirname(os.path.realpath(__file__)), "..", "examples", "first.prop")
@@ -135,7 +136,33 @@ def command_lines():
         (["--limits", "1"], b"--limits"),
     ]:
         yield Case(f"command lines: {options}", b"settle\n", b"", options, status=1, told=told)
-    yield Case("command lines: help", b"settle\n", lambda output: None if b"--limit <N>" in output else f"it wrote {output!r}", ["--help"])
+    for options, told in [
+        (["--order", "random"], b"the order is none of fifo, lifo and mixed"),
+        (["--order"], b"--order"),
+        (["--seed=-1"], b"the seed is not a number from 0 to 18446744073709551615"),
+        (["--seed", "18446744073709551616"], b"the seed is not a number from 0 to 18446744073709551615"),
+        (["--seed", "x"], b"the seed is not a number from 0 to 18446744073709551615"),
+    ]:
+        yield Case(f"command lines: {options}", b"settle\n", b"", options, status=1, told=told)
+    for options in [["--order", "fifo"], ["--order=lifo"], ["--order", "mixed"], ["--order", "mixed", "--seed", "18446744073709551615"], ["--seed=0"]]:
+        yield Case(f"command lines: {options}", stepping, answered(5, "contradiction: no premise"), options)
+    yield Case("command lines: help", b"settle\n", lambda output: None if all(it in output for it in [b"--limit <N>", b"--order <ORDER>", b"--seed <N>"]) else f"it wrote {output!r}", ["--help"])
+
+
+def steps():
+    """A sum that feeds itself, cut short in each order: whatever was called, the ends have moved by no more than one a step."""
+    looping = ["cell x span", "cell one span", "cell y span", "attach sum x one y", "attach same x y", "fix one 1", "tell p x 0..1000000", "limit 100", "ask x"]
+    for order in ORDERS:
+        yield Case(" ".join(["limits: a sum that feeds itself", *order]), sent(*looping), wrong_in_loop, order)
+
+
+def wrong_in_loop(output):
+    *before, answer = output.decode().splitlines()
+    found = re.fullmatch(r"x = (\d+)\.\.(\d+) unsettled", answer)
+    if before != ["ok"] * 8 or not found:
+        return f"it wrote {output!r}"
+    low, high = int(found[1]), int(found[2])
+    return None if low <= 100 and 999_900 <= high <= 1_000_000 else f"it answered {answer!r}"
 
 
 def devices():
@@ -157,5 +184,6 @@ def cases():
     yield from limits()
     yield from line_lengths()
     yield from command_lines()
+    yield from steps()
     yield from devices()
     yield from prelude()

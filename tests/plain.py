@@ -1,4 +1,4 @@
-"""Random sessions, each answer of which is compared with a plain and slow evaluation from nothing.
+"""Random sessions, each answer of which is compared with a plain and slow evaluation from nothing, in each order of calls.
 
 The evaluation knows no entries, supports or agenda: it merges the believed statements and calls each procedure in turn until nothing changes.
 What a procedure answers is written here anew, over Python's whole numbers.

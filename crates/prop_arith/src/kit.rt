@@ -177,11 +177,11 @@ impl Kit {
             Kit::Copy => copier(x),
             Kit::Not => inverter(x),
             Kit::Image => match param {
-                Param::Rows(rows) => imager(rows, x),
+                Param::Rows(relation) => imager(relation, x),
                 _ => Info::Nothing,
             },
             Kit::Coimage => match param {
-                Param::Rows(rows) => coimager(rows, x),
+                Param::Rows(relation) => coimager(relation, x),
                 _ => Info::Nothing,
             },
             _ => Info::Nothing,

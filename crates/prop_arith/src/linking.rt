@@ -3,24 +3,24 @@ ghost use Rattle.std.specs.Prelude.{◌≡◌};
 ghost use Rattle.prop_arith.specs.Linking.{imager_of, coimager_of};
 
 use prop_lattice::Info;
-use prop_sets::Rows;
+use prop_sets::Relation;
 
 /// What is known of `y` where the relation has the pair of `x` and `y`.
-pub fn imager(rows: &Rows, x: Info) -> Info
-    ensures { result ≡ imager_of rows.now x }
+pub fn imager(relation: &Relation, x: Info) -> Info
+    ensures { result ≡ imager_of relation.now x }
 {
     match x {
-        Info::Set(x) => rows.image(x),
+        Info::Set(x) => relation.image(x),
         _ => Info::Nothing,
     }
 }
 
 /// What is known of `x` where the relation has the pair of `x` and `y`.
-pub fn coimager(rows: &Rows, y: Info) -> Info
-    ensures { result ≡ coimager_of rows.now y }
+pub fn coimager(relation: &Relation, y: Info) -> Info
+    ensures { result ≡ coimager_of relation.now y }
 {
     match y {
-        Info::Set(y) => rows.coimage(y),
+        Info::Set(y) => relation.coimage(y),
         _ => Info::Nothing,
     }
 }

@@ -1,11 +1,11 @@
 -- What the tests before a statement and an attachment tell.
-use Rattle.std.proofs.Common.{◌≡◌, ◌∙◌, ◌<◌, ◌≤◌, ◌^◌, ◌/◌, ◌==◌, ◌↔◌, ◌⊎◌, ℕ, min, Bool, true, false, not, is_none, nat_le, ◌||◌, IsTrue, List, [], ◌∷◌, ◌++◌, Option, Some, None, IfSome, All, length, slice_get, get_or, refl, sym, ap, subst, arith, inl, inr}
+use Rattle.std.proofs.Common.{◌≡◌, ◌∙◌, ◌<◌, ◌≤◌, ◌^◌, ◌/◌, ◌==◌, ◌↔◌, ℕ, min, Bool, true, false, not, is_none, nat_le, ◌||◌, IsTrue, List, [], ◌∷◌, ◌++◌, Option, Some, None, All, length, slice_get, get_or, refl, sym, ap, arith, inl, inr}
 use Rattle.std.specs.List.{list_any}
 use Rattle.std.specs.Option.{option_map_or}
 use Rattle.std.specs.Bool.{Decides}
-use Rattle.std.proofs.lemmas.Bool.{cases_lt, le-leb, lt-leb, eq-eqb, ne_eqb, both_ways}
+use Rattle.std.proofs.lemmas.Bool.{cases_lt, le-leb, lt-leb, eq-eqb, ne_eqb, eqb-true, both_ways}
 use Rattle.std.proofs.lemmas.Bool.Decides.{same_from_decides}
-use Rattle.std.proofs.lemmas.Option.{slice_get_cases}
+use Rattle.std.proofs.lemmas.List.Elements.{All-pop}
 use Rattle.std.proofs.lemmas.List.Folds.{list_any_at, list_any-append}
 use Rattle.prop_lattice.specs.Refusals.{most}
 use Rattle.prop_lattice.specs.Rank.{IsOf}
@@ -20,13 +20,16 @@ use Rattle.prop_lattice.specs.declared.refusal.Limit.TheVariants.{Instances, Sta
 use Rattle.prop_lattice.specs.declared.refusal.Refusal.{Refusal}
 use Rattle.prop_lattice.specs.declared.refusal.Refusal.TheVariants.{NoSuchCell, WrongCount, WrongKind, WrongParameter, LimitReached}
 use Rattle.prop_procedures.specs.declared.shape.Param.{Param}
+use Rattle.prop_procedures.specs.declared.shape.Kinded.{Kinded}
 use Rattle.prop_procedures.specs.declared.shape.Need.{Need}
+use Rattle.prop_procedures.specs.declared.shape.Shape.{Shape}
 use Rattle.prop_procedures.specs.Stored.{Stored}
 use Rattle.prop_procedures.specs.Fitting.{kind_at, kinds_fit}
-use Rattle.prop_cells.specs.Instances.{Instance, sides_given, param_in, instance_of, attached}
+use Rattle.prop_cells.specs.Instances.{Instance, IsFitting, IsWithin, sides_given, param_in, instance_of, attached}
 use Rattle.prop_cells.specs.Data.{Data}
 use Rattle.prop_cells.specs.Problems.{is_contradiction}
 use Rattle.prop_cells.proofs.RowLemmas.{or_none}
+use Rattle.prop_cells.proofs.Keeping.{fit_attached}
 use Rattle.prop_cells.specs.Refusing.{when, or_else, may_be_stated, state_refusal, refusal_at, attach_refusal}
 
 -- ---- statements
@@ -78,15 +81,12 @@ stated_fits d cell info e =
 pub stranger_last : (n : ℕ) (ins : List ℕ) (out : ℕ) → list_any (λ cell. nat_le n cell) ins ≡ false → nat_le n out ≡ list_any (λ cell. nat_le n cell) (ins ++ out ∷ [])
 stranger_last n ins out e = sym (list_any-append (λ cell. nat_le n cell) ins (out ∷ []) ∙ ap (λ b. b || (nat_le n out || false)) e ∙ or_none (nat_le n out))
 
-pub no_strangers : (n : ℕ) (cells : List ℕ) → list_any (λ cell. nat_le n cell) cells ≡ false → All (λ cell. cell < n) cells
-no_strangers n cells e k d l =
+pub no_strangers : (kinds : List Kinded) (n : ℕ) (cells : List ℕ) → n ≡ length kinds → false ≡ list_any (λ cell. nat_le n cell) cells → All (λ cell. cell < length kinds) cells
+no_strangers kinds n cells same e k d l =
     elim (cases_lt (get_or cells k d) n) [
-      | inl h ↦ h
-      | inr h ↦ absurd (both_ways (list_any (λ cell. nat_le n cell) cells) e (list_any_at (λ cell. nat_le n cell) cells k d l (le-leb n (get_or cells k d) h)))
+      | inl h ↦ omega (arith, h, same)
+      | inr h ↦ absurd (both_ways (list_any (λ cell. nat_le n cell) cells) (sym e) (list_any_at (λ cell. nat_le n cell) cells k d l (le-leb n (get_or cells k d) h)))
     ]
-
-pub param_in_same : (need need' : Need) (known known' : List Param) (param : Option ℕ) (r : Option Param) → need ≡ need' → known ≡ known' → r ≡ param_in need known param → param_in need' known' param ≡ r
-param_in_same need need' known known' param r e f h = sym (h ∙ (λ i. param_in (e i) (f i) param))
 
 abbrev table : Bool → Bool → Bool → Bool → Bool → Option Refusal
 table a b c e f =
@@ -95,75 +95,90 @@ table a b c e f =
     (or_else (when WrongKind (not c))
     (or_else (when WrongParameter e) (when (LimitReached Instances) f))))
 
--- what is neither of the first two is a later one
-later_in_table : (T : Refusal → Type 0) (c e f : Bool) → IfSome (table false true c e f) (λ r. ((r ≡ NoSuchCell) ⊎ (r ≡ WrongCount)) → T r)
-later_in_table T false e f = λ h. elim h [ inl x ↦ absurd (cc) | inr x ↦ absurd (cc) ]
-later_in_table T true true f = λ h. elim h [ inl x ↦ absurd (cc) | inr x ↦ absurd (cc) ]
-later_in_table T true false true = λ h. elim h [ inl x ↦ absurd (cc) | inr x ↦ absurd (cc) ]
-later_in_table T true false false = tt
+-- where the table has no refusal, each test passed
+none_in_table : (a b c e f : Bool) → table a b c e f ≡ None → (a ≡ false) × (b ≡ true) × (c ≡ true) × (e ≡ false)
+none_in_table true b c e f h = cc
+none_in_table false false c e f h = cc
+none_in_table false true false e f h = cc
+none_in_table false true true true f h = cc
+none_in_table false true true false f h = (refl, refl, refl, refl)
 
 module _ (library : List Stored) (n : ℕ) (p : Stored) (d : Data) (param : Option ℕ) (ins : List ℕ) (out : ℕ) (at : slice_get library n ≡ Some p) where
   by_table : (a b c e f : Bool) → list_any (λ cell. nat_le (length d.kinds) cell) (ins ++ out ∷ []) ≡ a → (length ins == length p.ins) ≡ b → kinds_fit p d.kinds (sides_given d.params param) (ins ++ out ∷ []) ≡ c →
       is_none (param_in p.need d.params param) ≡ e → nat_le (most Instances) (length d.instances) ≡ f → attach_refusal library d n param ins out ≡ table a b c e f
   by_table a b c e f ha hb hc he hf = ap (λ o. option_map_or (λ q. refusal_at q d param ins out) o None) at ∙ (λ i. table (ha i) (hb i) (hc i) (he i) (hf i))
 
-  pub refused_9 : list_any (λ cell. nat_le (length d.kinds) cell) (ins ++ out ∷ []) ≡ true → attach_refusal library d n param ins out ≡ Some NoSuchCell
-  refused_9 ha = by_table true _ _ _ _ ha refl refl refl refl
+  pub refused_9 : (cells : ℕ) → cells ≡ length d.kinds → true ≡ list_any (λ cell. nat_le cells cell) (ins ++ out ∷ []) → Some NoSuchCell ≡ attach_refusal library d n param ins out
+  refused_9 cells same ha =
+      sym (by_table true (length ins == length p.ins) (kinds_fit p d.kinds (sides_given d.params param) (ins ++ out ∷ [])) (is_none (param_in p.need d.params param)) (nat_le (most Instances) (length d.instances)) (none_among cells true same ha) refl refl refl refl)
+    where
+      none_among : (cells : ℕ) (b : Bool) → cells ≡ length d.kinds → b ≡ list_any (λ cell. nat_le cells cell) (ins ++ out ∷ []) → list_any (λ cell. nat_le (length d.kinds) cell) (ins ++ out ∷ []) ≡ b
+      none_among cells b same h = sym (h ∙ ap (λ k. list_any (λ cell. nat_le k cell) (ins ++ out ∷ [])) same)
 
-  pub refused_12 : list_any (λ cell. nat_le (length d.kinds) cell) (ins ++ out ∷ []) ≡ false → (length ins ≡ length p.ins → ⊥) → attach_refusal library d n param ins out ≡ Some WrongCount
-  refused_12 ha hb = by_table false false _ _ _ ha (ne_eqb (length ins) (length p.ins) hb) refl refl refl
+  -- once the cells are there and as many as the procedure takes
+  module _ (cells : ℕ) (same : cells ≡ length d.kinds) (strange : false ≡ list_any (λ cell. nat_le cells cell) (ins ++ out ∷ [])) (shapes : List Shape) (shapes_are : shapes ≡ p.ins) where
+    there : list_any (λ cell. nat_le (length d.kinds) cell) (ins ++ out ∷ []) ≡ false
+    there = sym (strange ∙ ap (λ k. list_any (λ cell. nat_le k cell) (ins ++ out ∷ [])) same)
 
-  pub refused_later : (T : Refusal → Type 0) → list_any (λ cell. nat_le (length d.kinds) cell) (ins ++ out ∷ []) ≡ false → length ins ≡ length p.ins →
-      IfSome (attach_refusal library d n param ins out) (λ e. ((e ≡ NoSuchCell) ⊎ (e ≡ WrongCount)) → T e)
-  refused_later T ha hb =
-      let same = by_table false true (kinds_fit p d.kinds (sides_given d.params param) (ins ++ out ∷ [])) (is_none (param_in p.need d.params param)) (nat_le (most Instances) (length d.instances)) ha (eq-eqb (length ins) (length p.ins) hb) refl refl refl in
-      subst (λ (o : Option Refusal). IfSome o (λ e. ((e ≡ NoSuchCell) ⊎ (e ≡ WrongCount)) → T e)) (sym same) (later_in_table T _ _ _)
+    pub refused_12 : (length ins ≡ length shapes → ⊥) → Some WrongCount ≡ attach_refusal library d n param ins out
+    refused_12 hb =
+        sym (by_table false false (kinds_fit p d.kinds (sides_given d.params param) (ins ++ out ∷ [])) (is_none (param_in p.need d.params param)) (nat_le (most Instances) (length d.instances)) there (ne_eqb (length ins) (length p.ins) (λ e. hb (e ∙ sym (ap length shapes_are)))) refl refl refl)
 
-  pub refused_13 : list_any (λ cell. nat_le (length d.kinds) cell) (ins ++ out ∷ []) ≡ false → length ins ≡ length p.ins → kinds_fit p d.kinds (sides_given d.params param) (ins ++ out ∷ []) ≡ false →
-      attach_refusal library d n param ins out ≡ Some WrongKind
-  refused_13 ha hb hc = by_table false true false _ _ ha (eq-eqb (length ins) (length p.ins) hb) hc refl refl
+    module _ (count : length ins ≡ length shapes) where
+      counted : (length ins == length p.ins) ≡ true
+      counted = eq-eqb (length ins) (length p.ins) (count ∙ ap length shapes_are)
 
-  module _ (ha : list_any (λ cell. nat_le (length d.kinds) cell) (ins ++ out ∷ []) ≡ false) (hb : length ins ≡ length p.ins) (hc : kinds_fit p d.kinds (sides_given d.params param) (ins ++ out ∷ []) ≡ true) where
-    pub refused_14 : param_in p.need d.params param ≡ None → attach_refusal library d n param ins out ≡ Some WrongParameter
-    refused_14 he = by_table false true true true _ ha (eq-eqb (length ins) (length p.ins) hb) hc (ap is_none he) refl
+      pub refused_13 : (right : Bool) → right ≡ kinds_fit p d.kinds (sides_given d.params param) (ins ++ out ∷ []) → right ≡ false → Some WrongKind ≡ attach_refusal library d n param ins out
+      refused_13 right hc e = sym (by_table false true false (is_none (param_in p.need d.params param)) (nat_le (most Instances) (length d.instances)) there counted (sym hc ∙ e) refl refl)
 
-    pub refused_16 : (given : Param) → param_in p.need d.params param ≡ Some given → most Instances ≤ length d.instances → attach_refusal library d n param ins out ≡ Some (LimitReached Instances)
-    refused_16 given he hf = by_table false true true false true ha (eq-eqb (length ins) (length p.ins) hb) hc (ap is_none he) (le-leb (most Instances) (length d.instances) hf)
+      -- and fit it
+      module _ (right : Bool) (right_is : right ≡ kinds_fit p d.kinds (sides_given d.params param) (ins ++ out ∷ [])) (right_holds : right ≡ true) (need : Need) (need_is : need ≡ p.need) (params : List Param) (params_are : params ≡ d.params) where
+        lacking : (b : Bool) → b ≡ is_none (param_in need params param) → is_none (param_in p.need d.params param) ≡ b
+        lacking b h = sym (h ∙ (λ i. is_none (param_in (need_is i) (params_are i) param)))
 
-    pub not_refused : (given : Param) → param_in p.need d.params param ≡ Some given → length d.instances < most Instances → attach_refusal library d n param ins out ≡ None
-    not_refused given he hf = by_table false true true false false ha (eq-eqb (length ins) (length p.ins) hb) hc (ap is_none he) (lt-leb (most Instances) (length d.instances) hf)
+        pub refused_14 : true ≡ is_none (param_in need params param) → Some WrongParameter ≡ attach_refusal library d n param ins out
+        refused_14 he = sym (by_table false true true true (nat_le (most Instances) (length d.instances)) there counted (sym right_is ∙ right_holds) (lacking true he) refl)
 
-    pub attached_is : (given : Param) → param_in p.need d.params param ≡ Some given → attached library d.params n param ins out ≡ instance_of n ins out given ∷ []
-    attached_is given he =
-        ap (λ o. option_map_or (λ q. option_map_or (λ fitting. instance_of n ins out fitting ∷ []) (param_in q.need d.params param) []) o []) at ∙
-        ap (λ o. option_map_or (λ fitting. instance_of n ins out fitting ∷ []) o []) he
+        pub refused_16 : false ≡ is_none (param_in need params param) → (held : ℕ) → held ≡ length d.instances → most Instances ≤ held → Some (LimitReached Instances) ≡ attach_refusal library d n param ins out
+        refused_16 he held held_is hf =
+            sym (by_table false true true false true there counted (sym right_is ∙ right_holds) (lacking false he) (le-leb (most Instances) (length d.instances) (omega (arith, hf, held_is))))
 
-some_of : (o : Option Param) → is_none o ≡ false → (given : Param) × (o ≡ Some given)
-some_of None e = cc
-some_of (Some given) e = (given, refl)
+        pub not_refused : false ≡ is_none (param_in need params param) → (held : ℕ) → held ≡ length d.instances → held < most Instances → None ≡ attach_refusal library d n param ins out
+        not_refused he held held_is hf =
+            sym (by_table false true true false false there counted (sym right_is ∙ right_holds) (lacking false he) (lt-leb (most Instances) (length d.instances) (omega (arith, hf, held_is))))
 
-fifth_of_table : (a b c e f : Bool) → table a b c e f ≡ None → e ≡ false
-fifth_of_table true b c e f h = cc
-fifth_of_table false false c e f h = cc
-fifth_of_table false true false e f h = cc
-fifth_of_table false true true true f h = cc
-fifth_of_table false true true false f h = refl
+  -- where nothing refuses it, each test passed
+  pub tests_passed : attach_refusal library d n param ins out ≡ None →
+      (list_any (λ cell. nat_le (length d.kinds) cell) (ins ++ out ∷ []) ≡ false) × (length ins ≡ length p.ins) × (kinds_fit p d.kinds (sides_given d.params param) (ins ++ out ∷ []) ≡ true) × (is_none (param_in p.need d.params param) ≡ false)
+  tests_passed h =
+      let strange = list_any (λ cell. nat_le (length d.kinds) cell) (ins ++ out ∷ []) in
+      let counted = length ins == length p.ins in
+      let right = kinds_fit p d.kinds (sides_given d.params param) (ins ++ out ∷ []) in
+      let lacking = is_none (param_in p.need d.params param) in
+      let full = nat_le (most Instances) (length d.instances) in
+      let passed = none_in_table strange counted right lacking full (sym (by_table strange counted right lacking full refl refl refl refl refl) ∙ h) in
+      (passed.0, eqb-true (length ins) (length p.ins) passed.1, passed.2, passed.3)
 
--- what is attached where nothing refuses it is one instance
-pub attached_one : (library : List Stored) (n : ℕ) (d : Data) (param : Option ℕ) (ins : List ℕ) (out : ℕ) → n < length library → attach_refusal library d n param ins out ≡ None →
-    (x : Instance) × (attached library d.params n param ins out ≡ x ∷ [])
-attached_one library n d param ins out l h =
-    elim (slice_get_cases library n).1 as (λ _. (x : Instance) × (attached library d.params n param ins out ≡ x ∷ [])) [
-      | inl at ↦
-          (let p = at.0 in
-          let at_n : slice_get library n ≡ Some p = at.2 in
-          let same = ap (λ o. option_map_or (λ q. refusal_at q d param ins out) o None) at_n in
-          let fits = fifth_of_table (list_any (λ cell. nat_le (length d.kinds) cell) (ins ++ out ∷ [])) (length ins == length p.ins) (kinds_fit p d.kinds (sides_given d.params param) (ins ++ out ∷ [])) (is_none (param_in p.need d.params param))
-          (nat_le (most Instances) (length d.instances)) (sym same ∙ h) in
-          let given = some_of (param_in p.need d.params param) fits in (
-            instance_of n ins out given.0,
-            ap (λ o. option_map_or (λ q. option_map_or (λ fitting. instance_of n ins out fitting ∷ []) (param_in q.need d.params param) []) o []) at_n ∙
-                ap (λ o. option_map_or (λ fitting. instance_of n ins out fitting ∷ []) o []) given.1,
-          ))
-      | inr past ↦ absurd (omega (arith, past.0, l))
-    ]
+  pub attached_is : (given : Param) → param_in p.need d.params param ≡ Some given → attached library d.params n param ins out ≡ instance_of n ins out given ∷ []
+  attached_is given he =
+      ap (λ o. option_map_or (λ q. option_map_or (λ fitting. instance_of n ins out fitting ∷ []) (param_in q.need d.params param) []) o []) at ∙
+      ap (λ o. option_map_or (λ fitting. instance_of n ins out fitting ∷ []) o []) he
+
+  pub takes_one : attach_refusal library d n param ins out ≡ None → (need : Need) → need ≡ p.need → (params : List Param) → params ≡ d.params → is_none (param_in need params param) ≡ false
+  takes_one h need need_is params params_are = (λ i. is_none (param_in (need_is i) (params_are i) param)) ∙ (tests_passed h).3
+
+  -- and what is made fits, stands on cells that are there, and is what is to be attached
+  pub fitting_made : attach_refusal library d n param ins out ≡ None → (need : Need) → need ≡ p.need → (params : List Param) → params ≡ d.params → (given : Param) → param_in need params param ≡ Some given → (x : Instance) → x ≡ instance_of n ins out given →
+      IsFitting library d.kinds x × IsWithin (length d.kinds) x × (attached library d.params n param ins out ≡ x ∷ [])
+  fitting_made h need need_is params params_are given found x x_is =
+      let passed = tests_passed h in
+      let given_is : param_in p.need d.params param ≡ Some given = sym (λ i. param_in (need_is i) (params_are i) param) ∙ found in
+      let below = All-pop (λ cell. cell < length d.kinds) (ins ++ out ∷ []) ins (Some out) refl (no_strangers d.kinds (length d.kinds) (ins ++ out ∷ []) refl (sym passed.0)) in (
+        rw x_is (fit_attached library n p d.kinds d.params param given ins out at passed.1 passed.2 given_is),
+        rw x_is (record { inputs = below.0; output = below.1 }),
+        rw x_is (attached_is given given_is),
+      )
+
+-- the one instance that was made is what is attached
+pub as_attached : (d new : Data) (x : Instance) (xs : List Instance) → new ≡ record d { instances = d.instances ++ x ∷ [] } → xs ≡ x ∷ [] → new ≡ record d { instances = d.instances ++ xs }
+as_attached d new x xs made one = rw one made

@@ -1,16 +1,18 @@
 //! What is tested where a statement is made or a procedure attached.
-ghost use Rattle.std.specs.Prelude.{◌≡◌, ◌<◌, ◌≤◌, ◌+◌, ◌++◌, ◌∷◌, [], nat_le, ℕ, List, length, map, zip, All, IfOk, None, Some, slice_index_or};
+ghost use Rattle.std.specs.Prelude.{◌≡◌, ◌<◌, ◌≤◌, ◌+◌, ◌++◌, ◌∷◌, [], nat_le, ℕ, List, length, map, zip, All, IfOk, Some, false, is_none, slice_index_or};
 ghost use Rattle.std.specs.List.{list_any};
 ghost use Rattle.prop_procedures.specs.Stored.{span_kind, sides_of};
-ghost use Rattle.prop_procedures.specs.Fitting.{kind_at, scale_in_range, relation_alone, fitting_param};
+ghost use Rattle.prop_procedures.specs.Kept.{stored_as};
+ghost use Rattle.prop_procedures.specs.Fitting.{kind_at, kinds_fit, fitting_param};
 ghost use Rattle.prop_cells.specs.Instances.{param_in, sides_given};
 ghost use Rattle.prop_cells.specs.Refusing.{may_be_stated};
 
 use crate::cells::Cells;
 use prop_lattice::Info;
-use prop_procedures::fitting::{is_scale, shape_at, sides_of};
-use prop_procedures::{Kinded, Need, Param, Shape};
+use prop_procedures::fitting::{are_right, is_scale, shape_at, sides_of};
+use prop_procedures::{Kinded, Need, Param, Procedure, Rule, Shape};
 use prop_sets::Side;
+use smallvec::SmallVec;
 use std::alloc::{AllocError, Global};
 
 /// Whether an information may be stated at a cell of a kind: it is of the kind, and no contradiction.
@@ -34,61 +36,45 @@ pub(crate) fn is_strange(ins: &[usize], out: usize, count: usize) -> bool
     has_stranger(ins, count) || out >= count
 }
 
-/// A scale, where it is one that a procedure takes.
-fn scale_in_range(param: &Param) -> Option<Param>
-    ensures { result ≡ scale_in_range param.now }
+/// Whether the parameter is none that a procedure with this need takes.
+fn is_unfit(need: Need, given: &Param) -> bool
+    ensures { result ≡ is_none (fitting_param need (Some given.now)) }
 {
-    match param {
-        Param::Scale(k) if is_scale(*k) => Some(Param::Scale(*k)),
-        _ => None,
+    match (need, given) {
+        (Need::Scale, Param::Scale(k)) => !is_scale(*k),
+        (Need::Rows, Param::Rows(_)) => false,
+        _ => true,
     }
 }
 
-/// A relation once more; `None` where the parameter is none.
-fn relation_alone(alloc: Global, param: &Param) -> Result<Option<Param>, AllocError>
-    ensures { IfOk result (λ o. o ≡ relation_alone param.now) }
+/// Whether there is no parameter that an instance has where one is given by its number or none is. It takes no memory.
+pub(crate) fn lacks_param(need: Need, params: &[Param], given: Option<usize>) -> bool
+    ensures { result ≡ is_none (param_in need params.now given) }
 {
-    match param {
-        Param::Rows(rows) => Ok(Some(Param::Rows(rows.copy(alloc)?))),
-        Param::Plain | Param::Scale(_) => Ok(None),
+    match given {
+        None => matches!(need, Need::Rows),
+        Some(n) if n < params.len() => is_unfit(need, &params[n]),
+        Some(_) => true,
     }
 }
 
-/// The parameter that an instance has where this one is given, if it fits.
-fn param_given(alloc: Global, need: Need, given: &Param) -> Result<Option<Param>, AllocError>
-    ensures { IfOk result (λ o. o ≡ fitting_param need (Some given.now)) }
-{
-    match need {
-        Need::Nothing => Ok(None),
-        Need::Scale => Ok(scale_in_range(given)),
-        Need::Rows => relation_alone(alloc, given),
-    }
-}
-
-/// The parameter that an instance has where none is given, if there is one.
-fn param_without(need: Need) -> Option<Param>
-    ensures { result ≡ fitting_param need None }
-{
-    match need {
-        Need::Nothing => Some(Param::Plain),
-        Need::Scale => Some(Param::Scale(1)),
-        Need::Rows => None,
-    }
-}
-
-/// The parameter that an instance has where one is given by its number or none is, if that fits.
+/// The parameter that an instance has where one is given by its number or none is. It takes no memory; of a relation there can be too
+/// many owners to count.
 pub(crate) fn param_in(
     alloc: Global,
     need: Need,
     params: &[Param],
     given: Option<usize>,
-) -> Result<Option<Param>, AllocError>
-    ensures { IfOk result (λ o. o ≡ param_in need params.now given) }
+) -> Result<Param, AllocError>
+    requires { is_none (param_in need params.now given) ≡ false }
+    ensures { IfOk result (λ param. param_in need params.now given ≡ Some param) }
 {
     match given {
-        None => Ok(param_without(need)),
-        Some(n) if n < params.len() => param_given(alloc, need, &params[n]),
-        Some(_) => Ok(None),
+        None => match need {
+            Need::Scale => Ok(Param::Scale(1)),
+            _ => Ok(Param::Plain),
+        },
+        Some(n) => params[n].copy(alloc),
     }
 }
 
@@ -110,22 +96,42 @@ fn cell_at(ins: &[usize], out: usize, i: usize) -> usize
     if i < ins.len() { ins[i] } else { out }
 }
 
-/// The shapes of a procedure's places, each with the kind of its cell.
-pub(crate) fn places(
+/// The shapes of a procedure's places, each with the kind of its cell. It takes no memory.
+fn places(
     alloc: Global,
     shapes: &[Shape],
     shape: Shape,
     held: &Cells,
     ins: &[usize],
     out: usize,
-) -> Result<Vec<(Shape, Kinded)>, AllocError>
+) -> SmallVec<(Shape, Kinded), 9>
+    requires few { length ins.now ≤ 8 }
     requires count { length ins.now ≡ length shapes.now }
     requires cells { All (λ c. c < length held.now.kinds) (ins.now ++ out ∷ []) }
-    ensures { IfOk result (λ v. v.items ≡ zip (shapes.now ++ shape ∷ []) (map (kind_at held.now.kinds) (ins.now ++ out ∷ []))) }
+    ensures { result.items ≡ zip (shapes.now ++ shape ∷ []) (map (kind_at held.now.kinds) (ins.now ++ out ∷ [])) }
 {
-    let mut places = Vec::new(alloc);
+    let mut places = SmallVec::new(alloc);
     for i in 0..ins.len() + 1 {
-        places.push((shape_at(shapes, shape, i), held.kind(cell_at(ins, out, i))))?;
+        places.push_reserved((shape_at(shapes, shape, i), held.kind(cell_at(ins, out, i))));
     }
-    Ok(places)
+    places
+}
+
+/// Whether the kinds of as many cells as the procedure has places fit them, with the parameter of a number or without one. It takes
+/// no memory.
+pub(crate) fn kinds_fit<R: Rule + Drop>(
+    alloc: Global,
+    p: &Procedure<R>,
+    held: &Cells,
+    param: Option<usize>,
+    ins: &[usize],
+    out: usize,
+) -> bool
+    requires count { length ins.now ≡ length p.now.ins.items }
+    requires cells { All (λ c. c < length held.now.kinds) (ins.now ++ out ∷ []) }
+    ensures { result ≡ kinds_fit (stored_as R.value_of p.now) held.now.kinds (sides_given held.now.params param) (ins.now ++ out ∷ []) }
+{
+    let given = sides_given(held.params(), param);
+    let places = places(alloc, p.ins(), p.out(), held, ins, out);
+    are_right(p.need(), given, &places)
 }

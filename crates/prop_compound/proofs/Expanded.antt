@@ -1,59 +1,46 @@
 -- Why a whole use is refused, in the order in which it is tested, and what it stands for where it is not.
-use Rattle.std.proofs.Common.{◌≡◌, ◌∙◌, ℕ, ◌+◌, ◌<◌, ◌≤◌, ◌==◌, List, [], ◌∷◌, All, Bool, false, not, length, take, Option, Some, None, refl, sym, ap, subst, arith, inl, inr}
-use Rattle.std.specs.Prelude.{is_none, Result, Err, IfSome}
+use Rattle.std.proofs.Common.{◌≡◌, ◌∙◌, ℕ, ◌+◌, ◌≤◌, ◌==◌, List, [], ◌∷◌, ◌++◌, Bool, false, not, length, map, take, Option, Some, None, refl, sym, ap, subst}
+use Rattle.std.specs.Prelude.{is_none, ◌⊎◌, Result, Ok, Err, IfOk, IfErr, IfSome, OnOk}
 use Rattle.std.specs.List.{range_with_len}
 use Rattle.std.specs.Option.{option_map_or}
-use Rattle.std.proofs.lemmas.List.Elements.{All-weaker}
-use Rattle.std.proofs.lemmas.Option.{slice_get_cases}
+use Rattle.std.proofs.lemmas.Bool.{eqb-true, not-false}
+use Rattle.std.proofs.lemmas.List.{length-append, take-append-drop}
 use Rattle.prop_lattice.specs.declared.refusal.Refusal.{Refusal}
-use Rattle.prop_lattice.specs.declared.refusal.Refusal.TheVariants.{NoSuchProcedure, WrongCount}
+use Rattle.prop_lattice.specs.declared.refusal.Refusal.TheVariants.{NoSuchProcedure, WrongCount, Memory}
 use Rattle.prop_procedures.specs.declared.shape.Kinded.{Kinded}
 use Rattle.prop_procedures.specs.declared.shape.Param.{Param}
 use Rattle.prop_procedures.specs.Stored.{Stored}
 use Rattle.prop_vocabulary.specs.Refusing.{when, first_of}
 use Rattle.prop_vocabulary.specs.Vocabulary.{Vocabulary}
-use Rattle.prop_compound.specs.declared.definition.Passing.{Passing}
 use Rattle.prop_compound.specs.declared.definition.Used.{Used}
 use Rattle.prop_procedures.specs.declared.flat.Flat.{Flat}
 use Rattle.prop_compound.specs.Definitions.{Definitions, used_named, cells_wanted, is_miscounted}
-use Rattle.prop_compound.specs.Expansion.{Walk, Placed, start, param_meant, all_meant, passing_of, expanded_in, expanded}
+use Rattle.prop_compound.specs.declared.walk.Walk as walks
+use Rattle.prop_compound.specs.Expansion.{Expansion, before, expanded_in, expanded}
 use Rattle.prop_compound.specs.Expanding.{size_refusal, fit_refusal, expand_refusal}
 use Rattle.prop_compound.specs.AtOnce.{refused_at_once}
-use Rattle.prop_compound.specs.Flattened.{expansion_of_flat, IsFlatOver}
-use Rattle.prop_compound.specs.Kept.{fresh_used, instances_used, fresh_of, instances_of, total_of, IsRight, AreRight}
-use Rattle.prop_compound.proofs.Flattening.{flat_over}
-use Rattle.prop_compound.proofs.Using.{expanded_is, sizes_are, first_kinds, enough_kinds}
+use Rattle.prop_compound.specs.Flattened.{placed_of, walk_of, expansion_of_flat, IsFlatOver, AreRight, IsBehind}
+use Rattle.prop_compound.specs.Kept.{all_bare, fresh_used, instances_used, fresh_of, instances_of, total_of, IsDefinedOver, IsThere, AreKept}
+use Rattle.prop_compound.specs.declared.definition.KeptDefinition.{KeptDefinition}
+use Rattle.prop_compound.proofs.Firsts.{fits_bare}
+use Rattle.prop_compound.proofs.Placing.{right_of}
+use Rattle.prop_compound.proofs.Ranges as ranges
+use Rattle.prop_compound.proofs.Using.{uses_it, uses_right, expanded_is, sizes_are, first_kinds, enough_kinds}
 
 alone : (o : Option Refusal) → first_of (o ∷ []) ≡ o
 alone None = refl
 alone (Some r) = refl
 
--- an instance of a procedure has a cell
-cells_there : (library : List Stored) (n : ℕ) (p : Placed Passing) → IsRight library n p → 0 < length p.cells
-cells_there library n p h =
-    let count = h.count in
-    elim (slice_get_cases library p.procedure).1 as (λ _. 0 < length p.cells) [
-      | inl found ↦
-          (let s = found.0 in
-          let wants : length s.ins + 1 ≡ length p.cells = sym (ap (λ o. option_map_or (λ (s : Stored). length s.ins + 1) o 0) found.2) ∙ count in
-          omega (arith, wants))
-      | inr past ↦ absurd (let m = h.procedure in omega (arith, past.0, m))
-    ]
-
-pub all_cells_there : (library : List Stored) (walk : Walk) → AreRight library walk → All (λ (x : Placed Passing). 0 < length x.cells) walk.placed
-all_cells_there library walk h =
-    All-weaker (IsRight library (length walk.kinds)) (λ (x : Placed Passing). 0 < length x.cells) (cells_there library (length walk.kinds)) walk.placed h
-
 module _ (library : List Stored) (words : Vocabulary) (definitions : Definitions) (name : List ℕ) (kinds : List Kinded) (given : Option Param) (used : Used) (is : used_named library definitions name ≡ Some used) where
-  abbrev uses_it : Walk
-  uses_it = expanded_in definitions.definitions used (range_with_len 0 (length kinds)) (passing_of given) (start kinds)
+  abbrev stands : Expansion (Option Param)
+  stands = uses_it library words definitions name kinds given used
 
   -- what the sizes that are known before tell
   abbrev sizes : Option Refusal
   sizes = size_refusal (fresh_used (total_of fresh_of definitions.definitions) used) (instances_used (total_of instances_of definitions.definitions) used)
 
   module _ (wrong : Bool) (wrong_is : wrong ≡ not (length kinds == cells_wanted library definitions used)) (right : wrong ≡ false) where
-    passes_count : expand_refusal library words definitions name kinds given ≡ first_of (sizes ∷ fit_refusal library (all_meant (param_meant words given) uses_it) ∷ [])
+    passes_count : expand_refusal library words definitions name kinds given ≡ first_of (sizes ∷ fit_refusal library stands ∷ [])
     passes_count =
         let named : is_none (used_named library definitions name) ≡ false = ap is_none is in
         let counted : is_miscounted library definitions name (length kinds) ≡ false = ap (λ o. option_map_or (λ u. not (length kinds == cells_wanted library definitions u)) o false) is ∙ sym wrong_is ∙ right in
@@ -79,32 +66,56 @@ module _ (library : List Stored) (words : Vocabulary) (definitions : Definitions
     -- a size is over its limit
     pub size_stops : (o : Option Refusal) (r : Refusal) → o ≡ sizes → o ≡ Some r → expand_refusal library words definitions name kinds given ≡ Some r
     size_stops o r s e =
-        passes_count ∙ ap (λ z. first_of (z ∷ fit_refusal library (all_meant (param_meant words given) uses_it) ∷ [])) (sym s ∙ e)
+        passes_count ∙ ap (λ z. first_of (z ∷ fit_refusal library stands ∷ [])) (sym s ∙ e)
 
-  module _ (passing : Passing) (passing_is : passing ≡ passing_of given) (walk : Walk) (walk_with : walk ≡ expanded_in definitions.definitions used (range_with_len 0 (length kinds)) passing (start kinds)) where
-    walk_is : walk ≡ uses_it
-    walk_is =
-        walk_with ∙ ap (λ p. expanded_in definitions.definitions used (range_with_len 0 (length kinds)) p (start kinds)) passing_is
-
+  module _ (walk : walks.Walk) (walk_is : walk_of walk ≡ expanded_in words definitions.definitions used (range_with_len 0 (length kinds)) given (before definitions.definitions used kinds given)) where
     -- no size is over its limit: what is said of how it fits is said
-    pub fit_decides : (wrong : Bool) → wrong ≡ not (length kinds == cells_wanted library definitions used) → wrong ≡ false → (o : Option Refusal) → o ≡ sizes → o ≡ None → expand_refusal library words definitions name kinds given ≡ fit_refusal library (all_meant (param_meant words given) walk)
+    pub fit_decides : (wrong : Bool) → wrong ≡ not (length kinds == cells_wanted library definitions used) → wrong ≡ false → (o : Option Refusal) → o ≡ sizes → o ≡ None → expand_refusal library words definitions name kinds given ≡ fit_refusal library (walk_of walk)
     fit_decides wrong wrong_is right o s e =
-        passes_count wrong wrong_is right ∙ (λ i. first_of ((sym s ∙ e) i ∷ fit_refusal library (all_meant (param_meant words given) (sym walk_is i)) ∷ [])) ∙ alone (fit_refusal library (all_meant (param_meant words given) walk))
+        passes_count wrong wrong_is right ∙ (λ i. first_of ((sym s ∙ e) i ∷ fit_refusal library (sym walk_is i) ∷ [])) ∙ alone (fit_refusal library (walk_of walk))
 
     -- the given cells are among those of the walk
-    pub cells_among : length kinds ≤ length walk.kinds
-    cells_among =
-        rw walk_is (enough_kinds definitions.definitions used (range_with_len 0 (length kinds)) (passing_of given) kinds)
+    pub cells_among : length kinds ≤ length walk.kinds.items
+    cells_among = subst (λ e. length kinds ≤ length e.kinds) (sym walk_is) (enough_kinds library words definitions name kinds given used)
 
-    module _ (flat : Flat) (flat_is : expansion_of_flat (take (length kinds) walk.kinds) flat ≡ all_meant (param_meant words given) walk) where
-      flat_same : expansion_of_flat kinds flat ≡ all_meant (param_meant words given) walk
-      flat_same =
-          let first : take (length kinds) walk.kinds ≡ kinds = rw walk_is (first_kinds definitions.definitions used (range_with_len 0 (length kinds)) (passing_of given) kinds) in
-          ap (λ ks. expansion_of_flat ks flat) (sym first) ∙ flat_is
+    -- its instances are right
+    pub walk_right : (ks : List KeptDefinition) → AreKept ks → definitions.definitions ≡ all_bare ks → IsDefinedOver library definitions → IsThere (length library) (length definitions.definitions) used →
+        (wrong : Bool) → wrong ≡ not (length kinds == cells_wanted library definitions used) → wrong ≡ false → AreRight library walk
+    walk_right ks kept same over there wrong wrong_is right =
+        let count : length kinds ≡ cells_wanted library definitions used = eqb-true (length kinds) (cells_wanted library definitions used) (not-false _ (sym wrong_is ∙ right)) in
+        right_of library walk (subst (ranges.AreRight library) (sym walk_is) (uses_right library words ks definitions used kinds given _ kept same over there count))
 
-      pub flat_means : expansion_of_flat kinds flat ≡ expanded library words definitions name kinds given
-      flat_means =
-          flat_same ∙ ap (all_meant (param_meant words given)) walk_is ∙ sym (expanded_is library words definitions name kinds given used is)
+    all_kinds : (flat : Flat) → IsBehind walk (length kinds) flat → kinds ++ flat.fresh.items ≡ walk.kinds.items
+    all_kinds flat h =
+        let first : kinds ≡ take (length kinds) walk.kinds.items = sym (ap (λ e. take (length kinds) e.kinds) walk_is ∙ first_kinds library words definitions name kinds given used) in
+        let fresh = h.fresh in
+        (λ i. first i ++ fresh i) ∙ take-append-drop (length kinds) walk.kinds.items
 
-      pub flat_safe : AreRight library walk → IsFlatOver library (length kinds) flat
-      flat_safe h = flat_over library kinds flat walk (param_meant words given) flat_same h
+    pub flat_means : (r : Result Flat Refusal) → OnOk r (fit_refusal library (walk_of walk) ≡ None) → IfOk r (IsBehind walk (length kinds)) → IfOk r (λ flat. expansion_of_flat kinds flat ≡ expanded library words definitions name kinds given)
+    flat_means (Ok flat) fits h =
+        let all = all_kinds flat h in
+        let params = h.params in
+        let same = h.instances in
+        let bare = fits_bare library (walk_of walk) fits in
+        (λ i. record {
+          kinds = all i;
+          placed = map (placed_of (params i).items) (same i).items;
+          spare = sym bare i;
+        }) ∙ walk_is ∙ sym (expanded_is library words definitions name kinds given used is)
+    flat_means (Err e) fits h = h
+
+    pub flat_safe : (r : Result Flat Refusal) → AreRight library walk → IfOk r (IsBehind walk (length kinds)) → IfOk r (IsFlatOver library (length kinds))
+    flat_safe (Ok flat) right h =
+        let count : length walk.kinds.items ≡ length kinds + length flat.fresh.items = ap length (sym (all_kinds flat h)) ∙ length-append kinds flat.fresh.items in
+        let same = h.instances in
+        rw (same, ← count) right
+    flat_safe (Err e) right h = h
+
+    -- what is said of how it fits is said
+    module _ (decided : expand_refusal library words definitions name kinds given ≡ fit_refusal library (walk_of walk)) where
+      pub flat_fits : (r : Result Flat Refusal) → OnOk r (fit_refusal library (walk_of walk) ≡ None) → OnOk r (expand_refusal library words definitions name kinds given ≡ None)
+      flat_fits (Ok flat) h = decided ∙ h
+      flat_fits (Err e) h = h
+
+      pub flat_why : (r : Result Flat Refusal) → IfErr r (λ e. (fit_refusal library (walk_of walk) ≡ Some e) ⊎ (e ≡ Memory)) → IfErr r (λ e. (expand_refusal library words definitions name kinds given ≡ Some e) ⊎ (e ≡ Memory))
+      flat_why r h = subst (λ o. IfErr r (λ e. (o ≡ Some e) ⊎ (e ≡ Memory))) (sym decided) h

@@ -9,7 +9,7 @@ mod Expanded
 mod Firsts
 pub mod Scoping
 mod Using
-mod Flattening
+mod Placing
 mod Zips
 mod Looping
 pub mod Judging

@@ -1,24 +1,35 @@
 -- The cells of the instances that a use stands for are there, and each procedure is one of the library on as many cells as it wants.
-use Rattle.std.proofs.Common.{◌≡◌, ◌∙◌, ℕ, ◌<◌, ◌≤◌, List, [], ◌∷◌, ◌++◌, All, not, ◌&&◌, length, sym, ap, arith, inl, inr, add-zero}
+use Rattle.std.proofs.Common.{◌≡◌, ◌∙◌, ℕ, ◌+◌, ◌<◌, ◌≤◌, List, [], ◌∷◌, ◌++◌, All, Option, length, sym, ap, arith, inl, inr, add-zero}
 use Rattle.std.specs.Prelude.{slice_get}
 use Rattle.std.specs.Option.{option_map_or}
 use Rattle.std.proofs.lemmas.Bool.{cases_eq, eq-eqb, ne_eqb}
 use Rattle.std.proofs.lemmas.List.{length-append, length-map}
 use Rattle.std.proofs.lemmas.List.Elements.{All-head, All-tail, All-push, All-map, All-weaker}
+use Rattle.prop_procedures.specs.declared.shape.Param.{Param}
 use Rattle.prop_procedures.specs.Stored.{Stored}
-use Rattle.prop_compound.specs.declared.definition.Passing.{Passing}
+use Rattle.prop_vocabulary.specs.Vocabulary.{Vocabulary}
 use Rattle.prop_compound.specs.declared.definition.Used.TheVariants as uses
 use Rattle.prop_compound.specs.declared.definition.NumberedStep.{NumberedStep}
 use Rattle.prop_compound.specs.declared.definition.NumberedStep.TheVariants.{Local, Like, Use}
-use Rattle.prop_compound.specs.Definitions.{Definition, is_taking}
+use Rattle.prop_compound.specs.Definitions.{Definition}
 use Rattle.prop_procedures.specs.Fitting.{kind_at}
-use Rattle.prop_compound.specs.Expansion.{Walk, Placed, cell_at, cells_at, with_fresh, with_spare, passed, is_something, use_expanded, steps_expanded, definition_expanded}
-use Rattle.prop_compound.specs.Kept.{fresh_of, total_in, AreInScope, IsUseBelow, IsUseOver, IsRight, AreRight}
+use Rattle.prop_compound.specs.Expansion.{Walk, Placed, cell_at, cells_at, with_fresh, param_passed, use_expanded, steps_expanded, definition_expanded}
+use Rattle.prop_compound.specs.Kept.{fresh_of, total_in, AreInScope, IsUseBelow, IsUseOver}
 use Rattle.prop_compound.proofs.Latest.{latest_at}
 use Rattle.prop_compound.proofs.Unrolling.{Adds}
 use Rattle.prop_compound.proofs.Sizes.{IsLonger, Makes, use_makes, definitions_make}
 
-right_still : (library : List Stored) (n m : ℕ) → n ≤ m → (p : Placed Passing) → IsRight library n p → IsRight library m p
+-- the instance's procedure is one of the library, on as many cells as it wants, which are below n
+pub record IsRight (library : List Stored) (n : ℕ) (p : Placed (Option Param)) : Type 0 where
+  pub procedure : p.procedure < length library
+  pub count : option_map_or (λ (s : Stored). length s.ins + 1) (slice_get library p.procedure) 0 ≡ length p.cells
+  pub cells : All (λ cell. cell < n) p.cells
+
+-- each instance so far is right
+abbrev pub AreRight : List Stored → Walk → Type 0
+AreRight library e = All (IsRight library (length e.kinds)) e.placed
+
+right_still : (library : List Stored) (n m : ℕ) → n ≤ m → (p : Placed (Option Param)) → IsRight library n p → IsRight library m p
 right_still library n m l p h = record {
   procedure = h.procedure;
   count = h.count;
@@ -45,24 +56,24 @@ fresh_within e kind cells h =
     let n = length (e.kinds ++ kind ∷ []) in
     All-push (λ cell. cell < n) cells (length e.kinds) (cells_still (length e.kinds) n (omega (arith, longer)) cells h) (omega (arith, longer))
 
-module _ (library : List Stored) (definitions : List Definition) where
+module _ (library : List Stored) (words : Vocabulary) (definitions : List Definition) where
   -- how many cells a definition wants
   abbrev wants : ℕ → ℕ
   wants m = option_map_or (λ (d : Definition). d.params) (slice_get definitions m) 0
 
   -- a use of a definition below n, on as many cells as it wants, which are there, keeps it so
   abbrev pub Keeps : Adds → ℕ → Type 0
-  Keeps f n = (m : ℕ) → m < n → (cells : List ℕ) → option_map_or (λ (d : Definition). d.params) (slice_get definitions m) 0 ≡ length cells → (given : Passing) (e : Walk) → All (λ cell. cell < length e.kinds) cells → AreRight library e → AreRight library (f m cells given e)
+  Keeps f n = (m : ℕ) → m < n → (cells : List ℕ) → option_map_or (λ (d : Definition). d.params) (slice_get definitions m) 0 ≡ length cells → (given : Option Param) (e : Walk) → All (λ cell. cell < length e.kinds) cells → AreRight library e → AreRight library (f m cells given e)
 
-  use_keeps : (f : Adds) (n : ℕ) → Keeps f n → (used : _) (places : List ℕ) (passing : Passing) → IsUseBelow definitions n (Use used places passing) → IsUseOver library (Use used places passing) → (cells : List ℕ) → length cells ≡ length places →
-      (given : Passing) (e : Walk) → All (λ cell. cell < length e.kinds) cells → AreRight library e → AreRight library (use_expanded f used cells given e)
+  use_keeps : (f : Adds) (n : ℕ) → Keeps f n → (used : _) (places : List ℕ) (passing : _) → IsUseBelow definitions n (Use used places passing) → IsUseOver library (Use used places passing) → (cells : List ℕ) → length cells ≡ length places →
+      (given : Option Param) (e : Walk) → All (λ cell. cell < length e.kinds) cells → AreRight library e → AreRight library (use_expanded f used cells given e)
   use_keeps f n h (uses.Procedure k) places passing below over cells same given e within right =
       All-push (IsRight library (length e.kinds)) e.placed (record { procedure = k; given = given; cells = cells }) right (record { procedure = over.0; count = over.1 ∙ sym same; cells = within })
   use_keeps f n h (uses.Definition m) places passing below over cells same given e within right =
       h m below.0 cells (below.1 ∙ sym same) given e within right
 
   steps_keep : (f : Adds) (count : ℕ → ℕ) (n : ℕ) → Makes f count → Keeps f n → (steps : List NumberedStep) → All (IsUseBelow definitions n) steps → All (IsUseOver library) steps → (cells : List ℕ) → AreInScope (length cells) steps →
-      (given : Passing) (e : Walk) → All (λ cell. cell < length e.kinds) cells → AreRight library e → AreRight library (steps_expanded f given cells steps e)
+      (given : Option Param) (e : Walk) → All (λ cell. cell < length e.kinds) cells → AreRight library e → AreRight library (steps_expanded words f given cells steps e)
   steps_keep f count n makes h [] below over cells scope given e within right = right
   steps_keep f count n makes h (Local kind ∷ steps) below over cells scope given e within right =
       steps_keep f count n makes h steps (All-tail (IsUseBelow definitions n) (Local kind) steps below) (All-tail (IsUseOver library) (Local kind) steps over) (cells ++ length e.kinds ∷ [])
@@ -74,11 +85,11 @@ module _ (library : List Stored) (definitions : List Definition) where
   steps_keep f count n makes h (Use used places passing ∷ steps) below over cells scope given e within right =
       let step = Use used places passing in
       let chosen = cells_at cells places in
-      let e' = use_expanded f used chosen (passed given passing) e in
-      let longer = longer_length e e' _ (use_makes f count makes used chosen (passed given passing) e) in
+      let e' = use_expanded f used chosen (param_passed words given passing) e in
+      let longer = longer_length e e' _ (use_makes f count makes used chosen (param_passed words given passing) e) in
       steps_keep f count n makes h steps (All-tail (IsUseBelow definitions n) step steps below) (All-tail (IsUseOver library) step steps over) cells (rw add-zero at (scope.1)) given e'
       (cells_still (length e.kinds) (length e'.kinds) longer cells within)
-      (use_keeps f n h used places passing (All-head (IsUseBelow definitions n) step steps below) (All-head (IsUseOver library) step steps over) chosen (length-map places (cell_at cells)) (passed given passing) e (chosen_within (length e.kinds) cells places within scope.0) right)
+      (use_keeps f n h used places passing (All-head (IsUseBelow definitions n) step steps below) (All-head (IsUseOver library) step steps over) chosen (length-map places (cell_at cells)) (param_passed words given passing) e (chosen_within (length e.kinds) cells places within scope.0) right)
 
   -- each of these definitions is well made, and so are its uses
   pub record IsSound (latest : List Definition) (n : ℕ) (d : Definition) : Type 0 where
@@ -96,18 +107,17 @@ module _ (library : List Stored) (definitions : List Definition) where
       let here = h n x (omega (arith, l)) in
       record { params = rw is_not at here.params; scope = rw is_not at here.scope; below = rw is_not at here.below; over = rw is_not at here.over }
 
-  pub definitions_keep : (latest : List Definition) → AreSound latest → Keeps (definition_expanded latest) (length latest)
+  pub definitions_keep : (latest : List Definition) → AreSound latest → Keeps (definition_expanded words latest) (length latest)
   definitions_keep [] h m l cells count given e within right = right
   definitions_keep (d ∷ earlier) h m l cells count given e within right =
       let later = definitions_keep earlier (sound_tail d earlier h) in
-      let e' = with_spare e (is_something given && not (is_taking d)) in
       elim (cases_eq m (length earlier)) [
         | inl same ↦
             (let is_it = eq-eqb m (length earlier) same in
             let here = h m d l in
             let params : d.params ≡ length cells = sym (rw is_it at here.params) ∙ count in
             let below : All (IsUseBelow definitions (length earlier)) d.steps = rw same at (rw is_it at here.below) in
-            rw is_it (steps_keep (definition_expanded earlier) (total_in fresh_of earlier) (length earlier) (definitions_make earlier) later d.steps below (rw is_it at here.over) cells (rw params at (rw is_it at here.scope)) given e' within right))
+            rw is_it (steps_keep (definition_expanded words earlier) (total_in fresh_of earlier) (length earlier) (definitions_make words earlier) later d.steps below (rw is_it at here.over) cells (rw params at (rw is_it at here.scope)) given e within right))
         | inr other ↦
             rw (ne_eqb m (length earlier) other) (later m (omega (arith, l, other)) cells count given e within right)
       ]

@@ -1,5 +1,5 @@
 -- What is true of the numbers that stand for the words of a definition that is not refused.
-use Rattle.std.proofs.Common.{◌≡◌, ◌∙◌, ℕ, zero, suc, ◌+◌, ◌-◌, ◌<◌, ◌≤◌, ◌==◌, min, Bool, false, not, ◌||◌, cond, List, [], ◌∷◌, ◌++◌, Option, Some, None, All, map, length, take, drop, get_or, is_none, unwrap_or, refl, sym, ap, subst, arith, inl, inr}
+use Rattle.std.proofs.Common.{◌≡◌, ◌∙◌, ℕ, zero, suc, ◌+◌, ◌-◌, ◌<◌, ◌≤◌, ◌==◌, min, Bool, true, false, not, ◌||◌, cond, List, [], ◌∷◌, ◌++◌, Option, Some, None, All, map, length, take, drop, get_or, is_none, unwrap_or, refl, sym, ap, subst, arith, inl, inr}
 use Rattle.std.specs.Prelude.{reverse, slice_get, sum_by, ◌⊎◌, Result, Ok, Err, IfOk, IfErr, OnOk, OnErr}
 use Rattle.std.specs.List.{list_any, flat_map}
 use Rattle.std.specs.Option.{option_map, option_map_or, option_or}
@@ -8,6 +8,7 @@ use Rattle.std.proofs.lemmas.List.{length-map, length-append, length-reverse, re
 use Rattle.std.proofs.lemmas.List.Elements.{All-cons, All-nil, All-push, All-weaker}
 use Rattle.std.proofs.lemmas.List.Concat.{flat_map-cons}
 use Rattle.std.proofs.lemmas.List.Quantifiers.{position-Some}
+use Rattle.std.proofs.lemmas.Option.{slice_get_cases}
 use Rattle.prop_lattice.specs.Refusals.{most}
 use Rattle.prop_lattice.specs.declared.refusal.Limit.TheVariants.{Cells, Instances}
 use Rattle.prop_lattice.specs.declared.refusal.Refusal.{Refusal}
@@ -17,8 +18,6 @@ use Rattle.prop_vocabulary.specs.Names.{number_in, numbers_in, is_missing}
 use Rattle.prop_vocabulary.specs.Vocabulary.{Vocabulary}
 use Rattle.prop_vocabulary.proofs.Lookups.{number_below}
 use Rattle.prop_language.specs.Commands.{Passed, Step}
-use Rattle.prop_compound.specs.declared.definition.Passing.{Passing}
-use Rattle.prop_compound.specs.declared.definition.Passing.TheVariants as passings
 use Rattle.prop_compound.specs.declared.definition.Used.{Used}
 use Rattle.prop_compound.specs.declared.definition.Used.TheVariants as uses
 use Rattle.prop_compound.specs.declared.definition.KeptDefinition.{KeptDefinition}
@@ -26,8 +25,8 @@ use Rattle.prop_compound.specs.declared.definition.NumberedStep.{NumberedStep}
 use Rattle.prop_compound.specs.declared.definition.NumberedStep.TheVariants as numbered
 use Rattle.prop_compound.specs.Definitions.{Definition, Definitions, used_named, cells_wanted, is_passing_on}
 use Rattle.prop_compound.specs.Defining.{scope_of, definition_of, with_definition, locals_of, cells_in, step_numbered, passing_named, is_cell_missing, is_unknown, is_count_wrong}
-use Rattle.prop_compound.specs.Expansion.{steps_expanded}
-use Rattle.prop_compound.specs.Shortcuts.{definition_made, spare_of, is_spare, shortened}
+use Rattle.prop_compound.specs.Expansion.{steps_expanded, definition_expanded, spare_of, is_spare}
+use Rattle.prop_compound.specs.Shortcuts.{shortened}
 use Rattle.prop_compound.specs.Kept.{bare, all_bare, fresh_of, instances_of, total_in, total_of, places_made, IsInScope, AreInScope, IsUseBelow, IsUseOver, IsThere, IsKept, AreKept, IsCounted, IsDefinedOver}
 use Rattle.prop_compound.proofs.Scoping.{late_at, late_is, taken_on, dropped_on, within_on}
 use Rattle.prop_compound.proofs.Judging.{IsRightly}
@@ -98,6 +97,17 @@ used_there library definitions name used same e = by (procedure_number library n
     by None None f g h =
         let is : None ≡ Some used = sym (λ i. option_or (option_map uses.Procedure (f i)) (option_map uses.Definition (g i))) ∙ h in absurd (cc)
 
+-- a procedure wants one cell at least
+pub wants_some : (library : List Stored) (definitions : Definitions) (n : ℕ) → n < length library → 0 < cells_wanted library definitions (uses.Procedure n)
+wants_some library definitions n there =
+    elim (slice_get_cases library n).1 as (λ _. 0 < cells_wanted library definitions (uses.Procedure n)) [
+      | inl found ↦
+          (let s = found.0 in
+          let wants : cells_wanted library definitions (uses.Procedure n) ≡ length s.ins + 1 = ap (λ o. option_map_or (λ (p : Stored). length p.ins + 1) o 0) found.2 in
+          omega (arith, wants))
+      | inr past ↦ absurd (omega (arith, past.0, there))
+    ]
+
 some_used : (o : Option Used) → is_none o ≡ false → (used : Used) × (o ≡ Some used)
 some_used None e = cc
 some_used (Some used) e = (used, refl)
@@ -107,7 +117,10 @@ module _ (library : List Stored) (words : Vocabulary) (definitions : Definitions
   IsGood step = IsUseBelow definitions.definitions (length definitions.definitions) step × IsUseOver library step
 
   good_use : (used : Used) (cells : List (List ℕ)) (passed : Passed) → IsThere (length library) (length definitions.definitions) used → length cells ≡ cells_wanted library definitions used → IsGood (numbered.Use used (numbers_in scope cells) (passing_named words passed))
-  good_use (uses.Procedure n) cells passed there count = (tt, (there, sym count ∙ sym (length-map cells _)))
+  good_use (uses.Procedure n) cells passed there count =
+      let mapped = length-map cells (λ name. unwrap_or (number_in scope name) 0) in
+      let some = wants_some library definitions n there in
+      (omega (arith, some, count, mapped), (there, sym count ∙ sym mapped))
   good_use (uses.Definition m) cells passed there count = ((there, sym count ∙ sym (length-map cells _)), tt)
 
   good_step : (step : Step) → is_unknown library definitions step ≡ false → is_count_wrong library definitions step ≡ false → IsGood (step_numbered library words definitions scope step)
@@ -154,7 +167,7 @@ get_before (x ∷ xs) ys (suc n) l = get_before xs ys n (omega (arith, l))
 below_still : (ds more : List Definition) (n : ℕ) → n ≤ length ds → (step : NumberedStep) → IsUseBelow ds n step → IsUseBelow (ds ++ more) n step
 below_still ds more n l (numbered.Local kind) h = tt
 below_still ds more n l (numbered.Like place) h = tt
-below_still ds more n l (numbered.Use (uses.Procedure k) cells passing) h = tt
+below_still ds more n l (numbered.Use (uses.Procedure k) cells passing) h = h
 below_still ds more n l (numbered.Use (uses.Definition m) cells passing) h =
     (h.0, ap (λ o. option_map_or (λ (d : Definition). d.params) o 0) (get_before ds more m (let b = h.0 in omega (arith, b, l))) ∙ h.1)
 
@@ -165,9 +178,9 @@ kept_still ds d n k l h = record {
   plan_in_scope = h.plan_in_scope;
   plan_uses = All-weaker (IsUseBelow ds n) (IsUseBelow (ds ++ d ∷ []) n) (below_still ds (d ∷ []) n (omega (arith, l))) k.plan.items h.plan_uses;
   same =
-      λ cells given e count. same_later ds d n (omega (arith, l)) k.plan.items k.steps.items h.plan_uses h.uses given cells e (h.same cells given e count);
-  spare_given = h.spare_given ∙ sym (spare_same ds d passings.Own n l);
-  spare_bare = h.spare_bare ∙ sym (spare_same ds d passings.Nothing n l);
+      λ words cells given e count. same_later ds d words n (omega (arith, l)) k.plan.items k.steps.items h.plan_uses h.uses given cells e (h.same words cells given e count);
+  spare_given = h.spare_given ∙ sym (spare_same ds d true n l);
+  spare_bare = h.spare_bare ∙ sym (spare_same ds d false n l);
   fresh = h.fresh ∙ ap (λ m. min (most Cells + 1) m) (sym (total_same fresh_of ds d n l));
   instances = h.instances ∙ ap (λ m. min (most Instances + 1) m) (sym (total_same instances_of ds d n l));
 }
@@ -209,7 +222,7 @@ kept_last ks count items k kept scope below h =
     let counted : length ds ≡ n = length-map ks bare in
     let here : n ≤ length ds = omega (arith, counted) in
     let short_below = all_below ks kept items below in
-    let spare = λ (given : Passing). spare_last ds d given in
+    let spare = λ (given : Bool). spare_last ds d given in
     let still = λ (steps : List NumberedStep) (b : All (IsUseBelow ds n) steps). subst (λ m. All (IsUseBelow (ds ++ d ∷ []) m) steps) (sym counted) (All-weaker (IsUseBelow ds n) (IsUseBelow (ds ++ d ∷ []) n) (below_still ds (d ∷ []) n here) steps b) in
     let steps = h.steps in
     let plan = h.plan in
@@ -220,13 +233,13 @@ kept_last ks count items k kept scope below h =
       plan_in_scope = rw (params, plan) (all_scope ks kept items below count scope);
       plan_uses = subst (All (IsUseBelow (ds ++ d ∷ []) (length ds))) (sym plan) (still (flat_map (shortened ks) items) short_below);
       same =
-          λ cells given e l. (
-          ap (λ it. steps_expanded (definition_made (reverse (ds ++ d ∷ []))) given cells it e) plan ∙
-          same_later ds d n here (flat_map (shortened ks) items) items short_below below given cells e (all_make ks kept items below given cells e) ∙
-          ap (λ it. steps_expanded (definition_made (reverse (ds ++ d ∷ []))) given cells it e) (sym steps)
+          λ words cells given e l. (
+          ap (λ it. steps_expanded words (definition_expanded words (reverse (ds ++ d ∷ []))) given cells it e) plan ∙
+          same_later ds d words n here (flat_map (shortened ks) items) items short_below below given cells e (all_make ks kept words items below given cells e) ∙
+          ap (λ it. steps_expanded words (definition_expanded words (reverse (ds ++ d ∷ []))) given cells it e) (sym steps)
           );
-      spare_given = h.spare_given ∙ (λ i. not (list_any is_passing_on (sym steps i)) || list_any (spare_of (is_spare ds) passings.Own) (sym steps i)) ∙ sym (spare passings.Own);
-      spare_bare = h.spare_bare ∙ ap (list_any (spare_of (is_spare ds) passings.Nothing)) (sym steps) ∙ sym (spare passings.Nothing);
+      spare_given = h.spare_given ∙ (λ i. not (list_any is_passing_on (sym steps i)) || list_any (spare_of (is_spare ds) true) (sym steps i)) ∙ sym (spare true);
+      spare_bare = h.spare_bare ∙ ap (list_any (spare_of (is_spare ds) false)) (sym steps) ∙ sym (spare false);
       fresh = h.fresh ∙ (λ i. min (most Cells + 1) (sum_by (fresh_of (total_of fresh_of ds)) (sym steps i))) ∙ ap (λ m. min (most Cells + 1) m) (sym (total_last fresh_of ds d));
       instances = h.instances ∙ (λ i. min (most Instances + 1) (sum_by (instances_of (total_of instances_of ds)) (sym steps i))) ∙ ap (λ m. min (most Instances + 1) m) (sym (total_last instances_of ds d));
     }

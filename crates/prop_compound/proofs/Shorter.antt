@@ -1,5 +1,5 @@
 -- What is short for steps makes what they make.
-use Rattle.std.proofs.Common.{◌≡◌, ◌∙◌, ℕ, ◌+◌, ◌<◌, ◌≤◌, List, [], ◌∷◌, ◌++◌, All, length, get_or, refl, sym, ap, subst, arith, add-zero}
+use Rattle.std.proofs.Common.{◌≡◌, ◌∙◌, ℕ, ◌+◌, ◌<◌, ◌≤◌, List, [], ◌∷◌, ◌++◌, All, Option, length, get_or, refl, sym, ap, subst, arith, add-zero}
 use Rattle.std.specs.Prelude.{reverse}
 use Rattle.std.specs.List.{flat_map}
 use Rattle.std.specs.Option.{option_map_or}
@@ -9,6 +9,8 @@ use Rattle.std.proofs.lemmas.List.Elements.{All-cons, All-head, All-tail, All-ni
 use Rattle.std.proofs.lemmas.Option.{slice_get_read}
 use Rattle.prop_compound.specs.declared.definition.Passing.{Passing}
 use Rattle.prop_compound.specs.declared.definition.Passing.TheVariants as passings
+use Rattle.prop_procedures.specs.declared.shape.Param.{Param}
+use Rattle.prop_vocabulary.specs.Vocabulary.{Vocabulary}
 use Rattle.prop_compound.specs.declared.definition.Used.{Used}
 use Rattle.prop_compound.specs.declared.definition.Used.TheVariants as uses
 use Rattle.prop_compound.specs.declared.definition.KeptDefinition.{KeptDefinition}
@@ -16,8 +18,8 @@ use Rattle.prop_compound.specs.declared.definition.NumberedStep.{NumberedStep}
 use Rattle.prop_compound.specs.declared.definition.NumberedStep.TheVariants.{Local, Like, Use}
 use Rattle.prop_compound.specs.Definitions.{Definition}
 use Rattle.prop_procedures.specs.Fitting.{kind_at}
-use Rattle.prop_compound.specs.Expansion.{Walk, cell_at, cells_at, with_fresh, passed, use_expanded, steps_expanded}
-use Rattle.prop_compound.specs.Shortcuts.{definition_made, through, plan_of, shortened}
+use Rattle.prop_compound.specs.Expansion.{Walk, cell_at, cells_at, with_fresh, param_passed, use_expanded, steps_expanded, definition_expanded}
+use Rattle.prop_compound.specs.Shortcuts.{passed, through, plan_of, shortened}
 use Rattle.prop_compound.specs.Kept.{all_bare, places_made, AreInScope, IsUseBelow, AreKept}
 use Rattle.prop_compound.proofs.Ranges.{chosen_within}
 use Rattle.prop_compound.proofs.Unrolling.{Adds, same_steps, one_later}
@@ -31,20 +33,20 @@ chosen_twice cells places [] h = refl
 chosen_twice cells places (c ∷ chosen) h =
     λ i. sym (get_or-map (cell_at cells) places c 0 0 (All-head (λ place. place < length places) c chosen h)) i ∷ chosen_twice cells places chosen (All-tail (λ place. place < length places) c chosen h) i
 
-passed_twice : (given passing own : Passing) → passed given (passed passing own) ≡ passed (passed given passing) own
-passed_twice given passing passings.Nothing = refl
-passed_twice given passing (passings.Scale k) = refl
-passed_twice given passing (passings.Relation n) = refl
-passed_twice given passing passings.Own = refl
+passed_twice : (words : Vocabulary) (given : Option Param) (passing own : Passing) → param_passed words given (passed passing own) ≡ param_passed words (param_passed words given passing) own
+passed_twice words given passing passings.Nothing = refl
+passed_twice words given passing (passings.Scale k) = refl
+passed_twice words given passing (passings.Relation n) = refl
+passed_twice words given passing passings.Own = refl
 
 module _ (used : Used) (places : List ℕ) (passing : Passing) (n : ℕ) (count : n ≡ length places) where
-  module _ (f : Adds) (given : Passing) (cells : List ℕ) (rest : List NumberedStep) (e : Walk) where
-    through_makes : (plan : List NumberedStep) → AreInScope n plan → steps_expanded f (passed given passing) (cells_at cells places) plan e ≡ use_expanded f used (cells_at cells places) (passed given passing) e →
-        steps_expanded f given cells (through plan used places passing ++ rest) e ≡ steps_expanded f given cells rest (use_expanded f used (cells_at cells places) (passed given passing) e)
-    through_makes [] scope makes = ap (steps_expanded f given cells rest) makes
+  module _ (words : Vocabulary) (f : Adds) (given : Option Param) (cells : List ℕ) (rest : List NumberedStep) (e : Walk) where
+    through_makes : (plan : List NumberedStep) → AreInScope n plan → steps_expanded words f (param_passed words given passing) (cells_at cells places) plan e ≡ use_expanded f used (cells_at cells places) (param_passed words given passing) e →
+        steps_expanded words f given cells (through plan used places passing ++ rest) e ≡ steps_expanded words f given cells rest (use_expanded f used (cells_at cells places) (param_passed words given passing) e)
+    through_makes [] scope makes = ap (steps_expanded words f given cells rest) makes
     through_makes (Use inner chosen own ∷ []) scope makes =
         let within : All (λ place. place < length places) chosen = subst (λ m. All (λ place. place < m) chosen) count scope.0 in
-        ap (steps_expanded f given cells rest) ((λ i. use_expanded f inner (chosen_twice cells places chosen within i) (passed_twice given passing own i) e) ∙ makes)
+        ap (steps_expanded words f given cells rest) ((λ i. use_expanded f inner (chosen_twice cells places chosen within i) (passed_twice words given passing own i) e) ∙ makes)
     through_makes (Use inner chosen own ∷ (step ∷ steps)) scope makes = refl
     through_makes (Local kind ∷ steps) scope makes = refl
     through_makes (Like place ∷ steps) scope makes = refl
@@ -67,7 +69,7 @@ module _ (used : Used) (places : List ℕ) (passing : Passing) (n : ℕ) (count 
     below_as_it_is = All-cons (IsUseBelow ds m) (Use used places passing) rest here behind
 
     one_below : (inner : Used) (chosen : List ℕ) (own : Passing) → IsUseBelow ds j (Use inner chosen own) → IsUseBelow ds m (Use inner (cells_at places chosen) (passed passing own))
-    one_below (uses.Procedure k) chosen own h = tt
+    one_below (uses.Procedure k) chosen own h = omega (arith, h, length-map chosen (cell_at places))
     one_below (uses.Definition k) chosen own h =
         (let b = h.0 in omega (arith, b, l), h.1 ∙ sym (length-map chosen (cell_at places)))
 
@@ -82,8 +84,8 @@ module _ (used : Used) (places : List ℕ) (passing : Passing) (n : ℕ) (count 
 -- ---- all steps
 
 module _ (ks : List KeptDefinition) (kept : AreKept ks) where
-  abbrev M : Adds
-  M = definition_made (reverse (all_bare ks))
+  abbrev M : Vocabulary → Adds
+  M words = definition_expanded words (reverse (all_bare ks))
 
   abbrev IsBelow : NumberedStep → Type 0
   IsBelow = IsUseBelow (all_bare ks) (length ks)
@@ -91,20 +93,20 @@ module _ (ks : List KeptDefinition) (kept : AreKept ks) where
   plan_is : (n : ℕ) (k : KeptDefinition) → n < length ks → k ≡ get_or ks n k → plan_of ks n ≡ k.plan.items
   plan_is n k l at = ap (λ o. option_map_or (λ (k : KeptDefinition). k.plan.items) o []) (slice_get_read ks (length ks) n k refl l at)
 
-  short_makes : (step : NumberedStep) → IsUseBelow (all_bare ks) (length ks) step → (given : Passing) (cells : List ℕ) (rest : List NumberedStep) (e : Walk) →
-      steps_expanded (definition_made (reverse (all_bare ks))) given cells (shortened ks step ++ rest) e ≡ steps_expanded (definition_made (reverse (all_bare ks))) given cells (step ∷ rest) e
-  short_makes (Local kind) below given cells rest e = refl
-  short_makes (Like place) below given cells rest e = refl
-  short_makes (Use (uses.Procedure n) places passing) below given cells rest e = refl
-  short_makes (Use (uses.Definition n) places passing) below given cells rest e =
+  short_makes : (words : Vocabulary) → (step : NumberedStep) → IsUseBelow (all_bare ks) (length ks) step → (given : Option Param) (cells : List ℕ) (rest : List NumberedStep) (e : Walk) →
+      steps_expanded words (definition_expanded words (reverse (all_bare ks))) given cells (shortened ks step ++ rest) e ≡ steps_expanded words (definition_expanded words (reverse (all_bare ks))) given cells (step ∷ rest) e
+  short_makes words (Local kind) below given cells rest e = refl
+  short_makes words (Like place) below given cells rest e = refl
+  short_makes words (Use (uses.Procedure n) places passing) below given cells rest e = refl
+  short_makes words (Use (uses.Definition n) places passing) below given cells rest e =
       let found = kept_at ks n below.0 in
       let k = found.0 in
       let at : k ≡ get_or ks n k = sym found.1 in
       let here = kept_here ks n k kept below.0 at in
       let count = params_at ks n k (length places) below.0 at below.1 in
-      let makes = begins ks n k (cells_at cells places) (passed given passing) e kept below.0 at (length-map places (cell_at cells) ∙ sym count) in
-      ap (λ plan. steps_expanded M given cells (through plan (uses.Definition n) places passing ++ rest) e) (plan_is n k below.0 at) ∙
-      through_makes (uses.Definition n) places passing k.params count M given cells rest e k.plan.items here.plan_in_scope makes
+      let makes = begins words ks n k (cells_at cells places) (param_passed words given passing) e kept below.0 at (length-map places (cell_at cells) ∙ sym count) in
+      ap (λ plan. steps_expanded words (M words) given cells (through plan (uses.Definition n) places passing ++ rest) e) (plan_is n k below.0 at) ∙
+      through_makes (uses.Definition n) places passing k.params count words (M words) given cells rest e k.plan.items here.plan_in_scope makes
 
   short_scope : (step : NumberedStep) → IsUseBelow (all_bare ks) (length ks) step → (m : ℕ) (rest : List NumberedStep) → AreInScope m (step ∷ []) → AreInScope (m + places_made step) rest → AreInScope m (shortened ks step ++ rest)
   short_scope (Local kind) below m rest scope behind = (scope.0, behind)
@@ -135,21 +137,21 @@ module _ (ks : List KeptDefinition) (kept : AreKept ks) where
       (through_below (uses.Definition n) places passing k.params count (all_bare ks) n (length ks) (omega (arith, early)) below rest behind k.plan.items here.plan_uses)
 
   -- a step more before steps that make the same
-  behind_same : (step : NumberedStep) (a b : List NumberedStep) → ((given : Passing) (cells : List ℕ) (e : Walk) → steps_expanded M given cells a e ≡ steps_expanded M given cells b e) →
-      (given : Passing) (cells : List ℕ) (e : Walk) → steps_expanded M given cells (step ∷ a) e ≡ steps_expanded M given cells (step ∷ b) e
-  behind_same (Local kind) a b h given cells e = h given (cells ++ length e.kinds ∷ []) (with_fresh e kind)
-  behind_same (Like place) a b h given cells e =
+  behind_same : (words : Vocabulary) → (step : NumberedStep) (a b : List NumberedStep) → ((given : Option Param) (cells : List ℕ) (e : Walk) → steps_expanded words (M words) given cells a e ≡ steps_expanded words (M words) given cells b e) →
+      (given : Option Param) (cells : List ℕ) (e : Walk) → steps_expanded words (M words) given cells (step ∷ a) e ≡ steps_expanded words (M words) given cells (step ∷ b) e
+  behind_same words (Local kind) a b h given cells e = h given (cells ++ length e.kinds ∷ []) (with_fresh e kind)
+  behind_same words (Like place) a b h given cells e =
       h given (cells ++ length e.kinds ∷ []) (with_fresh e (kind_at e.kinds (cell_at cells place)))
-  behind_same (Use used places passing) a b h given cells e =
-      h given cells (use_expanded M used (cells_at cells places) (passed given passing) e)
+  behind_same words (Use used places passing) a b h given cells e =
+      h given cells (use_expanded (M words) used (cells_at cells places) (param_passed words given passing) e)
 
-  pub all_make : (steps : List NumberedStep) → All (IsUseBelow (all_bare ks) (length ks)) steps → (given : Passing) (cells : List ℕ) (e : Walk) →
-      steps_expanded (definition_made (reverse (all_bare ks))) given cells (flat_map (shortened ks) steps) e ≡ steps_expanded (definition_made (reverse (all_bare ks))) given cells steps e
-  all_make [] below given cells e = refl
-  all_make (step ∷ steps) below given cells e =
+  pub all_make : (words : Vocabulary) → (steps : List NumberedStep) → All (IsUseBelow (all_bare ks) (length ks)) steps → (given : Option Param) (cells : List ℕ) (e : Walk) →
+      steps_expanded words (definition_expanded words (reverse (all_bare ks))) given cells (flat_map (shortened ks) steps) e ≡ steps_expanded words (definition_expanded words (reverse (all_bare ks))) given cells steps e
+  all_make words [] below given cells e = refl
+  all_make words (step ∷ steps) below given cells e =
       let rest = flat_map (shortened ks) steps in
-      ap (λ all. steps_expanded M given cells all e) (flat_map-cons (shortened ks) step steps) ∙ short_makes step (All-head IsBelow step steps below) given cells rest e ∙
-      behind_same step rest steps (all_make steps (All-tail IsBelow step steps below)) given cells e
+      ap (λ all. steps_expanded words (M words) given cells all e) (flat_map-cons (shortened ks) step steps) ∙ short_makes words step (All-head IsBelow step steps below) given cells rest e ∙
+      behind_same words step rest steps (all_make words steps (All-tail IsBelow step steps below)) given cells e
 
   pub all_scope : (steps : List NumberedStep) → All (IsUseBelow (all_bare ks) (length ks)) steps → (m : ℕ) → AreInScope m steps → AreInScope m (flat_map (shortened ks) steps)
   all_scope [] below m scope = tt
@@ -166,19 +168,19 @@ module _ (ks : List KeptDefinition) (kept : AreKept ks) where
 -- ---- one definition more
 
 module _ (ds : List Definition) (d : Definition) where
-  made_later : (m : ℕ) → m < length ds → definition_made (reverse (ds ++ d ∷ [])) m ≡ definition_made (reverse ds) m
-  made_later m l =
-      ap (λ latest. definition_made latest m) (reverse-append ds (d ∷ [])) ∙ one_later d (reverse ds) m (omega (arith, l, length-reverse ds))
+  made_later : (words : Vocabulary) → (m : ℕ) → m < length ds → definition_expanded words (reverse (ds ++ d ∷ [])) m ≡ definition_expanded words (reverse ds) m
+  made_later words m l =
+      ap (λ latest. definition_expanded words latest m) (reverse-append ds (d ∷ [])) ∙ one_later words d (reverse ds) m (omega (arith, l, length-reverse ds))
 
   -- steps that use definitions below n make the same
-  steps_later : (n : ℕ) → n ≤ length ds → (steps : List NumberedStep) → All (IsUseBelow ds n) steps → (given : Passing) (cells : List ℕ) (e : Walk) →
-      steps_expanded (definition_made (reverse (ds ++ d ∷ []))) given cells steps e ≡ steps_expanded (definition_made (reverse ds)) given cells steps e
-  steps_later n l steps below given cells e =
-      same_steps (definition_made (reverse (ds ++ d ∷ []))) (definition_made (reverse ds)) n (λ m b. made_later m (omega (arith, b, l))) steps
+  steps_later : (words : Vocabulary) → (n : ℕ) → n ≤ length ds → (steps : List NumberedStep) → All (IsUseBelow ds n) steps → (given : Option Param) (cells : List ℕ) (e : Walk) →
+      steps_expanded words (definition_expanded words (reverse (ds ++ d ∷ []))) given cells steps e ≡ steps_expanded words (definition_expanded words (reverse ds)) given cells steps e
+  steps_later words n l steps below given cells e =
+      same_steps words (definition_expanded words (reverse (ds ++ d ∷ []))) (definition_expanded words (reverse ds)) n (λ m b. made_later words m (omega (arith, b, l))) steps
       (All-weaker (IsUseBelow ds n) _ (earlier_of ds n) steps below) given cells e
 
-  pub same_later : (n : ℕ) → n ≤ length ds → (a b : List NumberedStep) → All (IsUseBelow ds n) a → All (IsUseBelow ds n) b → (given : Passing) (cells : List ℕ) (e : Walk) →
-      steps_expanded (definition_made (reverse ds)) given cells a e ≡ steps_expanded (definition_made (reverse ds)) given cells b e →
-      steps_expanded (definition_made (reverse (ds ++ d ∷ []))) given cells a e ≡ steps_expanded (definition_made (reverse (ds ++ d ∷ []))) given cells b e
-  same_later n l a b below_a below_b given cells e h =
-      steps_later n l a below_a given cells e ∙ h ∙ sym (steps_later n l b below_b given cells e)
+  pub same_later : (words : Vocabulary) → (n : ℕ) → n ≤ length ds → (a b : List NumberedStep) → All (IsUseBelow ds n) a → All (IsUseBelow ds n) b → (given : Option Param) (cells : List ℕ) (e : Walk) →
+      steps_expanded words (definition_expanded words (reverse ds)) given cells a e ≡ steps_expanded words (definition_expanded words (reverse ds)) given cells b e →
+      steps_expanded words (definition_expanded words (reverse (ds ++ d ∷ []))) given cells a e ≡ steps_expanded words (definition_expanded words (reverse (ds ++ d ∷ []))) given cells b e
+  same_later words n l a b below_a below_b given cells e h =
+      steps_later words n l a below_a given cells e ∙ h ∙ sym (steps_later words n l b below_b given cells e)

@@ -1,16 +1,16 @@
 -- A use of a definition makes what its steps make, among all the definitions as among the earlier ones.
-use Rattle.std.proofs.Common.{◌≡◌, ◌∙◌, ℕ, ◌<◌, List, [], ◌∷◌, ◌++◌, All, Bool, cond, length, refl, sym, ap, arith, inl, inr}
+use Rattle.std.proofs.Common.{◌≡◌, ◌∙◌, ℕ, ◌<◌, List, [], ◌∷◌, ◌++◌, All, Bool, Option, cond, length, refl, sym, ap, arith, inl, inr}
 use Rattle.std.specs.Prelude.{⊤}
 use Rattle.std.proofs.lemmas.Bool.{cases_eq, eq-eqb, ne_eqb}
 use Rattle.std.proofs.lemmas.List.Elements.{All-head, All-tail}
-use Rattle.prop_compound.specs.declared.definition.Passing.{Passing}
+use Rattle.prop_procedures.specs.declared.shape.Param.{Param}
+use Rattle.prop_vocabulary.specs.Vocabulary.{Vocabulary}
 use Rattle.prop_compound.specs.declared.definition.Used.TheVariants as uses
 use Rattle.prop_compound.specs.declared.definition.NumberedStep.{NumberedStep}
 use Rattle.prop_compound.specs.declared.definition.NumberedStep.TheVariants.{Local, Like, Use}
 use Rattle.prop_compound.specs.Definitions.{Definition}
 use Rattle.prop_procedures.specs.Fitting.{kind_at}
-use Rattle.prop_compound.specs.Expansion.{Walk, cell_at, cells_at, with_fresh, passed, use_expanded, steps_expanded}
-use Rattle.prop_compound.specs.Shortcuts.{definition_made}
+use Rattle.prop_compound.specs.Expansion.{Walk, cell_at, cells_at, with_fresh, param_passed, use_expanded, steps_expanded, definition_expanded}
 use Rattle.prop_compound.proofs.Latest.{latest_at}
 
 -- the step uses no definition, or one with a number below n
@@ -32,45 +32,45 @@ ordered_tail d earlier h n x l = rw (ne_eqb n (length earlier) (λ e. omega (ari
 -- ---- what steps add
 
 abbrev pub Adds : Type 0
-Adds = ℕ → List ℕ → Passing → Walk → Walk
+Adds = ℕ → List ℕ → Option Param → Walk → Walk
 
-module _ (f g : Adds) (n : ℕ) (agree : (m : ℕ) → m < n → f m ≡ g m) where
-  same_use : (used : _) (cells : List ℕ) (passing : Passing) (places : List ℕ) (given : Passing) (e : Walk) → IsEarlier n (Use used cells passing) → use_expanded f used places given e ≡ use_expanded g used places given e
+module _ (words : Vocabulary) (f g : Adds) (n : ℕ) (agree : (m : ℕ) → m < n → f m ≡ g m) where
+  same_use : (used : _) (cells : List ℕ) (passing : _) (places : List ℕ) (given : Option Param) (e : Walk) → IsEarlier n (Use used cells passing) → use_expanded f used places given e ≡ use_expanded g used places given e
   same_use (uses.Procedure k) cells passing places given e h = refl
   same_use (uses.Definition m) cells passing places given e h = λ i. agree m h i places given e
 
-  pub same_steps : (steps : List NumberedStep) → All (IsEarlier n) steps → (given : Passing) (cells : List ℕ) (e : Walk) → steps_expanded f given cells steps e ≡ steps_expanded g given cells steps e
+  pub same_steps : (steps : List NumberedStep) → All (IsEarlier n) steps → (given : Option Param) (cells : List ℕ) (e : Walk) → steps_expanded words f given cells steps e ≡ steps_expanded words g given cells steps e
   same_steps [] h given cells e = refl
   same_steps (Local kind ∷ steps) h given cells e =
       same_steps steps (All-tail (IsEarlier n) (Local kind) steps h) given (cells ++ length e.kinds ∷ []) (with_fresh e kind)
   same_steps (Like place ∷ steps) h given cells e =
       same_steps steps (All-tail (IsEarlier n) (Like place) steps h) given (cells ++ length e.kinds ∷ []) (with_fresh e (kind_at e.kinds (cell_at cells place)))
   same_steps (Use used places passing ∷ steps) h given cells e =
-      ap (steps_expanded f given cells steps) (same_use used places passing (cells_at cells places) (passed given passing) e (All-head (IsEarlier n) (Use used places passing) steps h)) ∙
-      same_steps steps (All-tail (IsEarlier n) (Use used places passing) steps h) given cells (use_expanded g used (cells_at cells places) (passed given passing) e)
+      ap (steps_expanded words f given cells steps) (same_use used places passing (cells_at cells places) (param_passed words given passing) e (All-head (IsEarlier n) (Use used places passing) steps h)) ∙
+      same_steps steps (All-tail (IsEarlier n) (Use used places passing) steps h) given cells (use_expanded g used (cells_at cells places) (param_passed words given passing) e)
 
 -- a later definition more
-pub one_later : (d : Definition) (earlier : List Definition) (m : ℕ) → m < length earlier → definition_made (d ∷ earlier) m ≡ definition_made earlier m
-one_later d earlier m l i cells given e =
-    cond (ne_eqb m (length earlier) (λ same. omega (arith, same, l)) i) (steps_expanded (definition_made earlier) given cells d.steps e) (definition_made earlier m cells given e)
+pub one_later : (words : Vocabulary) (d : Definition) (earlier : List Definition) (m : ℕ) → m < length earlier → definition_expanded words (d ∷ earlier) m ≡ definition_expanded words earlier m
+one_later words d earlier m l i cells given e =
+    cond (ne_eqb m (length earlier) (λ same. omega (arith, same, l)) i) (steps_expanded words (definition_expanded words earlier) given cells d.steps e) (definition_expanded words earlier m cells given e)
 
-pub unrolled : (latest : List Definition) → AreOrdered latest → (n : ℕ) (x : Definition) → n < length latest → (cells : List ℕ) (given : Passing) (e : Walk) →
-    definition_made latest n cells given e ≡ steps_expanded (definition_made latest) given cells (latest_at latest n x).steps e
-unrolled [] h n x l cells given e = absurd (omega (arith, l))
-unrolled (d ∷ earlier) h n x l cells given e =
-    let later = one_later d earlier in
+pub unrolled : (words : Vocabulary) (latest : List Definition) → AreOrdered latest → (n : ℕ) (x : Definition) → n < length latest → (cells : List ℕ) (given : Option Param) (e : Walk) →
+    definition_expanded words latest n cells given e ≡ steps_expanded words (definition_expanded words latest) given cells (latest_at latest n x).steps e
+unrolled words [] h n x l cells given e = absurd (omega (arith, l))
+unrolled words (d ∷ earlier) h n x l cells given e =
+    let later = one_later words d earlier in
     elim (cases_eq n (length earlier)) [
       | inl same ↦
           (let is_it = eq-eqb n (length earlier) same in
-          (λ i. cond (is_it i) (steps_expanded (definition_made earlier) given cells d.steps e) (definition_made earlier n cells given e)) ∙
-          sym (same_steps (definition_made (d ∷ earlier)) (definition_made earlier) (length earlier) later d.steps (ordered_head d earlier h) given cells e) ∙
-          (λ i. steps_expanded (definition_made (d ∷ earlier)) given cells (cond (sym is_it i) d (latest_at earlier n x)).steps e))
+          (λ i. cond (is_it i) (steps_expanded words (definition_expanded words earlier) given cells d.steps e) (definition_expanded words earlier n cells given e)) ∙
+          sym (same_steps words (definition_expanded words (d ∷ earlier)) (definition_expanded words earlier) (length earlier) later d.steps (ordered_head d earlier h) given cells e) ∙
+          (λ i. steps_expanded words (definition_expanded words (d ∷ earlier)) given cells (cond (sym is_it i) d (latest_at earlier n x)).steps e))
       | inr other ↦
           (let m : n < length earlier = omega (arith, l, other) in
           let is_not = ne_eqb n (length earlier) other in
           let it = latest_at earlier n x in
-          (λ i. cond (is_not i) (steps_expanded (definition_made earlier) given cells d.steps e) (definition_made earlier n cells given e)) ∙
-          unrolled earlier (ordered_tail d earlier h) n x m cells given e ∙
-          sym (same_steps (definition_made (d ∷ earlier)) (definition_made earlier) n (λ k below. later k (omega (arith, below, m))) it.steps (ordered_tail d earlier h n x m) given cells e) ∙
-          (λ i. steps_expanded (definition_made (d ∷ earlier)) given cells (cond (sym is_not i) d it).steps e))
+          (λ i. cond (is_not i) (steps_expanded words (definition_expanded words earlier) given cells d.steps e) (definition_expanded words earlier n cells given e)) ∙
+          unrolled words earlier (ordered_tail d earlier h) n x m cells given e ∙
+          sym (same_steps words (definition_expanded words (d ∷ earlier)) (definition_expanded words earlier) n (λ k below. later k (omega (arith, below, m))) it.steps (ordered_tail d earlier h n x m) given cells e) ∙
+          (λ i. steps_expanded words (definition_expanded words (d ∷ earlier)) given cells (cond (sym is_not i) d it).steps e))
     ]

@@ -1,5 +1,5 @@
 -- What a use on cells stands for: what it is over, how much it is, and that its instances are right.
-use Rattle.std.proofs.Common.{◌≡◌, ◌∙◌, ℕ, ◌+◌, ◌-◌, ◌<◌, ◌≤◌, List, [], ◌∷◌, ◌++◌, All, length, map, get_or, take, Option, Some, refl, sym, ap, arith, zero-add}
+use Rattle.std.proofs.Common.{◌≡◌, ◌∙◌, ℕ, ◌+◌, ◌-◌, ◌<◌, ◌≤◌, List, [], ◌∷◌, ◌++◌, All, Bool, false, length, get_or, take, Option, Some, refl, sym, ap, arith, zero-add}
 use Rattle.std.specs.Prelude.{reverse, slice_get}
 use Rattle.std.specs.List.{range_with_len}
 use Rattle.std.specs.Option.{option_map_or}
@@ -10,64 +10,65 @@ use Rattle.prop_procedures.specs.declared.shape.Kinded.{Kinded}
 use Rattle.prop_procedures.specs.declared.shape.Param.{Param}
 use Rattle.prop_procedures.specs.Stored.{Stored}
 use Rattle.prop_vocabulary.specs.Vocabulary.{Vocabulary}
-use Rattle.prop_compound.specs.declared.definition.Passing.{Passing}
 use Rattle.prop_compound.specs.declared.definition.Used.{Used}
 use Rattle.prop_compound.specs.declared.definition.Used.TheVariants as uses
 use Rattle.prop_compound.specs.declared.definition.KeptDefinition.{KeptDefinition}
 use Rattle.prop_compound.specs.Definitions.{Definition, Definitions, used_named, cells_wanted}
-use Rattle.prop_compound.specs.Expansion.{Walk, start, meant, param_meant, all_meant, passing_of, definition_expanded, expanded_in, walked, expanded}
+use Rattle.prop_compound.specs.Expansion.{Walk, start, before, definition_expanded, expanded_in, expanded}
 use Rattle.prop_compound.specs.Expanding.{size_refusal}
-use Rattle.prop_compound.specs.Kept.{bare, all_bare, fresh_used, instances_used, fresh_of, instances_of, total_in, total_of, IsUseOver, IsDefinedOver, IsThere, IsUseThere, AreKept, AreRight, IsRight}
+use Rattle.prop_compound.specs.Kept.{bare, all_bare, fresh_used, instances_used, fresh_of, instances_of, total_in, total_of, IsUseOver, IsDefinedOver, IsThere, IsUseThere, AreKept}
 use Rattle.prop_compound.proofs.Walking.{kept_at, kept_here, bare_at, params_at}
 use Rattle.prop_compound.proofs.Sizes.{IsLonger, use_makes, definitions_make, use_places, definitions_place}
-use Rattle.prop_compound.proofs.Ranges.{AreSound, definitions_keep}
+use Rattle.prop_compound.proofs.Ranges.{IsRight, AreRight, AreSound, definitions_keep}
+use Rattle.prop_compound.proofs.Resolved.{wants_some}
 
 -- ---- sizes
 
--- a use on cells of these kinds adds so many kinds behind them
-pub longer : (ds : List Definition) (used : Used) (cells : List ℕ) (given : Passing) (e : Walk) → IsLonger e.kinds (expanded_in ds used cells given e).kinds (fresh_used (total_of fresh_of ds) used)
-longer ds used cells given e =
-    use_makes (definition_expanded (reverse ds)) (total_in fresh_of (reverse ds)) (definitions_make (reverse ds)) used cells given e
+-- a use adds so many kinds behind those that are there
+pub longer : (words : Vocabulary) (ds : List Definition) (used : Used) (cells : List ℕ) (given : Option Param) (e : Walk) → IsLonger e.kinds (expanded_in words ds used cells given e).kinds (fresh_used (total_of fresh_of ds) used)
+longer words ds used cells given e =
+    use_makes (definition_expanded words (reverse ds)) (total_in fresh_of (reverse ds)) (definitions_make words (reverse ds)) used cells given e
 
-pub placed_count : (ds : List Definition) (used : Used) (cells : List ℕ) (given : Passing) (e : Walk) → length (expanded_in ds used cells given e).placed ≡ length e.placed + instances_used (total_of instances_of ds) used
-placed_count ds used cells given e =
-    use_places (definition_expanded (reverse ds)) (total_in instances_of (reverse ds)) (definitions_place (reverse ds)) used cells given e
+pub placed_count : (words : Vocabulary) (ds : List Definition) (used : Used) (cells : List ℕ) (given : Option Param) (e : Walk) → length (expanded_in words ds used cells given e).placed ≡ length e.placed + instances_used (total_of instances_of ds) used
+placed_count words ds used cells given e =
+    use_places (definition_expanded words (reverse ds)) (total_in instances_of (reverse ds)) (definitions_place words (reverse ds)) used cells given e
 
--- the given cells come first
-pub first_kinds : (ds : List Definition) (used : Used) (cells : List ℕ) (given : Passing) (kinds : List Kinded) → take (length kinds) (expanded_in ds used cells given (start kinds)).kinds ≡ kinds
-first_kinds ds used cells given kinds =
-    let l = longer ds used cells given (start kinds) in
-    ap (take (length kinds)) l.is ∙ take_at kinds l.more (length kinds) refl
+module _ (library : List Stored) (words : Vocabulary) (definitions : Definitions) (name : List ℕ) (kinds : List Kinded) (given : Option Param) (used : Used) where
+  abbrev pub uses_it : Walk
+  uses_it = expanded_in words definitions.definitions used (range_with_len 0 (length kinds)) given (before definitions.definitions used kinds given)
 
-pub enough_kinds : (ds : List Definition) (used : Used) (cells : List ℕ) (given : Passing) (kinds : List Kinded) → length kinds ≤ length (expanded_in ds used cells given (start kinds)).kinds
-enough_kinds ds used cells given kinds =
-    let l = longer ds used cells given (start kinds) in
-    omega (arith, ap length l.is, length-append kinds l.more)
+  more_kinds : IsLonger kinds uses_it.kinds (fresh_used (total_of fresh_of definitions.definitions) used)
+  more_kinds = longer words definitions.definitions used (range_with_len 0 (length kinds)) given (before definitions.definitions used kinds given)
 
-module _ (library : List Stored) (words : Vocabulary) (definitions : Definitions) (name : List ℕ) (kinds : List Kinded) (given : Option Param) (used : Used) (is : used_named library definitions name ≡ Some used) where
-  abbrev uses_it : Walk
-  uses_it = expanded_in definitions.definitions used (range_with_len 0 (length kinds)) (passing_of given) (start kinds)
+  -- the given cells come first
+  pub first_kinds : take (length kinds) uses_it.kinds ≡ kinds
+  first_kinds =
+      let l = more_kinds in
+      ap (take (length kinds)) l.is ∙ take_at kinds l.more (length kinds) refl
 
-  pub walked_is : walked library definitions name kinds given ≡ expanded_in definitions.definitions used (range_with_len 0 (length kinds)) (passing_of given) (start kinds)
-  walked_is = ap (λ o. option_map_or (λ u. expanded_in definitions.definitions u (range_with_len 0 (length kinds)) (passing_of given) (start kinds)) o (start kinds)) is
+  pub enough_kinds : length kinds ≤ length uses_it.kinds
+  enough_kinds =
+      let l = more_kinds in
+      omega (arith, ap length l.is, length-append kinds l.more)
 
-  pub expanded_is : expanded library words definitions name kinds given ≡ all_meant (param_meant words given) (expanded_in definitions.definitions used (range_with_len 0 (length kinds)) (passing_of given) (start kinds))
-  expanded_is = ap (all_meant (param_meant words given)) walked_is
+  module _ (is : used_named library definitions name ≡ Some used) where
+    pub expanded_is : expanded library words definitions name kinds given ≡ uses_it
+    expanded_is = ap (λ o. option_map_or (λ u. expanded_in words definitions.definitions u (range_with_len 0 (length kinds)) given (before definitions.definitions u kinds given)) o (start kinds false)) is
 
-  pub sizes_are : size_refusal (length (expanded library words definitions name kinds given).kinds - length kinds) (length (expanded library words definitions name kinds given).placed) ≡
-      size_refusal (fresh_used (total_of fresh_of definitions.definitions) used) (instances_used (total_of instances_of definitions.definitions) used)
-  sizes_are =
-      let l = longer definitions.definitions used (range_with_len 0 (length kinds)) (passing_of given) (start kinds) in
-      let p = placed_count definitions.definitions used (range_with_len 0 (length kinds)) (passing_of given) (start kinds) in
-      let fresh : length uses_it.kinds - length kinds ≡ fresh_used (total_of fresh_of definitions.definitions) used = omega (arith, ap length l.is, length-append kinds l.more, l.count) in
-      let placed : length (map (meant (param_meant words given)) uses_it.placed) ≡ instances_used (total_of instances_of definitions.definitions) used = omega (arith, length-map uses_it.placed (meant (param_meant words given)), p) in
-      ap (λ e. size_refusal (length e.kinds - length kinds) (length e.placed)) expanded_is ∙ (λ i. size_refusal (fresh i) (placed i))
+    pub sizes_are : size_refusal (length (expanded library words definitions name kinds given).kinds - length kinds) (length (expanded library words definitions name kinds given).placed) ≡
+        size_refusal (fresh_used (total_of fresh_of definitions.definitions) used) (instances_used (total_of instances_of definitions.definitions) used)
+    sizes_are =
+        let l = more_kinds in
+        let p = placed_count words definitions.definitions used (range_with_len 0 (length kinds)) given (before definitions.definitions used kinds given) in
+        let fresh : length uses_it.kinds - length kinds ≡ fresh_used (total_of fresh_of definitions.definitions) used = omega (arith, ap length l.is, length-append kinds l.more, l.count) in
+        let placed : length uses_it.placed ≡ instances_used (total_of instances_of definitions.definitions) used = omega (arith, p) in
+        ap (λ e. size_refusal (length e.kinds - length kinds) (length e.placed)) expanded_is ∙ (λ i. size_refusal (fresh i) (placed i))
 
 -- ---- right instances
 
 -- a use of what there is, on as many cells as it wants
 pub use_there : (library : List Stored) (definitions : Definitions) (used : Used) (count : ℕ) → IsThere (length library) (length definitions.definitions) used → count ≡ cells_wanted library definitions used → IsUseThere definitions.definitions used count
-use_there library definitions (uses.Procedure n) count there wanted = tt
+use_there library definitions (uses.Procedure n) count there wanted = rw wanted (wants_some library definitions n there)
 use_there library definitions (uses.Definition n) count there wanted = (there, sym wanted)
 
 pub range_push : (n : ℕ) (old new : List ℕ) → old ≡ range_with_len 0 n → new ≡ old ++ n ∷ [] → new ≡ range_with_len 0 (n + 1)
@@ -77,8 +78,8 @@ range_push n old new e f =
 pub range_within : (n : ℕ) → All (λ cell. cell < n) (range_with_len 0 n)
 range_within n k d l = let m : k < n = omega (arith, l, length-range_with_len 0 n) in omega (arith, get_or-range_with_len 0 n k d m, m)
 
-sound_of : (library : List Stored) (ks : List KeptDefinition) → AreKept ks → All (λ (d : Definition). All (IsUseOver library) d.steps) (all_bare ks) → AreSound library (all_bare ks) (reverse (all_bare ks))
-sound_of library ks kept over n d l =
+sound_of : (library : List Stored) (words : Vocabulary) (ks : List KeptDefinition) → AreKept ks → All (λ (d : Definition). All (IsUseOver library) d.steps) (all_bare ks) → AreSound library words (all_bare ks) (reverse (all_bare ks))
+sound_of library words ks kept over n d l =
     let m : n < length ks = omega (arith, l, length-reverse (all_bare ks), length-map ks bare) in
     let found = kept_at ks n m in
     let k = found.0 in
@@ -94,23 +95,17 @@ sound_of library ks kept over n d l =
       over = rw it over_here;
     }
 
-pub uses_right : (library : List Stored) (ks : List KeptDefinition) (definitions : Definitions) (used : Used) (kinds : List Kinded) (given : Passing) → AreKept ks → definitions.definitions ≡ all_bare ks → IsDefinedOver library definitions →
-    IsThere (length library) (length definitions.definitions) used → length kinds ≡ cells_wanted library definitions used → AreRight library (expanded_in definitions.definitions used (range_with_len 0 (length kinds)) given (start kinds))
-uses_right library ks definitions (uses.Procedure n) kinds given kept same over there count =
+pub uses_right : (library : List Stored) (words : Vocabulary) (ks : List KeptDefinition) (definitions : Definitions) (used : Used) (kinds : List Kinded) (given : Option Param) (spare : Bool) → AreKept ks → definitions.definitions ≡ all_bare ks → IsDefinedOver library definitions →
+    IsThere (length library) (length definitions.definitions) used → length kinds ≡ cells_wanted library definitions used → AreRight library (expanded_in words definitions.definitions used (range_with_len 0 (length kinds)) given (start kinds spare))
+uses_right library words ks definitions (uses.Procedure n) kinds given spare kept same over there count =
     λ k d l. one k d l
   where
     one : All (IsRight library (length kinds)) (record { procedure = n; given = given; cells = range_with_len 0 (length kinds) } ∷ [])
     one = All-cons (IsRight library (length kinds)) (record { procedure = n; given = given; cells = range_with_len 0 (length kinds) }) [] (record { procedure = there; count = sym count ∙ sym (length-range_with_len 0 (length kinds)); cells = range_within (length kinds) }) (All-nil (IsRight library (length kinds)))
-uses_right library ks definitions (uses.Definition n) kinds given kept same over there count =
+uses_right library words ks definitions (uses.Definition n) kinds given spare kept same over there count =
     let ds = all_bare ks in
     let cells = range_with_len 0 (length kinds) in
     let over_all : All (λ (d : Definition). All (IsUseOver library) d.steps) ds = rw same at (over.uses) in
     let below : n < length (reverse ds) = omega (arith, there, ap length same, length-reverse ds) in
     let wanted : option_map_or (λ (d : Definition). d.params) (slice_get ds n) 0 ≡ length cells = ap (λ l. option_map_or (λ (d : Definition). d.params) (slice_get l n) 0) (sym same) ∙ sym count ∙ sym (length-range_with_len 0 (length kinds)) in
-    rw same (definitions_keep library ds (reverse ds) (sound_of library ks kept over_all) n below cells wanted given (start kinds) (range_within (length kinds)) (All-nil (IsRight library (length kinds))))
-
-pub walk_right : (library : List Stored) (ks : List KeptDefinition) (definitions : Definitions) (used : Used) (kinds : List Kinded) (given : Passing) (numbers : List ℕ) (e e' : Walk) → AreKept ks → definitions.definitions ≡ all_bare ks → IsDefinedOver library definitions →
-    IsThere (length library) (length definitions.definitions) used → length kinds ≡ cells_wanted library definitions used → numbers ≡ range_with_len 0 (length kinds) → e ≡ start kinds → e' ≡ expanded_in definitions.definitions used numbers given e → AreRight library e'
-walk_right library ks definitions used kinds given numbers e e' kept same over there count is_range is_start is =
-    let at_start : expanded_in definitions.definitions used numbers given e ≡ expanded_in definitions.definitions used (range_with_len 0 (length kinds)) given (start kinds) = λ i. expanded_in definitions.definitions used (is_range i) given (is_start i) in
-    rw (is, at_start) (uses_right library ks definitions used kinds given kept same over there count)
+    rw same (definitions_keep library words ds (reverse ds) (sound_of library words ks kept over_all) n below cells wanted given (start kinds spare) (range_within (length kinds)) (All-nil (IsRight library (length kinds))))

@@ -1,20 +1,20 @@
 -- What is kept beside each definition, and what is true of the definitions that are kept.
-use Rattle.std.specs.Prelude.{◌≡◌, ◌<◌, ℕ, ◌+◌, ◌==◌, min, List, [], ◌∷◌, All, cond, not, ◌||◌, length, map, reverse, slice_get, slice_index_or, sum_by, ⊤}
+use Rattle.std.specs.Prelude.{◌≡◌, ◌<◌, ℕ, ◌+◌, ◌==◌, min, List, [], ◌∷◌, All, Option, true, false, cond, not, ◌||◌, length, map, reverse, slice_get, slice_index_or, sum_by, ⊤}
 use Rattle.std.specs.List.{list_any, flat_map}
 use Rattle.std.specs.Option.{option_map_or}
 use Rattle.prop_lattice.specs.Refusals.{most}
 use Rattle.prop_lattice.specs.declared.refusal.Limit.TheVariants.{Cells, Instances}
+use Rattle.prop_procedures.specs.declared.shape.Param.{Param}
 use Rattle.prop_procedures.specs.Stored.{Stored}
+use Rattle.prop_vocabulary.specs.Vocabulary.{Vocabulary}
 use Rattle.prop_compound.specs.declared.definition.KeptDefinition.{KeptDefinition}
-use Rattle.prop_compound.specs.declared.definition.Passing.{Passing}
-use Rattle.prop_compound.specs.declared.definition.Passing.TheVariants as passings
 use Rattle.prop_compound.specs.declared.definition.Used.{Used}
 use Rattle.prop_compound.specs.declared.definition.Used.TheVariants as uses
 use Rattle.prop_compound.specs.declared.definition.NumberedStep.{NumberedStep}
 use Rattle.prop_compound.specs.declared.definition.NumberedStep.TheVariants.{Local, Like, Use}
 use Rattle.prop_compound.specs.Definitions.{Definition, Definitions, is_passing_on}
-use Rattle.prop_compound.specs.Expansion.{Walk, Placed, steps_expanded}
-use Rattle.prop_compound.specs.Shortcuts.{definition_made, spare_of, is_spare, shortened}
+use Rattle.prop_compound.specs.Expansion.{Walk, steps_expanded, definition_expanded, spare_of, is_spare}
+use Rattle.prop_compound.specs.Shortcuts.{shortened}
 
 -- the definition alone
 abbrev pub bare : KeptDefinition → Definition
@@ -74,8 +74,9 @@ AreInScope n (step ∷ steps) = IsInScope n step × AreInScope (n + places_made 
 
 -- ---- uses
 
--- the step uses no definition, or one with a number below n, on as many cells as it wants
+-- the step uses a procedure on one cell at least, or a definition with a number below n on as many cells as it wants, or nothing
 abbrev pub IsUseBelow : List Definition → ℕ → NumberedStep → Type 0
+IsUseBelow definitions n (Use (uses.Procedure m) cells passing) = 0 < length cells
 IsUseBelow definitions n (Use (uses.Definition m) cells passing) =
     (m < n) × (option_map_or (λ d. d.params) (slice_get definitions m) 0 ≡ length cells)
 IsUseBelow definitions n step = ⊤
@@ -89,10 +90,10 @@ pub record IsKept (definitions : List Definition) (n : ℕ) (k : KeptDefinition)
   pub uses : All (IsUseBelow definitions n) k.steps.items
   pub plan_in_scope : AreInScope k.params k.plan.items
   pub plan_uses : All (IsUseBelow definitions n) k.plan.items
-  pub same : (cells : List ℕ) (given : Passing) (e : Walk) → length cells ≡ k.params →
-      steps_expanded (definition_made (reverse definitions)) given cells k.plan.items e ≡ steps_expanded (definition_made (reverse definitions)) given cells k.steps.items e
-  pub spare_given : k.spare_given ≡ is_spare definitions n passings.Own
-  pub spare_bare : k.spare_bare ≡ is_spare definitions n passings.Nothing
+  pub same : (words : Vocabulary) (cells : List ℕ) (given : Option Param) (e : Walk) → length cells ≡ k.params →
+      steps_expanded words (definition_expanded words (reverse definitions)) given cells k.plan.items e ≡ steps_expanded words (definition_expanded words (reverse definitions)) given cells k.steps.items e
+  pub spare_given : k.spare_given ≡ is_spare definitions n true
+  pub spare_bare : k.spare_bare ≡ is_spare definitions n false
   pub fresh : k.fresh ≡ min (most Cells + 1) (total_of fresh_of definitions n)
   pub instances : k.instances ≡ min (most Instances + 1) (total_of instances_of definitions n)
 
@@ -105,8 +106,8 @@ pub record IsCounted (definitions : List KeptDefinition) (count : ℕ) (items : 
   pub params : k.params ≡ count
   pub steps : k.steps.items ≡ items
   pub plan : k.plan.items ≡ flat_map (shortened definitions) items
-  pub spare_given : k.spare_given ≡ (not (list_any is_passing_on items) || list_any (spare_of (is_spare (all_bare definitions)) passings.Own) items)
-  pub spare_bare : k.spare_bare ≡ list_any (spare_of (is_spare (all_bare definitions)) passings.Nothing) items
+  pub spare_given : k.spare_given ≡ (not (list_any is_passing_on items) || list_any (spare_of (is_spare (all_bare definitions)) true) items)
+  pub spare_bare : k.spare_bare ≡ list_any (spare_of (is_spare (all_bare definitions)) false) items
   pub fresh : k.fresh ≡ min (most Cells + 1) (sum_by (fresh_of (total_of fresh_of (all_bare definitions))) items)
   pub instances : k.instances ≡ min (most Instances + 1) (sum_by (instances_of (total_of instances_of (all_bare definitions))) items)
 
@@ -115,9 +116,9 @@ abbrev pub IsThere : ℕ → ℕ → Used → Type 0
 IsThere procedures definitions (uses.Procedure n) = n < procedures
 IsThere procedures definitions (uses.Definition n) = n < definitions
 
--- a use of a definition is of one that there is, on as many cells as it wants
+-- the use is of a procedure on one cell at least, or of a definition that there is on as many cells as it wants
 abbrev pub IsUseThere : List Definition → Used → ℕ → Type 0
-IsUseThere definitions (uses.Procedure n) count = ⊤
+IsUseThere definitions (uses.Procedure n) count = 0 < count
 IsUseThere definitions (uses.Definition n) count =
     (n < length definitions) × (option_map_or (λ d. d.params) (slice_get definitions n) 0 ≡ count)
 
@@ -131,13 +132,3 @@ IsUseOver library step = ⊤
 -- the definitions were made over the library: they use its procedures, each on as many cells as it wants
 pub record IsDefinedOver (library : List Stored) (definitions : Definitions) : Type 0 where
   pub uses : All (λ d. All (IsUseOver library) d.steps) definitions.definitions
-
--- the instance's procedure is one of the library, on as many cells as it wants, which are below n
-pub record IsRight (library : List Stored) (n : ℕ) (p : Placed Passing) : Type 0 where
-  pub procedure : p.procedure < length library
-  pub count : option_map_or (λ (s : Stored). length s.ins + 1) (slice_get library p.procedure) 0 ≡ length p.cells
-  pub cells : All (λ cell. cell < n) p.cells
-
--- each instance so far is right
-abbrev pub AreRight : List Stored → Walk → Type 0
-AreRight library e = All (IsRight library (length e.kinds)) e.placed

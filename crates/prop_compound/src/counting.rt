@@ -5,9 +5,9 @@ ghost use Rattle.prop_lattice.specs.Refusals.{most};
 ghost use Rattle.prop_lattice.specs.declared.refusal.Limit.TheVariants.{Cells, Instances};
 ghost use Rattle.prop_compound.specs.Definitions.{is_passing_on};
 ghost use Rattle.prop_compound.specs.Kept.{all_bare, fresh_of, instances_of, total_of, IsUseBelow, AreKept, IsCounted};
-ghost use Rattle.prop_compound.specs.Shortcuts.{spare_of, is_spare};
+ghost use Rattle.prop_compound.specs.Expansion.{spare_of, is_spare};
 
-use crate::definition::{KeptDefinition, NumberedStep, Passing, Used, passed};
+use crate::definition::{KeptDefinition, NumberedStep, Passing, Used, passes_something};
 use crate::shortening::push_plan;
 use prop_lattice::{Limit, Refusal};
 use std::alloc::{AllocError, Global};
@@ -23,8 +23,8 @@ fn is_taking(steps: &[NumberedStep]) -> bool
     )
 }
 
-/// Whether the step, in a definition that is given this, gives some definition a parameter that it does not take.
-fn is_spare(definitions: &[KeptDefinition], step: &NumberedStep, given: Passing) -> bool
+/// Whether the step, in a definition that is given something or is not, gives some definition a parameter that it does not take.
+fn is_spare(definitions: &[KeptDefinition], step: &NumberedStep, given: bool) -> bool
     requires kept { AreKept definitions.now }
     requires used { IsUseBelow (all_bare definitions.now) (length definitions.now) step.now }
     ensures { result ≡ spare_of (is_spare (all_bare definitions.now)) given step.now }
@@ -33,13 +33,15 @@ fn is_spare(definitions: &[KeptDefinition], step: &NumberedStep, given: Passing)
         NumberedStep::Local(_) | NumberedStep::Like(_) => false,
         NumberedStep::Use(used, _, passing) => match *used {
             Used::Procedure(_) => false,
-            Used::Definition(earlier) => definitions[earlier].is_spare(passed(given, *passing)),
+            Used::Definition(earlier) => {
+                definitions[earlier].is_spare(passes_something(given, *passing))
+            }
         },
     }
 }
 
 /// Whether some step does.
-fn has_spare(definitions: &[KeptDefinition], steps: &[NumberedStep], given: Passing) -> bool
+fn has_spare(definitions: &[KeptDefinition], steps: &[NumberedStep], given: bool) -> bool
     requires kept { AreKept definitions.now }
     requires used { All (IsUseBelow (all_bare definitions.now) (length definitions.now)) steps.now }
     ensures { result ≡ list_any (spare_of (is_spare (all_bare definitions.now)) given) steps.now }
@@ -120,8 +122,8 @@ pub(crate) fn counted(
     match push_plan(alloc, definitions, &steps, &mut plan) {
         Ok(()) => Ok(KeptDefinition {
             params,
-            spare_given: !is_taking(&steps) || has_spare(definitions, &steps, Passing::Own),
-            spare_bare: has_spare(definitions, &steps, Passing::Nothing),
+            spare_given: !is_taking(&steps) || has_spare(definitions, &steps, true),
+            spare_bare: has_spare(definitions, &steps, false),
             fresh: all_fresh(definitions, &steps),
             instances: all_instances(definitions, &steps),
             steps,

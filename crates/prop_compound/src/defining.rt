@@ -21,6 +21,14 @@ use prop_procedures::{Library, Rule};
 use prop_vocabulary::{Names, Vocabulary};
 use std::alloc::{AllocError, Global};
 
+/// A definition as it is said: its name, the names of its parameters, and its steps.
+#[derive(Drop)]
+struct Said<'a> {
+    name: &'a str,
+    params: &'a [&'a str],
+    steps: &'a [Step<'a>],
+}
+
 /// Why steps may not stand for their words' sake, where the first so many names of the scope are the parameters: 8, 19 or 9.
 fn words_refusal(
     words: &Vocabulary,
@@ -68,20 +76,18 @@ impl Definitions {
         alloc: Global,
         library: &Library<R>,
         scope: &mut Names,
-        name: &str,
-        params: &[&str],
-        steps: &[Step],
+        said: &Said,
     ) -> Result<(), Refusal>
         requires { scope.old ≡ [] }
-        ensures scope { OnOk result (scope.new ≡ scope_of (words_of params.now) (map step_of steps.now)) }
-        ensures new { OnOk result (is_name_taken (stored_of R.value_of library.now) self.now name.now (words_of params.now) (map step_of steps.now) ≡ false) }
-        ensures why { IfErr result (λ e. ((e ≡ Refusal.NameTaken) × (is_name_taken (stored_of R.value_of library.now) self.now name.now (words_of params.now) (map step_of steps.now) ≡ true)) ⊎ (e ≡ Refusal.Memory)) }
-        ensures at_once { IfSome (used_named (stored_of R.value_of library.now) self.now name.now) (λ _. result ≡ Err Refusal.NameTaken) }
+        ensures scope { OnOk result (scope.new ≡ scope_of (words_of said.now.params.now) (map step_of said.now.steps.now)) }
+        ensures new { OnOk result (is_name_taken (stored_of R.value_of library.now) self.now said.now.name.now (words_of said.now.params.now) (map step_of said.now.steps.now) ≡ false) }
+        ensures why { IfErr result (λ e. ((e ≡ Refusal.NameTaken) × (is_name_taken (stored_of R.value_of library.now) self.now said.now.name.now (words_of said.now.params.now) (map step_of said.now.steps.now) ≡ true)) ⊎ (e ≡ Refusal.Memory)) }
+        ensures at_once { IfSome (used_named (stored_of R.value_of library.now) self.now said.now.name.now) (λ _. result ≡ Err Refusal.NameTaken) }
     {
-        if library.find(name).is_some() || self.find(name).is_some() {
+        if library.find(said.name).is_some() || self.find(said.name).is_some() {
             return Err(Refusal::NameTaken);
         }
-        push_names(alloc, scope, params, steps)
+        push_names(alloc, scope, said.params, said.steps)
     }
 
     /// The definition by numbers, with what is known of its uses, or why its steps may not stand in this scope: 8, 19, 9, 11, 12
@@ -92,25 +98,24 @@ impl Definitions {
         library: &Library<R>,
         words: &Vocabulary,
         scope: &Names,
-        params: &[&str],
-        steps: &[Step],
+        said: &Said,
     ) -> Result<KeptDefinition, Refusal>
-        requires { scope.now ≡ scope_of (words_of params.now) (map step_of steps.now) }
-        ensures definition { IfOk result (λ k. bare k ≡ definition_of (stored_of R.value_of library.now) words.now self.now (words_of params.now) (map step_of steps.now)) }
+        requires { scope.now ≡ scope_of (words_of said.now.params.now) (map step_of said.now.steps.now) }
+        ensures definition { IfOk result (λ k. bare k ≡ definition_of (stored_of R.value_of library.now) words.now self.now (words_of said.now.params.now) (map step_of said.now.steps.now)) }
         ensures kept { IfOk result (λ k. IsKept (self.now.definitions ++ bare k ∷ []) (length self.now.definitions) k) }
         ensures over { IfOk result (λ k. All (IsUseOver (stored_of R.value_of library.now)) k.steps.items) }
-        ensures fits { OnOk result ((name : List ℕ) → is_name_taken (stored_of R.value_of library.now) self.now name (words_of params.now) (map step_of steps.now) ≡ false → define_refusal (stored_of R.value_of library.now) words.now self.now name (words_of params.now) (map step_of steps.now) ≡ None) }
-        ensures err { IfErr result (λ e. ((name : List ℕ) → is_name_taken (stored_of R.value_of library.now) self.now name (words_of params.now) (map step_of steps.now) ≡ false → define_refusal (stored_of R.value_of library.now) words.now self.now name (words_of params.now) (map step_of steps.now) ≡ Some e) ⊎ (e ≡ Refusal.Memory)) }
+        ensures fits { OnOk result ((name : List ℕ) → is_name_taken (stored_of R.value_of library.now) self.now name (words_of said.now.params.now) (map step_of said.now.steps.now) ≡ false → define_refusal (stored_of R.value_of library.now) words.now self.now name (words_of said.now.params.now) (map step_of said.now.steps.now) ≡ None) }
+        ensures err { IfErr result (λ e. ((name : List ℕ) → is_name_taken (stored_of R.value_of library.now) self.now name (words_of said.now.params.now) (map step_of said.now.steps.now) ≡ false → define_refusal (stored_of R.value_of library.now) words.now self.now name (words_of said.now.params.now) (map step_of said.now.steps.now) ≡ Some e) ⊎ (e ≡ Refusal.Memory)) }
     {
-        if let Some(refusal) = words_refusal(words, scope, params.len(), steps) {
+        if let Some(refusal) = words_refusal(words, scope, said.params.len(), said.steps) {
             return Err(refusal);
         }
-        if let Some(refusal) = self.uses_refusal(library, steps) {
+        if let Some(refusal) = self.uses_refusal(library, said.steps) {
             return Err(refusal);
         }
         let mut numbered = Vec::new(alloc);
-        match self.push_numbered(alloc, library, words, scope, steps, &mut numbered) {
-            Ok(()) => counted(alloc, &self.definitions, params.len(), numbered),
+        match self.push_numbered(alloc, library, words, scope, said.steps, &mut numbered) {
+            Ok(()) => counted(alloc, &self.definitions, said.params.len(), numbered),
             Err(AllocError) => Err(Refusal::Memory),
         }
     }
@@ -122,20 +127,18 @@ impl Definitions {
         library: &Library<R>,
         words: &Vocabulary,
         scope: &mut Names,
-        name: &str,
-        params: &[&str],
-        steps: &[Step],
+        said: &Said,
     ) -> Result<KeptDefinition, Refusal>
         requires { scope.old ≡ [] }
-        ensures definition { IfOk result (λ k. bare k ≡ definition_of (stored_of R.value_of library.now) words.now self.now (words_of params.now) (map step_of steps.now)) }
+        ensures definition { IfOk result (λ k. bare k ≡ definition_of (stored_of R.value_of library.now) words.now self.now (words_of said.now.params.now) (map step_of said.now.steps.now)) }
         ensures kept { IfOk result (λ k. IsKept (self.now.definitions ++ bare k ∷ []) (length self.now.definitions) k) }
         ensures over { IfOk result (λ k. All (IsUseOver (stored_of R.value_of library.now)) k.steps.items) }
-        ensures fits { OnOk result (define_refusal (stored_of R.value_of library.now) words.now self.now name.now (words_of params.now) (map step_of steps.now) ≡ None) }
-        ensures err { IfErr result (λ e. (define_refusal (stored_of R.value_of library.now) words.now self.now name.now (words_of params.now) (map step_of steps.now) ≡ Some e) ⊎ (e ≡ Refusal.Memory)) }
-        ensures at_once { IfSome (used_named (stored_of R.value_of library.now) self.now name.now) (λ _. result ≡ Err Refusal.NameTaken) }
+        ensures fits { OnOk result (define_refusal (stored_of R.value_of library.now) words.now self.now said.now.name.now (words_of said.now.params.now) (map step_of said.now.steps.now) ≡ None) }
+        ensures err { IfErr result (λ e. (define_refusal (stored_of R.value_of library.now) words.now self.now said.now.name.now (words_of said.now.params.now) (map step_of said.now.steps.now) ≡ Some e) ⊎ (e ≡ Refusal.Memory)) }
+        ensures at_once { IfSome (used_named (stored_of R.value_of library.now) self.now said.now.name.now) (λ _. result ≡ Err Refusal.NameTaken) }
     {
-        self.name_all(alloc, library, scope, name, params, steps)?;
-        self.resolved(alloc, library, words, scope, params, steps)
+        self.name_all(alloc, library, scope, said)?;
+        self.resolved(alloc, library, words, scope, said)
     }
 
     /// The definition by numbers, with what is known of its uses, or why it may not be made.
@@ -144,19 +147,17 @@ impl Definitions {
         alloc: Global,
         library: &Library<R>,
         words: &Vocabulary,
-        name: &str,
-        params: &[&str],
-        steps: &[Step],
+        said: &Said,
     ) -> Result<KeptDefinition, Refusal>
-        ensures definition { IfOk result (λ k. bare k ≡ definition_of (stored_of R.value_of library.now) words.now self.now (words_of params.now) (map step_of steps.now)) }
+        ensures definition { IfOk result (λ k. bare k ≡ definition_of (stored_of R.value_of library.now) words.now self.now (words_of said.now.params.now) (map step_of said.now.steps.now)) }
         ensures kept { IfOk result (λ k. IsKept (self.now.definitions ++ bare k ∷ []) (length self.now.definitions) k) }
         ensures over { IfOk result (λ k. All (IsUseOver (stored_of R.value_of library.now)) k.steps.items) }
-        ensures fits { OnOk result (define_refusal (stored_of R.value_of library.now) words.now self.now name.now (words_of params.now) (map step_of steps.now) ≡ None) }
-        ensures err { IfErr result (λ e. (define_refusal (stored_of R.value_of library.now) words.now self.now name.now (words_of params.now) (map step_of steps.now) ≡ Some e) ⊎ (e ≡ Refusal.Memory)) }
-        ensures at_once { IfSome (used_named (stored_of R.value_of library.now) self.now name.now) (λ _. result ≡ Err Refusal.NameTaken) }
+        ensures fits { OnOk result (define_refusal (stored_of R.value_of library.now) words.now self.now said.now.name.now (words_of said.now.params.now) (map step_of said.now.steps.now) ≡ None) }
+        ensures err { IfErr result (λ e. (define_refusal (stored_of R.value_of library.now) words.now self.now said.now.name.now (words_of said.now.params.now) (map step_of said.now.steps.now) ≡ Some e) ⊎ (e ≡ Refusal.Memory)) }
+        ensures at_once { IfSome (used_named (stored_of R.value_of library.now) self.now said.now.name.now) (λ _. result ≡ Err Refusal.NameTaken) }
     {
         let mut scope = Names::new(alloc);
-        self.made_in(alloc, library, words, &mut scope, name, params, steps)
+        self.made_in(alloc, library, words, &mut scope, said)
     }
 
     /// One definition more. After an error, which is 90, nothing has changed.
@@ -203,7 +204,12 @@ impl Definitions {
         ensures err_same { OnErr result (self.new ≡ self.old) }
         ensures at_once { IfSome (used_named (stored_of R.value_of library.now) self.old name.now) (λ _. result ≡ Err Refusal.NameTaken) }
     {
-        let definition = self.made(alloc, library, words, name, params, steps)?;
+        let said = Said {
+            name,
+            params,
+            steps,
+        };
+        let definition = self.made(alloc, library, words, &said)?;
         self.push(alloc, name, definition)
     }
 }

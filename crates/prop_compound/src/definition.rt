@@ -1,6 +1,7 @@
 //! A definition, its words resolved to numbers.
 ghost use Rattle.std.specs.Prelude.{◌≡◌, cond};
-ghost use Rattle.prop_compound.specs.Expansion.{passed, is_something};
+ghost use Rattle.prop_compound.specs.Expansion.{passes_something};
+ghost use Rattle.prop_compound.specs.Shortcuts.{passed};
 
 use prop_procedures::Kinded;
 use std::marker::Model;
@@ -59,13 +60,24 @@ pub enum NumberedStep {
     Use(Used, Places, Passing),
 }
 
-/// What a step passes in a definition that is itself given this.
+/// What a step passes in a definition that is itself given this, both as steps say it.
 pub(crate) fn passed(given: Passing, passing: Passing) -> Passing
     ensures { result ≡ passed given passing }
 {
     match passing {
         Passing::Own => given,
         Passing::Nothing | Passing::Scale(_) | Passing::Relation(_) => passing,
+    }
+}
+
+/// Whether a step passes something in a definition that is itself given something, or is not.
+pub(crate) fn passes_something(given: bool, passing: Passing) -> bool
+    ensures { result ≡ passes_something given passing }
+{
+    match passing {
+        Passing::Own => given,
+        Passing::Nothing => false,
+        Passing::Scale(_) | Passing::Relation(_) => true,
     }
 }
 
@@ -84,14 +96,14 @@ pub(crate) struct KeptDefinition {
 }
 
 impl KeptDefinition {
-    /// Whether a use that is given this gives some definition a parameter that it does not take.
-    pub(crate) fn is_spare(&self, given: Passing) -> bool
-        ensures { result ≡ cond (is_something given) self.now.spare_given self.now.spare_bare }
+    /// Whether a use that is given something, or is not, gives some definition a parameter that it does not take.
+    pub(crate) fn is_spare(&self, given: bool) -> bool
+        ensures { result ≡ cond given self.now.spare_given self.now.spare_bare }
     {
-        if matches!(given, Passing::Nothing) {
-            self.spare_bare
-        } else {
+        if given {
             self.spare_given
+        } else {
+            self.spare_bare
         }
     }
 }

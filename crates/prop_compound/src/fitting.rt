@@ -1,83 +1,36 @@
 //! Whether the cells and parameters of instances fit their procedures.
-ghost use Rattle.std.specs.Prelude.{◌≡◌, ◌<◌, ◌+◌, ◌++◌, ◌∷◌, ◌&&◌, ◌⊎◌, [], pos, int_le, not, is_none, All, length, map, zip, slice_get, slice_index_or, IfOk, IfErr, OnOk, None, Some};
+ghost use Rattle.std.specs.Prelude.{◌≡◌, ◌<◌, ◌≤◌, ◌++◌, ◌∷◌, ◌⊎◌, [], is_none, All, length, map, zip, IfOk, IfErr, OnOk, None, Some};
 ghost use Rattle.std.specs.List.{list_any};
-ghost use Rattle.std.specs.Option.{option_map_or, option_and_then};
 ghost use Rattle.prop_procedures.specs.Kept.{stored_of};
-ghost use Rattle.prop_procedures.specs.Stored.{Stored, sides_of};
+ghost use Rattle.prop_procedures.specs.Flats.{param_at};
 ghost use Rattle.prop_procedures.specs.Fitting.{kind_at, fitting_param};
-ghost use Rattle.prop_compound.specs.Expansion.{param_meant, meant, all_meant};
 ghost use Rattle.prop_compound.specs.Expanding.{is_misplaced, is_misgiven, fit_refusal};
-ghost use Rattle.prop_compound.specs.Kept.{IsRight, AreRight};
+ghost use Rattle.prop_compound.specs.Flattened.{placed_of, walk_of, IsInstanceOver, AreRight, IsBehind};
 
-use crate::definition::Passing;
-use crate::walk::{Instance, Walk, kind_at};
+use crate::walk::{Walk, flat_behind, kind_at, param_at};
 use prop_lattice::Refusal;
-use prop_procedures::fitting::{are_right, is_scale, shape_at, sides_of};
-use prop_procedures::{Kinded, Library, Need, Param, Rule, Shape};
-use prop_sets::Side;
-use prop_vocabulary::Vocabulary;
+use prop_procedures::fitting::{are_right, is_scale, sides_of};
+use prop_procedures::{Flat, Kinded, Library, Need, Param, Placed, Rule, Shape};
 use std::alloc::{AllocError, Global};
-
-/// The sides of the relation that is meant, where one is.
-fn sides_meant(words: &Vocabulary, given: &Option<Param>, passing: Passing) -> Option<(Side, Side)>
-    ensures { result ≡ option_and_then sides_of (param_meant words.now given.now passing) }
-{
-    match passing {
-        Passing::Nothing | Passing::Scale(_) => None,
-        Passing::Relation(number) => {
-            let rows = words.relation_at(number)?;
-            Some((rows.from(), rows.to()))
-        }
-        Passing::Own => match given {
-            Some(param) => sides_of(param),
-            None => None,
-        },
-    }
-}
-
-/// Whether a procedure with this need does not do without a parameter.
-fn is_bare(need: Need) -> bool
-    ensures { result ≡ is_none (fitting_param need None) }
-{
-    matches!(need, Need::Rows)
-}
-
-/// Whether a procedure with this need does not take a scale.
-fn is_scale_wrong(need: Need, scale: i64) -> bool
-    ensures { result ≡ is_none (fitting_param need (Some (Param.Scale scale))) }
-{
-    match need {
-        Need::Scale => !is_scale(scale),
-        Need::Nothing | Need::Rows => true,
-    }
-}
 
 /// Whether a procedure with this need does not take a parameter.
 fn is_param_wrong(need: Need, param: &Param) -> bool
     ensures { result ≡ is_none (fitting_param need (Some param.now)) }
 {
-    match param {
-        Param::Plain => true,
-        Param::Scale(scale) => is_scale_wrong(need, *scale),
-        Param::Rows(_) => !matches!(need, Need::Rows),
+    match (need, param) {
+        (Need::Scale, Param::Scale(scale)) => !is_scale(*scale),
+        (Need::Rows, Param::Rows(_)) => false,
+        _ => true,
     }
 }
 
-/// Whether a procedure with this need does not take what is meant.
-fn is_misgiven(need: Need, words: &Vocabulary, given: &Option<Param>, passing: Passing) -> bool
-    ensures { result ≡ is_none (fitting_param need (param_meant words.now given.now passing)) }
+/// Whether a procedure with this need does not take the parameter at the place, or not do without one.
+fn is_misgiven(need: Need, params: &[Param], place: Option<usize>) -> bool
+    ensures { result ≡ is_none (fitting_param need (param_at params.now place)) }
 {
-    match passing {
-        Passing::Nothing => is_bare(need),
-        Passing::Scale(scale) => is_scale_wrong(need, scale),
-        Passing::Relation(number) => match words.relation_at(number) {
-            Some(_) => !matches!(need, Need::Rows),
-            None => is_bare(need),
-        },
-        Passing::Own => match given {
-            Some(param) => is_param_wrong(need, param),
-            None => is_bare(need),
-        },
+    match param_at(params, place) {
+        Some(param) => is_param_wrong(need, param),
+        None => matches!(need, Need::Rows),
     }
 }
 
@@ -87,15 +40,16 @@ fn places(
     ins: &[Shape],
     out: Shape,
     kinds: &[Kinded],
-    cells: &[usize],
+    instance: &Placed,
 ) -> Result<Vec<(Shape, Kinded)>, AllocError>
-    requires { length cells.now ≡ length ins.now + 1 }
-    ensures { IfOk result (λ v. v.items ≡ zip (ins.now ++ out ∷ []) (map (kind_at kinds.now) cells.now)) }
+    requires { length instance.now.inputs.items ≡ length ins.now }
+    ensures { IfOk result (λ v. v.items ≡ zip (ins.now ++ out ∷ []) (map (kind_at kinds.now) (instance.now.inputs.items ++ instance.now.output ∷ []))) }
 {
     let mut places = Vec::new(alloc);
-    for (i, cell) in cells.iter().enumerate() {
-        places.push((shape_at(ins, out, i), kind_at(kinds, *cell)))?;
+    for (i, cell) in instance.inputs.iter().enumerate() {
+        places.push((ins[i], kind_at(kinds, *cell)))?;
     }
+    places.push((out, kind_at(kinds, instance.output)))?;
     Ok(places)
 }
 
@@ -103,17 +57,19 @@ fn places(
 fn is_misplaced<R: Rule + Drop>(
     alloc: Global,
     library: &Library<R>,
-    words: &Vocabulary,
-    given: &Option<Param>,
+    params: &[Param],
     kinds: &[Kinded],
-    instance: &Instance,
+    instance: &Placed,
 ) -> Result<bool, AllocError>
-    requires { IsRight (stored_of R.value_of library.now) (length kinds.now) instance.now }
-    ensures { IfOk result (λ b. b ≡ is_misplaced (stored_of R.value_of library.now) kinds.now (meant (param_meant words.now given.now) instance.now)) }
+    requires { IsInstanceOver (stored_of R.value_of library.now) (length kinds.now) instance.now }
+    ensures { IfOk result (λ b. b ≡ is_misplaced (stored_of R.value_of library.now) kinds.now (placed_of params.now instance.now)) }
 {
-    let p = library.get(instance.procedure());
-    let places = places(alloc, p.ins(), p.out(), kinds, instance.cells())?;
-    let sides = sides_meant(words, given, instance.given());
+    let p = library.get(instance.procedure);
+    let places = places(alloc, p.ins(), p.out(), kinds, instance)?;
+    let sides = match param_at(params, instance.param) {
+        Some(param) => sides_of(param),
+        None => None,
+    };
     Ok(!are_right(p.need(), sides, &places))
 }
 
@@ -121,16 +77,15 @@ fn is_misplaced<R: Rule + Drop>(
 fn has_misplaced<R: Rule + Drop>(
     alloc: Global,
     library: &Library<R>,
-    words: &Vocabulary,
-    given: &Option<Param>,
+    params: &[Param],
     kinds: &[Kinded],
-    instances: &[Instance],
+    instances: &[Placed],
 ) -> Result<bool, AllocError>
-    requires { All (IsRight (stored_of R.value_of library.now) (length kinds.now)) instances.now }
-    ensures { IfOk result (λ b. b ≡ list_any (λ x. is_misplaced (stored_of R.value_of library.now) kinds.now (meant (param_meant words.now given.now) x)) instances.now) }
+    requires { All (IsInstanceOver (stored_of R.value_of library.now) (length kinds.now)) instances.now }
+    ensures { IfOk result (λ b. b ≡ list_any (λ x. is_misplaced (stored_of R.value_of library.now) kinds.now (placed_of params.now x)) instances.now) }
 {
     for instance in instances {
-        if is_misplaced(alloc, library, words, given, kinds, instance)? {
+        if is_misplaced(alloc, library, params, kinds, instance)? {
             return Ok(true);
         }
     }
@@ -140,16 +95,15 @@ fn has_misplaced<R: Rule + Drop>(
 /// Whether some instance is given what its procedure does not take.
 fn has_misgiven<R: Rule + Drop>(
     library: &Library<R>,
-    words: &Vocabulary,
-    given: &Option<Param>,
-    instances: &[Instance],
+    params: &[Param],
+    instances: &[Placed],
 ) -> bool
     requires { All (λ x. x.procedure < length (stored_of R.value_of library.now)) instances.now }
-    ensures { result ≡ list_any (λ x. is_misgiven (stored_of R.value_of library.now) (meant (param_meant words.now given.now) x)) instances.now }
+    ensures { result ≡ list_any (λ x. is_misgiven (stored_of R.value_of library.now) (placed_of params.now x)) instances.now }
 {
     for instance in instances {
-        let need = library.get(instance.procedure()).need();
-        if is_misgiven(need, words, given, instance.given()) {
+        let need = library.get(instance.procedure).need();
+        if is_misgiven(need, params, instance.param) {
             return true;
         }
     }
@@ -157,24 +111,41 @@ fn has_misgiven<R: Rule + Drop>(
 }
 
 /// Refuses what a use stands for where its cells or parameters do not fit: with 13 and 14, and with 90.
-pub(crate) fn judge<R: Rule + Drop>(
-    alloc: Global,
-    library: &Library<R>,
-    words: &Vocabulary,
-    given: &Option<Param>,
-    walk: &Walk,
-) -> Result<(), Refusal>
+fn judge<R: Rule + Drop>(alloc: Global, library: &Library<R>, walk: &Walk) -> Result<(), Refusal>
     requires { AreRight (stored_of R.value_of library.now) walk.now }
-    ensures fits { OnOk result (fit_refusal (stored_of R.value_of library.now) (all_meant (param_meant words.now given.now) walk.now) ≡ None) }
-    ensures err { IfErr result (λ e. (fit_refusal (stored_of R.value_of library.now) (all_meant (param_meant words.now given.now) walk.now) ≡ Some e) ⊎ (e ≡ Refusal.Memory)) }
+    ensures fits { OnOk result (fit_refusal (stored_of R.value_of library.now) (walk_of walk.now) ≡ None) }
+    ensures err { IfErr result (λ e. (fit_refusal (stored_of R.value_of library.now) (walk_of walk.now) ≡ Some e) ⊎ (e ≡ Refusal.Memory)) }
 {
-    match has_misplaced(alloc, library, words, given, walk.kinds(), walk.instances()) {
+    match has_misplaced(alloc, library, &walk.params, &walk.kinds, &walk.instances) {
         Ok(false) => {}
         Ok(true) => return Err(Refusal::WrongKind),
         Err(AllocError) => return Err(Refusal::Memory),
     }
-    if walk.has_spare() || has_misgiven(library, words, given, walk.instances()) {
+    if walk.spare || has_misgiven(library, &walk.params, &walk.instances) {
         return Err(Refusal::WrongParameter);
     }
     Ok(())
+}
+
+/// What is handed out for a use of so many cells, or the refusal where its cells or parameters do not fit: 13 and 14, and 90.
+pub(crate) fn fitted<R: Rule + Drop>(
+    alloc: Global,
+    library: &Library<R>,
+    walk: Walk,
+    count: usize,
+) -> Result<Flat, Refusal>
+    requires right { AreRight (stored_of R.value_of library.now) walk }
+    requires count { count ≤ length walk.kinds.items }
+    ensures fits { OnOk result (fit_refusal (stored_of R.value_of library.now) (walk_of walk) ≡ None) }
+    ensures flat { IfOk result (IsBehind walk count) }
+    ensures err { IfErr result (λ e. (fit_refusal (stored_of R.value_of library.now) (walk_of walk) ≡ Some e) ⊎ (e ≡ Refusal.Memory)) }
+{
+    if let Err(refusal) = judge(alloc, library, &walk) {
+        drop(walk);
+        return Err(refusal);
+    }
+    match flat_behind(alloc, walk, count) {
+        Ok(flat) => Ok(flat),
+        Err(AllocError) => Err(Refusal::Memory),
+    }
 }

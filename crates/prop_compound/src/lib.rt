@@ -8,7 +8,6 @@ pub mod definition;
 pub mod definitions;
 mod expanding;
 mod fitting;
-mod flat;
 mod resolving;
 mod scope;
 mod shortening;

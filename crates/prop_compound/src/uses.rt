@@ -1,19 +1,19 @@
 //! What a use of a name stands for, and why it is refused.
-ghost use Rattle.std.specs.Prelude.{◌≡◌, ◌<◌, ◌+◌, ◌==◌, ◌⊎◌, not, length, IfOk, IfErr, IfSome, OnOk, Err, None, Some};
+ghost use Rattle.std.specs.Prelude.{◌≡◌, ◌<◌, ◌+◌, ◌==◌, ◌⊎◌, [], not, length, IfOk, IfErr, IfSome, OnOk, Err, None, Some};
 ghost use Rattle.std.specs.List.{range_with_len};
 ghost use Rattle.prop_procedures.specs.Kept.{stored_of};
+ghost use Rattle.prop_procedures.specs.Flats.{param_at};
 ghost use Rattle.prop_compound.specs.Definitions.{used_named, cells_wanted};
-ghost use Rattle.prop_compound.specs.Expansion.{start, passing_of, expanded_in, expanded};
+ghost use Rattle.prop_compound.specs.Expansion.{before, expanded_in, expanded};
 ghost use Rattle.prop_compound.specs.Expanding.{size_refusal, expand_refusal};
 ghost use Rattle.prop_compound.specs.AtOnce.{refused_at_once};
-ghost use Rattle.prop_compound.specs.Flattened.{expansion_of_flat, IsFlatOver};
-ghost use Rattle.prop_compound.specs.Kept.{fresh_used, instances_used, fresh_of, instances_of, total_of, IsDefinedOver, IsThere, IsUseThere, AreRight};
+ghost use Rattle.prop_compound.specs.Flattened.{walk_of, expansion_of_flat, IsFlatOver, IsPlaceIn};
+ghost use Rattle.prop_compound.specs.Kept.{fresh_used, instances_used, fresh_of, instances_of, total_of, IsDefinedOver, IsThere, IsUseThere};
 
-use crate::definition::{Passing, Used};
+use crate::definition::Used;
 use crate::definitions::Definitions;
-use crate::expanding::expand_definition;
-use crate::fitting::judge;
-use crate::flat::flatten;
+use crate::expanding::{expand_definition, placed};
+use crate::fitting::fitted;
 use crate::walk::Walk;
 use prop_lattice::{Limit, Refusal};
 use prop_procedures::{Flat, Kinded, Library, Param, Rule};
@@ -27,13 +27,18 @@ fn is_one_more(count: usize, than: usize) -> bool
     0 < count && count - 1 == than
 }
 
-/// How the whole use's parameter is said inside.
-fn passing_of(given: &Option<Param>) -> Passing
-    ensures { result ≡ passing_of given.now }
+/// Puts the parameter first, where there is one. Answers its place.
+fn first_place(params: &mut Vec<Param>, given: Option<Param>) -> Result<Option<usize>, AllocError>
+    requires { params.old.items ≡ [] }
+    ensures param { IfOk result (λ own. param_at params.new.items own ≡ given) }
+    ensures there { IfOk result (IsPlaceIn params.new.items) }
 {
     match given {
-        None => Passing::Nothing,
-        Some(_) => Passing::Own,
+        Some(param) => {
+            params.push(param)?;
+            Ok(Some(0))
+        }
+        None => Ok(None),
     }
 }
 
@@ -97,47 +102,64 @@ impl Definitions {
         None
     }
 
-    /// Adds what the use stands for.
+    /// Adds what the use stands for, given the parameter at this place.
     fn add_use(
         &self,
         alloc: Global,
+        words: &Vocabulary,
         used: Used,
         cells: Vec<usize>,
-        given: Passing,
+        given: Option<usize>,
         walk: &mut Walk,
     ) -> Result<(), AllocError>
         requires there { IsUseThere self.now.definitions used (length cells.items) }
-        ensures { OnOk result (walk.new ≡ expanded_in self.now.definitions used cells.items given walk.old) }
+        requires given { IsPlaceIn walk.old.params.items given }
+        requires empty { walk.old.instances.items ≡ [] }
+        ensures { OnOk result (walk_of walk.new ≡ expanded_in words.now self.now.definitions used cells.items (param_at walk.old.params.items given) (walk_of walk.old)) }
     {
         match used {
-            Used::Procedure(number) => walk.add_instance(number, given, cells),
+            Used::Procedure(number) => {
+                walk.instances.push(placed(number, given, cells))?;
+                Ok(())
+            }
             Used::Definition(number) => {
-                walk.note(self.definitions[number].is_spare(given));
-                expand_definition(alloc, &self.definitions, number, cells, given, walk)
+                expand_definition(alloc, &self.definitions, words, number, cells, given, walk)
             }
         }
     }
 
-    /// What the use stands for on cells of these kinds.
-    fn walk<R: Rule + Drop>(
+    /// What the use stands for on cells of these kinds and given this.
+    fn walk(
         &self,
         alloc: Global,
-        library: &Library<R>,
+        words: &Vocabulary,
         used: Used,
         cells: &[Kinded],
-        given: Passing,
+        given: Option<Param>,
     ) -> Result<Walk, AllocError>
-        requires there { IsThere (length (stored_of R.value_of library.now)) (length self.now.definitions) used }
-        requires count { length cells.now ≡ cells_wanted (stored_of R.value_of library.now) self.now used }
-        requires over { IsDefinedOver (stored_of R.value_of library.now) self.now }
-        ensures walk { IfOk result (λ walk. walk ≡ expanded_in self.now.definitions used (range_with_len 0 (length cells.now)) given (start cells.now)) }
-        ensures right { IfOk result (AreRight (stored_of R.value_of library.now)) }
+        requires { IsUseThere self.now.definitions used (length cells.now) }
+        ensures walk { IfOk result (λ walk. walk_of walk ≡ expanded_in words.now self.now.definitions used (range_with_len 0 (length cells.now)) given (before self.now.definitions used cells.now given)) }
     {
-        let _ = &self.definitions;
-        let mut walk = Walk::start(alloc, cells)?;
+        let spare = match used {
+            Used::Procedure(_) => false,
+            Used::Definition(number) => self.definitions[number].is_spare(given.is_some()),
+        };
         let numbers = numbers_below(alloc, cells.len())?;
-        self.add_use(alloc, used, numbers, given, &mut walk)?;
-        Ok(walk)
+        let mut params = Vec::new(alloc);
+        let own = first_place(&mut params, given)?;
+        let mut walk = Walk {
+            kinds: Vec::from_slice(alloc, cells)?,
+            params,
+            instances: Vec::new(alloc),
+            spare,
+        };
+        match self.add_use(alloc, words, used, numbers, own, &mut walk) {
+            Ok(()) => Ok(walk),
+            Err(AllocError) => {
+                drop(walk);
+                Err(AllocError)
+            }
+        }
     }
 
     /// What a use of the name stands for, on cells of these kinds and given this: the kinds of its fresh cells, and its instances
@@ -162,6 +184,7 @@ impl Definitions {
         ensures err { IfErr result (λ e. (expand_refusal (stored_of R.value_of library.now) words.now self.now name.now cells.now given ≡ Some e) ⊎ (e ≡ Refusal.Memory)) }
         ensures at_once { IfSome (refused_at_once (stored_of R.value_of library.now) words.now self.now name.now cells.now given) (λ e. result ≡ Err e) }
     {
+        let _ = &self.names;
         let Some(used) = self.used(library, name) else {
             return Err(Refusal::NoSuchProcedure);
         };
@@ -171,13 +194,9 @@ impl Definitions {
         if let Some(refusal) = self.size_refusal(used, library.len()) {
             return Err(refusal);
         }
-        let Ok(walk) = self.walk(alloc, library, used, cells, passing_of(&given)) else {
+        let Ok(walk) = self.walk(alloc, words, used, cells, given) else {
             return Err(Refusal::Memory);
         };
-        judge(alloc, library, words, &given, &walk)?;
-        match flatten(alloc, words, given, &walk, cells.len()) {
-            Ok(flat) => Ok(flat),
-            Err(AllocError) => Err(Refusal::Memory),
-        }
+        fitted(alloc, library, walk, cells.len())
     }
 }

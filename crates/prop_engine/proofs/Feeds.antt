@@ -10,7 +10,7 @@ use Rattle.prop_engine.specs.Transcripts.{Machine}
 use Rattle.prop_engine.specs.Progress.{CountsAnswer, Advances, Stops}
 use Rattle.prop_engine.specs.declared.outcome.Counts.{Counts}
 use Rattle.prop_engine.proofs.Io.{appends_none, appends_more}
-use Rattle.prop_engine.proofs.Machines.{AsksByFront}
+use Rattle.prop_engine.specs.Machines.{AsksByFront}
 use Rattle.prop_engine.proofs.Runs.{byte_progress, line_progress, line_stopped}
 
 -- the output so far is what the piece so far asks for

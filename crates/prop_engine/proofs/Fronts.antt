@@ -5,7 +5,7 @@ use Rattle.std.proofs.lemmas.Grind.{flat_map-append}
 use Rattle.prop_engine.specs.Lines.{lines_of, ended_lines, onto_first, onto_ended}
 use Rattle.prop_engine.specs.Answers.{Answer, text_written, is_refusal}
 use Rattle.prop_engine.specs.Transcripts.{Machine, Run, WriteStopped, ReadStopped, IsFrontOfTranscript}
-use Rattle.prop_engine.proofs.Machines.{IsTotal}
+use Rattle.prop_engine.specs.Machines.{IsTotal}
 
 -- a run over some lines goes on over the rest
 pub run_on : {S : Type 0} (machine : Machine S) → IsTotal machine → (old : S) (lines rest : List (List ℕ)) (answers : List Answer) (mid : S) → Run machine old lines answers mid → (more : List Answer) × (new : S) × Run machine old (lines ++ rest) (answers ++ more) new

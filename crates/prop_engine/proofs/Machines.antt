@@ -1,17 +1,7 @@
--- What the engine asks of a machine.
+-- Steps of a machine that stands over something.
 use Rattle.std.proofs.Common.{◌≡◌, ℕ, List, subst}
-use Rattle.prop_engine.specs.Lines.{kept_of}
 use Rattle.prop_engine.specs.Answers.{Answer}
 use Rattle.prop_engine.specs.Transcripts.{Machine}
-
--- a line may be answered as what is kept of it may
-abbrev pub AsksByFront : {S : Type 0} → Machine S → Type 0
-AsksByFront {S = S} machine =
-    (old : S) (line : List ℕ) (answer : Answer) (new : S) → machine old (kept_of line) answer new → machine old line answer new
-
--- each line may be given some answer that leaves the state as it was
-abbrev pub IsTotal : {S : Type 0} → Machine S → Type 0
-IsTotal {S = S} machine = (old : S) (line : List ℕ) → (answer : Answer) × machine old line answer old
 
 -- what a machine over one of two equal things may do, that over the other may
 pub same_step : {A S : Type 0} (machine : A → Machine S) (a b : A) → b ≡ a → (old : S) (line : List ℕ) (answer : Answer) (new : S) → machine b old line answer new → machine a old line answer new

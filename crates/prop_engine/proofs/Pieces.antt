@@ -13,7 +13,7 @@ use Rattle.prop_engine.specs.declared.outcome.Counts.{Counts}
 use Rattle.prop_engine.specs.declared.outcome.EngineFault.{EngineFault}
 use Rattle.prop_engine.specs.declared.outcome.EngineFault.TheVariants as faults
 use Rattle.prop_engine.proofs.Io.{appends_none, appends_more, consumes_none, consumes_more, consumed_kept}
-use Rattle.prop_engine.proofs.Machines.{AsksByFront, IsTotal}
+use Rattle.prop_engine.specs.Machines.{AsksByFront, IsTotal}
 use Rattle.prop_engine.proofs.Fronts.{write_front, read_front}
 use Rattle.prop_engine.proofs.Runs.{start_progress, no_last, with_last, last_stopped, read_stopped}
 

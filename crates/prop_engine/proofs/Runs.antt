@@ -10,7 +10,7 @@ use Rattle.prop_engine.specs.Transcripts.{Machine, Run, WriteStopped, ReadStoppe
 use Rattle.prop_engine.specs.Progress.{Progress, CountsAnswer, refusals}
 use Rattle.prop_engine.specs.declared.outcome.Counts.{Counts}
 use Rattle.prop_engine.proofs.Lines.{at_feed, ended_at_feed, last_line, none_ended, without_more}
-use Rattle.prop_engine.proofs.Machines.{AsksByFront}
+use Rattle.prop_engine.specs.Machines.{AsksByFront}
 
 -- a run goes on by one step
 pub run_more : {S : Type 0} (machine : Machine S) (old : S) (lines : List (List ℕ)) (answers : List Answer) (mid : S) (line : List ℕ) (answer : Answer) (new : S) → Run machine old lines answers mid → machine mid line answer new → Run machine old (lines ++ line ∷ []) (answers ++ answer ∷ []) new

@@ -1,6 +1,7 @@
 pub mod Answers
 pub mod Lines
 pub mod Transcripts
+pub mod Machines
 pub mod Watched
 pub mod Progress
 pub mod Endings

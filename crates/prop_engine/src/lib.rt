@@ -1,6 +1,8 @@
-//! What a session needs of its reader and its writer: lines in, replies out, and how it ends.
+//! Sessions over a reader and a writer: lines in, replies out, and how they end.
 #![tactic(auto)]
 
+mod engine;
+mod interpreter;
 mod laws;
 mod outcome;
 mod pending;
@@ -8,6 +10,8 @@ mod reply;
 mod sending;
 mod watched;
 
+pub use engine::run_session;
+pub use interpreter::Interpreter;
 pub use laws::ended_lines_come_first;
 pub use outcome::{Counts, EngineFault};
 pub use pending::Pending;

@@ -10,7 +10,7 @@ use Rattle.std.proofs.lemmas.Option.{none-some}
 use Rattle.prop_language.specs.Tokens.{Token, Word, Open, Close, Semicolon, Equals, Star}
 use Rattle.prop_language.specs.Names.{looks_like_number, number_in}
 use Rattle.prop_language.specs.Commands.{Value, Bare, Braces, KindWord, Spans, Truths, Symbols, Named, By, Passed, Step, Command}
-use Rattle.prop_language.specs.Forms.{bare, on_word, only_words, domain, pairs, relation, kind_word, cell, parameter, by_form, with_cell, cells_by, attach, local_of_kind, local_like, passed_form, use_step, step, each, is_semicolon, steps, define, join, values, in_braces, one_value, only_value, fix, tell, forms}
+use Rattle.prop_language.specs.Forms.{bare, on_word, only_words, domain, pairs, relation, kind_word, cell, parameter, by_form, with_cell, cells_by, attach, local_of_kind, local_like, passed_form, use_step, step, each, is_semicolon, steps, define, join, values, in_braces, one_value, limit_of, only_value, fix, tell, forms}
 use Rattle.prop_language.proofs.Forming.{Filled, filled}
 use Rattle.prop_language.proofs.StepLaws.{Head, Headed, Headless, head, words_alone, before_equals, after_equals, bodiless, bodied}
 use Rattle.prop_language.specs.Spelling.{Spells, SpellsStep, SpellsSteps, IsLocal, StandsFor, further_pairs, Gives, Passes, HaveNoBy, tokens_of_value}
@@ -165,6 +165,7 @@ spelled_is_read ts (Command.Fix x v) e = rw (e, value_read v) refl
 spelled_is_read ts (Command.Tell p x v) e = rw (e, value_read v) refl
 spelled_is_read ts (Command.Kick p) e = rw e refl
 spelled_is_read ts (Command.Bring p) e = rw e refl
+spelled_is_read ts (Command.Limit steps) (w, e, n) = rw (e, n) refl
 spelled_is_read ts Command.Settle e = rw e refl
 spelled_is_read ts (Command.Ask x) e = rw e refl
 spelled_is_read ts (Command.Why x) e = rw e refl
@@ -534,12 +535,15 @@ forms_spelled = (
                 (
                   on_word_spelled (codes "bring") Command.Bring (λ w. refl),
                   (
-                    bare_spelled (codes "settle") Command.Settle refl,
+                    on_word_spelled (codes "limit") limit_of (λ w. (w, refl, refl)),
                     (
-                      on_word_spelled (codes "ask") Command.Ask (λ w. refl),
+                      bare_spelled (codes "settle") Command.Settle refl,
                       (
-                        on_word_spelled (codes "why") Command.Why (λ w. refl),
-                        (bare_spelled (codes "worldview") Command.Worldview refl, tt),
+                        on_word_spelled (codes "ask") Command.Ask (λ w. refl),
+                        (
+                          on_word_spelled (codes "why") Command.Why (λ w. refl),
+                          (bare_spelled (codes "worldview") Command.Worldview refl, tt),
+                        ),
                       ),
                     ),
                   ),

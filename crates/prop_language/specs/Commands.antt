@@ -40,6 +40,7 @@ pub data Command : Type 0 where
   Tell : (premise : List ℕ) → (cell : List ℕ) → (value : Value) → Command
   Kick : (premise : List ℕ) → Command
   Bring : (premise : List ℕ) → Command
+  Limit : (steps : Option ℕ) → Command
   Settle : Command
   Ask : (cell : List ℕ) → Command
   Why : (cell : List ℕ) → Command

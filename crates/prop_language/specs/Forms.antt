@@ -1,5 +1,5 @@
 -- The form of each command: what is read from the tokens after its word.
-use Rattle.std.specs.Prelude.{ℕ, List, [], ◌∷◌, ◌++◌, Bool, true, false, cond, ◌&&◌, codes, bytes_eq, Option, Some, None, pos}
+use Rattle.std.specs.Prelude.{ℕ, List, [], ◌∷◌, ◌++◌, Bool, true, false, cond, ◌&&◌, codes, bytes_eq, Option, Some, None, pos, unsigned_abs}
 use Rattle.std.specs.Option.{option_map, option_and_then, option_or}
 use Rattle.std.specs.List.{slice_split, before_first, after_first}
 use Rattle.prop_language.specs.Tokens.{Token, Word, Open, Close, Semicolon, Equals, Star}
@@ -142,6 +142,10 @@ abbrev mutual
   in_braces ws (Close ∷ ts) = join (Some (Braces ws)) (values ts)
   in_braces ws (t ∷ ts) = None
 
+-- a number from 0 on
+abbrev pub limit_of : List ℕ → Command
+limit_of w = Command.Limit (option_map unsigned_abs (number_in (pos 0) (pos 1_000_000_000_000_000) w))
+
 abbrev pub one_value : List Value → Option Value
 one_value (v ∷ []) = Some v
 one_value vs = None
@@ -172,6 +176,7 @@ forms =
     ∷ (codes "tell", tell)
     ∷ (codes "kick", on_word Command.Kick)
     ∷ (codes "bring", on_word Command.Bring)
+    ∷ (codes "limit", on_word limit_of)
     ∷ (codes "settle", bare Command.Settle)
     ∷ (codes "ask", on_word Command.Ask)
     ∷ (codes "why", on_word Command.Why)

@@ -8,7 +8,7 @@ use Rattle.prop_lattice.specs.declared.refusal.Refusal.TheVariants.{UnknownComma
 use Rattle.prop_language.specs.Tokens.{Token, Word, Open, Close, Semicolon, Equals, Star, is_blank, mark_of}
 use Rattle.prop_language.specs.Names.{is_name, digits_number}
 use Rattle.prop_language.specs.Commands.{Value, By, Passed, Step, Command}
-use Rattle.prop_language.specs.Forms.{join, bare, each, step, on_word, domain, relation, cell, define, attach, fix, tell, parameter, values}
+use Rattle.prop_language.specs.Forms.{join, bare, each, step, on_word, limit_of, domain, relation, cell, define, attach, fix, tell, parameter, values}
 use Rattle.prop_language.specs.Reading.{by_names, is_by_in_range, passed_names, is_passed_in_range, step_names, is_step_in_range, command_in_form}
 use Rattle.prop_language.specs.Said.{steps_said}
 use Rattle.prop_language.specs.declared.command.Step as kept
@@ -17,7 +17,7 @@ use Rattle.prop_language.specs.declared.tokens.Token.TheVariants as reads
 use Rattle.prop_language.specs.declared.steps.Given.{Given}
 use Rattle.prop_language.specs.declared.steps.Given.TheVariants as givens
 use Rattle.prop_language.specs.declared.reading.CommandWord.{CommandWord}
-use Rattle.prop_language.specs.declared.reading.CommandWord.TheVariants.{Domain, Relation, Cell, Define, Attach, Fix, Tell, Kick, Bring, Settle, Ask, Why, Worldview}
+use Rattle.prop_language.specs.declared.reading.CommandWord.TheVariants.{Domain, Relation, Cell, Define, Attach, Fix, Tell, Kick, Bring, Limit, Settle, Ask, Why, Worldview}
 
 -- a token without where its word lies in memory
 abbrev pub token_of : read.Token → Token
@@ -151,6 +151,7 @@ form_of Fix = fix
 form_of Tell = tell
 form_of Kick = on_word Command.Kick
 form_of Bring = on_word Command.Bring
+form_of Limit = on_word limit_of
 form_of Settle = bare Command.Settle
 form_of Ask = on_word Command.Ask
 form_of Why = on_word Command.Why
@@ -188,6 +189,7 @@ word_of Fix = codes "fix"
 word_of Tell = codes "tell"
 word_of Kick = codes "kick"
 word_of Bring = codes "bring"
+word_of Limit = codes "limit"
 word_of Settle = codes "settle"
 word_of Ask = codes "ask"
 word_of Why = codes "why"

@@ -49,6 +49,7 @@ names_in (Command.Fix cell value) = cell ∷ []
 names_in (Command.Tell premise cell value) = premise ∷ cell ∷ []
 names_in (Command.Kick premise) = premise ∷ []
 names_in (Command.Bring premise) = premise ∷ []
+names_in (Command.Limit steps) = []
 names_in Command.Settle = []
 names_in (Command.Ask cell) = cell ∷ []
 names_in (Command.Why cell) = cell ∷ []
@@ -70,6 +71,7 @@ is_step_in_range step = true
 abbrev pub is_in_range : Command → Bool
 is_in_range (Command.Attach name cells by) = is_by_in_range by
 is_in_range (Command.Define name params steps) = list_all is_step_in_range steps
+is_in_range (Command.Limit steps) = is_some steps
 is_in_range command = true
 
 -- the command, where its names are names and its numbers in range

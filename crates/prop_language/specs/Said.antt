@@ -16,7 +16,7 @@ use Rattle.prop_language.specs.declared.command.Passed.TheVariants as passeds
 use Rattle.prop_language.specs.declared.command.Step.{Step}
 use Rattle.prop_language.specs.declared.command.Step.TheVariants as steps
 use Rattle.prop_language.specs.declared.command.Command.{Command}
-use Rattle.prop_language.specs.declared.command.Command.TheVariants.{Silent, Domain, Relation, Cell, Define, Attach, Fix, Tell, Kick, Bring, Settle, Ask, Why, Worldview}
+use Rattle.prop_language.specs.declared.command.Command.TheVariants.{Silent, Domain, Relation, Cell, Define, Attach, Fix, Tell, Kick, Bring, Limit, Settle, Ask, Why, Worldview}
 
 abbrev pub words : List (Bor (List ℕ)) → List (List ℕ)
 words items = map (λ (w : Bor (List ℕ)). w.now) items
@@ -60,6 +60,7 @@ said (Fix cell value) = Some (commands.Command.Fix cell.now (value_of value))
 said (Tell premise cell value) = Some (commands.Command.Tell premise.now cell.now (value_of value))
 said (Kick premise) = Some (commands.Command.Kick premise.now)
 said (Bring premise) = Some (commands.Command.Bring premise.now)
+said (Limit steps) = Some (commands.Command.Limit (Some steps))
 said Settle = Some commands.Command.Settle
 said (Ask cell) = Some (commands.Command.Ask cell.now)
 said (Why cell) = Some (commands.Command.Why cell.now)

@@ -1,6 +1,7 @@
 -- How each command is spelled: the tokens of a line that asks for it.
-use Rattle.std.specs.Prelude.{◌≡◌, ◌≢◌, ◌⊎◌, ℕ, List, [], ◌∷◌, ◌++◌, true, false, codes, pos, map}
+use Rattle.std.specs.Prelude.{◌≡◌, ◌≢◌, ◌⊎◌, ℕ, List, [], ◌∷◌, ◌++◌, true, false, codes, pos, unsigned_abs, map}
 use Rattle.std.specs.List.{AllByRecursion}
+use Rattle.std.specs.Option.{option_map}
 use Rattle.prop_language.specs.Tokens.{Token, Word, Open, Close, Semicolon, Equals, Star}
 use Rattle.prop_language.specs.Names.{looks_like_number, number_in}
 use Rattle.prop_language.specs.Commands.{Value, Bare, Braces, KindWord, Spans, Truths, Symbols, Named, By, Passed, Step, Command}
@@ -8,7 +9,7 @@ use Rattle.prop_language.specs.Commands.{Value, Bare, Braces, KindWord, Spans, T
 -- the first words of the commands
 abbrev pub command_words : List (List ℕ)
 command_words =
-    codes "domain" ∷ codes "relation" ∷ codes "cell" ∷ codes "define" ∷ codes "attach" ∷ codes "fix" ∷ codes "tell" ∷ codes "kick" ∷ codes "bring" ∷ codes "settle" ∷ codes "ask" ∷ codes "why" ∷ codes "worldview" ∷ []
+    codes "domain" ∷ codes "relation" ∷ codes "cell" ∷ codes "define" ∷ codes "attach" ∷ codes "fix" ∷ codes "tell" ∷ codes "kick" ∷ codes "bring" ∷ codes "limit" ∷ codes "settle" ∷ codes "ask" ∷ codes "why" ∷ codes "worldview" ∷ []
 
 -- The word stands for the kind. Three kinds have words of their own, and another word is a domain's name.
 abbrev pub StandsFor : List ℕ → KindWord → Type 0
@@ -85,6 +86,8 @@ Spells ts (Command.Fix cell value) = ts ≡ Word (codes "fix") ∷ Word cell ∷
 Spells ts (Command.Tell premise cell value) = ts ≡ Word (codes "tell") ∷ Word premise ∷ Word cell ∷ tokens_of_value value
 Spells ts (Command.Kick premise) = ts ≡ Word (codes "kick") ∷ Word premise ∷ []
 Spells ts (Command.Bring premise) = ts ≡ Word (codes "bring") ∷ Word premise ∷ []
+Spells ts (Command.Limit steps) =
+    (w : List ℕ) × (ts ≡ Word (codes "limit") ∷ Word w ∷ []) × (option_map unsigned_abs (number_in (pos 0) (pos 1_000_000_000_000_000) w) ≡ steps)
 Spells ts Command.Settle = ts ≡ Word (codes "settle") ∷ []
 Spells ts (Command.Ask cell) = ts ≡ Word (codes "ask") ∷ Word cell ∷ []
 Spells ts (Command.Why cell) = ts ≡ Word (codes "why") ∷ Word cell ∷ []

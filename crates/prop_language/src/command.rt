@@ -54,6 +54,7 @@ pub enum Command<'a> {
     Tell(&'a str, &'a str, Value<'a>),
     Kick(&'a str),
     Bring(&'a str),
+    Limit(u64),
     Settle,
     Ask(&'a str),
     Why(&'a str),

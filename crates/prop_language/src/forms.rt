@@ -12,7 +12,7 @@ ghost use Rattle.prop_language.specs.Parts.{front, one_word, are_words, front_wo
 
 use crate::command::{By, Command, KindWord, Value};
 use crate::names::name;
-use crate::numbers::{looks_like_number, number_in};
+use crate::numbers::{looks_like_number, natural_in, number_in};
 use crate::tokens::{Token, next_token};
 use prop_lattice::Refusal;
 use std::alloc::Global;
@@ -230,6 +230,17 @@ pub fn cell(rest: &[u8]) -> Result<Command<'_>, Refusal>
     let (cell, kind) = only_two_words(rest)?;
     let (cell, kind) = named_kind(cell, kind)?;
     Ok(Command::Cell(cell, kind))
+}
+
+/// `limit N`, behind its first word: a number from 0 to 1,000,000,000,000,000.
+pub fn limit(rest: &[u8]) -> Result<Command<'_>, Refusal>
+    ensures read { Reads result (command_in_form (forms.on_word forms.limit_of (tokens rest.now))) }
+    ensures memory { result ≢ Err Refusal.Memory }
+{
+    match natural_in(1_000_000_000_000_000, only_word(rest)?) {
+        Some(steps) => Ok(Command::Limit(steps)),
+        None => Err(Refusal::NotANumber),
+    }
 }
 
 /// `settle`, behind its first word.

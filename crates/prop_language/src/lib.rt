@@ -11,5 +11,5 @@ mod tokens;
 
 pub use command::{By, Command, KindWord, Passed, Step, Value};
 pub use names::name;
-pub use numbers::number_in;
+pub use numbers::{natural_in, number_in};
 pub use reading::{read_line, reads_what_is_spelled};

@@ -1,5 +1,6 @@
 //! Whole numbers, as they are written.
-ghost use Rattle.std.specs.Prelude.{◌≡◌};
+ghost use Rattle.std.specs.Prelude.{◌≡◌, pos, unsigned_abs};
+ghost use Rattle.std.specs.Option.{option_map};
 ghost use Rattle.prop_language.specs.Names.{looks_like_number, number_in};
 ghost use Rattle.prop_language.specs.Parts.{number_up_to};
 
@@ -46,4 +47,20 @@ pub fn number_in(low: i64, high: i64, word: &[u8]) -> Option<i64>
 {
     let number = signed(word)?;
     (low <= number && number <= high).then_some(number)
+}
+
+/// The whole number that the word is, where it is one from 0 to `high`; it is written as for `number_in`.
+pub fn natural_in(high: u64, word: &[u8]) -> Option<u64>
+    ensures { result ≡ option_map unsigned_abs (number_in (pos 0) (pos high) word.now) }
+{
+    match word.split_first() {
+        Some((b'-', digits)) => match unsigned(digits) {
+            Some(0) => Some(0),
+            _ => None,
+        },
+        _ => match unsigned(word) {
+            Some(number) if number <= high => Some(number),
+            _ => None,
+        },
+    }
 }

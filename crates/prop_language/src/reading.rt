@@ -51,6 +51,7 @@ enum CommandWord {
     Tell,
     Kick,
     Bring,
+    Limit,
     Settle,
     Ask,
     Why,
@@ -58,7 +59,7 @@ enum CommandWord {
 }
 
 /// The commands by their first words.
-const COMMANDS: [(&[u8], CommandWord); 13] = [
+const COMMANDS: [(&[u8], CommandWord); 14] = [
     (b"domain", CommandWord::Domain),
     (b"relation", CommandWord::Relation),
     (b"cell", CommandWord::Cell),
@@ -68,6 +69,7 @@ const COMMANDS: [(&[u8], CommandWord); 13] = [
     (b"tell", CommandWord::Tell),
     (b"kick", CommandWord::Kick),
     (b"bring", CommandWord::Bring),
+    (b"limit", CommandWord::Limit),
     (b"settle", CommandWord::Settle),
     (b"ask", CommandWord::Ask),
     (b"why", CommandWord::Why),
@@ -106,6 +108,7 @@ fn read_form<'a>(
         CommandWord::Tell => forms::tell(alloc, rest),
         CommandWord::Kick => Ok(Command::Kick(forms::only_name(rest)?)),
         CommandWord::Bring => Ok(Command::Bring(forms::only_name(rest)?)),
+        CommandWord::Limit => forms::limit(rest),
         CommandWord::Settle => forms::settle(rest),
         CommandWord::Ask => Ok(Command::Ask(forms::only_name(rest)?)),
         CommandWord::Why => Ok(Command::Why(forms::only_name(rest)?)),

@@ -1,17 +1,17 @@
 -- Making the instances of a use: the network refuses none of them, and what it makes is what the use stands for.
 use Rattle.std.proofs.Common.{◌≡◌, ◌∙◌, ℕ, ◌<◌, ◌≤◌, ◌+◌, ◌-◌, ◌==◌, Bool, true, false, cond, not, List, [], ◌∷◌, ◌++◌, Option, Some, None, All, map, drop, length, slice_get, nat_le, is_none, unwrap_or, get_or, ◌⊎◌, inl, inr, refl, sym, ap, arith, suc, zero, zero-add}
-use Rattle.std.specs.Prelude.{⊤, Result, Ok, Err, OnOk, IfErr}
+use Rattle.std.specs.Prelude.{⊤, Result, Ok, Err, OnOk}
 use Rattle.std.specs.List.{list_any}
 use Rattle.std.specs.Option.{option_map_or, option_and_then}
 use Rattle.std.proofs.lemmas.Bool.{lt-leb, lt-ltb, le-ltb, cases_lt}
 use Rattle.std.proofs.lemmas.Bool.Decides.{nat_tests}
-use Rattle.std.proofs.lemmas.List.{map-append}
+use Rattle.std.proofs.lemmas.List.{map-append, length-map}
 use Rattle.std.proofs.lemmas.List.Folds.{list_any_none}
 use Rattle.std.proofs.lemmas.Option.{slice_get_cases, slice_get_past}
 use Rattle.prop_lattice.specs.Refusals.{most}
 use Rattle.prop_lattice.specs.declared.refusal.Limit.TheVariants.{Instances}
 use Rattle.prop_lattice.specs.declared.refusal.Refusal.{Refusal}
-use Rattle.prop_lattice.specs.declared.refusal.Refusal.TheVariants.{NoSuchCell, WrongCount, WrongKind, WrongParameter, LimitReached, Memory}
+use Rattle.prop_lattice.specs.declared.refusal.Refusal.TheVariants.{NoSuchCell, WrongCount, WrongKind, WrongParameter, LimitReached}
 use Rattle.prop_procedures.specs.declared.shape.Param.{Param}
 use Rattle.prop_procedures.specs.declared.shape.Param.TheVariants.{Plain}
 use Rattle.prop_procedures.specs.declared.shape.Need.{Need}
@@ -85,28 +85,36 @@ rows_none : (strange count kind param full : Bool) → strange ≡ false → cou
 unfolding rows
 rows_none strange count kind param full a b c d e = rw (a, b, c, d, e) refl
 
-module _ (library : List Stored) (d : Data) (cells : List ℕ) (next first : ℕ) (x : flats.Placed) (ins : List ℕ) (out : ℕ)
-    (may : MayBeMade library d.kinds (drop first d.params) cells next x) (ins_are : ins ≡ map (cell_placed cells next) x.inputs.items) (out_is : out ≡ cell_placed cells next x.output) where
-  cells_are : ins ++ out ∷ [] ≡ cells_made cells next x
-  cells_are = (λ i. ins_are i ++ out_is i ∷ []) ∙ sym (map-append (cell_placed cells next) x.inputs.items (x.output ∷ []))
+module _ (library : List Stored) (d : Data) (cells : List ℕ) (next first : ℕ) (x : flats.Placed) (may : MayBeMade library d.kinds (drop first d.params) cells next x)
+    (places ins : List ℕ) (out : ℕ) (places_are : places ≡ x.inputs.items) (ins_are : ins ≡ map (cell_placed cells next) places) (out_is : out ≡ cell_placed cells next x.output)
+    (held : Data) (params : List Param) (number : Option ℕ) (held_is : held ≡ d) (params_are : params ≡ held.params) (number_is : number ≡ param_number first (length params) x.param) where
+  placed : ins ≡ map (cell_placed cells next) x.inputs.items
+  placed = ins_are ∙ ap (map (cell_placed cells next)) places_are
 
-  -- the network does not refuse it
-  pub not_refused : length ins ≡ length x.inputs.items → length d.instances < most Instances → attach_refusal library d x.procedure (param_number first (length d.params) x.param) ins out ≡ None
+  numbered : number ≡ param_number first (length d.params) x.param
+  numbered = number_is ∙ (λ i. param_number first (length ((params_are ∙ ap (λ (h : Data). h.params) held_is) i)) x.param)
+
+  cells_are : ins ++ out ∷ [] ≡ cells_made cells next x
+  cells_are = (λ i. placed i ++ out_is i ∷ []) ∙ sym (map-append (cell_placed cells next) x.inputs.items (x.output ∷ []))
+
+  -- the network refuses nothing of it
+  pub made_fits : length d.instances < most Instances → attach_refusal library d x.procedure number ins out ≡ None
   unfolding rows
-  not_refused count room =
+  made_fits room =
       let p = may.procedure in
-      let number = param_number first (length d.params) x.param in
-      ap (λ (o : Option Stored). option_map_or (λ p. refusal_at p d number ins out) o None) may.at
-      ∙ rows_none (list_any (λ cell. nat_le (length d.kinds) cell) (ins ++ out ∷ [])) (length ins == length p.ins) (kinds_fit p d.kinds (sides_given d.params number) (ins ++ out ∷ [])) (is_none (param_in p.need d.params number)) (nat_le (most Instances) (length d.instances))
+      let here = param_number first (length d.params) x.param in
+      ap (λ (n : Option ℕ). attach_refusal library d x.procedure n ins out) numbered
+      ∙ ap (λ (o : Option Stored). option_map_or (λ p. refusal_at p d here ins out) o None) may.at
+      ∙ rows_none (list_any (λ cell. nat_le (length d.kinds) cell) (ins ++ out ∷ [])) (length ins == length p.ins) (kinds_fit p d.kinds (sides_given d.params here) (ins ++ out ∷ [])) (is_none (param_in p.need d.params here)) (nat_le (most Instances) (length d.instances))
       (none_strange (length d.kinds) (ins ++ out ∷ []) (rw cells_are may.below))
-      (rw (count, may.count) (eq-refl (length p.ins)))
+      (rw (ap length placed ∙ length-map x.inputs.items (cell_placed cells next), may.count) (eq-refl (length p.ins)))
       (rw (sides_behind d.params first x.param, cells_are) may.right)
       (rw (param_behind d.params first p.need x.param) may.takes)
       (lt-leb (most Instances) (length d.instances) room)
 
   -- what it makes is what the use stands for
-  pub made_is : attached library d.params x.procedure (param_number first (length d.params) x.param) ins out ≡ made_of library (drop first d.params) cells next x ∷ []
-  made_is = with_fitting (fitting_param may.procedure.need (param_at (drop first d.params) x.param)) refl
+  made_is : attached library d.params x.procedure number ins out ≡ made_of library (drop first d.params) cells next x ∷ []
+  made_is = ap (λ (n : Option ℕ). attached library d.params x.procedure n ins out) numbered ∙ with_fitting (fitting_param may.procedure.need (param_at (drop first d.params) x.param)) refl
     where
       p : Stored
       p = may.procedure
@@ -117,24 +125,15 @@ module _ (library : List Stored) (d : Data) (cells : List ℕ) (next first : ℕ
       with_fitting : (f : Option Param) → fitting_param p.need given ≡ f → attached library d.params x.procedure (param_number first (length d.params) x.param) ins out ≡ made_of library (drop first d.params) cells next x ∷ []
       with_fitting None e = let none : true ≡ false = sym (ap is_none e) ∙ may.takes in cc
       with_fitting (Some f) e =
-          let number = param_number first (length d.params) x.param in
-          let in_network : param_in p.need d.params number ≡ Some f = param_behind d.params first p.need x.param ∙ e in
+          let here = param_number first (length d.params) x.param in
+          let in_network : param_in p.need d.params here ≡ Some f = param_behind d.params first p.need x.param ∙ e in
           let param : unwrap_or (option_and_then (λ q. fitting_param q.need given) (slice_get library x.procedure)) Plain ≡ f =
           ap (λ (o : Option Stored). unwrap_or (option_and_then (λ q. fitting_param q.need given) o) Plain) may.at ∙ ap (λ (o : Option Param). unwrap_or o Plain) e in
-          ap (λ (o : Option Stored). option_map_or (λ q. option_map_or (λ f. instance_of x.procedure ins out f ∷ []) (param_in q.need d.params number) []) o []) may.at
+          ap (λ (o : Option Stored). option_map_or (λ q. option_map_or (λ f. instance_of x.procedure ins out f ∷ []) (param_in q.need d.params here) []) o []) may.at
           ∙ ap (λ (o : Option Param). option_map_or (λ f. instance_of x.procedure ins out f ∷ []) o []) in_network
-          ∙ (λ i. record { procedure = x.procedure; param = sym param i; inputs = ins_are i; output = out_is i } ∷ [])
+          ∙ (λ i. record { procedure = x.procedure; param = sym param i; inputs = placed i; output = out_is i } ∷ [])
 
-  -- nor does it lack anything but memory
-  pub made_ok : (r : Result ⊤ Refusal) (number : Option ℕ) (new : Data) → number ≡ param_number first (length d.params) x.param →
+  pub made_ok : (r : Result ⊤ Refusal) (new : Data) →
       OnOk r (new ≡ record d { instances = d.instances ++ attached library d.params x.procedure number ins out }) → OnOk r (new ≡ record d { instances = d.instances ++ made_of library (drop first d.params) cells next x ∷ [] })
-  made_ok (Ok u) number new e h = h ∙ ap (λ (xs : List Instance). record d { instances = d.instances ++ xs }) (ap (λ (n : Option ℕ). attached library d.params x.procedure n ins out) e ∙ made_is)
-  made_ok (Err refusal) number new e h = tt
-
-  pub made_err : (r : Result ⊤ Refusal) (number : Option ℕ) → number ≡ param_number first (length d.params) x.param → length ins ≡ length x.inputs.items → length d.instances < most Instances →
-      IfErr r (λ e. (attach_refusal library d x.procedure number ins out ≡ Some e) ⊎ (e ≡ Memory)) → IfErr r (λ e. e ≡ Memory)
-  made_err (Ok u) number e count room h = tt
-  made_err (Err refusal) number e count room (inl refused) =
-      let none : None ≡ Some refusal = sym (not_refused count room) ∙ ap (λ (n : Option ℕ). attach_refusal library d x.procedure n ins out) (sym e) ∙ refused in
-      cc
-  made_err (Err refusal) number e count room (inr m) = m
+  made_ok (Ok u) new h = h ∙ ap (λ (xs : List Instance). record d { instances = d.instances ++ xs }) made_is
+  made_ok (Err refusal) new h = tt

@@ -132,7 +132,7 @@ fn make_instance<R: Rule + Drop>(
     };
     let out = cell_placed(cells, base.cell, x.output);
     let param = param_number(base.param, network.data().params().len(), x.param);
-    network.attach(alloc, x.procedure, param, &ins, out)
+    network.attach_fitting(alloc, x.procedure, param, ins, out)
 }
 
 /// Makes these instances.

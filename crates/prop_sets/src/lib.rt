@@ -2,6 +2,7 @@
 #![tactic(auto)]
 
 pub mod domain;
+pub mod relation;
 pub mod removal;
 pub mod rows;
 pub mod side;
@@ -9,6 +10,7 @@ pub mod truth;
 mod words;
 
 pub use domain::Domain;
+pub use relation::Relation;
 pub use removal::without;
 pub use rows::Rows;
 pub use side::Side;

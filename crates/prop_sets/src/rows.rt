@@ -10,7 +10,7 @@ use prop_lattice::{Elements, Info};
 use std::alloc::{AllocError, Global};
 use std::marker::Model;
 
-/// A relation: pairs of an element of one domain and an element of another, or of the same.
+/// A relation that is being made: pairs of an element of one domain and an element of another, or of the same.
 #[derive(Debug, Drop)]
 pub struct Rows {
     from: Side,
@@ -69,20 +69,6 @@ impl Rows {
     {
         set_bit(&mut self.rows, i, j);
         set_bit(&mut self.columns, j, i);
-    }
-
-    /// The same relation once more.
-    pub fn copy(&self, alloc: Global) -> Result<Rows, AllocError>
-        ensures { IfOk result (λ m. m ≡ self.now) }
-    {
-        let rows = Vec::from_slice(alloc, &self.rows)?;
-        let columns = Vec::from_slice(alloc, &self.columns)?;
-        Ok(Rows {
-            from: self.from,
-            to: self.to,
-            rows,
-            columns,
-        })
     }
 
     /// All elements of the second domain that are paired with an element of `x`, a contradiction where there are none.

@@ -1,7 +1,7 @@
 //! Worked values of domains, relations and functions on truths.
 
 use prop_lattice::{Elements, Info, Refusal};
-use prop_sets::{Domain, Rows, Side, and_back, and3, not2, or_back, or3, without};
+use prop_sets::{Domain, Relation, Rows, Side, and_back, and3, not2, or_back, or3, without};
 use std::process::Abort;
 use std::test::Fail;
 
@@ -56,11 +56,13 @@ fn relations_have_their_pairs(rt: HostRuntime) -> Result<(), Fail> {
     let side = Side { domain: 1, size: 2 };
     let mut rows = Rows::new(rt.alloc(), side, side)?;
     rows.set(0, 1);
-    let copy = rows.copy(rt.alloc())?;
-    assert_eq!(rt; copy.from(), side);
-    assert_eq!(rt; copy.to(), side);
     assert_eq!(rt; rows.image(elements(&rt, 0b01)), Info::from_bits(0b10));
     assert_eq!(rt; rows.image(elements(&rt, 0b10)), Info::Contradiction);
+    let relation = Relation::new(rt.alloc(), rows)?;
+    let copy = relation.copy(rt.alloc())?;
+    drop(relation);
+    assert_eq!(rt; copy.from(), side);
+    assert_eq!(rt; copy.to(), side);
     assert_eq!(rt; copy.image(elements(&rt, 0b11)), Info::from_bits(0b10));
     assert_eq!(rt; copy.coimage(elements(&rt, 0b10)), Info::from_bits(0b01));
     Ok(())

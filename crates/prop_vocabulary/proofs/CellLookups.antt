@@ -1,5 +1,5 @@
 -- Names of cells and their numbers.
-use Rattle.std.proofs.Common.{◌≡◌, ◌∙◌, ◌<◌, ℕ, Bool, true, false, List, [], ◌∷◌, ◌++◌, Option, Some, None, map, length, take, get_or, ◌+◌, refl, sym, ap, arith, is_none, unwrap_or, slice_get, inl, inr, All, subst, ◌||◌}
+use Rattle.std.proofs.Common.{◌≡◌, ◌∙◌, ◌<◌, ℕ, Bool, false, List, [], ◌∷◌, ◌++◌, Option, Some, None, map, length, take, get_or, ◌+◌, refl, sym, ap, arith, is_none, unwrap_or, slice_get, inl, inr, All, subst}
 use Rattle.std.specs.Borrow.{Bor}
 use Rattle.std.specs.List.{list_any}
 use Rattle.std.specs.Option.{option_and_then}

@@ -8,7 +8,7 @@ use Rattle.prop_lattice.specs.declared.refusal.Refusal.TheVariants.{NotInTheDoma
 use Rattle.prop_sets.specs.Relation.{Relation, with_pair, no_pairs}
 use Rattle.prop_vocabulary.specs.Pairs.{texts_of_pairs, place_of, with_named_pair, with_pairs, is_pair_outside, is_outside}
 use Rattle.prop_vocabulary.specs.Refusing.{is_word_outside, pairs_refusal}
-use Rattle.prop_vocabulary.specs.Vocabulary.{Vocabulary, domain_number, elements_of, side_at, relation_between, relation_of, HasSides}
+use Rattle.prop_vocabulary.specs.Vocabulary.{Vocabulary, domain_number, elements_of, side_at, relation_between, HasSides}
 use Rattle.prop_vocabulary.proofs.RefusalLemmas.{word_outside, pairs_allowed}
 
 texts_more : (pairs : List (Bor (List ℕ) × Bor (List ℕ))) (i : ℕ) (d : Bor (List ℕ) × Bor (List ℕ)) → i < length pairs →

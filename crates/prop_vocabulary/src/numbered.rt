@@ -3,7 +3,7 @@ ghost use Rattle.std.specs.Prelude.{◌≡◌, slice_get, option_copied};
 ghost use Rattle.prop_vocabulary.specs.Names.{number_in};
 
 use crate::vocabulary::Vocabulary;
-use prop_sets::Rows;
+use prop_sets::Relation;
 
 impl Vocabulary {
     /// The number of the relation with this name: how many were declared before it.
@@ -14,7 +14,7 @@ impl Vocabulary {
     }
 
     /// The relation with this number, `None` where there is none.
-    pub fn relation_at(&self, number: usize) -> Option<&Rows>
+    pub fn relation_at(&self, number: usize) -> Option<&Relation>
         ensures { option_copied result ≡ slice_get self.now.relations number }
     {
         self.relations.get(number)

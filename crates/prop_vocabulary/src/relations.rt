@@ -10,12 +10,12 @@ use crate::growth::push_named;
 use crate::pairs::{add_pairs, is_outside};
 use crate::vocabulary::Vocabulary;
 use prop_lattice::{Limit, Refusal};
-use prop_sets::{Rows, Side};
+use prop_sets::{Relation, Rows, Side};
 use std::alloc::AllocError;
 
 impl Vocabulary {
     /// The relation with this name.
-    pub fn relation(&self, name: &str) -> Option<&Rows>
+    pub fn relation(&self, name: &str) -> Option<&Relation>
         ensures value { option_copied result ≡ relation_named self.now name.now }
         ensures sides { IfSome result (λ m. HasSides self.now.domains m.now) }
     {
@@ -42,13 +42,13 @@ impl Vocabulary {
         ensures refused { IfSome (relation_refusal self.old name.now from.now to.now (texts_of_pairs pairs.now)) (λ e. result ≡ Err e) }
         ensures why { IfErr result (λ e. (relation_refusal self.old name.now from.now to.now (texts_of_pairs pairs.now) ≡ Some e) ⊎ (e ≡ Refusal.Memory)) }
     {
-        let rows = self.relation_to_declare(name, from, to, pairs)?;
+        let relation = self.relation_to_declare(name, from, to, pairs)?;
         match push_named(
             self.alloc,
             &mut self.relation_names,
             &mut self.relations,
             name,
-            rows,
+            relation,
         ) {
             Ok(()) => Ok(()),
             Err(AllocError) => Err(Refusal::Memory),
@@ -62,7 +62,7 @@ impl Vocabulary {
         from: &str,
         to: &str,
         pairs: &[(&[u8], &[u8])],
-    ) -> Result<Rows, Refusal>
+    ) -> Result<Relation, Refusal>
         ensures ok { MatchResult result (λ m. (m ≡ relation_of self.now from.now to.now (texts_of_pairs pairs.now)) × HasSides self.now.domains m) (λ e. (relation_refusal self.now name.now from.now to.now (texts_of_pairs pairs.now) ≡ Some e) ⊎ (e ≡ Refusal.Memory)) }
         ensures refused { IfSome (relation_refusal self.now name.now from.now to.now (texts_of_pairs pairs.now)) (λ e. result ≡ Err e) }
         ensures allowed { OnOk result (relation_refusal self.now name.now from.now to.now (texts_of_pairs pairs.now) ≡ None) }
@@ -74,8 +74,8 @@ impl Vocabulary {
         if self.relation_names.len() >= Limit::Relations.most() {
             return Err(Refusal::LimitReached(Limit::Relations));
         }
-        match self.rows_of(first, second, pairs) {
-            Ok(rows) => Ok(rows),
+        match self.relation_with(first, second, pairs) {
+            Ok(relation) => Ok(relation),
             Err(AllocError) => Err(Refusal::Memory),
         }
     }
@@ -108,7 +108,12 @@ impl Vocabulary {
 
     /// The relation with these pairs between the domains with these numbers.
     #[tactic(auto, using(crate::proofs::PairLemmas::made_between, crate::proofs::PairLemmas::same_sides))]
-    fn rows_of(&self, first: u16, second: u16, pairs: &[(&[u8], &[u8])]) -> Result<Rows, AllocError>
+    fn relation_with(
+        &self,
+        first: u16,
+        second: u16,
+        pairs: &[(&[u8], &[u8])],
+    ) -> Result<Relation, AllocError>
         requires first { first < length self.now.domains }
         requires second { second < length self.now.domains }
         ensures rows { IfOk result (λ m. m ≡ relation_between self.now first second (texts_of_pairs pairs.now)) }
@@ -116,7 +121,7 @@ impl Vocabulary {
     {
         let mut rows = self.rows_between(first, second)?;
         add_pairs(&mut rows, self.domain(first), self.domain(second), pairs);
-        Ok(rows)
+        Relation::new(self.alloc, rows)
     }
 
     /// A relation without pairs between the domains with these numbers.

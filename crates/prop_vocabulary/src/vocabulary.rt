@@ -3,7 +3,7 @@ ghost use Rattle.std.specs.Prelude.{◌≡◌, IfOk};
 ghost use Rattle.prop_vocabulary.specs.Vocabulary.{start_vocabulary, truth_elements};
 
 use crate::names::Names;
-use prop_sets::{Domain, Rows};
+use prop_sets::{Domain, Relation};
 use std::alloc::{AllocError, Global};
 use std::marker::Model;
 
@@ -15,7 +15,7 @@ pub struct Vocabulary {
     pub(crate) domain_names: Names,
     pub(crate) domains: Vec<Domain>,
     pub(crate) relation_names: Names,
-    pub(crate) relations: Vec<Rows>,
+    pub(crate) relations: Vec<Relation>,
     pub(crate) symbols: Names,
 }
 

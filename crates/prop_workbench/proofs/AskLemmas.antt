@@ -15,6 +15,7 @@ use Rattle.prop_procedures.specs.Fitting.{kind_at}
 use Rattle.prop_cells.proofs.Founding.{believed_entailed}
 use Rattle.prop_scheduler.specs.Turns.{IsSettled}
 use Rattle.prop_scheduler.specs.Ends.{IfClash}
+use Rattle.prop_scheduler.specs.Potential.{most_steps}
 use Rattle.prop_scheduler.specs.declared.outcome.Run.{Run}
 use Rattle.prop_scheduler.specs.declared.outcome.Run.TheVariants.{Quiet, Clash, Spent}
 use Rattle.prop_language.specs.Commands as commands
@@ -44,19 +45,19 @@ free library s Worldview named = refl
 free library s (Ask cell name) named = rw named refl
 free library s (Why cell name) named = rw named refl
 
-carries : (library : List Stored) (s : State) (question : Question) (answer : Answer) (steps : ℕ) → Runs library s (command_of question) answer s steps → Carries library s (command_of question) answer s steps
-carries library s Settle answer steps r = r
-carries library s Worldview answer steps r = r
-carries library s (Ask cell name) answer steps r = r
-carries library s (Why cell name) answer steps r = r
+carries : (library : List Stored) (s t : State) (question : Question) (answer : Answer) (steps : ℕ) → Runs library s (command_of question) answer t steps → Carries library s (command_of question) answer t steps
+carries library s t Settle answer steps r = r
+carries library s t Worldview answer steps r = r
+carries library s t (Ask cell name) answer steps r = r
+carries library s t (Why cell name) answer steps r = r
 
 -- the run ended so, and what is answered may be said then
-pub ran : (library : List Stored) (s : State) (question : Question) (outcome : Outcome) (answer : Answer) (steps : ℕ) → IsNamed s question → MayEnd library s outcome → MaySay library s (command_of question) outcome steps answer → steps ≤ s.limit →
-    Obeys library s (command_of question) answer s steps
-ran library s question outcome answer steps named ends (inl (text, replies, e)) within =
-    obeys library s s (command_of question) answer steps (free library s question named)
-    (carries library s question answer steps (record { outcome = outcome; ends = ends; text = text; replies = replies; answer_is = e; same = refl; within = within }))
-ran library s question outcome answer steps named ends (inr m) within = inr (record { answer_is = m; same = refl })
+pub ran : (library : List Stored) (s t : State) (question : Question) (outcome : Outcome) (answer : Answer) (steps : ℕ) → t ≡ s → IsNamed s question → MayEnd library s outcome → MaySay library s (command_of question) outcome steps answer → steps ≤ s.limit →
+    Obeys library s (command_of question) answer t steps
+ran library s t question outcome answer steps same named ends (inl (text, replies, e)) within =
+    obeys library s t (command_of question) answer steps (free library s question named)
+    (carries library s t question answer steps (record { outcome = outcome; ends = ends; text = text; replies = replies; answer_is = e; same = same; within = within }))
+ran library s t question outcome answer steps same named ends (inr m) within = inr (record { answer_is = m; same = same })
 
 -- a contradiction may be said to each question
 pub may_contradict : (library : List Stored) (s : State) (question : Question) (support : List ℕ) (answer : Answer) (steps : ℕ) → IsStrictlyIncreasing support → Says answer (contradiction_text s.premises support) →
@@ -113,13 +114,14 @@ conflict_known problem believed n ps known conflict = support_known problem n co
 pub has_run : {R O : Type 0} {X : Type 0} {F : X → Type 0} {g : _} {E : Type 0} (value : R → Param → List Info → Info) (s : Session R O X F g) (r : Result (Run × ℕ) E) →
     IfOk r (λ x. x.0 ≡ Quiet → IsSettled (library_of value s) (believed_in s.premises) s.network.cells) →
     IfOk r (λ x. IfClash x.0 (λ p. IsConflict (problem_of (library_of value s) s.network.cells) (believed_in s.premises) (set_of p))) →
-    IfOk r (λ x. IfClash x.0 (IsClash (believed_in s.premises) s.network.cells)) → IfOk r (λ x. x.1 ≤ s.limit) → IfOk r (λ x. x.0 ≡ Spent → x.1 ≡ s.limit) → IfOk r (λ x. HasRun value s x.0 x.1)
-has_run value s (Err x) quiet conflict clash within spent = tt
-has_run value s (Ok (Quiet, n)) quiet conflict clash within spent =
+    IfOk r (λ x. IfClash x.0 (IsClash (believed_in s.premises) s.network.cells)) → IfOk r (λ x. x.1 ≤ s.limit) → IfOk r (λ x. x.0 ≡ Spent → x.1 ≡ s.limit) →
+    IfOk r (λ x. x.0 ≡ Spent → s.limit < most_steps (problem_of (library_of value s) s.network.cells)) → IfOk r (λ x. HasRun value s x.0 x.1)
+has_run value s (Err x) quiet conflict clash within spent earned = tt
+has_run value s (Ok (Quiet, n)) quiet conflict clash within spent earned =
     let settled = quiet refl in
     record { ends = (beliefs (believed_in s.premises) s.network.cells.contents, record { least = settled.least; free = settled.free }); clash = clash; settled = quiet; within = within; spent = spent }
-has_run value s (Ok (Spent, n)) quiet conflict clash within spent = record { ends = tt; clash = clash; settled = quiet; within = within; spent = spent }
-has_run value s (Ok (Clash support, n)) quiet conflict clash within spent = record { ends = conflict; clash = clash; settled = quiet; within = within; spent = spent }
+has_run value s (Ok (Spent, n)) quiet conflict clash within spent earned = record { ends = earned refl; clash = clash; settled = quiet; within = within; spent = spent }
+has_run value s (Ok (Clash support, n)) quiet conflict clash within spent earned = record { ends = conflict; clash = clash; settled = quiet; within = within; spent = spent }
 
 -- what is answered explains
 pub explained_by : (library : List Stored) (names : CellNames) (words : Vocabulary) (definitions : Definitions) (premises : List Origin) (d : Data) (limit cell : ℕ) (v : Info) (name mark support text : List ℕ) (answer : Answer) → v ≡ beliefs (believed_in premises) d.contents cell →

@@ -78,6 +78,7 @@ module _ (library : List Stored) (related : ℕ → Param → List Point → Poi
   carried None (commands.Command.Tell premise cell value) answer new steps text r e = inr (λ points p. tt)
   carried None (commands.Command.Kick premise) answer new steps text r e = inr (λ points p. tt)
   carried None (commands.Command.Bring premise) answer new steps text r e = inr (λ points p. tt)
+  carried None (commands.Command.Limit n) answer new steps text r e = inr (λ points p. tt)
 
   obeyed : (command : Command) (answer : Answer) (new : State) (steps : ℕ) (text : List ℕ) → Obeys library s command answer new steps → answer ≡ Text text → Bears command text
   obeyed command answer new steps text (inl c) e = carried (refusal_of library s command) command answer new steps text c e

@@ -1,5 +1,5 @@
 -- What an answer names, from the text that was made for it.
-use Rattle.std.proofs.Common.{◌≡◌, ◌∙◌, ◌⊎◌, ℕ, List, Some, Ok, inl, inr, refl, sym}
+use Rattle.std.proofs.Common.{◌≡◌, ◌∙◌, ◌⊎◌, ℕ, List, Option, Some, None, Result, Ok, Err, inl, inr, refl, sym}
 use Rattle.prop_lattice.specs.declared.info.Info.{Info}
 use Rattle.prop_lattice.specs.declared.refusal.Refusal.TheVariants.{Memory}
 use Rattle.prop_premises.specs.Origins.{Origin, believed_in}
@@ -7,6 +7,7 @@ use Rattle.prop_cells.specs.Data.{Data, beliefs, IsLeanAt, IsClash}
 use Rattle.prop_vocabulary.specs.Vocabulary.{Vocabulary}
 use Rattle.prop_lattice.specs.declared.refusal.Refusal.{Refusal}
 use Rattle.prop_language.specs.Commands as commands
+use Rattle.prop_language.specs.Commands.{Command}
 use Rattle.prop_engine.specs.Answers.{Answer, Says, Silent, Done, Text, Refused}
 use Rattle.prop_workbench.specs.declared.asking.Question.{Question}
 use Rattle.prop_workbench.specs.declared.asking.Question.TheVariants.{Settle, Worldview, Ask, Why}
@@ -62,3 +63,10 @@ lean_contradicted d s (Why cell name) answer lean = lean_answer d s name.now ans
 pub lean_bare : (d : Data) (s : State) (question : Question) (answer : Answer) → (question ≡ Settle) ⊎ (question ≡ Worldview) → IsLeanAnswer d s (Ok (Some (command_of question))) answer
 lean_bare d s question answer (inl e) = rw e tt
 lean_bare d s question answer (inr e) = rw e tt
+
+-- a refusal explains nothing
+pub lean_read_refused : (d : Data) (s : State) (read : Result (Option Command) Refusal) (refusal : Refusal) → IsLeanAnswer d s read (Refused refusal)
+lean_read_refused d s (Err e) refusal = tt
+lean_read_refused d s (Ok None) refusal = tt
+lean_read_refused d s (Ok (Some (commands.Command.Why name))) refusal = tt
+lean_read_refused d s (Ok (Some command)) refusal = tt

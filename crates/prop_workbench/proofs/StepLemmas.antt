@@ -1,5 +1,5 @@
 -- Steps of the machine from what its parts were tested for.
-use Rattle.std.proofs.Common.{◌≡◌, ◌∙◌, ℕ, true, false, length, ◌++◌, ap, List, [], ◌∷◌, Option, Some, None, Result, Ok, Err, ◌⊎◌, inl, inr, refl, sym, subst}
+use Rattle.std.proofs.Common.{◌≡◌, ◌∙◌, ◌≤◌, arith, ℕ, true, false, length, ◌++◌, ap, List, [], ◌∷◌, Option, Some, None, Result, Ok, Err, ◌⊎◌, inl, inr, refl, sym, subst}
 use Rattle.prop_lattice.specs.declared.refusal.Refusal.{Refusal}
 use Rattle.prop_lattice.specs.declared.refusal.Refusal.TheVariants.{Memory, NameTaken, NoSuchDomain}
 use Rattle.prop_premises.specs.Origins.{Origin}
@@ -18,7 +18,7 @@ use Rattle.prop_engine.specs.Answers.{Answer, Silent, Done, Text, Refused, answe
 use Rattle.prop_workbench.specs.Machine.{State}
 use Rattle.prop_workbench.specs.Refusing.{refusal_of, limit_refusal, is_nowhere}
 use Rattle.prop_vocabulary.specs.Refusing.{first_of}
-use Rattle.prop_workbench.specs.Steps.{Obeys, Carries, CarriesUnless, Follows}
+use Rattle.prop_workbench.specs.Steps.{Obeys, Carries, CarriesUnless, Runs, Follows}
 use Rattle.prop_vocabulary.specs.Cells.{CellNames, cell_named, with_cell_name}
 
 pub first_of-one : (r : Option Refusal) → first_of (r ∷ []) ≡ r
@@ -98,6 +98,7 @@ same_if_memory None library old new (commands.Command.Fix cell value) answer ste
 same_if_memory None library old new (commands.Command.Tell premise cell value) answer steps e r = let f : Refused Memory ≡ Done = sym e ∙ r.answer_is in cc
 same_if_memory None library old new (commands.Command.Kick premise) answer steps e r = let f : Refused Memory ≡ Done = sym e ∙ r.answer_is in cc
 same_if_memory None library old new (commands.Command.Bring premise) answer steps e r = let f : Refused Memory ≡ Done = sym e ∙ r.answer_is in cc
+same_if_memory None library old new (commands.Command.Limit n) answer steps e r = let f : Refused Memory ≡ Done = sym e ∙ r.answer_is in cc
 same_if_memory None library old new (commands.Command.Why cell) answer steps e r = let f : Refused Memory ≡ Text r.text = sym e ∙ r.answer_is in cc
 same_if_memory None library old new commands.Command.Worldview answer steps e r = let f : Refused Memory ≡ Text r.text = sym e ∙ r.answer_is in cc
 same_if_memory None library old new commands.Command.Settle answer steps e r = let f : Refused Memory ≡ Text r.text = sym e ∙ r.answer_is in cc
@@ -111,3 +112,44 @@ still_lacks library old new (Err refusal) answer steps others e (inr l) = inr l
 still_lacks library old new (Ok (Some command)) answer steps others e (inl c) =
     inr (record { answer_is = e; same = same_if_memory (refusal_of library old command) library old new command answer steps e c })
 still_lacks library old new (Ok (Some command)) answer steps others e (inr l) = inr l
+
+-- and nothing changed
+pub lacking_same : (library : List Stored) (old new : State) (read : Result (Option Command) Refusal) (answer : Answer) (steps : ℕ) → answer ≡ Refused Memory → Follows library old read answer new steps → new ≡ old
+lacking_same library old new (Ok None) answer steps e f = f.1
+lacking_same library old new (Err refusal) answer steps e (inl r) = r.same
+lacking_same library old new (Err refusal) answer steps e (inr l) = l.same
+lacking_same library old new (Ok (Some command)) answer steps e (inl c) = same_if_memory (refusal_of library old command) library old new command answer steps e c
+lacking_same library old new (Ok (Some command)) answer steps e (inr l) = l.same
+
+-- ---- steps
+
+none_within : (steps limit : ℕ) → steps ≡ 0 → steps ≤ limit
+none_within steps limit e = omega (arith, e)
+
+run_within : (library : List Stored) (old new : State) (command : Command) (answer : Answer) (steps : ℕ) → Runs library old command answer new steps → steps ≤ new.limit
+run_within library old new command answer steps r = rw r.same r.within
+
+carried_within : (o : Option Refusal) (library : List Stored) (old new : State) (command : Command) (answer : Answer) (steps : ℕ) → CarriesUnless o library old command answer new steps → steps ≤ new.limit
+carried_within (Some refusal) library old new command answer steps r = none_within steps new.limit r.no_steps
+carried_within None library old new (commands.Command.Domain name elements) answer steps r = none_within steps new.limit r.no_steps
+carried_within None library old new (commands.Command.Relation name from to pairs) answer steps r = none_within steps new.limit r.no_steps
+carried_within None library old new (commands.Command.Cell name kind) answer steps r = none_within steps new.limit r.no_steps
+carried_within None library old new (commands.Command.Define name params body) answer steps r = none_within steps new.limit r.no_steps
+carried_within None library old new (commands.Command.Attach name cells by) answer steps r = none_within steps new.limit r.no_steps
+carried_within None library old new (commands.Command.Fix cell value) answer steps r = none_within steps new.limit r.no_steps
+carried_within None library old new (commands.Command.Tell premise cell value) answer steps r = none_within steps new.limit r.no_steps
+carried_within None library old new (commands.Command.Kick premise) answer steps r = none_within steps new.limit r.no_steps
+carried_within None library old new (commands.Command.Bring premise) answer steps r = none_within steps new.limit r.no_steps
+carried_within None library old new (commands.Command.Limit n) answer steps r = none_within steps new.limit r.no_steps
+carried_within None library old new commands.Command.Settle answer steps r = run_within library old new commands.Command.Settle answer steps r
+carried_within None library old new (commands.Command.Ask cell) answer steps r = run_within library old new (commands.Command.Ask cell) answer steps r
+carried_within None library old new (commands.Command.Why cell) answer steps r = run_within library old new (commands.Command.Why cell) answer steps r
+carried_within None library old new commands.Command.Worldview answer steps r = run_within library old new commands.Command.Worldview answer steps r
+
+-- a step takes no more steps than the limit behind it, but where memory was refused
+pub steps_within : (library : List Stored) (old new : State) (read : Result (Option Command) Refusal) (answer : Answer) (steps : ℕ) → (answer ≡ Refused Memory → ⊥) → Follows library old read answer new steps → steps ≤ new.limit
+steps_within library old new (Ok None) answer steps n f = none_within steps new.limit f.2
+steps_within library old new (Err refusal) answer steps n (inl r) = none_within steps new.limit r.no_steps
+steps_within library old new (Err refusal) answer steps n (inr l) = absurd (n l.answer_is)
+steps_within library old new (Ok (Some command)) answer steps n (inl c) = carried_within (refusal_of library old command) library old new command answer steps c
+steps_within library old new (Ok (Some command)) answer steps n (inr l) = absurd (n l.answer_is)

@@ -127,4 +127,5 @@ effect library s (Command.Fix cell value) = stated s None (unwrap_or (cell_named
 effect library s (Command.Tell premise cell value) = stated s (Some premise) (unwrap_or (cell_named s.names cell) 0) (words_at s cell value) (info_at s cell value)
 effect library s (Command.Kick premise) = record s { premises = with_belief_at s.premises (number_given s.premises premise) false }
 effect library s (Command.Bring premise) = record s { premises = with_belief_at s.premises (number_given s.premises premise) true }
+effect library s (Command.Limit steps) = record s { limit = unwrap_or steps 0 }
 effect library s command = s

@@ -1,13 +1,15 @@
 -- What a command that runs the network asks, and what may be said to it.
-use Rattle.std.specs.Prelude.{◌≡◌, ℕ, ◌≤◌, List, Some, ⊤, ◌⊎◌}
+use Rattle.std.specs.Prelude.{◌≡◌, ℕ, ◌≤◌, ◌<◌, List, length, Option, Some, Result, Ok, ⊤, ◌⊎◌}
 use Rattle.prop_lattice.specs.declared.info.Info.{Info}
+use Rattle.prop_lattice.specs.declared.refusal.Refusal.{Refusal}
 use Rattle.prop_lattice.specs.declared.refusal.Refusal.TheVariants.{Memory}
 use Rattle.prop_premises.specs.Origins.{believed_in}
 use Rattle.prop_procedures.specs.declared.shape.Param.{Param}
 use Rattle.prop_procedures.specs.Stored.{Stored}
+use Rattle.prop_cells.specs.Problems.{Premises}
 use Rattle.prop_cells.specs.Data.{IsClash}
 use Rattle.prop_scheduler.specs.Ends.{IfClash}
-use Rattle.prop_scheduler.specs.Turns.{IsSettled}
+use Rattle.prop_scheduler.specs.Turns.{IsSettled, Turns}
 use Rattle.prop_scheduler.specs.declared.outcome.Run.{Run}
 use Rattle.prop_scheduler.specs.declared.outcome.Run.TheVariants.{Quiet, Spent}
 use Rattle.prop_language.specs.Commands as commands
@@ -17,9 +19,10 @@ use Rattle.prop_engine.specs.Answers.{Answer, Text, Refused}
 use Rattle.prop_workbench.specs.declared.asking.Question.{Question}
 use Rattle.prop_workbench.specs.declared.asking.Question.TheVariants.{Settle, Worldview, Ask, Why}
 use Rattle.prop_workbench.specs.declared.session.Session.{Session}
-use Rattle.prop_workbench.specs.Machine.{State}
+use Rattle.prop_workbench.specs.Machine.{State, worldview_of}
+use Rattle.prop_workbench.specs.Reasons.{IsLeanAnswer}
 use Rattle.prop_workbench.specs.Running.{Outcome, outcome_of, MayEnd, Replies}
-use Rattle.prop_workbench.specs.Sessions.{state_of, library_of}
+use Rattle.prop_workbench.specs.Sessions.{Work, state_of, library_of}
 
 -- the command that asks so
 abbrev pub command_of : Question → Command
@@ -43,6 +46,36 @@ pub record HasRun {R O : Type 0} {X : Type 0} {F : X → Type 0} {g : _} (value 
   pub within : steps ≤ (state_of s).limit
   pub spent : end ≡ Spent → steps ≡ (state_of s).limit
 
+-- which place an order may pick among how many that wait, and how it goes on
+abbrev pub Picks : Type 0 → Type 1
+Picks O = O → ℕ → ℕ → O → Type 0
+
+-- From the one network to the other it took exactly so many steps, each of which called a waiting procedure that the order picked. Where a contradiction ended that,
+-- it is there now, and where the steps were used up, some procedure still waits.
+pub record HasGone {O : Type 0} (picks : Picks O) (library : List Stored) (s : Premises) (old new : Work O) (end : Run) (steps : ℕ) : Type 0 where
+  pub turns : Turns picks library s old.cells old.line old.order steps new.cells new.line new.order
+  pub clash : IfClash end (IsClash s new.cells)
+  pub left : end ≡ Spent → 0 < length new.line
+
 -- the answer is a text that the machine may reply where a run ended so, or memory was refused
 abbrev pub MaySay : List Stored → State → Command → Outcome → ℕ → Answer → Type 0
 MaySay library s command outcome steps answer = ((text : List ℕ) × Replies library s command outcome steps text × (answer ≡ Text text)) ⊎ (answer ≡ Refused Memory)
+
+-- the text replies to the command as the network went from the one to the other
+pub record IsEarned {O : Type 0} (picks : Picks O) (library : List Stored) (s : State) (old new : Work O) (command : Command) (text : List ℕ) (steps : ℕ) : Type 0 where
+  pub end : Run
+  pub gone : HasGone picks library (worldview_of s) old new end steps
+  pub replies : Replies library s command (outcome_of end) steps text
+
+-- what a line that was read so is answered: a text to what runs the network is earned by the calls that it counts
+abbrev pub Earns : {O : Type 0} → Picks O → List Stored → State → Work O → Work O → Result (Option Command) Refusal → Answer → ℕ → Type 0
+Earns picks library s old new (Ok (Some commands.Command.Settle)) (Text text) steps = IsEarned picks library s old new commands.Command.Settle text steps
+Earns picks library s old new (Ok (Some (commands.Command.Ask x))) (Text text) steps = IsEarned picks library s old new (commands.Command.Ask x) text steps
+Earns picks library s old new (Ok (Some (commands.Command.Why x))) (Text text) steps = IsEarned picks library s old new (commands.Command.Why x) text steps
+Earns picks library s old new (Ok (Some commands.Command.Worldview)) (Text text) steps = IsEarned picks library s old new commands.Command.Worldview text steps
+Earns picks library s old new read answer steps = ⊤
+
+-- what an answer rests on: an explanation is lean, and a text is earned
+pub record RestsOn {O : Type 0} (picks : Picks O) (library : List Stored) (s : State) (old new : Work O) (read : Result (Option Command) Refusal) (answer : Answer) (steps : ℕ) : Type 0 where
+  pub lean : IsLeanAnswer new.cells s read answer
+  pub earned : Earns picks library s old new read answer steps

@@ -1,5 +1,5 @@
 -- How a command that runs the network may end, and what it may answer then.
-use Rattle.std.specs.Prelude.{◌≡◌, ◌≢◌, ℕ, IsTrue, List, [], codes, Some, All, ⊤, ◌⊎◌}
+use Rattle.std.specs.Prelude.{◌≡◌, ◌≢◌, ℕ, IsTrue, ◌<◌, List, [], codes, Some, All, ◌⊎◌}
 use Rattle.std.specs.List.Sorted.{IsStrictlyIncreasing}
 use Rattle.prop_lattice.specs.declared.info.Info.{Info}
 use Rattle.prop_lattice.specs.declared.info.Info.TheVariants as infos
@@ -10,6 +10,7 @@ use Rattle.prop_procedures.specs.Stored.{Stored}
 use Rattle.prop_cells.specs.Problems.{Assignment, IsLeastSolution, Entails, is_member}
 use Rattle.prop_cells.specs.Reach.{Explains, IsConflict}
 use Rattle.prop_procedures.specs.Fitting.{kind_at}
+use Rattle.prop_scheduler.specs.Potential.{most_steps}
 use Rattle.prop_scheduler.specs.declared.outcome.Run.{Run}
 use Rattle.prop_scheduler.specs.declared.outcome.Run.TheVariants.{Quiet, Clash, Spent}
 use Rattle.prop_language.specs.Commands.{Command}
@@ -35,10 +36,11 @@ pub record IsRest (library : List Stored) (s : State) (a : Assignment) : Type 0 
   pub least : IsLeastSolution (problem_in library s) (worldview_of s) a
   pub free : (cell : ℕ) → a cell ≢ infos.Contradiction
 
--- how a run may end: a contradiction is one of believed premises by themselves, each of which bears on the cell that they contradict
+-- How a run may end. It is cut short only by a limit below the most steps that the procedures can take. A contradiction is one of believed premises by themselves, each
+-- of which bears on the cell that they contradict.
 abbrev pub MayEnd : List Stored → State → Outcome → Type 0
 MayEnd library s Settled = (a : Assignment) × IsRest library s a
-MayEnd library s Unsettled = ⊤
+MayEnd library s Unsettled = s.limit < most_steps (problem_in library s)
 MayEnd library s (Contradiction ps) = IsConflict (problem_in library s) (worldview_of s) (set_of ps)
 
 -- the information at the cell in the least solution

@@ -31,16 +31,16 @@ impl<R: Rule + Drop, O: Order + Drop> Session<R, O> {
     ghost use Rattle.prop_engine.specs.Answers.{answer_of, Says, Text};
     ghost use Rattle.prop_workbench.specs.Machine.{text_at};
     ghost use Rattle.prop_texts.specs.Texts.{equation};
-    ghost use Rattle.prop_workbench.specs.Questions.{command_of, IsNamed, HasRun, MaySay};
+    ghost use Rattle.prop_workbench.specs.Questions.{command_of, IsNamed, HasRun, HasGone, MaySay, RestsOn};
     ghost use Rattle.prop_workbench.specs.Reasons.{IsLeanExplanation, IsLeanAnswer};
-    ghost use Rattle.prop_workbench.specs.Running.{Settled, Unsettled, Explained};
-    ghost use Rattle.prop_workbench.specs.Sessions.{state_of, library_of, IsSound, Keeps, IsMeant};
+    ghost use Rattle.prop_workbench.specs.Running.{Settled, Unsettled, Explained, outcome_of};
+    ghost use Rattle.prop_workbench.specs.Sessions.{state_of, work_of, library_of, IsInOrder, Keeps, IsMeant};
     ghost use Rattle.prop_workbench.specs.Steps.{Obeys};
 
     /// Runs the network, and tells how that ended and in how many steps.
     fn run_network(&mut self) -> Result<(Run, u64), AllocError>
         requires means { IsMeant R.value_of self.old }
-        requires sound { IsSound R.value_of self.old }
+        requires sound { IsInOrder R.value_of self.old }
         ensures keeps { Keeps R.value_of self.old self.new }
         ensures names { self.new.names ≡ self.old.names }
         ensures words { self.new.words ≡ self.old.words }
@@ -49,6 +49,7 @@ impl<R: Rule + Drop, O: Order + Drop> Session<R, O> {
         ensures worldview { self.new.worldview ≡ self.old.worldview }
         ensures state { state_of self.new ≡ state_of self.old }
         ensures run { IfOk result (λ r. HasRun R.value_of self.new r.0 r.1) }
+        ensures gone { IfOk result (λ r. HasGone O.picks (library_of R.value_of self.old) (believed_in self.old.premises) (work_of self.old) (work_of self.new) r.0 r.1) }
     {
         run(
             self.alloc,
@@ -63,11 +64,11 @@ impl<R: Rule + Drop, O: Order + Drop> Session<R, O> {
     /// Runs the network and answers the question, and tells in how many steps.
     pub(crate) fn answered(&mut self, question: Question<'_>) -> (Reply, u64)
         requires means { IsMeant R.value_of self.old }
-        requires sound { IsSound R.value_of self.old }
+        requires sound { IsInOrder R.value_of self.old }
         requires named { IsNamed (state_of self.old) question }
         ensures keeps { Keeps R.value_of self.old self.new }
         ensures step { Obeys (library_of R.value_of self.old) (state_of self.old) (command_of question.entry) (answer_of result.0) (state_of self.new) result.1 }
-        ensures lean { IsLeanAnswer self.new.network.cells (state_of self.old) (Ok (Some (command_of question.entry))) (answer_of result.0) }
+        ensures rests { RestsOn O.picks (library_of R.value_of self.old) (state_of self.old) (work_of self.old) (work_of self.new) (Ok (Some (command_of question.entry))) (answer_of result.0) result.1 }
     {
         match self.run_network() {
             Ok((end, steps)) => (self.reply_to(question, &end, steps), steps),
@@ -77,10 +78,10 @@ impl<R: Rule + Drop, O: Order + Drop> Session<R, O> {
 
     /// The answer to a question where a run of so many steps ended so.
     fn reply_to(&self, question: Question<'_>, end: &Run, steps: u64) -> Reply
-        requires sound { IsSound R.value_of self.now }
+        requires sound { IsInOrder R.value_of self.now }
         requires named { IsNamed (state_of self.now) question }
         requires run { HasRun R.value_of self.now end.now steps }
-        ensures step { Obeys (library_of R.value_of self.now) (state_of self.now) (command_of question.entry) (answer_of result) (state_of self.now) steps }
+        ensures says { MaySay (library_of R.value_of self.now) (state_of self.now) (command_of question.entry) (outcome_of end.now) steps (answer_of result) }
         ensures lean { IsLeanAnswer self.now.network.cells (state_of self.now) (Ok (Some (command_of question.entry))) (answer_of result) }
     {
         match end {
@@ -92,7 +93,7 @@ impl<R: Rule + Drop, O: Order + Drop> Session<R, O> {
 
     /// The answer to a question where the network is at rest.
     fn settled(&self, question: Question<'_>) -> Reply
-        requires sound { IsSound R.value_of self.now }
+        requires sound { IsInOrder R.value_of self.now }
         requires named { IsNamed (state_of self.now) question }
         requires rest { IsSettled (library_of R.value_of self.now) (believed_in self.now.premises) self.now.network.cells }
         ensures says { (steps : ℕ) → MaySay (library_of R.value_of self.now) (state_of self.now) (command_of question.entry) Settled steps (answer_of result) }
@@ -108,7 +109,7 @@ impl<R: Rule + Drop, O: Order + Drop> Session<R, O> {
 
     /// The answer to a question where every step of the limit was used.
     fn unsettled(&self, question: Question<'_>) -> Reply
-        requires sound { IsSound R.value_of self.now }
+        requires sound { IsInOrder R.value_of self.now }
         requires named { IsNamed (state_of self.now) question }
         ensures says { (steps : ℕ) → steps ≡ (state_of self.now).limit → MaySay (library_of R.value_of self.now) (state_of self.now) (command_of question.entry) Unsettled steps (answer_of result) }
         ensures lean { IsLeanAnswer self.now.network.cells (state_of self.now) (Ok (Some (command_of question.entry))) (answer_of result) }
@@ -125,9 +126,10 @@ impl<R: Rule + Drop, O: Order + Drop> Session<R, O> {
     /// What follows for a cell.
     pub(crate) fn ask(&mut self, name: &str) -> (Reply, u64)
         requires means { IsMeant R.value_of self.old }
-        requires sound { IsSound R.value_of self.old }
+        requires sound { IsInOrder R.value_of self.old }
         ensures keeps { Keeps R.value_of self.old self.new }
         ensures step { Obeys (library_of R.value_of self.old) (state_of self.old) (commands.Command.Ask name.now) (answer_of result.0) (state_of self.new) result.1 }
+        ensures rests { RestsOn O.picks (library_of R.value_of self.old) (state_of self.old) (work_of self.old) (work_of self.new) (Ok (Some (commands.Command.Ask name.now))) (answer_of result.0) result.1 }
     {
         match self.names.find(name) {
             Some(cell) => self.answered(Question::Ask(cell, name)),
@@ -138,10 +140,10 @@ impl<R: Rule + Drop, O: Order + Drop> Session<R, O> {
     /// What follows for a cell, and for which premises.
     pub(crate) fn why(&mut self, name: &str) -> (Reply, u64)
         requires means { IsMeant R.value_of self.old }
-        requires sound { IsSound R.value_of self.old }
+        requires sound { IsInOrder R.value_of self.old }
         ensures keeps { Keeps R.value_of self.old self.new }
         ensures step { Obeys (library_of R.value_of self.old) (state_of self.old) (commands.Command.Why name.now) (answer_of result.0) (state_of self.new) result.1 }
-        ensures lean { IsLeanAnswer self.new.network.cells (state_of self.old) (Ok (Some (commands.Command.Why name.now))) (answer_of result.0) }
+        ensures rests { RestsOn O.picks (library_of R.value_of self.old) (state_of self.old) (work_of self.old) (work_of self.new) (Ok (Some (commands.Command.Why name.now))) (answer_of result.0) result.1 }
     {
         match self.names.find(name) {
             Some(cell) => self.answered(Question::Why(cell, name)),
@@ -151,7 +153,7 @@ impl<R: Rule + Drop, O: Order + Drop> Session<R, O> {
 
     /// What is believed of a cell.
     fn belief(&self, cell: usize) -> Info
-        requires sound { IsSound R.value_of self.now }
+        requires sound { IsInOrder R.value_of self.now }
         requires cell { cell < length self.now.network.cells.kinds }
         ensures { result ≡ beliefs (believed_in self.now.premises) self.now.network.cells.contents cell }
     {
@@ -172,7 +174,7 @@ impl<R: Rule + Drop, O: Order + Drop> Session<R, O> {
 
     /// What is believed of a cell, the mark, and premises that are enough for it.
     fn explained(&self, cell: usize, name: &str, mark: &str) -> Reply
-        requires sound { IsSound R.value_of self.now }
+        requires sound { IsInOrder R.value_of self.now }
         requires cell { cell < length self.now.network.cells.kinds }
         ensures explained { Explained (library_of R.value_of self.now) (state_of self.now) cell (beliefs (believed_in self.now.premises) self.now.network.cells.contents cell) name.now mark.now (answer_of result) }
         ensures lean { (text : List ℕ) → answer_of result ≡ Text text → IsLeanExplanation self.now.network.cells (state_of self.now) cell name.now mark.now text }

@@ -60,12 +60,12 @@ impl<R: Rule + Drop, O: Order + Drop> Session<R, O> {
     ghost use Rattle.prop_compound.specs.Expanding.{expand_refusal};
     ghost use Rattle.prop_compound.specs.Flattened.{expansion_of_flat, IsFlatOver};
     ghost use Rattle.prop_workbench.specs.Effects.{with_use};
-    ghost use Rattle.prop_workbench.specs.Sessions.{state_of, library_of, IsSound, Keeps};
+    ghost use Rattle.prop_workbench.specs.Sessions.{state_of, library_of, IsInOrder, Keeps};
     ghost use Rattle.prop_workbench.specs.Steps.{Obeys};
 
     /// Puts a procedure or a definition between cells.
     pub(crate) fn attach(&mut self, name: &str, cells: &[&str], by: By) -> Result<(), Refusal>
-        requires sound { IsSound R.value_of self.old }
+        requires sound { IsInOrder R.value_of self.old }
         ensures keeps { Keeps R.value_of self.old self.new }
         ensures step { Obeys (library_of R.value_of self.old) (state_of self.old) (commands.Command.Attach name.now (words cells.now) (by_of by.entry)) (answer_done result) (state_of self.new) 0 }
     {
@@ -84,7 +84,7 @@ impl<R: Rule + Drop, O: Order + Drop> Session<R, O> {
 
     /// Puts the procedure or definition of a name between the cells of these numbers, whole or not at all.
     fn use_on(&mut self, name: &str, cells: &[usize], by: By) -> Result<(), Refusal>
-        requires sound { IsSound R.value_of self.old }
+        requires sound { IsInOrder R.value_of self.old }
         requires cells { All (λ c. c < length self.old.network.cells.kinds) cells.now }
         ensures keeps { Keeps R.value_of self.old self.new }
         ensures fits { OnOk result (use_refusal (library_of R.value_of self.old) (state_of self.old) name.now cells.now (by_of by.entry) ≡ None) }
@@ -100,7 +100,7 @@ impl<R: Rule + Drop, O: Order + Drop> Session<R, O> {
 
     /// What a use of the name on the cells of these numbers stands for.
     fn expanded(&self, name: &str, cells: &[usize], by: By) -> Result<Flat, Refusal>
-        requires sound { IsSound R.value_of self.now }
+        requires sound { IsInOrder R.value_of self.now }
         requires cells { All (λ c. c < length self.now.network.cells.kinds) cells.now }
         ensures fits { OnOk result (expand_refusal (library_of R.value_of self.now) self.now.words self.now.definitions name.now (map (kind_at self.now.network.cells.kinds) cells.now) (given_by self.now.words (by_of by.entry)) ≡ None) }
         ensures ok { IfOk result (λ flat. expansion_of_flat (map (kind_at self.now.network.cells.kinds) cells.now) flat ≡ used (library_of R.value_of self.now) (state_of self.now) name.now cells.now (by_of by.entry)) }

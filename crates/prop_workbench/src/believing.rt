@@ -27,12 +27,12 @@ impl<R: Rule + Drop, O: Order + Drop> Session<R, O> {
     ghost use Rattle.prop_premises.specs.Origins.{premise_number, with_belief_at};
     ghost use Rattle.prop_language.specs.Commands as commands;
     ghost use Rattle.prop_engine.specs.Answers.{answer_done};
-    ghost use Rattle.prop_workbench.specs.Sessions.{state_of, library_of, IsSound, Keeps};
+    ghost use Rattle.prop_workbench.specs.Sessions.{state_of, library_of, IsInOrder, Keeps};
     ghost use Rattle.prop_workbench.specs.Steps.{Obeys};
 
     /// The premise with a name is no longer believed.
     pub(crate) fn kick(&mut self, name: &str) -> Result<(), Refusal>
-        requires sound { IsSound R.value_of self.old }
+        requires sound { IsInOrder R.value_of self.old }
         ensures keeps { Keeps R.value_of self.old self.new }
         ensures step { Obeys (library_of R.value_of self.old) (state_of self.old) (commands.Command.Kick name.now) (answer_done result) (state_of self.new) 0 }
     {
@@ -41,7 +41,7 @@ impl<R: Rule + Drop, O: Order + Drop> Session<R, O> {
 
     /// The premise with a name is believed from now on.
     pub(crate) fn bring(&mut self, name: &str) -> Result<(), Refusal>
-        requires sound { IsSound R.value_of self.old }
+        requires sound { IsInOrder R.value_of self.old }
         ensures keeps { Keeps R.value_of self.old self.new }
         ensures step { Obeys (library_of R.value_of self.old) (state_of self.old) (commands.Command.Bring name.now) (answer_done result) (state_of self.new) 0 }
     {
@@ -50,7 +50,7 @@ impl<R: Rule + Drop, O: Order + Drop> Session<R, O> {
 
     /// Changes whether the premise with a name is believed. Where that is a change, every instance waits.
     fn believe(&mut self, name: &str, believed: bool) -> Result<(), Refusal>
-        requires sound { IsSound R.value_of self.old }
+        requires sound { IsInOrder R.value_of self.old }
         ensures keeps { Keeps R.value_of self.old self.new }
         ensures ok { OnOk result ((p : ℕ) × (premise_number self.old.premises name.now ≡ Some p) × (state_of self.new ≡ record (state_of self.old) { premises = with_belief_at self.old.premises p believed })) }
         ensures err { IfErr result (λ e. ((premise_number self.old.premises name.now ≡ None) × (e ≡ NoSuchPremise)) ⊎ (e ≡ Memory)) }

@@ -56,12 +56,12 @@ impl<R: Rule + Drop, O: Order + Drop> Session<R, O> {
     ghost use Rattle.prop_language.specs.Commands as commands;
     ghost use Rattle.prop_language.specs.Said.{kind_of, words, pairs_of, step_of};
     ghost use Rattle.prop_engine.specs.Answers.{answer_done};
-    ghost use Rattle.prop_workbench.specs.Sessions.{state_of, library_of, IsSound, Keeps, IsMeant};
+    ghost use Rattle.prop_workbench.specs.Sessions.{state_of, library_of, IsInOrder, Keeps, IsMeant};
     ghost use Rattle.prop_workbench.specs.Steps.{Obeys};
 
     /// Declares a domain.
     pub(crate) fn domain(&mut self, name: &str, elements: &[&str]) -> Result<(), Refusal>
-        requires sound { IsSound R.value_of self.old }
+        requires sound { IsInOrder R.value_of self.old }
         requires some { 0 < length elements.now }
         ensures keeps { Keeps R.value_of self.old self.new }
         ensures step { Obeys (library_of R.value_of self.old) (state_of self.old) (commands.Command.Domain name.now (words elements.now)) (answer_done result) (state_of self.new) 0 }
@@ -77,7 +77,7 @@ impl<R: Rule + Drop, O: Order + Drop> Session<R, O> {
         to: &str,
         pairs: &[(&[u8], &[u8])],
     ) -> Result<(), Refusal>
-        requires sound { IsSound R.value_of self.old }
+        requires sound { IsInOrder R.value_of self.old }
         ensures keeps { Keeps R.value_of self.old self.new }
         ensures step { Obeys (library_of R.value_of self.old) (state_of self.old) (commands.Command.Relation name.now from.now to.now (pairs_of pairs.now)) (answer_done result) (state_of self.new) 0 }
     {
@@ -91,7 +91,7 @@ impl<R: Rule + Drop, O: Order + Drop> Session<R, O> {
         params: &[&str],
         steps: &[Step],
     ) -> Result<(), Refusal>
-        requires sound { IsSound R.value_of self.old }
+        requires sound { IsInOrder R.value_of self.old }
         ensures keeps { Keeps R.value_of self.old self.new }
         ensures step { Obeys (library_of R.value_of self.old) (state_of self.old) (commands.Command.Define name.now (words params.now) (map step_of steps.now)) (answer_done result) (state_of self.new) 0 }
     {
@@ -108,7 +108,7 @@ impl<R: Rule + Drop, O: Order + Drop> Session<R, O> {
 
     /// Makes a cell.
     pub(crate) fn cell(&mut self, name: &str, kind: KindWord) -> Result<(), Refusal>
-        requires sound { IsSound R.value_of self.old }
+        requires sound { IsInOrder R.value_of self.old }
         ensures keeps { Keeps R.value_of self.old self.new }
         ensures step { Obeys (library_of R.value_of self.old) (state_of self.old) (commands.Command.Cell name.now (kind_of kind.entry)) (answer_done result) (state_of self.new) 0 }
     {

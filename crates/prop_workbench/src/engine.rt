@@ -1,12 +1,10 @@
-//! The engine: reads pieces, carries out lines, writes replies.
-ghost use Rattle.std.specs.Prelude.{◌≡◌, ℕ, ◌+◌, ◌<◌, ◌≤◌, ◌^◌, List, length, min, max, true, false, OnOk, OnErr, IfOk, IfErr, MatchResult, IsErrOf, ◌↔◌, ◌⊎◌};
+//! Sessions over a reader and a writer.
+ghost use Rattle.std.specs.Prelude.{◌≡◌, ℕ, ◌+◌, ◌≤◌, List, min, max, true, false, OnErr, IfOk, IsErrOf, ◌↔◌, ◌⊎◌};
 ghost use Rattle.std.specs.Io.KnownBytes.{Appends, Consumes};
-ghost use Rattle.prop_engine.specs.Watched.{device, has_failed, has_stopped, calls, widest, AppendsFront, IsFaulty, IsFresh};
-ghost use Rattle.prop_engine.specs.Answers.{Answer, text_written};
-ghost use Rattle.prop_engine.specs.Progress.{CountsAnswer, Advances, Stops, GrowsAtMost};
+ghost use Rattle.prop_engine.specs.Watched.{device, has_failed, has_stopped, calls, widest, IsFaulty, IsFresh};
 
 use crate::session::Session;
-use prop_engine::{Counts, EngineFault, Pending, Reply, Watched, write_reply};
+use prop_engine::{Counts, EngineFault, Watched, run_session};
 use prop_procedures::Rule;
 use prop_scheduler::Order;
 use std::io::{Read, Write};
@@ -15,67 +13,6 @@ impl<R: Rule + Drop, O: Order + Drop> Session<R, O> {
     ghost use Rattle.prop_workbench.specs.Sessions.{state_of, IsSound, IsMeant};
     ghost use Rattle.prop_workbench.specs.Engine.{machine_of};
     ghost use Rattle.prop_engine.specs.Endings.{Tells, WritesTranscript, WritesFront};
-
-    /// Carries out a line and writes its reply.
-    fn answer<W: Write>(
-        &mut self,
-        line: &[u8],
-        writer: &mut Watched<W>,
-        counts: &mut Counts,
-    ) -> Result<(), EngineFault>
-        requires means { IsMeant R.value_of self.old }
-        requires sound { IsSound R.value_of self.old }
-        requires lines { counts.old.lines < 2 ^ 127 }
-        requires refused { counts.old.refused < 2 ^ 127 }
-        ensures same { self.new.network.library ≡ self.old.network.library }
-        ensures sound { IsSound R.value_of self.new }
-        ensures step { (answer : Answer) × machine_of R.value_of R.related self.old (state_of self.old) line.now answer (state_of self.new) × MatchResult result
-            (λ _. Appends (W.contents (device writer.old)) (W.contents (device writer.new)) (text_written answer) × CountsAnswer counts.old counts.new answer)
-            (λ _. AppendsFront (W.contents (device writer.old)) (W.contents (device writer.new)) (text_written answer)) }
-        ensures fault { IfErr result (λ e. (e ≡ EngineFault.Write) × IsFaulty writer.new) }
-        ensures fresh { OnOk result (IsFresh writer.old → IsFresh writer.new) }
-    {
-        let reply = self.command(line);
-        write_reply(writer, &reply)?;
-        counts.lines += 1;
-        if let Reply::Refused(_) = reply {
-            counts.refused += 1;
-        }
-        Ok(())
-    }
-
-    /// Takes the next piece of the input.
-    fn feed<W: Write>(
-        &mut self,
-        piece: &[u8],
-        pending: &mut Pending,
-        writer: &mut Watched<W>,
-        counts: &mut Counts,
-    ) -> Result<(), EngineFault>
-        requires means { IsMeant R.value_of self.old }
-        requires sound { IsSound R.value_of self.old }
-        requires lines { counts.old.lines + length piece.now < 2 ^ 127 }
-        requires refused { counts.old.refused + length piece.now < 2 ^ 127 }
-        ensures same { self.new.network.library ≡ self.old.network.library }
-        ensures sound { IsSound R.value_of self.new }
-        ensures ok { OnOk result ((output : List ℕ) × Appends (W.contents (device writer.old)) (W.contents (device writer.new)) output
-            × Advances (machine_of R.value_of R.related self.old) (state_of self.old) pending.old counts.old piece.now output (state_of self.new) pending.new counts.new) }
-        ensures err { OnErr result ((output : List ℕ) × Appends (W.contents (device writer.old)) (W.contents (device writer.new)) output
-            × Stops (machine_of R.value_of R.related self.old) (state_of self.old) pending.old counts.old piece.now output (state_of self.new)) }
-        ensures bounded { OnOk result (GrowsAtMost counts.old counts.new (length piece.now)) }
-        ensures fault { IfErr result (λ e. (e ≡ EngineFault.Write) × IsFaulty writer.new) }
-        ensures fresh { OnOk result (IsFresh writer.old → IsFresh writer.new) }
-    {
-        for byte in piece {
-            if *byte == b'\n' {
-                self.answer(pending.as_slice(), writer, counts)?;
-                pending.clear();
-            } else {
-                pending.push(*byte);
-            }
-        }
-        Ok(())
-    }
 
     /// Reads the input to its end, in at most so many reads of at most 4,096 bytes, and writes
     /// the replies to its lines. Each reply is written and passed on before the next line is
@@ -114,51 +51,6 @@ impl<R: Rule + Drop, O: Order + Drop> Session<R, O> {
         ensures at_most { calls reader.new ≤ calls reader.old + reads }
         ensures pieces { widest reader.new ≤ max (widest reader.old) 4096 }
     {
-        self.run(reader, writer, reads)
-    }
-
-    fn run<Rd: Read, W: Write>(
-        &mut self,
-        reader: &mut Watched<Rd>,
-        writer: &mut Watched<W>,
-        reads: u64,
-    ) -> Result<Counts, EngineFault>
-        requires means { IsMeant R.value_of self.old }
-        requires sound { IsSound R.value_of self.old }
-        requires reader { IsFresh reader.old }
-        requires writer { IsFresh writer.old }
-        ensures same { self.new.network.library ≡ self.old.network.library }
-        ensures sound { IsSound R.value_of self.new }
-        ensures told { (input : List ℕ) × (output : List ℕ)
-            × Consumes (Rd.remaining (device reader.old)) (Rd.remaining (device reader.new)) input
-            × Appends (W.contents (device writer.old)) (W.contents (device writer.new)) output
-            × Tells (machine_of R.value_of R.related self.old) result (Rd.remaining (device reader.new)) (has_stopped reader.new) (state_of self.old) input output (state_of self.new) }
-        ensures read { IsErrOf result EngineFault.Read ↔ (has_failed reader.new ≡ true) }
-        ensures write { IsErrOf result EngineFault.Write → IsFaulty writer.new }
-        ensures reads { IsErrOf result EngineFault.Reads → (has_stopped reader.new ≡ false) × (calls reader.new ≡ min (calls reader.old + reads) u64.MAX) }
-        ensures passed_on { IsErrOf result EngineFault.Write ⊎ IsFresh writer.new }
-        ensures at_most { calls reader.new ≤ calls reader.old + reads }
-        ensures pieces { widest reader.new ≤ max (widest reader.old) 4096 }
-    {
-        let mut piece = [0; 4096];
-        let mut pending = Pending::new();
-        let mut counts = Counts {
-            lines: 0,
-            refused: 0,
-        };
-        for _turn in 0..reads {
-            let count = match reader.read(&mut piece) {
-                Ok(count) => count,
-                Err(_) => return Err(EngineFault::Read),
-            };
-            if count == 0 {
-                if !pending.is_empty() {
-                    self.answer(pending.as_slice(), writer, &mut counts)?;
-                }
-                return Ok(counts);
-            }
-            self.feed(&piece[..count], &mut pending, writer, &mut counts)?;
-        }
-        Err(EngineFault::Reads)
+        run_session(self, reader, writer, reads)
     }
 }

@@ -46,7 +46,7 @@ impl<R: Rule + Drop, O: Order + Drop> Session<R, O> {
     ghost use Rattle.prop_values.specs.Values.{Name};
     ghost use Rattle.prop_vocabulary.specs.Vocabulary.{with_symbol, symbol_number};
     ghost use Rattle.prop_workbench.specs.Refusing.{telling_limit, statement_limit, stating_limit};
-    ghost use Rattle.prop_workbench.specs.Sessions.{state_of, library_of, IsSound, Keeps, IsMeant};
+    ghost use Rattle.prop_workbench.specs.Sessions.{state_of, library_of, IsInOrder, Keeps, IsMeant};
     ghost use Rattle.prop_workbench.specs.Steps.{Obeys};
 
     /// States what a value says at a cell, under the premise with a name or under none.
@@ -56,7 +56,7 @@ impl<R: Rule + Drop, O: Order + Drop> Session<R, O> {
         name: &str,
         value: &Value,
     ) -> Result<(), Refusal>
-        requires sound { IsSound R.value_of self.old }
+        requires sound { IsInOrder R.value_of self.old }
         ensures keeps { Keeps R.value_of self.old self.new }
         ensures step { Obeys (library_of R.value_of self.old) (state_of self.old) (stating (name_of premise.entry) name.now (value_of value.now)) (answer_done result) (state_of self.new) 0 }
     {
@@ -79,7 +79,7 @@ impl<R: Rule + Drop, O: Order + Drop> Session<R, O> {
         cell: usize,
         meant: Meant,
     ) -> Result<(), Refusal>
-        requires sound { IsSound R.value_of self.old }
+        requires sound { IsInOrder R.value_of self.old }
         requires cell { cell < length self.old.network.cells.kinds }
         requires may { MayMean (kind_at self.old.network.cells.kinds cell) (meant_of meant) }
         ensures keeps { Keeps R.value_of self.old self.new }
@@ -101,7 +101,7 @@ impl<R: Rule + Drop, O: Order + Drop> Session<R, O> {
         cell: usize,
         symbol: &str,
     ) -> Result<(), Refusal>
-        requires sound { IsSound R.value_of self.old }
+        requires sound { IsInOrder R.value_of self.old }
         requires cell { cell < length self.old.network.cells.kinds }
         requires may { (kind_at self.old.network.cells.kinds cell).kind ≡ Kind.Symbol }
         ensures keeps { Keeps R.value_of self.old self.new }
@@ -130,7 +130,7 @@ impl<R: Rule + Drop, O: Order + Drop> Session<R, O> {
 
     /// Why one more statement is refused, under the premise with a name or under none.
     fn statement_limit(&self, premise: Option<&str>) -> Option<Refusal>
-        requires sound { IsSound R.value_of self.now }
+        requires sound { IsInOrder R.value_of self.now }
         ensures { result ≡ statement_limit (state_of self.now) (name_of premise.entry) }
     {
         match premise {
@@ -148,7 +148,7 @@ impl<R: Rule + Drop, O: Order + Drop> Session<R, O> {
 
     /// Makes a statement under the premise with a name, which may be new, or under none.
     fn state_said(&mut self, premise: Option<&str>, cell: usize, info: Info) -> Result<(), Refusal>
-        requires sound { IsSound R.value_of self.old }
+        requires sound { IsInOrder R.value_of self.old }
         requires cell { cell < length self.old.network.cells.kinds }
         requires may { IsTrue (may_be_stated (kind_at self.old.network.cells.kinds cell).kind (kind_at self.old.network.cells.kinds cell).size info) }
         ensures keeps { Keeps R.value_of self.old self.new }
@@ -166,7 +166,7 @@ impl<R: Rule + Drop, O: Order + Drop> Session<R, O> {
 
     /// Makes a statement under the premise with a name, which may be new.
     fn state_told(&mut self, premise: &str, cell: usize, info: Info) -> Result<(), Refusal>
-        requires sound { IsSound R.value_of self.old }
+        requires sound { IsInOrder R.value_of self.old }
         requires cell { cell < length self.old.network.cells.kinds }
         requires may { IsTrue (may_be_stated (kind_at self.old.network.cells.kinds cell).kind (kind_at self.old.network.cells.kinds cell).size info) }
         ensures keeps { Keeps R.value_of self.old self.new }
@@ -184,7 +184,7 @@ impl<R: Rule + Drop, O: Order + Drop> Session<R, O> {
 
     /// Makes a statement under a premise that there is, or under none.
     fn state(&mut self, premise: Option<Premise>, cell: usize, info: Info) -> Result<(), Refusal>
-        requires sound { IsSound R.value_of self.old }
+        requires sound { IsInOrder R.value_of self.old }
         requires cell { cell < length self.old.network.cells.kinds }
         requires known { (p : ℕ) → premise ≡ Some p → p < length self.old.premises }
         ensures keeps { Keeps R.value_of self.old self.new }
@@ -207,7 +207,7 @@ impl<R: Rule + Drop, O: Order + Drop> Session<R, O> {
 
     /// Makes a statement under a premise with a new name, which is believed.
     fn state_under_new(&mut self, name: &str, cell: usize, info: Info) -> Result<(), Refusal>
-        requires sound { IsSound R.value_of self.old }
+        requires sound { IsInOrder R.value_of self.old }
         requires cell { cell < length self.old.network.cells.kinds }
         requires may { IsTrue (may_be_stated (kind_at self.old.network.cells.kinds cell).kind (kind_at self.old.network.cells.kinds cell).size info) }
         requires new { premise_number self.old.premises name.now ≡ None }

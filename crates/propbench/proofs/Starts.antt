@@ -1,7 +1,7 @@
 -- How a session begins.
-use Rattle.std.proofs.Common.{◌≡◌, ◌∙◌, ℕ, zero, suc, ◌+◌, ◌<◌, ◌≤◌, ap, List, [], ◌∷◌, ◌++◌, length, map, take, get_or, inl, refl}
+use Rattle.std.proofs.Common.{◌≡◌, ◌∙◌, ℕ, zero, suc, ◌+◌, ◌<◌, ◌≤◌, ap, List, [], ◌∷◌, ◌++◌, length, map, take, get_or, inl, refl, arith, subst}
 use Rattle.std.proofs.lemmas.List.{take_more, take_all, map-append}
-use Rattle.std.specs.Prelude.{Option, Some, slice_get, IsSomeAnd}
+use Rattle.std.specs.Prelude.{Option, Some, slice_get, IsSomeAnd, Result, IfOk, OnErr}
 use Rattle.std.proofs.lemmas.Option.{none-some, same_Some}
 use Rattle.prop_lattice.specs.Points.{Point}
 use Rattle.prop_procedures.specs.declared.shape.Param.{Param}
@@ -10,16 +10,43 @@ use Rattle.prop_procedures.specs.Stored.{Stored}
 use Rattle.prop_procedures.specs.Kept.{related_of}
 use Rattle.prop_procedures.specs.declared.library.Library.{Library}
 use Rattle.prop_cells.specs.Points.{AreSoundBy}
-use Rattle.prop_procedures.specs.Kept.{stored_as}
+use Rattle.prop_procedures.specs.Kept.{stored_as, stored_of}
 use Rattle.prop_procedures.specs.declared.procedure.Procedure.{Procedure}
 use Rattle.prop_arith.specs.Kit.{in_order, name_of, ins_of, out_of, need_of, value_of, Related}
 use Rattle.prop_arith.specs.KitLaws.{kit_sound}
 use Rattle.prop_arith.specs.declared.kit.Kit.{Kit}
-use Rattle.propbench.specs.Kits.{stored_kit, kit_library, kit_related, IsAnsweredInFront}
+use Rattle.prop_arith.specs.declared.kit.Kit.TheVariants.{Add, Sub, Mul, Div, Square, Root, Less, Below, Above, Copy, Alike, Apart, Switch, Not, And, AndBack, Or, OrBack, Image, Coimage}
+use Rattle.prop_engine.specs.declared.outcome.Counts.{Counts}
+use Rattle.prop_workbench.specs.Machine.{State, new_state}
+use Rattle.propbench.specs.declared.fault.Fault.{Fault}
+use Rattle.propbench.specs.Kits.{stored_kit, kit_library, kit_related, IsAnsweredBy, IsAnsweredInFrontBy, IsAnswered, IsAnsweredInFront}
 
 -- before the session nothing is written
 pub nothing_yet : (left held : Option (List ℕ)) (limit : ℕ) → IsAnsweredInFront left held held limit
 nothing_yet left held limit = inl refl
+
+-- each rule has an input, and at most eight
+pub inputs_fit : (rule : Kit) → (1 ≤ length (ins_of rule)) × (length (ins_of rule) ≤ 8)
+inputs_fit Add = (omega arith, omega arith)
+inputs_fit Sub = (omega arith, omega arith)
+inputs_fit Mul = (omega arith, omega arith)
+inputs_fit Div = (omega arith, omega arith)
+inputs_fit Square = (omega arith, omega arith)
+inputs_fit Root = (omega arith, omega arith)
+inputs_fit Less = (omega arith, omega arith)
+inputs_fit Below = (omega arith, omega arith)
+inputs_fit Above = (omega arith, omega arith)
+inputs_fit Copy = (omega arith, omega arith)
+inputs_fit Alike = (omega arith, omega arith)
+inputs_fit Apart = (omega arith, omega arith)
+inputs_fit Switch = (omega arith, omega arith)
+inputs_fit Not = (omega arith, omega arith)
+inputs_fit And = (omega arith, omega arith)
+inputs_fit AndBack = (omega arith, omega arith)
+inputs_fit Or = (omega arith, omega arith)
+inputs_fit OrBack = (omega arith, omega arith)
+inputs_fit Image = (omega arith, omega arith)
+inputs_fit Coimage = (omega arith, omega arith)
 
 -- a procedure with the name, the form and the value of a rule
 pub stored_is : {X : Type 0} {F : X → Type 0} {g : _} → (p : Procedure Kit X F g) (k : Kit) → p.name.now ≡ name_of k → p.ins.items ≡ ins_of k → p.out ≡ out_of k → p.need ≡ need_of k → p.rule ≡ k → stored_as value_of p ≡ stored_kit k
@@ -57,3 +84,19 @@ related_by_rules {X} {F} {g} library e = (λ i n param points point. by library.
 -- one more procedure is of one more rule
 pub ruled_more : {X : Type 0} {F : X → Type 0} {g : _} → (items all : List (Procedure Kit X F g)) (p : Procedure Kit X F g) (rules : List Kit) (i : ℕ) (d : Kit) → all ≡ items ++ p ∷ [] → i < length rules → p.rule ≡ get_or rules i d → map (λ q. q.rule) items ≡ take i rules → map (λ q. q.rule) all ≡ take (i + 1) rules
 ruled_more items all p rules i d e h s l = rw (e, map-append (λ q. q.rule) items (p ∷ []), l, s, take_more rules i d h) refl
+
+-- ---- what a session over the kit wrote
+
+-- a session whose library has the kit's procedures, from the state of a new one
+pub answered_by_kit : {X : Type 0} {F : X → Type 0} {g : _} → (library : Library Kit X F g) (items : List (Procedure Kit X F g)) (s : State) (limit : ℕ) (left held held' : Option (List ℕ)) (result : Result Counts Fault) → library.procedures.items ≡ items → map (stored_as value_of) items ≡ kit_library → map (λ p. p.rule) items ≡ in_order → s ≡ new_state limit → IfOk result (IsAnsweredBy (stored_of value_of library) (related_of Related library) s left held held') → IfOk result (IsAnswered left held held' limit)
+answered_by_kit library items s limit left held held' result same listed ruled begun h =
+    let stored : stored_of value_of library ≡ kit_library = ap (map (stored_as value_of)) same ∙ listed in
+    let related : related_of Related library ≡ kit_related = related_by_rules library (ap (map (λ p. p.rule)) same ∙ ruled) in
+    subst (λ (P : Type 0). P) (λ i. IfOk result (IsAnsweredBy (stored i) (related i) (begun i) left held held')) h
+
+-- the same of what it wrote until it was stopped
+pub answered_in_front_by_kit : {X : Type 0} {F : X → Type 0} {g : _} → (library : Library Kit X F g) (items : List (Procedure Kit X F g)) (s : State) (limit : ℕ) (left held held' : Option (List ℕ)) (result : Result Counts Fault) → library.procedures.items ≡ items → map (stored_as value_of) items ≡ kit_library → map (λ p. p.rule) items ≡ in_order → s ≡ new_state limit → OnErr result (IsAnsweredInFrontBy (stored_of value_of library) (related_of Related library) s left held held') → OnErr result (IsAnsweredInFront left held held' limit)
+answered_in_front_by_kit library items s limit left held held' result same listed ruled begun h =
+    let stored : stored_of value_of library ≡ kit_library = ap (map (stored_as value_of)) same ∙ listed in
+    let related : related_of Related library ≡ kit_related = related_by_rules library (ap (map (λ p. p.rule)) same ∙ ruled) in
+    subst (λ (P : Type 0). P) (λ i. OnErr result (IsAnsweredInFrontBy (stored i) (related i) (begun i) left held held')) h

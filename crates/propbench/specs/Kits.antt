@@ -24,16 +24,19 @@ kit_library = map stored_kit in_order
 abbrev pub kit_related : ℕ → Param → List Point → Point → Type 0
 kit_related n param points point = IsSomeAnd (slice_get in_order n) (λ rule. Related rule param points point)
 
--- the state of a session that begins without cells, once the prelude is loaded
-abbrev pub IsBegun : ℕ → State → Type 0
-IsBegun limit first = Loads kit_library (new_state limit) prelude_lines first
-
--- a writer got a transcript of all that the reader had left, where that is known, of a session that began with the prelude
-abbrev pub IsAnswered : Option (List ℕ) → Option (List ℕ) → Option (List ℕ) → ℕ → Counts → Type 0
-IsAnswered left held held' limit counts =
-    (first : State) × (new : State) × IsBegun limit first × WritesTranscript (workbench kit_library kit_related) left held held' counts first new
+-- a writer got a transcript of all that the reader had left, where that is known, of a session that loaded the prelude in this state
+abbrev pub IsAnsweredBy : List Stored → (ℕ → Param → List Point → Point → Type 0) → State → Option (List ℕ) → Option (List ℕ) → Option (List ℕ) → Counts → Type 0
+IsAnsweredBy library related begun left held held' counts =
+    (first : State) × (new : State) × Loads library begun prelude_lines first × WritesTranscript (workbench library related) left held held' counts first new
 
 -- a writer got nothing, or the front of such a transcript
+abbrev pub IsAnsweredInFrontBy : List Stored → (ℕ → Param → List Point → Point → Type 0) → State → Option (List ℕ) → Option (List ℕ) → Option (List ℕ) → Type 0
+IsAnsweredInFrontBy library related begun left held held' =
+    (held' ≡ held) ⊎ ((first : State) × Loads library begun prelude_lines first × WritesFront (workbench library related) left held held' first)
+
+-- the same of a session with the kit's procedures that begins without cells
+abbrev pub IsAnswered : Option (List ℕ) → Option (List ℕ) → Option (List ℕ) → ℕ → Counts → Type 0
+IsAnswered left held held' limit counts = IsAnsweredBy kit_library kit_related (new_state limit) left held held' counts
+
 abbrev pub IsAnsweredInFront : Option (List ℕ) → Option (List ℕ) → Option (List ℕ) → ℕ → Type 0
-IsAnsweredInFront left held held' limit =
-    (held' ≡ held) ⊎ ((first : State) × IsBegun limit first × WritesFront (workbench kit_library kit_related) left held held' first)
+IsAnsweredInFront left held held' limit = IsAnsweredInFrontBy kit_library kit_related (new_state limit) left held held'

@@ -1,5 +1,8 @@
 -- The options of the program, and what their words say.
-use Rattle.std.specs.Prelude.{◌≡◌, ℕ, pos, List, Option, Some, None, codes, true}
+use Rattle.std.specs.Prelude.{◌≡◌, ◌⊎◌, ℕ, pos, unsigned_abs, List, Option, Some, None, cond, codes, bytes_eq, true}
+use Rattle.std.specs.Borrow.{Bor}
+use Rattle.std.specs.Option.{option_map}
+use Rattle.clap.specs.declared.parser.matches.Found.{Found}
 use Rattle.clap.specs.Words.{App, Rule, new_app, new_rule, with_rule, HasMatchesOf, first_value, found_of, takes, kind_of}
 use Rattle.clap.specs.declared.builder.ArgAction.TheVariants.{Set}
 use Rattle.clap.specs.declared.parser.matches.ArgMatches.{ArgMatches}
@@ -7,36 +10,61 @@ use Rattle.clap.specs.declared.error.Error.{Error}
 use Rattle.clap.specs.declared.error.kind.ErrorKind.TheVariants.{OutOfMemory}
 use Rattle.prop_language.specs.Names.{number_in}
 use Rattle.propbench.specs.declared.chosen.Options.{Options}
+use Rattle.propbench.specs.declared.chosen.Pick.{Pick}
+use Rattle.propbench.specs.declared.chosen.Pick.TheVariants.{Fifo, Lifo, Mixed}
 
--- --limit N
-abbrev pub limit_rule : Rule
-limit_rule = record (new_rule (codes "limit")) { long = Some (codes "limit"); action = Some Set; value_names = 1 }
+-- an option of this name, which takes one value
+abbrev pub value_rule : List ℕ → Rule
+value_rule name = record (new_rule name) { long = Some name; action = Some Set; value_names = 1 }
 
--- the program as the option reader sees it
+-- the program as the option reader sees it: --limit N, --order ORDER, --seed N
 abbrev pub program : App
-program = with_rule (new_app (codes "propbench")) limit_rule
+program = with_rule (with_rule (with_rule (new_app (codes "propbench")) (value_rule (codes "limit"))) (value_rule (codes "order"))) (value_rule (codes "seed"))
 
--- the limit that was given, and the program's own without one
-abbrev pub IsLimit : Option (List ℕ) → ℕ → Type 0
-IsLimit None limit = limit ≡ 1_000_000_000
-IsLimit (Some word) limit = number_in (pos 0) (pos 1_000_000_000_000_000) word ≡ Some (pos limit)
+abbrev pub word_of : Option (Bor (List ℕ)) → Option (List ℕ)
+word_of word = option_map (λ (w : Bor (List ℕ)). w.now) word
 
--- a limit was given that is no number of its range
-abbrev pub IsNoLimit : Option (List ℕ) → Type 0
-IsNoLimit None = ⊥
-IsNoLimit (Some word) = number_in (pos 0) (pos 1_000_000_000_000_000) word ≡ None
+-- the number from 0 to the high end that the word is, and the program's own where there is none
+abbrev pub number_given : ℕ → ℕ → Option (List ℕ) → Option ℕ
+number_given own high None = Some own
+number_given own high (Some word) = option_map unsigned_abs (number_in (pos 0) (pos high) word)
 
--- the option reader's entries for the words give these options
+-- the order that the word names, and the program's own where there is none
+abbrev pub order_given : Option (List ℕ) → Option Pick
+order_given None = Some Fifo
+order_given (Some word) = cond (bytes_eq word (codes "fifo")) (Some Fifo) (cond (bytes_eq word (codes "lifo")) (Some Lifo) (cond (bytes_eq word (codes "mixed")) (Some Mixed) None))
+
+-- what the entries say of the three
+abbrev pub limit_given : Found → Option ℕ
+limit_given found = number_given 1_000_000_000 1_000_000_000_000_000 (first_value found (codes "limit"))
+
+abbrev pub order_chosen : Found → Option Pick
+order_chosen found = order_given (first_value found (codes "order"))
+
+abbrev pub seed_given : Found → Option ℕ
+seed_given found = number_given 0 18_446_744_073_709_551_615 (first_value found (codes "seed"))
+
+-- the entries choose these options
+pub record AreChosen (found : Found) (options : Options) : Type 0 where
+  pub limit : limit_given found ≡ Some options.limit
+  pub order : order_chosen found ≡ Some options.order
+  pub seed : seed_given found ≡ Some options.seed
+
+-- a value is none of its option's
+abbrev pub AreWrong : Found → Type 0
+AreWrong found = (limit_given found ≡ None) ⊎ ((order_chosen found ≡ None) ⊎ (seed_given found ≡ None))
+
+-- the option reader's entries for the words choose these options
 pub record AreGiven (words : List (List ℕ)) (options : Options) : Type 0 where
   pub entries : ArgMatches
   pub of_words : HasMatchesOf program words entries
-  pub limit : IsLimit (first_value (found_of entries) (codes "limit")) options.limit
+  pub chosen : AreChosen (found_of entries) options
 
--- the option reader has entries for the words, but a value is not of its range
+-- the option reader has entries for the words, but a value is none of its option's
 pub record AreOutOfRange (words : List (List ℕ)) : Type 0 where
   pub entries : ArgMatches
   pub of_words : HasMatchesOf program words entries
-  pub limit : IsNoLimit (first_value (found_of entries) (codes "limit"))
+  pub wrong : AreWrong (found_of entries)
 
 -- the option reader takes the words
 pub record AreTaken (words : List (List ℕ)) : Type 0 where

@@ -1,34 +1,45 @@
 //! The options of the program.
-ghost use Rattle.std.specs.Prelude.{◌≡◌, ◌⊎◌, IfOk, IfErr, IfSome, IfNone, Some, map, string_bytes, codes};
-ghost use Rattle.clap.specs.Words.{app_of, first_value, found_of};
-ghost use Rattle.propbench.specs.Program.{program, IsLimit, IsNoLimit, AreGiven, AreOutOfRange, AreTaken, IsWantOfMemory};
+ghost use Rattle.std.specs.Prelude.{◌≡◌, ◌⊎◌, false, IfOk, IfErr, OnErr, map, string_bytes};
+ghost use Rattle.clap.specs.Words.{app_of, found_of, rule_of};
+ghost use Rattle.propbench.specs.Program.{program, value_rule, word_of, number_given, order_given, AreChosen, AreWrong, AreGiven, AreOutOfRange, AreTaken, IsWantOfMemory};
 
-use crate::chosen::Options;
+use crate::chosen::{Options, Pick};
 use clap::error::ErrorKind;
 use clap::{Arg, ArgAction, ArgMatches, Command, Error};
-use prop_compound::number_in;
+use prop_language::natural_in;
 use std::alloc::{AllocError, Global};
 
 /// The steps of a running command where no limit is given.
 const STEPS: u64 = 1_000_000_000;
 
 /// The highest limit that can be given.
-const MOST_STEPS: i64 = 1_000_000_000_000_000;
+const MOST_STEPS: u64 = 1_000_000_000_000_000;
 
 /// The options that the words give, the first of which is the program's name. The error is the
-/// option reader's own, or that the limit is no number of its range, or want of memory.
+/// option reader's own, or that a value is none of its option's, or want of memory.
 pub fn options(alloc: Global, words: &[String]) -> Result<Options, Error>
     ensures ok { IfOk result (AreGiven (map string_bytes words.now)) }
     ensures err { IfErr result (λ e. AreTaken (map string_bytes words.now) → IsWantOfMemory e ⊎ AreOutOfRange (map string_bytes words.now)) }
 {
     let mut command = program(alloc)?;
+    let options = read(&mut command, words);
+    // One call in place of the drop of each part, which a proof would go through one by one.
+    drop(command);
+    options
+}
+
+/// The options that the words give, by the program as the option reader sees it.
+fn read<'a>(command: &mut Command<'a>, words: &'a [String]) -> Result<Options, Error>
+    requires { app_of command.old ≡ program }
+    ensures ok { IfOk result (AreGiven (map string_bytes words.now)) }
+    ensures err { IfErr result (λ e. AreTaken (map string_bytes words.now) → IsWantOfMemory e ⊎ AreOutOfRange (map string_bytes words.now)) }
+{
     let matches = command.try_get_matches_from_mut(words)?;
-    match limit_of(&matches) {
-        Some(limit) => Ok(Options { limit }),
-        None => Err(command.error(
-            ErrorKind::ValueValidation,
-            "the limit is not a number from 0 to 1000000000000000",
-        )?),
+    let chosen = chosen(&matches);
+    drop(matches);
+    match chosen {
+        Ok(options) => Ok(options),
+        Err(text) => Err(command.error(ErrorKind::ValueValidation, text)?),
     }
 }
 
@@ -36,32 +47,62 @@ pub fn options(alloc: Global, words: &[String]) -> Result<Options, Error>
 fn program<'a>(alloc: Global) -> Result<Command<'a>, AllocError>
     ensures { IfOk result (λ command. app_of command ≡ program) }
 {
-    let limit = Arg::new(alloc, "limit")
-        .long("limit")
-        .action(ArgAction::Set)
-        .value_name("N")
-        .help("Steps per running command, 0 to 1000000000000000 [default: 1000000000]");
-    Command::new(alloc, "propbench").arg(limit)
+    let limit = "Steps per running command, 0 to 1000000000000000 [default: 1000000000]";
+    let order = "Which waiting procedure comes next: fifo, lifo or mixed [default: fifo]";
+    let seed = "What mixed begins with, 0 to 18446744073709551615 [default: 0]";
+    Command::new(alloc, "propbench")
+        .arg(value(alloc, "limit", "N").help(limit))?
+        .arg(value(alloc, "order", "ORDER").help(order))?
+        .arg(value(alloc, "seed", "N").help(seed))
 }
 
-/// The limit that was given, if it is one, or the program's own.
-fn limit_of(matches: &ArgMatches<'_>) -> Option<u64>
-    ensures some { IfSome result (IsLimit (first_value (found_of matches.now) (codes "limit"))) }
-    ensures none { IfNone result (IsNoLimit (first_value (found_of matches.now) (codes "limit"))) }
+/// An option with this name, which takes one value.
+fn value<'a>(alloc: Global, name: &'a str, said: &'a str) -> Arg<'a>
+    ensures rule { rule_of result ≡ value_rule name.now }
+    ensures here { result.global ≡ false }
 {
-    match matches.get_str("limit") {
-        Some(text) => limit_in(text.as_bytes()),
-        None => Some(STEPS),
+    Arg::new(alloc, name)
+        .long(name)
+        .action(ArgAction::Set)
+        .value_name(said)
+}
+
+/// What the entries choose, or what to say of a value that is none of its option's.
+fn chosen(matches: &ArgMatches<'_>) -> Result<Options, &'static str>
+    ensures ok { IfOk result (AreChosen (found_of matches.now)) }
+    ensures err { OnErr result (AreWrong (found_of matches.now)) }
+{
+    let Some(limit) = number(matches.get_str("limit"), STEPS, MOST_STEPS) else {
+        return Err("the limit is not a number from 0 to 1000000000000000");
+    };
+    let Some(order) = order(matches.get_str("order")) else {
+        return Err("the order is none of fifo, lifo and mixed");
+    };
+    let Some(seed) = number(matches.get_str("seed"), 0, u64::MAX) else {
+        return Err("the seed is not a number from 0 to 18446744073709551615");
+    };
+    Ok(Options { limit, order, seed })
+}
+
+/// The number that the word is, where it is one from 0 to `high`, and the program's own where there is no word.
+fn number(word: Option<&str>, own: u64, high: u64) -> Option<u64>
+    ensures { result ≡ number_given own high (word_of word.entry) }
+{
+    match word {
+        Some(word) => natural_in(high, word.as_bytes()),
+        None => Some(own),
     }
 }
 
-/// The limit that a word says.
-fn limit_in(word: &[u8]) -> Option<u64>
-    ensures some { IfSome result (IsLimit (Some word.now)) }
-    ensures none { IfNone result (IsNoLimit (Some word.now)) }
+/// The order that the word names, and the program's own where there is no word.
+fn order(word: Option<&str>) -> Option<Pick>
+    ensures { result ≡ order_given (word_of word.entry) }
 {
-    match number_in(0, MOST_STEPS, word) {
-        Some(number) => Some(number.unsigned_abs()),
-        None => None,
+    match word {
+        None => Some(Pick::Fifo),
+        Some(word) if word == "fifo" => Some(Pick::Fifo),
+        Some(word) if word == "lifo" => Some(Pick::Lifo),
+        Some(word) if word == "mixed" => Some(Pick::Mixed),
+        Some(_) => None,
     }
 }

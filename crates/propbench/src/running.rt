@@ -3,18 +3,17 @@ ghost use Rattle.std.specs.Prelude.{◌≡◌, IfOk, OnErr, map};
 ghost use Rattle.prop_arith.specs.Kit.{value_of, in_order};
 ghost use Rattle.prop_procedures.specs.Kept.{AllMean, stored_as};
 ghost use Rattle.prop_engine.specs.Watched.{device, IsFresh};
-ghost use Rattle.propbench.specs.Kits.{kit_library, kit_related, IsAnswered, IsAnsweredInFront};
+ghost use Rattle.propbench.specs.Kits.{kit_library, kit_related, IsAnswered, IsAnsweredInFront, IsAnsweredBy, IsAnsweredInFrontBy};
 ghost use Rattle.prop_cells.specs.Points.{AreSoundBy};
-ghost use Rattle.prop_workbench.specs.Machine.{new_state};
-ghost use Rattle.prop_workbench.specs.Sessions.{state_of, library_of, IsSound, IsMeant};
+ghost use Rattle.prop_workbench.specs.Sessions.{state_of, library_of, related_in, IsSound, IsMeant};
 
-use crate::chosen::Options;
+use crate::chosen::{Options, Pick};
 use crate::fault::Fault;
 use prop_arith::{KITS, Kit};
 use prop_cells::Network;
 use prop_lattice::Info;
-use prop_procedures::{Library, Param, Procedure, Shape};
-use prop_scheduler::Fifo;
+use prop_procedures::{Library, Param, Procedure, Rule, Shape};
+use prop_scheduler::{Fifo, Lifo, Mixed, Order};
 use prop_workbench::{Counts, Session, Watched};
 use smallvec::SmallVec;
 use std::alloc::{AllocError, Global};
@@ -24,7 +23,6 @@ use std::io::{Read, Write};
 const READS: u64 = 1 << 32;
 
 /// Makes the kit's procedures, loads the prelude and runs a session with them.
-#[tactic(auto, using(crate::proofs::Starts::kit_is_sound))]
 pub fn run<Rd: Read, W: Write>(
     alloc: Global,
     options: Options,
@@ -52,7 +50,7 @@ pub fn run<Rd: Read, W: Write>(
     serve(alloc, procedures, options, reader, writer)
 }
 
-/// Makes a session with the kit's procedures and runs it.
+/// Makes a session with the kit's procedures, in the order that was chosen, and runs it.
 fn serve<Rd: Read, W: Write>(
     alloc: Global,
     procedures: Vec<Procedure<Kit>>,
@@ -68,29 +66,51 @@ fn serve<Rd: Read, W: Write>(
     ensures ok { IfOk result (IsAnswered (Rd.remaining (device reader.old)) (W.contents (device writer.old)) (W.contents (device writer.new)) options.limit) }
     ensures err { OnErr result (IsAnsweredInFront (Rd.remaining (device reader.old)) (W.contents (device writer.old)) (W.contents (device writer.new)) options.limit) }
 {
+    let Options { limit, order, seed } = options;
+    match order {
+        Pick::Fifo => serve_in(alloc, procedures, Fifo, limit, reader, writer),
+        Pick::Lifo => serve_in(alloc, procedures, Lifo, limit, reader, writer),
+        Pick::Mixed => serve_in(alloc, procedures, Mixed::new(seed), limit, reader, writer),
+    }
+}
+
+/// Makes a session with the kit's procedures and runs it in this order.
+fn serve_in<O: Order + Drop, Rd: Read, W: Write>(
+    alloc: Global,
+    procedures: Vec<Procedure<Kit>>,
+    order: O,
+    limit: u64,
+    reader: &mut Watched<Rd>,
+    writer: &mut Watched<W>,
+) -> Result<Counts, Fault>
+    requires reader { IsFresh reader.old }
+    requires writer { IsFresh writer.old }
+    requires means { AllMean value_of procedures.items }
+    requires listed { map (stored_as value_of) procedures.items ≡ kit_library }
+    requires ruled { map (λ p. p.rule) procedures.items ≡ in_order }
+    ensures ok { IfOk result (IsAnswered (Rd.remaining (device reader.old)) (W.contents (device writer.old)) (W.contents (device writer.new)) limit) }
+    ensures err { OnErr result (IsAnsweredInFront (Rd.remaining (device reader.old)) (W.contents (device writer.old)) (W.contents (device writer.new)) limit) }
+{
     let network = Network::new(alloc, Library::new(procedures));
-    let mut session = Session::new(alloc, network, Fifo, options.limit)?;
+    let mut session = Session::new(alloc, network, order, limit)?;
     let counts = answer(&mut session, reader, writer);
     // One call in place of the drop of each part, which a proof would go through one by one.
     drop(session);
     counts
 }
 
-/// Loads the prelude into a session over the kit that has only begun, and runs it.
-fn answer<Rd: Read, W: Write>(
-    session: &mut Session<Kit, Fifo>,
+/// Loads the prelude into a session and runs it.
+fn answer<R: Rule + Drop, O: Order + Drop, Rd: Read, W: Write>(
+    session: &mut Session<R, O>,
     reader: &mut Watched<Rd>,
     writer: &mut Watched<W>,
 ) -> Result<Counts, Fault>
     requires reader { IsFresh reader.old }
     requires writer { IsFresh writer.old }
-    requires means { IsMeant value_of session.old }
-    requires sound { IsSound value_of session.old }
-    requires listed { library_of value_of session.old ≡ kit_library }
-    requires ruled { map (λ p. p.rule) session.old.network.library.procedures.items ≡ in_order }
-    requires begun { state_of session.old ≡ new_state session.old.limit }
-    ensures ok { IfOk result (IsAnswered (Rd.remaining (device reader.old)) (W.contents (device writer.old)) (W.contents (device writer.new)) session.old.limit) }
-    ensures err { OnErr result (IsAnsweredInFront (Rd.remaining (device reader.old)) (W.contents (device writer.old)) (W.contents (device writer.new)) session.old.limit) }
+    requires means { IsMeant R.value_of session.old }
+    requires sound { IsSound R.value_of session.old }
+    ensures ok { IfOk result (IsAnsweredBy (library_of R.value_of session.old) (related_in R.related session.old) (state_of session.old) (Rd.remaining (device reader.old)) (W.contents (device writer.old)) (W.contents (device writer.new))) }
+    ensures err { OnErr result (IsAnsweredInFrontBy (library_of R.value_of session.old) (related_in R.related session.old) (state_of session.old) (Rd.remaining (device reader.old)) (W.contents (device writer.old)) (W.contents (device writer.new))) }
 {
     match session.load_prelude() {
         Ok(()) => {}

@@ -29,10 +29,18 @@ module _ (ins : List Shape) (out : Shape) (kinds : List Kinded) (inputs : List �
 
 pub loop-i-preserved : goal.loop-i-preserved
 loop-i-preserved c =
-    place_more c.args.shapes.now c.args.shape c.args.held.now.kinds c.args.ins.now c.args.out c.requires.count c.loop-i.places.items c.push.new.self.items c.loop-i.i c.shape_at.result c.kind.result c.loop-i-test.true c.shape_at.ensures
-    (c.kind.ensures ∙ ap (kind_at c.args.held.now.kinds) c.cell_at.ensures) c.loop-i.invariant c.in_ok-push.ensures.items
+    let h = c.loop-i.invariant in
+    let i = c.loop-i.i in
+    let place : Shape × Kinded = (c.shape_at.result, c.kind.result) in
+    let longer : length c.push_reserved.new.self.items ≡ length (c.loop-i.places.items ++ place ∷ []) = ap length c.push_reserved.ensures.items in
+    record {
+      items = place_more c.args.shapes.now c.args.shape c.args.held.now.kinds c.args.ins.now c.args.out c.requires.count c.loop-i.places.items c.push_reserved.new.self.items i c.shape_at.result c.kind.result c.loop-i-test.true c.shape_at.ensures
+          (c.kind.ensures ∙ ap (kind_at c.args.held.now.kinds) c.cell_at.ensures) h.items c.push_reserved.ensures.items;
+      count = longer ∙ length-append c.loop-i.places.items (place ∷ []) ∙ ap (λ n. n + 1) h.count;
+      room = c.push_reserved.ensures.capacity ∙ h.room;
+    }
 
 pub returns : goal.returns
 returns c =
     let s = size c.args.shapes.now c.args.shape c.args.held.now.kinds c.args.ins.now c.args.out c.requires.count in
-    c.loop-i.invariant ∙ take_all c.loop-i.i _ (omega (arith, s, c.loop-i-test.false))
+    c.loop-i.invariant.items ∙ take_all c.loop-i.i _ (omega (arith, s, c.loop-i-test.false))

@@ -1,6 +1,6 @@
 use Rattle.std.proofs.Common.{refl}
 use Rattle.prop_compound.specs.Kept.{all_bare}
-use Rattle.prop_compound.specs.Shortcuts.{spare_of, is_spare}
+use Rattle.prop_compound.specs.Expansion.{spare_of, is_spare}
 use Rattle.prop_compound.proofs.Firsts.{found_here, not_yet, none_found}
 use Rattle.prop_compound.proofs.counting.has_spare.Goals as goal
 

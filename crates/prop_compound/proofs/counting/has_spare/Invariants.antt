@@ -1,7 +1,7 @@
 use Rattle.std.proofs.Common.{◌≡◌, false, take}
 use Rattle.std.specs.List.{list_any}
 use Rattle.prop_compound.specs.Kept.{all_bare}
-use Rattle.prop_compound.specs.Shortcuts.{spare_of, is_spare}
+use Rattle.prop_compound.specs.Expansion.{spare_of, is_spare}
 use Rattle.prop_compound.proofs.counting.has_spare.Given as goal
 
 abbrev pub invariant-loop-step : goal.invariant-loop-step

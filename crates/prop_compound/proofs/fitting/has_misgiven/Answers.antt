@@ -1,7 +1,7 @@
 use Rattle.std.proofs.Common.{refl}
 use Rattle.prop_procedures.specs.Kept.{stored_of}
-use Rattle.prop_compound.specs.Expansion.{param_meant, meant}
 use Rattle.prop_compound.specs.Expanding.{is_misgiven}
+use Rattle.prop_compound.specs.Flattened.{placed_of}
 use Rattle.prop_compound.proofs.Firsts.{found_here, not_yet, none_found, misgiven_is}
 use Rattle.prop_compound.proofs.fitting.has_misgiven.Goals as goal
 
@@ -11,19 +11,15 @@ loop-instance-init g c = refl
 pub returns-then-is_misgiven : goal.returns-then-is_misgiven
 returns-then-is_misgiven g c =
     let library = stored_of g.R.Rule.value_of c.args.library.now in
-    let mean = param_meant c.args.words.now c.args.given.now in
     let x = c.instance-item.result in
-    found_here c.args.instances.now c.loop-instance.instance-index x c.loop-instance-test.true c.instance-item.is (λ x. is_misgiven library (meant mean x)) c.is_misgiven.result (misgiven_is library mean x c.procedure.result _ c.procedure.ensures c.get.ensures c.is_misgiven.result c.need-need.result c.given.result c.need-need.ensures c.given.ensures c.is_misgiven.ensures) c.if-is_misgiven.true
+    found_here c.args.instances.now c.loop-instance.instance-index x c.loop-instance-test.true c.instance-item.is (λ x. is_misgiven library (placed_of c.args.params.now x)) c.is_misgiven.result (misgiven_is library (placed_of c.args.params.now x) _ c.get.ensures c.is_misgiven.result c.need-need.result c.need-need.ensures c.is_misgiven.ensures) c.if-is_misgiven.true
 
 pub loop-instance-preserved : goal.loop-instance-preserved
 loop-instance-preserved g c =
     let library = stored_of g.R.Rule.value_of c.args.library.now in
-    let mean = param_meant c.args.words.now c.args.given.now in
     let x = c.instance-item.result in
-    not_yet c.args.instances.now c.loop-instance.instance-index x c.loop-instance-test.true c.instance-item.is (λ x. is_misgiven library (meant mean x)) c.is_misgiven.result (misgiven_is library mean x c.procedure.result _ c.procedure.ensures c.get.ensures c.is_misgiven.result c.need-need.result c.given.result c.need-need.ensures c.given.ensures c.is_misgiven.ensures) c.if-is_misgiven.false c.loop-instance.invariant
+    not_yet c.args.instances.now c.loop-instance.instance-index x c.loop-instance-test.true c.instance-item.is (λ x. is_misgiven library (placed_of c.args.params.now x)) c.is_misgiven.result (misgiven_is library (placed_of c.args.params.now x) _ c.get.ensures c.is_misgiven.result c.need-need.result c.need-need.ensures c.is_misgiven.ensures) c.if-is_misgiven.false c.loop-instance.invariant
 
 pub returns : goal.returns
 returns g c =
-    let library = stored_of g.R.Rule.value_of c.args.library.now in
-    let mean = param_meant c.args.words.now c.args.given.now in
-    none_found (λ x. is_misgiven library (meant mean x)) c.args.instances.now c.loop-instance.instance-index c.loop-instance-test.false c.loop-instance.invariant
+    none_found (λ x. is_misgiven (stored_of g.R.Rule.value_of c.args.library.now) (placed_of c.args.params.now x)) c.args.instances.now c.loop-instance.instance-index c.loop-instance-test.false c.loop-instance.invariant

@@ -1,8 +1,7 @@
 use Rattle.std.proofs.Common.{length, refl}
 use Rattle.prop_procedures.specs.Kept.{stored_of}
-use Rattle.prop_compound.specs.Expansion.{param_meant, meant}
 use Rattle.prop_compound.specs.Expanding.{is_misplaced}
-use Rattle.prop_compound.specs.Kept.{IsRight}
+use Rattle.prop_compound.specs.Flattened.{placed_of, IsInstanceOver}
 use Rattle.prop_compound.proofs.Firsts.{all_here, found_here, not_yet, none_found}
 use Rattle.prop_compound.proofs.fitting.has_misplaced.Goals as goal
 
@@ -11,22 +10,16 @@ loop-instance-init g c = refl
 
 pub is_misplaced-requires : goal.is_misplaced-requires
 is_misplaced-requires g c =
-    all_here c.args.instances.now c.loop-instance.instance-index c.instance-item.result c.loop-instance-test.true c.instance-item.is (IsRight (stored_of g.R.Rule.value_of c.args.library.now) (length c.args.kinds.now)) c.requires
+    all_here c.args.instances.now c.loop-instance.instance-index c.instance-item.result c.loop-instance-test.true c.instance-item.is (IsInstanceOver (stored_of g.R.Rule.value_of c.args.library.now) (length c.args.kinds.now)) c.requires
 
 pub returns-then-branch : goal.returns-then-branch
 returns-then-branch g c =
-    let library = stored_of g.R.Rule.value_of c.args.library.now in
-    let mean = param_meant c.args.words.now c.args.given.now in
-    found_here c.args.instances.now c.loop-instance.instance-index c.instance-item.result c.loop-instance-test.true c.instance-item.is (λ x. is_misplaced library c.args.kinds.now (meant mean x)) c.in_ok-is_misplaced.field-0 c.in_ok-is_misplaced.ensures c.if-branch.true
+    found_here c.args.instances.now c.loop-instance.instance-index c.instance-item.result c.loop-instance-test.true c.instance-item.is (λ x. is_misplaced (stored_of g.R.Rule.value_of c.args.library.now) c.args.kinds.now (placed_of c.args.params.now x)) c.in_ok-is_misplaced.field-0 c.in_ok-is_misplaced.ensures c.if-branch.true
 
 pub loop-instance-preserved : goal.loop-instance-preserved
 loop-instance-preserved g c =
-    let library = stored_of g.R.Rule.value_of c.args.library.now in
-    let mean = param_meant c.args.words.now c.args.given.now in
-    not_yet c.args.instances.now c.loop-instance.instance-index c.instance-item.result c.loop-instance-test.true c.instance-item.is (λ x. is_misplaced library c.args.kinds.now (meant mean x)) c.in_ok-is_misplaced.field-0 c.in_ok-is_misplaced.ensures c.if-branch.false c.loop-instance.invariant
+    not_yet c.args.instances.now c.loop-instance.instance-index c.instance-item.result c.loop-instance-test.true c.instance-item.is (λ x. is_misplaced (stored_of g.R.Rule.value_of c.args.library.now) c.args.kinds.now (placed_of c.args.params.now x)) c.in_ok-is_misplaced.field-0 c.in_ok-is_misplaced.ensures c.if-branch.false c.loop-instance.invariant
 
 pub returns : goal.returns
 returns g c =
-    let library = stored_of g.R.Rule.value_of c.args.library.now in
-    let mean = param_meant c.args.words.now c.args.given.now in
-    none_found (λ x. is_misplaced library c.args.kinds.now (meant mean x)) c.args.instances.now c.loop-instance.instance-index c.loop-instance-test.false c.loop-instance.invariant
+    none_found (λ x. is_misplaced (stored_of g.R.Rule.value_of c.args.library.now) c.args.kinds.now (placed_of c.args.params.now x)) c.args.instances.now c.loop-instance.instance-index c.loop-instance-test.false c.loop-instance.invariant

@@ -3,7 +3,7 @@ use Rattle.prop_language.specs.Tokens.{Token, Word, tokens}
 use Rattle.prop_language.specs.Said.{KeepsWords}
 use Rattle.prop_language.specs.Parts.{KeepsWordsOf, word_of}
 use Rattle.prop_language.specs.declared.reading.CommandWord.{CommandWord}
-use Rattle.prop_language.specs.declared.reading.CommandWord.TheVariants.{Domain, Relation, Cell, Define, Attach, Fix, Tell, Kick, Bring, Settle, Ask, Why, Worldview}
+use Rattle.prop_language.specs.declared.reading.CommandWord.TheVariants.{Domain, Relation, Cell, Define, Attach, Fix, Tell, Kick, Bring, Limit, Settle, Ask, Why, Worldview}
 use Rattle.prop_language.proofs.reading.read_command.Goals as goal
 
 keeps : (command : CommandWord) (w : List ℕ) (ts : List Token) → w ≡ word_of command → KeepsWordsOf command ts → KeepsWords (Word w ∷ ts)
@@ -16,6 +16,7 @@ keeps Fix w ts e h = inr (inr (inr (inr (inl e, h))))
 keeps Tell w ts e h = inr (inr (inr (inr (inr e, h))))
 keeps Kick w ts e h = absurd h
 keeps Bring w ts e h = absurd h
+keeps Limit w ts e h = absurd h
 keeps Settle w ts e h = absurd h
 keeps Ask w ts e h = absurd h
 keeps Why w ts e h = absurd h

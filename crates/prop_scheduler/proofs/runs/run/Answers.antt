@@ -1,14 +1,16 @@
-use Rattle.std.proofs.Common.{◌≡◌, ◌∙◌, ◌+◌, refl, subst, arith, ℕ, List, Result, Ok, Err, OnErr}
+use Rattle.std.proofs.Common.{◌≡◌, ◌∙◌, ◌+◌, refl, ap, subst, arith, ℕ, List, length, Result, Ok, Err, OnErr, inl, inr}
 use Rattle.std.proofs.lemmas.List.{nil_from_length}
 use Rattle.prop_premises.specs.Sets.{set_of}
 use Rattle.prop_procedures.specs.Stored.{Stored}
 use Rattle.prop_procedures.specs.Kept.{stored_of}
 use Rattle.prop_cells.specs.Problems.{Premises}
-use Rattle.prop_cells.specs.Data.{Data, IsWellMade}
+use Rattle.prop_cells.specs.Data.{Data, IsClash, IsWellMade, problem_of}
 use Rattle.prop_cells.proofs.Founding.{clash_conflicts}
-use Rattle.prop_scheduler.specs.Turns.{Turn, Turns}
+use Rattle.prop_scheduler.specs.Turns.{Interrupted, Turn}
 use Rattle.prop_scheduler.specs.Turns.Turns.{none, more}
+use Rattle.prop_scheduler.specs.Potential.{most_steps}
 use Rattle.prop_scheduler.proofs.Steps.{settled}
+use Rattle.prop_scheduler.proofs.Ending.{no_turns, under_way_within}
 use Rattle.prop_scheduler.proofs.runs.run.Goals as goal
 
 on_err : {T E X : Type 0} (r : Result T E) → X → OnErr r X
@@ -16,12 +18,12 @@ on_err (Ok a) x = tt
 on_err (Err e) x = x
 
 -- a turn over a library is one over the same library
-turn_on : {L : Type 0} (stored : L → List Stored) (s : Premises) (old new : Data) (line line' : List ℕ) (a b : L) → b ≡ a → Turn (stored b) s old new line line' → Turn (stored a) s old new line line'
-turn_on stored s old new line line' a b same turn = subst (λ l. Turn (stored l) s old new line line') same turn
+turn_on : {L : Type 0} (stored : L → List Stored) (s : Premises) (place : ℕ) (old new : Data) (line line' : List ℕ) (a b : L) → b ≡ a → Turn (stored b) s place old new line line' → Turn (stored a) s place old new line line'
+turn_on stored s place old new line line' a b same turn = subst (λ l. Turn (stored l) s place old new line line') same turn
 
 -- a turn changes the contents alone
-turn_rest : (library : List Stored) (s : Premises) (start old new : Data) (line line' : List ℕ) → Turn library s old new line line' → old ≡ record start { contents = old.contents } → new ≡ record start { contents = new.contents }
-turn_rest library s start old new line line' turn rest = turn.calls.rest ∙ (λ i. record (rest i) { contents = new.contents })
+turn_rest : (library : List Stored) (s : Premises) (place : ℕ) (start old new : Data) (line line' : List ℕ) → Turn library s place old new line line' → old ≡ record start { contents = old.contents } → new ≡ record start { contents = new.contents }
+turn_rest library s place start old new line line' turn rest = turn.calls.rest ∙ (λ i. record (rest i) { contents = new.contents })
 
 pub returns-in-Some-clause-same : goal.returns-in-Some-clause-same
 returns-in-Some-clause-same g c =
@@ -79,9 +81,17 @@ pub returns-in-Some-clause-steps : goal.returns-in-Some-clause-steps
 returns-in-Some-clause-steps g c =
     omega arith
 
+pub returns-in-Some-clause-at_rest : goal.returns-in-Some-clause-at_rest
+returns-in-Some-clause-at_rest g c =
+    λ empty free. let clash : IsClash (set_of c.args.worldview.now) c.args.network.now.cells _ = rw c.in-Some.is at c.in_ok-support.ensures.clash in absurd (free clash.cell clash.clash)
+
 pub returns-in-Some-clause-falls : goal.returns-in-Some-clause-falls
 returns-in-Some-clause-falls g c =
     omega arith
+
+pub returns-in-Some-clause-earned : goal.returns-in-Some-clause-earned
+returns-in-Some-clause-earned g c =
+    λ e. cc e
 
 pub returns-in_err-support-clause-same : goal.returns-in_err-support-clause-same
 returns-in_err-support-clause-same g c =
@@ -101,8 +111,8 @@ returns-in_err-support-clause-room g c =
 
 pub returns-in_err-support-clause-err : goal.returns-in_err-support-clause-err
 returns-in_err-support-clause-err g c =
-    let reached : (n : ℕ) × Turns (stored_of g.R.Rule.value_of c.args.network.now.library) (set_of c.args.worldview.now) c.args.network.now.cells c.args.agenda.now.line n c.args.network.now.cells c.args.agenda.now.line = (0, none) in
-    on_err _ reached
+    let stopped : Interrupted g.O.Order.picks (stored_of g.R.Rule.value_of c.args.network.now.library) (set_of c.args.worldview.now) c.args.network.now.cells c.args.agenda.now.line c.args.order.now c.args.network.now.cells c.args.agenda.now.line c.args.order.now = record { steps = 0; last = c.args.order.now; turns = none; picked = inl refl } in
+    on_err _ stopped
 
 pub loop-steps-init : goal.loop-steps-init
 loop-steps-init g c = record {
@@ -112,6 +122,7 @@ loop-steps-init g c = record {
   room = refl;
   free = c.in_ok-support.ensures.free c.in-None.is;
   turns = none;
+  waiting = c.waiting-waiting.ensures.waiting;
   steps = omega arith;
   falls = omega arith;
 }
@@ -142,8 +153,8 @@ returns-in-Some-clash-clause-same g c =
 
 pub returns-in-Some-clash-clause-rest : goal.returns-in-Some-clash-clause-rest
 returns-in-Some-clash-clause-rest g c =
-    let turn : Turn (stored_of g.R.Rule.value_of c.args.network.now.library) (set_of c.args.worldview.now) c.loop-steps.network.cells c.turn.new.network.cells c.loop-steps.agenda.line c.turn.new.agenda.line = turn_on (stored_of g.R.Rule.value_of) (set_of c.args.worldview.now) c.loop-steps.network.cells c.turn.new.network.cells c.loop-steps.agenda.line c.turn.new.agenda.line c.args.network.now.library c.loop-steps.network.library c.loop-steps.invariant.same c.in_ok-clash.ensures.turn in
-    turn_rest (stored_of g.R.Rule.value_of c.args.network.now.library) (set_of c.args.worldview.now) c.args.network.now.cells c.loop-steps.network.cells c.turn.new.network.cells c.loop-steps.agenda.line c.turn.new.agenda.line turn c.loop-steps.invariant.rest
+    let turn : Turn (stored_of g.R.Rule.value_of c.args.network.now.library) (set_of c.args.worldview.now) c.pick-place.result c.loop-steps.network.cells c.turn.new.network.cells c.loop-steps.agenda.line c.turn.new.agenda.line = turn_on (stored_of g.R.Rule.value_of) (set_of c.args.worldview.now) c.pick-place.result c.loop-steps.network.cells c.turn.new.network.cells c.loop-steps.agenda.line c.turn.new.agenda.line c.args.network.now.library c.loop-steps.network.library c.loop-steps.invariant.same c.in_ok-clash.ensures.turn in
+    turn_rest (stored_of g.R.Rule.value_of c.args.network.now.library) (set_of c.args.worldview.now) c.pick-place.result c.args.network.now.cells c.loop-steps.network.cells c.turn.new.network.cells c.loop-steps.agenda.line c.turn.new.agenda.line turn c.loop-steps.invariant.rest
 
 pub returns-in-Some-clash-clause-under_way : goal.returns-in-Some-clash-clause-under_way
 returns-in-Some-clash-clause-under_way g c =
@@ -155,8 +166,8 @@ returns-in-Some-clash-clause-room g c =
 
 pub returns-in-Some-clash-clause-turns : goal.returns-in-Some-clash-clause-turns
 returns-in-Some-clash-clause-turns g c =
-    let turn : Turn (stored_of g.R.Rule.value_of c.args.network.now.library) (set_of c.args.worldview.now) c.loop-steps.network.cells c.turn.new.network.cells c.loop-steps.agenda.line c.turn.new.agenda.line = turn_on (stored_of g.R.Rule.value_of) (set_of c.args.worldview.now) c.loop-steps.network.cells c.turn.new.network.cells c.loop-steps.agenda.line c.turn.new.agenda.line c.args.network.now.library c.loop-steps.network.library c.loop-steps.invariant.same c.in_ok-clash.ensures.turn in
-    more c.loop-steps.steps c.loop-steps.network.cells _ c.loop-steps.agenda.line _ c.loop-steps.invariant.turns turn
+    let turn : Turn (stored_of g.R.Rule.value_of c.args.network.now.library) (set_of c.args.worldview.now) c.pick-place.result c.loop-steps.network.cells c.turn.new.network.cells c.loop-steps.agenda.line c.turn.new.agenda.line = turn_on (stored_of g.R.Rule.value_of) (set_of c.args.worldview.now) c.pick-place.result c.loop-steps.network.cells c.turn.new.network.cells c.loop-steps.agenda.line c.turn.new.agenda.line c.args.network.now.library c.loop-steps.network.library c.loop-steps.invariant.same c.in_ok-clash.ensures.turn in
+    more c.loop-steps.steps c.pick-place.result c.loop-steps.network.cells _ c.loop-steps.agenda.line _ c.loop-steps.order _ c.loop-steps.invariant.turns (rw c.loop-steps.invariant.waiting at c.pick-place.ensures.picks) turn
 
 pub returns-in-Some-clash-clause-err : goal.returns-in-Some-clash-clause-err
 returns-in-Some-clash-clause-err g c =
@@ -194,9 +205,20 @@ pub returns-in-Some-clash-clause-steps : goal.returns-in-Some-clash-clause-steps
 returns-in-Some-clash-clause-steps g c =
     omega arith
 
+pub returns-in-Some-clash-clause-at_rest : goal.returns-in-Some-clash-clause-at_rest
+returns-in-Some-clash-clause-at_rest g c =
+    λ empty free.
+    let turn : Turn (stored_of g.R.Rule.value_of c.args.network.now.library) (set_of c.args.worldview.now) c.pick-place.result c.loop-steps.network.cells c.turn.new.network.cells c.loop-steps.agenda.line c.turn.new.agenda.line = turn_on (stored_of g.R.Rule.value_of) (set_of c.args.worldview.now) c.pick-place.result c.loop-steps.network.cells c.turn.new.network.cells c.loop-steps.agenda.line c.turn.new.agenda.line c.args.network.now.library c.loop-steps.network.library c.loop-steps.invariant.same c.in_ok-clash.ensures.turn in
+    let idle = no_turns g.O.Order.picks (stored_of g.R.Rule.value_of c.args.network.now.library) (set_of c.args.worldview.now) c.args.network.now.cells c.args.agenda.now.line c.args.order.now (c.loop-steps.steps + 1) c.turn.new.network.cells c.turn.new.agenda.line c.pick-place.new.self (more c.loop-steps.steps c.pick-place.result c.loop-steps.network.cells _ c.loop-steps.agenda.line _ c.loop-steps.order _ c.loop-steps.invariant.turns (rw c.loop-steps.invariant.waiting at c.pick-place.ensures.picks) turn) (ap length empty) in
+    absurd (omega (arith, idle.0))
+
 pub returns-in-Some-clash-clause-falls : goal.returns-in-Some-clash-clause-falls
 returns-in-Some-clash-clause-falls g c =
     omega (arith, c.in_ok-clash.ensures.falls, c.loop-steps.invariant.falls)
+
+pub returns-in-Some-clash-clause-earned : goal.returns-in-Some-clash-clause-earned
+returns-in-Some-clash-clause-earned g c =
+    λ e. cc e
 
 pub returns-in_err-why-in-Some-clash-clause-same : goal.returns-in_err-why-in-Some-clash-clause-same
 returns-in_err-why-in-Some-clash-clause-same g c =
@@ -204,8 +226,8 @@ returns-in_err-why-in-Some-clash-clause-same g c =
 
 pub returns-in_err-why-in-Some-clash-clause-rest : goal.returns-in_err-why-in-Some-clash-clause-rest
 returns-in_err-why-in-Some-clash-clause-rest g c =
-    let turn : Turn (stored_of g.R.Rule.value_of c.args.network.now.library) (set_of c.args.worldview.now) c.loop-steps.network.cells c.turn.new.network.cells c.loop-steps.agenda.line c.turn.new.agenda.line = turn_on (stored_of g.R.Rule.value_of) (set_of c.args.worldview.now) c.loop-steps.network.cells c.turn.new.network.cells c.loop-steps.agenda.line c.turn.new.agenda.line c.args.network.now.library c.loop-steps.network.library c.loop-steps.invariant.same c.in_ok-clash.ensures.turn in
-    turn_rest (stored_of g.R.Rule.value_of c.args.network.now.library) (set_of c.args.worldview.now) c.args.network.now.cells c.loop-steps.network.cells c.turn.new.network.cells c.loop-steps.agenda.line c.turn.new.agenda.line turn c.loop-steps.invariant.rest
+    let turn : Turn (stored_of g.R.Rule.value_of c.args.network.now.library) (set_of c.args.worldview.now) c.pick-place.result c.loop-steps.network.cells c.turn.new.network.cells c.loop-steps.agenda.line c.turn.new.agenda.line = turn_on (stored_of g.R.Rule.value_of) (set_of c.args.worldview.now) c.pick-place.result c.loop-steps.network.cells c.turn.new.network.cells c.loop-steps.agenda.line c.turn.new.agenda.line c.args.network.now.library c.loop-steps.network.library c.loop-steps.invariant.same c.in_ok-clash.ensures.turn in
+    turn_rest (stored_of g.R.Rule.value_of c.args.network.now.library) (set_of c.args.worldview.now) c.pick-place.result c.args.network.now.cells c.loop-steps.network.cells c.turn.new.network.cells c.loop-steps.agenda.line c.turn.new.agenda.line turn c.loop-steps.invariant.rest
 
 pub returns-in_err-why-in-Some-clash-clause-under_way : goal.returns-in_err-why-in-Some-clash-clause-under_way
 returns-in_err-why-in-Some-clash-clause-under_way g c =
@@ -217,21 +239,22 @@ returns-in_err-why-in-Some-clash-clause-room g c =
 
 pub returns-in_err-why-in-Some-clash-clause-err : goal.returns-in_err-why-in-Some-clash-clause-err
 returns-in_err-why-in-Some-clash-clause-err g c =
-    let turn : Turn (stored_of g.R.Rule.value_of c.args.network.now.library) (set_of c.args.worldview.now) c.loop-steps.network.cells c.turn.new.network.cells c.loop-steps.agenda.line c.turn.new.agenda.line = turn_on (stored_of g.R.Rule.value_of) (set_of c.args.worldview.now) c.loop-steps.network.cells c.turn.new.network.cells c.loop-steps.agenda.line c.turn.new.agenda.line c.args.network.now.library c.loop-steps.network.library c.loop-steps.invariant.same c.in_ok-clash.ensures.turn in
-    let reached : (n : ℕ) × Turns (stored_of g.R.Rule.value_of c.args.network.now.library) (set_of c.args.worldview.now) c.args.network.now.cells c.args.agenda.now.line n c.turn.new.network.cells c.turn.new.agenda.line = (c.loop-steps.steps + 1, more c.loop-steps.steps c.loop-steps.network.cells _ c.loop-steps.agenda.line _ c.loop-steps.invariant.turns turn) in
-    on_err _ reached
+    let turn : Turn (stored_of g.R.Rule.value_of c.args.network.now.library) (set_of c.args.worldview.now) c.pick-place.result c.loop-steps.network.cells c.turn.new.network.cells c.loop-steps.agenda.line c.turn.new.agenda.line = turn_on (stored_of g.R.Rule.value_of) (set_of c.args.worldview.now) c.pick-place.result c.loop-steps.network.cells c.turn.new.network.cells c.loop-steps.agenda.line c.turn.new.agenda.line c.args.network.now.library c.loop-steps.network.library c.loop-steps.invariant.same c.in_ok-clash.ensures.turn in
+    let stopped : Interrupted g.O.Order.picks (stored_of g.R.Rule.value_of c.args.network.now.library) (set_of c.args.worldview.now) c.args.network.now.cells c.args.agenda.now.line c.args.order.now c.turn.new.network.cells c.turn.new.agenda.line c.pick-place.new.self = record { steps = c.loop-steps.steps + 1; last = c.pick-place.new.self; turns = more c.loop-steps.steps c.pick-place.result c.loop-steps.network.cells _ c.loop-steps.agenda.line _ c.loop-steps.order _ c.loop-steps.invariant.turns (rw c.loop-steps.invariant.waiting at c.pick-place.ensures.picks) turn; picked = inl refl } in
+    on_err _ stopped
 
 pub loop-steps-preserved : goal.loop-steps-preserved
 loop-steps-preserved g c =
-    let turn : Turn (stored_of g.R.Rule.value_of c.args.network.now.library) (set_of c.args.worldview.now) c.loop-steps.network.cells c.turn.new.network.cells c.loop-steps.agenda.line c.turn.new.agenda.line = turn_on (stored_of g.R.Rule.value_of) (set_of c.args.worldview.now) c.loop-steps.network.cells c.turn.new.network.cells c.loop-steps.agenda.line c.turn.new.agenda.line c.args.network.now.library c.loop-steps.network.library c.loop-steps.invariant.same c.in_ok-clash.ensures.turn in
+    let turn : Turn (stored_of g.R.Rule.value_of c.args.network.now.library) (set_of c.args.worldview.now) c.pick-place.result c.loop-steps.network.cells c.turn.new.network.cells c.loop-steps.agenda.line c.turn.new.agenda.line = turn_on (stored_of g.R.Rule.value_of) (set_of c.args.worldview.now) c.pick-place.result c.loop-steps.network.cells c.turn.new.network.cells c.loop-steps.agenda.line c.turn.new.agenda.line c.args.network.now.library c.loop-steps.network.library c.loop-steps.invariant.same c.in_ok-clash.ensures.turn in
     let library = stored_of g.R.Rule.value_of c.args.network.now.library in
     record {
       same = c.turn.ensures.same ∙ c.loop-steps.invariant.same;
-      rest = turn_rest library (set_of c.args.worldview.now) c.args.network.now.cells c.loop-steps.network.cells c.turn.new.network.cells c.loop-steps.agenda.line c.turn.new.agenda.line turn c.loop-steps.invariant.rest;
+      rest = turn_rest library (set_of c.args.worldview.now) c.pick-place.result c.args.network.now.cells c.loop-steps.network.cells c.turn.new.network.cells c.loop-steps.agenda.line c.turn.new.agenda.line turn c.loop-steps.invariant.rest;
       under_way = c.turn.ensures.under_way;
       room = c.turn.ensures.room ∙ c.loop-steps.invariant.room;
       free = c.in_ok-clash.ensures.free c.in-None-clash.is;
-      turns = more c.loop-steps.steps c.loop-steps.network.cells _ c.loop-steps.agenda.line _ c.loop-steps.invariant.turns turn;
+      waiting = c.waiting-waiting-in-loop-steps.ensures.waiting;
+      turns = more c.loop-steps.steps c.pick-place.result c.loop-steps.network.cells _ c.loop-steps.agenda.line _ c.loop-steps.order _ c.loop-steps.invariant.turns (rw c.loop-steps.invariant.waiting at c.pick-place.ensures.picks) turn;
       steps = omega arith;
       falls = omega (arith, c.in_ok-clash.ensures.falls, c.loop-steps.invariant.falls);
     }
@@ -254,8 +277,8 @@ returns-in_err-clash-clause-room g c =
 
 pub returns-in_err-clash-clause-err : goal.returns-in_err-clash-clause-err
 returns-in_err-clash-clause-err g c =
-    let reached : (n : ℕ) × Turns (stored_of g.R.Rule.value_of c.args.network.now.library) (set_of c.args.worldview.now) c.args.network.now.cells c.args.agenda.now.line n c.turn.new.network.cells c.turn.new.agenda.line = (c.loop-steps.steps, rw (c.in_err-clash.ensures.err, c.in_err-clash.ensures.err_line) c.loop-steps.invariant.turns) in
-    on_err _ reached
+    let stopped : Interrupted g.O.Order.picks (stored_of g.R.Rule.value_of c.args.network.now.library) (set_of c.args.worldview.now) c.args.network.now.cells c.args.agenda.now.line c.args.order.now c.turn.new.network.cells c.turn.new.agenda.line c.pick-place.new.self = record { steps = c.loop-steps.steps; last = c.loop-steps.order; turns = rw (c.in_err-clash.ensures.err, c.in_err-clash.ensures.err_line) c.loop-steps.invariant.turns; picked = inr (c.pick-place.result, rw (c.in_err-clash.ensures.err_line, ← c.loop-steps.invariant.waiting) c.pick-place.ensures.picks) } in
+    on_err _ stopped
 
 pub returns-then-waiting-eq0-clause-same : goal.returns-then-waiting-eq0-clause-same
 returns-then-waiting-eq0-clause-same g c =
@@ -284,13 +307,13 @@ returns-then-waiting-eq0-clause-err g c =
 pub returns-then-waiting-eq0-clause-quiet : goal.returns-then-waiting-eq0-clause-quiet
 returns-then-waiting-eq0-clause-quiet g c =
     λ quiet.
-    let made : IsWellMade c.loop-steps.network.cells = rw c.data.ensures at c.well_made.ensures in
+    let made : IsWellMade c.loop-steps.network.cells = rw c.data-then-waiting-eq0.ensures at c.well_made-then-waiting-eq0.ensures in
     settled (stored_of g.R.Rule.value_of c.loop-steps.network.library) (set_of c.args.worldview.now) c.loop-steps.network.cells c.loop-steps.agenda.line made c.loop-steps.invariant.under_way
-    (nil_from_length c.loop-steps.agenda.line (omega (arith, c.waiting-2.ensures.waiting, c.if-waiting-eq0.true))) c.loop-steps.invariant.free
+    (nil_from_length c.loop-steps.agenda.line (omega (arith, c.loop-steps.invariant.waiting, c.if-waiting-eq0.true))) c.loop-steps.invariant.free
 
 pub returns-then-waiting-eq0-clause-rests : goal.returns-then-waiting-eq0-clause-rests
 returns-then-waiting-eq0-clause-rests g c =
-    λ quiet. nil_from_length c.loop-steps.agenda.line (omega (arith, c.waiting-2.ensures.waiting, c.if-waiting-eq0.true))
+    λ quiet. nil_from_length c.loop-steps.agenda.line (omega (arith, c.loop-steps.invariant.waiting, c.if-waiting-eq0.true))
 
 pub returns-then-waiting-eq0-clause-clash : goal.returns-then-waiting-eq0-clause-clash
 returns-then-waiting-eq0-clause-clash g c =
@@ -316,9 +339,17 @@ pub returns-then-waiting-eq0-clause-steps : goal.returns-then-waiting-eq0-clause
 returns-then-waiting-eq0-clause-steps g c =
     c.loop-steps.invariant.steps
 
+pub returns-then-waiting-eq0-clause-at_rest : goal.returns-then-waiting-eq0-clause-at_rest
+returns-then-waiting-eq0-clause-at_rest g c =
+    λ empty free. (refl, (no_turns g.O.Order.picks (stored_of g.R.Rule.value_of c.args.network.now.library) (set_of c.args.worldview.now) c.args.network.now.cells c.args.agenda.now.line c.args.order.now c.loop-steps.steps c.loop-steps.network.cells c.loop-steps.agenda.line c.loop-steps.order c.loop-steps.invariant.turns (ap length empty)).0)
+
 pub returns-then-waiting-eq0-clause-falls : goal.returns-then-waiting-eq0-clause-falls
 returns-then-waiting-eq0-clause-falls g c =
     c.loop-steps.invariant.falls
+
+pub returns-then-waiting-eq0-clause-earned : goal.returns-then-waiting-eq0-clause-earned
+returns-then-waiting-eq0-clause-earned g c =
+    λ e. cc e
 
 pub returns-clause-same : goal.returns-clause-same
 returns-clause-same g c =
@@ -368,6 +399,21 @@ pub returns-clause-steps : goal.returns-clause-steps
 returns-clause-steps g c =
     c.loop-steps.invariant.steps
 
+pub returns-clause-at_rest : goal.returns-clause-at_rest
+returns-clause-at_rest g c =
+    λ empty free.
+    let idle = no_turns g.O.Order.picks (stored_of g.R.Rule.value_of c.args.network.now.library) (set_of c.args.worldview.now) c.args.network.now.cells c.args.agenda.now.line c.args.order.now c.loop-steps.steps c.loop-steps.network.cells c.loop-steps.agenda.line c.loop-steps.order c.loop-steps.invariant.turns (ap length empty) in
+    absurd (omega (arith, idle.1, c.loop-steps.invariant.waiting, c.if-waiting-eq0.false))
+
 pub returns-clause-falls : goal.returns-clause-falls
 returns-clause-falls g c =
     c.loop-steps.invariant.falls
+
+pub returns-clause-earned : goal.returns-clause-earned
+returns-clause-earned g c =
+    λ spent.
+    let made : IsWellMade c.args.network.now.cells = rw c.data.ensures at c.well_made.ensures in
+    let most = under_way_within (stored_of g.R.Rule.value_of c.args.network.now.library) (set_of c.args.worldview.now) c.args.network.now.cells c.args.agenda.now made c.waiting-waiting.ensures.line c.requires.under_way in
+    let same : most_steps (problem_of (stored_of g.R.Rule.value_of c.loop-steps.network.library) c.loop-steps.network.cells) ≡ most_steps (problem_of (stored_of g.R.Rule.value_of c.args.network.now.library) c.args.network.now.cells) =
+    λ i. most_steps (problem_of (stored_of g.R.Rule.value_of (c.loop-steps.invariant.same i)) (c.loop-steps.invariant.rest i)) in
+    omega (arith, most, c.loop-steps.invariant.falls, c.loop-steps.invariant.waiting, same)

@@ -1,4 +1,4 @@
-use Rattle.prop_workbench.proofs.Machines.{workbench_is_total}
+use Rattle.prop_workbench.specs.MachineLaws.{workbench_is_total}
 use Rattle.prop_engine.proofs.Fronts.{read_front}
 use Rattle.prop_workbench.proofs.laws.a_stopped_read_leaves_a_front.Goals as goal
 

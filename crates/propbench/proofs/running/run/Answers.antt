@@ -1,19 +1,37 @@
-use Rattle.std.proofs.Common.{◌∙◌, ◌≡◌, ap, map, arith, inr}
-use Rattle.prop_workbench.specs.Engine.{workbench, machine_of}
-use Rattle.prop_workbench.specs.Sessions.{state_of}
-use Rattle.propbench.specs.Kits.{kit_library, kit_related, IsBegun}
+use Rattle.std.proofs.Common.{◌∙◌, arith}
 use Rattle.prop_engine.proofs.Io.{on_err}
-use Rattle.prop_procedures.specs.Kept.{AllMean-push, stored_as, stored_of, related_of}
+use Rattle.prop_procedures.specs.Kept.{AllMean-push}
 use Rattle.std.proofs.lemmas.List.{take_all}
-use Rattle.prop_arith.specs.Kit.{in_order, value_of, Related}
-use Rattle.propbench.proofs.Starts.{nothing_yet, stored_is, listed_more, all_listed, ruled_more, related_by_rules}
+use Rattle.prop_arith.specs.Kit.{in_order, value_of}
+use Rattle.propbench.proofs.Starts.{nothing_yet, stored_is, listed_more, all_listed, ruled_more, kit_is_sound, inputs_fit}
 use Rattle.propbench.proofs.running.run.Goals as goal
+
+pub returns-in_err-ins-clause-err : goal.returns-in_err-ins-clause-err
+returns-in_err-ins-clause-err g c = on_err _ _ (nothing_yet _ _ _)
+
+pub returns-in_err-ins-clause-points : goal.returns-in_err-ins-clause-points
+returns-in_err-ins-clause-points g c = kit_is_sound
+
+pub returns-in_err-call-clause-points : goal.returns-in_err-call-clause-points
+returns-in_err-call-clause-points g c = kit_is_sound
+
+pub returns-in_err-push-clause-points : goal.returns-in_err-push-clause-points
+returns-in_err-push-clause-points g c = kit_is_sound
 
 pub returns-in_err-call-clause-err : goal.returns-in_err-call-clause-err
 returns-in_err-call-clause-err g c = on_err _ _ (nothing_yet _ _ _)
 
 pub returns-in_err-push-clause-err : goal.returns-in_err-push-clause-err
 returns-in_err-push-clause-err g c = on_err _ _ (nothing_yet _ _ _)
+
+pub new-requires-in-loop-rule-clause-some_inputs : goal.new-requires-in-loop-rule-clause-some_inputs
+new-requires-in-loop-rule-clause-some_inputs g c = rw (c.in_ok-ins.ensures.ok, c.ins.ensures) (inputs_fit _).0
+
+pub new-requires-in-loop-rule-clause-few_inputs : goal.new-requires-in-loop-rule-clause-few_inputs
+new-requires-in-loop-rule-clause-few_inputs g c = rw (c.in_ok-ins.ensures.ok, c.ins.ensures) (inputs_fit _).1
+
+pub new-requires-in-loop-rule-clause-formed : goal.new-requires-in-loop-rule-clause-formed
+new-requires-in-loop-rule-clause-formed g c = (c.in_ok-ins.ensures.ok ∙ c.ins.ensures, c.out.ensures, c.need.ensures)
 
 pub loop-rule-preserved : goal.loop-rule-preserved
 loop-rule-preserved g c =
@@ -29,3 +47,15 @@ serve-requires-clause-listed g c = c.loop-rule.invariant.listed ∙ all_listed c
 
 pub serve-requires-clause-ruled : goal.serve-requires-clause-ruled
 serve-requires-clause-ruled g c = c.loop-rule.invariant.ruled ∙ take_all c.loop-rule.rule-index in_order (let past = c.loop-rule-test.false in omega (arith, past))
+
+pub serve-requires-clause-means : goal.serve-requires-clause-means
+serve-requires-clause-means g c = c.loop-rule.invariant.means
+
+pub returns-clause-ok : goal.returns-clause-ok
+returns-clause-ok g c = c.serve.ensures.ok
+
+pub returns-clause-err : goal.returns-clause-err
+returns-clause-err g c = c.serve.ensures.err
+
+pub returns-clause-points : goal.returns-clause-points
+returns-clause-points g c = kit_is_sound

@@ -12,21 +12,21 @@ use Rattle.prop_compound.proofs.definitions.Definitions.resolved.Goals as goal
 
 pub words_refusal-requires-clause-count : goal.words_refusal-requires-clause-count
 words_refusal-requires-clause-count g c =
-    said_within c.args.params.now c.args.scope.now (map step_of c.args.steps.now) c.requires
+    said_within c.args.said.now.params.now c.args.scope.now (map step_of c.args.said.now.steps.now) c.requires
 
 pub words_refusal-requires-clause-locals : goal.words_refusal-requires-clause-locals
 words_refusal-requires-clause-locals g c =
-    said_behind c.args.params.now c.args.scope.now (map step_of c.args.steps.now) c.requires
+    said_behind c.args.said.now.params.now c.args.scope.now (map step_of c.args.said.now.steps.now) c.requires
 
 pub returns-in-Some-clause-err : goal.returns-in-Some-clause-err
 returns-in-Some-clause-err g c =
-    let steps = map step_of c.args.steps.now in
-    inl (refused_words (stored_of g.R.Rule.value_of c.args.library.now) c.args.words.now c.args.self.now (words c.args.params.now) steps (take (length c.args.params.now) c.args.scope.now) (said_first c.args.params.now c.args.scope.now steps c.requires) c.words_refusal.result c.words_refusal.ensures c.in-Some.refusal c.in-Some.is)
+    let steps = map step_of c.args.said.now.steps.now in
+    inl (refused_words (stored_of g.R.Rule.value_of c.args.library.now) c.args.words.now c.args.self.now (words c.args.said.now.params.now) steps (take (length c.args.said.now.params.now) c.args.scope.now) (said_first c.args.said.now.params.now c.args.scope.now steps c.requires) c.words_refusal.result c.words_refusal.ensures c.in-Some.refusal c.in-Some.is)
 
 pub returns-in-Some-uses_refusal-clause-err : goal.returns-in-Some-uses_refusal-clause-err
 returns-in-Some-uses_refusal-clause-err g c =
-    let steps = map step_of c.args.steps.now in
-    inl (refused_uses (stored_of g.R.Rule.value_of c.args.library.now) c.args.words.now c.args.self.now (words c.args.params.now) steps (take (length c.args.params.now) c.args.scope.now) (said_first c.args.params.now c.args.scope.now steps c.requires) c.words_refusal.result c.words_refusal.ensures c.in_default.is c.uses_refusal.result c.uses_refusal.ensures c.in-Some-uses_refusal.refusal c.in-Some-uses_refusal.is)
+    let steps = map step_of c.args.said.now.steps.now in
+    inl (refused_uses (stored_of g.R.Rule.value_of c.args.library.now) c.args.words.now c.args.self.now (words c.args.said.now.params.now) steps (take (length c.args.said.now.params.now) c.args.scope.now) (said_first c.args.said.now.params.now c.args.scope.now steps c.requires) c.words_refusal.result c.words_refusal.ensures c.in_default.is c.uses_refusal.result c.uses_refusal.ensures c.in-Some-uses_refusal.refusal c.in-Some-uses_refusal.is)
 
 pub push_numbered-requires : goal.push_numbered-requires
 push_numbered-requires g c = c.new-numbered.ensures.items
@@ -38,11 +38,11 @@ pub counted-requires-clause-used : goal.counted-requires-clause-used
 counted-requires-clause-used g c =
     let library = stored_of g.R.Rule.value_of c.args.library.now in
     let definitions = c.args.self.now in
-    let params = words c.args.params.now in
-    let steps = map step_of c.args.steps.now in
+    let params = words c.args.said.now.params.now in
+    let steps = map step_of c.args.said.now.steps.now in
     let same = same_count c.self.inside.names c.self.inside.definitions.items definitions c.self.view_is c.self.invariant in
     let right : IsRightly library c.args.words.now definitions params steps =
-    rightly library c.args.words.now definitions params steps (take (length c.args.params.now) c.args.scope.now) (said_first c.args.params.now c.args.scope.now steps c.requires) c.words_refusal.result c.words_refusal.ensures c.in_default.is c.uses_refusal.result c.uses_refusal.ensures c.in_default-uses_refusal.is in
+    rightly library c.args.words.now definitions params steps (take (length c.args.said.now.params.now) c.args.scope.now) (said_first c.args.said.now.params.now c.args.scope.now steps c.requires) c.words_refusal.result c.words_refusal.ensures c.in_default.is c.uses_refusal.result c.uses_refusal.ensures c.in_default-uses_refusal.is in
     let items = numbered_so library c.args.words.now definitions params steps same right c.args.scope.now c.push_numbered.new.all.items c.requires c.in-Ok.ensures in
     let seen : definitions.definitions ≡ all_bare c.deref.result.now = ap (λ (d : Definitions). d.definitions) (sym c.self.view_is) ∙ ap all_bare (sym c.deref.ensures.value) in
     used_seen library c.args.words.now definitions params steps same right c.deref.result.now c.push_numbered.new.all.items seen items
@@ -51,15 +51,15 @@ pub returns-in-Ok-clause-definition : goal.returns-in-Ok-clause-definition
 returns-in-Ok-clause-definition g c =
     let library = stored_of g.R.Rule.value_of c.args.library.now in
     let definitions = c.args.self.now in
-    let params = words c.args.params.now in
-    let steps = map step_of c.args.steps.now in
+    let params = words c.args.said.now.params.now in
+    let steps = map step_of c.args.said.now.steps.now in
     let same = same_count c.self.inside.names c.self.inside.definitions.items definitions c.self.view_is c.self.invariant in
     let right : IsRightly library c.args.words.now definitions params steps =
-    rightly library c.args.words.now definitions params steps (take (length c.args.params.now) c.args.scope.now) (said_first c.args.params.now c.args.scope.now steps c.requires) c.words_refusal.result c.words_refusal.ensures c.in_default.is c.uses_refusal.result c.uses_refusal.ensures c.in_default-uses_refusal.is in
+    rightly library c.args.words.now definitions params steps (take (length c.args.said.now.params.now) c.args.scope.now) (said_first c.args.said.now.params.now c.args.scope.now steps c.requires) c.words_refusal.result c.words_refusal.ensures c.in_default.is c.uses_refusal.result c.uses_refusal.ensures c.in_default-uses_refusal.is in
     let items = numbered_so library c.args.words.now definitions params steps same right c.args.scope.now c.push_numbered.new.all.items c.requires c.in-Ok.ensures in
-    let count : length c.args.params.now ≡ length params = sym (length-map c.args.params.now (λ (w : Bor (List ℕ)). w.now)) in
+    let count : length c.args.said.now.params.now ≡ length params = sym (length-map c.args.said.now.params.now (λ (w : Bor (List ℕ)). w.now)) in
     let numbered = c.push_numbered.new.all.items in
-    let Counted = IsCounted c.deref.result.now (length c.args.params.now) numbered in
+    let Counted = IsCounted c.deref.result.now (length c.args.said.now.params.now) numbered in
     if_ok Counted (λ (k : KeptDefinition). bare k ≡ definition_of library c.args.words.now definitions params steps)
     (λ k h. definition_so library c.args.words.now definitions params steps same right k numbered items (h.params ∙ count) h.steps) c.counted.result c.counted.ensures.counted
 
@@ -67,15 +67,15 @@ pub returns-in-Ok-clause-kept : goal.returns-in-Ok-clause-kept
 returns-in-Ok-clause-kept g c =
     let library = stored_of g.R.Rule.value_of c.args.library.now in
     let definitions = c.args.self.now in
-    let params = words c.args.params.now in
-    let steps = map step_of c.args.steps.now in
+    let params = words c.args.said.now.params.now in
+    let steps = map step_of c.args.said.now.steps.now in
     let same = same_count c.self.inside.names c.self.inside.definitions.items definitions c.self.view_is c.self.invariant in
     let right : IsRightly library c.args.words.now definitions params steps =
-    rightly library c.args.words.now definitions params steps (take (length c.args.params.now) c.args.scope.now) (said_first c.args.params.now c.args.scope.now steps c.requires) c.words_refusal.result c.words_refusal.ensures c.in_default.is c.uses_refusal.result c.uses_refusal.ensures c.in_default-uses_refusal.is in
+    rightly library c.args.words.now definitions params steps (take (length c.args.said.now.params.now) c.args.scope.now) (said_first c.args.said.now.params.now c.args.scope.now steps c.requires) c.words_refusal.result c.words_refusal.ensures c.in_default.is c.uses_refusal.result c.uses_refusal.ensures c.in_default-uses_refusal.is in
     let items = numbered_so library c.args.words.now definitions params steps same right c.args.scope.now c.push_numbered.new.all.items c.requires c.in-Ok.ensures in
-    let count : length c.args.params.now ≡ length params = sym (length-map c.args.params.now (λ (w : Bor (List ℕ)). w.now)) in
+    let count : length c.args.said.now.params.now ≡ length params = sym (length-map c.args.said.now.params.now (λ (w : Bor (List ℕ)). w.now)) in
     let numbered = c.push_numbered.new.all.items in
-    let Counted = IsCounted c.deref.result.now (length c.args.params.now) numbered in
+    let Counted = IsCounted c.deref.result.now (length c.args.said.now.params.now) numbered in
     let ks = c.deref.result.now in
     let seen : definitions.definitions ≡ all_bare ks = ap (λ (d : Definitions). d.definitions) (sym c.self.view_is) ∙ ap all_bare (sym c.deref.ensures.value) in
     let kept : AreKept ks = rw c.deref.ensures.value c.self.invariant.1 in
@@ -86,22 +86,22 @@ pub returns-in-Ok-clause-over : goal.returns-in-Ok-clause-over
 returns-in-Ok-clause-over g c =
     let library = stored_of g.R.Rule.value_of c.args.library.now in
     let definitions = c.args.self.now in
-    let params = words c.args.params.now in
-    let steps = map step_of c.args.steps.now in
+    let params = words c.args.said.now.params.now in
+    let steps = map step_of c.args.said.now.steps.now in
     let same = same_count c.self.inside.names c.self.inside.definitions.items definitions c.self.view_is c.self.invariant in
     let right : IsRightly library c.args.words.now definitions params steps =
-    rightly library c.args.words.now definitions params steps (take (length c.args.params.now) c.args.scope.now) (said_first c.args.params.now c.args.scope.now steps c.requires) c.words_refusal.result c.words_refusal.ensures c.in_default.is c.uses_refusal.result c.uses_refusal.ensures c.in_default-uses_refusal.is in
+    rightly library c.args.words.now definitions params steps (take (length c.args.said.now.params.now) c.args.scope.now) (said_first c.args.said.now.params.now c.args.scope.now steps c.requires) c.words_refusal.result c.words_refusal.ensures c.in_default.is c.uses_refusal.result c.uses_refusal.ensures c.in_default-uses_refusal.is in
     let items = numbered_so library c.args.words.now definitions params steps same right c.args.scope.now c.push_numbered.new.all.items c.requires c.in-Ok.ensures in
-    let count : length c.args.params.now ≡ length params = sym (length-map c.args.params.now (λ (w : Bor (List ℕ)). w.now)) in
+    let count : length c.args.said.now.params.now ≡ length params = sym (length-map c.args.said.now.params.now (λ (w : Bor (List ℕ)). w.now)) in
     let numbered = c.push_numbered.new.all.items in
-    let Counted = IsCounted c.deref.result.now (length c.args.params.now) numbered in
+    let Counted = IsCounted c.deref.result.now (length c.args.said.now.params.now) numbered in
     if_ok Counted (λ (k : KeptDefinition). All (IsUseOver library) k.steps.items)
     (λ k h. steps_over library c.args.words.now definitions params steps same right k numbered items h.steps) c.counted.result c.counted.ensures.counted
 
 pub returns-in-Ok-clause-fits : goal.returns-in-Ok-clause-fits
 returns-in-Ok-clause-fits g c =
-    let steps = map step_of c.args.steps.now in
-    on_ok c.counted.result (not_refused (stored_of g.R.Rule.value_of c.args.library.now) c.args.words.now c.args.self.now (words c.args.params.now) steps (take (length c.args.params.now) c.args.scope.now) (said_first c.args.params.now c.args.scope.now steps c.requires) c.words_refusal.result c.words_refusal.ensures c.in_default.is c.uses_refusal.result c.uses_refusal.ensures c.in_default-uses_refusal.is)
+    let steps = map step_of c.args.said.now.steps.now in
+    on_ok c.counted.result (not_refused (stored_of g.R.Rule.value_of c.args.library.now) c.args.words.now c.args.self.now (words c.args.said.now.params.now) steps (take (length c.args.said.now.params.now) c.args.scope.now) (said_first c.args.said.now.params.now c.args.scope.now steps c.requires) c.words_refusal.result c.words_refusal.ensures c.in_default.is c.uses_refusal.result c.uses_refusal.ensures c.in_default-uses_refusal.is)
 
 pub returns-in-Ok-clause-err : goal.returns-in-Ok-clause-err
 returns-in-Ok-clause-err g c =

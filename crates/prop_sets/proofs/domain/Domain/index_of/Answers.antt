@@ -1,4 +1,4 @@
-use Rattle.std.proofs.Common.{sym, ◌∙◌}
+use Rattle.std.proofs.Common.{sym}
 use Rattle.prop_sets.proofs.NameLemmas.{no_text}
 use Rattle.prop_sets.proofs.domain.Domain.index_of.Goals as goal
 

@@ -1,12 +1,14 @@
-use Rattle.std.proofs.Common.{Ok, Some, sym, subst}
+use Rattle.std.proofs.Common.{ap, Ok, Some, sym, subst}
 use Rattle.prop_lattice.specs.declared.refusal.Refusal.TheVariants.{Memory}
 use Rattle.prop_procedures.specs.Kept.{stored_of}
 use Rattle.prop_workbench.specs.Machine.{State}
 use Rattle.prop_engine.specs.Answers.{answer_of}
 use Rattle.prop_workbench.specs.Questions.{command_of, IsNamed}
 use Rattle.prop_workbench.specs.Reasons.{IsLeanAnswer}
-use Rattle.prop_workbench.specs.Sessions.{state_of}
-use Rattle.prop_workbench.specs.Steps.{Obeys}
+use Rattle.prop_workbench.specs.Sessions.{state_of, work_of}
+use Rattle.prop_workbench.specs.Running.{outcome_of}
+use Rattle.prop_workbench.proofs.AskLemmas.{ran}
+use Rattle.prop_workbench.proofs.EarnedLemmas.{earns, earns_refused}
 use Rattle.prop_workbench.proofs.ReasonLemmas.{lean_refused}
 use Rattle.prop_workbench.proofs.StepLemmas.{lacks}
 use Rattle.prop_workbench.proofs.session.Session.answered.Goals as goal
@@ -22,20 +24,31 @@ reply_to-requires-clause-run g c = c.in-Ok.ensures.run
 
 pub returns-in-Ok-clause-step : goal.returns-in-Ok-clause-step
 returns-in-Ok-clause-step g c =
-    let library = stored_of g.R.Rule.value_of c.args.self.now.network.library in
-    subst (λ (t : State). Obeys library t (command_of c.args.question) (answer_of c.reply_to.result) (state_of c.run_network.new.self) c.in-Ok.steps) c.run_network.ensures.state (rw c.run_network.ensures.keeps.library at c.reply_to.ensures.step)
+    let s = c.args.self.now in
+    let t = c.run_network.new.self in
+    let said = c.in-Ok.ensures.run in
+    ran (stored_of g.R.Rule.value_of s.network.library) (state_of s) (state_of t) c.args.question (outcome_of c.in-Ok.end) _ c.in-Ok.steps c.run_network.ensures.state c.requires.named
+    (rw (c.run_network.ensures.keeps.library, c.run_network.ensures.state) at said.ends) (rw (c.run_network.ensures.keeps.library, c.run_network.ensures.state) at c.reply_to.ensures.says) (rw (ap (λ (u : State). u.limit) c.run_network.ensures.state) at said.within)
 
-pub returns-in-Ok-clause-lean : goal.returns-in-Ok-clause-lean
-returns-in-Ok-clause-lean g c =
-    subst (λ (t : State). IsLeanAnswer c.run_network.new.self.network.cells t (Ok (Some (command_of c.args.question))) (answer_of c.reply_to.result)) c.run_network.ensures.state c.reply_to.ensures.lean
+pub returns-in-Ok-clause-rests : goal.returns-in-Ok-clause-rests
+returns-in-Ok-clause-rests g c =
+    let s = c.args.self.now in
+    let t = c.run_network.new.self in
+    record {
+      lean = subst (λ (u : State). IsLeanAnswer t.network.cells u (Ok (Some (command_of c.args.question))) (answer_of c.reply_to.result)) c.run_network.ensures.state c.reply_to.ensures.lean;
+      earned = earns _ (stored_of g.R.Rule.value_of s.network.library) (state_of s) (work_of s) (work_of t) c.args.question c.in-Ok.end c.in-Ok.steps _ c.in-Ok.ensures.gone (rw (c.run_network.ensures.keeps.library, c.run_network.ensures.state) at c.reply_to.ensures.says);
+    }
 
 pub returns-in-Err-clause-step : goal.returns-in-Err-clause-step
 returns-in-Err-clause-step g c =
     let s = c.args.self.now in
     lacks (stored_of g.R.Rule.value_of s.network.library) (state_of s) (state_of c.run_network.new.self) (command_of c.args.question) 0 c.run_network.ensures.state
 
-pub returns-in-Err-clause-lean : goal.returns-in-Err-clause-lean
-returns-in-Err-clause-lean g c = lean_refused c.run_network.new.self.network.cells (state_of c.args.self.now) c.args.question Memory
+pub returns-in-Err-clause-rests : goal.returns-in-Err-clause-rests
+returns-in-Err-clause-rests g c = record {
+  lean = lean_refused c.run_network.new.self.network.cells (state_of c.args.self.now) c.args.question Memory;
+  earned = earns_refused _ (stored_of g.R.Rule.value_of c.args.self.now.network.library) (state_of c.args.self.now) (work_of c.args.self.now) (work_of c.run_network.new.self) (Ok (Some (command_of c.args.question))) Memory 0;
+}
 
 pub returns-in-Ok-clause-keeps : goal.returns-in-Ok-clause-keeps
 returns-in-Ok-clause-keeps g c = c.run_network.ensures.keeps

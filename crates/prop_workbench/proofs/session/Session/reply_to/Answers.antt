@@ -3,9 +3,9 @@ use Rattle.prop_premises.specs.Origins.{believed_in}
 use Rattle.prop_procedures.specs.Kept.{stored_of}
 use Rattle.prop_cells.specs.Data.{IsClash}
 use Rattle.prop_workbench.specs.Machine.{problem_in}
-use Rattle.prop_workbench.specs.Running.{MayEnd, Settled, Unsettled, Contradiction}
+use Rattle.prop_workbench.specs.Running.{MayEnd, Contradiction}
 use Rattle.prop_workbench.specs.Sessions.{state_of}
-use Rattle.prop_workbench.proofs.AskLemmas.{ran, may_contradict, conflict_known}
+use Rattle.prop_workbench.proofs.AskLemmas.{may_contradict, conflict_known}
 use Rattle.prop_workbench.proofs.ReasonLemmas.{lean_contradiction, lean_contradicted}
 use Rattle.prop_workbench.proofs.session.Session.reply_to.Goals as goal
 
@@ -25,20 +25,16 @@ contradiction_reply-requires g c =
     let ends : MayEnd library (state_of s) (Contradiction c.in-Clash.support) = rw c.in-Clash.is at c.requires.run.ends in
     conflict_known (problem_in library (state_of s)) (believed_in s.premises) (length s.premises) c.in-Clash.support c.requires.sound.known ends
 
-pub returns-in-Quiet-clause-step : goal.returns-in-Quiet-clause-step
-returns-in-Quiet-clause-step g c =
-    let s = c.args.self.now in
-    ran (stored_of g.R.Rule.value_of s.network.library) (state_of s) c.args.question Settled _ _ c.requires.named (rw c.in-Quiet.is at c.requires.run.ends) (c.settled.ensures.says _) c.requires.run.within
+pub returns-in-Quiet-clause-says : goal.returns-in-Quiet-clause-says
+returns-in-Quiet-clause-says g c = rw c.in-Quiet.is (c.settled.ensures.says c.args.steps)
 
 pub returns-in-Quiet-clause-lean : goal.returns-in-Quiet-clause-lean
 returns-in-Quiet-clause-lean g c = c.settled.ensures.lean
 
-pub returns-in-Clash-clause-step : goal.returns-in-Clash-clause-step
-returns-in-Clash-clause-step g c =
+pub returns-in-Clash-clause-says : goal.returns-in-Clash-clause-says
+returns-in-Clash-clause-says g c =
     let s = c.args.self.now in
-    let library = stored_of g.R.Rule.value_of s.network.library in
-    ran library (state_of s) c.args.question (Contradiction c.in-Clash.support) _ _ c.requires.named (rw c.in-Clash.is at c.requires.run.ends)
-    (may_contradict library (state_of s) c.args.question c.in-Clash.support _ c.args.steps c.contradiction_reply.ensures.in_order c.contradiction_reply.ensures.says) c.requires.run.within
+    rw c.in-Clash.is (may_contradict (stored_of g.R.Rule.value_of s.network.library) (state_of s) c.args.question c.in-Clash.support _ c.args.steps c.contradiction_reply.ensures.in_order c.contradiction_reply.ensures.says)
 
 pub returns-in-Clash-clause-lean : goal.returns-in-Clash-clause-lean
 returns-in-Clash-clause-lean g c =
@@ -46,10 +42,8 @@ returns-in-Clash-clause-lean g c =
     let clash : IsClash (believed_in s.premises) s.network.cells c.in-Clash.support = rw c.in-Clash.is at c.requires.run.clash in
     lean_contradicted s.network.cells (state_of s) c.args.question _ (lean_contradiction s.network.cells (state_of s) c.in-Clash.support _ clash c.contradiction_reply.ensures.says)
 
-pub returns-in-Spent-clause-step : goal.returns-in-Spent-clause-step
-returns-in-Spent-clause-step g c =
-    let s = c.args.self.now in
-    ran (stored_of g.R.Rule.value_of s.network.library) (state_of s) c.args.question Unsettled _ _ c.requires.named (rw c.in-Spent.is at c.requires.run.ends) (c.unsettled.ensures.says _ (c.requires.run.spent c.in-Spent.is)) c.requires.run.within
+pub returns-in-Spent-clause-says : goal.returns-in-Spent-clause-says
+returns-in-Spent-clause-says g c = rw c.in-Spent.is (c.unsettled.ensures.says c.args.steps (c.requires.run.spent c.in-Spent.is))
 
 pub returns-in-Spent-clause-lean : goal.returns-in-Spent-clause-lean
 returns-in-Spent-clause-lean g c = c.unsettled.ensures.lean

@@ -1,5 +1,7 @@
 use Rattle.std.proofs.Common.{ap, refl}
 use Rattle.prop_workbench.proofs.AskLemmas.{has_run}
+use Rattle.prop_workbench.specs.Sessions.{work_of}
+use Rattle.prop_workbench.proofs.EarnedLemmas.{has_gone}
 use Rattle.prop_workbench.proofs.session.Session.run_network.Goals as goal
 
 pub run-requires-clause-under_way : goal.run-requires-clause-under_way
@@ -27,4 +29,9 @@ returns-clause-keeps g c = record {
 pub returns-clause-run : goal.returns-clause-run
 returns-clause-run g c =
     let believed = c.requires.sound.worldview in
-    has_run g.R.Rule.value_of _ c.run.result (rw believed at c.run.ensures.quiet) (rw believed at c.run.ensures.conflict) (rw believed at c.run.ensures.clash) c.run.ensures.steps c.run.ensures.spent
+    has_run g.R.Rule.value_of _ c.run.result (rw believed at c.run.ensures.quiet) (rw believed at c.run.ensures.conflict) (rw believed at c.run.ensures.clash) c.run.ensures.steps c.run.ensures.spent c.run.ensures.earned
+
+pub returns-clause-gone : goal.returns-clause-gone
+returns-clause-gone g c =
+    let believed = c.requires.sound.worldview in
+    has_gone _ _ _ (work_of c.args.self.now) _ c.run.result (rw believed at c.run.ensures.turns) (rw believed at c.run.ensures.clash) c.run.ensures.left

@@ -19,3 +19,9 @@ returns-in-None-clause-keeps g c = record { library = refl; sound = c.requires.s
 
 pub returns-in-Some-clause-keeps : goal.returns-in-Some-clause-keeps
 returns-in-Some-clause-keeps g c = c.answered.ensures.keeps
+
+pub returns-in-Some-clause-rests : goal.returns-in-Some-clause-rests
+returns-in-Some-clause-rests g c = c.answered.ensures.rests
+
+pub returns-in-None-clause-rests : goal.returns-in-None-clause-rests
+returns-in-None-clause-rests g c = record { lean = tt; earned = tt }

@@ -1,0 +1,163 @@
+//! The engine: reads pieces, carries out lines, writes replies.
+ghost use Rattle.std.specs.Prelude.{◌≡◌, ℕ, ◌+◌, ◌<◌, ◌≤◌, ◌^◌, List, length, min, max, true, false, OnOk, OnErr, IfOk, IfErr, MatchResult, IsErrOf, ◌↔◌, ◌⊎◌};
+ghost use Rattle.std.specs.Io.KnownBytes.{Appends, Consumes};
+ghost use Rattle.prop_engine.specs.Watched.{device, has_failed, has_stopped, calls, widest, AppendsFront, IsFaulty, IsFresh};
+ghost use Rattle.prop_engine.specs.Answers.{Answer, text_written};
+ghost use Rattle.prop_engine.specs.Progress.{CountsAnswer, Advances, Stops, GrowsAtMost};
+ghost use Rattle.prop_engine.specs.Endings.{Tells, WritesTranscript, WritesFront};
+
+use crate::interpreter::Interpreter;
+use crate::outcome::{Counts, EngineFault};
+use crate::pending::Pending;
+use crate::reply::Reply;
+use crate::sending::write_reply;
+use crate::watched::Watched;
+use std::io::{Read, Write};
+
+/// Carries out a line and writes its reply.
+fn answer<M: Interpreter, W: Write>(
+    interpreter: &mut M,
+    line: &[u8],
+    writer: &mut Watched<W>,
+    counts: &mut Counts,
+) -> Result<(), EngineFault>
+    requires ready { M.is_ready interpreter.old }
+    requires lines { counts.old.lines < 2 ^ 127 }
+    requires refused { counts.old.refused < 2 ^ 127 }
+    ensures ready { M.is_ready interpreter.new }
+    ensures same { M.setting interpreter.new ≡ M.setting interpreter.old }
+    ensures step { (answer : Answer) × M.machine (M.setting interpreter.old) (M.state interpreter.old) line.now answer (M.state interpreter.new) × MatchResult result
+        (λ _. Appends (W.contents (device writer.old)) (W.contents (device writer.new)) (text_written answer) × CountsAnswer counts.old counts.new answer)
+        (λ _. AppendsFront (W.contents (device writer.old)) (W.contents (device writer.new)) (text_written answer)) }
+    ensures fault { IfErr result (λ e. (e ≡ EngineFault.Write) × IsFaulty writer.new) }
+    ensures fresh { OnOk result (IsFresh writer.old → IsFresh writer.new) }
+{
+    let reply = interpreter.interpret(line);
+    write_reply(writer, &reply)?;
+    counts.lines += 1;
+    if let Reply::Refused(_) = reply {
+        counts.refused += 1;
+    }
+    Ok(())
+}
+
+/// Takes the next piece of the input.
+fn feed<M: Interpreter, W: Write>(
+    interpreter: &mut M,
+    piece: &[u8],
+    pending: &mut Pending,
+    writer: &mut Watched<W>,
+    counts: &mut Counts,
+) -> Result<(), EngineFault>
+    requires ready { M.is_ready interpreter.old }
+    requires lines { counts.old.lines + length piece.now < 2 ^ 127 }
+    requires refused { counts.old.refused + length piece.now < 2 ^ 127 }
+    ensures ready { M.is_ready interpreter.new }
+    ensures same { M.setting interpreter.new ≡ M.setting interpreter.old }
+    ensures ok { OnOk result ((output : List ℕ) × Appends (W.contents (device writer.old)) (W.contents (device writer.new)) output
+        × Advances (M.machine (M.setting interpreter.old)) (M.state interpreter.old) pending.old counts.old piece.now output (M.state interpreter.new) pending.new counts.new) }
+    ensures err { OnErr result ((output : List ℕ) × Appends (W.contents (device writer.old)) (W.contents (device writer.new)) output
+        × Stops (M.machine (M.setting interpreter.old)) (M.state interpreter.old) pending.old counts.old piece.now output (M.state interpreter.new)) }
+    ensures bounded { OnOk result (GrowsAtMost counts.old counts.new (length piece.now)) }
+    ensures fault { IfErr result (λ e. (e ≡ EngineFault.Write) × IsFaulty writer.new) }
+    ensures fresh { OnOk result (IsFresh writer.old → IsFresh writer.new) }
+{
+    for byte in piece {
+        if *byte == b'\n' {
+            answer(interpreter, pending.as_slice(), writer, counts)?;
+            pending.clear();
+        } else {
+            pending.push(*byte);
+        }
+    }
+    Ok(())
+}
+
+/// Reads the input to its end, in at most so many reads of at most 4,096 bytes, and writes
+/// the replies to its lines. Each reply is written and passed on before the next line is
+/// carried out. It takes no memory beside what the lines take.
+pub fn run_session<M: Interpreter, Rd: Read, W: Write>(
+    interpreter: &mut M,
+    reader: &mut Watched<Rd>,
+    writer: &mut Watched<W>,
+    reads: u64,
+) -> Result<Counts, EngineFault>
+    requires ready { M.is_ready interpreter.old }
+    requires reader { IsFresh reader.old }
+    requires writer { IsFresh writer.old }
+    ensures ready { M.is_ready interpreter.new }
+    ensures same { M.setting interpreter.new ≡ M.setting interpreter.old }
+
+    // What was written is a transcript of all that the reader had left.
+    ensures transcript { IfOk result (λ counts. WritesTranscript (M.machine (M.setting interpreter.old)) (Rd.remaining (device reader.old))
+        (W.contents (device writer.old)) (W.contents (device writer.new)) counts (M.state interpreter.old) (M.state interpreter.new)) }
+    // At a fault it is the front of an allowed one.
+    ensures front { OnErr result (WritesFront (M.machine (M.setting interpreter.old)) (Rd.remaining (device reader.old))
+        (W.contents (device writer.old)) (W.contents (device writer.new)) (M.state interpreter.old)) }
+    // Which lines were carried out, by what the reads gave.
+    ensures told { (input : List ℕ) × (output : List ℕ)
+        × Consumes (Rd.remaining (device reader.old)) (Rd.remaining (device reader.new)) input
+        × Appends (W.contents (device writer.old)) (W.contents (device writer.new)) output
+        × Tells (M.machine (M.setting interpreter.old)) result (Rd.remaining (device reader.new)) (has_stopped reader.new) (M.state interpreter.old) input output (M.state interpreter.new) }
+
+    // When each fault comes.
+    ensures read { IsErrOf result EngineFault.Read ↔ (has_failed reader.new ≡ true) }
+    ensures write { IsErrOf result EngineFault.Write → IsFaulty writer.new }
+    ensures reads { IsErrOf result EngineFault.Reads → (has_stopped reader.new ≡ false) × (calls reader.new ≡ min (calls reader.old + reads) u64.MAX) }
+    // Where no write stopped it, each reply was written whole and passed on.
+    ensures passed_on { IsErrOf result EngineFault.Write ⊎ IsFresh writer.new }
+    ensures at_most { calls reader.new ≤ calls reader.old + reads }
+    ensures pieces { widest reader.new ≤ max (widest reader.old) 4096 }
+{
+    run(interpreter, reader, writer, reads)
+}
+
+fn run<M: Interpreter, Rd: Read, W: Write>(
+    interpreter: &mut M,
+    reader: &mut Watched<Rd>,
+    writer: &mut Watched<W>,
+    reads: u64,
+) -> Result<Counts, EngineFault>
+    requires ready { M.is_ready interpreter.old }
+    requires reader { IsFresh reader.old }
+    requires writer { IsFresh writer.old }
+    ensures ready { M.is_ready interpreter.new }
+    ensures same { M.setting interpreter.new ≡ M.setting interpreter.old }
+    ensures told { (input : List ℕ) × (output : List ℕ)
+        × Consumes (Rd.remaining (device reader.old)) (Rd.remaining (device reader.new)) input
+        × Appends (W.contents (device writer.old)) (W.contents (device writer.new)) output
+        × Tells (M.machine (M.setting interpreter.old)) result (Rd.remaining (device reader.new)) (has_stopped reader.new) (M.state interpreter.old) input output (M.state interpreter.new) }
+    ensures read { IsErrOf result EngineFault.Read ↔ (has_failed reader.new ≡ true) }
+    ensures write { IsErrOf result EngineFault.Write → IsFaulty writer.new }
+    ensures reads { IsErrOf result EngineFault.Reads → (has_stopped reader.new ≡ false) × (calls reader.new ≡ min (calls reader.old + reads) u64.MAX) }
+    ensures passed_on { IsErrOf result EngineFault.Write ⊎ IsFresh writer.new }
+    ensures at_most { calls reader.new ≤ calls reader.old + reads }
+    ensures pieces { widest reader.new ≤ max (widest reader.old) 4096 }
+{
+    let mut piece = [0; 4096];
+    let mut pending = Pending::new();
+    let mut counts = Counts {
+        lines: 0,
+        refused: 0,
+    };
+    for _turn in 0..reads {
+        let count = match reader.read(&mut piece) {
+            Ok(count) => count,
+            Err(_) => return Err(EngineFault::Read),
+        };
+        if count == 0 {
+            if !pending.is_empty() {
+                answer(interpreter, pending.as_slice(), writer, &mut counts)?;
+            }
+            return Ok(counts);
+        }
+        feed(
+            interpreter,
+            &piece[..count],
+            &mut pending,
+            writer,
+            &mut counts,
+        )?;
+    }
+    Err(EngineFault::Reads)
+}

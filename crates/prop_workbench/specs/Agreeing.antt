@@ -1,0 +1,52 @@
+-- What any two sessions agree on that are given the same lines, whatever orders they call waiting procedures in.
+use Rattle.std.specs.Prelude.{◌≡◌, ◌≢◌, ◌⊎◌, ℕ, List, [], ◌∷◌, Option, Some, None, Result, Ok, All}
+use Rattle.prop_lattice.specs.declared.info.Info.{Info}
+use Rattle.prop_lattice.specs.declared.refusal.Refusal.TheVariants.{Memory}
+use Rattle.prop_procedures.specs.Stored.{Stored}
+use Rattle.prop_vocabulary.specs.Cells.{cell_named}
+use Rattle.prop_language.specs.Commands.{Command}
+use Rattle.prop_language.specs.Reading.{reading}
+use Rattle.prop_texts.specs.Texts.{equation, because}
+use Rattle.prop_engine.specs.Answers.{Answer, Text, Refused}
+use Rattle.prop_engine.specs.Transcripts.{Machine, Run}
+use Rattle.prop_workbench.specs.Machine.{State, text_at}
+use Rattle.prop_workbench.specs.Running.{Outcome, Settled, Contradiction, MayEnd, Replies}
+use Rattle.prop_workbench.specs.Steps.{Step}
+
+-- no answer is that memory was refused
+abbrev pub HaveMemory : List Answer → Type 0
+HaveMemory answers = All (λ answer. answer ≢ Refused Memory) answers
+
+-- two runs over the same lines that were never refused memory end in the same state
+abbrev pub RunsMeet : {S : Type 0} → Machine S → Type 0
+RunsMeet {S = S} machine =
+    (old first second : S) (lines : List (List ℕ)) (answers others : List Answer) → Run machine old lines answers first → Run machine old lines others second → HaveMemory answers → HaveMemory others → second ≡ first
+
+-- where nothing is run, two answers to a line that were not refused memory are one
+abbrev pub AnswersMeet : List Stored → Type 0
+AnswersMeet library =
+    (old first second : State) (line : List ℕ) (answer other : Answer) (steps others : ℕ) → Step library old line answer first steps → Step library old line other second others → answer ≢ Refused Memory → other ≢ Refused Memory →
+    (other ≡ answer) ⊎ ((text also : List ℕ) × (answer ≡ Text text) × (other ≡ Text also))
+
+-- the text is what a settled run is answered to the command
+abbrev pub IsSettledText : List Stored → State → Command → List ℕ → Type 0
+IsSettledText library s command text = (steps : ℕ) × MayEnd library s Settled × Replies library s command Settled steps text
+
+-- the two texts name one value of the cell with the name, each with premises that explain it
+pub record SayOneValue (s : State) (name text also : List ℕ) : Type 0 where
+  pub cell : ℕ
+  pub cell_is : cell_named s.names name ≡ Some cell
+  pub v : Info
+  pub premises : List ℕ
+  pub others : List ℕ
+  pub text_is : text ≡ equation name (text_at s cell v) (because s.premises [] premises)
+  pub also_is : also ≡ equation name (text_at s cell v) (because s.premises [] others)
+
+-- settled texts to one command in one state are one; where it asks why, they may differ in the premises
+abbrev pub SettledTextsMeet : List Stored → Type 0
+SettledTextsMeet library =
+    (s : State) (command : Command) (text also : List ℕ) → IsSettledText library s command text → IsSettledText library s command also → (also ≡ text) ⊎ ((name : List ℕ) × (command ≡ Command.Why name) × SayOneValue s name text also)
+
+-- what settles is not contradictory: no other run over it ends in a contradiction
+abbrev pub SettledIsFree : List Stored → Type 0
+SettledIsFree library = (s : State) (premises : List ℕ) → MayEnd library s Settled → MayEnd library s (Contradiction premises) → ⊥

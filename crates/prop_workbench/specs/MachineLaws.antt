@@ -1,0 +1,56 @@
+-- The workbench has what the engine asks of a machine.
+use Rattle.std.proofs.Common.{◌≡◌, ◌≢◌, ℕ, ◌≤◌, ◌<◌, List, length, take, refl, sym, ◌∙◌, ap, subst, inl, inr, arith}
+use Rattle.std.specs.Prelude.{Option, Some, None, Result, Ok, Err}
+use Rattle.std.proofs.lemmas.List.{length-take, take_all}
+use Rattle.std.proofs.lemmas.Bool.{cases_lt, lt-ltb}
+use Rattle.prop_lattice.specs.declared.refusal.Refusal.{Refusal}
+use Rattle.prop_lattice.specs.declared.refusal.Refusal.TheVariants.{LineTooLong, Memory}
+use Rattle.prop_lattice.specs.Points.{Point}
+use Rattle.prop_procedures.specs.declared.shape.Param.{Param}
+use Rattle.prop_procedures.specs.Stored.{Stored}
+use Rattle.prop_language.specs.Commands.{Command}
+use Rattle.prop_language.specs.Reading.{reading}
+use Rattle.prop_engine.specs.Lines.{kept_of}
+use Rattle.prop_engine.specs.Answers.{Answer, Silent, Text, Refused}
+use Rattle.prop_workbench.specs.Machine.{State}
+use Rattle.prop_workbench.specs.Steps.{Follows}
+use Rattle.prop_workbench.specs.Engine.{workbench}
+use Rattle.prop_engine.specs.Machines.{AsksByFront, IsTotal}
+
+-- a front of limit bytes is the line, or as long as the limit
+front_of_line : (limit : ℕ) (line : List ℕ) → (length line ≤ limit → take limit line ≡ line) × (limit < length line → length (take limit line) ≡ limit)
+front_of_line limit line = (λ h. take_all limit line h, λ h. length-take limit line ∙ omega arith)
+
+too_long : (line : List ℕ) → 4096 < length line → reading line ≡ Err LineTooLong
+too_long line h = rw (lt-ltb 4096 (length line) h) refl
+
+-- what is kept of a line asks for what the line asks for
+pub reading-kept_of : (line : List ℕ) → reading (kept_of line) ≡ reading line
+unfolding kept_of
+reading-kept_of line = elim (cases_lt 4097 (length line)) [
+  | inl h ↦ let e = (front_of_line 4097 line).1 h in too_long (take 4097 line) (omega arith) ∙ sym (too_long line (omega arith))
+  | inr h ↦ ap reading ((front_of_line 4097 line).0 h)
+]
+
+pub workbench_asks_by_front : (library : List Stored) (related : ℕ → Param → List Point → Point → Type 0) → AsksByFront (workbench library related)
+workbench_asks_by_front library related old line answer new s = record {
+  steps = s.steps;
+  points = λ sound command text read e. s.points sound command text (reading-kept_of line ∙ read) e;
+  step = subst (λ (read : Result (Option Command) Refusal). Follows library old read answer new s.steps) (reading-kept_of line) s.step;
+}
+
+-- silence, or want of memory, leaves the state and says no value
+pub record SaysNothing (library : List Stored) (old : State) (read : Result (Option Command) Refusal) (answer : Answer) : Type 0 where
+  pub steps : ℕ
+  pub follows : Follows library old read answer old steps
+  pub no_text : (text : List ℕ) → answer ≢ Text text
+
+follows_somehow : (library : List Stored) (old : State) (read : Result (Option Command) Refusal) → (answer : Answer) × SaysNothing library old read answer
+follows_somehow library old (Ok None) = (Silent, record { steps = 0; follows = (refl, refl, refl); no_text = λ text e. cc })
+follows_somehow library old (Ok (Some command)) = (Refused Memory, record { steps = 0; follows = inr record { answer_is = refl; same = refl }; no_text = λ text e. cc })
+follows_somehow library old (Err refusal) = (Refused Memory, record { steps = 0; follows = inr record { answer_is = refl; same = refl }; no_text = λ text e. cc })
+
+pub workbench_is_total : (library : List Stored) (related : ℕ → Param → List Point → Point → Type 0) → IsTotal (workbench library related)
+workbench_is_total library related old line =
+    let somehow = follows_somehow library old (reading line) in
+    (somehow.0, record { steps = somehow.1.steps; step = somehow.1.follows; points = λ sound command text read e. absurd (somehow.1.no_text text e) })
