@@ -75,11 +75,11 @@ suc_eq p q = grind (arith, nat_tests)
 
 off : (o : Origin) → is_believed (with_belief false o) ≡ false
 off (User name believed) = refl
-off (Side choice side) = refl
+off (Side choice side sides) = refl
 
 on : (o : Origin) → is_user o ≡ true → is_believed (with_belief true o) ≡ true
 on (User name believed) h = refl
-on (Side choice side) h = cc
+on (Side choice side sides) h = cc
 
 goes : (now before here : Bool) → now ≡ false → here ≡ true → now ≡ (before && not here)
 goes now true here h k = rw (h, k) refl

@@ -1,0 +1,3 @@
+pub mod Refuted
+pub mod Joined
+pub mod Search

@@ -1,0 +1,2 @@
+//! The search for the first consistent list of choices.
+#![tactic(auto)]

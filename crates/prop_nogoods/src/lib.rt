@@ -1,0 +1,2 @@
+//! A store of nogoods.
+#![tactic(auto)]
