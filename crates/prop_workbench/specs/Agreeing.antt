@@ -9,7 +9,7 @@ use Rattle.prop_language.specs.Reading.{reading}
 use Rattle.prop_texts.specs.Texts.{equation, because}
 use Rattle.prop_engine.specs.Answers.{Answer, Text, Refused}
 use Rattle.prop_engine.specs.Transcripts.{Machine, Run}
-use Rattle.prop_workbench.specs.Machine.{State, text_at}
+use Rattle.prop_workbench.specs.Machine.{State, text_at, naming}
 use Rattle.prop_workbench.specs.Running.{Outcome, Settled, Contradiction, MayEnd, Replies}
 use Rattle.prop_workbench.specs.Steps.{Step}
 
@@ -17,10 +17,14 @@ use Rattle.prop_workbench.specs.Steps.{Step}
 abbrev pub HaveMemory : List Answer → Type 0
 HaveMemory answers = All (λ answer. answer ≢ Refused Memory) answers
 
--- two runs over the same lines that were never refused memory end in the same state
-abbrev pub RunsMeet : {S : Type 0} → Machine S → Type 0
-RunsMeet {S = S} machine =
-    (old first second : S) (lines : List (List ℕ)) (answers others : List Answer) → Run machine old lines answers first → Run machine old lines others second → HaveMemory answers → HaveMemory others → second ≡ first
+-- the two states are one, but for the contradictions that were named
+abbrev pub AreAlike : State → State → Type 0
+AreAlike s t = naming t [] ≡ naming s []
+
+-- two runs over the same lines that were never refused memory end in the same state, but for the contradictions that were named
+abbrev pub RunsMeet : Machine State → Type 0
+RunsMeet machine =
+    (old first second : State) (lines : List (List ℕ)) (answers others : List Answer) → Run machine old lines answers first → Run machine old lines others second → HaveMemory answers → HaveMemory others → AreAlike first second
 
 -- where nothing is run, two answers to a line that were not refused memory are one
 abbrev pub AnswersMeet : List Stored → Type 0
@@ -30,7 +34,7 @@ AnswersMeet library =
 
 -- the text is what a settled run is answered to the command
 abbrev pub IsSettledText : List Stored → State → Command → List ℕ → Type 0
-IsSettledText library s command text = (steps : ℕ) × MayEnd library s Settled × Replies library s command Settled steps text
+IsSettledText library s command text = (list : List ℕ) × (steps : ℕ) × MayEnd library s (Settled list) × Replies library s command (Settled list) steps text
 
 -- the two texts name one value of the cell with the name, each with premises that explain it
 pub record SayOneValue (s : State) (name text also : List ℕ) : Type 0 where
@@ -49,4 +53,4 @@ SettledTextsMeet library =
 
 -- what settles is not contradictory: no other run over it ends in a contradiction
 abbrev pub SettledIsFree : List Stored → Type 0
-SettledIsFree library = (s : State) (premises : List ℕ) → MayEnd library s Settled → MayEnd library s (Contradiction premises) → ⊥
+SettledIsFree library = (s : State) (list premises : List ℕ) → MayEnd library s (Settled list) → MayEnd library s (Contradiction premises) → ⊥
