@@ -3,5 +3,6 @@ pub mod Digits
 pub mod Forming
 pub mod Choosing
 pub mod StepLaws
+pub mod ValueLaws
 pub mod SpellingLaws
 pub mod RefusalLaws
