@@ -10,8 +10,8 @@ use Rattle.prop_scheduler.specs.Turns.{IsSettled}
 use Rattle.prop_amb.specs.declared.outcome.Outcome as ends
 use Rattle.prop_amb.specs.declared.outcome.Outcome.TheVariants.{Settled, Contradiction, Unsettled}
 use Rattle.prop_amb.specs.Refuted.{IsCovered}
-use Rattle.prop_amb.specs.Search.{choices_in}
-use Rattle.prop_amb.specs.Going.{Work, Gone}
+use Rattle.prop_amb.specs.Search as search
+use Rattle.prop_amb.specs.Going.{Goes}
 use Rattle.prop_language.specs.Commands as commands
 use Rattle.prop_language.specs.Commands.{Command}
 use Rattle.prop_vocabulary.specs.Cells.{cell_named}
@@ -19,11 +19,11 @@ use Rattle.prop_engine.specs.Answers.{Answer, Text, Refused}
 use Rattle.prop_workbench.specs.declared.asking.Question.{Question}
 use Rattle.prop_workbench.specs.declared.asking.Question.TheVariants.{Settle, Worldview, Ask, Why}
 use Rattle.prop_workbench.specs.declared.session.Session.{Session}
-use Rattle.prop_workbench.specs.Machine.{State, problem_in}
+use Rattle.prop_workbench.specs.Machine.{State, users_in, choices_in, worldview_at}
 use Rattle.prop_workbench.specs.Reasons.{IsLeanAnswer}
 use Rattle.prop_workbench.specs.Running as running
 use Rattle.prop_workbench.specs.Running.{Outcome, MayEnd, Replies}
-use Rattle.prop_workbench.specs.Sessions.{state_of, library_of}
+use Rattle.prop_workbench.specs.Sessions.{Work, state_of, library_of}
 
 -- the command that asks so
 abbrev pub command_of : Question → Command
@@ -53,7 +53,7 @@ IfContradiction end P = ⊤
 -- a run of so many steps ended so, and left the session
 pub record HasRun {R O : Type 0} {X : Type 0} {F : X → Type 0} {g : _} (value : R → Param → List Info → Info) (s : Session R O X F g) (end : ends.Outcome) (steps : ℕ) : Type 0 where
   pub ends : MayEnd (library_of value s) (state_of s) (outcome_of s.search.list end)
-  pub covered : IfContradiction end (λ ps. IsCovered (choices_in s.search) s.search.listed (set_of ps))
+  pub covered : IfContradiction end (λ ps. IsCovered (search.choices_in s.search) s.search.listed (set_of ps))
   pub settled : end ≡ Settled → IsSettled (library_of value s) (set_of s.search.worldview) s.network.cells
   pub within : steps ≤ (state_of s).limit
   pub spent : end ≡ Unsettled → steps ≡ (state_of s).limit
@@ -66,12 +66,15 @@ Picks O = O → ℕ → ℕ → O → Type 0
 abbrev pub MaySay : List Stored → State → Command → Outcome → ℕ → Answer → Type 0
 MaySay library s command outcome steps answer = ((text : List ℕ) × Replies library s command outcome steps text × (answer ≡ Text text)) ⊎ (answer ≡ Refused Memory)
 
--- The text replies to the command as a run ended that went from the one to the other in exactly so many steps: each called a waiting procedure that the order picked, or
--- left a choice list that is refuted.
+-- from the one to the other it took exactly so many steps: each called a waiting procedure that the order picked, or left a choice list that is refuted
+abbrev pub HasGone : {O : Type 0} → Picks O → List Stored → State → Work O → Work O → ℕ → Type 0
+HasGone picks library s old new steps = Goes picks library (users_in s) (choices_in s) old.list old.cells old.line old.order steps new.list new.cells new.line new.order
+
+-- the text replies to the command as a run ended that went from the one to the other in exactly so many steps
 pub record IsEarned {O : Type 0} (picks : Picks O) (library : List Stored) (s : State) (old new : Work O) (command : Command) (text : List ℕ) (steps : ℕ) : Type 0 where
   pub end : ends.Outcome
-  pub gone : Gone picks library (problem_in library s) old steps new
-  pub replies : Replies library s command (outcome_of new.stand.list end) steps text
+  pub gone : HasGone picks library s old new steps
+  pub replies : Replies library s command (outcome_of new.list end) steps text
 
 -- what a line that was read so is answered: a text to what runs the network is earned by the calls that it counts
 abbrev pub Earns : {O : Type 0} → Picks O → List Stored → State → Work O → Work O → Result (Option Command) Refusal → Answer → ℕ → Type 0
@@ -83,5 +86,5 @@ Earns picks library s old new read answer steps = ⊤
 
 -- what an answer rests on: an explanation is lean, and a text is earned
 pub record RestsOn {O : Type 0} (picks : Picks O) (library : List Stored) (s : State) (old new : Work O) (read : Result (Option Command) Refusal) (answer : Answer) (steps : ℕ) : Type 0 where
-  pub lean : IsLeanAnswer (set_of new.stand.worldview) new.cells s read answer
+  pub lean : IsLeanAnswer (worldview_at s new.list) new.cells s read answer
   pub earned : Earns picks library s old new read answer steps

@@ -30,12 +30,11 @@ impl<R: Rule + Drop, O: Order + Drop> Session<R, O> {
     ghost use Rattle.prop_premises.specs.Sets.{set_of};
     ghost use Rattle.prop_cells.specs.Data.{beliefs};
     ghost use Rattle.prop_scheduler.specs.Turns.{IsSettled};
-    ghost use Rattle.prop_amb.specs.Going.{Gone};
     ghost use Rattle.prop_language.specs.Commands as commands;
     ghost use Rattle.prop_engine.specs.Answers.{answer_of, Says, Text};
-    ghost use Rattle.prop_workbench.specs.Machine.{text_at, problem_in};
+    ghost use Rattle.prop_workbench.specs.Machine.{text_at};
     ghost use Rattle.prop_texts.specs.Texts.{equation};
-    ghost use Rattle.prop_workbench.specs.Questions.{command_of, outcome_of, IsNamed, HasRun, MaySay, RestsOn};
+    ghost use Rattle.prop_workbench.specs.Questions.{command_of, outcome_of, IsNamed, HasRun, HasGone, MaySay, RestsOn};
     ghost use Rattle.prop_workbench.specs.Reasons.{IsLeanExplanation, IsLeanAnswer};
     ghost use Rattle.prop_workbench.specs.Running.{Settled, Unsettled, Explained};
     ghost use Rattle.prop_workbench.specs.Sessions.{state_of, shown_of, work_of, library_of, IsInOrder, Keeps, IsMeant};
@@ -51,7 +50,7 @@ impl<R: Rule + Drop, O: Order + Drop> Session<R, O> {
         ensures definitions { self.new.definitions ≡ self.old.definitions }
         ensures state { state_of self.new ≡ state_of self.old }
         ensures run { IfOk result (λ r. HasRun R.value_of self.new r.0 r.1) }
-        ensures gone { IfOk result (λ r. Gone O.picks (library_of R.value_of self.old) (problem_in (library_of R.value_of self.old) (state_of self.old)) (work_of self.old) r.1 (work_of self.new)) }
+        ensures gone { IfOk result (λ r. HasGone O.picks (library_of R.value_of self.old) (state_of self.old) (work_of self.old) (work_of self.new) r.1) }
     {
         settle(
             self.alloc,
