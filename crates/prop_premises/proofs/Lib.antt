@@ -3,3 +3,8 @@ pub mod MergeLemmas
 pub mod FlagLemmas
 pub mod OriginLemmas
 pub mod WithinLemmas
+pub mod ChoiceLemmas
+pub mod TableLemmas
+pub mod LookupLemmas
+pub mod NumberLemmas
+pub mod EntryLemmas
