@@ -1,9 +1,9 @@
-use Rattle.std.proofs.Common.{◌∙◌, ◌∷◌, ◌++◌, [], ap, sym, append_assoc, append-nil}
+use Rattle.std.proofs.Common.{◌∙◌, ◌∷◌, [], ap, sym, append_assoc, append-nil}
 use Rattle.std.proofs.lemmas.List.Elements.{recursion_from_All}
 use Rattle.std.specs.String.{string_bytes}
 use Rattle.prop_texts.specs.Texts.{premises_text}
 use Rattle.prop_texts.proofs.TextLemmas.{premises_text_more}
-use Rattle.prop_texts.proofs.texts.premises_text.Goals as goal
+use Rattle.prop_texts.proofs.labels.premises_text.Goals as goal
 
 pub loop-premise-init : goal.loop-premise-init
 loop-premise-init c =
@@ -22,13 +22,12 @@ loop-premise-preserved c =
     let whole = rw step at kept.so_far in
     record {
       so_far = append_assoc c.loop-premise.yielded (c.in-Some.premise ∷ []) c.next.new.self ∙ whole;
-      text = c.in_ok-push_str-2.ensures.bytes ∙ ap (λ t. t ++ c.name.result.now) c.in_ok-push_str.ensures.bytes ∙ append_assoc (string_bytes c.loop-premise.text) (32 ∷ []) c.name.result.now
-          ∙ premises_text_more c.args.premises.now c.loop-premise.yielded c.in-Some.premise c.name.result.now (string_bytes c.loop-premise.text) c.name.ensures.name kept.text;
+      text = c.in_ok-push_label.ensures ∙ premises_text_more c.args.premises.now c.loop-premise.yielded c.in-Some.premise (string_bytes c.loop-premise.text) kept.text;
       known = known.1;
     }
 
-pub name-requires : goal.name-requires
-name-requires c = (rw c.in-Some.ensures.steps at c.loop-premise.invariant.known).0
+pub push_label-requires : goal.push_label-requires
+push_label-requires c = (rw c.in-Some.ensures.steps at c.loop-premise.invariant.known).0
 
 pub returns-clause-text : goal.returns-clause-text
 returns-clause-text c =

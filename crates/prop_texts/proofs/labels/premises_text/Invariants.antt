@@ -1,7 +1,7 @@
 use Rattle.std.proofs.Common.{◌≡◌, ◌<◌, ◌++◌, length, string_bytes}
 use Rattle.std.specs.List.{AllByRecursion}
 use Rattle.prop_texts.specs.Texts.{premises_text}
-use Rattle.prop_texts.proofs.texts.premises_text.Given as goal
+use Rattle.prop_texts.proofs.labels.premises_text.Given as goal
 
 abbrev pub invariant-loop-premise : goal.invariant-loop-premise
 invariant-loop-premise l = record {
