@@ -1,7 +1,8 @@
 -- A set joins listed ones, none of which is part of it, and those that it is part of go.
-use Rattle.std.proofs.Common.{◌≡◌, ◌∙◌, ◌<◌, ℕ, zero, suc, Bool, true, false, not, cond, List, [], ◌∷◌, ◌++◌, length, get_or, refl, sym, arith, inl, inr, Contains, filter, IsTrue, ◌||◌, Option, None, Some}
-use Rattle.std.proofs.lemmas.List.Elements.{All-contains, All-filter, All-contains_itself, All-get_or, filter_passes, Contains-get_or, Contains-push, Contains-append_left, Contains-push_cases}
+use Rattle.std.proofs.Common.{◌≡◌, ◌∙◌, ◌<◌, ℕ, zero, suc, Bool, true, false, not, cond, List, [], ◌∷◌, ◌++◌, length, get_or, refl, sym, arith, inl, inr, All, Contains, filter, IsTrue, ◌||◌, Option, None, Some}
+use Rattle.std.proofs.lemmas.List.Elements.{All-contains, All-filter, All-contains_itself, All-get_or, All-push, filter_passes, Contains-get_or, Contains-push, Contains-append_left, Contains-push_cases}
 use Rattle.std.specs.List.{find}
+use Rattle.std.specs.List.Sorted.{IsStrictlyIncreasing}
 use Rattle.std.specs.Option.{option_map}
 use Rattle.std.proofs.lemmas.List.Quantifiers.{all_pairs_push}
 use Rattle.std.proofs.lemmas.List.Kept.{AllPairs-filter}
@@ -83,6 +84,9 @@ module _ (old : List (List ℕ)) (n : List ℕ) where
             cc (none, listed)),
         not_true (is_within (set_of (get_or (kept_of old n) k d)) n) (All-get_or (λ x. (is_kept n) x ≡ true) (kept_of old n) k d l (filter_passes (is_kept n) old)),
       ))
+
+  pub in_order_joined : IsStrictlyIncreasing n → All IsStrictlyIncreasing old → All IsStrictlyIncreasing (kept_of old n ++ n ∷ [])
+  in_order_joined h all = All-push IsStrictlyIncreasing (kept_of old n) n (All-filter (is_kept n) IsStrictlyIncreasing old all) h
 
 -- where a search finds no set in a worldview, no listed set is part of it
 pub none_found : {A : Type 0} (listed : List (List ℕ)) (w : Members) (r : Option A) (v : A → List ℕ) → option_map v r ≡ find (λ line. is_within w line) listed → r ≡ None → has_part listed w ≡ false

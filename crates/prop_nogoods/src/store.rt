@@ -1,5 +1,6 @@
 //! A store of nogoods, none of which is part of another.
-ghost use Rattle.std.specs.Prelude.{◌≡◌, ◌↔◌, ◌≤◌, ◌+◌, List, ℕ, [], length, filter, not, false, None, Ok, Contains, IsTrue, IfOk, IfSome, OnOk, OnErr, vec_capacity, vec_len};
+ghost use Rattle.std.specs.Prelude.{◌≡◌, ◌↔◌, ◌≤◌, ◌+◌, List, ℕ, [], length, filter, not, false, All, None, Ok, Contains, IsTrue, IfOk, IfSome, OnOk, OnErr, vec_capacity, vec_len};
+ghost use Rattle.std.specs.List.Sorted.{IsStrictlyIncreasing};
 ghost use Rattle.prop_premises.specs.Sets.{set_of, is_within};
 ghost use Rattle.prop_nogoods.specs.Stores.{has_part, AreMinimal, AddsSet};
 
@@ -19,7 +20,7 @@ impl Model for Store {
 
     ghost view = { λ s. s.nogoods.items };
 
-    ghost invariant = { λ s. AreMinimal s.nogoods.items };
+    ghost invariant = { λ s. AreMinimal s.nogoods.items × All IsStrictlyIncreasing s.nogoods.items };
 }
 
 /// Whether a listed set is part of this one.
@@ -68,9 +69,10 @@ impl Store {
         Nogoods::new(&self.nogoods)
     }
 
-    /// No nogood of a store is part of another.
+    /// No nogood of a store is part of another, and the premises of each are in order of number.
     pub fn minimal(&self)
-        ensures { AreMinimal self.now }
+        ensures minimal { AreMinimal self.now }
+        ensures in_order { All IsStrictlyIncreasing self.now }
     {
         let _ = &self.nogoods;
     }
@@ -83,6 +85,7 @@ impl Store {
         ensures new { IfOk result (λ is_new. is_new ≡ not (has_part self.old (set_of nogood))) }
         ensures known { IsTrue (has_part self.old (set_of nogood)) → (result ≡ Ok false) × (self.new ≡ self.old) }
         ensures minimal { AreMinimal self.new }
+        ensures in_order { All IsStrictlyIncreasing self.new }
         ensures len { length self.new ≤ length self.old + 1 }
         ensures err { OnErr result (self.new ≡ self.old) }
     {

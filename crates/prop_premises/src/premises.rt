@@ -3,7 +3,7 @@ ghost use Rattle.std.specs.Prelude.{◌≡◌, ◌≤◌, ◌<◌, ◌+◌, ◌�
 ghost use Rattle.indexmap.specs.IndexMap.{values};
 ghost use Rattle.prop_lattice.specs.Refusals.{most};
 ghost use Rattle.prop_premises.specs.Sets.{set_of, union, without, IsSame};
-ghost use Rattle.prop_premises.specs.Origins.{Origin, User, name_of, is_user_at, premise_number, believed_in, with_belief_at, with_name};
+ghost use Rattle.prop_premises.specs.Origins.{side_at, Origin, User, name_of, is_user_at, premise_number, believed_in, with_belief_at, with_name};
 ghost use Rattle.prop_premises.specs.Named.{origin_of};
 
 use crate::premise_set::Premise;
@@ -166,6 +166,15 @@ impl Premises {
             Some((name, _)) => name.as_str(),
             None => unreachable!(),
         }
+    }
+
+    /// Which side of its choice the premise is, counted from 1, `None` where it is one of the user's.
+    pub fn side(&self, premise: Premise) -> Option<u8>
+        requires { premise < length self.now }
+        ensures { result ≡ side_at self.now premise }
+    {
+        prove!(usize::from(premise) < self.beliefs.len());
+        None
     }
 
     /// The worldview that believes just the believed premises. There are no choices yet, so no sides are taken.

@@ -1,5 +1,6 @@
 //! The reply that lists nogoods.
 ghost use Rattle.std.specs.Prelude.{◌≡◌, ◌<◌, All, IfOk, length, string_bytes};
+ghost use Rattle.std.specs.List.Sorted.{IsStrictlyIncreasing};
 ghost use Rattle.prop_texts.specs.Texts.{nogoods_text};
 ghost use Rattle.prop_engine.specs.Answers.{answer_of, Says};
 
@@ -27,8 +28,10 @@ fn nogoods_text(alloc: Global, premises: &Premises, store: &Store) -> Result<Str
 /// The reply that lists the nogoods of a store, or want of memory.
 pub fn nogoods_reply(alloc: Global, premises: &Premises, store: &Store) -> Reply
     requires { All (λ nogood. All (λ p. p < length premises.now) nogood) store.now }
-    ensures { Says (answer_of result) (nogoods_text premises.now store.now) }
+    ensures says { Says (answer_of result) (nogoods_text premises.now store.now) }
+    ensures in_order { All IsStrictlyIncreasing store.now }
 {
+    store.minimal();
     match nogoods_text(alloc, premises, store) {
         Ok(text) => Reply::Text(text),
         Err(AllocError) => Reply::Refused(Refusal::Memory),
