@@ -3,3 +3,5 @@ pub mod MergeLemmas
 pub mod FlagLemmas
 pub mod OriginLemmas
 pub mod WithinLemmas
+pub mod ChoiceLemmas
+pub mod TableLemmas
