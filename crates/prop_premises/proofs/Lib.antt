@@ -5,3 +5,5 @@ pub mod OriginLemmas
 pub mod WithinLemmas
 pub mod ChoiceLemmas
 pub mod TableLemmas
+pub mod LookupLemmas
+pub mod NumberLemmas

@@ -1,5 +1,5 @@
 -- The premises of a table of names, and the table of their names' places.
-use Rattle.std.specs.Prelude.{◌≡◌, ℕ, suc, ◌+◌, ◌-◌, ◌≤◌, Bool, String, string_bytes, List, [], ◌∷◌, ◌++◌, replicate, ⊤}
+use Rattle.std.specs.Prelude.{◌≡◌, ℕ, suc, ◌+◌, ◌-◌, ◌≤◌, Bool, String, string_bytes, Option, Some, None, true, false, List, [], ◌∷◌, ◌++◌, replicate, ⊤}
 use Rattle.prop_premises.specs.declared.named.Named.{Named}
 use Rattle.prop_premises.specs.declared.named.Kind.{Kind}
 use Rattle.prop_premises.specs.declared.named.Kind.TheVariants as kind
@@ -35,6 +35,24 @@ IsKind (kind.Choice sides) = (2 ≤ sides) × (sides ≤ 8)
 abbrev pub AreNumberedFrom : {A : Type 0} → ℕ → List (String A × Named) → Type 0
 AreNumberedFrom n [] = ⊤
 AreNumberedFrom n (e ∷ es) = (e.1.first ≡ n) × IsKind e.1.kind × AreNumberedFrom (n + width e.1.kind) es
+
+abbrev pub is_choice_kind : Kind → Bool
+is_choice_kind (kind.User believed) = false
+is_choice_kind (kind.Choice sides) = true
+
+abbrev pub user_number : ℕ → Kind → Option ℕ
+user_number first (kind.User believed) = Some first
+user_number first (kind.Choice sides) = None
+
+-- the number of the user's premise that a name stands for
+abbrev pub number_of : Option Named → Option ℕ
+number_of None = None
+number_of (Some named) = user_number named.first named.kind
+
+-- the name stands for a choice
+abbrev pub is_choices : Option Named → Bool
+is_choices None = false
+is_choices (Some named) = is_choice_kind named.kind
 
 -- the premise as the source tells it
 abbrev pub told : Source → Origin

@@ -2,7 +2,7 @@
 ghost use Rattle.std.specs.Prelude.{◌≡◌, ◌≤◌, ◌<◌, ◌+◌, ◌++◌, ℕ, List, [], Some, length, take, replicate, None, true, false, is_some, slice_get, option_map, IsTrue, IsOk, IfSome, OnOk, OnErr};
 ghost use Rattle.prop_premises.specs.Origins.{Origin, premise_number, is_choice, is_user_at, with_belief_at, is_start, name_of, IsNumbered, choices_of, believed_in};
 ghost use Rattle.prop_premises.specs.ChoiceLists.{is_hypothetical};
-ghost use Rattle.prop_premises.specs.Named.{origins_of, origins_of_kind, places_from, width, told, IsKind, AreNumberedFrom};
+ghost use Rattle.prop_premises.specs.Named.{origins_of, origins_of_kind, places_from, width, told, number_of, is_choices, IsKind, AreNumberedFrom};
 
 use crate::named::{Kind, Named, Source};
 use crate::premise_set::Premise;
@@ -25,6 +25,16 @@ impl Model for Table {
     ghost view = { λ t. origins_of t.names.entries };
 
     ghost invariant = { λ t. (length t.places.items ≤ 4_096) × AreNumberedFrom 0 t.names.entries × (t.places.items ≡ places_from 0 t.names.entries) };
+}
+
+/// What the name stands for, `None` where it is new.
+fn look_up(names: &IndexMap<String, Named>, name: &str) -> Option<Named>
+    requires { AreNumberedFrom 0 names.now.entries }
+    ensures number { number_of result ≡ premise_number (origins_of names.now.entries) name.now }
+    ensures choice { is_choices result ≡ is_choice (origins_of names.now.entries) name.now }
+{
+    let place = names.get_index_of(name)?;
+    Some(names[place])
 }
 
 /// Puts a new name last.
@@ -78,12 +88,10 @@ impl Table {
         ensures user { IfSome result (λ p. IsTrue (is_user_at self.now p)) }
         ensures apart { IsTrue (is_some result) → is_choice self.now name.now ≡ false }
     {
-        match self.names.get(name) {
-            Some(Named {
-                first,
-                kind: Kind::User(_),
-            }) => Some(*first),
-            _ => None,
+        let named = look_up(&self.names, name)?;
+        match named.kind {
+            Kind::User(_) => Some(named.first),
+            Kind::Choice(_) => None,
         }
     }
 
@@ -91,7 +99,7 @@ impl Table {
     pub(crate) fn has_choice(&self, name: &str) -> bool
         ensures { result ≡ is_choice self.now name.now }
     {
-        match self.names.get(name) {
+        match look_up(&self.names, name) {
             Some(named) => matches!(named.kind, Kind::Choice(_)),
             None => false,
         }
