@@ -7,3 +7,4 @@ pub mod ChoiceLemmas
 pub mod TableLemmas
 pub mod LookupLemmas
 pub mod NumberLemmas
+pub mod EntryLemmas

@@ -111,10 +111,13 @@ impl Table {
     {
         let place = *self.places.get(usize::from(premise))?;
         let (name, named) = self.names.get_index(usize::from(place))?;
-        Some(match named.kind {
-            Kind::User(believed) => Source::User(name, believed),
-            Kind::Choice(sides) => Source::Side(name, (premise - named.first) as u8 + 1, sides),
-        })
+        match named.kind {
+            Kind::User(believed) => Some(Source::User(name, believed)),
+            Kind::Choice(sides) => {
+                let side = (premise - named.first + 1) as u8;
+                Some(Source::Side(name, side, sides))
+            },
+        }
     }
 
     /// The name of the premise with this number.
@@ -144,11 +147,13 @@ impl Table {
         let place = self.names.len() as u16;
         let first = count as Premise;
         self.places.resize(count + kind.width(), place)?;
-        let added = push_name(&mut self.names, name, Named { first, kind });
-        if added.is_err() {
-            self.places.truncate(count);
+        match push_name(&mut self.names, name, Named { first, kind }) {
+            Ok(()) => Ok(()),
+            Err(error) => {
+                self.places.truncate(count);
+                Err(error)
+            },
         }
-        added
     }
 
     /// The user's premise is believed or not, and nothing else changes. It takes no memory.
