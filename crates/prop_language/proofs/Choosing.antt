@@ -1,6 +1,6 @@
 -- What the parts of a choice make together.
-use Rattle.std.proofs.Common.{◌≡◌, ℕ, List, [], ◌∷◌, ◌++◌, Bool, true, false, cond, refl, sym, ◌∙◌, ap, Some, None, Ok, Err, inl, inr, length, map}
-use Rattle.std.specs.Prelude.{Option, Result, ⊤, ◌⊎◌, ◌≢◌, ◌≤◌, bytes_eq, codes, nat_le, ◌&&◌}
+use Rattle.std.proofs.Common.{◌≡◌, ℕ, List, [], ◌∷◌, ◌++◌, Bool, true, false, cond, refl, sym, ◌∙◌, ap, Some, None, Ok, Err, inl, inr}
+use Rattle.std.specs.Prelude.{Option, ⊤, ◌⊎◌, ◌≢◌, bytes_eq, codes}
 use Rattle.std.specs.Option.{option_map, option_and_then}
 use Rattle.std.specs.List.{list_all}
 use Rattle.std.specs.Bool.{Decides}
@@ -10,7 +10,7 @@ use Rattle.prop_lattice.specs.declared.refusal.Refusal.TheVariants.{WrongForm, N
 use Rattle.prop_language.specs.Tokens.{Token, Word, Open, Close}
 use Rattle.prop_language.specs.Names.{is_name}
 use Rattle.prop_language.specs.Commands.{Value, Bare, Braces, Command}
-use Rattle.prop_language.specs.Forms.{join, values, in_braces, sides, two_to_eight, choose}
+use Rattle.prop_language.specs.Forms.{join, values, in_braces, sides, choose}
 use Rattle.prop_language.specs.Reading.{command_in_form}
 use Rattle.prop_language.specs.Parts.{behind_word, some_values, sides_in, few_sides_in, before_sides}
 use Rattle.prop_language.proofs.Forming.{LacksTwo, misread, unnamed, all_named}

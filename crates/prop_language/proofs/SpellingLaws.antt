@@ -1,5 +1,5 @@
 -- A form reads just the commands that the tokens spell.
-use Rattle.std.proofs.Common.{◌≡◌, ◌≢◌, ℕ, List, [], ◌∷◌, ◌++◌, Bool, true, false, cond, refl, sym, ◌∙◌, ap, subst, Some, None, map, append-nil, append_assoc, inl, inr}
+use Rattle.std.proofs.Common.{◌≡◌, ◌≢◌, ℕ, List, [], ◌∷◌, ◌++◌, Bool, true, false, cond, refl, sym, ◌∙◌, ap, subst, Some, None, map, inl, inr}
 use Rattle.std.specs.Bool.{Decides}
 use Rattle.std.specs.Prelude.{Option, bytes_eq, codes, find, pos, ◌&&◌}
 use Rattle.std.specs.Option.{option_map, option_and_then, option_or}
@@ -7,10 +7,10 @@ use Rattle.std.specs.List.{AllByRecursion, slice_split, onto_first}
 use Rattle.std.proofs.lemmas.Slice.Eq.{bytes_eq-Decides}
 use Rattle.std.proofs.lemmas.Bool.{false≢true}
 use Rattle.std.proofs.lemmas.Option.{none-some}
-use Rattle.prop_language.specs.Tokens.{Token, Word, Open, Close, Semicolon, Equals, Star}
+use Rattle.prop_language.specs.Tokens.{Token, Word, Semicolon, Equals, Star}
 use Rattle.prop_language.specs.Names.{looks_like_number, number_in}
-use Rattle.prop_language.specs.Commands.{Value, Bare, Braces, KindWord, Spans, Truths, Symbols, Named, By, Passed, Step, Command}
-use Rattle.prop_language.specs.Forms.{bare, on_word, only_words, domain, pairs, relation, kind_word, cell, parameter, by_form, with_cell, cells_by, attach, local_of_kind, local_like, passed_form, use_step, step, each, is_semicolon, steps, define, join, values, in_braces, one_value, limit_of, only_value, fix, tell, forms}
+use Rattle.prop_language.specs.Commands.{Value, KindWord, Spans, Truths, Symbols, Named, By, Passed, Step, Command}
+use Rattle.prop_language.specs.Forms.{bare, on_word, only_words, domain, pairs, relation, kind_word, cell, parameter, by_form, with_cell, cells_by, attach, local_of_kind, local_like, passed_form, use_step, step, each, is_semicolon, steps, define, join, values, limit_of, only_value, fix, tell, forms}
 use Rattle.prop_language.proofs.ValueLaws.{value_read, choice_read, one_spelled, choice_spelled}
 use Rattle.prop_language.proofs.StepLaws.{Head, Headed, Headless, head, words_alone, before_equals, after_equals, bodiless, bodied}
 use Rattle.prop_language.specs.Spelling.{Spells, SpellsStep, SpellsSteps, IsLocal, StandsFor, further_pairs, Gives, Passes, HaveNoBy, tokens_of_value}

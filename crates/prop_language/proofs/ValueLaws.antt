@@ -1,7 +1,7 @@
 -- Values, and the sides of a choice, are read just from the tokens that spell them.
-use Rattle.std.proofs.Common.{◌≡◌, ℕ, List, [], ◌∷◌, ◌++◌, Bool, true, false, cond, refl, sym, ◌∙◌, ap, subst, Some, None, map, append-nil, append_assoc, length, arith}
+use Rattle.std.proofs.Common.{◌≡◌, ℕ, List, [], ◌∷◌, ◌++◌, Bool, true, false, cond, refl, sym, ◌∙◌, ap, subst, Some, None, map, append-nil, append_assoc, length}
 use Rattle.std.specs.Bool.{Decides}
-use Rattle.std.specs.Prelude.{Option, ◌≤◌, bytes_eq, codes, nat_le, ◌&&◌}
+use Rattle.std.specs.Prelude.{Option, bytes_eq, codes, nat_le, ◌&&◌}
 use Rattle.std.specs.Option.{option_map, option_and_then}
 use Rattle.std.proofs.lemmas.Slice.Eq.{bytes_eq-Decides}
 use Rattle.std.proofs.lemmas.Bool.{le-leb, leb-true}
@@ -104,8 +104,10 @@ sides_spelled (v ∷ Bare w ∷ read) ts vs e h = at (bytes_eq w (codes "or")) (
   where
     f : Begins ts v (Bare w ∷ read)
     f = first_spelled ts v (Bare w ∷ read) e
+
     g : Begins f.0 (Bare w) read
     g = first_spelled f.0 (Bare w) read f.2
+
     at : (b : Bool) → Decides b (w ≡ codes "or") → (o : Option (List Value)) → ((us : List Value) → o ≡ Some us → AreSides g.0 us) → cond b (join (Some v) o) None ≡ Some vs → AreSides ts vs
     at true d (Some us) spelled h =
         let s = spelled us refl in

@@ -1,4 +1,4 @@
-use Rattle.std.proofs.Common.{◌≡◌, ◌≢◌, List, ◌∷◌, [], ◌++◌, Bool, true, false, cond, map, refl, ap, sym, ◌∙◌, inl, inr}
+use Rattle.std.proofs.Common.{◌≡◌, ◌≢◌, List, ◌∷◌, [], ◌++◌, Bool, true, cond, map, refl, ap, sym, ◌∙◌, inr}
 use Rattle.std.specs.Prelude.{not}
 use Rattle.std.proofs.lemmas.Bool.{false≢true}
 use Rattle.std.proofs.lemmas.List.{map-append}
@@ -6,7 +6,7 @@ use Rattle.std.proofs.lemmas.Result.{err_from_is_err_and}
 use Rattle.prop_language.specs.Tokens.{tokens}
 use Rattle.prop_language.specs.Said.{value_of}
 use Rattle.prop_language.specs.declared.command.Value.{Value}
-use Rattle.prop_language.proofs.Choosing.{no_side, no_next_side, last_side, next_side, behind_or, none_remain, value_refused, no_more_remain, one_more_remains}
+use Rattle.prop_language.proofs.Choosing.{no_next_side, last_side, next_side, behind_or, none_remain, value_refused, no_more_remain, one_more_remains}
 use Rattle.prop_language.proofs.choices.sides.Goals as goal
 
 -- one value more
