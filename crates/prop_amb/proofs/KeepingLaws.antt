@@ -83,7 +83,7 @@ search_believing problem s origins w same more h = record {
       beside = λ p in_reason other. still j p (k.beside p in_reason other);
     }
 
-nothing_kept : (reasons : List (List (List ℕ))) (j k : ℕ) (r : List ℕ) → slice_get (slice_index_or (no_reasons reasons) j []) k ≡ Some r → ⊥
+pub nothing_kept : (reasons : List (List (List ℕ))) (j k : ℕ) (r : List ℕ) → slice_get (slice_index_or (no_reasons reasons) j []) k ≡ Some r → ⊥
 nothing_kept [] j k r e = none_some e
 nothing_kept (x ∷ reasons) zero k r e = none_some e
 nothing_kept (x ∷ reasons) (suc j) k r e = nothing_kept reasons j k r e

@@ -6,3 +6,6 @@ pub mod SearchLaws
 pub mod JoinLaws
 pub mod GroundedLaws
 pub mod KeepingLaws
+pub mod PlaceLemmas
+pub mod DeclaringLaws
+pub mod AdvancingLaws
