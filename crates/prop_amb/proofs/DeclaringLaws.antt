@@ -35,7 +35,7 @@ side_at [] j d i e side = absurd (none_some e)
 side_at (c ∷ cs) zero d i e side = or_true_left (is_side_of c (hypothetical d i)) (is_hypothetical cs (hypothetical d i)) (rw (some_same e) (side_is_of d i side))
 side_at (c ∷ cs) (suc j) d i e side = or_true_right (is_side_of c (hypothetical d i)) _ (side_at cs j d i e side)
 
-taken_before : (cs : List Choice) (l : List ℕ) (j p : ℕ) → IsChoiceList cs l → IsTrue (hypotheticals_of (take j cs) (take j l) p) → IsTrue (hypotheticals_of cs l p)
+pub taken_before : (cs : List Choice) (l : List ℕ) (j p : ℕ) → IsChoiceList cs l → IsTrue (hypotheticals_of (take j cs) (take j l) p) → IsTrue (hypotheticals_of cs l p)
 taken_before cs l zero p h t = absurd (both t refl)
 taken_before [] l (suc j) p h t = absurd (both t refl)
 taken_before (c ∷ cs) [] (suc j) p h t = absurd h

@@ -14,7 +14,7 @@ use Rattle.prop_amb.specs.Joined.{IsJoined}
 use Rattle.prop_amb.proofs.ZipLemmas.{some_same, none_some, zip_at, zip_from}
 use Rattle.prop_amb.proofs.SearchLaws.{or_true_left, or_true_right, side_above, side_below}
 
-later_at : (c : Choice) (cs : List Choice) (k : ℕ) (d : Choice) → AllByRecursion (λ later. c.first + c.sides ≤ later.first) cs → slice_get cs k ≡ Some d → c.first + c.sides ≤ d.first
+pub later_at : (c : Choice) (cs : List Choice) (k : ℕ) (d : Choice) → AllByRecursion (λ later. c.first + c.sides ≤ later.first) cs → slice_get cs k ≡ Some d → c.first + c.sides ≤ d.first
 later_at c [] k d h e = absurd (none_some e)
 later_at c (x ∷ cs) zero d h e = rw (← (some_same e)) h.0
 later_at c (x ∷ cs) (suc k) d h e = later_at c cs k d h.1 e
@@ -107,7 +107,7 @@ joined_refuted problem choices j choice reasons n order choice_at joined refuted
         (λ p t. absorb (reasons x.0 p) (hypotheticals_of choices list p) (n p) (within list x.0 x.1 x.2 p) t)
         ((refuted x.0 x.2).always list is_list (takes_reason list x.0 is_list takes x.1 x.2))
 
-user_of : (choices : List Choice) (j : ℕ) (choice : Choice) (p : ℕ) → slice_get choices j ≡ Some choice → is_hypothetical choices p ≡ false → is_side_of choice p ≡ false
+pub user_of : (choices : List Choice) (j : ℕ) (choice : Choice) (p : ℕ) → slice_get choices j ≡ Some choice → is_hypothetical choices p ≡ false → is_side_of choice p ≡ false
 user_of [] j choice p e h = absurd (none_some e)
 user_of (c ∷ cs) zero choice p e h = rw (← (some_same e)) (or_none (is_side_of c p) _ h).0
   where

@@ -9,3 +9,4 @@ pub mod KeepingLaws
 pub mod PlaceLemmas
 pub mod DeclaringLaws
 pub mod AdvancingLaws
+pub mod ResolvingLaws
