@@ -2,5 +2,5 @@ pub mod Refuted
 pub mod Joined
 pub mod Search
 pub mod Moving
-pub mod Resolving
+-- pub mod Resolving
 pub mod Laws

@@ -1,13 +1,11 @@
 //! The search for the first consistent list of choices.
 #![tactic(auto)]
 
-pub mod believing;
+mod joining;
 pub mod laws;
-pub mod naming;
+mod lists;
 pub mod reasons;
-pub mod resolving;
 pub mod search;
 
 pub use laws::additions_keep_searches;
-pub use resolving::Resolved;
 pub use search::Search;
