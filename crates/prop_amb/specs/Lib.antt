@@ -1,3 +1,4 @@
 pub mod Refuted
 pub mod Joined
 pub mod Search
+pub mod Going
