@@ -1,4 +1,8 @@
 pub mod Refuted
 pub mod Joined
 pub mod Search
+pub mod Moving
+pub mod Resolving
+pub mod Laws
 pub mod Going
+pub mod Settling

@@ -1,2 +1,8 @@
-//! A store of nogoods.
+//! Nogoods: sets of premises that can't all be believed.
 #![tactic(auto)]
+
+pub mod nogoods;
+pub mod store;
+
+pub use nogoods::Nogoods;
+pub use store::Store;

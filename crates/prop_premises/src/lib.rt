@@ -2,10 +2,12 @@
 #![tactic(auto)]
 
 pub mod choice;
+mod named;
 pub mod numbers;
 mod order;
 pub mod premise_set;
 pub mod premises;
+mod table;
 pub mod worldview;
 
 pub use choice::Choice;

@@ -1,0 +1,76 @@
+//! Settling: the first list of choices that isn't refuted, and the least solution with it.
+ghost use Rattle.std.specs.Prelude.{◌≡◌, ℕ, ◌+◌, ◌≤◌, [], false, IsTrue, length, IfOk, OnOk};
+ghost use Rattle.prop_premises.specs.Sets.{Members, set_of};
+ghost use Rattle.prop_procedures.specs.Kept.{AllMean, stored_of};
+ghost use Rattle.prop_cells.specs.Data.{problem_of, beliefs, IsFree};
+ghost use Rattle.prop_scheduler.specs.Turns.{IsUnderWay, IsSettled, Turns};
+ghost use Rattle.prop_scheduler.specs.Potential.{potential, most_steps};
+ghost use Rattle.prop_nogoods.specs.Stores.{has_part};
+ghost use Rattle.prop_amb.specs.Search.{IsSearch};
+ghost use Rattle.prop_amb.specs.Settling.{IfRefuted, IsMet};
+
+use crate::search::Search;
+use prop_cells::Network;
+use prop_premises::PremiseSet;
+use prop_procedures::Rule;
+use prop_scheduler::{run, Agenda, Order, Run};
+use std::alloc::{AllocError, Global};
+
+/// What came of one list of choices.
+#[derive(Drop)]
+enum Tried {
+    /// It holds, and no instance waits.
+    Quiet,
+    /// It is refuted by this nogood, which is noted.
+    Refuted(PremiseSet),
+    /// The budget is used.
+    Spent,
+}
+
+/// Looks whether a noted nogood is believed, and else runs the network with the list on which the choices stand; a clash is noted.
+/// Answers what came of the list and how many instances were called.
+fn attempt<R: Rule + Drop, O: Order>(
+    alloc: Global,
+    search: &mut Search,
+    network: &mut Network<R>,
+    agenda: &mut Agenda,
+    order: &mut O,
+    budget: u64,
+) -> Result<(Tried, u64), AllocError>
+    requires means { AllMean R.value_of network.old.library.procedures.items }
+    requires under_way { IsUnderWay (stored_of R.value_of network.old.library) (set_of search.old.worldview) network.old.cells agenda.old.line }
+    requires room { length network.old.cells.instances ≤ agenda.old.room }
+    requires search { IsSearch (problem_of (stored_of R.value_of network.old.library) network.old.cells) search.old }
+    ensures same { network.new.library ≡ network.old.library }
+    ensures rest { network.new.cells ≡ record network.old.cells { contents = network.new.cells.contents } }
+    ensures room { agenda.new.room ≡ agenda.old.room }
+    ensures only { search.new ≡ record search.old { listed = search.new.listed } }
+    ensures listed { (m : Members) → IsTrue (has_part search.old.listed m) → IsTrue (has_part search.new.listed m) }
+    ensures search { IsSearch (problem_of (stored_of R.value_of network.old.library) network.old.cells) search.new }
+    ensures under_way { IsUnderWay (stored_of R.value_of network.old.library) (set_of search.old.worldview) network.new.cells agenda.new.line }
+    ensures turns { IfOk result (λ r. Turns O.picks (stored_of R.value_of network.old.library) (set_of search.old.worldview) network.old.cells agenda.old.line order.old r.1 network.new.cells agenda.new.line order.new) }
+    ensures quiet { IfOk result (λ r. r.0 ≡ Tried.Quiet → IsSettled (stored_of R.value_of network.old.library) (set_of search.old.worldview) network.new.cells) }
+    ensures rests { IfOk result (λ r. r.0 ≡ Tried.Quiet → agenda.new.line ≡ []) }
+    ensures refuted { IfOk result (λ r. IfRefuted r.0 (IsMet (problem_of (stored_of R.value_of network.old.library) network.old.cells) search.new)) }
+    ensures spent { IfOk result (λ r. r.0 ≡ Tried.Spent → r.1 ≡ budget) }
+    ensures steps { IfOk result (λ r. r.1 ≤ budget) }
+    ensures at_rest { IfOk result (λ r. agenda.old.line ≡ [] → IsFree (set_of search.old.worldview) network.old.cells → has_part search.old.listed (set_of search.old.worldview) ≡ false → (r.0 ≡ Tried.Quiet) × (r.1 ≡ 0)) }
+    ensures falls { IfOk result (λ r. potential (problem_of (stored_of R.value_of network.old.library) network.old.cells) (beliefs (set_of search.old.worldview) network.new.cells.contents) agenda.new.line + r.1 ≤ potential (problem_of (stored_of R.value_of network.old.library) network.old.cells) (beliefs (set_of search.old.worldview) network.old.cells.contents) agenda.old.line) }
+    ensures few { IfOk result (λ r. r.1 ≤ most_steps (problem_of (stored_of R.value_of network.old.library) network.old.cells)) }
+{
+    network.data().well_made();
+    let _waiting = agenda.waiting();
+    search.well_made();
+    if let Some(nogood) = search.blocked() {
+        return Ok((Tried::Refuted(nogood.copy()?), 0));
+    }
+    let (end, calls) = run(alloc, network, search.worldview(), agenda, order, budget)?;
+    match end {
+        Run::Quiet => Ok((Tried::Quiet, calls)),
+        Run::Spent => Ok((Tried::Spent, calls)),
+        Run::Clash(support) => {
+            search.note(support.copy()?)?;
+            Ok((Tried::Refuted(support), calls))
+        }
+    }
+}

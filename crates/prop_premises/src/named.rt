@@ -1,0 +1,43 @@
+//! What names stand for.
+
+ghost use Rattle.std.specs.Prelude.{◌≡◌};
+ghost use Rattle.prop_premises.specs.Named.{width};
+
+use crate::premise_set::Premise;
+
+/// What a name stands for.
+#[derive(Clone, Copy, Debug, PartialEq, Eq)]
+pub(crate) enum Kind {
+    /// A premise of the user's, and whether it is believed.
+    User(bool),
+    /// A choice, and how many sides it has.
+    Choice(u8),
+}
+
+impl Kind {
+    /// How many numbers the name takes.
+    pub(crate) fn width(self) -> usize
+        ensures { result ≡ width self }
+    {
+        match self {
+            Kind::User(_) => 1,
+            Kind::Choice(sides) => usize::from(sides),
+        }
+    }
+}
+
+/// A name's first number, and what it stands for. A choice has a number for each of its sides.
+#[derive(Clone, Copy, Debug, PartialEq, Eq)]
+pub(crate) struct Named {
+    pub(crate) first: Premise,
+    pub(crate) kind: Kind,
+}
+
+/// Where a premise comes from.
+#[derive(Clone, Copy)]
+pub(crate) enum Source<'a> {
+    /// The user named it, and it is believed or not.
+    User(&'a str, bool),
+    /// It is a side of the choice with this name: which one, and of how many.
+    Side(&'a str, u8, u8),
+}
