@@ -1,3 +1,10 @@
+pub mod ProblemLaws
+pub mod ZipLemmas
+pub mod StandLaws
+pub mod SearchLaws
 pub mod CountLaws
 pub mod Consistent
 pub mod GoingLaws
+pub mod Blocked
+pub mod MetLaws
+pub mod RunLaws

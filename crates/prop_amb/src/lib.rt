@@ -1,16 +1,12 @@
 //! The search for the first consistent list of choices.
 #![tactic(auto)]
 
-pub mod believing;
-pub mod laws;
-pub mod naming;
 pub mod outcome;
 pub mod reasons;
 pub mod resolving;
 pub mod search;
 pub mod settling;
 
-pub use laws::additions_keep_searches;
 pub use outcome::Outcome;
 pub use resolving::Resolved;
 pub use search::Search;

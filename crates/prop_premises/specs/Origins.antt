@@ -1,5 +1,5 @@
 -- Premises in order of number: where each comes from, and which of the user's are believed.
-use Rattle.std.specs.Prelude.{◌≡◌, ℕ, zero, suc, ◌+◌, ◌≤◌, ◌==◌, Bool, true, false, cond, bytes_eq, IsTrue, List, [], ◌∷◌, ◌++◌, position, Option, Some, None, is_some}
+use Rattle.std.specs.Prelude.{◌≡◌, ℕ, zero, suc, ◌+◌, ◌≤◌, ◌==◌, Bool, true, false, cond, bytes_eq, IsTrue, List, [], ◌∷◌, ◌++◌, position, Option, is_some}
 use Rattle.std.specs.List.{list_any}
 use Rattle.prop_premises.specs.Sets.{Members}
 use Rattle.prop_premises.specs.declared.choice.Choice.{Choice}
@@ -81,29 +81,6 @@ choices_from n (Side name side sides ∷ os) = cond (side == 1) (record { first 
 -- the choices in order of declaration
 abbrev pub choices_of : List Origin → List Choice
 choices_of origins = choices_from 0 origins
-
--- which side of its choice the premise is; sides count from 1
-abbrev pub side_of : Origin → Option ℕ
-side_of (User name believed) = None
-side_of (Side choice side sides) = Some side
-
--- which side of its choice the premise with this number is, none where it is the user's
-abbrev pub side_at : List Origin → ℕ → Option ℕ
-side_at [] p = None
-side_at (o ∷ os) zero = side_of o
-side_at (o ∷ os) (suc p) = side_at os p
-
--- the premise is the only one with its name, or the first side of a choice
-abbrev pub starts : Origin → Bool
-starts (User name believed) = true
-starts (Side choice side sides) = side == 1
-
--- a name starts with this number, or it is the next free one: no choice stands on both sides of it
-abbrev pub is_start : List Origin → ℕ → Bool
-is_start [] zero = true
-is_start [] (suc p) = false
-is_start (o ∷ os) zero = starts o
-is_start (o ∷ os) (suc p) = is_start os p
 
 -- The sides of a choice have numbers in a row, those of later choices larger ones, and none of them is a premise of the user's.
 pub record IsNumbered (origins : List Origin) : Type 0 where

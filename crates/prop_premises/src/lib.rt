@@ -2,12 +2,10 @@
 #![tactic(auto)]
 
 pub mod choice;
-mod named;
 pub mod numbers;
 mod order;
 pub mod premise_set;
 pub mod premises;
-mod table;
 pub mod worldview;
 
 pub use choice::Choice;
