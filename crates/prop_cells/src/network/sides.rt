@@ -35,7 +35,7 @@ impl<R: Rule + Drop> Network<R> {
         ensures err { IfErr result (λ e. (sides_refusal self.old.cells (length infos.now) ≡ Some e) ⊎ (e ≡ Refusal.Memory)) }
         ensures err_same { OnErr result (self.new.cells ≡ self.old.cells) }
     {
-        if self.cells.statement_count() + infos.len() > MOST_STATEMENTS {
+        if self.cells.statement_count() > MOST_STATEMENTS - infos.len() {
             return Err(Refusal::LimitReached(Limit::Statements));
         }
         match self.cells.push_sides(first, cell, infos) {
