@@ -2,6 +2,7 @@
 use Rattle.std.specs.Prelude.{◌≡◌, ◌≢◌, ◌⊎◌, ℕ, List, [], ◌∷◌, Option, Some, None, Result, Ok, All}
 use Rattle.prop_lattice.specs.declared.info.Info.{Info}
 use Rattle.prop_lattice.specs.declared.refusal.Refusal.TheVariants.{Memory}
+use Rattle.prop_premises.specs.Origins.{IsNumbered}
 use Rattle.prop_procedures.specs.Stored.{Stored}
 use Rattle.prop_vocabulary.specs.Cells.{cell_named}
 use Rattle.prop_language.specs.Commands.{Command}
@@ -53,4 +54,8 @@ SettledTextsMeet library =
 
 -- what settles is not contradictory: no other run over it ends in a contradiction
 abbrev pub SettledIsFree : List Stored → Type 0
-SettledIsFree library = (s : State) (list premises : List ℕ) → MayEnd library s (Settled list) → MayEnd library s (Contradiction premises) → ⊥
+SettledIsFree library = (s : State) (list premises : List ℕ) → IsNumbered s.premises → MayEnd library s (Settled list) → MayEnd library s (Contradiction premises) → ⊥
+
+-- each line leaves the premises numbered
+abbrev pub StepsKeepNumbers : List Stored → Type 0
+StepsKeepNumbers library = (old new : State) (line : List ℕ) (answer : Answer) (steps : ℕ) → IsNumbered old.premises → Step library old line answer new steps → IsNumbered new.premises

@@ -1,5 +1,5 @@
 -- What a command that runs the network asks, and what may be said to it.
-use Rattle.std.specs.Prelude.{◌≡◌, ℕ, ◌≤◌, List, length, Option, Some, Result, Ok, ⊤, ◌⊎◌}
+use Rattle.std.specs.Prelude.{◌≡◌, ℕ, ◌≤◌, ◌<◌, List, length, Option, Some, Result, Ok, ⊤, ◌⊎◌}
 use Rattle.prop_lattice.specs.declared.info.Info.{Info}
 use Rattle.prop_lattice.specs.declared.refusal.Refusal.{Refusal}
 use Rattle.prop_lattice.specs.declared.refusal.Refusal.TheVariants.{Memory}
@@ -9,7 +9,7 @@ use Rattle.prop_procedures.specs.Stored.{Stored}
 use Rattle.prop_scheduler.specs.Turns.{IsSettled}
 use Rattle.prop_amb.specs.declared.outcome.Outcome as ends
 use Rattle.prop_amb.specs.declared.outcome.Outcome.TheVariants.{Settled, Contradiction, Unsettled}
-use Rattle.prop_amb.specs.Refuted.{IsCovered}
+use Rattle.prop_amb.specs.Refuted.{IsCovered, IsListRefuted}
 use Rattle.prop_amb.specs.Search as search
 use Rattle.prop_amb.specs.Going.{Goes}
 use Rattle.prop_language.specs.Commands as commands
@@ -19,7 +19,7 @@ use Rattle.prop_engine.specs.Answers.{Answer, Text, Refused}
 use Rattle.prop_workbench.specs.declared.asking.Question.{Question}
 use Rattle.prop_workbench.specs.declared.asking.Question.TheVariants.{Settle, Worldview, Ask, Why}
 use Rattle.prop_workbench.specs.declared.session.Session.{Session}
-use Rattle.prop_workbench.specs.Machine.{State, users_in, choices_in, worldview_at}
+use Rattle.prop_workbench.specs.Machine.{State, problem_in, users_in, choices_in, worldview_at}
 use Rattle.prop_workbench.specs.Reasons.{IsLeanAnswer}
 use Rattle.prop_workbench.specs.Running as running
 use Rattle.prop_workbench.specs.Running.{Outcome, MayEnd, Replies}
@@ -70,10 +70,12 @@ MaySay library s command outcome steps answer = ((text : List ℕ) × Replies li
 abbrev pub HasGone : {O : Type 0} → Picks O → List Stored → State → Work O → Work O → ℕ → Type 0
 HasGone picks library s old new steps = Goes picks library (users_in s) (choices_in s) old.list old.cells old.line old.order steps new.list new.cells new.line new.order
 
--- the text replies to the command as a run ended that went from the one to the other in exactly so many steps
+-- The text replies to the command as a run ended that went from the one to the other in exactly so many steps. Where they were used up, some procedure still waits, or the
+-- choice list is refuted.
 pub record IsEarned {O : Type 0} (picks : Picks O) (library : List Stored) (s : State) (old new : Work O) (command : Command) (text : List ℕ) (steps : ℕ) : Type 0 where
   pub end : ends.Outcome
   pub gone : HasGone picks library s old new steps
+  pub left : end ≡ Unsettled → (0 < length new.line) ⊎ IsListRefuted (problem_in library s) (users_in s) (choices_in s) new.list
   pub replies : Replies library s command (outcome_of new.list end) steps text
 
 -- what a line that was read so is answered: a text to what runs the network is earned by the calls that it counts
