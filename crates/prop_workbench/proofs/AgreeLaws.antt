@@ -161,7 +161,7 @@ pub settled_texts_meet : (library : List Stored) → SettledTextsMeet library
 settled_texts_meet library s command text also (l, steps, ends, r) (m, others, end, q) = texts_meet library s command l text also steps others r (rw (one_list library s l m ends end) at q)
 
 -- a believed premise is the user's
-believed_is_user : (os : List Origin) (p : ℕ) → IsTrue (believed_in os p) → IsTrue (is_user_at os p)
+pub believed_is_user : (os : List Origin) (p : ℕ) → IsTrue (believed_in os p) → IsTrue (is_user_at os p)
 believed_is_user [] p h = h
 believed_is_user (User name b ∷ os) zero h = refl
 believed_is_user (Side name side sides ∷ os) zero h = h

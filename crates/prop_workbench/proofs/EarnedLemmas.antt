@@ -1,0 +1,40 @@
+-- A text is earned by the calls that it counts.
+use Rattle.std.proofs.Common.{◌≡◌, ◌⊎◌, ℕ, ◌<◌, List, length, Option, Some, None, Result, Ok, Err, IfOk, inl, inr, refl}
+use Rattle.prop_lattice.specs.declared.refusal.Refusal.{Refusal}
+use Rattle.prop_lattice.specs.declared.refusal.Refusal.TheVariants.{Memory}
+use Rattle.prop_procedures.specs.Stored.{Stored}
+use Rattle.prop_amb.specs.declared.outcome.Outcome.{Outcome}
+use Rattle.prop_amb.specs.declared.outcome.Outcome.TheVariants.{Unsettled}
+use Rattle.prop_amb.specs.Refuted.{IsListRefuted}
+use Rattle.prop_language.specs.Commands as commands
+use Rattle.prop_language.specs.Commands.{Command}
+use Rattle.prop_engine.specs.Answers.{Answer, Silent, Done, Text, Refused}
+use Rattle.prop_workbench.specs.declared.asking.Question.{Question}
+use Rattle.prop_workbench.specs.declared.asking.Question.TheVariants.{Settle, Worldview, Ask, Why}
+use Rattle.prop_workbench.specs.Machine.{State, problem_in, users_in, choices_in}
+use Rattle.prop_workbench.specs.Questions.{command_of, outcome_of, Picks, HasGone, MaySay, IsEarned, Earns}
+use Rattle.prop_workbench.specs.Sessions.{Work}
+
+-- a refusal is no text
+pub earns_refused : {O : Type 0} (picks : Picks O) (library : List Stored) (s : State) (old new : Work O) (read : Result (Option Command) Refusal) (refusal : Refusal) (steps : ℕ) → Earns picks library s old new read (Refused refusal) steps
+earns_refused picks library s old new (Err e) refusal steps = tt
+earns_refused picks library s old new (Ok None) refusal steps = tt
+earns_refused picks library s old new (Ok (Some commands.Command.Settle)) refusal steps = tt
+earns_refused picks library s old new (Ok (Some (commands.Command.Ask x))) refusal steps = tt
+earns_refused picks library s old new (Ok (Some (commands.Command.Why x))) refusal steps = tt
+earns_refused picks library s old new (Ok (Some commands.Command.Worldview)) refusal steps = tt
+earns_refused picks library s old new (Ok (Some command)) refusal steps = tt
+
+-- the same, where it is known that the answer is that memory was refused
+pub earns_none : {O : Type 0} (picks : Picks O) (library : List Stored) (s : State) (old new : Work O) (read : Result (Option Command) Refusal) (answer : Answer) (steps : ℕ) → answer ≡ Refused Memory → Earns picks library s old new read answer steps
+earns_none picks library s old new read answer steps e = rw e (earns_refused picks library s old new read Memory steps)
+
+-- what was said after a run is earned
+pub earns : {O : Type 0} (picks : Picks O) (library : List Stored) (s : State) (old new : Work O) (question : Question) (end : Outcome) (steps : ℕ) (answer : Answer) → HasGone picks library s old new steps →
+    (end ≡ Unsettled → (0 < length new.line) ⊎ IsListRefuted (problem_in library s) (users_in s) (choices_in s) new.list) →
+    MaySay library s (command_of question) (outcome_of new.list end) steps answer → Earns picks library s old new (Ok (Some (command_of question))) answer steps
+earns picks library s old new question end steps answer gone left (inr m) = earns_none picks library s old new (Ok (Some (command_of question))) answer steps m
+earns picks library s old new Settle end steps answer gone left (inl (text, replies, e)) = rw e (record { end = end; gone = gone; left = left; replies = replies })
+earns picks library s old new Worldview end steps answer gone left (inl (text, replies, e)) = rw e (record { end = end; gone = gone; left = left; replies = replies })
+earns picks library s old new (Ask cell name) end steps answer gone left (inl (text, replies, e)) = rw e (record { end = end; gone = gone; left = left; replies = replies })
+earns picks library s old new (Why cell name) end steps answer gone left (inl (text, replies, e)) = rw e (record { end = end; gone = gone; left = left; replies = replies })
