@@ -42,13 +42,13 @@ abbrev pub worldview_in : List Origin → List ℕ → Members
 worldview_in premises list = lists.worldview (believed_in premises) (choices_of premises) list
 
 -- a question for a cell that is there is not refused
-free : (library : List Stored) (s : State) (question : Question) → IsNamed s question → refusal_of library s (command_of question) ≡ None
+pub free : (library : List Stored) (s : State) (question : Question) → IsNamed s question → refusal_of library s (command_of question) ≡ None
 free library s Settle named = refl
 free library s Worldview named = refl
 free library s (Ask cell name) named = rw named refl
 free library s (Why cell name) named = rw named refl
 
-carries : (library : List Stored) (s t : State) (question : Question) (answer : Answer) (steps : ℕ) → Runs library s (command_of question) answer t steps → Carries library s (command_of question) answer t steps
+pub carries : (library : List Stored) (s t : State) (question : Question) (answer : Answer) (steps : ℕ) → Runs library s (command_of question) answer t steps → Carries library s (command_of question) answer t steps
 carries library s t Settle answer steps r = r
 carries library s t Worldview answer steps r = r
 carries library s t (Ask cell name) answer steps r = r
