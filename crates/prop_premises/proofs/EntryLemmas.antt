@@ -146,7 +146,7 @@ written es p q believed h place user = by (cut 0 es p q place)
         let numbered = subst (AreNumberedFrom 0) c.whole h in
         let whole = at_whole c.front c.rest c.entry c.side p q front c.number c.inside numbered in
         let is_one = sym (ap (λ o. option_map_or is_user o false) whole.origin) ∙ sym (is_user_at-at (origins_of (c.front ++ c.entry ∷ c.rest)) p) ∙ ap (λ l. is_user_at (origins_of l) p) (sym c.whole) ∙ user in
-        let k = user_kind (string_bytes c.entry.0) c.entry.1.kind c.side c.inside is_one in
+        let k = user_kind (string_bytes c.entry.0) c.entry.1.kind whole.side whole.inside is_one in
         let number : p ≡ length (origins_of c.front) = omega (arith, c.number, c.inside, ap width k.1) in
         subst (λ l. Written l (set_value_at l q w) p believed) (sym c.whole)
         (subst (λ l. Written (c.front ++ c.entry ∷ c.rest) l p believed) (sym (set_value_at-skip c.front c.rest c.entry w q front))
@@ -192,5 +192,6 @@ dropped es p q h place start within = by (cut 0 es p q place)
         let whole = subst (λ l. At l p q c.entry) (sym c.whole) (at_whole c.front c.rest c.entry c.side p q front c.number c.inside numbered) in
         let is_first = sym (ap (λ o. option_map_or starts o true) whole.origin) ∙ sym (is_start-at (origins_of es) p within) ∙ start in
         let zero_side = first_side (string_bytes c.entry.0) c.entry.1.kind whole.side whole.inside is_first in
-        let number : p ≡ length (origins_of c.front) = omega (arith, c.number, whole.number, zero_side, c.inside) in
+        let second = numbered-second 0 c.front (c.entry ∷ c.rest) (length (origins_of c.front)) (omega arith) numbered in
+        let number : p ≡ length (origins_of c.front) = omega (arith, whole.number, zero_side, second.0) in
         subst (λ l. Dropped l (take q l) p) (sym c.whole) (dropped_whole c.front (c.entry ∷ c.rest) p q front number numbered)

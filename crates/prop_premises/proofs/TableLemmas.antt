@@ -45,7 +45,7 @@ module _ {A : Type 0} where
   places_from-append k (x ∷ es) fs m e =
       ap (λ l. replicate (width x.1.kind) k ++ l) (places_from-append (suc k) es fs m (omega (arith, e))) ∙ sym (append_assoc (replicate (width x.1.kind) k) (places_from (suc k) es) (places_from m fs))
 
-  length-cons : (e : String A × Named) (es : List (String A × Named)) → length (origins_of (e ∷ es)) ≡ width e.1.kind + length (origins_of es)
+  pub length-cons : (e : String A × Named) (es : List (String A × Named)) → length (origins_of (e ∷ es)) ≡ width e.1.kind + length (origins_of es)
   length-cons e es = length-append (origins_of_kind (string_bytes e.0) e.1.kind) (origins_of es) ∙ ap (λ n. n + length (origins_of es)) (length-kind (string_bytes e.0) e.1.kind)
 
   pub numbered-first : (n : ℕ) (es fs : List (String A × Named)) → AreNumberedFrom n (es ++ fs) → AreNumberedFrom n es
