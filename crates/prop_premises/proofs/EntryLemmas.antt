@@ -1,12 +1,15 @@
 -- The entry of the table that has a number: what it tells of the premise, and what a write or a cut there does.
-use Rattle.std.proofs.Common.{◌≡◌, ℕ, zero, suc, ◌+◌, ◌-◌, ◌<◌, ◌≤◌, Bool, true, false, List, [], ◌∷◌, ◌++◌, length, take, replicate, refl, sym, ap, subst, ◌∙◌, inl, inr, arith, ◌==◌, slice_get, Some, None, IsTrue, String, string_bytes}
+use Rattle.std.proofs.Common.{◌≡◌, ℕ, zero, suc, ◌+◌, ◌-◌, ◌<◌, ◌≤◌, Bool, true, false, List, [], ◌∷◌, ◌++◌, length, take, replicate, refl, sym, ap, subst, ◌∙◌, inl, inr, arith, ◌==◌, slice_get, get_or, length-append, Some, None, IsTrue, String, string_bytes}
+use Rattle.std.specs.Prelude.{slice_index_or}
 use Rattle.std.specs.Option.{option_map_or}
+use Rattle.std.proofs.lemmas.Option.{slice_get-get_or}
+use Rattle.std.proofs.lemmas.List.Quantifiers.{position-Some}
 use Rattle.std.proofs.lemmas.Bool.Decides.{nat_tests}
 use Rattle.indexmap.specs.Layout.{set_value_at}
 use Rattle.prop_premises.specs.declared.named.Named.{Named}
 use Rattle.prop_premises.specs.declared.named.Kind.{Kind}
 use Rattle.prop_premises.specs.declared.named.Kind.TheVariants as kind
-use Rattle.prop_premises.specs.Origins.{Origin, User, Side, sides_below, is_user, is_user_at, is_start, starts, with_belief_at}
+use Rattle.prop_premises.specs.Origins.{Origin, User, Side, sides_below, is_user, is_user_at, is_user_called, premise_number, is_start, starts, with_belief_at}
 use Rattle.prop_premises.specs.Named.{width, origins_of_kind, origins_of, places_from, IsKind, AreNumberedFrom}
 use Rattle.prop_premises.proofs.OriginLemmas.{is_user_at-at, is_start-at}
 use Rattle.prop_premises.proofs.ChoiceLemmas.{length-sides, slice_get-skip, slice_get-front, slice_get-sides}
@@ -195,3 +198,36 @@ dropped es p q h place start within = by (cut 0 es p q place)
         let second = numbered-second 0 c.front (c.entry ∷ c.rest) (length (origins_of c.front)) (omega arith) numbered in
         let number : p ≡ length (origins_of c.front) = omega (arith, whole.number, zero_side, second.0) in
         subst (λ l. Dropped l (take q l) p) (sym c.whole) (dropped_whole c.front (c.entry ∷ c.rest) p q front number numbered)
+
+-- ---- as a table has them
+
+-- the place at a number, as it is read
+read_place : (items : List ℕ) (p q k : ℕ) → p < length items → k ≡ slice_index_or items p k → q ≡ k → slice_get items p ≡ Some q
+read_place items p q k l e f = slice_get-get_or items p k l ∙ ap Some (sym e ∙ sym f)
+
+pub dropped_at : {A : Type 0} (es : List (String A × Named)) (items : List ℕ) (now : List Origin) (p q k : ℕ) → AreNumberedFrom 0 es → items ≡ places_from 0 es → origins_of es ≡ now → IsTrue (is_start now p) → p < length items →
+    k ≡ slice_index_or items p k → q ≡ k → Dropped es (take q es) p
+dropped_at es items now p q k h same view start l e f =
+    dropped es p q h (subst (λ xs. slice_get xs p ≡ Some q) same (read_place items p q k l e f)) (subst (λ os. IsTrue (is_start os p)) (sym view) start)
+    (omega (arith, l, ap length same, length-places 0 es))
+
+pub written_at : {A : Type 0} (es : List (String A × Named)) (items : List ℕ) (now : List Origin) (p q k : ℕ) (believed : Bool) → AreNumberedFrom 0 es → items ≡ places_from 0 es → origins_of es ≡ now → IsTrue (is_user_at now p) → p < length items →
+    k ≡ slice_index_or items p k → q ≡ k → Written es (set_value_at es q (record { first = p; kind = kind.User believed })) p believed
+written_at es items now p q k believed h same view user l e f =
+    written es p q believed h (subst (λ xs. slice_get xs p ≡ Some q) same (read_place items p q k l e f)) (subst (λ os. IsTrue (is_user_at os p)) (sym view) user)
+
+pub entry_at : {A : Type 0} (es : List (String A × Named)) (items : List ℕ) (p q k : ℕ) → AreNumberedFrom 0 es → items ≡ places_from 0 es → p < length items → k ≡ slice_index_or items p k → q ≡ k → q < length es
+entry_at es items p q k h same l e f = by (cut 0 es p q (subst (λ xs. slice_get xs p ≡ Some q) same (read_place items p q k l e f)))
+  where
+    by : Cut 0 es p q → q < length es
+    by c = omega (arith, c.place, ap length c.whole, length-append c.front (c.entry ∷ c.rest))
+
+-- what has the number of a name is the user's
+called_user : (os : List Origin) (p : ℕ) (name : List ℕ) (d : Origin) → p < length os → is_user_called name (get_or os p d) ≡ true → is_user_at os p ≡ true
+called_user [] p name d l h = absurd (omega (arith, l))
+called_user (User other believed ∷ os) zero name d l h = refl
+called_user (Side other side sides ∷ os) zero name d l h = cc
+called_user (o ∷ os) (suc p) name d l h = called_user os p name d (omega (arith, l)) h
+
+pub number_is_user : (os : List Origin) (name : List ℕ) (p : ℕ) → premise_number os name ≡ Some p → IsTrue (is_user_at os p)
+number_is_user os name p e = let x = position-Some (is_user_called name) os p (User [] true) e in called_user os p name (User [] true) x.0 x.1
