@@ -1,6 +1,7 @@
 -- The premises of a table of names, part by part.
 use Rattle.std.proofs.Common.{◌≡◌, ℕ, zero, suc, ◌+◌, ◌-◌, ◌<◌, ◌≤◌, Bool, true, false, List, [], ◌∷◌, ◌++◌, length, take, replicate, refl, sym, ap, ◌∙◌, inl, inr, arith, slice_get, Some, None, IsTrue, String, string_bytes, append_assoc, append-nil, length-append}
 use Rattle.std.proofs.lemmas.Bool.{cases_lt}
+use Rattle.std.proofs.lemmas.List.{take_all}
 use Rattle.prop_premises.specs.declared.named.Named.{Named}
 use Rattle.prop_premises.specs.declared.named.Kind.{Kind}
 use Rattle.prop_premises.specs.declared.named.Kind.TheVariants as kind
@@ -24,6 +25,11 @@ slice_get-replicate (suc n) (suc i) x l = slice_get-replicate n i x (omega (arit
 kind_some : (k : Kind) → IsKind k → 1 ≤ width k
 kind_some (kind.User believed) h = omega arith
 kind_some (kind.Choice sides) h = omega (arith, h.0)
+
+-- places that are made room for
+pub resized : (items : List ℕ) (k n w place : ℕ) → k ≡ n + w → n ≡ length items → take k items ++ replicate (k - n) place ≡ items ++ replicate w place
+resized items k n w place e f =
+    ap (λ l. l ++ replicate (k - n) place) (take_all k items (omega (arith, e, f))) ∙ ap (λ m. items ++ replicate m place) (omega (arith, e))
 
 -- ---- two parts
 

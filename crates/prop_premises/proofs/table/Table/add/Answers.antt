@@ -1,17 +1,28 @@
-use Rattle.std.proofs.Common.{rules, ◌≡◌, ◌≤◌, ◌<◌, ◌+◌, ◌++◌, ℕ, List, [], Some, length, take, replicate, None, true, false, is_some, slice_get, option_map, IsTrue, IsOk, IfSome, OnOk, OnErr, ◌-◌, ◌*◌, ◌/◌, ◌%◌, Bool, nat_eq, nat_lt, ◌∷◌, slice_index_or, slice_set, bit_and, bit_or, Fits, w8, w32, w64, Bor, MutBor}
-use Rattle.prop_premises.specs.Origins.{Origin, premise_number, is_choice, is_user_at, with_belief_at, is_start, name_of, IsNumbered, choices_of, believed_in}
-use Rattle.prop_premises.specs.ChoiceLists.{is_hypothetical}
-use Rattle.prop_premises.specs.Named.{origins_of, origins_of_kind, places_from, width, told, number_of, is_choices, IsKind, AreNumberedFrom}
+use Rattle.std.proofs.Common.{arith, ◌∙◌, ◌++◌, ◌+◌, ap, sym, length, replicate}
+use Rattle.std.specs.Vec.{vec_len}
+use Rattle.prop_premises.specs.Named.{origins_of, places_from, width}
+use Rattle.prop_premises.proofs.TableLemmas.{length-places, names_within, resized}
 use Rattle.prop_premises.proofs.table.Table.add.Goals as goal
 
--- src/table.rt:147:21
 pub overflow_cast-place : goal.overflow_cast-place
-overflow_cast-place c = ?
+overflow_cast-place c =
+    let inv = c.self.invariant in
+    omega (arith, c.len-place.ensures.len, names_within 0 c.self.inside.names.entries inv.1, inv.0, ap length inv.2, length-places 0 c.self.inside.names.entries)
 
--- src/table.rt:150:15
 pub push_name-requires-clause-next : goal.push_name-requires-clause-next
-push_name-requires-clause-next c = ?
+push_name-requires-clause-next c =
+    let inv = c.self.invariant in
+    omega (arith, c.len-count.ensures, c.self.inside.places.ok.0, ap length inv.2, length-places 0 c.self.inside.names.entries)
 
--- src/table.rt:151:23
 pub invariant_of-self-in-Ok : goal.invariant_of-self-in-Ok
-invariant_of-self-in-Ok c = ?
+invariant_of-self-in-Ok c =
+    let inv = c.self.invariant in
+    let e = c.in-Ok.ensures in
+    (omega (arith, c.in_ok-resize.ensures.len, c.requires.room, c.width.ensures, c.len-count.ensures, c.self.inside.places.ok.0, c.resize.new.self.ok.0, ap length inv.2, length-places 0 c.self.inside.names.entries, ap length c.self.view_is),
+      e.numbered,
+      c.in_ok-resize.ensures.items
+        ∙ resized c.self.inside.places.items (c.len-count.result + c.width.result) (vec_len c.self.inside.places) c.width.result c.len-place.result (omega (arith, c.len-count.ensures)) c.self.inside.places.ok.0
+        ∙ ap (λ l. l ++ replicate c.width.result c.len-place.result) inv.2
+        ∙ ap (λ w. places_from 0 c.self.inside.names.entries ++ replicate w c.len-place.result) c.width.ensures
+        ∙ ap (λ p. places_from 0 c.self.inside.names.entries ++ replicate (width c.args.kind) p) c.len-place.ensures.len
+        ∙ sym e.places)
