@@ -231,3 +231,17 @@ called_user (o ∷ os) (suc p) name d l h = called_user os p name d (omega (arit
 
 pub number_is_user : (os : List Origin) (name : List ℕ) (p : ℕ) → premise_number os name ≡ Some p → IsTrue (is_user_at os p)
 number_is_user os name p e = let x = position-Some (is_user_called name) os p (User [] true) e in called_user os p name (User [] true) x.0 x.1
+
+-- the entry at the place that is read for a number
+pub told_at : {A : Type 0} (es : List (String A × Named)) (items : List ℕ) (p q k : ℕ) (e : String A × Named) → AreNumberedFrom 0 es → items ≡ places_from 0 es → p < length items → k ≡ slice_index_or items p k → q ≡ k → Some e ≡ slice_get es q → At es p q e
+told_at es items p q k e h same l read f entry = at_entry es p q e h (subst (λ xs. slice_get xs p ≡ Some q) same (read_place items p q k l read f)) (sym entry)
+
+pub no_item : {X : Type 0} (xs : List X) (i : ℕ) → length xs ≤ i → slice_get xs i ≡ None
+no_item [] i l = refl
+no_item (x ∷ xs) zero l = absurd (omega (arith, l))
+no_item (x ∷ xs) (suc i) l = no_item xs i (omega (arith, l))
+
+pub some_item : {X : Type 0} (xs : List X) (i : ℕ) → i < length xs → None ≡ slice_get xs i → ⊥
+some_item [] i l e = omega (arith, l)
+some_item (x ∷ xs) zero l e = cc
+some_item (x ∷ xs) (suc i) l e = some_item xs i (omega (arith, l)) e
