@@ -1,7 +1,10 @@
 -- The entry of the table that has a number: what it tells of the premise, and what a write or a cut there does.
 use Rattle.std.proofs.Common.{◌≡◌, ℕ, zero, suc, ◌+◌, ◌-◌, ◌<◌, ◌≤◌, Bool, true, false, List, [], ◌∷◌, ◌++◌, length, take, replicate, refl, sym, ap, subst, ◌∙◌, inl, inr, arith, ◌==◌, slice_get, get_or, length-append, Some, None, IsTrue, String, string_bytes}
 use Rattle.std.specs.Prelude.{slice_index_or}
-use Rattle.std.specs.Option.{option_map_or}
+use Rattle.std.specs.Option.{option_map, option_map_or}
+use Rattle.std.specs.Map.{lookup, keys_of}
+use Rattle.std.specs.List.{IsDistinct}
+use Rattle.std.specs.String.{string_eq}
 use Rattle.std.proofs.lemmas.Option.{slice_get-get_or}
 use Rattle.std.proofs.lemmas.List.Quantifiers.{position-Some}
 use Rattle.std.proofs.lemmas.Bool.Decides.{nat_tests}
@@ -9,8 +12,9 @@ use Rattle.indexmap.specs.Layout.{set_value_at}
 use Rattle.prop_premises.specs.declared.named.Named.{Named}
 use Rattle.prop_premises.specs.declared.named.Kind.{Kind}
 use Rattle.prop_premises.specs.declared.named.Kind.TheVariants as kind
-use Rattle.prop_premises.specs.Origins.{Origin, User, Side, sides_below, is_user, is_user_at, is_user_called, premise_number, is_start, starts, with_belief_at}
-use Rattle.prop_premises.specs.Named.{width, origins_of_kind, origins_of, places_from, IsKind, AreNumberedFrom}
+use Rattle.prop_premises.specs.Origins.{Origin, User, Side, sides_below, is_user, is_user_at, is_user_called, premise_number, is_start, starts, with_belief_at, name_of}
+use Rattle.prop_premises.specs.Named.{width, origins_of_kind, origins_of, places_from, IsKind, AreNumberedFrom, number_of, user_number}
+use Rattle.prop_premises.proofs.LookupLemmas.{names_it, premise_number-lookup}
 use Rattle.prop_premises.proofs.OriginLemmas.{is_user_at-at, is_start-at}
 use Rattle.prop_premises.proofs.ChoiceLemmas.{length-sides, slice_get-skip, slice_get-front, slice_get-sides}
 use Rattle.prop_premises.proofs.TableLemmas.{Cut, cut, length-places, length-kind, length-cons, origins_of-append, places_from-append, numbered-first, numbered-second, numbered-both}
@@ -245,3 +249,19 @@ pub some_item : {X : Type 0} (xs : List X) (i : ℕ) → i < length xs → None 
 some_item [] i l e = omega (arith, l)
 some_item (x ∷ xs) zero l e = cc
 some_item (x ∷ xs) (suc i) l e = some_item xs i (omega (arith, l)) e
+
+-- ---- the name of a number
+
+pub name_told : {A : Type 0} (es : List (String A × Named)) (p q : ℕ) (e : String A × Named) → At es p q e → option_map name_of (slice_get (origins_of es) p) ≡ Some (string_bytes e.0)
+name_told es p q e a = by e.1.kind refl
+  where
+    by : (k : Kind) → e.1.kind ≡ k → option_map name_of (slice_get (origins_of es) p) ≡ Some (string_bytes e.0)
+    by (kind.User believed) same = ap (option_map name_of) (premise_at es p q e believed a same)
+    by (kind.Choice sides) same = ap (option_map name_of) (choice_at es p q e sides a same)
+
+pub number_told : {A : Type 0} (es : List (String A × Named)) (p q : ℕ) (e : String A × Named) → AreNumberedFrom 0 es → IsDistinct string_eq (keys_of es) → At es p q e → lookup (names_it (string_bytes e.0)) es ≡ Some e.1 → IsTrue (is_user_at (origins_of es) p) →
+    premise_number (origins_of es) (string_bytes e.0) ≡ Some p
+number_told es p q e h unique a value user =
+    let is_one = sym (ap (λ o. option_map_or is_user o false) a.origin) ∙ sym (is_user_at-at (origins_of es) p) ∙ user in
+    let k = user_kind (string_bytes e.0) e.1.kind a.side a.inside is_one in
+    premise_number-lookup (string_bytes e.0) es h unique ∙ ap number_of value ∙ ap (user_number e.1.first) k.1 ∙ ap Some (first_at es p q e k.0 a k.1)
