@@ -6,7 +6,7 @@ use Rattle.std.proofs.lemmas.List.Elements.{All-contains, All-head, All-tail, Al
 use Rattle.std.proofs.Math.Seq.{take-length}
 use Rattle.prop_lattice.specs.declared.info.Info.{Info}
 use Rattle.prop_lattice.specs.Order.{Below}
-use Rattle.prop_premises.specs.Sets.{set_of, is_within, is_below}
+use Rattle.prop_premises.specs.Sets.{set_of, is_below}
 use Rattle.prop_premises.proofs.WithinLemmas.{within_has, within_from}
 use Rattle.prop_tms.specs.Beliefs.{Subsumes}
 use Rattle.prop_tms.proofs.KeptLemmas.{grown_filter}
