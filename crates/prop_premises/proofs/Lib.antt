@@ -8,3 +8,4 @@ pub mod TableLemmas
 pub mod LookupLemmas
 pub mod NumberLemmas
 pub mod EntryLemmas
+pub mod SideLemmas

@@ -41,8 +41,9 @@ fn set_sides(flags: &mut [bool], choices: &[Choice], sides: &[u8])
     ensures len { length flags.new ≡ length flags.old }
     ensures set { IsSame (λ p. get_or flags.new p false) (union (λ p. get_or flags.old p false) (hypotheticals_of choices.now sides.now)) }
 {
-    for (choice, side) in choices.iter().zip(sides) {
-        flags[usize::from(choice.first) + usize::from(*side) - 1] = true;
+    for place in 0..choices.len() {
+        let side = usize::from(sides[place]) - 1;
+        flags[usize::from(choices[place].first) + side] = true;
     }
 }
 
