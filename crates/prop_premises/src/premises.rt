@@ -247,6 +247,7 @@ impl Premises {
         ensures { IfOk result (λ w. IsSame (set_of w) (worldview (believed_in self.now) (choices_of self.now) sides.now)) }
     {
         let mut flags = self.flags()?;
+        self.numbered();
         set_sides(&mut flags, &self.choices, sides);
         Ok(Worldview::from_flags(flags))
     }
