@@ -9,3 +9,4 @@ pub mod LookupLemmas
 pub mod NumberLemmas
 pub mod EntryLemmas
 pub mod SideLemmas
+pub mod PremisesLemmas

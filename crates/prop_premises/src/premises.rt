@@ -217,7 +217,8 @@ impl Premises {
     {
         match self.table.source(premise) {
             Some(Source::User(_, believed)) => believed,
-            _ => false,
+            Some(Source::Side(_, _, _)) => false,
+            None => false,
         }
     }
 
@@ -237,7 +238,8 @@ impl Premises {
     {
         match self.table.source(premise) {
             Some(Source::Side(_, side, _)) => Some(side),
-            _ => None,
+            Some(Source::User(_, _)) => None,
+            None => None,
         }
     }
 
