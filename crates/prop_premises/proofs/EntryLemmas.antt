@@ -1,13 +1,20 @@
 -- The entry of the table that has a number: what it tells of the premise, and what a write or a cut there does.
-use Rattle.std.proofs.Common.{◌≡◌, ℕ, zero, suc, ◌+◌, ◌-◌, ◌<◌, ◌≤◌, Bool, true, false, List, [], ◌∷◌, ◌++◌, length, take, replicate, refl, sym, ap, subst, ◌∙◌, inl, inr, arith, ◌==◌, slice_get, Some, None, IsTrue, String, string_bytes}
-use Rattle.std.specs.Option.{option_map_or}
+use Rattle.std.proofs.Common.{◌≡◌, ℕ, zero, suc, ◌+◌, ◌-◌, ◌<◌, ◌≤◌, Bool, true, false, List, [], ◌∷◌, ◌++◌, length, take, replicate, refl, sym, ap, subst, ◌∙◌, inl, inr, arith, ◌==◌, slice_get, get_or, length-append, Some, None, IsTrue, String, string_bytes}
+use Rattle.std.specs.Prelude.{slice_index_or}
+use Rattle.std.specs.Option.{option_map, option_map_or}
+use Rattle.std.specs.Map.{lookup, keys_of}
+use Rattle.std.specs.List.{IsDistinct}
+use Rattle.std.specs.String.{string_eq}
+use Rattle.std.proofs.lemmas.Option.{slice_get-get_or}
+use Rattle.std.proofs.lemmas.List.Quantifiers.{position-Some}
 use Rattle.std.proofs.lemmas.Bool.Decides.{nat_tests}
 use Rattle.indexmap.specs.Layout.{set_value_at}
 use Rattle.prop_premises.specs.declared.named.Named.{Named}
 use Rattle.prop_premises.specs.declared.named.Kind.{Kind}
 use Rattle.prop_premises.specs.declared.named.Kind.TheVariants as kind
-use Rattle.prop_premises.specs.Origins.{Origin, User, Side, sides_below, is_user, is_user_at, is_start, starts, with_belief_at}
-use Rattle.prop_premises.specs.Named.{width, origins_of_kind, origins_of, places_from, IsKind, AreNumberedFrom}
+use Rattle.prop_premises.specs.Origins.{Origin, User, Side, sides_below, is_user, is_user_at, is_user_called, premise_number, is_start, starts, with_belief_at, name_of}
+use Rattle.prop_premises.specs.Named.{width, origins_of_kind, origins_of, places_from, IsKind, AreNumberedFrom, number_of, user_number}
+use Rattle.prop_premises.proofs.LookupLemmas.{names_it, premise_number-lookup}
 use Rattle.prop_premises.proofs.OriginLemmas.{is_user_at-at, is_start-at}
 use Rattle.prop_premises.proofs.ChoiceLemmas.{length-sides, slice_get-skip, slice_get-front, slice_get-sides}
 use Rattle.prop_premises.proofs.TableLemmas.{Cut, cut, length-places, length-kind, length-cons, origins_of-append, places_from-append, numbered-first, numbered-second, numbered-both}
@@ -146,7 +153,7 @@ written es p q believed h place user = by (cut 0 es p q place)
         let numbered = subst (AreNumberedFrom 0) c.whole h in
         let whole = at_whole c.front c.rest c.entry c.side p q front c.number c.inside numbered in
         let is_one = sym (ap (λ o. option_map_or is_user o false) whole.origin) ∙ sym (is_user_at-at (origins_of (c.front ++ c.entry ∷ c.rest)) p) ∙ ap (λ l. is_user_at (origins_of l) p) (sym c.whole) ∙ user in
-        let k = user_kind (string_bytes c.entry.0) c.entry.1.kind c.side c.inside is_one in
+        let k = user_kind (string_bytes c.entry.0) c.entry.1.kind whole.side whole.inside is_one in
         let number : p ≡ length (origins_of c.front) = omega (arith, c.number, c.inside, ap width k.1) in
         subst (λ l. Written l (set_value_at l q w) p believed) (sym c.whole)
         (subst (λ l. Written (c.front ++ c.entry ∷ c.rest) l p believed) (sym (set_value_at-skip c.front c.rest c.entry w q front))
@@ -192,5 +199,69 @@ dropped es p q h place start within = by (cut 0 es p q place)
         let whole = subst (λ l. At l p q c.entry) (sym c.whole) (at_whole c.front c.rest c.entry c.side p q front c.number c.inside numbered) in
         let is_first = sym (ap (λ o. option_map_or starts o true) whole.origin) ∙ sym (is_start-at (origins_of es) p within) ∙ start in
         let zero_side = first_side (string_bytes c.entry.0) c.entry.1.kind whole.side whole.inside is_first in
-        let number : p ≡ length (origins_of c.front) = omega (arith, c.number, whole.number, zero_side, c.inside) in
+        let second = numbered-second 0 c.front (c.entry ∷ c.rest) (length (origins_of c.front)) (omega arith) numbered in
+        let number : p ≡ length (origins_of c.front) = omega (arith, whole.number, zero_side, second.0) in
         subst (λ l. Dropped l (take q l) p) (sym c.whole) (dropped_whole c.front (c.entry ∷ c.rest) p q front number numbered)
+
+-- ---- as a table has them
+
+-- the place at a number, as it is read
+read_place : (items : List ℕ) (p q k : ℕ) → p < length items → k ≡ slice_index_or items p k → q ≡ k → slice_get items p ≡ Some q
+read_place items p q k l e f = slice_get-get_or items p k l ∙ ap Some (sym e ∙ sym f)
+
+pub dropped_at : {A : Type 0} (es : List (String A × Named)) (items : List ℕ) (now : List Origin) (p q k : ℕ) → AreNumberedFrom 0 es → items ≡ places_from 0 es → origins_of es ≡ now → IsTrue (is_start now p) → p < length items →
+    k ≡ slice_index_or items p k → q ≡ k → Dropped es (take q es) p
+dropped_at es items now p q k h same view start l e f =
+    dropped es p q h (subst (λ xs. slice_get xs p ≡ Some q) same (read_place items p q k l e f)) (subst (λ os. IsTrue (is_start os p)) (sym view) start)
+    (omega (arith, l, ap length same, length-places 0 es))
+
+pub written_at : {A : Type 0} (es : List (String A × Named)) (items : List ℕ) (now : List Origin) (p q k : ℕ) (believed : Bool) → AreNumberedFrom 0 es → items ≡ places_from 0 es → origins_of es ≡ now → IsTrue (is_user_at now p) → p < length items →
+    k ≡ slice_index_or items p k → q ≡ k → Written es (set_value_at es q (record { first = p; kind = kind.User believed })) p believed
+written_at es items now p q k believed h same view user l e f =
+    written es p q believed h (subst (λ xs. slice_get xs p ≡ Some q) same (read_place items p q k l e f)) (subst (λ os. IsTrue (is_user_at os p)) (sym view) user)
+
+pub entry_at : {A : Type 0} (es : List (String A × Named)) (items : List ℕ) (p q k : ℕ) → AreNumberedFrom 0 es → items ≡ places_from 0 es → p < length items → k ≡ slice_index_or items p k → q ≡ k → q < length es
+entry_at es items p q k h same l e f = by (cut 0 es p q (subst (λ xs. slice_get xs p ≡ Some q) same (read_place items p q k l e f)))
+  where
+    by : Cut 0 es p q → q < length es
+    by c = omega (arith, c.place, ap length c.whole, length-append c.front (c.entry ∷ c.rest))
+
+-- what has the number of a name is the user's
+called_user : (os : List Origin) (p : ℕ) (name : List ℕ) (d : Origin) → p < length os → is_user_called name (get_or os p d) ≡ true → is_user_at os p ≡ true
+called_user [] p name d l h = absurd (omega (arith, l))
+called_user (User other believed ∷ os) zero name d l h = refl
+called_user (Side other side sides ∷ os) zero name d l h = cc
+called_user (o ∷ os) (suc p) name d l h = called_user os p name d (omega (arith, l)) h
+
+pub number_is_user : (os : List Origin) (name : List ℕ) (p : ℕ) → premise_number os name ≡ Some p → IsTrue (is_user_at os p)
+number_is_user os name p e = let x = position-Some (is_user_called name) os p (User [] true) e in called_user os p name (User [] true) x.0 x.1
+
+-- the entry at the place that is read for a number
+pub told_at : {A : Type 0} (es : List (String A × Named)) (items : List ℕ) (p q k : ℕ) (e : String A × Named) → AreNumberedFrom 0 es → items ≡ places_from 0 es → p < length items → k ≡ slice_index_or items p k → q ≡ k → Some e ≡ slice_get es q → At es p q e
+told_at es items p q k e h same l read f entry = at_entry es p q e h (subst (λ xs. slice_get xs p ≡ Some q) same (read_place items p q k l read f)) (sym entry)
+
+pub no_item : {X : Type 0} (xs : List X) (i : ℕ) → length xs ≤ i → slice_get xs i ≡ None
+no_item [] i l = refl
+no_item (x ∷ xs) zero l = absurd (omega (arith, l))
+no_item (x ∷ xs) (suc i) l = no_item xs i (omega (arith, l))
+
+pub some_item : {X : Type 0} (xs : List X) (i : ℕ) → i < length xs → None ≡ slice_get xs i → ⊥
+some_item [] i l e = omega (arith, l)
+some_item (x ∷ xs) zero l e = cc
+some_item (x ∷ xs) (suc i) l e = some_item xs i (omega (arith, l)) e
+
+-- ---- the name of a number
+
+pub name_told : {A : Type 0} (es : List (String A × Named)) (p q : ℕ) (e : String A × Named) → At es p q e → option_map name_of (slice_get (origins_of es) p) ≡ Some (string_bytes e.0)
+name_told es p q e a = by e.1.kind refl
+  where
+    by : (k : Kind) → e.1.kind ≡ k → option_map name_of (slice_get (origins_of es) p) ≡ Some (string_bytes e.0)
+    by (kind.User believed) same = ap (option_map name_of) (premise_at es p q e believed a same)
+    by (kind.Choice sides) same = ap (option_map name_of) (choice_at es p q e sides a same)
+
+pub number_told : {A : Type 0} (es : List (String A × Named)) (p q : ℕ) (e : String A × Named) → AreNumberedFrom 0 es → IsDistinct string_eq (keys_of es) → At es p q e → lookup (names_it (string_bytes e.0)) es ≡ Some e.1 → IsTrue (is_user_at (origins_of es) p) →
+    premise_number (origins_of es) (string_bytes e.0) ≡ Some p
+number_told es p q e h unique a value user =
+    let is_one = sym (ap (λ o. option_map_or is_user o false) a.origin) ∙ sym (is_user_at-at (origins_of es) p) ∙ user in
+    let k = user_kind (string_bytes e.0) e.1.kind a.side a.inside is_one in
+    premise_number-lookup (string_bytes e.0) es h unique ∙ ap number_of value ∙ ap (user_number e.1.first) k.1 ∙ ap Some (first_at es p q e k.0 a k.1)

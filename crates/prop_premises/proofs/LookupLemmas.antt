@@ -145,3 +145,12 @@ number_of-none (Some named) h = cc
 pub is_choices-none : (o : Option Named) → false ≡ is_some o → false ≡ is_choices o
 is_choices-none None h = refl
 is_choices-none (Some named) h = cc
+
+-- what stands for neither a premise nor a choice is not in the table
+pub stands_for_nothing : (o : Option Named) → number_of o ≡ None → is_choices o ≡ false → o ≡ None
+stands_for_nothing None h k = refl
+stands_for_nothing (Some named) h k = by named.kind refl
+  where
+    by : (kd : Kind) → named.kind ≡ kd → Some named ≡ None
+    by (kind.User believed) e = let f : Some named.first ≡ None = sym (ap (user_number named.first) e) ∙ h in cc
+    by (kind.Choice sides) e = let f : true ≡ false = sym (ap is_choice_kind e) ∙ k in cc

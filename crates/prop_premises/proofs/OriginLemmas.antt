@@ -22,6 +22,12 @@ believed_in-at [] p = refl
 believed_in-at (o ∷ os) zero = refl
 believed_in-at (o ∷ os) (suc p) = believed_in-at os p
 
+-- what has no number is not believed
+pub believed_in-past : (os : List Origin) (p : ℕ) → length os ≤ p → believed_in os p ≡ false
+believed_in-past [] p l = refl
+believed_in-past (o ∷ os) zero l = absurd (omega (arith, l))
+believed_in-past (o ∷ os) (suc p) l = believed_in-past os p (omega (arith, l))
+
 pub side_at-at : (os : List Origin) (p : ℕ) → side_at os p ≡ option_map_or side_of (slice_get os p) None
 side_at-at [] p = refl
 side_at-at (o ∷ os) zero = refl

@@ -1,10 +1,12 @@
 -- Flags of the hypothetical premises that a choice list takes.
-use Rattle.std.proofs.Common.{◌≡◌, ℕ, zero, suc, ◌+◌, ◌-◌, ◌<◌, ◌≤◌, Bool, true, false, ◌||◌, ◌&&◌, ◌==◌, List, [], ◌∷◌, length, drop, get_or, refl, sym, ap, ◌∙◌, inl, inr, arith, nat_le, nat_lt, IsTrue}
+use Rattle.std.proofs.Common.{◌≡◌, ℕ, zero, suc, ◌+◌, ◌-◌, ◌<◌, ◌≤◌, Bool, true, false, ◌||◌, ◌&&◌, ◌==◌, List, [], ◌∷◌, ◌++◌, length, drop, get_or, refl, sym, ap, ◌∙◌, inl, inr, arith, nat_le, nat_lt, IsTrue}
 use Rattle.std.specs.List.{AllZip, list_any}
 use Rattle.std.proofs.Math.ListN.{set, drop_of_length-le}
 use Rattle.std.proofs.Math.Seq.{drop-cons}
 use Rattle.std.proofs.lemmas.Bool.Decides.{nat_tests, eqb_tells}
-use Rattle.std.proofs.lemmas.List.{get_or-set_other}
+use Rattle.std.proofs.lemmas.Bool.{cases_lt}
+use Rattle.std.proofs.lemmas.List.{get_or-set_other, get_or_append_left}
+use Rattle.prop_premises.specs.Sets.{Members}
 use Rattle.std.proofs.lemmas.Grind.{get_or-set_at}
 use Rattle.std.proofs.lemmas.List.Folds.{list_any_at}
 use Rattle.prop_premises.specs.declared.choice.Choice.{Choice}
@@ -71,3 +73,25 @@ or_none false = refl
 pub no_side_left : (flags : List Bool) (choices : List Choice) (sides : List ℕ) (k p : ℕ) → length choices ≤ k → (get_or flags p false || hypotheticals_of (drop k choices) (drop k sides) p) ≡ get_or flags p false
 no_side_left flags choices sides k p l =
     ap (λ cs. get_or flags p false || hypotheticals_of cs (drop k sides) p) (drop_of_length-le choices l) ∙ or_none (get_or flags p false)
+
+-- ---- flags that are told one by one
+
+pub flag_past : (flags : List Bool) (p : ℕ) → length flags ≤ p → get_or flags p false ≡ false
+flag_past [] p l = refl
+flag_past (b ∷ bs) zero l = absurd (omega (arith, l))
+flag_past (b ∷ bs) (suc p) l = flag_past bs p (omega (arith, l))
+
+last_flag : (flags : List Bool) (b : Bool) (n : ℕ) → n ≡ length flags → get_or (flags ++ b ∷ []) n false ≡ b
+last_flag [] b zero e = refl
+last_flag [] b (suc n) e = absurd (omega (arith, e))
+last_flag (x ∷ xs) b zero e = absurd (omega (arith, e))
+last_flag (x ∷ xs) b (suc n) e = last_flag xs b n (omega (arith, e))
+
+-- one more flag tells whether one more number is in the set
+pub flag_pushed : (s : Members) (flags : List Bool) (b : Bool) (n p : ℕ) → length flags ≡ n → ((q : ℕ) → q < n → get_or flags q false ≡ s q) → b ≡ s n → p < n + 1 → get_or (flags ++ b ∷ []) p false ≡ s p
+flag_pushed s flags b n p len so_far e l = elim (cases_lt p n) [
+  | inl below ↦ get_or_append_left flags (b ∷ []) false p (omega (arith, below, len)) ∙ so_far p below
+  | inr above ↦ (
+      let same : n ≡ p = omega (arith, above, l) in
+      last_flag flags b p (omega (arith, same, len)) ∙ e ∙ ap s same)
+]

@@ -1,6 +1,7 @@
 -- The premises of a table of names, part by part.
 use Rattle.std.proofs.Common.{◌≡◌, ℕ, zero, suc, ◌+◌, ◌-◌, ◌<◌, ◌≤◌, Bool, true, false, List, [], ◌∷◌, ◌++◌, length, take, replicate, refl, sym, ap, ◌∙◌, inl, inr, arith, slice_get, Some, None, IsTrue, String, string_bytes, append_assoc, append-nil, length-append}
 use Rattle.std.proofs.lemmas.Bool.{cases_lt}
+use Rattle.std.proofs.lemmas.List.{take_all}
 use Rattle.prop_premises.specs.declared.named.Named.{Named}
 use Rattle.prop_premises.specs.declared.named.Kind.{Kind}
 use Rattle.prop_premises.specs.declared.named.Kind.TheVariants as kind
@@ -25,6 +26,11 @@ kind_some : (k : Kind) → IsKind k → 1 ≤ width k
 kind_some (kind.User believed) h = omega arith
 kind_some (kind.Choice sides) h = omega (arith, h.0)
 
+-- places that are made room for
+pub resized : (items : List ℕ) (k n w place : ℕ) → k ≡ n + w → n ≡ length items → take k items ++ replicate (k - n) place ≡ items ++ replicate w place
+resized items k n w place e f =
+    ap (λ l. l ++ replicate (k - n) place) (take_all k items (omega (arith, e, f))) ∙ ap (λ m. items ++ replicate m place) (omega (arith, e))
+
 -- ---- two parts
 
 module _ {A : Type 0} where
@@ -45,7 +51,7 @@ module _ {A : Type 0} where
   places_from-append k (x ∷ es) fs m e =
       ap (λ l. replicate (width x.1.kind) k ++ l) (places_from-append (suc k) es fs m (omega (arith, e))) ∙ sym (append_assoc (replicate (width x.1.kind) k) (places_from (suc k) es) (places_from m fs))
 
-  length-cons : (e : String A × Named) (es : List (String A × Named)) → length (origins_of (e ∷ es)) ≡ width e.1.kind + length (origins_of es)
+  pub length-cons : (e : String A × Named) (es : List (String A × Named)) → length (origins_of (e ∷ es)) ≡ width e.1.kind + length (origins_of es)
   length-cons e es = length-append (origins_of_kind (string_bytes e.0) e.1.kind) (origins_of es) ∙ ap (λ n. n + length (origins_of es)) (length-kind (string_bytes e.0) e.1.kind)
 
   pub numbered-first : (n : ℕ) (es fs : List (String A × Named)) → AreNumberedFrom n (es ++ fs) → AreNumberedFrom n es

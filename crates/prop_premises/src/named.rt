@@ -1,7 +1,8 @@
 //! What names stand for.
 
 ghost use Rattle.std.specs.Prelude.{◌≡◌};
-ghost use Rattle.prop_premises.specs.Named.{width};
+ghost use Rattle.prop_premises.specs.Origins.{is_believed, side_of};
+ghost use Rattle.prop_premises.specs.Named.{width, told};
 
 use crate::premise_set::Premise;
 
@@ -40,4 +41,26 @@ pub(crate) enum Source<'a> {
     User(&'a str, bool),
     /// It is a side of the choice with this name: which one, and of how many.
     Side(&'a str, u8, u8),
+}
+
+impl Source<'_> {
+    /// Whether it is a believed premise of the user's.
+    pub(crate) fn is_believed(self) -> bool
+        ensures { result ≡ is_believed (told self) }
+    {
+        match self {
+            Source::User(_, believed) => believed,
+            Source::Side(_, _, _) => false,
+        }
+    }
+
+    /// Which side it is of its choice.
+    pub(crate) fn side(self) -> Option<u8>
+        ensures { result ≡ side_of (told self) }
+    {
+        match self {
+            Source::User(_, _) => None,
+            Source::Side(_, side, _) => Some(side),
+        }
+    }
 }

@@ -6,7 +6,7 @@ ghost use Rattle.prop_premises.specs.Origins.{Origin, name_of, is_user_at, premi
 ghost use Rattle.prop_premises.specs.ChoiceLists.{hypotheticals_of, is_hypothetical, worldview, IsChoiceList};
 
 use crate::choice::Choice;
-use crate::named::{Kind, Source};
+use crate::named::Kind;
 use crate::premise_set::Premise;
 use crate::table::Table;
 use crate::worldview::Worldview;
@@ -216,8 +216,8 @@ impl Premises {
         ensures { result ≡ believed_in self.now premise }
     {
         match self.table.source(premise) {
-            Some(Source::User(_, believed)) => believed,
-            _ => false,
+            Some(source) => source.is_believed(),
+            None => false,
         }
     }
 
@@ -235,10 +235,7 @@ impl Premises {
         requires { premise < length self.now }
         ensures { result ≡ side_at self.now premise }
     {
-        match self.table.source(premise) {
-            Some(Source::Side(_, side, _)) => Some(side),
-            _ => None,
-        }
+        self.table.source(premise)?.side()
     }
 
     /// The worldview that believes just the believed premises and, of each choice, the side that the list takes.

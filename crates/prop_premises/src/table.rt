@@ -1,5 +1,7 @@
 //! The names of premises and choices, each with its numbers.
 ghost use Rattle.std.specs.Prelude.{◌≡◌, ◌≤◌, ◌<◌, ◌+◌, ◌++◌, ℕ, List, [], Some, length, take, replicate, None, true, false, is_some, slice_get, option_map, IsTrue, IsOk, IfSome, OnOk, OnErr};
+ghost use Rattle.std.specs.HashMap.{IsUnique};
+ghost use Rattle.std.specs.String.{string_eq};
 ghost use Rattle.prop_premises.specs.Origins.{Origin, premise_number, is_choice, is_user_at, with_belief_at, is_start, name_of, IsNumbered, choices_of, believed_in};
 ghost use Rattle.prop_premises.specs.ChoiceLists.{is_hypothetical};
 ghost use Rattle.prop_premises.specs.Named.{origins_of, origins_of_kind, places_from, width, told, number_of, is_choices, IsKind, AreNumberedFrom};
@@ -45,6 +47,7 @@ fn push_name(
 ) -> Result<(), AllocError>
     requires user { premise_number (origins_of names.old.entries) name.now ≡ None }
     requires choice { is_choice (origins_of names.old.entries) name.now ≡ false }
+    requires unique { IsUnique string_eq names.old }
     requires numbered { AreNumberedFrom 0 names.old.entries }
     requires next { named.first ≡ length (origins_of names.old.entries) }
     requires kind { IsKind named.kind }

@@ -1,4 +1,8 @@
+use Rattle.std.proofs.Common.{◌≡◌, ◌∙◌, sym, ap, filter, nat_lt}
+use Rattle.prop_premises.specs.Origins.{choices_of}
+use Rattle.prop_premises.proofs.ChoiceLemmas.{choices_of-take}
 use Rattle.prop_premises.proofs.premises.Premises.back.Goals as goal
 
 pub invariant_of-self : goal.invariant_of-self
-invariant_of-self c = ?
+invariant_of-self c =
+    c.retain.ensures.filtered ∙ ap (filter (λ x. nat_lt x.first c.args.count)) c.self.invariant ∙ sym (ap choices_of c.back.ensures ∙ choices_of-take c.self.inside.table c.args.count)
