@@ -46,7 +46,7 @@ pub(crate) enum Source<'a> {
 impl Source<'_> {
     /// Whether it is a believed premise of the user's.
     pub(crate) fn is_believed(self) -> bool
-        ensures { result ≡ is_believed (told self) }
+        ensures { result ≡ is_believed (told self.entry) }
     {
         match self {
             Source::User(_, believed) => believed,
@@ -56,7 +56,7 @@ impl Source<'_> {
 
     /// Which side it is of its choice.
     pub(crate) fn side(self) -> Option<u8>
-        ensures { result ≡ side_of (told self) }
+        ensures { result ≡ side_of (told self.entry) }
     {
         match self {
             Source::User(_, _) => None,
