@@ -161,7 +161,7 @@ written es p q believed h place user = by (cut 0 es p q place)
 
 -- ---- names that are dropped
 
-take-front : {X : Type 0} (xs ys : List X) (n : ℕ) → n ≡ length xs → take n (xs ++ ys) ≡ xs
+pub take-front : {X : Type 0} (xs ys : List X) (n : ℕ) → n ≡ length xs → take n (xs ++ ys) ≡ xs
 take-front [] ys zero e = refl
 take-front [] ys (suc n) e = absurd (omega (arith, e))
 take-front (x ∷ xs) ys zero e = absurd (omega (arith, e))
