@@ -9,3 +9,5 @@ pub mod LookupLemmas
 pub mod NumberLemmas
 pub mod EntryLemmas
 pub mod SideLemmas
+pub mod ChangeLemmas
+pub mod WorldviewLemmas

@@ -22,16 +22,16 @@ position_from-skip t n [] ys m e h = ap (λ k. position_from t k ys) (omega (ari
 position_from-skip t n (x ∷ xs) ys m e h =
     skip_one (t x) n (list_any t xs) (position_from t (n + 1) (xs ++ ys)) (position_from t m ys) h (λ k. position_from-skip t (n + 1) xs ys m (omega (arith, e)) k)
 
-found_none : (t : Origin → Bool) (n : ℕ) (os : List Origin) → list_any t os ≡ false → position_from t n os ≡ None
+pub found_none : (t : Origin → Bool) (n : ℕ) (os : List Origin) → list_any t os ≡ false → position_from t n os ≡ None
 found_none t n [] h = refl
 found_none t n (o ∷ os) h = skip_one (t o) n (list_any t os) (position_from t (n + 1) os) None h (found_none t (n + 1) os)
 
-no_user : (name other : List ℕ) (sides k : ℕ) → list_any (is_user_called name) (sides_below other sides k) ≡ false
+pub no_user : (name other : List ℕ) (sides k : ℕ) → list_any (is_user_called name) (sides_below other sides k) ≡ false
 no_user name other sides zero = refl
 no_user name other sides (suc k) =
     list_any-append (is_user_called name) (sides_below other sides k) (Side other (suc k) sides ∷ []) ∙ ap (λ b. b || false) (no_user name other sides k)
 
-all_called : (name other : List ℕ) (sides k : ℕ) → 1 ≤ k → list_any (is_side_called name) (sides_below other sides k) ≡ bytes_eq name other
+pub all_called : (name other : List ℕ) (sides k : ℕ) → 1 ≤ k → list_any (is_side_called name) (sides_below other sides k) ≡ bytes_eq name other
 all_called name other sides zero l = absurd (omega (arith, l))
 all_called name other sides (suc zero) l = by (bytes_eq name other)
   where
