@@ -16,3 +16,4 @@ pub use laws::additions_keep_searches;
 pub use outcome::Outcome;
 pub use resolving::Resolved;
 pub use search::Search;
+pub use settling::settle;

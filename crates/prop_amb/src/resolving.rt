@@ -8,9 +8,12 @@ ghost use Rattle.prop_amb.specs.Search.{choices_in, IsSearch};
 ghost use Rattle.prop_amb.specs.Moving.{advanced, reasons_advanced};
 ghost use Rattle.prop_amb.specs.Resolving.{MayAdvance, IsReason, IsResolved, IfAgainst};
 
+use crate::joining::joined;
+use crate::lists::advanced;
+use crate::reasons::advance_reasons;
 use crate::search::Search;
-use prop_premises::PremiseSet;
-use std::alloc::{AllocError, Global};
+use prop_premises::{Premise, PremiseSet};
+use std::alloc::AllocError;
 
 /// What a believed nogood shows.
 #[derive(Drop)]
@@ -21,16 +24,48 @@ pub enum Resolved {
     RuledOut(PremiseSet),
 }
 
+/// What a refuted set shows of one choice, where it holds no side of a later one.
+#[derive(Drop)]
+enum Looked {
+    /// The choice leaves its side, which isn't its last, for this reason.
+    Leaves(PremiseSet),
+    /// This refuted set holds no side of the choice.
+    Free(PremiseSet),
+}
+
 impl Search {
     /// What a believed nogood shows: the last choice whose side it holds leaves the side. Where that is its last side, the nogood and
     /// the reasons against the other sides, without the sides of the choice, are looked at in its place.
-    pub fn resolve(&self, alloc: Global, nogood: PremiseSet) -> Result<Resolved, AllocError>
+    pub fn resolve(&self, nogood: PremiseSet) -> Result<Resolved, AllocError>
         requires believed { IsPart (set_of nogood) (set_of self.now.worldview) }
         ensures may { IfOk result (λ r. IfAgainst r (MayAdvance self.now)) }
         ensures resolved { IfOk result (λ r. (problem : Problem) → IsSearch problem self.now → IsNogood problem (choices_in self.now) (set_of nogood) → IsTrue (has_part self.now.listed (set_of nogood)) → IsResolved problem self.now r) }
     {
-        todo!()
+        let mut set = nogood;
+        for place in (0..self.list.len()).rev() {
+            match self.looked_at(place, set)? {
+                Looked::Leaves(reason) => return Ok(Resolved::Against(place, reason)),
+                Looked::Free(rest) => set = rest,
+            }
+        }
+        Ok(Resolved::RuledOut(set))
     }
+
+    /// What a refuted set shows of the choice at a place, where it holds no side of a later one.
+    fn looked_at(&self, place: usize, set: PremiseSet) -> Result<Looked, AllocError> {
+        let choice = self.premises.choices()[place];
+        let side = self.list[place];
+        let premise = choice.first + Premise::from(side - 1);
+        if !set.contains(premise) {
+            return Ok(Looked::Free(set));
+        }
+        if side < choice.sides {
+            return Ok(Looked::Leaves(set));
+        }
+        let reasons = self.reasons[place].sets();
+        Ok(Looked::Free(joined(&set, premise, reasons, choice.first)?))
+    }
+
 
     /// The choice at a place goes to its next side, and the reason is kept against the side that it leaves. All later choices go to
     /// their first side, and no reason is kept of them. After want of memory nothing has changed.
@@ -43,6 +78,11 @@ impl Search {
         ensures err { OnErr result (self.new ≡ self.old) }
         ensures search { (problem : Problem) → IsReason problem self.old place (set_of reason) → IsSearch problem self.old → IsSearch problem self.new }
     {
-        todo!()
+        let list = advanced(*self.list.allocator(), &self.list, place)?;
+        let worldview = self.premises.worldview(&list)?;
+        advance_reasons(&mut self.reasons, place, reason)?;
+        self.list = list;
+        self.worldview = worldview;
+        Ok(())
     }
 }

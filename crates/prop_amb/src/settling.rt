@@ -9,11 +9,13 @@ ghost use Rattle.prop_nogoods.specs.Stores.{has_part};
 ghost use Rattle.prop_amb.specs.Search.{IsSearch};
 ghost use Rattle.prop_amb.specs.Settling.{IfRefuted, IsMet};
 
+use crate::outcome::Outcome;
+use crate::resolving::Resolved;
 use crate::search::Search;
 use prop_cells::Network;
 use prop_premises::PremiseSet;
 use prop_procedures::Rule;
-use prop_scheduler::{run, Agenda, Order, Run};
+use prop_scheduler::{run, wake_all, Agenda, Order, Run};
 use std::alloc::{AllocError, Global};
 
 /// What came of one list of choices.
@@ -71,6 +73,54 @@ fn attempt<R: Rule + Drop, O: Order>(
         Run::Clash(support) => {
             search.note(support.copy()?)?;
             Ok((Tried::Refuted(support), calls))
+        }
+    }
+}
+
+/// What follows where a list was tried: an end, or the choices go on to a later list and every instance waits.
+/// Where one more step is not allowed, that is an end too.
+fn decide<R: Rule + Drop>(
+    search: &mut Search,
+    network: &Network<R>,
+    agenda: &mut Agenda,
+    tried: Tried,
+    may_move: bool,
+) -> Result<Option<Outcome>, AllocError> {
+    let nogood = match tried {
+        Tried::Quiet => return Ok(Some(Outcome::Settled)),
+        Tried::Spent => return Ok(Some(Outcome::Unsettled)),
+        Tried::Refuted(nogood) => nogood,
+    };
+    match search.resolve(nogood)? {
+        Resolved::RuledOut(premises) => Ok(Some(Outcome::Contradiction(premises))),
+        Resolved::Against(place, reason) if may_move => {
+            search.advance(place, reason)?;
+            wake_all(network, agenda);
+            Ok(None)
+        }
+        Resolved::Against(_, _) => Ok(Some(Outcome::Unsettled)),
+    }
+}
+
+/// Looks for the first list that isn't refuted, from the one on which the choices stand, and for the least solution with it. Each call of an instance
+/// is a step, and each move to a later list. Answers how it ended, and after how many steps.
+///
+/// After want of memory the steps that were taken stay.
+pub fn settle<R: Rule + Drop, O: Order>(
+    alloc: Global,
+    search: &mut Search,
+    network: &mut Network<R>,
+    agenda: &mut Agenda,
+    order: &mut O,
+    budget: u64,
+) -> Result<(Outcome, u64), AllocError> {
+    let mut steps: u64 = 0;
+    loop {
+        let (tried, calls) = attempt(alloc, search, network, agenda, order, budget - steps)?;
+        steps += calls;
+        match decide(search, network, agenda, tried, steps < budget)? {
+            Some(outcome) => return Ok((outcome, steps)),
+            None => steps += 1,
         }
     }
 }
