@@ -17,7 +17,7 @@ use prop_values::{Meant, read_value};
 use prop_vocabulary::Vocabulary;
 
 /// What a value means at a cell of a kind.
-fn meaning<'a>(words: &Vocabulary, kind: Kind, value: &Value<'a>) -> Result<Meant<'a>, Refusal>
+pub(crate) fn meaning<'a>(words: &Vocabulary, kind: Kind, value: &Value<'a>) -> Result<Meant<'a>, Refusal>
     requires { IsKnown words.now kind }
     ensures ok { IfOk result (λ meant. meaning_at words.now kind (value_of value.now) ≡ Ok (meant_of meant)) }
     ensures err { IfErr result (λ e. meaning_at words.now kind (value_of value.now) ≡ Err e) }
@@ -236,7 +236,6 @@ impl<R: Rule + Drop, O: Order + Drop> Session<R, O> {
         ensures err { IfErr result (λ e. (telling_limit (state_of self.old) name.now ≡ Some e) ⊎ (e ≡ Memory)) }
         ensures err_same { OnErr result (state_of self.new ≡ state_of self.old) }
     {
-        let count = self.search.premises().len();
         let premise = match self.search.intern(name) {
             Ok(premise) => premise,
             Err(refusal) => return Err(refusal),
@@ -251,7 +250,7 @@ impl<R: Rule + Drop, O: Order + Drop> Session<R, O> {
         ) {
             Ok(()) => Ok(()),
             Err(refusal) => {
-                self.search.take_back(count);
+                self.search.take_back(premise);
                 Err(refusal)
             }
         }
