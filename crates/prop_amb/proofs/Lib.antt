@@ -7,9 +7,11 @@ pub mod GoingLaws
 pub mod GroundedLaws
 pub mod JoinLaws
 pub mod KeepingLaws
+pub mod LookingLaws
 pub mod MetLaws
 pub mod PlaceLemmas
 pub mod ProblemLaws
+pub mod ReasonLaws
 pub mod RefutedLaws
 pub mod ResolvingLaws
 pub mod RunLaws
