@@ -1,6 +1,7 @@
 -- What a search has learned stays learned as a choice moves to its next side.
-use Rattle.std.proofs.Common.{◌≡◌, ◌∙◌, ℕ, zero, suc, ◌+◌, ◌-◌, ◌<◌, ◌≤◌, IsTrue, List, [], ◌∷◌, ◌++◌, length, length-append, take, Some, refl, sym, ap, ◌⊎◌, inl, inr, arith, slice_get, slice_index_or}
+use Rattle.std.proofs.Common.{◌≡◌, ◌∙◌, ℕ, zero, suc, ◌+◌, ◌-◌, ◌<◌, ◌≤◌, IsTrue, List, [], ◌∷◌, ◌++◌, length, length-append, take, drop, Some, refl, sym, ap, ◌⊎◌, inl, inr, arith, slice_get, slice_index_or}
 use Rattle.std.specs.List.{AllZip}
+use Rattle.std.proofs.lemmas.List.{take-append-le, take_all}
 use Rattle.prop_premises.specs.Sets.{Members, IsSame, set_of}
 use Rattle.prop_premises.specs.declared.choice.Choice.{Choice}
 use Rattle.prop_premises.specs.ChoiceLists.{IsSide, IsChoiceList, worldview}
@@ -118,3 +119,24 @@ search_moved problem s j n w stand may reason h =
   where
     from_one : IsSide may.choice may.side → 1 ≤ may.side
     from_one is_side = is_side.0
+
+-- ---- the same, where the reasons are written back in their place
+
+written : {A : Type 0} (old new : List A) (n : ℕ) → length new ≡ n → take n (new ++ drop (length new) old) ≡ new
+written old new n count = take-append-le n new (drop (length new) old) (omega (arith, count)) ∙ take_all n new (omega (arith, count))
+
+-- a search after the move, as its parts are written
+abbrev pub moved_to : Stand → List ℕ → List (List (List ℕ)) → ℕ → List ℕ → Stand
+moved_to s list reasons count w = record s { list = list; reasons = take count (reasons ++ drop (length reasons) s.reasons); worldview = w }
+
+module _ (s : Stand) (j : ℕ) (n w list : List ℕ) (reasons : List (List (List ℕ))) (count : ℕ) (stand : IsStand s) (may : MayAdvance s j) (list_is : list ≡ advanced s.list j) (reasons_are : reasons ≡ reasons_advanced s.reasons j n)
+    (counted : length reasons ≡ count) where
+
+  moved_is : moved_to s list reasons count w ≡ record s { list = advanced s.list j; reasons = reasons_advanced s.reasons j n; worldview = w }
+  moved_is = rw (written s.reasons reasons count counted, list_is, reasons_are) refl
+
+  pub stand_moved : IsSame (set_of w) (worldview (users_of s) (choices_in s) list) → IsStand (moved_to s list reasons count w)
+  stand_moved believes = rw moved_is (stand_advanced s j n w stand may (rw list_is at believes))
+
+  pub search_moved_to : (problem : Problem) → IsReason problem s j (set_of n) → IsSearch problem s → IsSearch problem (moved_to s list reasons count w)
+  search_moved_to problem reason h = rw moved_is (search_moved problem s j n w stand may reason h)

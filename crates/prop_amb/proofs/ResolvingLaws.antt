@@ -9,22 +9,13 @@ use Rattle.prop_nogoods.specs.Stores.{has_part}
 use Rattle.prop_amb.specs.Refuted.{IsRefuted, IsNogood, IsGrounded, IsCovered, IsRuledOut}
 use Rattle.prop_amb.specs.Joined.{IsJoined, others_of}
 use Rattle.prop_amb.specs.Search.{Stand, IsStand, users_of, choices_in, reason_at, IsKept, IsSearch}
+use Rattle.prop_amb.specs.Resolving.{IsShown, IsWithin}
 use Rattle.prop_amb.proofs.ZipLemmas.{some_same, none_some, zip_at, zip_both, index_at}
 use Rattle.prop_amb.proofs.PlaceLemmas.{get_below_length}
 use Rattle.prop_amb.proofs.StandLaws.{users_no_sides, has_reason}
 use Rattle.prop_amb.proofs.SearchLaws.{both, or_true_left, or_true_right, side_is_of, taken_is_side, takes_own, side_below, listed_covers}
 use Rattle.prop_amb.proofs.JoinLaws.{joined_refuted, joined_grounded, joined_covered, later_at, user_of}
 use Rattle.prop_amb.proofs.DeclaringLaws.{taken_before}
-
--- the set is refuted, for reasons that are grounded and listed
-pub record IsShown (problem : Problem) (s : Stand) (n : Members) : Type 0 where
-  pub refuted : IsRefuted problem (choices_in s) n
-  pub grounded : IsGrounded problem (choices_in s) n
-  pub covered : IsCovered (choices_in s) s.listed n
-
--- the set holds believed premises of the user's and sides that the list takes of the first j choices alone
-abbrev pub IsWithin : Stand → ℕ → Members → Type 0
-IsWithin s j n = IsPart n (union (users_of s) (hypotheticals_of (take j (choices_in s)) (take j s.list)))
 
 pub nogood_shown : (problem : Problem) (s : Stand) (n : Members) → IsNogood problem (choices_in s) n → IsTrue (has_part s.listed n) → IsShown problem s n
 nogood_shown problem s n nogood listed = record {
