@@ -1,5 +1,5 @@
 -- What stands at a place of a search: its choice, the side on which the choice stands, and the reasons against the sides before.
-use Rattle.std.proofs.Common.{◌≡◌, ◌∙◌, ℕ, zero, suc, ◌+◌, ◌-◌, ◌<◌, ◌≤◌, IsTrue, List, [], ◌∷◌, length, Some, refl, sym, ap, subst, true, false, arith, slice_get, slice_index_or}
+use Rattle.std.proofs.Common.{◌≡◌, ◌∙◌, ℕ, zero, suc, ◌+◌, ◌<◌, ◌≤◌, IsTrue, List, [], ◌∷◌, length, Some, refl, sym, ap, subst, false, arith, slice_get, slice_index_or}
 use Rattle.std.specs.List.{AllZip}
 use Rattle.prop_premises.specs.Sets.{Members, IsSame, union, without}
 use Rattle.prop_premises.specs.declared.choice.Choice.{Choice}

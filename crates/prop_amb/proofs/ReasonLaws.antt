@@ -1,7 +1,6 @@
 -- Lists of sides and of reasons, as they are made from front to end.
-use Rattle.std.proofs.Common.{◌≡◌, ◌∙◌, ℕ, zero, suc, ◌+◌, ◌-◌, ◌<◌, ◌≤◌, List, [], ◌∷◌, ◌++◌, length, take, drop, refl, sym, ap, arith, slice_set, slice_index_or}
+use Rattle.std.proofs.Common.{◌≡◌, ℕ, zero, suc, ◌+◌, ◌-◌, ◌<◌, ◌≤◌, List, [], ◌∷◌, ◌++◌, length, take, drop, refl, ap, arith, slice_set, slice_index_or}
 use Rattle.std.proofs.Math.ListN.{replicate}
-use Rattle.std.proofs.lemmas.List.{take_all}
 use Rattle.prop_amb.specs.Moving.{first_sides, advanced, no_reasons, reasons_advanced}
 
 ones : (list : List ℕ) → first_sides list ≡ replicate (length list) 1

@@ -1,19 +1,18 @@
 -- What a nogood shows of one choice after the other.
-use Rattle.std.proofs.Common.{◌≡◌, ◌∙◌, ℕ, zero, suc, ◌+◌, ◌-◌, ◌<◌, ◌≤◌, IsTrue, Bool, true, false, not, cond, nat_lt, List, [], ◌∷◌, ◌||◌, ◌&&◌, ◌==◌, length, take, Some, refl, sym, ap, ◌⊎◌, inl, inr, arith, slice_get, slice_index_or}
-use Rattle.std.proofs.lemmas.Bool.{cases_eq, cases_lt, cases_Bool, or_cases, and_parts, and_from, eqb-true, eq-eqb, lt-ltb, le-ltb}
+use Rattle.std.proofs.Common.{◌≡◌, ◌∙◌, ℕ, zero, suc, ◌+◌, ◌-◌, ◌<◌, ◌≤◌, IsTrue, Bool, true, false, not, cond, nat_lt, List, [], ◌∷◌, ◌||◌, ◌&&◌, ◌==◌, length, take, Some, refl, sym, ◌⊎◌, inl, inr, arith, slice_get, slice_index_or}
+use Rattle.std.proofs.lemmas.Bool.{cases_lt, cases_Bool, or_cases, and_parts, eqb-true, eq-eqb, lt-ltb, le-ltb}
 use Rattle.prop_premises.specs.Sets.{Members, IsPart, IsSame, set_of, union, without}
 use Rattle.prop_premises.specs.declared.choice.Choice.{Choice}
-use Rattle.prop_premises.specs.ChoiceLists.{hypothetical, hypotheticals_of, is_hypothetical, is_side_of, IsSide, IsChoiceList, TakesSidesIn, AreInOrder, worldview}
+use Rattle.prop_premises.specs.ChoiceLists.{hypothetical, hypotheticals_of, is_side_of, IsSide, IsChoiceList, TakesSidesIn, AreInOrder}
 use Rattle.prop_cells.specs.Problems.{Problem}
 use Rattle.prop_nogoods.specs.Stores.{has_part}
-use Rattle.prop_amb.specs.Refuted.{IsRefuted, IsNogood, IsGrounded, IsCovered, IsRuledOut}
+use Rattle.prop_amb.specs.Refuted.{IsNogood, IsRuledOut}
 use Rattle.prop_amb.specs.Joined.{IsJoined, others_of}
-use Rattle.prop_amb.specs.Search.{Stand, IsStand, users_of, choices_in, reason_at, IsKept, IsSearch}
+use Rattle.prop_amb.specs.Search.{Stand, IsStand, users_of, choices_in, IsKept, IsSearch}
 use Rattle.prop_amb.specs.Resolving.{IsShown, IsWithin}
-use Rattle.prop_amb.proofs.ZipLemmas.{some_same, none_some, zip_at, zip_both, index_at}
-use Rattle.prop_amb.proofs.PlaceLemmas.{get_below_length}
-use Rattle.prop_amb.proofs.StandLaws.{users_no_sides, has_reason}
-use Rattle.prop_amb.proofs.SearchLaws.{both, or_true_left, or_true_right, side_is_of, taken_is_side, takes_own, side_below, listed_covers}
+use Rattle.prop_amb.proofs.ZipLemmas.{some_same, none_some, zip_both, index_at}
+use Rattle.prop_amb.proofs.StandLaws.{users_no_sides}
+use Rattle.prop_amb.proofs.SearchLaws.{both, or_true_left, or_true_right, side_is_of, takes_own, side_below, listed_covers}
 use Rattle.prop_amb.proofs.JoinLaws.{joined_refuted, joined_grounded, joined_covered, later_at, user_of}
 use Rattle.prop_amb.proofs.DeclaringLaws.{taken_before}
 

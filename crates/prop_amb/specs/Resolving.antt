@@ -1,5 +1,5 @@
 -- What a nogood shows of the choices: the side that one of them leaves, or that none of their lists holds.
-use Rattle.std.specs.Prelude.{◌≡◌, ◌<◌, ℕ, List, Some, slice_get, take}
+use Rattle.std.specs.Prelude.{◌≡◌, ◌<◌, ℕ, Some, slice_get, take}
 use Rattle.prop_premises.specs.Sets.{Members, IsPart, set_of, union}
 use Rattle.prop_premises.specs.declared.choice.Choice.{Choice}
 use Rattle.prop_premises.specs.ChoiceLists.{hypotheticals_of}

@@ -1,4 +1,4 @@
-use Rattle.std.proofs.Common.{◌≡◌, ◌∙◌, ◌+◌, ◌<◌, ◌≤◌, length, refl, add-one}
+use Rattle.std.proofs.Common.{◌∙◌, refl, add-one}
 use Rattle.prop_amb.proofs.ReasonLaws.{cleared_more, cleared_all}
 use Rattle.prop_amb.proofs.reasons.forget.Goals as goal
 

@@ -1,4 +1,4 @@
-use Rattle.std.proofs.Common.{◌≡◌, ◌<◌, arith}
+use Rattle.std.proofs.Common.{◌≡◌, arith}
 use Rattle.prop_amb.specs.Moving.{advanced, reasons_advanced}
 use Rattle.prop_amb.specs.Resolving.{MayAdvance, IsReason}
 use Rattle.prop_amb.specs.Search.{IsSearch}

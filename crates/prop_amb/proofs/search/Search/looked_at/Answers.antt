@@ -1,8 +1,6 @@
-use Rattle.std.proofs.Common.{◌≡◌, ◌∙◌, ℕ, ◌+◌, ◌-◌, ◌*◌, ◌<◌, ◌≤◌, true, false, IsTrue, Some, List, length, slice_get, slice_index_or, Fits, w16, w64, refl, sym, ap, subst, arith}
+use Rattle.std.proofs.Common.{◌≡◌, ◌+◌, ◌<◌, length, slice_index_or, sym, ap, subst, arith}
 use Rattle.prop_premises.specs.Sets.{set_of}
-use Rattle.prop_premises.specs.declared.choice.Choice.{Choice}
-use Rattle.prop_premises.specs.ChoiceLists.{hypothetical}
-use Rattle.prop_amb.specs.Search.{Stand, choices_in, IsSearch}
+use Rattle.prop_amb.specs.Search.{Stand, IsSearch}
 use Rattle.prop_amb.specs.Resolving.{MayAdvance, IsReason, IsWithin, IsShown}
 use Rattle.prop_amb.specs.contracts.search.Search.{the_view}
 use Rattle.prop_amb.proofs.LookingLaws.{choices_count, reasons_count, choice_here, item_here, side_there, reasons_there, looked_free, looked_reason, looked_joined}

@@ -1,4 +1,4 @@
-use Rattle.std.proofs.Common.{◌≡◌, ℕ, ◌+◌, ◌-◌, ◌<◌, ◌≤◌, length, subst, ap, arith}
+use Rattle.std.proofs.Common.{◌≡◌, ℕ, ◌+◌, ◌-◌, length, subst, ap, arith}
 use Rattle.prop_premises.specs.Sets.{set_of}
 use Rattle.prop_amb.specs.Search.{Stand, IsStand, choices_in}
 use Rattle.prop_amb.specs.Resolving.{IsWithin}
