@@ -1,9 +1,7 @@
-use Rattle.std.proofs.Common.{◌≡◌, ◌+◌, ◌<◌, length, slice_index_or, sym, ap, subst, arith}
-use Rattle.prop_premises.specs.Sets.{set_of}
-use Rattle.prop_amb.specs.Search.{Stand, IsSearch}
-use Rattle.prop_amb.specs.Resolving.{MayAdvance, IsReason, IsWithin, IsShown}
+use Rattle.std.proofs.Common.{◌≡◌, ◌*◌, ◌<◌, ◌≤◌, length, slice_index_or, Fits, w16, w64, sym, ap, arith}
+use Rattle.prop_amb.specs.Search.{Stand}
 use Rattle.prop_amb.specs.contracts.search.Search.{the_view}
-use Rattle.prop_amb.proofs.LookingLaws.{choices_count, reasons_count, choice_here, item_here, side_there, reasons_there, looked_free, looked_reason, looked_joined}
+use Rattle.prop_amb.proofs.LookingLaws.{choices_count, reasons_count, stands_here, reasons_here, is_its_side, side_small, reasons_before, looked_free, looked_reason, looked_joined}
 use Rattle.prop_amb.proofs.search.Search.looked_at.Goals as goal
 
 pub offset_bounds-choices-place : goal.offset_bounds-choices-place
@@ -18,50 +16,29 @@ bounds-choices-place c =
 
 pub overflow_sub-side : goal.overflow_sub-side
 overflow_sub-side c =
-    let l : c.args.place < length c.self.inside.list.items = rw (← c.self.view_is) at c.requires in
-    let choice_at = choice_here (the_view c.self.inside) c.args.place c.choices.result.now (record { first = 0; sides = 0 }) c.self.invariant l c.choices.ensures in
-    let side_at = item_here c.self.inside.list.items c.args.place c.index-side.result.now l c.index-side.ensures in
-    (side_there (the_view c.self.inside) c.args.place _ _ c.index-side.result.now c.self.invariant c.numbered.ensures.below choice_at side_at).0
+    let here = stands_here (the_view c.self.inside) c.args.self.now c.args.place c.choices.result.now (record { first = 0; sides = 0 }) c.index-side.result.now c.self.view_is c.self.invariant c.requires c.choices.ensures c.index-side.ensures in
+    (is_its_side c.args.self.now c.args.place _ c.index-side.result.now here).0
 
 pub overflow_add-premise : goal.overflow_add-premise
 overflow_add-premise c =
-    let l : c.args.place < length c.self.inside.list.items = rw (← c.self.view_is) at c.requires in
-    let choice_at = choice_here (the_view c.self.inside) c.args.place c.choices.result.now (record { first = 0; sides = 0 }) c.self.invariant l c.choices.ensures in
-    let side_at = item_here c.self.inside.list.items c.args.place c.index-side.result.now l c.index-side.ensures in
-    let small = side_there (the_view c.self.inside) c.args.place _ _ c.index-side.result.now c.self.invariant c.numbered.ensures.below choice_at side_at in
-    omega (arith, small.1, c.from.ensures, c.len-numbers.ensures.len, c.len-numbers.ensures.bound)
+    let here = stands_here (the_view c.self.inside) c.args.self.now c.args.place c.choices.result.now (record { first = 0; sides = 0 }) c.index-side.result.now c.self.view_is c.self.invariant c.requires c.choices.ensures c.index-side.ensures in
+    let small = side_small c.args.self.now c.args.place _ c.index-side.result.now here (length c.self.inside.premises) (rw (← c.self.view_is) c.numbered.ensures.below) in
+    omega (arith, small, c.from.ensures, c.len-numbers.ensures.len, c.len-numbers.ensures.bound)
 
 pub returns-then-not-contains-clause-looked : goal.returns-then-not-contains-clause-looked
 returns-then-not-contains-clause-looked c problem h within shown =
-    let l : c.args.place < length c.self.inside.list.items = rw (← c.self.view_is) at c.requires in
-    let choice_at = choice_here (the_view c.self.inside) c.args.place c.choices.result.now (record { first = 0; sides = 0 }) c.self.invariant l c.choices.ensures in
-    let side_at = item_here c.self.inside.list.items c.args.place c.index-side.result.now l c.index-side.ensures in
-    let search_was : IsSearch problem (the_view c.self.inside) = rw (← c.self.view_is) at h in
-    let within_was : IsWithin (the_view c.self.inside) (c.args.place + 1) (set_of c.args.set) = subst (λ (s : Stand). IsWithin s (c.args.place + 1) (set_of c.args.set)) (sym c.self.view_is) within in
-    let shown_was : IsShown problem (the_view c.self.inside) (set_of c.args.set) = rw (← c.self.view_is) at shown in
-    let lacks = rw c.from.ensures at c.if-not-contains.ensures in
-    subst (λ (s : Stand). IsWithin s c.args.place (set_of c.args.set) × IsShown problem s (set_of c.args.set)) c.self.view_is
-    (looked_free problem (the_view c.self.inside) c.args.place _ c.index-side.result.now (set_of c.args.set) c.self.invariant choice_at side_at search_was within_was shown_was (sym lacks))
+    let here = stands_here (the_view c.self.inside) c.args.self.now c.args.place c.choices.result.now (record { first = 0; sides = 0 }) c.index-side.result.now c.self.view_is c.self.invariant c.requires c.choices.ensures c.index-side.ensures in
+    looked_free problem c.args.self.now c.args.place _ c.index-side.result.now _ here h within shown (sym (rw c.from.ensures at c.if-not-contains.ensures))
 
 pub returns-then-side-choice-clause-may : goal.returns-then-side-choice-clause-may
 returns-then-side-choice-clause-may c =
-    let l : c.args.place < length c.self.inside.list.items = rw (← c.self.view_is) at c.requires in
-    let choice_at = choice_here (the_view c.self.inside) c.args.place c.choices.result.now (record { first = 0; sides = 0 }) c.self.invariant l c.choices.ensures in
-    let side_at = item_here c.self.inside.list.items c.args.place c.index-side.result.now l c.index-side.ensures in
-    let may : MayAdvance (the_view c.self.inside) c.args.place = record { choice = _; side = c.index-side.result.now; choice_at = choice_at; side_at = side_at; more = c.if-side-choice.true } in
-    rw (← c.self.view_is) may
+    let here = stands_here (the_view c.self.inside) c.args.self.now c.args.place c.choices.result.now (record { first = 0; sides = 0 }) c.index-side.result.now c.self.view_is c.self.invariant c.requires c.choices.ensures c.index-side.ensures in
+    record { choice = _; side = c.index-side.result.now; choice_at = here.choice_at; side_at = here.side_at; more = c.if-side-choice.true }
 
 pub returns-then-side-choice-clause-looked : goal.returns-then-side-choice-clause-looked
 returns-then-side-choice-clause-looked c problem h within shown =
-    let l : c.args.place < length c.self.inside.list.items = rw (← c.self.view_is) at c.requires in
-    let choice_at = choice_here (the_view c.self.inside) c.args.place c.choices.result.now (record { first = 0; sides = 0 }) c.self.invariant l c.choices.ensures in
-    let side_at = item_here c.self.inside.list.items c.args.place c.index-side.result.now l c.index-side.ensures in
-    let search_was : IsSearch problem (the_view c.self.inside) = rw (← c.self.view_is) at h in
-    let within_was : IsWithin (the_view c.self.inside) (c.args.place + 1) (set_of c.args.set) = subst (λ (s : Stand). IsWithin s (c.args.place + 1) (set_of c.args.set)) (sym c.self.view_is) within in
-    let shown_was : IsShown problem (the_view c.self.inside) (set_of c.args.set) = rw (← c.self.view_is) at shown in
-    let has = rw c.from.ensures at c.if-not-contains.ensures in
-    subst (λ (s : Stand). IsReason problem s c.args.place (set_of c.args.set)) c.self.view_is
-    (looked_reason problem (the_view c.self.inside) c.args.place _ c.index-side.result.now (set_of c.args.set) c.self.invariant choice_at side_at search_was within_was shown_was (sym has))
+    let here = stands_here (the_view c.self.inside) c.args.self.now c.args.place c.choices.result.now (record { first = 0; sides = 0 }) c.index-side.result.now c.self.view_is c.self.invariant c.requires c.choices.ensures c.index-side.ensures in
+    looked_reason problem c.args.self.now c.args.place _ c.index-side.result.now _ here h within shown (sym (rw c.from.ensures at c.if-not-contains.ensures))
 
 pub index-requires : goal.index-requires
 index-requires c =
@@ -70,29 +47,15 @@ index-requires c =
 
 pub joined-requires : goal.joined-requires
 joined-requires c =
-    let l : c.args.place < length c.self.inside.list.items = rw (← c.self.view_is) at c.requires in
-    let choice_at = choice_here (the_view c.self.inside) c.args.place c.choices.result.now (record { first = 0; sides = 0 }) c.self.invariant l c.choices.ensures in
-    let side_at = item_here c.self.inside.list.items c.args.place c.index-side.result.now l c.index-side.ensures in
-    let small = side_there (the_view c.self.inside) c.args.place _ _ c.index-side.result.now c.self.invariant c.numbered.ensures.below choice_at side_at in
-    let is : c.index.result.now ≡ slice_index_or c.self.inside.reasons.items c.args.place c.index.result.now = c.index.ensures in
-    let in_reasons : c.args.place < length c.self.inside.reasons.items = omega (arith, l, reasons_count (the_view c.self.inside) c.self.invariant) in
-    let count = reasons_there (the_view c.self.inside) c.args.place c.index-side.result.now c.index.result.now c.self.invariant side_at (item_here c.self.inside.reasons.items c.args.place c.index.result.now in_reasons is) in
-    let same : length c.sets-reasons.result.now ≡ length c.index.result.now = ap length c.sets-reasons.ensures in
-    omega (arith, small.0, small.1, count, same, c.len-numbers.ensures.len, c.len-numbers.ensures.bound)
+    let here = stands_here (the_view c.self.inside) c.args.self.now c.args.place c.choices.result.now (record { first = 0; sides = 0 }) c.index-side.result.now c.self.view_is c.self.invariant c.requires c.choices.ensures c.index-side.ensures in
+    let small = side_small c.args.self.now c.args.place _ c.index-side.result.now here (length c.self.inside.premises) (rw (← c.self.view_is) c.numbered.ensures.below) in
+    let kept_at = reasons_here (the_view c.self.inside) c.args.self.now c.args.place c.index.result.now c.self.view_is c.self.invariant c.requires c.index.ensures in
+    let count = reasons_before c.args.self.now c.args.place _ c.index-side.result.now here c.index.result.now kept_at in
+    omega (arith, small, count, ap length c.sets-reasons.ensures, c.len-numbers.ensures.len, c.len-numbers.ensures.bound)
 
 pub returns-clause-looked : goal.returns-clause-looked
 returns-clause-looked c problem h within shown =
-    let l : c.args.place < length c.self.inside.list.items = rw (← c.self.view_is) at c.requires in
-    let choice_at = choice_here (the_view c.self.inside) c.args.place c.choices.result.now (record { first = 0; sides = 0 }) c.self.invariant l c.choices.ensures in
-    let side_at = item_here c.self.inside.list.items c.args.place c.index-side.result.now l c.index-side.ensures in
-    let search_was : IsSearch problem (the_view c.self.inside) = rw (← c.self.view_is) at h in
-    let within_was : IsWithin (the_view c.self.inside) (c.args.place + 1) (set_of c.args.set) = subst (λ (s : Stand). IsWithin s (c.args.place + 1) (set_of c.args.set)) (sym c.self.view_is) within in
-    let shown_was : IsShown problem (the_view c.self.inside) (set_of c.args.set) = rw (← c.self.view_is) at shown in
-    let has = rw c.from.ensures at c.if-not-contains.ensures in
-    let is : c.index.result.now ≡ slice_index_or c.self.inside.reasons.items c.args.place c.index.result.now = c.index.ensures in
-    let in_reasons : c.args.place < length c.self.inside.reasons.items = omega (arith, l, reasons_count (the_view c.self.inside) c.self.invariant) in
-    let kept_at = item_here c.self.inside.reasons.items c.args.place c.index.result.now in_reasons is in
-    let m_is = rw (c.from.ensures, c.sets-reasons.ensures) at c.in_ok-joined.ensures in
-    subst (λ (s : Stand). IsWithin s c.args.place (set_of c.in_ok-joined.field-0) × IsShown problem s (set_of c.in_ok-joined.field-0)) c.self.view_is
-    (looked_joined problem (the_view c.self.inside) c.args.place _ c.index-side.result.now (set_of c.args.set) c.self.invariant choice_at side_at search_was within_was shown_was
-        (set_of c.in_ok-joined.field-0) c.index.result.now c.if-side-choice.false kept_at (sym has) m_is)
+    let here = stands_here (the_view c.self.inside) c.args.self.now c.args.place c.choices.result.now (record { first = 0; sides = 0 }) c.index-side.result.now c.self.view_is c.self.invariant c.requires c.choices.ensures c.index-side.ensures in
+    let kept_at = reasons_here (the_view c.self.inside) c.args.self.now c.args.place c.index.result.now c.self.view_is c.self.invariant c.requires c.index.ensures in
+    looked_joined problem c.args.self.now c.args.place _ c.index-side.result.now _ here h within shown _ c.index.result.now c.if-side-choice.false kept_at (sym (rw c.from.ensures at c.if-not-contains.ensures))
+    (rw (c.from.ensures, c.sets-reasons.ensures) at c.in_ok-joined.ensures)
