@@ -131,7 +131,6 @@ moved_to s list reasons count w = record s { list = list; reasons = take count (
 
 module _ (s : Stand) (j : ℕ) (n w list : List ℕ) (reasons : List (List (List ℕ))) (count : ℕ) (stand : IsStand s) (may : MayAdvance s j) (list_is : list ≡ advanced s.list j) (reasons_are : reasons ≡ reasons_advanced s.reasons j n)
     (counted : length reasons ≡ count) where
-
   moved_is : moved_to s list reasons count w ≡ record s { list = advanced s.list j; reasons = reasons_advanced s.reasons j n; worldview = w }
   moved_is = rw (written s.reasons reasons count counted, list_is, reasons_are) refl
 

@@ -64,7 +64,6 @@ its_side (x ∷ cs) zero c side e is_side = or_true_left (is_side_of x (hypothet
 its_side (x ∷ cs) (suc j) c side e is_side = or_true_right (is_side_of x (hypothetical c side)) (is_hypothetical cs (hypothetical c side)) (its_side cs j c side e is_side)
 
 module _ (s : Stand) (j : ℕ) (c : Choice) (side : ℕ) (here : StandsAt s j c side) where
-
   pub is_its_side : IsSide c side
   is_its_side = zip_both IsSide (choices_in s) s.list j c side here.stand.is_list here.choice_at here.side_at
 
@@ -79,7 +78,6 @@ module _ (s : Stand) (j : ℕ) (c : Choice) (side : ℕ) (here : StandsAt s j c 
 -- ---- what a shown set shows of the choice at a place, where it holds no side of a later one
 
 module _ (problem : Problem) (s : Stand) (j : ℕ) (c : Choice) (side : ℕ) (n : Members) (here : StandsAt s j c side) (h : IsSearch problem s) (within : IsWithin s (j + 1) n) (shown : IsShown problem s n) where
-
   within_more : IsWithin s (suc j) n
   within_more =
       let e : j + 1 ≡ suc j = omega arith in
@@ -104,8 +102,7 @@ module _ (problem : Problem) (s : Stand) (j : ℕ) (c : Choice) (side : ℕ) (n 
       let e : side ≡ c.sides = omega (arith, last, is_side.1) in
       let side_at : slice_get s.list j ≡ Some c.sides = rw e at here.side_at in
       let holds_last : IsTrue (n (hypothetical c c.sides)) = rw e at holds in
-      let m_last : IsSame m (union (without n (hypothetical c c.sides)) (others_of c.first kept)) = rw e at m_is in
-      (
+      let m_last : IsSame m (union (without n (hypothetical c c.sides)) (others_of c.first kept)) = rw e at m_is in (
         within_earlier problem s j c n m kept here.stand here.choice_at side_at kept_at within_more holds_last m_last h shown,
         still_shown problem s j c n m kept here.stand here.choice_at side_at kept_at within_more holds_last m_last h shown,
       )

@@ -49,7 +49,7 @@ beside_of : (s : Stand) (j : ℕ) (c : Choice) (side : ℕ) (n : Members) → sl
 beside_of s j c side n choice_at side_at within p in_n other =
     elim (or_cases (users_of s p) (hypotheticals_of (take (suc j) (choices_in s)) (take (suc j) s.list) p) (within p in_n)) [
       | inl u ↦ inl u
-      | inr t ↦ elim (taken_last (choices_in s) s.list j c side p choice_at side_at t) [ | inl e ↦ inr e | inr e ↦ absurd (other e) ]
+      | inr t ↦ elim (taken_last (choices_in s) s.list j c side p choice_at side_at t) [ inl e ↦ inr e | inr e ↦ absurd (other e) ]
     ]
 
 -- a shown set that holds the side on which a choice stands, and no later side, is a reason against it
@@ -163,7 +163,6 @@ apart_of problem s j c side r p stand choice_at k in_r other = elim (k.beside p 
 module _ (problem : Problem) (s : Stand) (j : ℕ) (c : Choice) (n m : Members) (kept : List (List ℕ)) (stand : IsStand s) (choice_at : slice_get (choices_in s) j ≡ Some c)
     (side_at : slice_get s.list j ≡ Some c.sides) (kept_at : slice_get s.reasons j ≡ Some kept) (within : IsWithin s (suc j) n) (holds : IsTrue (n (hypothetical c c.sides)))
     (m_is : IsSame m (union (without n (hypothetical c c.sides)) (others_of c.first kept))) (h : IsSearch problem s) (shown : IsShown problem s n) where
-
   abbrev r : ℕ → Members
   r = against_each kept n
 
@@ -279,7 +278,7 @@ believed_within s n stand part p in_n = elim (or_cases (users_of s p) (hypotheti
 -- a shown set within no choices rules out every list
 pub shown_rules_out : (problem : Problem) (s : Stand) (n : Members) → IsWithin s 0 n → IsShown problem s n → IsRuledOut problem (users_of s) (choices_in s) s.listed n
 shown_rules_out problem s n within shown = record {
-  believes = λ p in_n. elim (or_cases (users_of s p) false (within p in_n)) [ | inl u ↦ u | inr t ↦ absurd (both t refl) ];
+  believes = λ p in_n. elim (or_cases (users_of s p) false (within p in_n)) [ inl u ↦ u | inr t ↦ absurd (both t refl) ];
   refuted = shown.refuted;
   grounded = shown.grounded;
   covered = shown.covered;

@@ -10,8 +10,7 @@ pub loop-place-init : goal.loop-place-init
 loop-place-init c problem h nogood listed =
     let stand : IsStand c.args.self.now = subst (λ (s : Stand). IsStand s) c.self.view_is c.self.invariant in
     let sides : length c.self.inside.list.items ≡ length c.args.self.now.list = ap (λ (s : Stand). length s.list) c.self.view_is in
-    let count : length (choices_in c.args.self.now) ≡ c.len-place.result = omega (arith, sides, choices_count c.args.self.now stand, c.len-place.ensures, c.self.inside.list.ok) in
-    (
+    let count : length (choices_in c.args.self.now) ≡ c.len-place.result = omega (arith, sides, choices_count c.args.self.now stand, c.len-place.ensures, c.self.inside.list.ok) in (
       subst (λ (k : ℕ). IsWithin c.args.self.now k (set_of c.args.nogood)) count (believed_within c.args.self.now (set_of c.args.nogood) stand c.requires.believed),
       nogood_shown problem c.args.self.now (set_of c.args.nogood) nogood listed,
     )
