@@ -1,5 +1,4 @@
-use Rattle.std.proofs.Common.{◌≡◌, ◌*◌, ◌<◌, ◌≤◌, length, slice_index_or, Fits, w16, w64, sym, ap, arith}
-use Rattle.prop_amb.specs.Search.{Stand}
+use Rattle.std.proofs.Common.{◌<◌, length, sym, ap, arith}
 use Rattle.prop_amb.specs.contracts.search.Search.{the_view}
 use Rattle.prop_amb.proofs.LookingLaws.{choices_count, reasons_count, stands_here, reasons_here, is_its_side, side_small, reasons_before, looked_free, looked_reason, looked_joined}
 use Rattle.prop_amb.proofs.search.Search.looked_at.Goals as goal
