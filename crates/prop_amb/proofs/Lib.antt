@@ -2,6 +2,7 @@ pub mod AdvancingLaws
 pub mod Blocked
 pub mod Consistent
 pub mod CountLaws
+pub mod DecidingLaws
 pub mod DeclaringLaws
 pub mod GoingLaws
 pub mod GroundedLaws
