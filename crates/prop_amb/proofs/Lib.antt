@@ -9,11 +9,13 @@ pub mod GroundedLaws
 pub mod JoinLaws
 pub mod KeepingLaws
 pub mod MetLaws
+pub mod OnWay
 pub mod PlaceLemmas
 pub mod ProblemLaws
 pub mod RefutedLaws
 pub mod ResolvingLaws
 pub mod RunLaws
 pub mod SearchLaws
+pub mod SettlingLaws
 pub mod StandLaws
 pub mod ZipLemmas
