@@ -10,11 +10,12 @@ use Rattle.prop_cells.specs.Problems.{Premises, Problem, Assignment, IsConsisten
 use Rattle.prop_cells.specs.Data.{Data, IsFree, beliefs, problem_of}
 use Rattle.prop_scheduler.specs.Turns.{IsUnderWay, IsSettled}
 use Rattle.prop_scheduler.specs.Potential.{potential, most_steps}
-use Rattle.prop_amb.specs.Refuted.{IsListRefuted, IsFirstConsistent}
+use Rattle.prop_amb.specs.Refuted.{IsListRefuted, IsFirstConsistent, IsRuledOut}
 use Rattle.prop_amb.specs.Search.{Stand, IsStand, IsSearch, users_of, choices_in, Moves}
-use Rattle.prop_amb.specs.Settling.{IsHeld}
+use Rattle.prop_amb.specs.Settling.{IfContradiction, IsHeld}
 use Rattle.prop_amb.specs.Going.{Goes, IsMove}
 use Rattle.prop_amb.specs.Going.Goes.{none, moved}
+use Rattle.prop_amb.specs.declared.outcome.Outcome.{Outcome}
 use Rattle.prop_amb.specs.declared.settling.Tried.{Tried}
 use Rattle.prop_amb.specs.declared.settling.Tried.TheVariants.{Quiet, Spent}
 use Rattle.prop_amb.proofs.Consistent.{settled_consistent}
@@ -22,6 +23,7 @@ use Rattle.prop_amb.proofs.CountLaws.{place_below, earlier_place, few_within, fe
 use Rattle.prop_amb.proofs.GoingLaws.{goes_on}
 use Rattle.prop_amb.proofs.MetLaws.{believes_worldview}
 use Rattle.prop_amb.proofs.OnWay.{IsResting, IsStart, OnWay, Attempted, OnTry}
+use Rattle.prop_amb.proofs.RunLaws.{same_problem}
 use Rattle.prop_amb.proofs.SearchLaws.{kept_refute}
 
 -- ---- numbers
@@ -46,6 +48,28 @@ moved_few further more most steps few lt =
 -- cells whose contents alone differ pose one problem
 pub same_in : (library : List Stored) (start d : Data) → d ≡ record start { contents = d.contents } → problem_of library d ≡ problem_of library start
 same_in library start d rest = λ i. problem_of library (rest i)
+
+-- ---- the library stays
+
+pub search_in : {L : Type 0} (stored : L → List Stored) (a b : L) (start d : Data) (s : Stand) → b ≡ a → d ≡ record start { contents = d.contents } → IsSearch (problem_of (stored b) d) s → IsSearch (problem_of (stored a) start) s
+search_in stored a b start d s same rest h = subst (λ p. IsSearch p s) (same_problem stored a b start d same rest) h
+
+pub search_from : {L : Type 0} (stored : L → List Stored) (a b : L) (start d : Data) (s : Stand) → b ≡ a → d ≡ record start { contents = d.contents } → IsSearch (problem_of (stored a) start) s → IsSearch (problem_of (stored b) d) s
+search_from stored a b start d s same rest h = subst (λ p. IsSearch p s) (sym (same_problem stored a b start d same rest)) h
+
+pub attempted_in : {L O : Type 0} (stored : L → List Stored) (a b : L) (picks : O → ℕ → ℕ → O → Type 0) (s : Stand) (d : Data) (waiting : List ℕ) (order : O) (budget : ℕ) (tried : Tried) (calls : ℕ) (new : Stand) (cells : Data) (after : List ℕ) (next : O) → b ≡ a →
+    Attempted picks (stored b) s d waiting order budget tried calls new cells after next → Attempted picks (stored a) s d waiting order budget tried calls new cells after next
+attempted_in stored a b picks s d waiting order budget tried calls new cells after next same h =
+    subst (λ l. Attempted picks (stored l) s d waiting order budget tried calls new cells after next) same h
+
+pub contradiction_in : {L : Type 0} (stored : L → List Stored) (a b : L) (start d : Data) (s new : Stand) (outcome : Outcome) → b ≡ a → d ≡ record start { contents = d.contents } → new ≡ s →
+    IfContradiction outcome (λ n. IsRuledOut (problem_of (stored b) d) (users_of s) (choices_in s) s.listed (set_of n)) → IfContradiction outcome (λ n. IsRuledOut (problem_of (stored a) start) (users_of new) (choices_in new) new.listed (set_of n))
+contradiction_in stored a b start d s new outcome same rest as_was h =
+    subst (λ (x : Stand). IfContradiction outcome (λ n. IsRuledOut (problem_of (stored a) start) (users_of x) (choices_in x) x.listed (set_of n))) (sym as_was)
+    (subst (λ p. IfContradiction outcome (λ n. IsRuledOut p (users_of s) (choices_in s) s.listed (set_of n))) (same_problem stored a b start d same rest) h)
+
+pub held_in : {L : Type 0} (stored : L → List Stored) (a b : L) (d : Data) (s new : Stand) → b ≡ a → new ≡ s → IsHeld (problem_of (stored b) d) s → IsHeld (problem_of (stored a) d) new
+held_in stored a b d s new same as_was h = subst (λ (x : Stand). IsHeld (problem_of (stored a) d) x) (sym as_was) (subst (λ l. IsHeld (problem_of (stored l) d) s) same h)
 
 module _ {O : Type 0} (picks : O → ℕ → ℕ → O → Type 0) (library : List Stored) (old : Stand) (start : Data) (line : List ℕ) (first : O) where
   abbrev choices : List Choice

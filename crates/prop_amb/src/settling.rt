@@ -169,6 +169,7 @@ pub fn settle<R: Rule + Drop, O: Order>(
     ensures at_rest { IfOk result (λ r. agenda.old.line ≡ [] → IsFree (set_of search.old.worldview) network.old.cells → has_part search.old.listed (set_of search.old.worldview) ≡ false → (r.0 ≡ Outcome.Settled) × (r.1 ≡ 0)) }
     ensures gone { IfOk result (λ r. Goes O.picks (stored_of R.value_of network.old.library) (users_of search.old) (choices_in search.old) search.old.list network.old.cells agenda.old.line order.old r.1 search.new.list network.new.cells agenda.new.line order.new) }
 {
+    search.well_made();
     let mut steps: u64 = 0;
     loop {
         let (tried, calls) = attempt(alloc, search, network, agenda, order, budget - steps)?;

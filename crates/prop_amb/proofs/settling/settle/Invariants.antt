@@ -1,19 +1,15 @@
-use Rattle.std.proofs.Common.{◌≡◌, ◌⊎◌, ℕ, ◌+◌, ◌*◌, ◌<◌, ◌≤◌, [], true, false, IsTrue, length, Ok, Some, None, IfOk, IfSome, OnErr, ◌-◌}
-use Rattle.prop_premises.specs.Sets.{Members, set_of}
-use Rattle.prop_premises.specs.ChoiceLists.{lists_count}
-use Rattle.prop_procedures.specs.Kept.{AllMean, stored_of}
-use Rattle.prop_cells.specs.Data.{problem_of, beliefs, IsFree}
-use Rattle.prop_scheduler.specs.Turns.{IsUnderWay, IsSettled, Turns}
-use Rattle.prop_scheduler.specs.Potential.{potential, most_steps}
-use Rattle.prop_nogoods.specs.Stores.{has_part}
-use Rattle.prop_amb.specs.Refuted.{IsListRefuted, AllBeforeRefuted, IsFirstConsistent, IsRuledOut}
-use Rattle.prop_amb.specs.Search.{users_of, choices_in, IsStand, IsSearch, AllBeforeBlocked, Moves}
-use Rattle.prop_amb.specs.Going.{IsMove, Goes}
-use Rattle.prop_amb.specs.Settling.{IfContradiction, IfRefuted, IsMet, IsHeld}
+use Rattle.std.proofs.Common.{◌≡◌, ◌≤◌, ◌-◌}
+use Rattle.prop_procedures.specs.Kept.{stored_of}
+use Rattle.prop_amb.proofs.OnWay.{OnWay}
 use Rattle.prop_amb.proofs.settling.settle.Given as goal
 
 abbrev pub invariant-loop-tried : goal.invariant-loop-tried
-invariant-loop-tried g l = ?
+invariant-loop-tried g l = record {
+  same : l.network.library ≡ l.fn.network.library;
+  room : l.agenda.room ≡ l.fn.agenda.room;
+  within : l.steps ≤ l.budget;
+  way : OnWay g.O.Order.picks (stored_of g.R.Rule.value_of l.fn.network.library) l.fn.search l.fn.network.cells l.fn.agenda.line l.fn.order l.search l.network.cells l.agenda.line l.order l.steps;
+}
 
 abbrev pub decreases-loop-tried : goal.decreases-loop-tried
-decreases-loop-tried g l = ?
+decreases-loop-tried g l = l.budget - l.steps
