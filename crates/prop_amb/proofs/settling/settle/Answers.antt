@@ -44,35 +44,43 @@ pub attempt-requires-clause-search : goal.attempt-requires-clause-search
 attempt-requires-clause-search g c =
     search_from (stored_of g.R.Rule.value_of) c.args.network.now.library c.loop-tried.network.library c.args.network.now.cells c.loop-tried.network.cells c.loop-tried.search c.loop-tried.invariant.same c.loop-tried.invariant.way.rest c.loop-tried.invariant.way.search
 
-pub returns-in_err-tried : goal.returns-in_err-tried
-returns-in_err-tried g c =
-    let same = c.loop-tried.invariant.same in
-    let way = c.loop-tried.invariant.way in
-    let learned : IsSearch (problem_of (stored_of g.R.Rule.value_of c.args.network.now.library) c.args.network.now.cells) c.attempt.new.search =
-    search_in (stored_of g.R.Rule.value_of) c.args.network.now.library c.loop-tried.network.library c.args.network.now.cells c.loop-tried.network.cells c.attempt.new.search same way.rest c.attempt.ensures.search in
-    record {
-      same = c.attempt.ensures.same ∙ same;
-      rest = c.attempt.ensures.rest ∙ (λ i. record (way.rest i) { contents = c.attempt.new.network.cells.contents });
-      room = c.attempt.ensures.room ∙ c.loop-tried.invariant.room;
-      premises = ap (λ (s : Stand). s.premises) c.attempt.ensures.only ∙ way.premises;
-      listed = λ m t. c.attempt.ensures.listed m (way.listed m t);
-      search = learned;
-      under_way = subst (λ w. IsUnderWay (stored_of g.R.Rule.value_of c.args.network.now.library) (set_of w) c.attempt.new.network.cells c.attempt.new.agenda.line) (sym (ap (λ (s : Stand). s.worldview) c.attempt.ensures.only)) (rw same at c.attempt.ensures.under_way);
-      settled = tt;
-      first = tt;
-      rests = tt;
-      contradiction = tt;
-      passed = kept_block (problem_of (stored_of g.R.Rule.value_of c.args.network.now.library) c.args.network.now.cells) c.attempt.new.search c.attempt.ensures.stand learned.reasons;
-      earlier = kept_refute (problem_of (stored_of g.R.Rule.value_of c.args.network.now.library) c.args.network.now.cells) c.attempt.new.search c.attempt.ensures.stand learned.reasons;
-      spent = tt;
-      steps = tt;
-      moves = tt;
-      earned = tt;
-      left = tt;
-      falls = tt;
-      at_rest = tt;
-      gone = tt;
-    }
+pub returns-in_err-tried-clause-same : goal.returns-in_err-tried-clause-same
+returns-in_err-tried-clause-same g c =
+    c.attempt.ensures.same ∙ c.loop-tried.invariant.same
+
+pub returns-in_err-tried-clause-rest : goal.returns-in_err-tried-clause-rest
+returns-in_err-tried-clause-rest g c =
+    c.attempt.ensures.rest ∙ (λ i. record (c.loop-tried.invariant.way.rest i) { contents = c.attempt.new.network.cells.contents })
+
+pub returns-in_err-tried-clause-room : goal.returns-in_err-tried-clause-room
+returns-in_err-tried-clause-room g c =
+    c.attempt.ensures.room ∙ c.loop-tried.invariant.room
+
+pub returns-in_err-tried-clause-premises : goal.returns-in_err-tried-clause-premises
+returns-in_err-tried-clause-premises g c =
+    ap (λ (s : Stand). s.premises) c.attempt.ensures.only ∙ c.loop-tried.invariant.way.premises
+
+pub returns-in_err-tried-clause-listed : goal.returns-in_err-tried-clause-listed
+returns-in_err-tried-clause-listed g c =
+    λ m t. c.attempt.ensures.listed m (c.loop-tried.invariant.way.listed m t)
+
+pub returns-in_err-tried-clause-search : goal.returns-in_err-tried-clause-search
+returns-in_err-tried-clause-search g c =
+    search_in (stored_of g.R.Rule.value_of) c.args.network.now.library c.loop-tried.network.library c.args.network.now.cells c.loop-tried.network.cells c.attempt.new.search c.loop-tried.invariant.same c.loop-tried.invariant.way.rest c.attempt.ensures.search
+
+pub returns-in_err-tried-clause-under_way : goal.returns-in_err-tried-clause-under_way
+returns-in_err-tried-clause-under_way g c =
+    subst (λ w. IsUnderWay (stored_of g.R.Rule.value_of c.args.network.now.library) (set_of w) c.attempt.new.network.cells c.attempt.new.agenda.line) (sym (ap (λ (s : Stand). s.worldview) c.attempt.ensures.only)) (rw c.loop-tried.invariant.same at c.attempt.ensures.under_way)
+
+pub returns-in_err-tried-clause-passed : goal.returns-in_err-tried-clause-passed
+returns-in_err-tried-clause-passed g c =
+    let learned : IsSearch (problem_of (stored_of g.R.Rule.value_of c.args.network.now.library) c.args.network.now.cells) c.attempt.new.search = search_in (stored_of g.R.Rule.value_of) c.args.network.now.library c.loop-tried.network.library c.args.network.now.cells c.loop-tried.network.cells c.attempt.new.search c.loop-tried.invariant.same c.loop-tried.invariant.way.rest c.attempt.ensures.search in
+    kept_block (problem_of (stored_of g.R.Rule.value_of c.args.network.now.library) c.args.network.now.cells) c.attempt.new.search c.attempt.ensures.stand learned.reasons
+
+pub returns-in_err-tried-clause-earlier : goal.returns-in_err-tried-clause-earlier
+returns-in_err-tried-clause-earlier g c =
+    let learned : IsSearch (problem_of (stored_of g.R.Rule.value_of c.args.network.now.library) c.args.network.now.cells) c.attempt.new.search = search_in (stored_of g.R.Rule.value_of) c.args.network.now.library c.loop-tried.network.library c.args.network.now.cells c.loop-tried.network.cells c.attempt.new.search c.loop-tried.invariant.same c.loop-tried.invariant.way.rest c.attempt.ensures.search in
+    kept_refute (problem_of (stored_of g.R.Rule.value_of c.args.network.now.library) c.args.network.now.cells) c.attempt.new.search c.attempt.ensures.stand learned.reasons
 
 pub decide-requires-clause-room : goal.decide-requires-clause-room
 decide-requires-clause-room g c =
@@ -84,57 +92,50 @@ pub decide-requires-clause-search : goal.decide-requires-clause-search
 decide-requires-clause-search g c =
     search_from (stored_of g.R.Rule.value_of) c.loop-tried.network.library c.attempt.new.network.library c.loop-tried.network.cells c.attempt.new.network.cells c.attempt.new.search c.attempt.ensures.same c.attempt.ensures.rest c.attempt.ensures.search
 
-pub returns-in_err-outcome : goal.returns-in_err-outcome
-returns-in_err-outcome g c =
-    let same = c.loop-tried.invariant.same in
-    let way = c.loop-tried.invariant.way in
-    let a : Attempted g.O.Order.picks (stored_of g.R.Rule.value_of c.loop-tried.network.library) c.loop-tried.search c.loop-tried.network.cells c.loop-tried.agenda.line c.loop-tried.order (c.args.budget - c.loop-tried.steps) c.in_ok-tried.tried c.in_ok-tried.calls c.attempt.new.search c.attempt.new.network.cells c.attempt.new.agenda.line c.attempt.new.order = record {
-      only = c.attempt.ensures.only;
-      kept = c.attempt.ensures.listed;
-      search = c.attempt.ensures.search;
-      stand = c.attempt.ensures.stand;
-      rest = c.attempt.ensures.rest;
-      under_way = c.attempt.ensures.under_way;
-      turns = c.in_ok-tried.ensures.turns;
-      quiet = c.in_ok-tried.ensures.quiet;
-      rests = c.in_ok-tried.ensures.rests;
-      spent = c.in_ok-tried.ensures.spent;
-      leaves = c.in_ok-tried.ensures.left;
-      earned = c.in_ok-tried.ensures.earned;
-      steps = c.in_ok-tried.ensures.steps;
-      at_rest = λ r. c.in_ok-tried.ensures.at_rest r.idle r.free r.unblocked;
-      falls = c.in_ok-tried.ensures.falls;
-      few = c.in_ok-tried.ensures.few;
-    } in
-    let x : OnTry g.O.Order.picks (stored_of g.R.Rule.value_of c.args.network.now.library) c.args.search.now c.args.network.now.cells c.args.agenda.now.line c.args.order.now c.attempt.new.search c.attempt.new.network.cells c.attempt.new.agenda.line c.attempt.new.order (c.loop-tried.steps + c.in_ok-tried.calls) c.args.budget c.in_ok-tried.tried =
-    after_try g.O.Order.picks (stored_of g.R.Rule.value_of c.args.network.now.library) c.args.search.now c.args.network.now.cells c.args.agenda.now.line c.args.order.now c.loop-tried.search c.loop-tried.network.cells c.loop-tried.agenda.line c.loop-tried.order c.loop-tried.steps c.args.budget c.in_ok-tried.tried c.in_ok-tried.calls c.attempt.new.search c.attempt.new.network.cells c.attempt.new.agenda.line c.attempt.new.order way c.loop-tried.invariant.within
-    (attempted_in (stored_of g.R.Rule.value_of) c.args.network.now.library c.loop-tried.network.library g.O.Order.picks c.loop-tried.search c.loop-tried.network.cells c.loop-tried.agenda.line c.loop-tried.order (c.args.budget - c.loop-tried.steps) c.in_ok-tried.tried c.in_ok-tried.calls c.attempt.new.search c.attempt.new.network.cells c.attempt.new.agenda.line c.attempt.new.order same a) in
-    let both : c.attempt.new.network.library ≡ c.args.network.now.library = c.attempt.ensures.same ∙ same in
-    let learned : IsSearch (problem_of (stored_of g.R.Rule.value_of c.args.network.now.library) c.args.network.now.cells) c.decide.new.search =
-    search_in (stored_of g.R.Rule.value_of) c.args.network.now.library c.attempt.new.network.library c.args.network.now.cells c.attempt.new.network.cells c.decide.new.search both x.rest c.decide.ensures.search in
-    record {
-      same = both;
-      rest = x.rest;
-      room = c.decide.ensures.room ∙ c.attempt.ensures.room ∙ c.loop-tried.invariant.room;
-      premises = c.decide.ensures.premises ∙ x.premises;
-      listed = λ m t. rw c.decide.ensures.listed (x.listed m t);
-      search = learned;
-      under_way = rw both at c.decide.ensures.under_way;
-      settled = tt;
-      first = tt;
-      rests = tt;
-      contradiction = tt;
-      passed = kept_block (problem_of (stored_of g.R.Rule.value_of c.args.network.now.library) c.args.network.now.cells) c.decide.new.search c.decide.ensures.stand learned.reasons;
-      earlier = kept_refute (problem_of (stored_of g.R.Rule.value_of c.args.network.now.library) c.args.network.now.cells) c.decide.new.search c.decide.ensures.stand learned.reasons;
-      spent = tt;
-      steps = tt;
-      moves = tt;
-      earned = tt;
-      left = tt;
-      falls = tt;
-      at_rest = tt;
-      gone = tt;
-    }
+pub returns-in_err-outcome-clause-same : goal.returns-in_err-outcome-clause-same
+returns-in_err-outcome-clause-same g c =
+    c.attempt.ensures.same ∙ c.loop-tried.invariant.same
+
+pub returns-in_err-outcome-clause-rest : goal.returns-in_err-outcome-clause-rest
+returns-in_err-outcome-clause-rest g c =
+    c.attempt.ensures.rest ∙ (λ i. record (c.loop-tried.invariant.way.rest i) { contents = c.attempt.new.network.cells.contents })
+
+pub returns-in_err-outcome-clause-room : goal.returns-in_err-outcome-clause-room
+returns-in_err-outcome-clause-room g c =
+    c.decide.ensures.room ∙ c.attempt.ensures.room ∙ c.loop-tried.invariant.room
+
+pub returns-in_err-outcome-clause-premises : goal.returns-in_err-outcome-clause-premises
+returns-in_err-outcome-clause-premises g c =
+    c.decide.ensures.premises ∙ ap (λ (s : Stand). s.premises) c.attempt.ensures.only ∙ c.loop-tried.invariant.way.premises
+
+pub returns-in_err-outcome-clause-listed : goal.returns-in_err-outcome-clause-listed
+returns-in_err-outcome-clause-listed g c =
+    λ m t. rw c.decide.ensures.listed (c.attempt.ensures.listed m (c.loop-tried.invariant.way.listed m t))
+
+pub returns-in_err-outcome-clause-search : goal.returns-in_err-outcome-clause-search
+returns-in_err-outcome-clause-search g c =
+    let both = c.attempt.ensures.same ∙ c.loop-tried.invariant.same in
+    let rest : c.attempt.new.network.cells ≡ record c.args.network.now.cells { contents = c.attempt.new.network.cells.contents } = c.attempt.ensures.rest ∙ (λ i. record (c.loop-tried.invariant.way.rest i) { contents = c.attempt.new.network.cells.contents }) in
+    search_in (stored_of g.R.Rule.value_of) c.args.network.now.library c.attempt.new.network.library c.args.network.now.cells c.attempt.new.network.cells c.decide.new.search both rest c.decide.ensures.search
+
+pub returns-in_err-outcome-clause-under_way : goal.returns-in_err-outcome-clause-under_way
+returns-in_err-outcome-clause-under_way g c =
+    let both = c.attempt.ensures.same ∙ c.loop-tried.invariant.same in
+    rw both at c.decide.ensures.under_way
+
+pub returns-in_err-outcome-clause-passed : goal.returns-in_err-outcome-clause-passed
+returns-in_err-outcome-clause-passed g c =
+    let both = c.attempt.ensures.same ∙ c.loop-tried.invariant.same in
+    let rest : c.attempt.new.network.cells ≡ record c.args.network.now.cells { contents = c.attempt.new.network.cells.contents } = c.attempt.ensures.rest ∙ (λ i. record (c.loop-tried.invariant.way.rest i) { contents = c.attempt.new.network.cells.contents }) in
+    let learned : IsSearch (problem_of (stored_of g.R.Rule.value_of c.args.network.now.library) c.args.network.now.cells) c.decide.new.search = search_in (stored_of g.R.Rule.value_of) c.args.network.now.library c.attempt.new.network.library c.args.network.now.cells c.attempt.new.network.cells c.decide.new.search both rest c.decide.ensures.search in
+    kept_block (problem_of (stored_of g.R.Rule.value_of c.args.network.now.library) c.args.network.now.cells) c.decide.new.search c.decide.ensures.stand learned.reasons
+
+pub returns-in_err-outcome-clause-earlier : goal.returns-in_err-outcome-clause-earlier
+returns-in_err-outcome-clause-earlier g c =
+    let both = c.attempt.ensures.same ∙ c.loop-tried.invariant.same in
+    let rest : c.attempt.new.network.cells ≡ record c.args.network.now.cells { contents = c.attempt.new.network.cells.contents } = c.attempt.ensures.rest ∙ (λ i. record (c.loop-tried.invariant.way.rest i) { contents = c.attempt.new.network.cells.contents }) in
+    let learned : IsSearch (problem_of (stored_of g.R.Rule.value_of c.args.network.now.library) c.args.network.now.cells) c.decide.new.search = search_in (stored_of g.R.Rule.value_of) c.args.network.now.library c.attempt.new.network.library c.args.network.now.cells c.attempt.new.network.cells c.decide.new.search both rest c.decide.ensures.search in
+    kept_refute (problem_of (stored_of g.R.Rule.value_of c.args.network.now.library) c.args.network.now.cells) c.decide.new.search c.decide.ensures.stand learned.reasons
 
 pub returns-in-Some : goal.returns-in-Some
 returns-in-Some g c =
