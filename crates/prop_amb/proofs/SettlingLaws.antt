@@ -1,13 +1,13 @@
 -- One list after the other: an attempt on the way, a move to a later list, and the end.
-use Rattle.std.proofs.Common.{◌≡◌, ◌∙◌, ℕ, ◌+◌, ◌-◌, ◌*◌, ◌<◌, ◌≤◌, ◌⊎◌, List, [], length, refl, sym, ap, subst, inl, inr, arith}
+use Rattle.std.proofs.Common.{◌≡◌, ◌∙◌, ℕ, ◌+◌, ◌-◌, ◌*◌, ◌<◌, ◌≤◌, ◌⊎◌, List, refl, sym, ap, subst, inl, inr, arith}
 use Rattle.std.proofs.Math.Nat.{mul-le-mul_right, add-mul}
-use Rattle.prop_premises.specs.Sets.{Members, set_of}
+use Rattle.prop_premises.specs.Sets.{set_of}
 use Rattle.prop_premises.specs.declared.choice.Choice.{Choice}
 use Rattle.prop_premises.specs.Origins.{Origin, believed_in, choices_of}
 use Rattle.prop_premises.specs.ChoiceLists.{IsChoiceList, worldview, place_of, lists_count}
 use Rattle.prop_procedures.specs.Stored.{Stored}
-use Rattle.prop_cells.specs.Problems.{Premises, Problem, Assignment, IsConsistent}
-use Rattle.prop_cells.specs.Data.{Data, IsFree, beliefs, problem_of}
+use Rattle.prop_cells.specs.Problems.{Problem, IsConsistent}
+use Rattle.prop_cells.specs.Data.{Data, beliefs, problem_of}
 use Rattle.prop_scheduler.specs.Turns.{IsUnderWay, IsSettled}
 use Rattle.prop_scheduler.specs.Potential.{potential, most_steps}
 use Rattle.prop_amb.specs.Refuted.{IsListRefuted, IsFirstConsistent, IsRuledOut}

@@ -18,7 +18,7 @@ use crate::search::Search;
 use prop_cells::Network;
 use prop_premises::PremiseSet;
 use prop_procedures::Rule;
-use prop_scheduler::{run, wake_all, Agenda, Order, Run};
+use prop_scheduler::{Agenda, Order, Run, run, wake_all};
 use std::alloc::{AllocError, Global};
 
 /// What came of one list of choices.

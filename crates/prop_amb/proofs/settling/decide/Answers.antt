@@ -2,7 +2,7 @@ use Rattle.std.proofs.Common.{inr}
 use Rattle.prop_procedures.specs.Kept.{stored_of}
 use Rattle.prop_cells.specs.Data.{problem_of}
 use Rattle.prop_amb.specs.Settling.{IsMet}
-use Rattle.prop_amb.specs.Resolving.{MayAdvance, IsReason}
+use Rattle.prop_amb.specs.Resolving.{IsReason}
 use Rattle.prop_premises.specs.Sets.{set_of}
 use Rattle.prop_amb.proofs.DecidingLaws.{held, goes_later}
 use Rattle.prop_amb.proofs.settling.decide.Goals as goal
@@ -28,6 +28,8 @@ pub returns-in_ok-advance-in-Against-clause-moves : goal.returns-in_ok-advance-i
 returns-in_ok-advance-in-Against-clause-moves g c =
     let met = rw c.in-Refuted.is at c.requires.met in
     let may = rw c.in-Against.is at c.in_ok-premises.ensures.may in
-    λ e. (c.if-not-may_move.false,
-        goes_later (stored_of g.R.Rule.value_of c.args.network.now.library) c.args.network.now.cells c.args.search.now c.in-Refuted.nogood c.in-Against.place c.advance.new.self.list c.wake_all.new.agenda.line c.well_made.ensures met may
-        c.in_ok-advance-in-Against.ensures.list c.wake_all.ensures.all)
+    λ e. (
+      c.if-not-may_move.false,
+      goes_later (stored_of g.R.Rule.value_of c.args.network.now.library) c.args.network.now.cells c.args.search.now c.in-Refuted.nogood c.in-Against.place c.advance.new.self.list c.wake_all.new.agenda.line c.well_made.ensures met may
+          c.in_ok-advance-in-Against.ensures.list c.wake_all.ensures.all,
+    )
