@@ -1,5 +1,5 @@
 //! Settling: the first list of choices that isn't refuted, and the least solution with it.
-ghost use Rattle.std.specs.Prelude.{◌≡◌, ◌⊎◌, ℕ, ◌+◌, ◌*◌, ◌<◌, ◌≤◌, [], true, false, IsTrue, length, Ok, Some, None, IfOk, IfSome, OnErr};
+ghost use Rattle.std.specs.Prelude.{◌≡◌, ◌⊎◌, ℕ, ◌+◌, ◌*◌, ◌<◌, ◌≤◌, [], true, false, IsTrue, length, Ok, Some, None, IfOk, IfSome};
 ghost use Rattle.prop_premises.specs.Sets.{Members, set_of};
 ghost use Rattle.prop_premises.specs.ChoiceLists.{lists_count};
 ghost use Rattle.prop_procedures.specs.Kept.{AllMean, stored_of};
