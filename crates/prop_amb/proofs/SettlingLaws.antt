@@ -1,5 +1,5 @@
 -- One list after the other: an attempt on the way, a move to a later list, and the end.
-use Rattle.std.proofs.Common.{◌≡◌, ◌∙◌, ℕ, ◌+◌, ◌-◌, ◌*◌, ◌<◌, ◌≤◌, ◌⊎◌, List, refl, sym, ap, subst, inl, inr, arith}
+use Rattle.std.proofs.Common.{◌≡◌, ◌∙◌, ℕ, ◌+◌, ◌-◌, ◌*◌, ◌<◌, ◌≤◌, ◌⊎◌, List, length, refl, sym, ap, subst, inl, inr, arith}
 use Rattle.std.proofs.Math.Nat.{mul-le-mul_right, add-mul}
 use Rattle.prop_premises.specs.Sets.{set_of}
 use Rattle.prop_premises.specs.declared.choice.Choice.{Choice}
@@ -48,6 +48,19 @@ moved_few further more most steps few lt =
 -- cells whose contents alone differ pose one problem
 pub same_in : (library : List Stored) (start d : Data) → d ≡ record start { contents = d.contents } → problem_of library d ≡ problem_of library start
 same_in library start d rest = λ i. problem_of library (rest i)
+
+-- what an attempt and a run leave as it was
+pub count_in : (start d : Data) → d ≡ record start { contents = d.contents } → length d.instances ≡ length start.instances
+count_in start d rest = λ i. length (rest i).instances
+
+pub rest_on : (start d new : Data) → d ≡ record start { contents = d.contents } → new ≡ record d { contents = new.contents } → new ≡ record start { contents = new.contents }
+rest_on start d new first then = then ∙ (λ i. record (first i) { contents = new.contents })
+
+pub premises_in : (s new : Stand) → new ≡ record s { listed = new.listed } → new.premises ≡ s.premises
+premises_in s new only = λ i. (only i).premises
+
+pub worldview_in : (s new : Stand) → new ≡ record s { listed = new.listed } → new.worldview ≡ s.worldview
+worldview_in s new only = λ i. (only i).worldview
 
 -- ---- the library stays
 
@@ -113,18 +126,18 @@ module _ {O : Type 0} (picks : O → ℕ → ℕ → O → Type 0) (library : Li
       let e : problem_of library d ≡ problem = same_in library start d way.rest in
       let few : calls ≤ most_steps problem = subst (λ p. calls ≤ most_steps p) e a.few in
       record {
-        premises = ap (λ (x : Stand). x.premises) a.only ∙ way.premises;
+        premises = premises_in s new a.only ∙ way.premises;
         listed = λ m t. a.kept m (way.listed m t);
         search = subst (λ p. IsSearch p new) e a.search;
         stand = a.stand;
-        rest = a.rest ∙ (λ i. record (way.rest i) { contents = cells.contents });
-        under_way = subst (λ w. IsUnderWay library (set_of w) cells after) (sym (ap (λ (x : Stand). x.worldview) a.only)) a.under_way;
+        rest = rest_on start d cells way.rest a.rest;
+        under_way = subst (λ w. IsUnderWay library (set_of w) cells after) (sym (worldview_in s new a.only)) a.under_way;
         gone = subst (λ l. Goes picks library (users_of old) choices old.list start line first (steps + calls) l cells after next) (sym (ap (λ (x : Stand). x.list) a.only))
             (goes_on picks library (users_of old) choices old.list start line first steps s.list d waiting order way.gone (set_of s.worldview) calls cells after next (believes_old s way.premises way.stand) a.turns);
         further = way.further;
         place = ap (λ (x : Stand). place_of choices x.list) a.only ∙ way.place;
         few = few_within way.further (most_steps problem) steps calls way.few few;
-        quiet = λ q. subst (λ w. IsSettled library (set_of w) cells) (sym (ap (λ (x : Stand). x.worldview) a.only)) (a.quiet q);
+        quiet = λ q. subst (λ w. IsSettled library (set_of w) cells) (sym (worldview_in s new a.only)) (a.quiet q);
         rests = a.rests;
         spent = λ q. all q (a.spent q);
         leaves = a.leaves;

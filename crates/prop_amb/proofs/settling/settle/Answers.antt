@@ -1,10 +1,10 @@
-use Rattle.std.proofs.Common.{◌≡◌, ◌∙◌, ◌+◌, ◌-◌, ◌⊎◌, false, nat_lt, length, Option, Some, None, Result, Ok, refl, sym, ap, subst, inl, inr, arith}
+use Rattle.std.proofs.Common.{◌≡◌, ◌∙◌, ◌+◌, ◌-◌, ◌⊎◌, false, nat_lt, Option, Some, None, Result, Ok, refl, sym, ap, subst, inl, inr, arith}
 use Rattle.std.proofs.lemmas.Bool.{ltb-false, ltb-true}
 use Rattle.prop_premises.specs.Sets.{set_of}
 use Rattle.prop_procedures.specs.Kept.{stored_of}
-use Rattle.prop_cells.specs.Data.{Data, problem_of}
+use Rattle.prop_cells.specs.Data.{problem_of}
 use Rattle.prop_scheduler.specs.Turns.{IsUnderWay}
-use Rattle.prop_amb.specs.Search.{Stand, IsSearch}
+use Rattle.prop_amb.specs.Search.{IsSearch}
 use Rattle.prop_amb.specs.Settling.{IsHeld}
 use Rattle.prop_amb.specs.declared.outcome.Outcome.{Outcome}
 use Rattle.prop_amb.specs.declared.outcome.Outcome.TheVariants.{Settled, Unsettled}
@@ -12,7 +12,7 @@ use Rattle.prop_amb.specs.declared.settling.Tried.TheVariants.{Quiet, Spent}
 use Rattle.prop_amb.proofs.Blocked.{kept_block}
 use Rattle.prop_amb.proofs.OnWay.{Attempted, OnTry}
 use Rattle.prop_amb.proofs.SearchLaws.{kept_refute}
-use Rattle.prop_amb.proofs.SettlingLaws.{search_in, search_from, attempted_in, contradiction_in, held_in, at_start, after_try, after_move, ended, first_consistent, all_moves, spent_earned, held_earned, held_refuted}
+use Rattle.prop_amb.proofs.SettlingLaws.{count_in, rest_on, premises_in, worldview_in, search_in, search_from, attempted_in, contradiction_in, held_in, at_start, after_try, after_move, ended, first_consistent, all_moves, spent_earned, held_earned, held_refuted}
 use Rattle.prop_amb.proofs.settling.settle.Goals as goal
 
 settled_at : {E : Type 0} {r : Result (Option Outcome) E} {o : Option Outcome} {outcome : Outcome} → r ≡ Ok (Some Settled) → r ≡ Ok o → o ≡ Some outcome → outcome ≡ Settled
@@ -37,7 +37,7 @@ attempt-requires-clause-under_way g c = rw c.loop-tried.invariant.same c.loop-tr
 
 pub attempt-requires-clause-room : goal.attempt-requires-clause-room
 attempt-requires-clause-room g c =
-    let count = ap (λ (d : Data). length d.instances) c.loop-tried.invariant.way.rest in
+    let count = count_in c.args.network.now.cells c.loop-tried.network.cells c.loop-tried.invariant.way.rest in
     omega (arith, count, c.loop-tried.invariant.room, c.requires.room)
 
 pub attempt-requires-clause-search : goal.attempt-requires-clause-search
@@ -50,7 +50,7 @@ returns-in_err-tried-clause-same g c =
 
 pub returns-in_err-tried-clause-rest : goal.returns-in_err-tried-clause-rest
 returns-in_err-tried-clause-rest g c =
-    c.attempt.ensures.rest ∙ (λ i. record (c.loop-tried.invariant.way.rest i) { contents = c.attempt.new.network.cells.contents })
+    rest_on c.args.network.now.cells c.loop-tried.network.cells c.attempt.new.network.cells c.loop-tried.invariant.way.rest c.attempt.ensures.rest
 
 pub returns-in_err-tried-clause-room : goal.returns-in_err-tried-clause-room
 returns-in_err-tried-clause-room g c =
@@ -58,7 +58,7 @@ returns-in_err-tried-clause-room g c =
 
 pub returns-in_err-tried-clause-premises : goal.returns-in_err-tried-clause-premises
 returns-in_err-tried-clause-premises g c =
-    ap (λ (s : Stand). s.premises) c.attempt.ensures.only ∙ c.loop-tried.invariant.way.premises
+    premises_in c.loop-tried.search c.attempt.new.search c.attempt.ensures.only ∙ c.loop-tried.invariant.way.premises
 
 pub returns-in_err-tried-clause-listed : goal.returns-in_err-tried-clause-listed
 returns-in_err-tried-clause-listed g c =
@@ -70,7 +70,7 @@ returns-in_err-tried-clause-search g c =
 
 pub returns-in_err-tried-clause-under_way : goal.returns-in_err-tried-clause-under_way
 returns-in_err-tried-clause-under_way g c =
-    subst (λ w. IsUnderWay (stored_of g.R.Rule.value_of c.args.network.now.library) (set_of w) c.attempt.new.network.cells c.attempt.new.agenda.line) (sym (ap (λ (s : Stand). s.worldview) c.attempt.ensures.only)) (rw c.loop-tried.invariant.same at c.attempt.ensures.under_way)
+    subst (λ w. IsUnderWay (stored_of g.R.Rule.value_of c.args.network.now.library) (set_of w) c.attempt.new.network.cells c.attempt.new.agenda.line) (sym (worldview_in c.loop-tried.search c.attempt.new.search c.attempt.ensures.only)) (rw c.loop-tried.invariant.same at c.attempt.ensures.under_way)
 
 pub returns-in_err-tried-clause-passed : goal.returns-in_err-tried-clause-passed
 returns-in_err-tried-clause-passed g c =
@@ -84,8 +84,8 @@ returns-in_err-tried-clause-earlier g c =
 
 pub decide-requires-clause-room : goal.decide-requires-clause-room
 decide-requires-clause-room g c =
-    let count = ap (λ (d : Data). length d.instances) c.loop-tried.invariant.way.rest in
-    let count' = ap (λ (d : Data). length d.instances) c.attempt.ensures.rest in
+    let count = count_in c.args.network.now.cells c.loop-tried.network.cells c.loop-tried.invariant.way.rest in
+    let count' = count_in c.loop-tried.network.cells c.attempt.new.network.cells c.attempt.ensures.rest in
     omega (arith, count, count', c.loop-tried.invariant.room, c.attempt.ensures.room, c.requires.room)
 
 pub decide-requires-clause-search : goal.decide-requires-clause-search
@@ -98,7 +98,7 @@ returns-in_err-outcome-clause-same g c =
 
 pub returns-in_err-outcome-clause-rest : goal.returns-in_err-outcome-clause-rest
 returns-in_err-outcome-clause-rest g c =
-    c.attempt.ensures.rest ∙ (λ i. record (c.loop-tried.invariant.way.rest i) { contents = c.attempt.new.network.cells.contents })
+    rest_on c.args.network.now.cells c.loop-tried.network.cells c.attempt.new.network.cells c.loop-tried.invariant.way.rest c.attempt.ensures.rest
 
 pub returns-in_err-outcome-clause-room : goal.returns-in_err-outcome-clause-room
 returns-in_err-outcome-clause-room g c =
@@ -106,7 +106,7 @@ returns-in_err-outcome-clause-room g c =
 
 pub returns-in_err-outcome-clause-premises : goal.returns-in_err-outcome-clause-premises
 returns-in_err-outcome-clause-premises g c =
-    c.decide.ensures.premises ∙ ap (λ (s : Stand). s.premises) c.attempt.ensures.only ∙ c.loop-tried.invariant.way.premises
+    c.decide.ensures.premises ∙ premises_in c.loop-tried.search c.attempt.new.search c.attempt.ensures.only ∙ c.loop-tried.invariant.way.premises
 
 pub returns-in_err-outcome-clause-listed : goal.returns-in_err-outcome-clause-listed
 returns-in_err-outcome-clause-listed g c =
@@ -115,7 +115,7 @@ returns-in_err-outcome-clause-listed g c =
 pub returns-in_err-outcome-clause-search : goal.returns-in_err-outcome-clause-search
 returns-in_err-outcome-clause-search g c =
     let both = c.attempt.ensures.same ∙ c.loop-tried.invariant.same in
-    let rest : c.attempt.new.network.cells ≡ record c.args.network.now.cells { contents = c.attempt.new.network.cells.contents } = c.attempt.ensures.rest ∙ (λ i. record (c.loop-tried.invariant.way.rest i) { contents = c.attempt.new.network.cells.contents }) in
+    let rest : c.attempt.new.network.cells ≡ record c.args.network.now.cells { contents = c.attempt.new.network.cells.contents } = rest_on c.args.network.now.cells c.loop-tried.network.cells c.attempt.new.network.cells c.loop-tried.invariant.way.rest c.attempt.ensures.rest in
     search_in (stored_of g.R.Rule.value_of) c.args.network.now.library c.attempt.new.network.library c.args.network.now.cells c.attempt.new.network.cells c.decide.new.search both rest c.decide.ensures.search
 
 pub returns-in_err-outcome-clause-under_way : goal.returns-in_err-outcome-clause-under_way
@@ -126,14 +126,14 @@ returns-in_err-outcome-clause-under_way g c =
 pub returns-in_err-outcome-clause-passed : goal.returns-in_err-outcome-clause-passed
 returns-in_err-outcome-clause-passed g c =
     let both = c.attempt.ensures.same ∙ c.loop-tried.invariant.same in
-    let rest : c.attempt.new.network.cells ≡ record c.args.network.now.cells { contents = c.attempt.new.network.cells.contents } = c.attempt.ensures.rest ∙ (λ i. record (c.loop-tried.invariant.way.rest i) { contents = c.attempt.new.network.cells.contents }) in
+    let rest : c.attempt.new.network.cells ≡ record c.args.network.now.cells { contents = c.attempt.new.network.cells.contents } = rest_on c.args.network.now.cells c.loop-tried.network.cells c.attempt.new.network.cells c.loop-tried.invariant.way.rest c.attempt.ensures.rest in
     let learned : IsSearch (problem_of (stored_of g.R.Rule.value_of c.args.network.now.library) c.args.network.now.cells) c.decide.new.search = search_in (stored_of g.R.Rule.value_of) c.args.network.now.library c.attempt.new.network.library c.args.network.now.cells c.attempt.new.network.cells c.decide.new.search both rest c.decide.ensures.search in
     kept_block (problem_of (stored_of g.R.Rule.value_of c.args.network.now.library) c.args.network.now.cells) c.decide.new.search c.decide.ensures.stand learned.reasons
 
 pub returns-in_err-outcome-clause-earlier : goal.returns-in_err-outcome-clause-earlier
 returns-in_err-outcome-clause-earlier g c =
     let both = c.attempt.ensures.same ∙ c.loop-tried.invariant.same in
-    let rest : c.attempt.new.network.cells ≡ record c.args.network.now.cells { contents = c.attempt.new.network.cells.contents } = c.attempt.ensures.rest ∙ (λ i. record (c.loop-tried.invariant.way.rest i) { contents = c.attempt.new.network.cells.contents }) in
+    let rest : c.attempt.new.network.cells ≡ record c.args.network.now.cells { contents = c.attempt.new.network.cells.contents } = rest_on c.args.network.now.cells c.loop-tried.network.cells c.attempt.new.network.cells c.loop-tried.invariant.way.rest c.attempt.ensures.rest in
     let learned : IsSearch (problem_of (stored_of g.R.Rule.value_of c.args.network.now.library) c.args.network.now.cells) c.decide.new.search = search_in (stored_of g.R.Rule.value_of) c.args.network.now.library c.attempt.new.network.library c.args.network.now.cells c.attempt.new.network.cells c.decide.new.search both rest c.decide.ensures.search in
     kept_refute (problem_of (stored_of g.R.Rule.value_of c.args.network.now.library) c.args.network.now.cells) c.decide.new.search c.decide.ensures.stand learned.reasons
 
