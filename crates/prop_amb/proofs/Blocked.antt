@@ -1,10 +1,10 @@
 -- Every list before the one that stands has a listed part.
-use Rattle.std.proofs.Common.{◌≡◌, ℕ, IsTrue, Bool, true, false, List, refl, inl, inr, ◌⊎◌, ◌||◌}
+use Rattle.std.proofs.Common.{◌≡◌, ℕ, IsTrue, Bool, true, false, Some, List, refl, inl, inr, ◌⊎◌, ◌||◌}
 use Rattle.std.proofs.lemmas.Bool.{cases_eq}
-use Rattle.prop_premises.specs.Sets.{Members, IsPart, union, set_of}
-use Rattle.prop_premises.specs.ChoiceLists.{hypothetical, IsChoiceList, hypotheticals_of, worldview}
+use Rattle.prop_premises.specs.Sets.{Members, union, set_of}
+use Rattle.prop_premises.specs.declared.choice.Choice.{Choice}
+use Rattle.prop_premises.specs.ChoiceLists.{hypothetical, hypotheticals_of, worldview}
 use Rattle.prop_cells.specs.Problems.{Problem}
-use Rattle.prop_nogoods.specs.Stores.{has_part}
 use Rattle.prop_nogoods.proofs.StoreLaws.{has_part-more}
 use Rattle.prop_amb.specs.Search.{Stand, IsStand, users_of, choices_in, reason_at, IsKept, AreKept, AllBeforeBlocked}
 use Rattle.prop_amb.proofs.StandLaws.{has_reason}

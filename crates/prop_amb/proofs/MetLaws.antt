@@ -1,12 +1,12 @@
 -- A nogood that is believed with the list on which the choices stand.
-use Rattle.std.proofs.Common.{◌≡◌, ◌∙◌, ℕ, zero, suc, IsTrue, true, List, [], ◌∷◌, Contains, Some, slice_get, refl, sym, subst, inl, inr, arith}
+use Rattle.std.proofs.Common.{◌≡◌, ◌∙◌, ℕ, zero, suc, IsTrue, List, [], ◌∷◌, Contains, Some, slice_get, refl, sym, inl, inr, arith}
 use Rattle.std.proofs.lemmas.List.Elements.{All-contains}
-use Rattle.prop_premises.specs.Sets.{Members, IsPart, IsSame, set_of, is_within}
+use Rattle.prop_premises.specs.Sets.{set_of, is_within}
 use Rattle.prop_premises.specs.ChoiceLists.{worldview, IsBefore}
 use Rattle.prop_premises.proofs.WithinLemmas.{within_has}
-use Rattle.prop_cells.specs.Problems.{Problem, IsContradictory}
+use Rattle.prop_cells.specs.Problems.{Problem}
 use Rattle.prop_cells.specs.Reach.{IsConflict}
-use Rattle.prop_nogoods.specs.Stores.{has_part, AddsSet}
+use Rattle.prop_nogoods.specs.Stores.{AddsSet}
 use Rattle.prop_nogoods.proofs.StoreLaws.{has_part-from}
 use Rattle.prop_amb.specs.Refuted.{IsNogood, IsListRefuted}
 use Rattle.prop_amb.specs.Search.{Stand, IsStand, IsSearch, users_of, choices_in}

@@ -1,30 +1,20 @@
 -- What a nogood shows of one choice after the other.
-use Rattle.std.proofs.Common.{◌≡◌, ◌∙◌, ℕ, zero, suc, ◌+◌, ◌-◌, ◌<◌, ◌≤◌, IsTrue, Bool, true, false, not, cond, nat_lt, List, [], ◌∷◌, ◌||◌, ◌&&◌, ◌==◌, length, take, Some, refl, sym, ap, ◌⊎◌, inl, inr, arith, slice_get, slice_index_or}
-use Rattle.std.proofs.lemmas.Bool.{cases_eq, cases_lt, cases_Bool, or_cases, and_parts, and_from, eqb-true, eq-eqb, lt-ltb, le-ltb}
+use Rattle.std.proofs.Common.{◌≡◌, ◌∙◌, ℕ, zero, suc, ◌+◌, ◌-◌, ◌<◌, ◌≤◌, IsTrue, Bool, true, false, not, cond, nat_lt, List, [], ◌∷◌, ◌||◌, ◌&&◌, ◌==◌, length, take, Some, refl, sym, ◌⊎◌, inl, inr, arith, slice_get, slice_index_or}
+use Rattle.std.proofs.lemmas.Bool.{cases_lt, cases_Bool, or_cases, and_parts, eqb-true, eq-eqb, lt-ltb, le-ltb}
 use Rattle.prop_premises.specs.Sets.{Members, IsPart, IsSame, set_of, union, without}
 use Rattle.prop_premises.specs.declared.choice.Choice.{Choice}
-use Rattle.prop_premises.specs.ChoiceLists.{hypothetical, hypotheticals_of, is_hypothetical, is_side_of, IsSide, IsChoiceList, TakesSidesIn, AreInOrder, worldview}
+use Rattle.prop_premises.specs.ChoiceLists.{hypothetical, hypotheticals_of, is_side_of, IsSide, IsChoiceList, TakesSidesIn, AreInOrder}
 use Rattle.prop_cells.specs.Problems.{Problem}
 use Rattle.prop_nogoods.specs.Stores.{has_part}
-use Rattle.prop_amb.specs.Refuted.{IsRefuted, IsNogood, IsGrounded, IsCovered, IsRuledOut}
+use Rattle.prop_amb.specs.Refuted.{IsNogood, IsRuledOut}
 use Rattle.prop_amb.specs.Joined.{IsJoined, others_of}
-use Rattle.prop_amb.specs.Search.{Stand, IsStand, users_of, choices_in, reason_at, IsKept, IsSearch}
-use Rattle.prop_amb.proofs.ZipLemmas.{some_same, none_some, zip_at, zip_both, index_at}
-use Rattle.prop_amb.proofs.PlaceLemmas.{get_below_length}
-use Rattle.prop_amb.proofs.StandLaws.{users_no_sides, has_reason}
-use Rattle.prop_amb.proofs.SearchLaws.{both, or_true_left, or_true_right, side_is_of, taken_is_side, takes_own, side_below, listed_covers}
+use Rattle.prop_amb.specs.Search.{Stand, IsStand, users_of, choices_in, IsKept, IsSearch}
+use Rattle.prop_amb.specs.Resolving.{IsShown, IsWithin}
+use Rattle.prop_amb.proofs.ZipLemmas.{some_same, none_some, zip_both, index_at}
+use Rattle.prop_amb.proofs.StandLaws.{users_no_sides}
+use Rattle.prop_amb.proofs.SearchLaws.{both, or_true_left, or_true_right, side_is_of, takes_own, side_below, listed_covers}
 use Rattle.prop_amb.proofs.JoinLaws.{joined_refuted, joined_grounded, joined_covered, later_at, user_of}
 use Rattle.prop_amb.proofs.DeclaringLaws.{taken_before}
-
--- the set is refuted, for reasons that are grounded and listed
-pub record IsShown (problem : Problem) (s : Stand) (n : Members) : Type 0 where
-  pub refuted : IsRefuted problem (choices_in s) n
-  pub grounded : IsGrounded problem (choices_in s) n
-  pub covered : IsCovered (choices_in s) s.listed n
-
--- the set holds believed premises of the user's and sides that the list takes of the first j choices alone
-abbrev pub IsWithin : Stand → ℕ → Members → Type 0
-IsWithin s j n = IsPart n (union (users_of s) (hypotheticals_of (take j (choices_in s)) (take j s.list)))
 
 pub nogood_shown : (problem : Problem) (s : Stand) (n : Members) → IsNogood problem (choices_in s) n → IsTrue (has_part s.listed n) → IsShown problem s n
 nogood_shown problem s n nogood listed = record {
@@ -59,7 +49,7 @@ beside_of : (s : Stand) (j : ℕ) (c : Choice) (side : ℕ) (n : Members) → sl
 beside_of s j c side n choice_at side_at within p in_n other =
     elim (or_cases (users_of s p) (hypotheticals_of (take (suc j) (choices_in s)) (take (suc j) s.list) p) (within p in_n)) [
       | inl u ↦ inl u
-      | inr t ↦ elim (taken_last (choices_in s) s.list j c side p choice_at side_at t) [ | inl e ↦ inr e | inr e ↦ absurd (other e) ]
+      | inr t ↦ elim (taken_last (choices_in s) s.list j c side p choice_at side_at t) [ inl e ↦ inr e | inr e ↦ absurd (other e) ]
     ]
 
 -- a shown set that holds the side on which a choice stands, and no later side, is a reason against it
@@ -173,7 +163,6 @@ apart_of problem s j c side r p stand choice_at k in_r other = elim (k.beside p 
 module _ (problem : Problem) (s : Stand) (j : ℕ) (c : Choice) (n m : Members) (kept : List (List ℕ)) (stand : IsStand s) (choice_at : slice_get (choices_in s) j ≡ Some c)
     (side_at : slice_get s.list j ≡ Some c.sides) (kept_at : slice_get s.reasons j ≡ Some kept) (within : IsWithin s (suc j) n) (holds : IsTrue (n (hypothetical c c.sides)))
     (m_is : IsSame m (union (without n (hypothetical c c.sides)) (others_of c.first kept))) (h : IsSearch problem s) (shown : IsShown problem s n) where
-
   abbrev r : ℕ → Members
   r = against_each kept n
 
@@ -289,7 +278,7 @@ believed_within s n stand part p in_n = elim (or_cases (users_of s p) (hypotheti
 -- a shown set within no choices rules out every list
 pub shown_rules_out : (problem : Problem) (s : Stand) (n : Members) → IsWithin s 0 n → IsShown problem s n → IsRuledOut problem (users_of s) (choices_in s) s.listed n
 shown_rules_out problem s n within shown = record {
-  believes = λ p in_n. elim (or_cases (users_of s p) false (within p in_n)) [ | inl u ↦ u | inr t ↦ absurd (both t refl) ];
+  believes = λ p in_n. elim (or_cases (users_of s p) false (within p in_n)) [ inl u ↦ u | inr t ↦ absurd (both t refl) ];
   refuted = shown.refuted;
   grounded = shown.grounded;
   covered = shown.covered;

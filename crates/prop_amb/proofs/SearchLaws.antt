@@ -109,16 +109,16 @@ refuted_within problem believed n choices list order is_list users part r =
 
 -- where a list that stands before another first differs from it
 pub record Differs (choices : List Choice) (l m : List ℕ) : Type 0 where
-  j : ℕ
-  choice : Choice
-  side : ℕ
-  stands : ℕ
-  choice_at : slice_get choices j ≡ Some choice
-  stands_at : slice_get m j ≡ Some stands
-  from_one : 1 ≤ side
-  before : side < stands
-  takes_side : IsTrue (hypotheticals_of choices l (hypothetical choice side))
-  takes_rest : IsPart (hypotheticals_of (take j choices) (take j m)) (hypotheticals_of choices l)
+  pub j : ℕ
+  pub choice : Choice
+  pub side : ℕ
+  pub stands : ℕ
+  pub choice_at : slice_get choices j ≡ Some choice
+  pub stands_at : slice_get m j ≡ Some stands
+  pub from_one : 1 ≤ side
+  pub before : side < stands
+  pub takes_side : IsTrue (hypotheticals_of choices l (hypothetical choice side))
+  pub takes_rest : IsPart (hypotheticals_of (take j choices) (take j m)) (hypotheticals_of choices l)
 
 pub differ : (choices : List Choice) (l m : List ℕ) → IsChoiceList choices l → IsChoiceList choices m → IsBefore l m → Differs choices l m
 differ [] [] m p q lt = absurd lt

@@ -1,12 +1,12 @@
 //! What a nogood shows of the choices, and the move that follows.
-ghost use Rattle.std.specs.Prelude.{◌≡◌, ℕ, IsTrue, IfOk, OnOk, OnErr};
+ghost use Rattle.std.specs.Prelude.{◌≡◌, ◌+◌, ◌<◌, ℕ, length, IsTrue, IfOk, OnOk, OnErr};
 ghost use Rattle.prop_premises.specs.Sets.{set_of, IsPart};
 ghost use Rattle.prop_cells.specs.Problems.{Problem};
 ghost use Rattle.prop_nogoods.specs.Stores.{has_part};
 ghost use Rattle.prop_amb.specs.Refuted.{IsNogood};
 ghost use Rattle.prop_amb.specs.Search.{choices_in, IsSearch};
 ghost use Rattle.prop_amb.specs.Moving.{advanced, reasons_advanced};
-ghost use Rattle.prop_amb.specs.Resolving.{MayAdvance, IsReason, IsResolved, IfAgainst};
+ghost use Rattle.prop_amb.specs.Resolving.{MayAdvance, IsReason, IsResolved, IfAgainst, IsShown, IsWithin, IfLeaves, IsLooked};
 
 use crate::joining::joined;
 use crate::lists::advanced;
@@ -52,7 +52,13 @@ impl Search {
     }
 
     /// What a refuted set shows of the choice at a place, where it holds no side of a later one.
-    fn looked_at(&self, place: usize, set: PremiseSet) -> Result<Looked, AllocError> {
+    fn looked_at(&self, place: usize, set: PremiseSet) -> Result<Looked, AllocError>
+        requires { place < length self.now.list }
+        ensures may { IfOk result (λ r. IfLeaves r (MayAdvance self.now place)) }
+        ensures looked { IfOk result (λ r. (problem : Problem) → IsSearch problem self.now → IsWithin self.now (place + 1) (set_of set) → IsShown problem self.now (set_of set) → IsLooked problem self.now place r) }
+    {
+        self.premises.numbered();
+        let _numbers = self.premises.len();
         let choice = self.premises.choices()[place];
         let side = self.list[place];
         let premise = choice.first + Premise::from(side - 1);
@@ -65,7 +71,6 @@ impl Search {
         let reasons = self.reasons[place].sets();
         Ok(Looked::Free(joined(&set, premise, reasons, choice.first)?))
     }
-
 
     /// The choice at a place goes to its next side, and the reason is kept against the side that it leaves. All later choices go to
     /// their first side, and no reason is kept of them. After want of memory nothing has changed.

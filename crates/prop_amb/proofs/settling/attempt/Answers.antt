@@ -1,9 +1,7 @@
-use Rattle.std.proofs.Common.{◌≡◌, ◌≤◌, ◌+◌, List, ℕ, ap, sym, refl}
-use Rattle.prop_premises.specs.Sets.{Members, set_of}
+use Rattle.std.proofs.Common.{◌≡◌, ap, refl}
+use Rattle.prop_premises.specs.Sets.{set_of}
 use Rattle.prop_procedures.specs.Kept.{stored_of}
-use Rattle.prop_cells.specs.Problems.{Problem}
-use Rattle.prop_cells.specs.Data.{IsWellMade, beliefs, problem_of}
-use Rattle.prop_cells.specs.Reach.{IsConflict}
+use Rattle.prop_cells.specs.Data.{IsWellMade, problem_of}
 use Rattle.prop_scheduler.specs.Turns.Turns.{none}
 use Rattle.prop_amb.proofs.MetLaws.{clash_nogood, met_listed, met_noted}
 use Rattle.prop_amb.proofs.RunLaws.{same_problem, falls_in, few_calls, conflict_in}
@@ -32,7 +30,7 @@ returns-in_ok-note-in-Clash-clause-search g c =
     let h = rw c.in-Clash.is at c.in_ok-end.ensures.conflict in
     c.note.ensures.search (problem_of (stored_of g.R.Rule.value_of c.args.network.now.library) c.args.network.now.cells)
     (rw c.in_ok-copy-in-Clash.ensures (clash_nogood (problem_of (stored_of g.R.Rule.value_of c.args.network.now.library) c.args.network.now.cells) c.args.search.now c.in-Clash.support c.well_made-2.ensures
-        (conflict_in _ _ _ _ _ _ same (ap set_of c.worldview.ensures) refl h)))
+    (conflict_in _ _ _ _ _ _ same (ap set_of c.worldview.ensures) refl h)))
     c.requires.search
 
 pub returns-in_ok-note-in-Clash-clause-falls : goal.returns-in_ok-note-in-Clash-clause-falls
