@@ -1,4 +1,5 @@
 pub mod AdvancingLaws
+pub mod BelievingLaws
 pub mod Blocked
 pub mod Consistent
 pub mod CountLaws

@@ -32,6 +32,7 @@ impl Search {
         if self.premises.len() == count {
             return Ok(premise);
         }
+        self.premises.numbered();
         match self.worldview.believe(premise) {
             Ok(()) => Ok(premise),
             Err(AllocError) => {
@@ -50,6 +51,7 @@ impl Search {
         // Where it had just been taken up, all is as before.
         ensures undoes { (before : Stand) (name : List ℕ) → IsStand before → premise_number before.premises name ≡ None → self.old ≡ interned before name → self.new ≡ before }
     {
+        self.premises.numbered();
         self.premises.back(usize::from(premise));
         self.worldview.back(premise);
     }
@@ -93,8 +95,10 @@ impl Search {
         requires room { length self.old.premises + sides ≤ most Limit.Premises }
         ensures ok { OnOk result (self.new ≡ declared self.old name.now sides) }
         ensures choice { IfOk result (λ c. (c.first ≡ length self.old.premises) × (c.sides ≡ sides)) }
+        ensures last { IfOk result (λ c. IsLastChoice self.new.premises c) }
         ensures choices { IfOk result (λ c. choices_in self.new ≡ choices_in self.old ++ c ∷ []) }
         ensures err { OnErr result (self.new ≡ self.old) }
+        ensures search { IfOk result (λ c. (problem : Problem) → IsFresh problem c → IsSearch problem self.old → IsSearch problem self.new) }
     {
         let alloc = *self.list.allocator();
         self.list.reserve(1)?;
@@ -103,6 +107,7 @@ impl Search {
         let Ok(choice) = self.premises.hypothetical(name, sides) else {
             return Err(AllocError);
         };
+        self.premises.numbered();
         match self.worldview.believe(choice.first) {
             Ok(()) => {
                 self.list.push(1)?;
@@ -128,6 +133,7 @@ impl Search {
         let _ = self.list.pop();
         let _ = self.reasons.pop();
         self.premises.back(usize::from(choice.first));
+        self.premises.numbered();
         self.worldview.back(choice.first);
     }
 }

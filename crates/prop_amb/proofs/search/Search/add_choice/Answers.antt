@@ -1,0 +1,19 @@
+use Rattle.std.proofs.Common.{rules, ◌≡◌, ◌≤◌, ◌+◌, ◌↔◌, ◌⊎◌, ℕ, List, [], ◌∷◌, ◌++◌, length, take, Some, None, Err, false, IsTrue, unwrap_or, IfOk, IfErr, OnOk, OnErr, ◌-◌, ◌*◌, ◌<◌, ◌/◌, ◌%◌, Bool, true, nat_eq, nat_lt, slice_index_or, slice_set, bit_and, bit_or, Fits, w8, w32, w64, Bor, MutBor}
+use Rattle.prop_lattice.specs.Refusals.{most}
+use Rattle.prop_premises.specs.Origins.{is_user_at, premise_number, is_choice}
+use Rattle.prop_cells.specs.Problems.{Problem}
+use Rattle.prop_amb.specs.Search.{Stand, choices_in, IsStand, IsSearch}
+use Rattle.prop_amb.specs.Moving.{interned, declared, IsLastChoice, IsFresh, declare_refusal}
+use Rattle.prop_amb.proofs.search.Search.add_choice.Goals as goal
+
+-- src/naming.rt:106:15
+pub believe-requires : goal.believe-requires
+believe-requires c = ?
+
+-- src/naming.rt:110:17
+pub invariant_of-self-in-Ok-believe : goal.invariant_of-self-in-Ok-believe
+invariant_of-self-in-Ok-believe c = ?
+
+-- src/naming.rt:113:17
+pub back-requires : goal.back-requires
+back-requires c = ?

@@ -1,0 +1,19 @@
+use Rattle.std.proofs.Common.{rules, ◌≡◌, ◌≤◌, ◌+◌, ◌↔◌, ◌⊎◌, ℕ, List, [], ◌∷◌, ◌++◌, length, take, Some, None, Err, false, IsTrue, unwrap_or, IfOk, IfErr, OnOk, OnErr, ◌-◌, ◌*◌, ◌<◌, ◌/◌, ◌%◌, Bool, true, nat_eq, nat_lt, slice_index_or, slice_set, bit_and, bit_or, Fits, w8, w32, w64, Bor, MutBor}
+use Rattle.prop_lattice.specs.Refusals.{most}
+use Rattle.prop_premises.specs.Origins.{is_user_at, premise_number, is_choice}
+use Rattle.prop_cells.specs.Problems.{Problem}
+use Rattle.prop_amb.specs.Search.{Stand, choices_in, IsStand, IsSearch}
+use Rattle.prop_amb.specs.Moving.{interned, declared, IsLastChoice, IsFresh, declare_refusal}
+use Rattle.prop_amb.proofs.search.Search.undeclare.Goals as goal
+
+-- src/naming.rt:130:9
+pub back-requires : goal.back-requires
+back-requires c = ?
+
+-- src/naming.rt:120:5
+pub invariant_of-self : goal.invariant_of-self
+invariant_of-self c = ?
+
+-- src/naming.rt:120:5
+pub returns-clause-undoes : goal.returns-clause-undoes
+returns-clause-undoes c = ?
