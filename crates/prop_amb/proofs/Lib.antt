@@ -9,6 +9,7 @@ pub mod GroundedLaws
 pub mod JoinLaws
 pub mod KeepingLaws
 pub mod MetLaws
+pub mod NamingLaws
 pub mod PlaceLemmas
 pub mod ProblemLaws
 pub mod RefutedLaws
