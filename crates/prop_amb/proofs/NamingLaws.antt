@@ -1,9 +1,10 @@
 -- A stand stays one as a name is taken up and taken back.
-use Rattle.std.proofs.Common.{◌≡◌, ◌∙◌, ℕ, zero, suc, ◌+◌, ◌<◌, ◌≤◌, Bool, true, false, cond, ◌||◌, ◌&&◌, ◌==◌, nat_lt, IsTrue, List, [], ◌∷◌, ◌++◌, length, take, filter, Option, Some, None, is_some, unwrap_or, refl, sym, ap, arith, ◌⊎◌, inl, inr, length-append}
+use Rattle.std.proofs.Common.{◌≡◌, ◌∙◌, ℕ, zero, suc, ◌+◌, ◌<◌, ◌≤◌, Bool, true, false, cond, ◌||◌, ◌&&◌, ◌==◌, nat_lt, IsTrue, List, [], ◌∷◌, ◌++◌, length, take, filter, Option, Some, None, is_some, unwrap_or, refl, sym, ap, arith, ◌⊎◌, inl, inr, length-append, append-nil}
 use Rattle.std.specs.List.{list_any}
 use Rattle.std.proofs.lemmas.Bool.{cases_eq, cases_lt, or_cases}
 use Rattle.std.proofs.lemmas.Bool.Decides.{nat_tests, eqb_tells}
 use Rattle.std.proofs.lemmas.List.Folds.{list_any-append}
+use Rattle.std.proofs.lemmas.List.Elements.{filter-append}
 use Rattle.std.proofs.lemmas.Map.Views.{any-filter_same}
 use Rattle.prop_premises.specs.Sets.{Members, IsSame, IsBelow, set_of, union}
 use Rattle.prop_premises.specs.declared.choice.Choice.{Choice}
@@ -11,8 +12,11 @@ use Rattle.prop_premises.specs.ChoiceLists.{hypotheticals_of, is_hypothetical, w
 use Rattle.prop_premises.specs.Origins.{Origin, User, Side, is_believed, is_user_at, is_start, believed_in, premise_number, with_name, choices_from, choices_of, IsNumbered}
 use Rattle.prop_premises.proofs.ChoiceLemmas.{choices_of-user}
 use Rattle.prop_premises.proofs.ChangeLemmas.{believed_in-with_name}
+use Rattle.prop_premises.proofs.EntryLemmas.{take-front}
+use Rattle.prop_premises.proofs.FlagLemmas.{filter-below}
 use Rattle.prop_premises.proofs.OriginLemmas.{in_range, is_user_at-believed, is_user_at-push, believed_in-past}
 use Rattle.prop_amb.specs.Search.{Stand, IsStand, users_of, choices_in}
+use Rattle.prop_amb.specs.Moving.{interned}
 use Rattle.prop_amb.proofs.SearchLaws.{both, taken_is_side}
 
 -- ---- sets with one more number, and without those from a bound on
@@ -205,3 +209,29 @@ stand_taken_back s p stand below user len =
       | inl e ↦ absurd (both t (rw e (stand.numbered.users p user)))
       | inr apart ↦ omega (arith, below q t, len, apart)
     ]
+
+pub filter_push : (w : List ℕ) (n m : ℕ) → m ≡ n → IsBelow m (set_of w) → filter (λ p. nat_lt p m) (w ++ n ∷ []) ≡ w
+filter_push w n m e below =
+    filter-append (λ p. nat_lt p m) w (n ∷ []) ∙ ap (λ b. filter (λ p. nat_lt p m) w ++ cond b (n ∷ []) []) (lt_false n m (omega (arith, e))) ∙ append-nil (filter (λ p. nat_lt p m) w) ∙ filter-below m w below
+
+interned_new : (s : Stand) (name : List ℕ) → premise_number s.premises name ≡ None → interned s name ≡ record s { premises = s.premises ++ User name true ∷ []; worldview = s.worldview ++ length s.premises ∷ [] }
+interned_new s name none =
+    ap (λ o. cond (is_some o) s (record s { premises = cond (is_some o) s.premises (s.premises ++ User name true ∷ []); worldview = s.worldview ++ length s.premises ∷ [] })) none
+
+-- what was just taken up goes, and all is as it was
+pub taken_back_undoes : (s : Stand) (p : ℕ) (before : Stand) (name : List ℕ) → IsNumbered s.premises → ((q : ℕ) → IsTrue (is_hypothetical (choices_in s) q) → q < length s.premises) →
+    IsTrue (is_user_at s.premises p) → length s.premises ≡ p + 1 → IsStand before → premise_number before.premises name ≡ None → s ≡ interned before name →
+    record s { premises = take p s.premises; worldview = filter (λ q. nat_lt q p) s.worldview } ≡ before
+taken_back_undoes s p before name numbered below user len stand none e =
+    ap (λ t. cut t) now ∙ ap (λ os. record before { premises = os; worldview = filter (λ q. nat_lt q p) (before.worldview ++ length before.premises ∷ []) }) (take-front before.premises (User name true ∷ []) p count)
+    ∙ ap (λ w. record before { worldview = w }) (filter_push before.worldview (length before.premises) p count
+    (below_last before s.premises p stand (ap (λ t. choices_of t.premises) now ∙ choices_of-user before.premises name true) numbered below (omega (arith, count)) user len))
+  where
+    cut : Stand → Stand
+    cut t = record t { premises = take p t.premises; worldview = filter (λ q. nat_lt q p) t.worldview }
+
+    now : s ≡ record before { premises = before.premises ++ User name true ∷ []; worldview = before.worldview ++ length before.premises ∷ [] }
+    now = e ∙ interned_new before name none
+
+    count : p ≡ length before.premises
+    count = omega (arith, len, ap (λ t. length t.premises) now, length-append before.premises (User name true ∷ []))

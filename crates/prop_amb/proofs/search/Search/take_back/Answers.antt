@@ -1,19 +1,18 @@
-use Rattle.std.proofs.Common.{rules, ◌≡◌, ◌≤◌, ◌+◌, ◌↔◌, ◌⊎◌, ℕ, List, [], ◌∷◌, ◌++◌, length, take, Some, None, Err, false, IsTrue, unwrap_or, IfOk, IfErr, OnOk, OnErr, ◌-◌, ◌*◌, ◌<◌, ◌/◌, ◌%◌, Bool, true, nat_eq, nat_lt, slice_index_or, slice_set, bit_and, bit_or, Fits, w8, w32, w64, Bor, MutBor}
-use Rattle.prop_lattice.specs.Refusals.{most}
-use Rattle.prop_premises.specs.Origins.{is_user_at, premise_number, is_choice}
-use Rattle.prop_cells.specs.Problems.{Problem}
-use Rattle.prop_amb.specs.Search.{Stand, choices_in, IsStand, IsSearch}
-use Rattle.prop_amb.specs.Moving.{interned, declared, IsLastChoice, IsFresh, declare_refusal}
+use Rattle.std.proofs.Common.{◌≡◌, ◌∙◌, ℕ, List, None, ap, take, filter, nat_lt}
+use Rattle.prop_premises.specs.Origins.{premise_number}
+use Rattle.prop_amb.specs.Search.{Stand, IsStand}
+use Rattle.prop_amb.proofs.NamingLaws.{last_start, stand_taken_back, taken_back_undoes}
 use Rattle.prop_amb.proofs.search.Search.take_back.Goals as goal
 
--- src/naming.rt:53:9
 pub back-requires : goal.back-requires
-back-requires c = ?
+back-requires c = rw c.from.ensures (last_start c.self.inside.premises c.args.premise (rw (← c.self.view_is) at c.requires.user))
 
--- src/naming.rt:45:5
 pub invariant_of-self : goal.invariant_of-self
-invariant_of-self c = ?
+invariant_of-self c =
+    rw (c.back.ensures, c.from.ensures, c.back-2.ensures)
+    (stand_taken_back _ c.args.premise c.self.invariant c.numbered.ensures.below (rw (← c.self.view_is) at c.requires.user) (rw (← c.self.view_is) at c.requires.last))
 
--- src/naming.rt:45:5
 pub returns-clause-undoes : goal.returns-clause-undoes
-returns-clause-undoes c = ?
+returns-clause-undoes c before name stand none e =
+    rw (c.back.ensures, c.from.ensures, c.back-2.ensures)
+    (taken_back_undoes _ c.args.premise before name c.numbered.ensures.numbered c.numbered.ensures.below (rw (← c.self.view_is) at c.requires.user) (rw (← c.self.view_is) at c.requires.last) stand none (c.self.view_is ∙ e))
