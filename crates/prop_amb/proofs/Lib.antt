@@ -8,6 +8,7 @@ pub mod GoingLaws
 pub mod GroundedLaws
 pub mod JoinLaws
 pub mod KeepingLaws
+pub mod LastChoiceLaws
 pub mod MetLaws
 pub mod NamingLaws
 pub mod PlaceLemmas

@@ -1,19 +1,19 @@
-use Rattle.std.proofs.Common.{rules, ◌≡◌, ◌≤◌, ◌+◌, ◌↔◌, ◌⊎◌, ℕ, List, [], ◌∷◌, ◌++◌, length, take, Some, None, Err, false, IsTrue, unwrap_or, IfOk, IfErr, OnOk, OnErr, ◌-◌, ◌*◌, ◌<◌, ◌/◌, ◌%◌, Bool, true, nat_eq, nat_lt, slice_index_or, slice_set, bit_and, bit_or, Fits, w8, w32, w64, Bor, MutBor}
-use Rattle.prop_lattice.specs.Refusals.{most}
-use Rattle.prop_premises.specs.Origins.{is_user_at, premise_number, is_choice}
-use Rattle.prop_cells.specs.Problems.{Problem}
-use Rattle.prop_amb.specs.Search.{Stand, choices_in, IsStand, IsSearch}
-use Rattle.prop_amb.specs.Moving.{interned, declared, IsLastChoice, IsFresh, declare_refusal}
+use Rattle.std.proofs.Common.{◌≡◌, ◌∙◌, ap}
+use Rattle.prop_premises.specs.Origins.{choices_of, IsNumbered}
+use Rattle.prop_amb.proofs.LastChoiceLaws.{last_choice_starts, stand_undeclared, undeclared_undoes}
 use Rattle.prop_amb.proofs.search.Search.undeclare.Goals as goal
 
--- src/naming.rt:130:9
 pub back-requires : goal.back-requires
-back-requires c = ?
+back-requires c = rw c.from.ensures (last_choice_starts c.self.inside.premises c.requires.earlier c.args.choice (rw (← c.self.view_is) at c.requires.last))
 
--- src/naming.rt:120:5
 pub invariant_of-self : goal.invariant_of-self
-invariant_of-self c = ?
+invariant_of-self c =
+    rw (c.back.ensures, c.from.ensures, c.back-2.ensures)
+    (stand_undeclared _ c.args.choice c.requires.earlier c.pop.new.self.items c.pop-2.new.self.items c.self.inside.list.len c.self.inside.reasons.len c.self.invariant (rw (← c.self.view_is) at c.requires.last)
+    (rw (c.back.ensures, c.from.ensures) at c.numbered.ensures.numbered) c.pop.ensures.rest c.self.inside.list.ok.0 c.pop-2.ensures.rest c.self.inside.reasons.ok.0)
 
--- src/naming.rt:120:5
 pub returns-clause-undoes : goal.returns-clause-undoes
-returns-clause-undoes c = ?
+returns-clause-undoes c before name stand e =
+    rw (c.back.ensures, c.from.ensures, c.back-2.ensures)
+    (undeclared_undoes _ c.args.choice c.requires.earlier c.pop.new.self.items c.pop-2.new.self.items c.self.inside.list.len c.self.inside.reasons.len before name c.self.invariant
+    (rw (← c.self.view_is) at c.requires.last) (rw (← c.self.view_is) at c.requires.end) c.pop.ensures.rest c.self.inside.list.ok.0 c.pop-2.ensures.rest c.self.inside.reasons.ok.0 stand (c.self.view_is ∙ e))
