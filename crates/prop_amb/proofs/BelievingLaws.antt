@@ -1,11 +1,12 @@
 -- A stand stays one as premises of the user's are believed or not, and as the choices go to their first sides.
-use Rattle.std.proofs.Common.{◌≡◌, ℕ, zero, suc, ◌+◌, ◌≤◌, IsTrue, Bool, List, [], ◌∷◌, length, refl, sym, ap, arith}
+use Rattle.std.proofs.Common.{◌≡◌, ℕ, zero, suc, ◌+◌, ◌≤◌, IsTrue, Bool, List, [], ◌∷◌, ◌++◌, length, take, drop, refl, sym, ap, ◌∙◌, arith}
 use Rattle.std.specs.List.{AllZip, AllByRecursion}
 use Rattle.prop_premises.specs.Sets.{IsSame, set_of}
 use Rattle.prop_premises.specs.declared.choice.Choice.{Choice}
 use Rattle.prop_premises.specs.ChoiceLists.{IsSide, IsChoiceList, AreOfSides, worldview}
 use Rattle.prop_premises.specs.Origins.{Origin, User, Side, is_user_at, believed_in, with_belief_at, choices_of, IsNumbered}
 use Rattle.prop_premises.proofs.ChoiceLemmas.{choices_of-with_belief_at}
+use Rattle.prop_premises.proofs.EntryLemmas.{take-front}
 use Rattle.prop_amb.specs.Search.{Stand, IsStand, choices_in}
 use Rattle.prop_amb.specs.Moving.{restarted, first_sides, no_reasons}
 
@@ -68,3 +69,11 @@ stand_restarted s origins w stand numbered same believes = record {
   believes = believes;
   minimal = stand.minimal;
 }
+
+-- where the reasons lay, none is left
+pub reasons_forgotten : (reasons now : List (List (List ℕ))) (n : ℕ) → n ≡ length reasons → now ≡ no_reasons reasons → take n (now ++ drop (length now) reasons) ≡ no_reasons reasons
+reasons_forgotten reasons now n e is = take-front now (drop (length now) reasons) n (e ∙ sym (as_many reasons) ∙ sym (ap length is)) ∙ is
+  where
+    as_many : (rs : List (List (List ℕ))) → length (no_reasons rs) ≡ length rs
+    as_many [] = refl
+    as_many (r ∷ rs) = ap suc (as_many rs)
