@@ -1,9 +1,9 @@
 -- A stand stays one as premises of the user's are believed or not, and as the choices go to their first sides.
-use Rattle.std.proofs.Common.{◌≡◌, ℕ, zero, suc, ◌+◌, ◌≤◌, IsTrue, Bool, List, [], ◌∷◌, ◌++◌, length, take, drop, refl, sym, ap, ◌∙◌, arith}
-use Rattle.std.specs.List.{AllZip, AllByRecursion}
+use Rattle.std.proofs.Common.{◌≡◌, ℕ, zero, suc, ◌+◌, Bool, List, [], ◌∷◌, ◌++◌, length, take, drop, refl, sym, ap, ◌∙◌, arith}
+use Rattle.std.specs.List.{AllZip}
 use Rattle.prop_premises.specs.Sets.{IsSame, set_of}
 use Rattle.prop_premises.specs.declared.choice.Choice.{Choice}
-use Rattle.prop_premises.specs.ChoiceLists.{IsSide, IsChoiceList, AreOfSides, worldview}
+use Rattle.prop_premises.specs.ChoiceLists.{IsChoiceList, AreOfSides, worldview}
 use Rattle.prop_premises.specs.Origins.{Origin, User, Side, is_user_at, believed_in, with_belief_at, choices_of, IsNumbered}
 use Rattle.prop_premises.proofs.ChoiceLemmas.{choices_of-with_belief_at}
 use Rattle.prop_premises.proofs.EntryLemmas.{take-front}

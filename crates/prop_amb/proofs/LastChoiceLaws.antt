@@ -1,11 +1,11 @@
 -- A stand stays one as a choice is declared, and as the last one goes.
-use Rattle.std.proofs.Common.{◌≡◌, ◌∙◌, ℕ, zero, suc, ◌+◌, ◌-◌, ◌<◌, ◌≤◌, Bool, true, false, cond, ◌||◌, ◌&&◌, ◌==◌, nat_lt, IsTrue, List, [], ◌∷◌, ◌++◌, length, take, filter, refl, sym, ap, arith, inl, inr, length-append}
+use Rattle.std.proofs.Common.{◌≡◌, ◌∙◌, ℕ, suc, ◌+◌, ◌-◌, ◌<◌, ◌≤◌, Bool, true, false, cond, ◌||◌, ◌&&◌, ◌==◌, nat_lt, IsTrue, List, [], ◌∷◌, ◌++◌, length, take, filter, refl, sym, ap, arith, inl, inr, length-append}
 use Rattle.std.specs.List.{AllZip, AllByRecursion}
 use Rattle.std.proofs.lemmas.Bool.{or_cases, and_parts, and_left, ltb-true, lt-leb, eqb-true}
 use Rattle.prop_premises.specs.Sets.{IsBelow, set_of}
 use Rattle.prop_premises.specs.declared.choice.Choice.{Choice}
 use Rattle.prop_premises.specs.ChoiceLists.{hypothetical, IsSide, is_side_of, hypotheticals_of, is_hypothetical, AreInOrder, AreOfSides}
-use Rattle.prop_premises.specs.Origins.{Origin, User, Side, believed_in, is_start, with_choice, choices_from, choices_of, IsNumbered}
+use Rattle.prop_premises.specs.Origins.{Origin, User, Side, is_start, with_choice, choices_from, choices_of, IsNumbered}
 use Rattle.prop_premises.proofs.ChoiceLemmas.{choices_of-with_choice, choices_of-take}
 use Rattle.prop_premises.proofs.ChangeLemmas.{believed_in-with_choice, length-with_choice, take-with_choice}
 use Rattle.prop_premises.proofs.EntryLemmas.{take-front}
@@ -13,7 +13,7 @@ use Rattle.prop_premises.proofs.OriginLemmas.{in_range, is_user_at-believed}
 use Rattle.prop_premises.proofs.WorldviewLemmas.{hypotheticals_of-push}
 use Rattle.prop_cells.specs.Problems.{Problem}
 use Rattle.prop_amb.specs.Search.{Stand, IsStand, IsSearch, users_of, choices_in}
-use Rattle.prop_amb.specs.Moving.{declared, IsLastChoice, IsFresh}
+use Rattle.prop_amb.specs.Moving.{declared, IsFresh}
 use Rattle.prop_amb.proofs.SearchLaws.{both, taken_is_side}
 use Rattle.prop_amb.proofs.DeclaringLaws.{before_last, search_declared}
 use Rattle.prop_amb.proofs.NamingLaws.{set_of-push, believes_below, lt_true, lt_false, filter_push}
@@ -60,10 +60,10 @@ stand_declared s name sides stand some numbered =
       is_list = rw same (zip_push IsSide (choices_in s) s.list own 1 stand.is_list (omega arith, some));
       reasoned = zip_push (λ side reasons. length reasons + 1 ≡ side) s.list s.reasons 1 [] stand.reasoned refl;
       believes = λ p.
-      set_of-push s.worldview (length s.premises) p ∙ ap (λ b. b || (length s.premises == p)) (stand.believes p) ∙ or_assoc (users_of s p) (hypotheticals_of (choices_in s) s.list p) (length s.premises == p)
-      ∙ sym (ap (λ n. users_of s p || (hypotheticals_of (choices_in s) s.list p || (n == p))) number) ∙ sym (ap (λ b. users_of s p || b) (hypotheticals_of-push (choices_in s) s.list own 1 p stand.is_list))
-      ∙ sym (ap (λ cs. users_of s p || hypotheticals_of cs (s.list ++ 1 ∷ []) p) same)
-      ∙ sym (ap (λ b. b || hypotheticals_of (choices_of (with_choice s.premises name sides)) (s.list ++ 1 ∷ []) p) (believed_in-with_choice s.premises name sides p));
+          set_of-push s.worldview (length s.premises) p ∙ ap (λ b. b || (length s.premises == p)) (stand.believes p) ∙ or_assoc (users_of s p) (hypotheticals_of (choices_in s) s.list p) (length s.premises == p)
+          ∙ sym (ap (λ n. users_of s p || (hypotheticals_of (choices_in s) s.list p || (n == p))) number) ∙ sym (ap (λ b. users_of s p || b) (hypotheticals_of-push (choices_in s) s.list own 1 p stand.is_list))
+          ∙ sym (ap (λ cs. users_of s p || hypotheticals_of cs (s.list ++ 1 ∷ []) p) same)
+          ∙ sym (ap (λ b. b || hypotheticals_of (choices_of (with_choice s.premises name sides)) (s.list ++ 1 ∷ []) p) (believed_in-with_choice s.premises name sides p));
       minimal = stand.minimal;
     }
 
@@ -94,7 +94,7 @@ none_last [] x e = absurd (cc)
 none_last (y ∷ xs) x e = absurd (cc)
 
 later : (n m : ℕ) (o : Origin) (os : List Origin) (c : Choice) → m ≡ n + 1 → Starts m os c → Starts n (o ∷ os) c
-later n m o os c e s = record { k = suc s.k; at = omega (arith, s.at, e); starts = s.starts; }
+later n m o os c e s = record { k = suc s.k; at = omega (arith, s.at, e); starts = s.starts }
 
 choice_starts : (n : ℕ) (os : List Origin) (earlier : List Choice) (c : Choice) → choices_from n os ≡ earlier ++ c ∷ [] → Starts n os c
 choice_starts n [] earlier c e = absurd (none_last earlier c e)
@@ -107,7 +107,7 @@ choice_starts n (Side name side sides ∷ os) earlier c e = by (side == 1) refl 
     by : (b : Bool) → (side == 1) ≡ b → ((cs : List Choice) → choices_from (suc n) os ≡ cs ++ c ∷ [] → Starts (suc n) os c) → (earlier : List Choice) → cond b (own ∷ choices_from (suc n) os) (choices_from (suc n) os) ≡ earlier ++ c ∷ [] → Starts n (Side name side sides ∷ os) c
     by true t rest [] e =
         let is : own ≡ c = cc in
-        record { k = 0; at = ap (λ d. d.first) (sym is) ∙ omega arith; starts = t; }
+        record { k = 0; at = ap (λ d. d.first) (sym is) ∙ omega arith; starts = t }
     by true t rest (d ∷ earlier) e =
         let others : choices_from (suc n) os ≡ earlier ++ c ∷ [] = cc in
         later n (suc n) (Side name side sides) os c (omega arith) (rest earlier others)
@@ -132,12 +132,12 @@ record Split {A B : Type 0} (R : A → B → Type 0) (es : List A) (zs : List B)
 
 split_last : {A B : Type 0} (R : A → B → Type 0) (es : List A) (c : A) (zs : List B) → AllZip R (es ++ c ∷ []) zs → Split R es zs
 split_last R [] c [] h = absurd h
-split_last R [] c (z ∷ []) h = record { front = []; last = z; whole = refl; zip = tt; }
+split_last R [] c (z ∷ []) h = record { front = []; last = z; whole = refl; zip = tt }
 split_last R [] c (z ∷ (y ∷ zs)) h = absurd h.1
 split_last R (e ∷ es) c [] h = absurd h
 split_last R (e ∷ es) c (z ∷ zs) h =
     let s : Split R es zs = split_last R es c zs h.1 in
-    record { front = z ∷ s.front; last = s.last; whole = ap (λ l. z ∷ l) s.whole; zip = (h.0, s.zip); }
+    record { front = z ∷ s.front; last = s.last; whole = ap (λ l. z ∷ l) s.whole; zip = (h.0, s.zip) }
 
 take_front : {A : Type 0} (xs : List A) (x : A) (n : ℕ) → n ≡ length (xs ++ x ∷ []) → take (n - 1) (xs ++ x ∷ []) ≡ xs
 take_front xs x n e = take-front xs (x ∷ []) (n - 1) (omega (arith, e, length-append xs (x ∷ [])))

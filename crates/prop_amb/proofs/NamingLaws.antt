@@ -1,20 +1,18 @@
 -- A stand stays one as a name is taken up and taken back.
-use Rattle.std.proofs.Common.{◌≡◌, ◌∙◌, ℕ, zero, suc, ◌+◌, ◌<◌, ◌≤◌, Bool, true, false, cond, ◌||◌, ◌&&◌, ◌==◌, nat_lt, IsTrue, List, [], ◌∷◌, ◌++◌, length, take, filter, Option, Some, None, is_some, unwrap_or, refl, sym, ap, arith, ◌⊎◌, inl, inr, length-append, append-nil}
-use Rattle.std.specs.List.{list_any}
-use Rattle.std.proofs.lemmas.Bool.{cases_eq, cases_lt, or_cases}
+use Rattle.std.proofs.Common.{◌≡◌, ◌∙◌, ℕ, zero, suc, ◌+◌, ◌<◌, ◌≤◌, Bool, true, false, cond, ◌||◌, ◌&&◌, ◌==◌, nat_lt, IsTrue, List, [], ◌∷◌, ◌++◌, length, take, filter, Option, Some, None, is_some, unwrap_or, refl, sym, ap, arith, inl, inr, length-append, append-nil}
+use Rattle.std.proofs.lemmas.Bool.{cases_eq, or_cases}
 use Rattle.std.proofs.lemmas.Bool.Decides.{nat_tests, eqb_tells}
 use Rattle.std.proofs.lemmas.List.Folds.{list_any-append}
 use Rattle.std.proofs.lemmas.List.Elements.{filter-append}
 use Rattle.std.proofs.lemmas.Map.Views.{any-filter_same}
 use Rattle.prop_premises.specs.Sets.{Members, IsSame, IsBelow, set_of, union}
-use Rattle.prop_premises.specs.declared.choice.Choice.{Choice}
-use Rattle.prop_premises.specs.ChoiceLists.{hypotheticals_of, is_hypothetical, worldview}
+use Rattle.prop_premises.specs.ChoiceLists.{hypotheticals_of, is_hypothetical}
 use Rattle.prop_premises.specs.Origins.{Origin, User, Side, is_believed, is_user_at, is_start, believed_in, premise_number, with_name, choices_from, choices_of, IsNumbered}
 use Rattle.prop_premises.proofs.ChoiceLemmas.{choices_of-user}
 use Rattle.prop_premises.proofs.ChangeLemmas.{believed_in-with_name}
 use Rattle.prop_premises.proofs.EntryLemmas.{take-front}
 use Rattle.prop_premises.proofs.FlagLemmas.{filter-below}
-use Rattle.prop_premises.proofs.OriginLemmas.{in_range, is_user_at-believed, is_user_at-push, believed_in-past}
+use Rattle.prop_premises.proofs.OriginLemmas.{in_range, is_user_at-believed, is_user_at-push}
 use Rattle.prop_amb.specs.Search.{Stand, IsStand, users_of, choices_in}
 use Rattle.prop_amb.specs.Moving.{interned}
 use Rattle.prop_amb.proofs.SearchLaws.{both, taken_is_side}
@@ -124,7 +122,7 @@ stand_interned s name stand numbered = record {
   is_list = rw (choices_of-user s.premises name true) stand.is_list;
   reasoned = stand.reasoned;
   believes = λ p. rw (choices_of-user s.premises name true, set_of-push s.worldview (length s.premises) p, stand.believes p, believed_push s.premises name (length s.premises) p refl)
-  (turn (users_of s p) (hypotheticals_of (choices_in s) s.list p) (length s.premises == p));
+      (turn (users_of s p) (hypotheticals_of (choices_in s) s.list p) (length s.premises == p));
   minimal = stand.minimal;
 }
   where
@@ -200,7 +198,7 @@ stand_taken_back s p stand below user len =
       is_list = rw same stand.is_list;
       reasoned = stand.reasoned;
       believes = rw same (believes_below s.premises p s.worldview (hypotheticals_of (choices_in s) s.list) (hypotheticals_of (choices_in s) s.list) stand.believes
-      (λ q. known_below (nat_lt q p) (hypotheticals_of (choices_in s) s.list q) (λ t. lt_true q p (side q (taken_is_side (choices_in s) s.list q stand.is_list t)))));
+          (λ q. known_below (nat_lt q p) (hypotheticals_of (choices_in s) s.list q) (λ t. lt_true q p (side q (taken_is_side (choices_in s) s.list q stand.is_list t)))));
       minimal = stand.minimal;
     }
   where

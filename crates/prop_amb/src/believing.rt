@@ -37,6 +37,7 @@ impl Search {
                 Ok(true)
             }
             Err(error) => {
+                drop(list);
                 self.premises.bring(premise);
                 Err(error)
             }

@@ -1,6 +1,5 @@
 use Rattle.std.proofs.Common.{◌≡◌, ◌∙◌, ap, arith, length}
 use Rattle.prop_premises.specs.Origins.{choices_of}
-use Rattle.prop_premises.specs.declared.choice.Choice.{Choice}
 use Rattle.prop_premises.proofs.ChangeLemmas.{is_start-with_choice, length-with_choice}
 use Rattle.prop_amb.proofs.LastChoiceLaws.{below_choice, stand_declared, search_stays}
 use Rattle.prop_amb.proofs.search.Search.add_choice.Goals as goal

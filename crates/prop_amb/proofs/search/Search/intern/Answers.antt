@@ -1,4 +1,4 @@
-use Rattle.std.proofs.Common.{◌≡◌, ◌∙◌, refl, sym, ap, length}
+use Rattle.std.proofs.Common.{◌∙◌, sym, ap}
 use Rattle.prop_premises.specs.Origins.{choices_of, believed_in}
 use Rattle.prop_premises.proofs.ChoiceLemmas.{choices_of-with_name}
 use Rattle.prop_premises.proofs.ChangeLemmas.{is_start-with_name}

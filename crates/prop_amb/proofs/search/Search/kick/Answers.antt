@@ -24,13 +24,13 @@ pub bring-requires : goal.bring-requires
 bring-requires c =
     rw (c.kick.ensures.only, is_user_at-with_belief_at c.self.inside.premises c.args.premise false c.args.premise) (rw (← c.self.view_is) at c.requires)
 
-as_before : (c : goal.After-drop-list) → c.bring.new.self ≡ c.self.inside.premises
+as_before : (c : goal.After-bring) → c.bring.new.self ≡ c.self.inside.premises
 as_before c =
     c.bring.ensures.only ∙ ap (λ os. with_belief_at os c.args.premise true) c.kick.ensures.only
     ∙ belief_back c.self.inside.premises c.args.premise false true (sym c.if-not-is_in.ensures)
 
-pub invariant_of-self-in-Err-1 : goal.invariant_of-self-in-Err-1
-invariant_of-self-in-Err-1 c = rw (as_before c) c.self.invariant
+pub invariant_of-self-in-Err : goal.invariant_of-self-in-Err
+invariant_of-self-in-Err c = rw (as_before c) c.self.invariant
 
 pub returns-in-Ok-clause-search : goal.returns-in-Ok-clause-search
 returns-in-Ok-clause-search c problem h =

@@ -1,4 +1,4 @@
-use Rattle.std.proofs.Common.{◌≡◌, ◌∙◌, ap, refl}
+use Rattle.std.proofs.Common.{◌∙◌, ap, refl}
 use Rattle.prop_premises.specs.Origins.{choices_of}
 use Rattle.prop_amb.specs.Moving.{no_reasons}
 use Rattle.prop_amb.proofs.KeepingLaws.{search_restarted}

@@ -1,6 +1,4 @@
-use Rattle.std.proofs.Common.{◌≡◌, ◌∙◌, ℕ, List, None, ap, take, filter, nat_lt}
-use Rattle.prop_premises.specs.Origins.{premise_number}
-use Rattle.prop_amb.specs.Search.{Stand, IsStand}
+use Rattle.std.proofs.Common.{◌∙◌}
 use Rattle.prop_amb.proofs.NamingLaws.{last_start, stand_taken_back, taken_back_undoes}
 use Rattle.prop_amb.proofs.search.Search.take_back.Goals as goal
 

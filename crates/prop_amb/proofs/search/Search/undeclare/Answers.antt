@@ -1,5 +1,4 @@
-use Rattle.std.proofs.Common.{◌≡◌, ◌∙◌, ap}
-use Rattle.prop_premises.specs.Origins.{choices_of, IsNumbered}
+use Rattle.std.proofs.Common.{◌∙◌}
 use Rattle.prop_amb.proofs.LastChoiceLaws.{last_choice_starts, stand_undeclared, undeclared_undoes}
 use Rattle.prop_amb.proofs.search.Search.undeclare.Goals as goal
 
