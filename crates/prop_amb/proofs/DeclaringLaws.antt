@@ -15,7 +15,7 @@ use Rattle.prop_amb.proofs.RefutedLaws.{refuted_choice, covered_choice}
 use Rattle.prop_amb.proofs.SearchLaws.{both, or_true_left, or_true_right, side_is_of, taken_is_side}
 use Rattle.prop_amb.proofs.GroundedLaws.{nogood_choice, grounded_choice}
 
-before_last : (d c : Choice) (cs : List Choice) → AllByRecursion (λ later. d.first + d.sides ≤ later.first) (cs ++ c ∷ []) → d.first + d.sides ≤ c.first
+pub before_last : (d c : Choice) (cs : List Choice) → AllByRecursion (λ later. d.first + d.sides ≤ later.first) (cs ++ c ∷ []) → d.first + d.sides ≤ c.first
 before_last d c [] h = h.0
 before_last d c (e ∷ cs) h = before_last d c cs h.1
 

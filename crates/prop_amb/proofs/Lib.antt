@@ -1,4 +1,5 @@
 pub mod AdvancingLaws
+pub mod BelievingLaws
 pub mod Blocked
 pub mod Consistent
 pub mod CountLaws
@@ -8,8 +9,10 @@ pub mod GoingLaws
 pub mod GroundedLaws
 pub mod JoinLaws
 pub mod KeepingLaws
+pub mod LastChoiceLaws
 pub mod LookingLaws
 pub mod MetLaws
+pub mod NamingLaws
 pub mod OnWay
 pub mod PlaceLemmas
 pub mod ProblemLaws

@@ -1,13 +1,14 @@
 //! Changes of belief in a search.
-ghost use Rattle.std.specs.Prelude.{◌≡◌, ℕ, IsTrue, Ok, true, false, IfOk, OnOk, OnErr};
+ghost use Rattle.std.specs.Prelude.{◌≡◌, IsTrue, Ok, true, false, not, IfOk, OnOk, OnErr};
 ghost use Rattle.prop_premises.specs.Origins.{is_user_at, with_belief_at};
 ghost use Rattle.prop_cells.specs.Problems.{Problem};
 ghost use Rattle.prop_amb.specs.Search.{users_of, IsSearch};
 ghost use Rattle.prop_amb.specs.Moving.{restarted};
 
-use crate::reasons::forget_all;
+use crate::lists::first_sides;
+use crate::reasons::forget;
 use crate::search::Search;
-use prop_premises::{Premise, Worldview};
+use prop_premises::Premise;
 use std::alloc::AllocError;
 
 impl Search {
@@ -26,10 +27,17 @@ impl Search {
         if !self.premises.is_in(premise) {
             return Ok(false);
         }
+        let list = first_sides(*self.list.allocator(), &self.list)?;
         self.premises.kick(premise);
-        match self.restart() {
-            Ok(()) => Ok(true),
+        match self.premises.worldview(&list) {
+            Ok(worldview) => {
+                self.list = list;
+                self.worldview = worldview;
+                forget(&mut self.reasons);
+                Ok(true)
+            }
             Err(error) => {
+                drop(list);
                 self.premises.bring(premise);
                 Err(error)
             }
@@ -70,10 +78,11 @@ impl Search {
         ensures err { OnErr result (self.new ≡ self.old) }
         ensures search { (problem : Problem) → IsSearch problem self.old → IsSearch problem self.new }
     {
-        let list = first_sides(&self.list)?;
-        self.worldview = self.premises.worldview(&list)?;
+        let list = first_sides(*self.list.allocator(), &self.list)?;
+        let worldview = self.premises.worldview(&list)?;
         self.list = list;
-        forget_all(&mut self.reasons);
+        self.worldview = worldview;
+        forget(&mut self.reasons);
         Ok(())
     }
 }

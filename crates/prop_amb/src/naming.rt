@@ -1,14 +1,16 @@
 //! Names and choices that a search takes up, and those that it takes back.
-ghost use Rattle.std.specs.Prelude.{◌≡◌, ◌≤◌, ◌<◌, ◌+◌, ◌↔◌, ◌⊎◌, ℕ, List, length, take, Some, None, Err, IsTrue, unwrap_or, IfOk, IfErr, OnOk, OnErr};
+ghost use Rattle.std.specs.Prelude.{◌≡◌, ◌≤◌, ◌+◌, ◌↔◌, ◌⊎◌, ℕ, List, [], ◌∷◌, ◌++◌, length, take, Some, None, Err, false, IsTrue, unwrap_or, IfOk, IfErr, OnOk, OnErr};
 ghost use Rattle.prop_lattice.specs.Refusals.{most};
 ghost use Rattle.prop_premises.specs.Origins.{is_user_at, premise_number, is_choice};
 ghost use Rattle.prop_cells.specs.Problems.{Problem};
 ghost use Rattle.prop_amb.specs.Search.{Stand, choices_in, IsStand, IsSearch};
-ghost use Rattle.prop_amb.specs.Moving.{interned, declared, IsLastChoice, IsFresh};
+ghost use Rattle.prop_amb.specs.Moving.{interned, declared, IsLastChoice, IsFresh, declare_refusal};
 
+use crate::reasons::Reasons;
 use crate::search::Search;
 use prop_lattice::{Limit, Refusal};
 use prop_premises::{Choice, Premise};
+use std::alloc::AllocError;
 
 impl Search {
     /// The premise with this name. A name that appears for the first time gets the next number, and is believed.
@@ -27,13 +29,17 @@ impl Search {
     {
         let count = self.premises.len();
         let premise = self.premises.intern(name)?;
-        if self.premises.len() > count {
-            if let Err(AllocError) = self.worldview.believe(premise) {
+        if self.premises.len() == count {
+            return Ok(premise);
+        }
+        self.premises.numbered();
+        match self.worldview.believe(premise) {
+            Ok(()) => Ok(premise),
+            Err(AllocError) => {
                 self.premises.back(count);
-                return Err(Refusal::Memory);
+                Err(Refusal::Memory)
             }
         }
-        Ok(premise)
     }
 
     /// The last premise goes, one of the user's, with its name. It takes no memory.
@@ -45,6 +51,7 @@ impl Search {
         // Where it had just been taken up, all is as before.
         ensures undoes { (before : Stand) (name : List ℕ) → IsStand before → premise_number before.premises name ≡ None → self.old ≡ interned before name → self.new ≡ before }
     {
+        self.premises.numbered();
         self.premises.back(usize::from(premise));
         self.worldview.back(premise);
     }
@@ -65,7 +72,7 @@ impl Search {
         ensures err { OnErr result (self.new ≡ self.old) }
         ensures search { IfOk result (λ c. (problem : Problem) → IsFresh problem c → IsSearch problem self.old → IsSearch problem self.new) }
     {
-        if self.is_taken(name) {
+        if !matches!(self.premises.find(name), Err(Refusal::NoSuchPremise)) {
             return Err(Refusal::NameTaken);
         }
         if self.premises.len() + usize::from(sides) > Limit::Premises.most() {
@@ -74,7 +81,44 @@ impl Search {
         if self.list.len() >= Limit::Choices.most() {
             return Err(Refusal::LimitReached(Limit::Choices));
         }
-        self.add_choice(name, sides)
+        match self.add_choice(name, sides) {
+            Ok(choice) => Ok(choice),
+            Err(AllocError) => Err(Refusal::Memory),
+        }
+    }
+
+    /// Adds a choice with a new name, which stands on its first side.
+    fn add_choice(&mut self, name: &str, sides: u8) -> Result<Choice, AllocError>
+        requires new { premise_number self.old.premises name.now ≡ None }
+        requires free { is_choice self.old.premises name.now ≡ false }
+        requires sides { (2 ≤ sides) × (sides ≤ 8) }
+        requires room { length self.old.premises + sides ≤ most Limit.Premises }
+        ensures ok { OnOk result (self.new ≡ declared self.old name.now sides) }
+        ensures choice { IfOk result (λ c. (c.first ≡ length self.old.premises) × (c.sides ≡ sides)) }
+        ensures last { IfOk result (λ c. IsLastChoice self.new.premises c) }
+        ensures choices { IfOk result (λ c. choices_in self.new ≡ choices_in self.old ++ c ∷ []) }
+        ensures err { OnErr result (self.new ≡ self.old) }
+        ensures search { IfOk result (λ c. (problem : Problem) → IsFresh problem c → IsSearch problem self.old → IsSearch problem self.new) }
+    {
+        let alloc = *self.list.allocator();
+        self.list.reserve(1)?;
+        self.reasons.reserve(1)?;
+        let count = self.premises.len();
+        let Ok(choice) = self.premises.hypothetical(name, sides) else {
+            return Err(AllocError);
+        };
+        self.premises.numbered();
+        match self.worldview.believe(choice.first) {
+            Ok(()) => {
+                self.list.push(1)?;
+                self.reasons.push(Reasons::none(alloc))?;
+                Ok(choice)
+            }
+            Err(error) => {
+                self.premises.back(count);
+                Err(error)
+            }
+        }
     }
 
     /// The last choice goes, with its name, its sides and the reasons against them. It takes no memory.
@@ -89,6 +133,7 @@ impl Search {
         let _ = self.list.pop();
         let _ = self.reasons.pop();
         self.premises.back(usize::from(choice.first));
+        self.premises.numbered();
         self.worldview.back(choice.first);
     }
 }

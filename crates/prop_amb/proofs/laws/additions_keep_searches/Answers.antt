@@ -1,7 +1,4 @@
 use Rattle.prop_amb.proofs.KeepingLaws.{search_extends}
-use Rattle.prop_amb.proofs.DeclaringLaws.{search_declared}
-use Rattle.prop_amb.proofs.AdvancingLaws.{search_advanced}
-use Rattle.prop_amb.proofs.ResolvingLaws.{shown_rules_out}
 use Rattle.prop_amb.proofs.laws.additions_keep_searches.Goals as goal
 
 pub returns : goal.returns
