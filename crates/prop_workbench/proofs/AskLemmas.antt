@@ -1,17 +1,25 @@
 -- What is answered when the network was run for a cell.
-use Rattle.std.proofs.Common.{◌≡◌, ℕ, ◌<◌, ◌≤◌, ◌⊎◌, List, Some, None, All, length, codes, ◌∙◌, Result, Ok, Err, IfOk, inl, inr, refl}
+use Rattle.std.proofs.Common.{◌≡◌, ℕ, zero, suc, ◌+◌, ◌*◌, ◌<◌, ◌≤◌, ◌⊎◌, IsTrue, List, [], ◌∷◌, Some, None, All, get_or, length, codes, ◌∙◌, Result, Ok, Err, IfOk, inl, inr, refl, ap, subst, arith}
 use Rattle.std.specs.List.Sorted.{IsStrictlyIncreasing}
 use Rattle.std.proofs.lemmas.Option.{slice_get-get_or}
 use Rattle.prop_lattice.specs.declared.info.Info.{Info}
 use Rattle.prop_lattice.specs.declared.refusal.Refusal.TheVariants.{NoSuchCell}
-use Rattle.prop_premises.specs.Sets.{Members, set_of}
+use Rattle.prop_premises.specs.Sets.{Members, IsPart, set_of}
 use Rattle.prop_premises.specs.Origins.{Origin, believed_in, choices_of}
 use Rattle.prop_premises.specs.declared.choice.Choice.{Choice}
 use Rattle.prop_premises.specs.ChoiceLists as lists
-use Rattle.prop_amb.specs.Refuted.{IsNogood}
+use Rattle.prop_nogoods.specs.Stores.{has_part}
+use Rattle.prop_scheduler.specs.Potential.{most_steps}
+use Rattle.prop_amb.specs.Refuted.{IsNogood, IsCovered, IsRuledOut, IsFirstConsistent, AllBeforeRefuted}
+use Rattle.prop_amb.specs.Search as search
+use Rattle.prop_amb.specs.Search.{Stand, IsStand}
+use Rattle.prop_amb.specs.Settling as settling
+use Rattle.prop_amb.specs.declared.outcome.Outcome as ends
+use Rattle.prop_amb.specs.declared.outcome.Outcome.TheVariants as ended
+use Rattle.prop_workbench.specs.declared.session.Session.{Session}
 use Rattle.prop_procedures.specs.declared.shape.Param.{Param}
 use Rattle.prop_procedures.specs.Stored.{Stored, span_kind}
-use Rattle.prop_cells.specs.Problems.{Problem, Premises}
+use Rattle.prop_cells.specs.Problems.{Problem}
 use Rattle.prop_cells.specs.Reach.{Explains}
 use Rattle.prop_cells.specs.Data.{Data, IsKept, IsWellMade, beliefs, problem_of}
 use Rattle.prop_procedures.specs.Fitting.{kind_at}
@@ -26,20 +34,23 @@ use Rattle.prop_workbench.specs.Machine.{State, naming, text_at}
 use Rattle.prop_workbench.specs.Refusing.{refusal_of}
 use Rattle.prop_workbench.specs.declared.asking.Question.{Question}
 use Rattle.prop_workbench.specs.declared.asking.Question.TheVariants.{Settle, Worldview, Ask, Why}
-use Rattle.prop_workbench.specs.Questions.{command_of, IsNamed, MaySay}
+use Rattle.prop_workbench.specs.Questions.{command_of, IsNamed, MaySay, HasRun}
 use Rattle.prop_workbench.specs.Running.{Outcome, Unsettled, Contradiction, named_by, worldview_of, MayEnd, Replies, Explained, IsValue, IsValueReply, IsSettledValue, IsUnsettledValue, IsExplainedReply}
-use Rattle.prop_workbench.specs.Sessions.{state_from, AreKnown}
+use Rattle.prop_workbench.specs.Sessions.{state_from, library_of, AreKnown}
 use Rattle.prop_workbench.proofs.StepLemmas.{obeys}
 use Rattle.prop_workbench.specs.Steps.{Obeys, Carries, Runs}
 use Rattle.prop_texts.specs.Texts.{equation, because, contradiction_text}
 use Rattle.prop_vocabulary.proofs.CellLookups.{of_named}
-use Rattle.prop_workbench.proofs.PremiseLemmas.{support_known}
+use Rattle.prop_workbench.proofs.PremiseLemmas.{support_known, same_set, set_has}
 use Rattle.prop_vocabulary.specs.Cells.{CellNames, cell_named}
 use Rattle.prop_compound.specs.Definitions.{Definitions}
 
 -- what is believed with the list
 abbrev pub worldview_in : List Origin → List ℕ → Members
 worldview_in premises list = lists.worldview (believed_in premises) (choices_of premises) list
+
+pub believes_same : (s : Stand) → IsStand s → set_of s.worldview ≡ worldview_in s.premises s.list
+believes_same s stand = same_set (set_of s.worldview) (worldview_in s.premises s.list) stand.believes
 
 -- a question for a cell that is there is not refused
 pub free : (library : List Stored) (s : State) (question : Question) → IsNamed s question → refusal_of library s (command_of question) ≡ None
@@ -120,6 +131,66 @@ explained_by library names words definitions premises d limit believed cell v na
 -- the premises of a nogood are known
 pub nogood_known : (problem : Problem) (choices : List Choice) (n : ℕ) (ps : List ℕ) → AreKnown n problem.statements → IsNogood problem choices (set_of ps) → All (λ p. p < n) ps
 nogood_known problem choices n ps known nogood = support_known problem n nogood.cell ps known nogood.related
+
+-- believed premises of the user's are known
+believed_below : (os : List Origin) (p : ℕ) → IsTrue (believed_in os p) → p < length os
+believed_below [] p h = cc
+believed_below (o ∷ os) zero h = omega arith
+believed_below (o ∷ os) (suc p) h = let b = believed_below os p h in omega arith
+
+pub believed_known : (os : List Origin) (ps : List ℕ) → IsPart (set_of ps) (believed_in os) → All (λ p. p < length os) ps
+believed_known os ps part k d l = believed_below os (get_or ps k d) (part (get_or ps k d) (set_has ps k d l))
+
+-- ---- what a run leaves and tells of itself
+
+pub same_problem : (library library' : List Stored) (d new : Data) → library' ≡ library → new ≡ record d { contents = new.contents } → problem_of library' new ≡ problem_of library d
+same_problem library library' d new same rest = rw same (ap (λ (x : Data). problem_of library x) rest)
+
+-- what was covered still is, with more nogoods between the same choices
+pub cover_kept : (old new : Stand) (m : Members) → new.premises ≡ old.premises → ((n : Members) → IsTrue (has_part old.listed n) → IsTrue (has_part new.listed n)) → IsCovered (search.choices_in old) old.listed m → IsCovered (search.choices_in new) new.listed m
+cover_kept old new m same kept covered = rw same (λ list is_list. kept _ (covered list is_list))
+
+pub has_run : {R O : Type 0} {X : Type 0} {F : X → Type 0} {g : _} {E : Type 0} (value : R → Param → List Info → Info) (s : Session R O X F g) (problem : Problem) (r : Result (ends.Outcome × ℕ) E) → problem ≡ problem_of (library_of value s) s.network.cells → IsStand s.search →
+    AllBeforeRefuted problem (search.users_of s.search) (search.choices_in s.search) s.search.list →
+    IfOk r (λ x. x.0 ≡ ended.Settled → IsSettled (library_of value s) (set_of s.search.worldview) s.network.cells) →
+    IfOk r (λ x. x.0 ≡ ended.Settled → IsFirstConsistent problem (search.users_of s.search) (search.choices_in s.search) s.search.list) →
+    IfOk r (λ x. settling.IfContradiction x.0 (λ n. IsRuledOut problem (search.users_of s.search) (search.choices_in s.search) s.search.listed (set_of n))) →
+    IfOk r (λ x. x.1 ≤ s.limit) → IfOk r (λ x. x.0 ≡ ended.Unsettled → x.1 ≡ s.limit) →
+    IfOk r (λ x. x.0 ≡ ended.Unsettled → s.limit + 1 < lists.lists_count (search.choices_in s.search) * (most_steps problem + 1)) → IfOk r (λ x. HasRun value s x.0 x.1)
+has_run value s problem (Err e) same stand earlier settled first contradiction within spent earned = tt
+has_run value s problem (Ok (ended.Settled, n)) same stand earlier settled first contradiction within spent earned =
+    let rest = subst (λ (b : Members). IsSettled (library_of value s) b s.network.cells) (believes_same s.search stand) (settled refl) in
+    record {
+      ends = record {
+        first = subst (λ (q : Problem). IsFirstConsistent q (search.users_of s.search) (search.choices_in s.search) s.search.list) same (first refl);
+        solution = beliefs (worldview_in s.search.premises s.search.list) s.network.cells.contents;
+        rest = record { least = rest.least; free = rest.free };
+      };
+      covered = tt;
+      settled = settled;
+      within = within;
+      spent = spent;
+    }
+has_run value s problem (Ok (ended.Unsettled, n)) same stand earlier settled first contradiction within spent earned = record {
+  ends = record {
+    is_list = stand.is_list;
+    earlier = subst (λ (q : Problem). AllBeforeRefuted q (search.users_of s.search) (search.choices_in s.search) s.search.list) same earlier;
+    few = subst (λ (q : Problem). s.limit + 1 < lists.lists_count (search.choices_in s.search) * (most_steps q + 1)) same (earned refl);
+  };
+  covered = tt;
+  settled = settled;
+  within = within;
+  spent = spent;
+}
+has_run value s problem (Ok (ended.Contradiction ps, n)) same stand earlier settled first contradiction within spent earned =
+    let out = subst (λ (q : Problem). IsRuledOut q (search.users_of s.search) (search.choices_in s.search) s.search.listed (set_of ps)) same contradiction in
+    record {
+      ends = record { believes = out.believes; refuted = out.refuted; grounded = out.grounded };
+      covered = out.covered;
+      settled = settled;
+      within = within;
+      spent = spent;
+    }
 
 -- ---- what ends before the value
 

@@ -1,5 +1,5 @@
 -- Steps that change what is believed.
-use Rattle.std.proofs.Common.{◌≡◌, ◌∙◌, ℕ, Bool, true, false, List, Some, None, Result, Ok, Err, ◌⊎◌, inl, inr, refl, sym, ap}
+use Rattle.std.proofs.Common.{◌≡◌, ◌∙◌, ℕ, Bool, true, false, List, Some, None, Result, Ok, Err, ◌⊎◌, ◌↔◌, IsTrue, inl, inr, refl, sym, ap}
 use Rattle.std.specs.Prelude.{⊤, OnOk, OnErr, IfErr}
 use Rattle.prop_lattice.specs.declared.refusal.Refusal.{Refusal}
 use Rattle.prop_lattice.specs.declared.refusal.Refusal.TheVariants.{Memory, NoSuchPremise, IsAChoice}
@@ -45,3 +45,8 @@ believed_or_not library s new b name (Ok t) h why same = obeys_done library s ne
 believed_or_not library s new b name (Err e) h (inl (none, inl w)) same = obeys_done library s new (belief_command b name) (Err e) tt tt (inl (missing library s b name none w.0 ∙ ap Some (sym w.1))) same
 believed_or_not library s new b name (Err e) h (inl (none, inr w)) same = obeys_done library s new (belief_command b name) (Err e) tt tt (inl (taken library s b name none w.0 ∙ ap Some (sym w.1))) same
 believed_or_not library s new b name (Err e) h (inr m) same = obeys_done library s new (belief_command b name) (Err e) tt tt (inr m) same
+
+-- the name of a premise that was found is no choice's
+pub found_free : (b : Bool) (r : Result ℕ Refusal) (p : ℕ) → r ≡ Ok p → ((r ≡ Err IsAChoice) ↔ IsTrue b) → b ≡ false
+found_free true r p e h = let f : Ok p ≡ Err IsAChoice = sym e ∙ h.1 refl in cc
+found_free false r p e h = refl

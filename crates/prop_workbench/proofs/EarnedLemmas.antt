@@ -1,5 +1,5 @@
 -- A text is earned by the calls that it counts.
-use Rattle.std.proofs.Common.{◌≡◌, ◌⊎◌, ℕ, ◌<◌, List, length, Option, Some, None, Result, Ok, Err, IfOk, inl, inr, refl}
+use Rattle.std.proofs.Common.{◌≡◌, ◌⊎◌, ℕ, ◌<◌, List, length, Option, Some, None, Result, Ok, Err, inl, inr}
 use Rattle.prop_lattice.specs.declared.refusal.Refusal.{Refusal}
 use Rattle.prop_lattice.specs.declared.refusal.Refusal.TheVariants.{Memory}
 use Rattle.prop_procedures.specs.Stored.{Stored}
@@ -8,11 +8,11 @@ use Rattle.prop_amb.specs.declared.outcome.Outcome.TheVariants.{Unsettled}
 use Rattle.prop_amb.specs.Refuted.{IsListRefuted}
 use Rattle.prop_language.specs.Commands as commands
 use Rattle.prop_language.specs.Commands.{Command}
-use Rattle.prop_engine.specs.Answers.{Answer, Silent, Done, Text, Refused}
+use Rattle.prop_engine.specs.Answers.{Answer, Refused}
 use Rattle.prop_workbench.specs.declared.asking.Question.{Question}
 use Rattle.prop_workbench.specs.declared.asking.Question.TheVariants.{Settle, Worldview, Ask, Why}
 use Rattle.prop_workbench.specs.Machine.{State, problem_in, users_in, choices_in}
-use Rattle.prop_workbench.specs.Questions.{command_of, outcome_of, Picks, HasGone, MaySay, IsEarned, Earns}
+use Rattle.prop_workbench.specs.Questions.{command_of, outcome_of, Picks, HasGone, MaySay, Earns}
 use Rattle.prop_workbench.specs.Sessions.{Work}
 
 -- a refusal is no text
@@ -33,8 +33,8 @@ earns_none picks library s old new read answer steps e = rw e (earns_refused pic
 pub earns : {O : Type 0} (picks : Picks O) (library : List Stored) (s : State) (old new : Work O) (question : Question) (end : Outcome) (steps : ℕ) (answer : Answer) → HasGone picks library s old new steps →
     (end ≡ Unsettled → (0 < length new.line) ⊎ IsListRefuted (problem_in library s) (users_in s) (choices_in s) new.list) →
     MaySay library s (command_of question) (outcome_of new.list end) steps answer → Earns picks library s old new (Ok (Some (command_of question))) answer steps
-earns picks library s old new question end steps answer gone left (inr m) = earns_none picks library s old new (Ok (Some (command_of question))) answer steps m
-earns picks library s old new Settle end steps answer gone left (inl (text, replies, e)) = rw e (record { end = end; gone = gone; left = left; replies = replies })
-earns picks library s old new Worldview end steps answer gone left (inl (text, replies, e)) = rw e (record { end = end; gone = gone; left = left; replies = replies })
-earns picks library s old new (Ask cell name) end steps answer gone left (inl (text, replies, e)) = rw e (record { end = end; gone = gone; left = left; replies = replies })
-earns picks library s old new (Why cell name) end steps answer gone left (inl (text, replies, e)) = rw e (record { end = end; gone = gone; left = left; replies = replies })
+earns picks library s old new question end steps answer went left (inr m) = earns_none picks library s old new (Ok (Some (command_of question))) answer steps m
+earns picks library s old new Settle end steps answer went left (inl (text, replies, e)) = rw e (record { end = end; gone = went; left = left; replies = replies })
+earns picks library s old new Worldview end steps answer went left (inl (text, replies, e)) = rw e (record { end = end; gone = went; left = left; replies = replies })
+earns picks library s old new (Ask cell name) end steps answer went left (inl (text, replies, e)) = rw e (record { end = end; gone = went; left = left; replies = replies })
+earns picks library s old new (Why cell name) end steps answer went left (inl (text, replies, e)) = rw e (record { end = end; gone = went; left = left; replies = replies })

@@ -32,7 +32,7 @@ related_known problem n cell s known related p h =
     let x = reach_stated problem p cell (related p h) in
     All-contains (λ y. (q : ℕ) → y.premise ≡ Some q → q < n) problem.statements x.0 known x.1 p x.2
 
-set_has : (ps : List ℕ) (k d : ℕ) → k < length ps → set_of ps (get_or ps k d) ≡ true
+pub set_has : (ps : List ℕ) (k d : ℕ) → k < length ps → set_of ps (get_or ps k d) ≡ true
 set_has ps k d l = list_any_at (λ q. q == get_or ps k d) ps k d l (eq-eqb (get_or ps k d) (get_or ps k d) refl)
 
 pub support_known : (problem : Problem) (n cell : ℕ) (support : List ℕ) → AreKnown n problem.statements → IsRelatedAt problem cell (set_of support) → All (λ p. p < n) support

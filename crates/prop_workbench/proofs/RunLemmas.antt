@@ -1,26 +1,29 @@
 -- How a run ends holds whichever contradictions were named.
-use Rattle.std.proofs.Common.{◌≡◌, ◌≤◌, ◌<◌, ℕ, List, [], ◌∷◌, ◌++◌, All, codes, length, refl, ap, inl, inr}
-use Rattle.std.proofs.lemmas.List.Elements.{All-weaker}
+use Rattle.std.proofs.Common.{◌≡◌, ◌≤◌, ◌∙◌, ℕ, List, [], Some, All, codes, refl, ap, inl, inr}
 use Rattle.prop_premises.specs.Sets.{set_of}
 use Rattle.prop_amb.specs.Refuted.{IsCovered, IsNogood}
 use Rattle.prop_lattice.specs.declared.info.Info.{Info}
+use Rattle.prop_lattice.specs.declared.refusal.Refusal.{Refusal}
 use Rattle.prop_lattice.specs.declared.refusal.Refusal.TheVariants.{Memory}
 use Rattle.prop_procedures.specs.Stored.{Stored}
 use Rattle.prop_language.specs.Commands as commands
 use Rattle.prop_language.specs.Commands.{Command}
-use Rattle.prop_engine.specs.Answers.{Answer, Text, Refused, Says}
+use Rattle.prop_engine.specs.Answers.{Answer, Refused, Says}
 use Rattle.prop_texts.specs.Texts.{nogoods_text}
 use Rattle.std.specs.List.Sorted.{IsStrictlyIncreasing}
 use Rattle.prop_nogoods.specs.Stores.{AreMinimal}
 use Rattle.prop_workbench.specs.declared.asking.Question.{Question}
 use Rattle.prop_workbench.specs.declared.asking.Question.TheVariants.{Settle, Worldview, Ask, Why}
 use Rattle.prop_workbench.specs.Machine.{State, naming, problem_in, choices_in}
-use Rattle.prop_workbench.specs.Questions.{command_of, IsNamed, MaySay}
+use Rattle.prop_amb.specs.declared.outcome.Outcome as ends
+use Rattle.prop_amb.specs.declared.outcome.Outcome.TheVariants as ended
+use Rattle.prop_workbench.specs.Questions.{command_of, outcome_of, IfContradiction, IsNamed, MaySay}
 use Rattle.prop_workbench.specs.Refusing.{refusal_of}
-use Rattle.prop_workbench.specs.Running.{Outcome, Settled, Unsettled, Contradiction, named_by, MayEnd, IsRest, IsValue, IsSettledValue, IsUnsettledValue, IsValueReply, IsExplainedReply, Replies}
-use Rattle.prop_workbench.specs.Steps.{Shown, Covers, Carries, Runs, IsObeyed}
+use Rattle.prop_workbench.specs.Running.{Outcome, Settled, Unsettled, Contradiction, named_by, MayEnd, IsRest, IsValue, IsValueReply, IsExplainedReply, Replies}
+use Rattle.prop_workbench.specs.Steps.{Shown, Covers, IsObeyed}
 use Rattle.prop_workbench.proofs.AskLemmas.{free, carries}
-use Rattle.prop_workbench.proofs.StepLemmas.{obeys}
+use Rattle.prop_workbench.proofs.NamingLaws.{refusal_naming}
+use Rattle.prop_workbench.proofs.StepLemmas.{obeys, refuses}
 use Rattle.prop_workbench.proofs.CoveringLemmas.{KeepsCover, covers_still, covers_more}
 
 rest_named : (library : List Stored) (s : State) (named : List (List ℕ)) (list : List ℕ) (a : ℕ → Info) → IsRest library s list a → IsRest library (naming s named) list a
@@ -114,6 +117,27 @@ covers_end : (s : Shown) (named : List (List ℕ)) (outcome : Outcome) → Cover
 covers_end s named (Contradiction ps) covers one = covers_more s named ps covers one
 covers_end s named (Settled list) covers one = covers
 covers_end s named (Unsettled list) covers one = covers
+
+pub covered_end : (s : Shown) (list : List ℕ) (end : ends.Outcome) → IfContradiction end (λ ps. IsCovered (choices_in s.state) s.learned (set_of ps)) → IsCoveredEnd s (outcome_of list end)
+covered_end s list (ended.Contradiction ps) covered = covered
+covered_end s list ended.Settled covered = tt
+covered_end s list ended.Unsettled covered = tt
+
+-- want of memory changes nothing, whichever contradictions were named
+pub lacks_obeyed : (library : List Stored) (old new : Shown) (command : Command) (steps : ℕ) → new.state ≡ old.state → KeepsCover old new → IsObeyed library command (Refused Memory) steps old new
+lacks_obeyed library old new command steps same keeps named covers = record {
+  now = named;
+  covers = covers_still old new named keeps covers;
+  step = inr (record { answer_is = refl; same = ap (λ u. naming u named) same });
+}
+
+-- what is refused changes nothing, whichever contradictions were named
+pub refused_obeyed : (library : List Stored) (s : Shown) (command : Command) (refusal : Refusal) → refusal_of library s.state command ≡ Some refusal → IsObeyed library command (Refused refusal) 0 s s
+refused_obeyed library s command refusal refused named covers = record {
+  now = named;
+  covers = covers;
+  step = refuses library (naming s.state named) (naming s.state named) command refusal (refusal_naming library s.state named command ∙ refused) refl;
+}
 
 -- a question is answered whichever contradictions were named
 pub run_obeyed : (library : List Stored) (old new : Shown) (question : Question) (outcome : Outcome) (answer : Answer) (steps : ℕ) → new.state ≡ old.state → KeepsCover old new → IsCoveredEnd new outcome → IsNamed old.state question → MayEnd library old.state outcome →

@@ -44,7 +44,7 @@ use Rattle.prop_vocabulary.specs.Cells.{cell_named}
 -- ---- the refusals of values
 
 -- the reasons for which a value is refused
-data IsValueRefusal : Refusal → Type 0 where
+pub data IsValueRefusal : Refusal → Type 0 where
   no_name : IsValueRefusal NotAName
   no_number : IsValueRefusal NotANumber
   wrong_kind : IsValueRefusal WrongKind
@@ -80,7 +80,7 @@ symbol_refused : (t : Bool) (word : List ℕ) (e : Refusal) → cond t (Ok (Name
 symbol_refused true word e h = cc
 symbol_refused false word e h = let same : NotAName ≡ e = cc in subst IsValueRefusal same no_name
 
-value_refusal : (kind : Kind) (names : List (List ℕ)) (value : Value) (e : Refusal) → value_said kind names value ≡ Err e → IsValueRefusal e
+pub value_refusal : (kind : Kind) (names : List (List ℕ)) (value : Value) (e : Refusal) → value_said kind names value ≡ Err e → IsValueRefusal e
 value_refusal kinds.Span names (Bare word) e h = span_refusal (halves word) e (known_refusal (span_value (halves word)) e h)
 value_refusal kinds.Span names (Braces words) e h = let same : WrongKind ≡ e = cc in subst IsValueRefusal same wrong_kind
 value_refusal (kinds.Set d) names (Bare word) e h = set_refusal names (word ∷ []) e (known_refusal (set_value names (word ∷ [])) e h)

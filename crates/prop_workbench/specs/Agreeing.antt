@@ -1,8 +1,9 @@
 -- What any two sessions agree on that are given the same lines, whatever orders they call waiting procedures in.
-use Rattle.std.specs.Prelude.{◌≡◌, ◌≢◌, ◌⊎◌, ℕ, List, [], ◌∷◌, Option, Some, None, Result, Ok, All}
+use Rattle.std.specs.Prelude.{◌≡◌, ◌≢◌, ◌⊎◌, ◌<◌, IsTrue, ℕ, length, List, [], ◌∷◌, Option, Some, None, Result, Ok, All}
 use Rattle.prop_lattice.specs.declared.info.Info.{Info}
 use Rattle.prop_lattice.specs.declared.refusal.Refusal.TheVariants.{Memory}
-use Rattle.prop_premises.specs.Origins.{IsNumbered}
+use Rattle.prop_premises.specs.Origins.{Origin, IsNumbered, choices_of}
+use Rattle.prop_premises.specs.ChoiceLists.{is_hypothetical}
 use Rattle.prop_procedures.specs.Stored.{Stored}
 use Rattle.prop_vocabulary.specs.Cells.{cell_named}
 use Rattle.prop_language.specs.Commands.{Command}
@@ -56,6 +57,11 @@ SettledTextsMeet library =
 abbrev pub SettledIsFree : List Stored → Type 0
 SettledIsFree library = (s : State) (list premises : List ℕ) → IsNumbered s.premises → MayEnd library s (Settled list) → MayEnd library s (Contradiction premises) → ⊥
 
+-- premises are numbered, and each side of a choice is one of them
+pub record AreNumbered (origins : List Origin) : Type 0 where
+  pub numbered : IsNumbered origins
+  pub below : (p : ℕ) → IsTrue (is_hypothetical (choices_of origins) p) → p < length origins
+
 -- each line leaves the premises numbered
 abbrev pub StepsKeepNumbers : List Stored → Type 0
-StepsKeepNumbers library = (old new : State) (line : List ℕ) (answer : Answer) (steps : ℕ) → IsNumbered old.premises → Step library old line answer new steps → IsNumbered new.premises
+StepsKeepNumbers library = (old new : State) (line : List ℕ) (answer : Answer) (steps : ℕ) → AreNumbered old.premises → Step library old line answer new steps → AreNumbered new.premises

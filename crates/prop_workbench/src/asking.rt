@@ -26,13 +26,14 @@ pub(crate) enum Question<'a> {
 }
 
 impl<R: Rule + Drop, O: Order + Drop> Session<R, O> {
-    ghost use Rattle.std.specs.Prelude.{◌≡◌, ◌<◌, ℕ, List, Ok, Some, IfOk, length};
+    ghost use Rattle.std.specs.Prelude.{◌≡◌, ◌<◌, ◌⊎◌, ℕ, List, Ok, Some, IfOk, length};
     ghost use Rattle.prop_premises.specs.Sets.{set_of};
     ghost use Rattle.prop_cells.specs.Data.{beliefs};
     ghost use Rattle.prop_scheduler.specs.Turns.{IsSettled};
     ghost use Rattle.prop_language.specs.Commands as commands;
     ghost use Rattle.prop_engine.specs.Answers.{answer_of, Says, Text};
-    ghost use Rattle.prop_workbench.specs.Machine.{text_at};
+    ghost use Rattle.prop_amb.specs.Refuted.{IsListRefuted};
+    ghost use Rattle.prop_workbench.specs.Machine.{text_at, problem_in, users_in, choices_in};
     ghost use Rattle.prop_texts.specs.Texts.{equation};
     ghost use Rattle.prop_workbench.specs.Questions.{command_of, outcome_of, IsNamed, HasRun, HasGone, MaySay, RestsOn};
     ghost use Rattle.prop_workbench.specs.Reasons.{IsLeanExplanation, IsLeanAnswer};
@@ -51,15 +52,18 @@ impl<R: Rule + Drop, O: Order + Drop> Session<R, O> {
         ensures state { state_of self.new ≡ state_of self.old }
         ensures run { IfOk result (λ r. HasRun R.value_of self.new r.0 r.1) }
         ensures gone { IfOk result (λ r. HasGone O.picks (library_of R.value_of self.old) (state_of self.old) (work_of self.old) (work_of self.new) r.1) }
+        ensures left { IfOk result (λ r. r.0 ≡ Outcome.Unsettled → (0 < length self.new.agenda.line) ⊎ IsListRefuted (problem_in (library_of R.value_of self.old) (state_of self.old)) (users_in (state_of self.old)) (choices_in (state_of self.old)) self.new.search.list) }
     {
-        settle(
+        let ended = settle(
             self.alloc,
             &mut self.search,
             &mut self.network,
             &mut self.agenda,
             &mut self.order,
             self.limit,
-        )
+        );
+        self.search.well_made();
+        ended
     }
 
     /// Runs the network and answers the question, and tells in how many steps.

@@ -22,6 +22,7 @@ impl<R: Rule + Drop, O: Order + Drop> Session<R, O> {
         let premise = self.search.premises().find(name)?;
         match self.search.kick(premise) {
             Ok(true) => {
+                self.search.well_made();
                 wake_all(&self.network, &mut self.agenda);
                 Ok(())
             }
@@ -39,6 +40,7 @@ impl<R: Rule + Drop, O: Order + Drop> Session<R, O> {
         let premise = self.search.premises().find(name)?;
         match self.search.bring(premise) {
             Ok(true) => {
+                self.search.well_made();
                 wake_all(&self.network, &mut self.agenda);
                 Ok(())
             }

@@ -32,7 +32,7 @@ pub(crate) fn meaning<'a>(words: &Vocabulary, kind: Kind, value: &Value<'a>) -> 
 }
 
 impl<R: Rule + Drop, O: Order + Drop> Session<R, O> {
-    ghost use Rattle.std.specs.Prelude.{◌≡◌, ◌<◌, ◌++◌, ◌∷◌, [], ◌⊎◌, ℕ, IsTrue, None, Some, OnOk, OnErr, IfErr, length};
+    ghost use Rattle.std.specs.Prelude.{◌≡◌, ◌<◌, ◌++◌, ◌∷◌, [], ◌⊎◌, ℕ, IsTrue, false, None, Some, OnOk, OnErr, IfErr, length};
     ghost use Rattle.prop_lattice.specs.declared.refusal.Refusal.TheVariants.{Memory};
     ghost use Rattle.prop_premises.specs.Origins.{premise_number, is_choice, with_name};
     ghost use Rattle.prop_language.specs.Commands as commands;
@@ -40,11 +40,11 @@ impl<R: Rule + Drop, O: Order + Drop> Session<R, O> {
     ghost use Rattle.prop_procedures.specs.Fitting.{kind_at};
     ghost use Rattle.prop_cells.specs.Refusing.{may_be_stated, state_refusal};
     ghost use Rattle.prop_engine.specs.Answers.{answer_done};
-    ghost use Rattle.prop_workbench.specs.Effects.{number_given, name_of, stating, stated, with_meant, info_meant, MayMean};
+    ghost use Rattle.prop_workbench.specs.Effects.{number_given, name_of, stating, stated, info_meant, MayMean};
     ghost use Rattle.prop_values.specs.Said.{meant_of};
     ghost use Rattle.prop_values.specs.Values.{Name};
     ghost use Rattle.prop_vocabulary.specs.Vocabulary.{with_symbol, symbol_number};
-    ghost use Rattle.prop_workbench.specs.Refusing.{telling_limit, statement_limit, stating_limit, is_choice_told};
+    ghost use Rattle.prop_workbench.specs.Refusing.{telling_limit, statement_limit, stating_limit, is_choice_told, with_meant};
     ghost use Rattle.prop_workbench.specs.Sessions.{state_of, library_of, IsInOrder, Keeps};
     ghost use Rattle.prop_workbench.specs.Steps.{Obeys};
 
@@ -92,7 +92,7 @@ impl<R: Rule + Drop, O: Order + Drop> Session<R, O> {
         meant: Meant,
     ) -> Result<(), Refusal>
         requires sound { IsInOrder R.value_of self.old }
-        requires told { is_choice_told (state_of self.old) (name_of premise.entry) ≡ false }
+        requires told { is_choice_told (state_of self.old) (name_of premise) ≡ false }
         requires cell { cell < length self.old.network.cells.kinds }
         requires may { MayMean (kind_at self.old.network.cells.kinds cell) (meant_of meant) }
         ensures keeps { Keeps R.value_of self.old self.new }
@@ -115,7 +115,7 @@ impl<R: Rule + Drop, O: Order + Drop> Session<R, O> {
         symbol: &str,
     ) -> Result<(), Refusal>
         requires sound { IsInOrder R.value_of self.old }
-        requires told { is_choice_told (state_of self.old) (name_of premise.entry) ≡ false }
+        requires told { is_choice_told (state_of self.old) (name_of premise) ≡ false }
         requires cell { cell < length self.old.network.cells.kinds }
         requires may { (kind_at self.old.network.cells.kinds cell).kind ≡ Kind.Symbol }
         ensures keeps { Keeps R.value_of self.old self.new }
@@ -145,7 +145,7 @@ impl<R: Rule + Drop, O: Order + Drop> Session<R, O> {
     /// Why one more statement is refused, under the premise with a name or under none.
     fn statement_limit(&self, premise: Option<&str>) -> Option<Refusal>
         requires sound { IsInOrder R.value_of self.now }
-        requires told { is_choice_told (state_of self.now) (name_of premise.entry) ≡ false }
+        requires told { is_choice_told (state_of self.now) (name_of premise) ≡ false }
         ensures { result ≡ statement_limit (state_of self.now) (name_of premise.entry) }
     {
         match premise {
@@ -164,7 +164,7 @@ impl<R: Rule + Drop, O: Order + Drop> Session<R, O> {
     /// Makes a statement under the premise with a name, which may be new, or under none.
     fn state_said(&mut self, premise: Option<&str>, cell: usize, info: Info) -> Result<(), Refusal>
         requires sound { IsInOrder R.value_of self.old }
-        requires told { is_choice_told (state_of self.old) (name_of premise.entry) ≡ false }
+        requires told { is_choice_told (state_of self.old) (name_of premise) ≡ false }
         requires cell { cell < length self.old.network.cells.kinds }
         requires may { IsTrue (may_be_stated (kind_at self.old.network.cells.kinds cell).kind (kind_at self.old.network.cells.kinds cell).size info) }
         ensures keeps { Keeps R.value_of self.old self.new }
@@ -240,6 +240,7 @@ impl<R: Rule + Drop, O: Order + Drop> Session<R, O> {
             Ok(premise) => premise,
             Err(refusal) => return Err(refusal),
         };
+        self.search.well_made();
         match state(
             &mut self.network,
             &mut self.agenda,
