@@ -1,6 +1,7 @@
 -- How a session begins.
 use Rattle.std.proofs.Common.{◌≡◌, ◌∙◌, ℕ, zero, suc, ◌+◌, ◌<◌, ◌≤◌, ap, List, [], ◌∷◌, ◌++◌, length, map, take, get_or, inl, inr, refl, arith, subst}
 use Rattle.std.proofs.lemmas.List.{take_more, take_all, map-append}
+use Rattle.std.proofs.lemmas.List.Elements.{All-nil}
 use Rattle.std.specs.Prelude.{Option, Some, None, slice_get, IsSomeAnd, Result, Ok, Err, IfOk, OnErr}
 use Rattle.std.proofs.lemmas.Option.{none-some, same_Some}
 use Rattle.prop_lattice.specs.Points.{Point}
@@ -121,13 +122,17 @@ answered_in_front_as library related begun first (Some input) held held' loads (
     let before = carried_out library begun first prelude_lines loads named covers in
     inr (naming first.state before.now, before.done, (output, appends, shown_fronts library related first input output front before.now before.covers))
 
+-- no contradictions are covered by what was learned
+none_covered : (s : Shown) → Covers s []
+none_covered s = All-nil _
+
 -- a session whose library has the kit's procedures, from what a new one shows
 pub answered_by_kit : {X : Type 0} {F : X → Type 0} {g : _} → (library : Library Kit X F g) (items : List (Procedure Kit X F g)) (s : Shown) (limit : ℕ) (left held held' : Option (List ℕ)) (result : Result Counts Fault) → library.procedures.items ≡ items → map (stored_as value_of) items ≡ kit_library → map (λ p. p.rule) items ≡ in_order → s ≡ new_shown limit → IfOk result (IsAnsweredAs (stored_of value_of library) (related_of Related library) s left held held') → IfOk result (IsAnswered left held held' limit)
 answered_by_kit library items s limit left held held' (Ok counts) same listed ruled begun h =
     let stored : stored_of value_of library ≡ kit_library = ap (map (stored_as value_of)) same ∙ listed in
     let related : related_of Related library ≡ kit_related = related_by_rules library (ap (map (λ p. p.rule)) same ∙ ruled) in
     let answered : IsAnsweredAs kit_library kit_related (new_shown limit) left held held' counts = subst (λ (P : Type 0). P) (λ i. IsAnsweredAs (stored i) (related i) (begun i) left held held' counts) h in
-    answered [] tt
+    answered [] (none_covered (new_shown limit))
 answered_by_kit library items s limit left held held' (Err e) same listed ruled begun h = tt
 
 -- the same of what it wrote until it was stopped
@@ -137,4 +142,4 @@ answered_in_front_by_kit library items s limit left held held' (Err e) same list
     let stored : stored_of value_of library ≡ kit_library = ap (map (stored_as value_of)) same ∙ listed in
     let related : related_of Related library ≡ kit_related = related_by_rules library (ap (map (λ p. p.rule)) same ∙ ruled) in
     let answered : IsAnsweredInFrontAs kit_library kit_related (new_shown limit) left held held' = subst (λ (P : Type 0). P) (λ i. IsAnsweredInFrontAs (stored i) (related i) (begun i) left held held') h in
-    answered [] tt
+    answered [] (none_covered (new_shown limit))
