@@ -37,8 +37,8 @@ at_whole front rest e side p q place number inside h =
       number = omega (arith, number, second.0);
       inside = inside;
       origin = ap (λ l. slice_get l p) (origins_of-append front (e ∷ rest))
-        ∙ slice_get-skip (origins_of front) (origins_of (e ∷ rest)) side p number
-        ∙ slice_get-front (origins_of_kind (string_bytes e.0) e.1.kind) (origins_of rest) side (omega (arith, inside, length-kind (string_bytes e.0) e.1.kind));
+          ∙ slice_get-skip (origins_of front) (origins_of (e ∷ rest)) side p number
+          ∙ slice_get-front (origins_of_kind (string_bytes e.0) e.1.kind) (origins_of rest) side (omega (arith, inside, length-kind (string_bytes e.0) e.1.kind));
     }
 
 entry_whole : {A : Type 0} (front rest : List (String A × Named)) (e : String A × Named) (q : ℕ) → q ≡ length front → slice_get (front ++ e ∷ rest) q ≡ Some e
@@ -127,13 +127,13 @@ written_whole front rest e was believed p k number h =
     let w : Named = record { first = p; kind = kind.User believed } in
     record {
       origins = origins_of-append front ((e.0, w) ∷ rest)
-        ∙ sym (with_belief_at-skip (origins_of front) (origins_of rest) (string_bytes e.0) was believed p number)
-        ∙ ap (λ x. with_belief_at (origins_of front ++ (origins_of_kind (string_bytes e.0) x ++ origins_of rest)) p believed) (sym k)
-        ∙ ap (λ l. with_belief_at l p believed) (sym (origins_of-append front (e ∷ rest)));
+          ∙ sym (with_belief_at-skip (origins_of front) (origins_of rest) (string_bytes e.0) was believed p number)
+          ∙ ap (λ x. with_belief_at (origins_of front ++ (origins_of_kind (string_bytes e.0) x ++ origins_of rest)) p believed) (sym k)
+          ∙ ap (λ l. with_belief_at l p believed) (sym (origins_of-append front (e ∷ rest)));
       numbered = numbered-both 0 front ((e.0, w) ∷ rest) (length (origins_of front)) (omega arith) (numbered-first 0 front (e ∷ rest) h) (number, tt, tail);
       places = places_from-append 0 front ((e.0, w) ∷ rest) (length front) (omega arith)
-        ∙ ap (λ x. places_from 0 front ++ (replicate (width x) (length front) ++ places_from (suc (length front)) rest)) (sym k)
-        ∙ sym (places_from-append 0 front (e ∷ rest) (length front) (omega arith));
+          ∙ ap (λ x. places_from 0 front ++ (replicate (width x) (length front) ++ places_from (suc (length front)) rest)) (sym k)
+          ∙ sym (places_from-append 0 front (e ∷ rest) (length front) (omega arith));
     }
 
 user_kind : (name : List ℕ) (k : Kind) (side : ℕ) → side < width k → option_map_or is_user (slice_get (origins_of_kind name k) side) false ≡ true → (was : Bool) × (k ≡ kind.User was)
@@ -157,7 +157,7 @@ written es p q believed h place user = by (cut 0 es p q place)
         let number : p ≡ length (origins_of c.front) = omega (arith, c.number, c.inside, ap width k.1) in
         subst (λ l. Written l (set_value_at l q w) p believed) (sym c.whole)
         (subst (λ l. Written (c.front ++ c.entry ∷ c.rest) l p believed) (sym (set_value_at-skip c.front c.rest c.entry w q front))
-          (written_whole c.front c.rest c.entry k.0 believed p k.1 number numbered))
+        (written_whole c.front c.rest c.entry k.0 believed p k.1 number numbered))
 
 -- ---- names that are dropped
 

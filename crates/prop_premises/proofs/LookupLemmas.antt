@@ -127,7 +127,7 @@ choice_from name n (e ∷ es) k d =
     choose_here is_choices (names_it name e.0) e.1 (lookup (names_it name) es) (list_any (is_side_called name) (origins_of (e ∷ es)))
     (λ h. choice_here name nm e.1.kind (origins_of es) k.1 h (no_choice name (n + width e.1.kind) es k.2 (missing_from name e.0 es (same_name name nm h) d.0)))
     (λ h. list_any-append (is_side_called name) (origins_of_kind nm e.1.kind) (origins_of es)
-      ∙ ap (λ b. b || list_any (is_side_called name) (origins_of es)) (side_kind name nm e.1.kind k.1 h) ∙ choice_from name (n + width e.1.kind) es k.2 d.1)
+    ∙ ap (λ b. b || list_any (is_side_called name) (origins_of es)) (side_kind name nm e.1.kind k.1 h) ∙ choice_from name (n + width e.1.kind) es k.2 d.1)
 
 -- a look-up tells the number of the premise with the name
 pub premise_number-lookup : {A : Type 0} (name : List ℕ) (es : List (String A × Named)) → AreNumberedFrom 0 es → IsDistinct string_eq (keys_of es) → premise_number (origins_of es) name ≡ number_of (lookup (names_it name) es)

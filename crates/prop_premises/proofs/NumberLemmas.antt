@@ -114,7 +114,7 @@ after_choice n name (suc k) os l =
     choices_from-append n (sides_below name (suc k) (suc k)) os (n + suc k) (omega (arith, length-sides name (suc k) (suc k))) ∙ ap (λ cs. cs ++ choices_from (n + suc k) os) (choices_from-sides n name (suc k) k)
 
 row : {A : Type 0} (n : ℕ) (es : List (String A × Named)) → AreNumberedFrom n es → Row n (origins_of es) (choices_from n (origins_of es))
-row n [] h = record { later = tt; in_order = tt; of_sides = tt; below = λ p e. cc; user = λ q e. cc; }
+row n [] h = record { later = tt; in_order = tt; of_sides = tt; below = λ p e. cc; user = λ q e. cc }
 row n (e ∷ es) h = by e.1.kind h.1 (row (n + width e.1.kind) es h.2)
   where
     same : n + 1 ≡ suc n

@@ -21,10 +21,10 @@ pub record Taken (choices : List Choice) (sides : List ℕ) (k : ℕ) (d : Choic
 pub taken : (choices : List Choice) (sides : List ℕ) (k : ℕ) (d : Choice) (e : ℕ) → IsChoiceList choices sides → k < length choices → Taken choices sides k d e
 taken [] sides k d e h l = absurd (omega (arith, l))
 taken (c ∷ cs) [] k d e h l = absurd h
-taken (c ∷ cs) (s ∷ ss) zero d e h l = record { within = omega arith; least = h.0.0; most = h.0.1; }
+taken (c ∷ cs) (s ∷ ss) zero d e h l = record { within = omega arith; least = h.0.0; most = h.0.1 }
 taken (c ∷ cs) (s ∷ ss) (suc k) d e h l =
     let rest = taken cs ss k d e h.1 (omega (arith, l)) in
-    record { within = omega (arith, rest.within); least = rest.least; most = rest.most; }
+    record { within = omega (arith, rest.within); least = rest.least; most = rest.most }
 
 -- the premise of such a side is hypothetical
 pub taken_is_hypothetical : (choices : List Choice) (sides : List ℕ) (k : ℕ) (d : Choice) (e : ℕ) → IsChoiceList choices sides → k < length choices →

@@ -93,7 +93,7 @@ cut k (e ∷ es) p q h = elim (cases_lt p (width e.1.kind)) [
   | inl below ↦ (
       let here = slice_get-front (replicate (width e.1.kind) k) (places_from (suc k) es) p (omega (arith, below, length-replicate (width e.1.kind) k)) ∙ slice_get-replicate (width e.1.kind) p k below in
       let same = same_some q k (sym h ∙ here) in
-      record { front = []; entry = e; rest = es; side = p; whole = refl; place = omega (arith, same); number = omega arith; inside = below; })
+      record { front = []; entry = e; rest = es; side = p; whole = refl; place = omega (arith, same); number = omega arith; inside = below })
   | inr above ↦ (
       let w = width e.1.kind in
       let split : p ≡ w + (p - w) = omega (arith, above) in

@@ -25,7 +25,6 @@ use Rattle.prop_workbench.specs.Running.{Outcome, named_by, Settled, Contradicti
 use Rattle.prop_workbench.specs.Steps.{Runs, Lists, Changes, CarriesUnless, Follows, Step}
 use Rattle.prop_workbench.specs.Engine.{Gives, workbench}
 use Rattle.prop_workbench.specs.Agreeing.{AreAlike, HaveMemory, RunsMeet, AnswersMeet, IsSettledText, SayOneValue, SettledTextsMeet, SettledIsFree}
-
 use Rattle.prop_workbench.proofs.NamingLaws.{refusal_alike, effect_alike}
 use Rattle.prop_amb.proofs.RefutedLaws.{first_unique, believed_refutes}
 

@@ -66,11 +66,14 @@ pub learning_is_total : (library : List Stored) (related : ℕ → Param → Lis
 learning_is_total library related old line = total (reading line) refl
   where
     say : (read : Result (Option Command) Refusal) → reading line ≡ read → (answer : Answer) → ((s : State) → Follows library s read answer s 0) → ((text : List ℕ) → answer ≢ Text text) → (answer : Answer) × Shows library related old line answer old
-    say read is_read answer follows no_text = (answer, record {
-      steps = 0;
-      step = λ named covers. record { now = named; covers = covers; step = rw is_read (follows (naming old.state named)) };
-      points = λ sound command text r e. absurd (no_text text e);
-    })
+    say read is_read answer follows no_text = (
+      answer,
+      record {
+        steps = 0;
+        step = λ named covers. record { now = named; covers = covers; step = rw is_read (follows (naming old.state named)) };
+        points = λ sound command text r e. absurd (no_text text e);
+      },
+    )
 
     total : (read : Result (Option Command) Refusal) → reading line ≡ read → (answer : Answer) × Shows library related old line answer old
     total (Ok None) e = say (Ok None) e Silent (λ s. (refl, refl, refl)) (λ text f. cc)

@@ -133,7 +133,12 @@ impl<R: Rule + Drop, O: Order + Drop> Session<R, O> {
     ghost use Rattle.prop_workbench.specs.Steps.{Obeys};
 
     /// A choice with a new name between what the values say at a cell.
-    pub(crate) fn choose(&mut self, choice: &str, name: &str, values: &[Value]) -> Result<(), Refusal>
+    pub(crate) fn choose(
+        &mut self,
+        choice: &str,
+        name: &str,
+        values: &[Value],
+    ) -> Result<(), Refusal>
         requires sound { IsInOrder R.value_of self.old }
         requires some { 2 ≤ length values.now }
         requires few { length values.now ≤ 8 }

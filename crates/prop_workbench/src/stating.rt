@@ -17,7 +17,11 @@ use prop_values::{Meant, read_value};
 use prop_vocabulary::Vocabulary;
 
 /// What a value means at a cell of a kind.
-pub(crate) fn meaning<'a>(words: &Vocabulary, kind: Kind, value: &Value<'a>) -> Result<Meant<'a>, Refusal>
+pub(crate) fn meaning<'a>(
+    words: &Vocabulary,
+    kind: Kind,
+    value: &Value<'a>,
+) -> Result<Meant<'a>, Refusal>
     requires { IsKnown words.now kind }
     ensures ok { IfOk result (λ meant. meaning_at words.now kind (value_of value.now) ≡ Ok (meant_of meant)) }
     ensures err { IfErr result (λ e. meaning_at words.now kind (value_of value.now) ≡ Err e) }

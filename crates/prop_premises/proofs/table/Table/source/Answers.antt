@@ -22,8 +22,8 @@ overflow_sub-side c =
     let a = c.in_ok-place.ensures.lookup in
     let l : c.args.premise < length c.self.inside.places.items = omega (arith, a.3.0, c.from.ensures, ap length c.deref.ensures.value) in
     (side_bounds c.self.inside.names.entries c.args.premise c.from-2.result (c.in_ok-name.name.now, c.in_ok-name.named.now) c.in-Choice.sides
-      (told_at c.self.inside.names.entries c.self.inside.places.items c.args.premise c.from-2.result c.in_ok-place.field-0.now (c.in_ok-name.name.now, c.in_ok-name.named.now) inv.1 inv.2 l (rw (c.deref.ensures.value, c.from.ensures) at a.1) c.from-2.ensures c.in_ok-name.ensures.entry)
-      c.in-Choice.is).low
+    (told_at c.self.inside.names.entries c.self.inside.places.items c.args.premise c.from-2.result c.in_ok-place.field-0.now (c.in_ok-name.name.now, c.in_ok-name.named.now) inv.1 inv.2 l (rw (c.deref.ensures.value, c.from.ensures) at a.1) c.from-2.ensures c.in_ok-name.ensures.entry)
+    c.in-Choice.is).low
 
 pub returns-in-User : goal.returns-in-User
 returns-in-User c =

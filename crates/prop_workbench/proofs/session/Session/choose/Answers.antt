@@ -38,7 +38,7 @@ returns-in-Some-first_refusal-clause-step g c =
     let kind : c.kind-kind.result ≡ kind_at s.network.cells.kinds c.in-Some.cell = c.kind-kind.ensures ∙ ap (λ d. kind_at d.kinds c.in-Some.cell) c.data.ensures in
     refuses library (state_of s) (state_of s) (commands.Command.Choose c.args.choice.now c.args.name.now values) c.in-Some-first_refusal.refusal
     (choice_refused library (state_of s) c.args.choice.now c.args.name.now values c.in-Some.cell c.kind-kind.result.kind c.in-Some-first_refusal.refusal (sym c.in-Some.ensures.number) (ap (λ k. k.kind) kind)
-        (ap (λ t. values_refusal s.words c.kind-kind.result.kind t values) (sym c.is_taken-is_taken.ensures) ∙ sym c.in-Some-first_refusal.ensures)) refl
+    (ap (λ t. values_refusal s.words c.kind-kind.result.kind t values) (sym c.is_taken-is_taken.ensures) ∙ sym c.in-Some-first_refusal.ensures)) refl
 
 pub returns-in-None-first_refusal-clause-step : goal.returns-in-None-first_refusal-clause-step
 returns-in-None-first_refusal-clause-step g c =
