@@ -2,8 +2,9 @@
 
 BOUND = 10**18
 
-# An information is NOTHING, CLASH, a pair of ends, or a set of truths.
+# An information is NOTHING, CLASH, a pair of ends, or a set of truths or of elements of one domain.
 NOTHING, CLASH = "nothing", "contradiction"
+ELEMENTS = ["a", "b", "c"]
 YES, NO = frozenset(["yes"]), frozenset(["no"])
 
 
@@ -65,9 +66,44 @@ def above(t, x):
     return {YES: clipped(x[0] + 1, BOUND), NO: (-BOUND, x[1])}.get(t, NOTHING)
 
 
+def alike(x, y):
+    if x == y and len(x) == 1:
+        return YES
+    return NOTHING if x & y else NO
+
+
+def parted(t, x, y):
+    return (y - x or CLASH) if t == NO and len(x) == 1 else NOTHING
+
+
+def passed(t, x):
+    return x if t == YES else NOTHING
+
+
+def others(x):
+    """The elements that differ from some element of the set."""
+    return frozenset(it for it in ELEMENTS if x - {it})
+
+
+def is_below(one, other):
+    """Whether the second says all that the first says."""
+    return merged(one, other) == other
+
+
 def text_of(info):
     if isinstance(info, tuple):
         return str(info[0]) if info[0] == info[1] else f"{info[0]}..{info[1]}"
     if isinstance(info, frozenset):
-        return "{yes no}" if len(info) == 2 else "".join(info)
+        members = [it for it in ["yes", "no", *ELEMENTS] if it in info]
+        return members[0] if len(members) == 1 else "{" + " ".join(members) + "}"
     return info
+
+
+def info_of(text):
+    """The information that an answer writes."""
+    if text in (NOTHING, CLASH):
+        return text
+    if text[0] in "-0123456789":
+        low, _, high = text.partition("..")
+        return (int(low), int(high or low))
+    return frozenset(text.strip("{}").split())

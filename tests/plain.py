@@ -10,10 +10,37 @@ from dataclasses import dataclass, field, replace
 from itertools import product
 
 from case import Case
-from formulas import CLASH, NO, NOTHING, YES, above, below, clipped, compared, divided, merged, multiplied, squared, text_of
+from formulas import (
+    CLASH,
+    ELEMENTS,
+    NO,
+    NOTHING,
+    YES,
+    above,
+    alike,
+    below,
+    clipped,
+    compared,
+    divided,
+    info_of,
+    is_below,
+    merged,
+    multiplied,
+    others,
+    parted,
+    passed,
+    squared,
+    text_of,
+)
 
 SESSIONS, ROUNDS = 1000, 200
-SPANS, TRUTHS, PREMISES = [f"c{i}" for i in range(5)], ["t0", "t1"], [f"p{i}" for i in range(4)]
+SPANS, TRUTHS, SETS, PREMISES = [f"c{i}" for i in range(5)], ["t0", "t1"], ["d0", "d1", "d2"], [f"p{i}" for i in range(4)]
+CELLS = {"s": SPANS, "t": TRUTHS, "d": SETS}
+DECLARED = [
+    f"domain d {' '.join(ELEMENTS)}",
+    f"relation differ d d = {' ; '.join(f'{x} {y}' for x in ELEMENTS for y in ELEMENTS if x != y)}",
+    *[f"cell {cell} {kind}" for cells, kind in [(SPANS, "span"), (TRUTHS, "truth"), (SETS, "d")] for cell in cells],
+]
 
 # Each procedure with the kinds of its places, the output last, and what it answers to arguments none of which is Nothing.
 PROCEDURES = {
@@ -27,7 +54,14 @@ PROCEDURES = {
     "below": ("tss", below),
     "above": ("tss", above),
     "inverter": ("tt", lambda t: frozenset({"yes": "no", "no": "yes"}[it] for it in t)),
+    "comparer": ("ddt", alike),
+    "parter": ("tddd", parted),
+    "passer": ("tdd", passed),
+    "imager by differ": ("dd", others),
 }
+
+# From this limit on no session is cut short, and the limits that cut.
+ENOUGH, TIGHT = 10**9, [0, 1, 2, 3, 5, 8]
 
 
 class Unending(Exception):
@@ -45,6 +79,7 @@ class Plain:
     # The user's premises and the sides, in order of number.
     known: list = field(default_factory=list)
     believed: set = field(default_factory=set)
+    limit: int = ENOUGH
     # What was evaluated before.
     found: dict = field(default_factory=dict)
 
@@ -60,7 +95,7 @@ class Plain:
         return self.found[believed]
 
     def evaluated(self, believed):
-        values = dict.fromkeys(SPANS + TRUTHS, NOTHING)
+        values = dict.fromkeys(SPANS + TRUTHS + SETS, NOTHING)
         for premise, cell, info in self.stated:
             if premise is None or premise in believed:
                 values[cell] = merged(values[cell], info)
@@ -79,14 +114,40 @@ class Plain:
         """Every choice list, in the order in which they are tried."""
         return [set(sides) for sides in product(*self.choices)]
 
+    def tried(self):
+        """The believed premises with each choice list up to the first that doesn't clash with them."""
+        tried = []
+        for sides in self.lists():
+            tried.append(self.believed | sides)
+            if not self.clashes(tried[-1]):
+                break
+        return tried
+
     def worldview(self):
         """The believed premises with the first choice list that doesn't clash with them, or None."""
-        return next((self.believed | sides for sides in self.lists() if not self.clashes(self.believed | sides)), None)
+        last = self.tried()[-1]
+        return None if self.clashes(last) else last
 
     def refutes(self, premises):
         """Whether these clash with every choice list that takes the sides among them; where none does, they are refuted by nothing."""
         lists = [sides for sides in self.lists() if all(premises & set(choice) <= sides for choice in self.choices)]
         return bool(lists) and all(self.clashes(premises | sides) for sides in lists)
+
+    def reaching(self):
+        """For each cell the premises that something stated of it, or of a cell from which a way of procedures leads to it."""
+        reaching = {cell: set() for cell in SPANS + TRUTHS + SETS}
+        for premise, cell, _ in self.stated:
+            reaching[cell] |= {premise} - {None}
+        for _ in reaching:
+            for _, inputs, output in self.attached:
+                reaching[output] |= set().union(*[reaching[it] for it in inputs])
+        return reaching
+
+    def are_at_odds(self, premises):
+        """Whether each of the premises takes part in a clash at some cell with others of them and sides, that all reach that cell."""
+        reaching = self.reaching().values()
+        parts = {frozenset((premises | sides) & reached) for reached in reaching for sides in self.lists()}
+        return premises <= set().union(*[it for it in parts if self.refutes(it)])
 
 
 def answered(name, arguments):
@@ -111,6 +172,8 @@ class Question:
 
     def is_right(self, reply):
         """Whether the reply says what follows, and names premises that are believed and enough for it."""
+        if "unsettled" in reply:
+            return self.plain.limit < ENOUGH and self.is_unsettled(reply)
         worldview = self.plain.worldview()
         if worldview is None:
             return self.is_contradiction(reply)
@@ -122,16 +185,36 @@ class Question:
             return reply == "settled"
         value = self.plain.values(worldview)[self.cell]
         said, _, reason = reply.partition(" because ")
-        return said == f"{self.cell} = {text_of(value)}" and (self.word == "ask" and not reason or self.is_reason(reason, worldview, value))
+        return said == f"{self.cell} = {text_of(value)}" and self.is_behind(reason, worldview, value)
 
     def is_contradiction(self, reply):
         head, _, reason = reply.partition(": ")
         reason = premises_in(reason)
         self.named.append(reason)
-        return head == "contradiction" and reason <= self.plain.believed and self.plain.refutes(reason)
+        return head == "contradiction" and reason <= self.plain.believed and self.plain.refutes(reason) and self.plain.are_at_odds(reason)
 
-    def is_reason(self, reason, worldview, value):
-        return bool(reason) and premises_in(reason) <= worldview and self.plain.values(premises_in(reason))[self.cell] == value
+    def is_unsettled(self, reply):
+        """Whether all that the reply says is entailed by one choice list, before which every other is refuted."""
+        if self.word in ("settle", "worldview"):
+            return reply == "unsettled"
+        said, _, reason = reply.partition(" because ")
+        found = re.fullmatch(rf"{self.cell} = (.+) unsettled", said)
+        return bool(found) and any(self.follows(info_of(found[1]), reason, worldview) for worldview in self.plain.tried())
+
+    def follows(self, value, reason, worldview):
+        stated = [info for premise, cell, info in self.plain.stated if cell == self.cell and premise in worldview | {None}]
+        return (
+            is_below(value, self.plain.values(worldview)[self.cell])
+            and all(is_below(info, value) for info in stated)
+            and self.is_behind(reason, worldview, value)
+        )
+
+    def is_behind(self, reason, worldview, value):
+        """Whether the reason is one where one is asked for: it is believed, bears on the cell, and is enough for the value."""
+        if self.word == "ask" or not reason:
+            return self.word == "ask" and not reason
+        premises = premises_in(reason)
+        return premises <= worldview & self.plain.reaching()[self.cell] and is_below(value, self.plain.values(premises)[self.cell])
 
 
 def replies_of(output):
@@ -146,18 +229,19 @@ def replies_of(output):
 class Session:
     """Lines that look random, with what each of their replies has to be."""
 
-    COMMANDS = ["tell", "tell", "fix", "kick", "bring", "attach", "ask"]
+    COMMANDS = ["tell", "tell", "tell", "tell", "fix", "fix", "kick", "kick", "bring", "bring", "attach", "attach", "ask", "ask", "limit"]
     QUESTIONS = ["ask", "why", "settle"]
+    PROCEDURES, LINES = sorted(PROCEDURES), 40
 
     def __init__(self, number):
         self.chance, self.plain = random.Random(number), Plain()
         self.lines, self.checks, self.named = [], [], []
-        for cell in SPANS:
-            self.say(f"cell {cell} span")
-        for cell in TRUTHS:
-            self.say(f"cell {cell} truth")
-        for _ in range(self.chance.randrange(40)):
+        for line in DECLARED:
+            self.say(line)
+        for _ in range(self.chance.randrange(self.LINES)):
             getattr(self, self.chance.choice(self.COMMANDS))()
+        self.say("limit 1000000000")
+        self.plain.limit = ENOUGH
         self.ask()
 
     def say(self, line, check=lambda reply: reply == "ok"):
@@ -167,8 +251,10 @@ class Session:
     def stated(self):
         """A cell and an information for it."""
         chance = self.chance
-        if chance.randrange(5) == 0:
+        if chance.randrange(3) == 0:
             return chance.choice(TRUTHS), chance.choice([YES, NO])
+        if chance.randrange(3) == 0:
+            return chance.choice(SETS), frozenset(chance.sample(ELEMENTS, chance.choice([1, 2, 3])))
         low = chance.randrange(-6, 7)
         return chance.choice(SPANS), (low, low + chance.choice([0, 1, 5, 20]))
 
@@ -202,13 +288,18 @@ class Session:
         self.believe("bring", self.plain.believed.add)
 
     def attach(self):
-        name = self.chance.choice(sorted(PROCEDURES))
-        cells = [self.chance.choice(SPANS if kind == "s" else TRUTHS) for kind in PROCEDURES[name][0]]
+        name = self.chance.choice(self.PROCEDURES)
+        cells = [self.chance.choice(CELLS[kind]) for kind in PROCEDURES[name][0]]
         self.plain.attached.append((name, cells[:-1], cells[-1]))
-        self.say(f"attach {name} {' '.join(cells)}")
+        word, *by = name.split(" ", 1)
+        self.say(" ".join(["attach", word, *cells, *by]))
+
+    def limit(self):
+        self.plain.limit = self.chance.choice([*TIGHT, ENOUGH, ENOUGH])
+        self.say(f"limit {self.plain.limit}")
 
     def ask(self):
-        question = Question(self.plain.copy(), cell=self.chance.choice(SPANS + TRUTHS), word=self.chance.choice(self.QUESTIONS), named=self.named)
+        question = Question(self.plain.copy(), cell=self.chance.choice(SPANS + TRUTHS + SETS), word=self.chance.choice(self.QUESTIONS), named=self.named)
         question.plain.worldview()
         self.say(question.word if question.word in ("settle", "worldview") else f"{question.word} {question.cell}", question.is_right)
 
