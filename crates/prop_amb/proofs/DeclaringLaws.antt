@@ -1,15 +1,15 @@
 -- What a search has learned stays learned as a choice is declared.
-use Rattle.std.proofs.Common.{◌≡◌, ◌∙◌, ℕ, zero, suc, ◌+◌, ◌-◌, ◌<◌, ◌≤◌, IsTrue, Bool, true, false, List, [], ◌∷◌, ◌++◌, ◌||◌, ◌==◌, length, take, Some, get_or, refl, sym, ap, ◌⊎◌, inl, inr, arith, slice_get, slice_index_or}
+use Rattle.std.proofs.Common.{◌≡◌, ◌∙◌, ℕ, zero, suc, ◌+◌, ◌-◌, ◌<◌, ◌≤◌, IsTrue, true, false, List, [], ◌∷◌, ◌++◌, ◌==◌, length, take, Some, get_or, refl, sym, ◌⊎◌, inl, inr, arith, slice_get, slice_index_or}
 use Rattle.std.specs.List.{AllByRecursion}
-use Rattle.std.proofs.lemmas.Bool.{cases_eq, cases_Bool, or_cases, and_parts, ltb-true, lt-leb, and_left}
-use Rattle.prop_premises.specs.Sets.{Members, set_of}
+use Rattle.std.proofs.lemmas.Bool.{cases_eq, or_cases, and_parts, ltb-true, lt-leb, and_left}
+use Rattle.prop_premises.specs.Sets.{set_of}
 use Rattle.prop_premises.specs.declared.choice.Choice.{Choice}
 use Rattle.prop_premises.specs.ChoiceLists.{hypothetical, hypotheticals_of, is_hypothetical, is_side_of, IsSide, IsChoiceList, AreInOrder}
 use Rattle.prop_premises.specs.Origins.{Origin, believed_in, choices_of}
 use Rattle.prop_cells.specs.Problems.{Problem}
-use Rattle.prop_amb.specs.Search.{Stand, IsStand, users_of, choices_in, reason_at, IsKept, AreKept, IsSearch}
+use Rattle.prop_amb.specs.Search.{Stand, IsStand, users_of, choices_in, reason_at, IsKept, IsSearch}
 use Rattle.prop_amb.specs.Moving.{IsFresh}
-use Rattle.prop_amb.proofs.ZipLemmas.{some_same, none_some, zip_both}
+use Rattle.prop_amb.proofs.ZipLemmas.{some_same, none_some}
 use Rattle.prop_amb.proofs.PlaceLemmas.{zip_back, listed_at, empty_last, get_front, take_front, get_below_length}
 use Rattle.prop_amb.proofs.RefutedLaws.{refuted_choice, covered_choice}
 use Rattle.prop_amb.proofs.SearchLaws.{both, or_true_left, or_true_right, side_is_of, taken_is_side}

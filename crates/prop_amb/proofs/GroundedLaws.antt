@@ -1,11 +1,10 @@
 -- Nogoods and grounded sets through an added choice.
-use Rattle.std.proofs.Common.{◌≡◌, ℕ, ◌≤◌, IsTrue, Bool, true, false, List, [], ◌∷◌, ◌++◌, ◌||◌, refl, ◌⊎◌, inl, inr, arith}
-use Rattle.std.proofs.lemmas.Bool.{cases_Bool, true≢false}
+use Rattle.std.proofs.Common.{◌≡◌, ℕ, ◌≤◌, IsTrue, Bool, true, false, List, [], ◌∷◌, ◌++◌, ◌||◌, refl, arith}
+use Rattle.std.proofs.lemmas.Bool.{true≢false}
 use Rattle.prop_premises.specs.Sets.{Members}
 use Rattle.prop_premises.specs.declared.choice.Choice.{Choice}
-use Rattle.prop_premises.specs.ChoiceLists.{IsChoiceList, hypothetical, hypotheticals_of, is_hypothetical, is_side_of}
+use Rattle.prop_premises.specs.ChoiceLists.{hypothetical, is_hypothetical, is_side_of}
 use Rattle.prop_cells.specs.Problems.{Problem}
-use Rattle.prop_cells.specs.Reach.{Reaches}
 use Rattle.prop_amb.specs.Moving.{IsFresh}
 use Rattle.prop_amb.specs.Refuted.{IsNogood, IsGrounded, IsUserPart}
 use Rattle.prop_amb.proofs.RefutedLaws.{refuted_choice}

@@ -1,6 +1,6 @@
 -- Reasons against every side of a choice, joined without its sides, are refuted, grounded and covered.
-use Rattle.std.proofs.Common.{◌≡◌, ℕ, zero, suc, ◌+◌, ◌-◌, ◌<◌, ◌≤◌, IsTrue, Bool, true, false, List, [], ◌∷◌, Some, None, ◌||◌, ◌==◌, refl, sym, ◌∙◌, inl, inr, arith, slice_get}
-use Rattle.std.specs.List.{AllZip, AllByRecursion}
+use Rattle.std.proofs.Common.{◌≡◌, ℕ, zero, suc, ◌+◌, ◌-◌, ◌<◌, ◌≤◌, IsTrue, Bool, true, false, List, [], ◌∷◌, Some, ◌||◌, ◌==◌, refl, sym, ◌∙◌, inl, inr, arith, slice_get}
+use Rattle.std.specs.List.{AllByRecursion}
 use Rattle.std.proofs.lemmas.Bool.{cases_eq, cases_Bool, eq-eqb, and_parts, leb-true, ltb-true, true≢false}
 use Rattle.prop_premises.specs.Sets.{Members, IsPart, union}
 use Rattle.prop_premises.specs.declared.choice.Choice.{Choice}

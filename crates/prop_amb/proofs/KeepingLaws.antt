@@ -1,15 +1,15 @@
 -- What a search has learned stays learned.
-use Rattle.std.proofs.Common.{◌≡◌, ℕ, zero, suc, ◌+◌, ◌-◌, ◌<◌, ◌≤◌, IsTrue, Bool, true, false, List, [], ◌∷◌, ◌++◌, length, map, take, All, Contains, Some, None, get_or, refl, sym, ◌⊎◌, inl, inr, arith, slice_get, slice_index_or, Result, Ok, Err, OnOk, OnErr}
+use Rattle.std.proofs.Common.{◌≡◌, ℕ, zero, suc, ◌-◌, IsTrue, List, [], ◌∷◌, take, Contains, Some, get_or, ◌⊎◌, inl, inr, slice_get, slice_index_or, Result, Ok, Err, OnOk, OnErr}
 use Rattle.std.proofs.lemmas.List.Elements.{All-contains, Contains-get_or}
 use Rattle.prop_premises.specs.Sets.{Members, IsPart, set_of}
 use Rattle.prop_premises.specs.declared.choice.Choice.{Choice}
-use Rattle.prop_premises.specs.ChoiceLists.{hypothetical, hypotheticals_of, is_hypothetical, IsChoiceList}
+use Rattle.prop_premises.specs.ChoiceLists.{hypotheticals_of}
 use Rattle.prop_premises.specs.Origins.{Origin, believed_in, choices_of}
 use Rattle.prop_cells.specs.Problems.{Problem, Extends}
-use Rattle.prop_nogoods.specs.Stores.{has_part, AddsSet}
-use Rattle.prop_amb.specs.Refuted.{IsNogood, IsCovered}
-use Rattle.prop_amb.specs.Search.{Stand, users_of, choices_in, reason_at, IsKept, AreKept, IsSearch}
-use Rattle.prop_amb.specs.Moving.{restarted, no_reasons, first_sides}
+use Rattle.prop_nogoods.specs.Stores.{AddsSet}
+use Rattle.prop_amb.specs.Refuted.{IsNogood}
+use Rattle.prop_amb.specs.Search.{Stand, users_of, choices_in, IsKept, IsSearch}
+use Rattle.prop_amb.specs.Moving.{restarted, no_reasons}
 use Rattle.prop_amb.specs.Laws.{AdditionsKeepSearches}
 use Rattle.prop_amb.proofs.RefutedLaws.{refuted_extends, nogood_extends, grounded_extends}
 use Rattle.prop_amb.proofs.ZipLemmas.{none_some}

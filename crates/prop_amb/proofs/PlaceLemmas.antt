@@ -1,5 +1,5 @@
 -- Items at places of lists, and the front of a list.
-use Rattle.std.proofs.Common.{◌≡◌, ◌∙◌, ℕ, zero, suc, ◌+◌, ◌<◌, ◌≤◌, List, [], ◌∷◌, ◌++◌, length, take, Some, refl, sym, ap, arith, ◌⊎◌, inl, inr, slice_get, slice_index_or}
+use Rattle.std.proofs.Common.{◌≡◌, ℕ, zero, suc, ◌<◌, List, [], ◌∷◌, ◌++◌, length, take, Some, refl, sym, ap, arith, ◌⊎◌, inl, inr, slice_get, slice_index_or}
 use Rattle.std.specs.List.{AllZip}
 use Rattle.prop_amb.proofs.ZipLemmas.{some_same, none_some}
 

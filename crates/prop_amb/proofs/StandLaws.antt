@@ -1,5 +1,5 @@
 -- What a stand tells of its users' premises and of its reasons.
-use Rattle.std.proofs.Common.{◌≡◌, ℕ, zero, suc, ◌+◌, ◌-◌, ◌<◌, ◌≤◌, IsTrue, Bool, true, false, List, [], ◌∷◌, length, Some, refl, arith, slice_get, slice_index_or}
+use Rattle.std.proofs.Common.{◌≡◌, ℕ, zero, suc, ◌+◌, ◌-◌, ◌<◌, ◌≤◌, IsTrue, false, List, [], ◌∷◌, length, Some, refl, arith, slice_get}
 use Rattle.prop_premises.specs.Origins.{Origin, User, Side, is_user_at, believed_in}
 use Rattle.prop_premises.specs.ChoiceLists.{is_hypothetical}
 use Rattle.prop_amb.specs.Search.{Stand, IsStand, users_of, choices_in, reason_at}

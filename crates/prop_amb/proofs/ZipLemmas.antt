@@ -1,5 +1,5 @@
 -- Items of two lists that stand beside one another.
-use Rattle.std.proofs.Common.{◌≡◌, ℕ, zero, suc, List, [], ◌∷◌, Option, Some, None, refl, slice_get, slice_index_or}
+use Rattle.std.proofs.Common.{◌≡◌, ℕ, zero, suc, List, [], ◌∷◌, Some, None, refl, slice_get, slice_index_or}
 use Rattle.std.specs.List.{AllZip}
 
 pub some_same : {X : Type 0} {x y : X} → Some x ≡ Some y → x ≡ y

@@ -1,13 +1,13 @@
 -- What a new name and a new choice change, and what they leave.
-use Rattle.std.proofs.Common.{◌≡◌, ℕ, zero, suc, ◌+◌, ◌-◌, ◌<◌, ◌≤◌, Bool, true, false, cond, ◌||◌, List, [], ◌∷◌, ◌++◌, length, take, refl, sym, ap, ◌∙◌, inl, inr, arith, IsTrue, Some, None, slice_get, position, bytes_eq, is_some, length-append}
+use Rattle.std.proofs.Common.{◌≡◌, ℕ, zero, suc, ◌+◌, ◌-◌, ◌<◌, ◌≤◌, Bool, true, false, cond, ◌||◌, List, [], ◌∷◌, ◌++◌, length, take, refl, sym, ap, ◌∙◌, inl, inr, arith, Some, slice_get, bytes_eq, is_some, length-append}
 use Rattle.std.specs.List.{list_any, position_from}
 use Rattle.std.specs.Option.{option_map_or}
 use Rattle.std.proofs.lemmas.Bool.{cases_lt}
 use Rattle.std.proofs.lemmas.Iterator.Adapters.{position_from-zero}
 use Rattle.std.proofs.lemmas.List.Folds.{list_any-append}
 use Rattle.prop_premises.specs.Sets.{IsSame}
-use Rattle.prop_premises.specs.Origins.{Origin, User, Side, sides_below, with_name, with_choice, believed_in, is_believed, is_user, is_user_at, is_start, starts, is_user_called, is_side_called, premise_number, is_choice, choices_of}
-use Rattle.prop_premises.proofs.ChoiceLemmas.{length-sides, slice_get-sides, slice_get-front, slice_get-skip}
+use Rattle.prop_premises.specs.Origins.{Origin, User, Side, sides_below, with_name, with_choice, believed_in, is_believed, is_user, is_user_at, is_start, is_user_called, is_side_called, premise_number, is_choice}
+use Rattle.prop_premises.proofs.ChoiceLemmas.{length-sides, slice_get-sides, slice_get-skip}
 use Rattle.prop_premises.proofs.EntryLemmas.{take-front}
 use Rattle.prop_premises.proofs.LookupLemmas.{no_user, all_called, found_none}
 use Rattle.prop_premises.proofs.OriginLemmas.{believed_in-at, believed_in-past, is_user_at-at}

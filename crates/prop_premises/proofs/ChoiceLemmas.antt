@@ -1,9 +1,9 @@
 -- The choices among premises, and what new names, beliefs and dropped names do to them.
-use Rattle.std.proofs.Common.{◌≡◌, ℕ, zero, suc, ◌+◌, ◌<◌, ◌≤◌, Bool, true, false, cond, List, [], ◌∷◌, ◌++◌, length, take, filter, refl, sym, ap, ◌∙◌, inl, inr, arith, ◌==◌, nat_lt, slice_get, Some, None, append_assoc, append-nil, length-append, is_some}
+use Rattle.std.proofs.Common.{◌≡◌, ℕ, zero, suc, ◌+◌, ◌<◌, ◌≤◌, Bool, true, false, cond, List, [], ◌∷◌, ◌++◌, length, take, filter, refl, sym, ap, ◌∙◌, inl, inr, arith, ◌==◌, nat_lt, slice_get, Some, append-nil, length-append, is_some}
 use Rattle.std.proofs.lemmas.Bool.{cases_lt}
 use Rattle.std.proofs.lemmas.Bool.Decides.{nat_tests}
 use Rattle.prop_premises.specs.declared.choice.Choice.{Choice}
-use Rattle.prop_premises.specs.Origins.{Origin, User, Side, sides_below, with_choice, with_name, with_belief, with_belief_at, choices_from, choices_of, believed_in, premise_number, is_start, starts}
+use Rattle.prop_premises.specs.Origins.{Origin, User, Side, sides_below, with_choice, with_name, with_belief_at, choices_from, choices_of, premise_number}
 
 put_after : (b : Bool) (c : Choice) (xs ys zs : List Choice) → xs ≡ ys ++ zs → cond b (c ∷ xs) xs ≡ cond b (c ∷ ys) ys ++ zs
 put_after true c xs ys zs e = ap (λ l. c ∷ l) e

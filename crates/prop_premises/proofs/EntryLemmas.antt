@@ -1,5 +1,5 @@
 -- The entry of the table that has a number: what it tells of the premise, and what a write or a cut there does.
-use Rattle.std.proofs.Common.{◌≡◌, ℕ, zero, suc, ◌+◌, ◌-◌, ◌<◌, ◌≤◌, Bool, true, false, List, [], ◌∷◌, ◌++◌, length, take, replicate, refl, sym, ap, subst, ◌∙◌, inl, inr, arith, ◌==◌, slice_get, get_or, length-append, Some, None, IsTrue, String, string_bytes}
+use Rattle.std.proofs.Common.{◌≡◌, ℕ, zero, suc, ◌+◌, ◌-◌, ◌<◌, ◌≤◌, Bool, true, false, List, [], ◌∷◌, ◌++◌, length, take, replicate, refl, sym, ap, subst, ◌∙◌, arith, ◌==◌, slice_get, get_or, length-append, Some, None, IsTrue, String, string_bytes}
 use Rattle.std.specs.Prelude.{slice_index_or}
 use Rattle.std.specs.Option.{option_map, option_map_or}
 use Rattle.std.specs.Map.{lookup, keys_of}
@@ -12,12 +12,12 @@ use Rattle.indexmap.specs.Layout.{set_value_at}
 use Rattle.prop_premises.specs.declared.named.Named.{Named}
 use Rattle.prop_premises.specs.declared.named.Kind.{Kind}
 use Rattle.prop_premises.specs.declared.named.Kind.TheVariants as kind
-use Rattle.prop_premises.specs.Origins.{Origin, User, Side, sides_below, is_user, is_user_at, is_user_called, premise_number, is_start, starts, with_belief_at, name_of}
+use Rattle.prop_premises.specs.Origins.{Origin, User, Side, is_user, is_user_at, is_user_called, premise_number, is_start, starts, with_belief_at, name_of}
 use Rattle.prop_premises.specs.Named.{width, origins_of_kind, origins_of, places_from, IsKind, AreNumberedFrom, number_of, user_number}
 use Rattle.prop_premises.proofs.LookupLemmas.{names_it, premise_number-lookup}
 use Rattle.prop_premises.proofs.OriginLemmas.{is_user_at-at, is_start-at}
-use Rattle.prop_premises.proofs.ChoiceLemmas.{length-sides, slice_get-skip, slice_get-front, slice_get-sides}
-use Rattle.prop_premises.proofs.TableLemmas.{Cut, cut, length-places, length-kind, length-cons, origins_of-append, places_from-append, numbered-first, numbered-second, numbered-both}
+use Rattle.prop_premises.proofs.ChoiceLemmas.{slice_get-skip, slice_get-front, slice_get-sides}
+use Rattle.prop_premises.proofs.TableLemmas.{Cut, cut, length-places, length-kind, origins_of-append, places_from-append, numbered-first, numbered-second, numbered-both}
 
 -- What is told of a number by the entry that has it: the entry, and which of its numbers it is.
 pub record At {A : Type 0} (es : List (String A × Named)) (p q : ℕ) (e : String A × Named) : Type 0 where

@@ -1,5 +1,5 @@
 -- What a look-up of a name in the table tells of premises and choices.
-use Rattle.std.proofs.Common.{◌≡◌, ℕ, zero, suc, ◌+◌, ◌<◌, ◌≤◌, Bool, true, false, cond, ◌||◌, List, [], ◌∷◌, ◌++◌, length, refl, sym, ap, ◌∙◌, inl, inr, arith, Option, Some, None, String, string_bytes, position, bytes_eq, is_some}
+use Rattle.std.proofs.Common.{◌≡◌, ℕ, zero, suc, ◌+◌, ◌≤◌, Bool, true, false, cond, ◌||◌, List, [], ◌∷◌, ◌++◌, length, refl, sym, ap, ◌∙◌, arith, Option, Some, None, String, string_bytes, bytes_eq, is_some}
 use Rattle.std.specs.List.{AllByRecursion, IsDistinct, list_any, position_from}
 use Rattle.std.specs.Map.{keys_of, lookup}
 use Rattle.std.specs.String.{string_eq}
@@ -9,7 +9,7 @@ use Rattle.std.proofs.lemmas.List.Folds.{list_any-append}
 use Rattle.prop_premises.specs.declared.named.Named.{Named}
 use Rattle.prop_premises.specs.declared.named.Kind.{Kind}
 use Rattle.prop_premises.specs.declared.named.Kind.TheVariants as kind
-use Rattle.prop_premises.specs.Origins.{Origin, User, Side, sides_below, is_user_called, is_side_called, premise_number, is_choice}
+use Rattle.prop_premises.specs.Origins.{Origin, Side, sides_below, is_user_called, is_side_called, premise_number, is_choice}
 use Rattle.prop_premises.specs.Named.{width, origins_of_kind, origins_of, IsKind, AreNumberedFrom, number_of, is_choices, user_number, is_choice_kind}
 use Rattle.prop_premises.proofs.ChoiceLemmas.{length-sides}
 

@@ -1,5 +1,5 @@
 -- The numbers of a table of names: the sides of a choice have numbers in a row, and the user's premises the others.
-use Rattle.std.proofs.Common.{◌≡◌, ℕ, zero, suc, ◌+◌, ◌-◌, ◌<◌, ◌≤◌, Bool, true, false, ◌||◌, ◌&&◌, List, [], ◌∷◌, ◌++◌, length, refl, sym, ap, subst, ◌∙◌, inl, inr, arith, nat_le, nat_lt, IsTrue, String, string_bytes, slice_get, Some, length-append}
+use Rattle.std.proofs.Common.{◌≡◌, ℕ, zero, suc, ◌+◌, ◌-◌, ◌<◌, ◌≤◌, Bool, true, false, ◌||◌, List, [], ◌∷◌, ◌++◌, length, refl, sym, ap, subst, ◌∙◌, inl, inr, arith, IsTrue, String, string_bytes, length-append}
 use Rattle.std.specs.List.{AllByRecursion}
 use Rattle.std.specs.Option.{option_map_or}
 use Rattle.std.proofs.lemmas.Bool.{cases_lt}
@@ -9,10 +9,10 @@ use Rattle.prop_premises.specs.declared.named.Named.{Named}
 use Rattle.prop_premises.specs.declared.named.Kind.{Kind}
 use Rattle.prop_premises.specs.declared.named.Kind.TheVariants as kind
 use Rattle.prop_premises.specs.ChoiceLists.{is_side_of, is_hypothetical, AreInOrder, AreOfSides}
-use Rattle.prop_premises.specs.Origins.{Origin, User, Side, sides_below, choices_from, choices_of, is_user, is_user_at, IsNumbered}
+use Rattle.prop_premises.specs.Origins.{Origin, User, sides_below, choices_from, choices_of, is_user, is_user_at, IsNumbered}
 use Rattle.prop_premises.specs.Named.{width, origins_of_kind, origins_of, IsKind, AreNumberedFrom}
 use Rattle.prop_premises.proofs.ChoiceLemmas.{choices_from-append, choices_from-sides, length-sides, slice_get-sides, slice_get-front, slice_get-skip}
-use Rattle.prop_premises.proofs.OriginLemmas.{is_user_at-at, in_range}
+use Rattle.prop_premises.proofs.OriginLemmas.{is_user_at-at}
 
 -- choices of which the first has no number below n
 abbrev Later : ℕ → List Choice → Type 0

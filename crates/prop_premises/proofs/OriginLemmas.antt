@@ -1,8 +1,8 @@
 -- Premises in order of number, and which of them are believed.
-use Rattle.std.proofs.Common.{◌≡◌, ℕ, zero, suc, ◌<◌, Bool, true, false, List, [], ◌∷◌, ◌++◌, length, get_or, map, refl, ap, arith, position, slice_get, IsTrue, String, string_bytes, bytes_eq, take, None, ◌≤◌, ◌||◌, ◌&&◌, ◌==◌, not, ◌∙◌, sym}
+use Rattle.std.proofs.Common.{◌≡◌, ℕ, zero, suc, ◌<◌, Bool, true, false, List, [], ◌∷◌, ◌++◌, length, refl, ap, arith, slice_get, IsTrue, None, ◌≤◌, ◌||◌, ◌&&◌, ◌==◌, not, ◌∙◌, sym}
 use Rattle.std.proofs.lemmas.Bool.Decides.{nat_tests}
 use Rattle.std.specs.Option.{option_map_or}
-use Rattle.prop_premises.specs.Origins.{Origin, User, Side, is_user_called, premise_number, is_user_at, is_believed, is_user, believed_in, with_belief, with_belief_at, side_of, side_at, starts, is_start, name_of}
+use Rattle.prop_premises.specs.Origins.{Origin, User, Side, is_user_at, is_believed, is_user, believed_in, with_belief, with_belief_at, side_of, side_at, starts, is_start}
 use Rattle.prop_premises.specs.Sets.{set_of, union, without, IsSame}
 
 pub in_range : (os : List Origin) (p : ℕ) → IsTrue (is_user_at os p) → p < length os

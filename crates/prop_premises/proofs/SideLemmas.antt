@@ -1,6 +1,5 @@
 -- Flags of the hypothetical premises that a choice list takes.
-use Rattle.std.proofs.Common.{◌≡◌, ℕ, zero, suc, ◌+◌, ◌-◌, ◌<◌, ◌≤◌, Bool, true, false, ◌||◌, ◌&&◌, ◌==◌, List, [], ◌∷◌, ◌++◌, length, drop, get_or, refl, sym, ap, ◌∙◌, inl, inr, arith, nat_le, nat_lt, IsTrue}
-use Rattle.std.specs.List.{AllZip, list_any}
+use Rattle.std.proofs.Common.{◌≡◌, ℕ, zero, suc, ◌+◌, ◌-◌, ◌<◌, ◌≤◌, Bool, true, false, ◌||◌, ◌==◌, List, [], ◌∷◌, ◌++◌, length, drop, get_or, refl, sym, ap, ◌∙◌, inl, inr, arith, IsTrue}
 use Rattle.std.proofs.Math.ListN.{set, drop_of_length-le}
 use Rattle.std.proofs.Math.Seq.{drop-cons}
 use Rattle.std.proofs.lemmas.Bool.Decides.{nat_tests, eqb_tells}
@@ -10,7 +9,7 @@ use Rattle.prop_premises.specs.Sets.{Members}
 use Rattle.std.proofs.lemmas.Grind.{get_or-set_at}
 use Rattle.std.proofs.lemmas.List.Folds.{list_any_at}
 use Rattle.prop_premises.specs.declared.choice.Choice.{Choice}
-use Rattle.prop_premises.specs.ChoiceLists.{hypothetical, IsSide, is_side_of, is_hypothetical, IsChoiceList, hypotheticals_of}
+use Rattle.prop_premises.specs.ChoiceLists.{is_side_of, is_hypothetical, IsChoiceList, hypotheticals_of}
 
 -- What is told of a choice of the list and the side that is taken of it.
 pub record Taken (choices : List Choice) (sides : List ℕ) (k : ℕ) (d : Choice) (e : ℕ) : Type 0 where

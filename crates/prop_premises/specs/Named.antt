@@ -1,5 +1,5 @@
 -- The premises of a table of names, and the table of their names' places.
-use Rattle.std.specs.Prelude.{◌≡◌, ℕ, suc, ◌+◌, ◌-◌, ◌≤◌, Bool, String, string_bytes, Option, Some, None, true, false, List, [], ◌∷◌, ◌++◌, replicate, ⊤}
+use Rattle.std.specs.Prelude.{◌≡◌, ℕ, suc, ◌+◌, ◌≤◌, Bool, String, string_bytes, Option, Some, None, true, false, List, [], ◌∷◌, ◌++◌, replicate, ⊤}
 use Rattle.prop_premises.specs.declared.named.Named.{Named}
 use Rattle.prop_premises.specs.declared.named.Kind.{Kind}
 use Rattle.prop_premises.specs.declared.named.Kind.TheVariants as kind

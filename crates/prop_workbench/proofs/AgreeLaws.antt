@@ -1,15 +1,15 @@
 -- Two sessions that are given the same lines agree.
-use Rattle.std.proofs.Common.{◌≡◌, ◌≢◌, ◌∙◌, ◌⊎◌, ℕ, zero, suc, List, [], ◌∷◌, Option, Some, None, Result, Ok, Err, All, IsTrue, get_or, inl, inr, refl, sym, ap, subst}
+use Rattle.std.proofs.Common.{◌≡◌, ◌≢◌, ◌∙◌, ◌⊎◌, ℕ, zero, suc, List, [], ◌∷◌, Option, Some, None, Result, Ok, Err, IsTrue, inl, inr, refl, sym, ap}
 use Rattle.std.proofs.lemmas.List.Elements.{All-head, All-tail}
 use Rattle.prop_lattice.specs.declared.info.Info.{Info}
 use Rattle.prop_lattice.specs.declared.refusal.Refusal.{Refusal}
 use Rattle.prop_lattice.specs.declared.refusal.Refusal.TheVariants.{Memory}
-use Rattle.prop_premises.specs.Sets.{set_of, IsPart}
+use Rattle.prop_premises.specs.Sets.{set_of}
 use Rattle.prop_premises.specs.Origins.{Origin, User, Side, is_user_at, believed_in}
 use Rattle.prop_lattice.specs.Points.{Point}
 use Rattle.prop_procedures.specs.declared.shape.Param.{Param}
 use Rattle.prop_procedures.specs.Stored.{Stored}
-use Rattle.prop_cells.specs.Problems.{Problem, Premises, Assignment, IsConsistent, is_member}
+use Rattle.prop_cells.specs.Problems.{Assignment}
 use Rattle.prop_cells.proofs.ProblemLaws.{least_unique}
 use Rattle.prop_vocabulary.specs.Cells.{cell_named}
 use Rattle.prop_language.specs.Commands as commands
@@ -21,10 +21,10 @@ use Rattle.prop_engine.specs.Transcripts.{Run}
 use Rattle.prop_workbench.specs.Machine.{State, naming, text_at, problem_in, users_in, choices_in, worldview_at}
 use Rattle.prop_workbench.specs.Refusing.{refusal_of}
 use Rattle.prop_workbench.specs.Effects.{effect}
-use Rattle.prop_workbench.specs.Running.{Outcome, named_by, Settled, Contradiction, MayEnd, Replies, IsRest, IsValueReply, IsExplainedReply}
-use Rattle.prop_workbench.specs.Steps.{Runs, Lists, Changes, CarriesUnless, Follows, Step}
-use Rattle.prop_workbench.specs.Engine.{Gives, workbench}
-use Rattle.prop_workbench.specs.Agreeing.{AreAlike, HaveMemory, RunsMeet, AnswersMeet, IsSettledText, SayOneValue, SettledTextsMeet, SettledIsFree}
+use Rattle.prop_workbench.specs.Running.{named_by, Settled, MayEnd, Replies, IsRest, IsValueReply, IsExplainedReply}
+use Rattle.prop_workbench.specs.Steps.{Runs, Lists, Changes, CarriesUnless, Follows}
+use Rattle.prop_workbench.specs.Engine.{workbench}
+use Rattle.prop_workbench.specs.Agreeing.{AreAlike, HaveMemory, RunsMeet, AnswersMeet, SayOneValue, SettledTextsMeet, SettledIsFree}
 use Rattle.prop_workbench.proofs.NamingLaws.{refusal_alike, effect_alike}
 use Rattle.prop_amb.proofs.RefutedLaws.{first_unique, believed_refutes}
 

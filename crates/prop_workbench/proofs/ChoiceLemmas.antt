@@ -1,5 +1,5 @@
 -- Why a choice between values is refused, and what is made where it isn't.
-use Rattle.std.proofs.Common.{◌≡◌, ◌∙◌, ℕ, Bool, true, false, ◌||◌, List, [], ◌∷◌, All, Option, Some, None, Result, Ok, Err, is_some, is_none, unwrap_or, ◌⊎◌, inl, inr, refl, sym, ap, arith, length}
+use Rattle.std.proofs.Common.{◌≡◌, ◌∙◌, ℕ, Bool, true, false, ◌||◌, List, [], ◌∷◌, All, Option, Some, None, Result, Ok, Err, is_some, is_none, unwrap_or, ◌⊎◌, inl, inr, refl, sym, ap, arith}
 use Rattle.std.specs.Prelude.{⊤, OnOk, OnErr, IfErr}
 use Rattle.std.specs.List.{list_any}
 use Rattle.std.specs.Option.{option_map, option_map_or}
@@ -24,7 +24,7 @@ use Rattle.prop_workbench.specs.Choosing.{is_one_refused, values_refusal, meanin
 use Rattle.prop_workbench.specs.Effects.{chosen}
 use Rattle.prop_workbench.specs.Machine.{State}
 use Rattle.prop_workbench.specs.Refusing.{refusal_of, meaning_at, is_error, value_at, meants_at, both_meant, is_refused_at, choosing_limit_at}
-use Rattle.prop_workbench.specs.Steps.{Obeys, Carries}
+use Rattle.prop_workbench.specs.Steps.{Obeys}
 use Rattle.prop_workbench.proofs.StepLemmas.{first_of-one, obeys, refuses_or_lacks}
 use Rattle.prop_workbench.proofs.ValueLemmas.{IsValueRefusal, value_refusal}
 use Rattle.prop_workbench.proofs.ValueLemmas.IsValueRefusal.{no_name, no_number, wrong_kind, outside as not_inside, empty as no_element}

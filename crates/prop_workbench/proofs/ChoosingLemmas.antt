@@ -1,5 +1,5 @@
 -- The values of a choice, one after the other.
-use Rattle.std.proofs.Common.{◌≡◌, ◌∙◌, ℕ, zero, suc, ◌+◌, ◌<◌, ◌≤◌, Bool, true, false, ◌||◌, List, [], ◌∷◌, ◌++◌, take, drop, length, map, subst, All, IsTrue, get_or, unwrap_or, Option, Some, None, is_some, if◌then◌else◌, refl, sym, ap, arith, slice_index_or}
+use Rattle.std.proofs.Common.{◌≡◌, ◌∙◌, ℕ, zero, suc, ◌+◌, ◌<◌, ◌≤◌, Bool, true, false, ◌||◌, List, [], ◌∷◌, ◌++◌, drop, length, map, subst, All, IsTrue, get_or, Some, None, is_some, if◌then◌else◌, refl, sym, ap, arith, slice_index_or}
 use Rattle.std.specs.List.{list_any}
 use Rattle.std.proofs.lemmas.List.{append_assoc}
 use Rattle.std.proofs.lemmas.List.{length-append, length-map, take-append-le, take_all, drop_more, get_or-map}
@@ -19,7 +19,7 @@ use Rattle.prop_language.specs.Said.{value_of}
 use Rattle.prop_values.specs.Values.{Meant, Known, Name}
 use Rattle.prop_vocabulary.specs.Names.{number_in}
 use Rattle.prop_vocabulary.specs.Texts.{elements_of_kind}
-use Rattle.prop_vocabulary.specs.Vocabulary.{Vocabulary, IsWhole, with_symbol, with_first_symbols}
+use Rattle.prop_vocabulary.specs.Vocabulary.{Vocabulary, IsWhole, with_first_symbols}
 use Rattle.prop_workbench.specs.Choosing.{meaning_of, meanings_of, Means, infos_meant}
 use Rattle.prop_workbench.specs.Effects.{info_meant, with_meants, sides_stated, chosen, MayMean}
 use Rattle.prop_workbench.specs.Machine.{State}

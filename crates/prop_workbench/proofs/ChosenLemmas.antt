@@ -1,5 +1,5 @@
 -- What a session keeps where a choice is declared and its sides are stated.
-use Rattle.std.proofs.Common.{◌≡◌, ◌∙◌, ℕ, suc, Bool, true, false, IsTrue, nat_lt, nat_le, List, [], ◌∷◌, ◌++◌, Contains, All, Option, Some, None, ◌+◌, ◌<◌, ◌≤◌, ◌⊎◌, inl, inr, map, length, get_or, is_some, arith, refl, sym, ap}
+use Rattle.std.proofs.Common.{◌≡◌, ◌∙◌, ℕ, suc, Bool, true, false, nat_lt, nat_le, List, [], ◌∷◌, ◌++◌, Option, Some, None, ◌+◌, ◌<◌, ◌≤◌, ◌⊎◌, inl, inr, map, length, get_or, arith, refl, sym, ap}
 use Rattle.std.specs.List.{AllZip}
 use Rattle.std.proofs.lemmas.Bool.{lt-leb, and_left}
 use Rattle.std.proofs.lemmas.List.Elements.{All-append, All-cons, All-contains, All-weaker, Contains-get_or, Contains-append_left}
@@ -9,9 +9,9 @@ use Rattle.prop_lattice.specs.declared.refusal.Refusal.{Refusal}
 use Rattle.prop_lattice.specs.declared.refusal.Refusal.TheVariants.{LimitReached, Memory}
 use Rattle.prop_lattice.specs.declared.refusal.Limit.TheVariants.{Premises, Choices, Statements}
 use Rattle.prop_premises.specs.Sets.{Members, set_of}
-use Rattle.prop_premises.specs.Origins.{premise_number, is_choice, with_choice, choices_of}
+use Rattle.prop_premises.specs.Origins.{premise_number, is_choice, choices_of}
 use Rattle.prop_premises.specs.declared.choice.Choice.{Choice}
-use Rattle.prop_premises.specs.ChoiceLists.{is_side_of, IsSide}
+use Rattle.prop_premises.specs.ChoiceLists.{IsSide}
 use Rattle.prop_premises.proofs.ChangeLemmas.{length-with_choice}
 use Rattle.prop_procedures.specs.Stored.{Stored}
 use Rattle.prop_cells.specs.declared.instance.Statement.{Statement}

@@ -1,18 +1,16 @@
 -- Steps that hold whichever contradictions were named.
-use Rattle.std.proofs.Common.{◌≡◌, ◌∙◌, ℕ, List, [], ◌∷◌, ◌++◌, Option, Some, None, Result, Ok, Err, All, refl, sym, ap, inl, inr}
+use Rattle.std.proofs.Common.{◌∙◌, ℕ, List, [], ◌∷◌, ◌++◌, Option, Some, None, Result, sym, ap, inl, inr}
 use Rattle.std.proofs.lemmas.List.Elements.{All-weaker, All-push}
 use Rattle.prop_lattice.specs.declared.refusal.Refusal.{Refusal}
-use Rattle.prop_lattice.specs.declared.refusal.Refusal.TheVariants.{Memory}
 use Rattle.prop_premises.specs.Sets.{Members, set_of}
 use Rattle.prop_amb.specs.Refuted.{IsCovered}
 use Rattle.prop_procedures.specs.Stored.{Stored}
 use Rattle.prop_language.specs.Commands as commands
 use Rattle.prop_language.specs.Commands.{Command}
-use Rattle.prop_engine.specs.Answers.{Answer, Silent, Refused}
+use Rattle.prop_engine.specs.Answers.{Answer}
 use Rattle.prop_workbench.specs.Machine.{State, naming, choices_in}
 use Rattle.prop_workbench.specs.Refusing.{refusal_of}
-use Rattle.prop_workbench.specs.Effects.{effect}
-use Rattle.prop_workbench.specs.Steps.{Shown, Covers, Covering, GoesOn, Refuses, LacksMemory, Changes, Carries, CarriesUnless, Obeys, Follows, IsObeyed, IsFollowed}
+use Rattle.prop_workbench.specs.Steps.{Shown, Covers, Changes, Carries, CarriesUnless, Obeys, Follows, IsObeyed, IsFollowed}
 use Rattle.prop_workbench.proofs.NamingLaws.{refusal_naming, effect_naming}
 
 -- the command runs nothing and lists nothing

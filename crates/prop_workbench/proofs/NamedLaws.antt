@@ -1,5 +1,5 @@
 -- What a session shows is what the machine does, whichever contradictions were named.
-use Rattle.std.proofs.Common.{◌≡◌, ℕ, List, [], ◌∷◌, ◌++◌, refl, inl, inr, codes}
+use Rattle.std.proofs.Common.{ℕ, List, [], ◌∷◌, ◌++◌, refl, inl, inr, codes}
 use Rattle.prop_lattice.specs.Points.{Point}
 use Rattle.prop_procedures.specs.declared.shape.Param.{Param}
 use Rattle.prop_procedures.specs.Stored.{Stored}
@@ -7,12 +7,12 @@ use Rattle.prop_language.specs.Commands as commands
 use Rattle.prop_language.specs.Commands.{Command}
 use Rattle.prop_texts.specs.Texts.{because}
 use Rattle.prop_engine.specs.Answers.{Answer}
-use Rattle.prop_engine.specs.Transcripts.{Run, IsTranscript, IsFrontOfTranscript}
+use Rattle.prop_engine.specs.Transcripts.{Run}
 use Rattle.prop_workbench.specs.Machine.{State, naming}
 use Rattle.prop_workbench.specs.Steps.{Shown, Covers}
 use Rattle.prop_workbench.specs.Points.{SaysPoint, BearsOut, HoldsPoints}
-use Rattle.prop_workbench.specs.Engine.{Gives, Shows, workbench, learning}
-use Rattle.prop_workbench.specs.Shown.{IsShown, ShownRunsAreRuns, ShownTranscripts, ShownFronts}
+use Rattle.prop_workbench.specs.Engine.{workbench, learning}
+use Rattle.prop_workbench.specs.Shown.{ShownRunsAreRuns, ShownTranscripts, ShownFronts}
 
 says_named : (s : State) (named : List (List ℕ)) (points : ℕ → Point) (name mark text : List ℕ) → SaysPoint s points name mark text → SaysPoint (naming s named) points name mark text
 says_named s named points name mark text h = record { cell = h.cell; cell_is = h.cell_is; v = h.v; holds = h.holds; text_is = h.text_is }

@@ -1,7 +1,5 @@
 -- Which contradictions were named bears on nothing but the list of nogoods.
 use Rattle.std.proofs.Common.{◌≡◌, ◌∙◌, List, [], ℕ, refl, sym, ap}
-use Rattle.std.specs.Prelude.{Option}
-use Rattle.prop_lattice.specs.declared.refusal.Refusal.{Refusal}
 use Rattle.prop_procedures.specs.Stored.{Stored}
 use Rattle.prop_language.specs.Commands as commands
 use Rattle.prop_language.specs.Commands.{Command}

@@ -1,6 +1,5 @@
 -- Which premises are known, and what changes where one is new, believed or no longer believed.
-use Rattle.std.proofs.Common.{◌≡◌, ◌∙◌, ℕ, zero, suc, ◌<◌, ◌||◌, Bool, true, false, not, IsTrue, List, [], ◌∷◌, ◌++◌, Some, None, All, Contains, length, take, get_or, ◌≤◌, ◌==◌, refl, sym, ap, arith}
-use mathlib.Core.Bool.{beq}
+use Rattle.std.proofs.Common.{◌≡◌, ◌∙◌, ℕ, ◌<◌, ◌||◌, Bool, true, false, IsTrue, List, [], ◌∷◌, ◌++◌, Some, None, All, Contains, length, take, get_or, ◌≤◌, ◌==◌, refl, ap, arith}
 use Rattle.std.proofs.lemmas.Bool.{eq-eqb}
 use Rattle.std.proofs.lemmas.List.Folds.{list_any_at}
 use Rattle.std.proofs.lemmas.List.Quantifiers.{position-Some}
@@ -8,7 +7,7 @@ use Rattle.std.proofs.lemmas.List.Elements.{All-contains, All-weaker, All-push}
 use Rattle.prop_lattice.specs.declared.info.Info.TheVariants.{Nothing}
 use Rattle.prop_lattice.specs.Order.{merge_of}
 use Rattle.prop_premises.specs.Sets.{Members, set_of, is_within, IsSame}
-use Rattle.prop_premises.specs.Origins.{Origin, User, Side, believed_in, is_user_called, is_user_at, with_belief_at, with_name, premise_number}
+use Rattle.prop_premises.specs.Origins.{Origin, User, is_user_called, with_name, premise_number}
 use Rattle.prop_tms.specs.Beliefs.{merge_of_all, believed_of}
 use Rattle.prop_tms.proofs.KeptLemmas.{contains_here, contains_there}
 use Rattle.prop_procedures.specs.Stored.{Stored}

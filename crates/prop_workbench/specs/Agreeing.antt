@@ -1,5 +1,5 @@
 -- What any two sessions agree on that are given the same lines, whatever orders they call waiting procedures in.
-use Rattle.std.specs.Prelude.{◌≡◌, ◌≢◌, ◌⊎◌, ◌<◌, IsTrue, ℕ, length, List, [], ◌∷◌, Option, Some, None, Result, Ok, All}
+use Rattle.std.specs.Prelude.{◌≡◌, ◌≢◌, ◌⊎◌, ◌<◌, IsTrue, ℕ, length, List, [], Some, All}
 use Rattle.prop_lattice.specs.declared.info.Info.{Info}
 use Rattle.prop_lattice.specs.declared.refusal.Refusal.TheVariants.{Memory}
 use Rattle.prop_premises.specs.Origins.{Origin, IsNumbered, choices_of}
@@ -7,12 +7,11 @@ use Rattle.prop_premises.specs.ChoiceLists.{is_hypothetical}
 use Rattle.prop_procedures.specs.Stored.{Stored}
 use Rattle.prop_vocabulary.specs.Cells.{cell_named}
 use Rattle.prop_language.specs.Commands.{Command}
-use Rattle.prop_language.specs.Reading.{reading}
 use Rattle.prop_texts.specs.Texts.{equation, because}
 use Rattle.prop_engine.specs.Answers.{Answer, Text, Refused}
 use Rattle.prop_engine.specs.Transcripts.{Machine, Run}
 use Rattle.prop_workbench.specs.Machine.{State, text_at, naming}
-use Rattle.prop_workbench.specs.Running.{Outcome, Settled, Contradiction, MayEnd, Replies}
+use Rattle.prop_workbench.specs.Running.{Settled, Contradiction, MayEnd, Replies}
 use Rattle.prop_workbench.specs.Steps.{Step}
 
 -- no answer is that memory was refused

@@ -20,7 +20,7 @@ use Rattle.prop_cells.specs.declared.instance.Statement.{Statement}
 use Rattle.prop_cells.specs.Instances.{Instance}
 use Rattle.prop_cells.specs.Refusing.{may_be_stated}
 use Rattle.prop_scheduler.specs.Making.{cell_placed}
-use Rattle.prop_vocabulary.specs.Vocabulary.{Vocabulary, symbol_number, with_symbol, with_domain, with_relation}
+use Rattle.prop_vocabulary.specs.Vocabulary.{Vocabulary, symbol_number, with_domain, with_relation}
 use Rattle.prop_workbench.specs.Machine.{State}
 use Rattle.prop_workbench.specs.Refusing.{value_at, used, with_meant, meants_at}
 use Rattle.prop_vocabulary.specs.Cells.{cell_named, cells_named, with_cell_name}

@@ -1,7 +1,7 @@
-use Rattle.std.proofs.Common.{◌≡◌, ◌+◌, ◌-◌, ◌<◌, ◌≤◌, ◌∙◌, sym, ap, refl, true, arith, length, get_or}
+use Rattle.std.proofs.Common.{◌≡◌, ◌+◌, ◌-◌, ◌<◌, ◌∙◌, refl, true, arith, length, get_or}
 use Rattle.std.proofs.Math.ListN.{length-set}
 use Rattle.prop_premises.specs.declared.choice.Choice.{Choice}
-use Rattle.prop_premises.proofs.SideLemmas.{taken, taken_is_hypothetical, flag_of_side, no_side_left}
+use Rattle.prop_premises.proofs.SideLemmas.{taken, taken_is_hypothetical, flag_of_side}
 use Rattle.prop_premises.proofs.premises.set_sides.Goals as goal
 
 none : Choice

@@ -1,10 +1,7 @@
-use Rattle.std.proofs.Common.{◌≡◌, ◌∙◌, ◌⊎◌, ◌∷◌, [], ◌++◌, ◌+◌, refl, List, drop, map, length, slice_index_or, sym, ap, inl, inr, IfErr, Ok, Err, Some, None}
-use Rattle.std.proofs.lemmas.List.{at_drop_more, at_drop_all}
+use Rattle.std.proofs.Common.{◌∷◌, [], ◌++◌, ◌+◌, refl, drop, map}
 use Rattle.prop_language.specs.Said.{value_of}
-use Rattle.prop_vocabulary.specs.Vocabulary.{with_first_symbols}
 use Rattle.prop_workbench.specs.Choosing.{meaning_of, meanings_of}
-use Rattle.prop_workbench.specs.Refusing.{naming_limit, all_naming_limit}
-use Rattle.prop_workbench.proofs.ChoosingLemmas.{IsOnTheWay, at_start, one_on, limit_here, means_same, known_same, mean_here, rest_here, same_meaning}
+use Rattle.prop_workbench.proofs.ChoosingLemmas.{IsOnTheWay, at_start, one_on, known_same, mean_here, rest_here, same_meaning}
 use Rattle.prop_workbench.proofs.choosing.infos_of.Goals as goal
 
 pub loop-value-init : goal.loop-value-init

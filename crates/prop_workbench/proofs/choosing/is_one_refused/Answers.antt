@@ -1,6 +1,5 @@
-use Rattle.std.proofs.Common.{◌≡◌, ◌∙◌, ◌||◌, Bool, false, drop, map, refl, sym, ap, arith}
+use Rattle.std.proofs.Common.{◌≡◌, ◌∙◌, map, refl, sym, arith}
 use Rattle.std.proofs.lemmas.List.{at_drop_all}
-use Rattle.std.specs.List.{list_any}
 use Rattle.prop_language.specs.Said.{value_of}
 use Rattle.prop_workbench.specs.Choosing.{is_one_refused}
 use Rattle.prop_workbench.specs.Refusing.{meaning_at, is_error}

@@ -1,4 +1,4 @@
-use Rattle.std.proofs.Common.{◌≡◌, ◌∙◌, sym, ap, true}
+use Rattle.std.proofs.Common.{◌∙◌, sym, ap, true}
 use Rattle.prop_premises.specs.Origins.{choices_of}
 use Rattle.prop_premises.proofs.ChoiceLemmas.{choices_of-user}
 use Rattle.prop_premises.proofs.OriginLemmas.{is_user_at-push}

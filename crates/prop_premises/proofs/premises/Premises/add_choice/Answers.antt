@@ -1,4 +1,4 @@
-use Rattle.std.proofs.Common.{◌≡◌, ◌≤◌, ◌∙◌, ◌++◌, ◌∷◌, [], sym, ap, arith, length}
+use Rattle.std.proofs.Common.{◌≤◌, ◌∙◌, ◌++◌, ◌∷◌, [], sym, ap, arith}
 use Rattle.prop_premises.specs.Origins.{choices_of}
 use Rattle.prop_premises.proofs.ChoiceLemmas.{choices_of-with_choice}
 use Rattle.prop_premises.proofs.premises.Premises.add_choice.Goals as goal

@@ -1,4 +1,4 @@
-use Rattle.std.proofs.Common.{◌≡◌, ◌<◌, ◌≤◌, ◌+◌, ◌∙◌, ◌++◌, ◌∷◌, [], false, sym, ap, arith, refl, length, length-append, get_or, inl, inr}
+use Rattle.std.proofs.Common.{◌≤◌, ◌∙◌, ◌∷◌, [], false, sym, ap, arith, length, length-append, get_or, inl, inr}
 use Rattle.std.proofs.lemmas.Bool.{cases_lt}
 use Rattle.prop_premises.specs.Origins.{believed_in}
 use Rattle.prop_premises.proofs.SideLemmas.{flag_past, flag_pushed}

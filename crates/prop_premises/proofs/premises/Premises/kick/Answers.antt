@@ -1,4 +1,4 @@
-use Rattle.std.proofs.Common.{◌∙◌, sym, ap, false}
+use Rattle.std.proofs.Common.{false}
 use Rattle.prop_premises.proofs.ChoiceLemmas.{choices_of-with_belief_at}
 use Rattle.prop_premises.proofs.OriginLemmas.{believed_in-kicked}
 use Rattle.prop_premises.proofs.premises.Premises.kick.Goals as goal

@@ -1,4 +1,4 @@
-use Rattle.std.proofs.Common.{arith, ◌∙◌, ◌≡◌, ◌<◌, ap, sym, subst, length, slice_get, Some, IsTrue, string_bytes}
+use Rattle.std.proofs.Common.{arith, ◌∙◌, ◌<◌, ap, sym, subst, length, slice_get, Some, IsTrue}
 use Rattle.std.specs.Option.{option_map}
 use Rattle.prop_premises.specs.Origins.{name_of, is_user_at, premise_number}
 use Rattle.prop_premises.specs.Named.{origins_of}

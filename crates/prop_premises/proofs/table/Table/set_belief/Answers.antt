@@ -1,5 +1,5 @@
 use Rattle.std.proofs.Common.{arith, ◌∙◌, ap, sym, length}
-use Rattle.prop_premises.specs.Origins.{Origin, with_belief_at}
+use Rattle.prop_premises.specs.Origins.{with_belief_at}
 use Rattle.prop_premises.proofs.OriginLemmas.{in_range}
 use Rattle.prop_premises.proofs.TableLemmas.{length-places}
 use Rattle.prop_premises.proofs.EntryLemmas.{written_at, entry_at}

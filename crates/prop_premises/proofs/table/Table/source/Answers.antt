@@ -1,4 +1,4 @@
-use Rattle.std.proofs.Common.{arith, ◌∙◌, ◌≡◌, ◌+◌, ◌-◌, ◌<◌, ap, sym, length, slice_get, Some, None}
+use Rattle.std.proofs.Common.{arith, ◌∙◌, ◌+◌, ◌-◌, ◌<◌, ap, sym, length, slice_get, Some}
 use Rattle.prop_premises.specs.Origins.{User, Side}
 use Rattle.prop_premises.proofs.TableLemmas.{length-places}
 use Rattle.prop_premises.proofs.EntryLemmas.{told_at, entry_at, premise_at, choice_at, side_bounds, no_item, some_item}

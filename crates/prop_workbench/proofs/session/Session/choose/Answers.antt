@@ -1,4 +1,4 @@
-use Rattle.std.proofs.Common.{◌≡◌, ◌∙◌, refl, sym, ap, map, inl}
+use Rattle.std.proofs.Common.{◌≡◌, ◌∙◌, refl, sym, ap, map}
 use Rattle.prop_procedures.specs.Fitting.{kind_at}
 use Rattle.prop_procedures.specs.Kept.{stored_of}
 use Rattle.prop_language.specs.Commands as commands

@@ -2,9 +2,8 @@ use Rattle.std.proofs.Common.{◌≡◌, ◌∙◌, length, refl, sym, ap}
 use Rattle.prop_premises.specs.Sets.{set_of}
 use Rattle.prop_procedures.specs.Kept.{stored_of}
 use Rattle.prop_amb.specs.Moving.{declared, declare_refusal}
-use Rattle.prop_cells.specs.Refusing.{sides_refusal}
 use Rattle.prop_workbench.specs.Sessions.{state_of}
-use Rattle.prop_workbench.proofs.ChosenLemmas.{declared_fits, only_memory, sides_fit, chosen_at_work, chosen_covers}
+use Rattle.prop_workbench.proofs.ChosenLemmas.{declared_fits, only_memory, chosen_at_work, chosen_covers}
 use Rattle.prop_workbench.proofs.StandingLemmas.{same_at_work, same_covers}
 use Rattle.prop_workbench.proofs.session.Session.choose_between.Goals as goal
 

@@ -1,9 +1,8 @@
-use Rattle.std.proofs.Common.{◌≡◌, ◌∙◌, ◌<◌, length, map, refl, sym, ap, arith}
+use Rattle.std.proofs.Common.{◌∙◌, map, sym, arith}
 use Rattle.prop_procedures.specs.Fitting.{kind_at}
 use Rattle.prop_procedures.specs.Stored.{span_kind}
 use Rattle.prop_language.specs.Said.{value_of}
-use Rattle.prop_workbench.specs.Choosing.{meanings_of, infos_meant}
-use Rattle.prop_workbench.specs.Refusing.{choosing_limit}
+use Rattle.prop_workbench.specs.Choosing.{meanings_of}
 use Rattle.prop_workbench.specs.Sessions.{state_of, state_from}
 use Rattle.prop_workbench.proofs.ChoosingLemmas.{infos_may_be, few_elements, infos_count, chosen_state}
 use Rattle.prop_workbench.proofs.session.Session.choose_said.Goals as goal
