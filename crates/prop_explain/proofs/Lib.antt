@@ -1,0 +1,2 @@
+pub mod IrreducibleLaws
+pub mod ReducingLaws

@@ -1,0 +1,143 @@
+//! The reduction of an explanation: premises are left out, one after the other, as long as what is left entails the value.
+ghost use Rattle.std.specs.Prelude.{◌≡◌, ◌≢◌, ◌<◌, ◌≤◌, All, length, IfOk};
+ghost use Rattle.prop_lattice.specs.Order.{Below};
+ghost use Rattle.prop_premises.specs.Sets.{set_of};
+ghost use Rattle.prop_procedures.specs.Kept.{AllMean, stored_of};
+ghost use Rattle.prop_cells.specs.Problems.{Entails, IsConsistent};
+ghost use Rattle.prop_cells.specs.Data.{problem_of, beliefs, IsKept};
+ghost use Rattle.prop_scheduler.specs.Turns.{IsUnderWay, IsSettled};
+ghost use Rattle.prop_scheduler.specs.Potential.{most_steps};
+
+use prop_cells::Network;
+use prop_lattice::{Info, Partial};
+use prop_premises::{PremiseSet, Worldview};
+use prop_procedures::Rule;
+use prop_scheduler::{Agenda, Order, Run, run, wake_all};
+use prop_tms::Supported;
+use std::alloc::{AllocError, Global};
+
+/// A value with premises that entail it.
+#[derive(Drop)]
+pub enum Core {
+    /// None of the premises can be left out.
+    Least(Supported<Info>),
+    /// The budget was used before each premise was tried.
+    NotReduced(Supported<Info>),
+}
+
+/// What came of a set of premises.
+#[derive(Clone, Copy, PartialEq, Eq)]
+enum Tried {
+    /// It entails the value.
+    Enough,
+    /// It doesn't.
+    TooFew,
+    /// The budget was used before that was known.
+    Spent,
+}
+
+/// What is believed of a cell of a network at rest, with premises of which none can be left out, and how many instances were called for that.
+/// The premises of the explanation are tried in order of number.
+///
+/// Afterwards every instance waits, after want of memory too.
+pub fn reduce<R: Rule + Drop, O: Order>(
+    alloc: Global,
+    network: &mut Network<R>,
+    agenda: &mut Agenda,
+    order: &mut O,
+    worldview: &Worldview,
+    cell: usize,
+    budget: u64,
+) -> Result<(Core, u64), AllocError> {
+    let reduced = tried_in_order(alloc, network, agenda, order, worldview, cell, budget);
+    wake_all(network, agenda);
+    reduced
+}
+
+/// The reduction itself, after which some instances wait, in the worldview that was tried last.
+fn tried_in_order<R: Rule + Drop, O: Order>(
+    alloc: Global,
+    network: &mut Network<R>,
+    agenda: &mut Agenda,
+    order: &mut O,
+    worldview: &Worldview,
+    cell: usize,
+    budget: u64,
+) -> Result<(Core, u64), AllocError> {
+    let why = network.explanation(cell, worldview)?;
+    let value = why.value;
+    let mut support = why.support.copy()?;
+    let mut steps: u64 = 0;
+    for premise in why.support.iter() {
+        let less = support.without(premise)?;
+        let (tried, calls) = attempt(
+            alloc,
+            network,
+            agenda,
+            order,
+            &less,
+            cell,
+            value,
+            budget - steps,
+        )?;
+        steps += calls;
+        match tried {
+            Tried::Enough => support = less,
+            Tried::TooFew => {}
+            Tried::Spent => return Ok((Core::NotReduced(Supported { value, support }), steps)),
+        }
+    }
+    Ok((Core::Least(Supported { value, support }), steps))
+}
+
+/// Runs the network in the worldview of the set alone, and tells whether the value is believed there, and how many instances were called.
+fn attempt<R: Rule + Drop, O: Order>(
+    alloc: Global,
+    network: &mut Network<R>,
+    agenda: &mut Agenda,
+    order: &mut O,
+    set: &PremiseSet,
+    cell: usize,
+    value: Info,
+    budget: u64,
+) -> Result<(Tried, u64), AllocError>
+    requires means { AllMean R.value_of network.old.library.procedures.items }
+    requires kept { IsKept (stored_of R.value_of network.old.library) network.old.cells }
+    requires line { All (λ j. j < length network.old.cells.instances) agenda.old.line }
+    requires room { length network.old.cells.instances ≤ agenda.old.room }
+    requires cell { cell < length network.old.cells.kinds }
+    requires consistent { IsConsistent (problem_of (stored_of R.value_of network.old.library) network.old.cells) (set_of set.now) }
+    ensures same { network.new.library ≡ network.old.library }
+    ensures rest { network.new.cells ≡ record network.old.cells { contents = network.new.cells.contents } }
+    ensures kept { IsKept (stored_of R.value_of network.old.library) network.new.cells }
+    ensures line { All (λ j. j < length network.new.cells.instances) agenda.new.line }
+    ensures room { agenda.new.room ≡ agenda.old.room }
+    ensures enough { IfOk result (λ r. r.0 ≡ Tried.Enough → Entails (problem_of (stored_of R.value_of network.old.library) network.old.cells) (set_of set.now) cell value) }
+    ensures too_few { IfOk result (λ r. r.0 ≡ Tried.TooFew → ¬ (Entails (problem_of (stored_of R.value_of network.old.library) network.old.cells) (set_of set.now) cell value)) }
+    ensures spent { IfOk result (λ r. r.0 ≡ Tried.Spent → r.1 ≡ budget) }
+    ensures earned { IfOk result (λ r. r.0 ≡ Tried.Spent → budget < most_steps (problem_of (stored_of R.value_of network.old.library) network.old.cells)) }
+    ensures steps { IfOk result (λ r. r.1 ≤ budget) }
+{
+    let worldview = Worldview::of(alloc, set)?;
+    wake_all(network, agenda);
+    let (end, calls) = run(alloc, network, &worldview, agenda, order, budget)?;
+    let tried = match end {
+        Run::Quiet => enough(network.belief(cell, &worldview), value),
+        Run::Clash(_) => Tried::TooFew,
+        Run::Spent => Tried::Spent,
+    };
+    Ok((tried, calls))
+}
+
+/// Whether what is believed says as much as the value.
+fn enough(believed: Info, value: Info) -> Tried
+    ensures enough { result ≡ Tried.Enough → Below value believed }
+    ensures too_few { result ≡ Tried.TooFew → ¬ (Below value believed) }
+    ensures known { result ≢ Tried.Spent }
+{
+    if believed.implies(value) {
+        Tried::Enough
+    } else {
+        Tried::TooFew
+    }
+}
