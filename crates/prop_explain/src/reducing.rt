@@ -4,6 +4,8 @@ ghost use Rattle.prop_lattice.specs.Order.{Below};
 ghost use Rattle.prop_premises.specs.Sets.{set_of};
 ghost use Rattle.prop_procedures.specs.Kept.{AllMean, stored_of};
 ghost use Rattle.prop_cells.specs.Problems.{Entails, IsConsistent};
+ghost use Rattle.prop_cells.specs.Reach.{Explains};
+ghost use Rattle.prop_explain.specs.Irreducible.{IsIrreducible, IfLeast, IfNotReduced, OfCore};
 ghost use Rattle.prop_cells.specs.Data.{problem_of, beliefs, IsKept};
 ghost use Rattle.prop_scheduler.specs.Turns.{IsUnderWay, IsSettled};
 ghost use Rattle.prop_scheduler.specs.Potential.{most_steps};
@@ -63,7 +65,23 @@ fn tried_in_order<R: Rule + Drop, O: Order>(
     worldview: &Worldview,
     cell: usize,
     budget: u64,
-) -> Result<(Core, u64), AllocError> {
+) -> Result<(Core, u64), AllocError>
+    requires means { AllMean R.value_of network.old.library.procedures.items }
+    requires kept { IsKept (stored_of R.value_of network.old.library) network.old.cells }
+    requires line { All (λ j. j < length network.old.cells.instances) agenda.old.line }
+    requires room { length network.old.cells.instances ≤ agenda.old.room }
+    requires cell { cell < length network.old.cells.kinds }
+    requires settled { IsSettled (stored_of R.value_of network.old.library) (set_of worldview.now) network.old.cells }
+    ensures same { network.new.library ≡ network.old.library }
+    ensures rest { network.new.cells ≡ record network.old.cells { contents = network.new.cells.contents } }
+    ensures kept { IsKept (stored_of R.value_of network.old.library) network.new.cells }
+    ensures line { All (λ j. j < length network.new.cells.instances) agenda.new.line }
+    ensures room { agenda.new.room ≡ agenda.old.room }
+    ensures explains { IfOk result (λ r. OfCore r.0 (λ v s. (v ≡ beliefs (set_of worldview.now) network.old.cells.contents cell) × Explains (problem_of (stored_of R.value_of network.old.library) network.old.cells) (set_of worldview.now) cell v (set_of s))) }
+    ensures least { IfOk result (λ r. IfLeast r.0 (λ v s. IsIrreducible (problem_of (stored_of R.value_of network.old.library) network.old.cells) (set_of s) cell v)) }
+    ensures spent { IfOk result (λ r. IfNotReduced r.0 (r.1 ≡ budget)) }
+    ensures steps { IfOk result (λ r. r.1 ≤ budget) }
+{
     let why = network.explanation(cell, worldview)?;
     let value = why.value;
     let mut support = why.support.copy()?;
