@@ -1,2 +1,4 @@
 pub mod IrreducibleLaws
 pub mod ReducingLaws
+pub mod TryingLaws
+pub mod CountLemmas

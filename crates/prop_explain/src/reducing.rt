@@ -1,13 +1,14 @@
 //! The reduction of an explanation: premises are left out, one after the other, as long as what is left entails the value.
-ghost use Rattle.std.specs.Prelude.{◌≡◌, ◌≢◌, ◌<◌, ◌≤◌, All, length, IfOk};
+ghost use Rattle.std.specs.Prelude.{◌≡◌, ◌≢◌, ◌<◌, ◌≤◌, ◌*◌, ℕ, List, All, Contains, length, IfOk};
 ghost use Rattle.prop_lattice.specs.Order.{Below};
 ghost use Rattle.prop_premises.specs.Sets.{set_of};
 ghost use Rattle.prop_procedures.specs.Kept.{AllMean, stored_of};
-ghost use Rattle.prop_cells.specs.Problems.{Entails, IsConsistent};
+ghost use Rattle.prop_cells.specs.Problems.{Entails, IsConsistent, Premises};
 ghost use Rattle.prop_cells.specs.Reach.{Explains};
 ghost use Rattle.prop_explain.specs.Irreducible.{IsIrreducible, IfLeast, IfNotReduced, OfCore};
+ghost use Rattle.prop_explain.specs.Trying.{Tries};
 ghost use Rattle.prop_cells.specs.Data.{problem_of, beliefs, IsKept};
-ghost use Rattle.prop_scheduler.specs.Turns.{IsUnderWay, IsSettled};
+ghost use Rattle.prop_scheduler.specs.Turns.{IsUnderWay, IsSettled, Turns};
 ghost use Rattle.prop_scheduler.specs.Potential.{most_steps};
 
 use prop_cells::Network;
@@ -39,7 +40,7 @@ enum Tried {
 }
 
 /// What is believed of a cell of a network at rest, with premises of which none can be left out, and how many instances were called for that.
-/// The premises of the explanation are tried in order of number.
+/// The premises of the explanation are tried in order of number: one is left out where the others are enough.
 ///
 /// Afterwards every instance waits, after want of memory too.
 pub fn reduce<R: Rule + Drop, O: Order>(
@@ -50,7 +51,27 @@ pub fn reduce<R: Rule + Drop, O: Order>(
     worldview: &Worldview,
     cell: usize,
     budget: u64,
-) -> Result<(Core, u64), AllocError> {
+) -> Result<(Core, u64), AllocError>
+    requires means { AllMean R.value_of network.old.library.procedures.items }
+    requires kept { IsKept (stored_of R.value_of network.old.library) network.old.cells }
+    requires line { All (λ j. j < length network.old.cells.instances) agenda.old.line }
+    requires room { length network.old.cells.instances ≤ agenda.old.room }
+    requires cell { cell < length network.old.cells.kinds }
+    requires settled { IsSettled (stored_of R.value_of network.old.library) (set_of worldview.now) network.old.cells }
+    ensures same { network.new.library ≡ network.old.library }
+    ensures rest { network.new.cells ≡ record network.old.cells { contents = network.new.cells.contents } }
+    ensures under_way { (s : Premises) → IsUnderWay (stored_of R.value_of network.new.library) s network.new.cells agenda.new.line }
+    ensures all { (j : ℕ) → j < length network.new.cells.instances → Contains agenda.new.line j }
+    ensures room { agenda.new.room ≡ agenda.old.room }
+    ensures explains { IfOk result (λ r. OfCore r.0 (λ v s. (v ≡ beliefs (set_of worldview.now) network.old.cells.contents cell) × Explains (problem_of (stored_of R.value_of network.old.library) network.old.cells) (set_of worldview.now) cell v (set_of s))) }
+    ensures least { IfOk result (λ r. IfLeast r.0 (λ v s. IsIrreducible (problem_of (stored_of R.value_of network.old.library) network.old.cells) (set_of s) cell v)) }
+    ensures spent { IfOk result (λ r. IfNotReduced r.0 (r.1 ≡ budget)) }
+    ensures steps { IfOk result (λ r. r.1 ≤ budget) }
+
+    // The steps are those of the tries, each of which takes at most as many as the network can.
+    ensures tries { IfOk result (λ r. (line : List ℕ) × Tries O.picks (stored_of R.value_of network.old.library) network.old.cells agenda.old.line order.old r.1 network.new.cells line order.new) }
+    ensures earned { IfOk result (λ r. IfNotReduced r.0 (budget < length worldview.now * most_steps (problem_of (stored_of R.value_of network.old.library) network.old.cells))) }
+{
     let reduced = tried_in_order(alloc, network, agenda, order, worldview, cell, budget);
     wake_all(network, agenda);
     reduced
@@ -81,6 +102,8 @@ fn tried_in_order<R: Rule + Drop, O: Order>(
     ensures least { IfOk result (λ r. IfLeast r.0 (λ v s. IsIrreducible (problem_of (stored_of R.value_of network.old.library) network.old.cells) (set_of s) cell v)) }
     ensures spent { IfOk result (λ r. IfNotReduced r.0 (r.1 ≡ budget)) }
     ensures steps { IfOk result (λ r. r.1 ≤ budget) }
+    ensures tries { IfOk result (λ r. Tries O.picks (stored_of R.value_of network.old.library) network.old.cells agenda.old.line order.old r.1 network.new.cells agenda.new.line order.new) }
+    ensures earned { IfOk result (λ r. IfNotReduced r.0 (budget < length worldview.now * most_steps (problem_of (stored_of R.value_of network.old.library) network.old.cells))) }
 {
     let why = network.explanation(cell, worldview)?;
     let value = why.value;
@@ -132,6 +155,8 @@ fn attempt<R: Rule + Drop, O: Order>(
     ensures room { agenda.new.room ≡ agenda.old.room }
     ensures enough { IfOk result (λ r. r.0 ≡ Tried.Enough → Entails (problem_of (stored_of R.value_of network.old.library) network.old.cells) (set_of set.now) cell value) }
     ensures too_few { IfOk result (λ r. r.0 ≡ Tried.TooFew → ¬ (Entails (problem_of (stored_of R.value_of network.old.library) network.old.cells) (set_of set.now) cell value)) }
+    ensures falls { IfOk result (λ r. r.1 ≤ most_steps (problem_of (stored_of R.value_of network.old.library) network.old.cells)) }
+    ensures turns { IfOk result (λ r. (all : List ℕ) × ((j : ℕ) → j < length network.old.cells.instances → Contains all j) × Turns O.picks (stored_of R.value_of network.old.library) (set_of set.now) network.old.cells all order.old r.1 network.new.cells agenda.new.line order.new) }
     ensures spent { IfOk result (λ r. r.0 ≡ Tried.Spent → r.1 ≡ budget) }
     ensures earned { IfOk result (λ r. r.0 ≡ Tried.Spent → budget < most_steps (problem_of (stored_of R.value_of network.old.library) network.old.cells)) }
     ensures steps { IfOk result (λ r. r.1 ≤ budget) }

@@ -65,14 +65,6 @@ carries library s t Worldview answer steps r = r
 carries library s t (Ask cell name) answer steps r = r
 carries library s t (Why cell name) answer steps r = r
 
--- the run ended so, and what is answered may be said then
-pub ran : (library : List Stored) (s t : State) (question : Question) (outcome : Outcome) (answer : Answer) (steps : ℕ) → t ≡ naming s (named_by outcome s.named) → IsNamed s question → MayEnd library s outcome → MaySay library s (command_of question) outcome steps answer → steps ≤ s.limit →
-    (answer ≡ Refused Memory → t ≡ s) → Obeys library s (command_of question) answer t steps
-ran library s t question outcome answer steps new_is named ends (inl (text, replies, e)) within same =
-    obeys library s t (command_of question) answer steps (free library s question named)
-    (carries library s t question answer steps (record { outcome = outcome; ends = ends; text = text; replies = replies; answer_is = e; new_is = new_is; within = within }))
-ran library s t question outcome answer steps new_is named ends (inr m) within same = inr (record { answer_is = m; same = same m })
-
 -- a contradiction may be said to each question
 pub may_contradict : (library : List Stored) (s : State) (question : Question) (support : List ℕ) (answer : Answer) (steps : ℕ) → IsStrictlyIncreasing support → Says answer (contradiction_text s.premises support) →
     MaySay library s (command_of question) (Contradiction support) steps answer

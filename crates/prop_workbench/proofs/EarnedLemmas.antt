@@ -22,6 +22,7 @@ earns_refused picks library s old new (Ok None) refusal steps = tt
 earns_refused picks library s old new (Ok (Some commands.Command.Settle)) refusal steps = tt
 earns_refused picks library s old new (Ok (Some (commands.Command.Ask x))) refusal steps = tt
 earns_refused picks library s old new (Ok (Some (commands.Command.Why x))) refusal steps = tt
+earns_refused picks library s old new (Ok (Some (commands.Command.Core x))) refusal steps = tt
 earns_refused picks library s old new (Ok (Some commands.Command.Worldview)) refusal steps = tt
 earns_refused picks library s old new (Ok (Some command)) refusal steps = tt
 
