@@ -10,11 +10,13 @@ from case import Case
 
 TOP = os.path.dirname(os.path.dirname(os.path.realpath(__file__)))
 DOCUMENTS = ["README.md", "docs/TUTORIAL.md", "docs/LANGUAGE.md"]
-COMMANDS = "domain relation cell attach define fix tell kick bring limit ask why settle worldview".split()
+COMMANDS = "domain relation cell attach define fix tell choose kick bring limit ask why settle worldview nogoods".split()
 
 
 def is_command(line):
-    return line.split(" ")[0] in COMMANDS
+    """Whether it is no reply: those to `nogoods` begin with that word too, and a number."""
+    word, *rest = line.split(" ")
+    return word in COMMANDS and not (word == "nogoods" and rest)
 
 
 def blocks(text):

@@ -2,11 +2,11 @@
 
 An information is a frozenset of points, or None where nothing is known. What a procedure has to answer is found from the equation or table of its
 points alone: the narrowest information that holds each output of related points. Three do not answer that: `below` and `above` have answers
-without end, and `divider` is not always narrowest; their formulas are in tests/plain.py.
+without end, and `divider` is not always narrowest; their formulas are in tests/formulas.py.
 """
 from itertools import combinations, product
 
-import plain
+import formulas
 from case import Case
 
 TRUTHS = ["yes", "no"]
@@ -52,7 +52,7 @@ def products(scale):
     """The numbers that are less than one away from x * y in units of 1 / scale."""
 
     def of(x, y):
-        low, high = plain.floor(x * y, scale), plain.ceiling(x * y, scale)
+        low, high = formulas.floor(x * y, scale), formulas.ceiling(x * y, scale)
         return [z for z in range(low - 1, high + 2) if scale * (z - 1) < x * y < scale * (z + 1)]
 
     return on_numbers(of)
@@ -153,7 +153,7 @@ def text_of(points):
     if points is None:
         return "nothing"
     if all(isinstance(it, int) for it in points):
-        return plain.text_of(ends_of(points))
+        return formulas.text_of(ends_of(points))
     if len(points) == 1:
         return "".join(points)
     return "{" + " ".join(it for it in [*TRUTHS, *ELEMENTS, *PAIRED] if it in points) + "}"
@@ -228,24 +228,24 @@ def images():
 
 def by_formula():
     for name, kinds, formula, values in [
-        ("below", "truth span span", plain.below, TRUTH),
-        ("above", "truth span span", plain.above, TRUTH),
+        ("below", "truth span span", formulas.below, TRUTH),
+        ("above", "truth span span", formulas.above, TRUTH),
     ]:
         sheet = Sheet()
         for t, x in product(values, SPANS):
             low_high = formula(t, ends_of(x))
-            sheet.call(name, kinds, "", [t, x], None if low_high == plain.NOTHING else Ends(low_high))
+            sheet.call(name, kinds, "", [t, x], None if low_high == formulas.NOTHING else Ends(low_high))
         yield sheet.case(name)
     for scale in (1, 2, 3, 4):
         sheet = Sheet()
         for z, y in product(SPANS, SPANS):
-            info = plain.divided(ends_of(z), ends_of(y), scale)
-            if info == plain.CLASH:
+            info = formulas.divided(ends_of(z), ends_of(y), scale)
+            if info == formulas.CLASH:
                 alone = Sheet()
                 alone.call("divider", "span span span", f" by {scale}", [z, y], CLASH)
                 yield alone.case(f"divider by {scale} clashes at {text_of(z)} {text_of(y)}")
             else:
-                sheet.call("divider", "span span span", f" by {scale}", [z, y], None if info == plain.NOTHING else Ends(info))
+                sheet.call("divider", "span span span", f" by {scale}", [z, y], None if info == formulas.NOTHING else Ends(info))
         yield sheet.case(f"divider by {scale}")
 
 

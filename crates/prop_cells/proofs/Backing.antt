@@ -15,7 +15,7 @@ use Rattle.prop_cells.proofs.RowLemmas.{or_none, rows_unnoted, rows_taken, numbe
 
 -- ---- back to what was there before
 
-take_more_of : {X : Type 0} (before xs more : List X) → take (length before) xs ≡ before → take (length before) (xs ++ more) ≡ before
+pub take_more_of : {X : Type 0} (before xs more : List X) → take (length before) xs ≡ before → take (length before) (xs ++ more) ≡ before
 take_more_of before xs more e =
     let n : length (take (length before) xs) ≡ length before = ap length e in
     take-append-le (length before) xs more (omega (arith, n, length-take (length before) xs)) ∙ e

@@ -58,7 +58,7 @@ stated_test kinds.Symbol size m (Sym s) b e n h = h.1 tt
 stated_test kind size m Contradiction b e n h = cc
 stated_test kind size m info b e n h = no_kind b h
 
-stated_of_kind : (kind : Kind) (size : ℕ) (info : Info) → may_be_stated kind size info ≡ true → IsOf kind size info
+pub stated_of_kind : (kind : Kind) (size : ℕ) (info : Info) → may_be_stated kind size info ≡ true → IsOf kind size info
 stated_of_kind kind size Nothing h = tt
 stated_of_kind kinds.Span size (Span s) h = tt
 stated_of_kind (kinds.Set d) size (Set s) h = (below_test s.bits size).0 h

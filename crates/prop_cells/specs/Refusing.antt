@@ -1,5 +1,5 @@
 -- Why a network refuses a cell, a statement or an instance: the first condition of a list that holds.
-use Rattle.std.specs.Prelude.{ℕ, ◌^◌, ◌/◌, ◌==◌, nat_le, Bool, true, false, not, cond, List, [], ◌∷◌, ◌++◌, Option, Some, None, is_none, length, slice_get}
+use Rattle.std.specs.Prelude.{ℕ, ◌+◌, ◌^◌, ◌/◌, ◌==◌, nat_le, nat_lt, Bool, true, false, not, cond, List, [], ◌∷◌, ◌++◌, Option, Some, None, is_none, length, slice_get}
 use Rattle.std.specs.Option.{option_map_or}
 use Rattle.std.specs.List.{list_any}
 use Rattle.prop_lattice.specs.Refusals.{most}
@@ -40,6 +40,10 @@ state_refusal d cell info =
     or_else (when NoSuchCell (nat_le (length d.kinds) cell))
     (or_else (when WrongKind (not (may_be_stated (kind_at d.kinds cell).kind (kind_at d.kinds cell).size info)))
     (when (LimitReached Statements) (nat_le (most Statements) (length d.statements))))
+
+-- why so many statements more are not made
+abbrev pub sides_refusal : Data → ℕ → Option Refusal
+sides_refusal d count = when (LimitReached Statements) (nat_lt (most Statements) (length d.statements + count))
 
 -- why a procedure is not attached to cells, with the parameter of a number or without one
 abbrev pub refusal_at : Stored → Data → Option ℕ → List ℕ → ℕ → Option Refusal

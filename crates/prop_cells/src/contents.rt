@@ -4,6 +4,7 @@ ghost use Rattle.std.specs.List.{list_any};
 ghost use Rattle.prop_premises.specs.Sets.{set_of};
 ghost use Rattle.prop_cells.specs.Problems.{is_contradiction};
 ghost use Rattle.prop_cells.specs.Data.{beliefs, support_of, IsSupport, IsLeanAt, AddsAt};
+ghost use Rattle.prop_cells.specs.Sides.{StandsAt, entries_below};
 
 use prop_lattice::{Info, Partial};
 use prop_premises::{Premise, PremiseSet, Worldview};
@@ -110,9 +111,18 @@ pub(crate) fn add_to(
 ) -> Result<(), AllocError>
     requires { cell < length contents.old.items }
     ensures ok { OnOk result (AddsAt contents.old.items contents.new.items cell (record { value = value; support = support })) }
+    ensures stands { OnOk result (StandsAt contents.old.items contents.new.items cell (record { value = value; support = support })) }
     ensures same_length { length contents.new.items ≡ length contents.old.items }
     ensures err { OnErr result (contents.new.items ≡ contents.old.items) }
 {
     contents[cell].add(value, support)?;
     Ok(())
+}
+
+/// Drops the entries of a cell whose support holds a premise with this number or a larger one.
+pub(crate) fn drop_from(contents: &mut Vec<Tms<Info>>, cell: usize, premise: usize)
+    requires { cell < length contents.old.items }
+    ensures { contents.new.items ≡ entries_below premise contents.old.items cell }
+{
+    contents[cell].back(premise);
 }

@@ -11,11 +11,11 @@ use Rattle.prop_lattice.specs.declared.refusal.Refusal.{Refusal}
 use Rattle.prop_lattice.specs.declared.refusal.Refusal.TheVariants.{LineTooLong, NotUtf8, UnknownCommand, WrongForm, NotAName, NotANumber}
 use Rattle.prop_language.specs.Tokens.{Token, Word, tokens}
 use Rattle.prop_language.specs.Names.{is_name, is_among}
-use Rattle.prop_language.specs.Commands.{Command}
+use Rattle.prop_language.specs.Commands.{Value, Command}
 use Rattle.prop_language.specs.Forms.{forms}
-use Rattle.prop_language.specs.Spelling.{command_words}
+use Rattle.prop_language.specs.Spelling.{Spells, AreTwoToEight, command_words}
 use Rattle.prop_language.specs.Reading.{reading, reading_of, command_of, command_in_range, without_return, is_silent, names_in, is_in_range}
-use Rattle.prop_language.specs.Refusals.{IsTooLong, IsNotUtf8, IsSpeaking, AsksFor, HasNoCommand, HasNoName, HasNumberOutOfRange, Holds, line_refusals, IsFirst, RefusesTheFirst, ReadsWhatIsSpelled, PassesOverSilence}
+use Rattle.prop_language.specs.Refusals.{IsTooLong, IsNotUtf8, IsSpeaking, AsksFor, HasNoCommand, HasNoName, HasNumberOutOfRange, Holds, line_refusals, IsFirst, RefusesTheFirst, ReadsWhatIsSpelled, ChoosesAmongTwoToEight, PassesOverSilence}
 use Rattle.prop_language.proofs.SpellingLaws.{read_form, spelled_is_read, read_is_spelled}
 
 -- ---- the first of a list
@@ -184,6 +184,15 @@ asked_read line command (Asked n c a e) h =
 
 pub reads_what_is_spelled : ReadsWhatIsSpelled
 reads_what_is_spelled line command = (read_asked line command (outcome line), asked_read line command (outcome line))
+
+-- a choice that is spelled has two to eight values
+counted : (ts : List Token) (name cell : List ℕ) (values : List Value) → Spells ts (Command.Choose name cell values) → AreTwoToEight values
+counted ts name cell [] s = absurd s
+counted ts name cell (v ∷ values) s = s.1
+
+pub choose_counts : ChoosesAmongTwoToEight
+choose_counts line name cell values e =
+    counted (tokens (without_return line)) name cell values ((reads_what_is_spelled line (Command.Choose name cell values)).0 e).1.1
 
 read_silent : (line : List ℕ) → Outcome line → reading line ≡ Ok None → ((refusal : Refusal) → ¬ (Holds line refusal)) × (is_silent (without_return line) ≡ true)
 read_silent line (Refused r f e) h = cc

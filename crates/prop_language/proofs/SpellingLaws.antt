@@ -1,5 +1,5 @@
 -- A form reads just the commands that the tokens spell.
-use Rattle.std.proofs.Common.{◌≡◌, ◌≢◌, ℕ, List, [], ◌∷◌, ◌++◌, Bool, true, false, cond, refl, sym, ◌∙◌, ap, subst, Some, None, map, append-nil, append_assoc, inl, inr}
+use Rattle.std.proofs.Common.{◌≡◌, ◌≢◌, ℕ, List, [], ◌∷◌, ◌++◌, Bool, true, false, cond, refl, sym, ◌∙◌, ap, subst, Some, None, map, inl, inr}
 use Rattle.std.specs.Bool.{Decides}
 use Rattle.std.specs.Prelude.{Option, bytes_eq, codes, find, pos, ◌&&◌}
 use Rattle.std.specs.Option.{option_map, option_and_then, option_or}
@@ -7,11 +7,11 @@ use Rattle.std.specs.List.{AllByRecursion, slice_split, onto_first}
 use Rattle.std.proofs.lemmas.Slice.Eq.{bytes_eq-Decides}
 use Rattle.std.proofs.lemmas.Bool.{false≢true}
 use Rattle.std.proofs.lemmas.Option.{none-some}
-use Rattle.prop_language.specs.Tokens.{Token, Word, Open, Close, Semicolon, Equals, Star}
+use Rattle.prop_language.specs.Tokens.{Token, Word, Semicolon, Equals, Star}
 use Rattle.prop_language.specs.Names.{looks_like_number, number_in}
-use Rattle.prop_language.specs.Commands.{Value, Bare, Braces, KindWord, Spans, Truths, Symbols, Named, By, Passed, Step, Command}
-use Rattle.prop_language.specs.Forms.{bare, on_word, only_words, domain, pairs, relation, kind_word, cell, parameter, by_form, with_cell, cells_by, attach, local_of_kind, local_like, passed_form, use_step, step, each, is_semicolon, steps, define, join, values, in_braces, one_value, limit_of, only_value, fix, tell, forms}
-use Rattle.prop_language.proofs.Forming.{Filled, filled}
+use Rattle.prop_language.specs.Commands.{Value, KindWord, Spans, Truths, Symbols, Named, By, Passed, Step, Command}
+use Rattle.prop_language.specs.Forms.{bare, on_word, only_words, domain, pairs, relation, kind_word, cell, parameter, by_form, with_cell, cells_by, attach, local_of_kind, local_like, passed_form, use_step, step, each, is_semicolon, steps, define, join, values, limit_of, only_value, fix, tell, forms}
+use Rattle.prop_language.proofs.ValueLaws.{value_read, choice_read, one_spelled, choice_spelled}
 use Rattle.prop_language.proofs.StepLaws.{Head, Headed, Headless, head, words_alone, before_equals, after_equals, bodiless, bodied}
 use Rattle.prop_language.specs.Spelling.{Spells, SpellsStep, SpellsSteps, IsLocal, StandsFor, further_pairs, Gives, Passes, HaveNoBy, tokens_of_value}
 
@@ -59,14 +59,6 @@ kind_read w Truths e = rw e refl
 kind_read w Symbols e = rw e refl
 kind_read w (Named name) (e, s, t, y) =
     rw (other_word w (codes "span") s, other_word w (codes "truth") t, other_word w (codes "symbol") y) (ap Named e)
-
-braces_read : (ws us : List (List ℕ)) → in_braces ws (map Word us ++ Close ∷ []) ≡ Some (Braces (ws ++ us) ∷ [])
-braces_read ws [] = ap (λ l. Some (Braces l ∷ [])) (sym (append-nil ws))
-braces_read ws (u ∷ us) = braces_read (ws ++ u ∷ []) us ∙ ap (λ l. Some (Braces l ∷ [])) (append_assoc ws (u ∷ []) us)
-
-value_read : (v : Value) → values (tokens_of_value v) ≡ Some (v ∷ [])
-value_read (Bare w) = refl
-value_read (Braces ws) = braces_read [] ws
 
 -- ---- steps
 
@@ -163,6 +155,8 @@ spelled_is_read ts (Command.Attach name (x ∷ xs) by) (rest, e, h, g) =
     rw (e, cells_read by_form Gives xs by rest given_read h g) refl
 spelled_is_read ts (Command.Fix x v) e = rw (e, value_read v) refl
 spelled_is_read ts (Command.Tell p x v) e = rw (e, value_read v) refl
+spelled_is_read ts (Command.Choose c x []) s = absurd s
+spelled_is_read ts (Command.Choose c x (v ∷ vs)) (e, n) = rw (e, choice_read c x v vs n) refl
 spelled_is_read ts (Command.Kick p) e = rw e refl
 spelled_is_read ts (Command.Bring p) e = rw e refl
 spelled_is_read ts (Command.Limit steps) (w, e, n) = rw (e, n) refl
@@ -170,6 +164,7 @@ spelled_is_read ts Command.Settle e = rw e refl
 spelled_is_read ts (Command.Ask x) e = rw e refl
 spelled_is_read ts (Command.Why x) e = rw e refl
 spelled_is_read ts Command.Worldview e = rw e refl
+spelled_is_read ts Command.Nogoods e = rw e refl
 
 -- ---- what is read is spelled
 
@@ -442,44 +437,6 @@ define_spelled (Word n ∷ Word p ∷ ts) command h = at (head ts)
             subst (Spells (Word (codes "define") ∷ Word n ∷ Word p ∷ ts)) same s
 define_spelled ts command h = cc
 
-none_left : (ts : List Token) → values ts ≡ Some [] → ts ≡ []
-none_left [] h = refl
-none_left (t ∷ ts) h = absurd (subst Filled h (filled (t ∷ ts) (λ e. cc)))
-
--- a value before values is the only one
-only : (u v : Value) (o : Option (List Value)) → join (Some u) o ≡ Some (v ∷ []) → (u ≡ v) × (o ≡ Some [])
-only u v None h = cc
-only u v (Some []) h = (cc, refl)
-only u v (Some (w ∷ ws)) h = cc
-
-braces_spelled : (ws : List (List ℕ)) (ts : List Token) (v : Value) → in_braces ws ts ≡ Some (v ∷ []) → (us : List (List ℕ)) × (v ≡ Braces (ws ++ us)) × (ts ≡ map Word us ++ Close ∷ [])
-braces_spelled ws [] v h = cc
-braces_spelled ws (Word w ∷ ts) v h =
-    let f = braces_spelled (ws ++ w ∷ []) ts v h in
-    (w ∷ f.0, f.1 ∙ ap Braces (append_assoc ws (w ∷ []) f.0), ap (λ l. Word w ∷ l) f.2)
-braces_spelled ws (Close ∷ ts) v h =
-    let f = only (Braces ws) v (values ts) h in
-    ([], sym f.0 ∙ ap Braces (sym (append-nil ws)), ap (λ l. Close ∷ l) (none_left ts f.1))
-braces_spelled ws (t ∷ ts) v h = cc
-
-value_spelled : (ts : List Token) (v : Value) → values ts ≡ Some (v ∷ []) → ts ≡ tokens_of_value v
-value_spelled [] v h = cc
-value_spelled (Word w ∷ ts) v h =
-    let f = only (Bare w) v (values ts) h in
-    ap (λ l. Word w ∷ l) (none_left ts f.1) ∙ ap tokens_of_value f.0
-value_spelled (Open ∷ ts) v h =
-    let f = braces_spelled [] ts v h in
-    ap (λ l. Open ∷ l) f.2 ∙ ap tokens_of_value (sym f.1)
-value_spelled (t ∷ ts) v h = cc
-
-one_spelled : (ts : List Token) (v : Value) (vs : Option (List Value)) → values ts ≡ vs → option_and_then one_value vs ≡ Some v → ts ≡ tokens_of_value v
-one_spelled ts v None e h = cc
-one_spelled ts v (Some []) e h = cc
-one_spelled ts v (Some (u ∷ [])) e h =
-    let same : u ≡ v = cc in
-    value_spelled ts v (e ∙ ap (λ w. Some (w ∷ [])) same)
-one_spelled ts v (Some (u ∷ w ∷ vs)) e h = cc
-
 -- a command that ends in a value, behind these tokens
 ends_in_value : (made : Value → Command) (front ts : List Token) (command : Command) (o : Option Value) → ((v : Value) → Spells (front ++ tokens_of_value v) (made v)) → only_value ts ≡ o → option_map made o ≡ Some command → Spells (front ++ ts) command
 ends_in_value made front ts command None spelled e h = cc
@@ -516,46 +473,7 @@ abbrev ReadsSpelled : List ℕ × (List Token → Option Command) → Type 0
 ReadsSpelled form = (ts : List Token) (command : Command) → form.1 ts ≡ Some command → Spells (Word form.0 ∷ ts) command
 
 forms_spelled : AllByRecursion ReadsSpelled forms
-forms_spelled = (
-  domain_spelled,
-  (
-    relation_spelled,
-    (
-      cell_spelled,
-      (
-        define_spelled,
-        (
-          attach_spelled,
-          (
-            fix_spelled,
-            (
-              tell_spelled,
-              (
-                on_word_spelled (codes "kick") Command.Kick (λ w. refl),
-                (
-                  on_word_spelled (codes "bring") Command.Bring (λ w. refl),
-                  (
-                    on_word_spelled (codes "limit") limit_of (λ w. (w, refl, refl)),
-                    (
-                      bare_spelled (codes "settle") Command.Settle refl,
-                      (
-                        on_word_spelled (codes "ask") Command.Ask (λ w. refl),
-                        (
-                          on_word_spelled (codes "why") Command.Why (λ w. refl),
-                          (bare_spelled (codes "worldview") Command.Worldview refl, tt),
-                        ),
-                      ),
-                    ),
-                  ),
-                ),
-              ),
-            ),
-          ),
-        ),
-      ),
-    ),
-  ),
-)
+forms_spelled = (domain_spelled, (relation_spelled, (cell_spelled, (define_spelled, (attach_spelled, (fix_spelled, (tell_spelled, (choice_spelled, (on_word_spelled (codes "kick") Command.Kick (λ w. refl), (on_word_spelled (codes "bring") Command.Bring (λ w. refl), (on_word_spelled (codes "limit") limit_of (λ w. (w, refl, refl)), (bare_spelled (codes "settle") Command.Settle refl, (on_word_spelled (codes "ask") Command.Ask (λ w. refl), (on_word_spelled (codes "why") Command.Why (λ w. refl), (bare_spelled (codes "worldview") Command.Worldview refl, (bare_spelled (codes "nogoods") Command.Nogoods refl, tt))))))))))))))))
 
 found_spelled : (known : List (List ℕ × (List Token → Option Command))) (w : List ℕ) (ts : List Token) (command : Command) → AllByRecursion ReadsSpelled known → option_and_then (λ form. form.1 ts) (find (λ form. bytes_eq form.0 w) known) ≡ Some command → Spells (Word w ∷ ts) command
 found_spelled [] w ts command all h = cc

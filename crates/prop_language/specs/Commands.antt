@@ -38,6 +38,7 @@ pub data Command : Type 0 where
   Attach : (name : List ℕ) → (cells : List (List ℕ)) → (by : By) → Command
   Fix : (cell : List ℕ) → (value : Value) → Command
   Tell : (premise : List ℕ) → (cell : List ℕ) → (value : Value) → Command
+  Choose : (name cell : List ℕ) → (values : List Value) → Command
   Kick : (premise : List ℕ) → Command
   Bring : (premise : List ℕ) → Command
   Limit : (steps : Option ℕ) → Command
@@ -45,3 +46,4 @@ pub data Command : Type 0 where
   Ask : (cell : List ℕ) → Command
   Why : (cell : List ℕ) → Command
   Worldview : Command
+  Nogoods : Command

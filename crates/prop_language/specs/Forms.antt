@@ -1,5 +1,5 @@
 -- The form of each command: what is read from the tokens after its word.
-use Rattle.std.specs.Prelude.{ℕ, List, [], ◌∷◌, ◌++◌, Bool, true, false, cond, ◌&&◌, codes, bytes_eq, Option, Some, None, pos, unsigned_abs}
+use Rattle.std.specs.Prelude.{ℕ, List, [], ◌∷◌, ◌++◌, Bool, true, false, cond, ◌&&◌, codes, bytes_eq, Option, Some, None, pos, unsigned_abs, length, nat_le}
 use Rattle.std.specs.Option.{option_map, option_and_then, option_or}
 use Rattle.std.specs.List.{slice_split, before_first, after_first}
 use Rattle.prop_language.specs.Tokens.{Token, Word, Open, Close, Semicolon, Equals, Star}
@@ -164,6 +164,21 @@ abbrev pub tell : List Token → Option Command
 tell (Word p ∷ Word x ∷ ts) = option_map (Command.Tell p x) (only_value ts)
 tell ts = None
 
+-- V or W ..: values, with the word `or` between each two, told from a value by where it stands
+abbrev pub sides : List Value → Option (List Value)
+sides (v ∷ []) = Some (v ∷ [])
+sides (v ∷ Bare w ∷ vs) = cond (bytes_eq w (codes "or")) (join (Some v) (sides vs)) None
+sides vs = None
+
+-- two to eight
+abbrev pub two_to_eight : List Value → Option (List Value)
+two_to_eight vs = cond (nat_le 2 (length vs) && nat_le (length vs) 8) (Some vs) None
+
+-- C X V or W ..
+abbrev pub choose : List Token → Option Command
+choose (Word c ∷ Word x ∷ ts) = option_map (Command.Choose c x) (option_and_then two_to_eight (option_and_then sides (values ts)))
+choose ts = None
+
 -- the form of each command, behind its word
 abbrev pub forms : List (List ℕ × (List Token → Option Command))
 forms =
@@ -174,6 +189,7 @@ forms =
     ∷ (codes "attach", attach)
     ∷ (codes "fix", fix)
     ∷ (codes "tell", tell)
+    ∷ (codes "choose", choose)
     ∷ (codes "kick", on_word Command.Kick)
     ∷ (codes "bring", on_word Command.Bring)
     ∷ (codes "limit", on_word limit_of)
@@ -181,4 +197,5 @@ forms =
     ∷ (codes "ask", on_word Command.Ask)
     ∷ (codes "why", on_word Command.Why)
     ∷ (codes "worldview", bare Command.Worldview)
+    ∷ (codes "nogoods", bare Command.Nogoods)
     ∷ []

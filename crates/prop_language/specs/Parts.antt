@@ -8,7 +8,7 @@ use Rattle.prop_lattice.specs.declared.refusal.Refusal.TheVariants.{UnknownComma
 use Rattle.prop_language.specs.Tokens.{Token, Word, Open, Close, Semicolon, Equals, Star, is_blank, mark_of}
 use Rattle.prop_language.specs.Names.{is_name, digits_number}
 use Rattle.prop_language.specs.Commands.{Value, By, Passed, Step, Command}
-use Rattle.prop_language.specs.Forms.{join, bare, each, step, on_word, limit_of, domain, relation, cell, define, attach, fix, tell, parameter, values}
+use Rattle.prop_language.specs.Forms.{join, bare, each, step, on_word, limit_of, domain, relation, cell, define, attach, fix, tell, choose, parameter, values, sides, two_to_eight}
 use Rattle.prop_language.specs.Reading.{by_names, is_by_in_range, passed_names, is_passed_in_range, step_names, is_step_in_range, command_in_form}
 use Rattle.prop_language.specs.Said.{steps_said}
 use Rattle.prop_language.specs.declared.command.Step as kept
@@ -17,7 +17,7 @@ use Rattle.prop_language.specs.declared.tokens.Token.TheVariants as reads
 use Rattle.prop_language.specs.declared.steps.Given.{Given}
 use Rattle.prop_language.specs.declared.steps.Given.TheVariants as givens
 use Rattle.prop_language.specs.declared.reading.CommandWord.{CommandWord}
-use Rattle.prop_language.specs.declared.reading.CommandWord.TheVariants.{Domain, Relation, Cell, Define, Attach, Fix, Tell, Kick, Bring, Limit, Settle, Ask, Why, Worldview}
+use Rattle.prop_language.specs.declared.reading.CommandWord.TheVariants.{Domain, Relation, Cell, Define, Attach, Fix, Tell, Choose, Kick, Bring, Limit, Settle, Ask, Why, Worldview, Nogoods}
 
 -- a token without where its word lies in memory
 abbrev pub token_of : read.Token → Token
@@ -140,6 +140,19 @@ abbrev pub some_values : List Token → Option (List Value)
 some_values [] = None
 some_values (t ∷ ts) = values (t ∷ ts)
 
+-- the values between which each `or` stands
+abbrev pub sides_in : List Token → Option (List Value)
+sides_in ts = option_and_then sides (values ts)
+
+-- the same, of which there are two to eight
+abbrev pub few_sides_in : List Token → Option (List Value)
+few_sides_in ts = option_and_then two_to_eight (sides_in ts)
+
+-- these values before others, where there are others
+abbrev pub before_sides : List Value → Option (List Value) → Option (List Value)
+before_sides [] others = others
+before_sides (v ∷ vs) others = join (Some v) (before_sides vs others)
+
 -- the form of the command that has this word
 abbrev pub form_of : CommandWord → List Token → Option Command
 form_of Domain = domain
@@ -149,6 +162,7 @@ form_of Define = define
 form_of Attach = attach
 form_of Fix = fix
 form_of Tell = tell
+form_of Choose = choose
 form_of Kick = on_word Command.Kick
 form_of Bring = on_word Command.Bring
 form_of Limit = on_word limit_of
@@ -156,6 +170,7 @@ form_of Settle = bare Command.Settle
 form_of Ask = on_word Command.Ask
 form_of Why = on_word Command.Why
 form_of Worldview = bare Command.Worldview
+form_of Nogoods = bare Command.Nogoods
 
 abbrev pub form_entry : Bor (List ℕ) × CommandWord → List ℕ × (List Token → Option Command)
 form_entry (word, command) = (word.now, form_of command)
@@ -177,6 +192,7 @@ KeepsWordsOf Define ts = ⊤
 KeepsWordsOf Attach ts = ⊤
 KeepsWordsOf Fix ts = Contains ts Open
 KeepsWordsOf Tell ts = Contains ts Open
+KeepsWordsOf Choose ts = ⊤
 KeepsWordsOf command ts = ⊥
 
 abbrev pub word_of : CommandWord → List ℕ
@@ -187,6 +203,7 @@ word_of Define = codes "define"
 word_of Attach = codes "attach"
 word_of Fix = codes "fix"
 word_of Tell = codes "tell"
+word_of Choose = codes "choose"
 word_of Kick = codes "kick"
 word_of Bring = codes "bring"
 word_of Limit = codes "limit"
@@ -194,6 +211,7 @@ word_of Settle = codes "settle"
 word_of Ask = codes "ask"
 word_of Why = codes "why"
 word_of Worldview = codes "worldview"
+word_of Nogoods = codes "nogoods"
 
 -- the command has its own word
 abbrev pub is_worded : Bor (List ℕ) × CommandWord → Bool

@@ -47,6 +47,7 @@ names_in (Command.Define name params steps) = name ∷ params ++ flat_map step_n
 names_in (Command.Attach name cells by) = name ∷ cells ++ by_names by
 names_in (Command.Fix cell value) = cell ∷ []
 names_in (Command.Tell premise cell value) = premise ∷ cell ∷ []
+names_in (Command.Choose name cell values) = name ∷ cell ∷ []
 names_in (Command.Kick premise) = premise ∷ []
 names_in (Command.Bring premise) = premise ∷ []
 names_in (Command.Limit steps) = []
@@ -54,6 +55,7 @@ names_in Command.Settle = []
 names_in (Command.Ask cell) = cell ∷ []
 names_in (Command.Why cell) = cell ∷ []
 names_in Command.Worldview = []
+names_in Command.Nogoods = []
 
 abbrev pub is_by_in_range : By → Bool
 is_by_in_range (By.Number n) = is_some n

@@ -4,8 +4,8 @@ use Rattle.prop_lattice.specs.declared.refusal.Refusal.{Refusal}
 use Rattle.prop_lattice.specs.declared.refusal.Refusal.TheVariants.{LineTooLong, NotUtf8, UnknownCommand, WrongForm, NotAName, NotANumber}
 use Rattle.prop_language.specs.Tokens.{Token, Word, tokens}
 use Rattle.prop_language.specs.Names.{is_name, is_among}
-use Rattle.prop_language.specs.Commands.{Command}
-use Rattle.prop_language.specs.Spelling.{Spells, command_words}
+use Rattle.prop_language.specs.Commands.{Value, Command}
+use Rattle.prop_language.specs.Spelling.{Spells, AreTwoToEight, command_words}
 use Rattle.prop_language.specs.Reading.{reading, without_return, is_silent, names_in, is_in_range}
 
 abbrev pub IsTooLong : List ℕ → Type 0
@@ -66,6 +66,11 @@ RefusesTheFirst =
 abbrev pub ReadsWhatIsSpelled : Type 0
 ReadsWhatIsSpelled =
     (line : List ℕ) (command : Command) → (reading line ≡ Ok (Some command)) ↔ (((refusal : Refusal) → ¬ (Holds line refusal)) × AsksFor line command)
+
+-- a choice that is read has two to eight values
+abbrev pub ChoosesAmongTwoToEight : Type 0
+ChoosesAmongTwoToEight =
+    (line : List ℕ) (name cell : List ℕ) (values : List Value) → reading line ≡ Ok (Some (Command.Choose name cell values)) → AreTwoToEight values
 
 -- a line that gives no reason and gets no reply is silent
 abbrev pub PassesOverSilence : Type 0

@@ -16,7 +16,7 @@ use Rattle.prop_language.specs.declared.command.Passed.TheVariants as passeds
 use Rattle.prop_language.specs.declared.command.Step.{Step}
 use Rattle.prop_language.specs.declared.command.Step.TheVariants as steps
 use Rattle.prop_language.specs.declared.command.Command.{Command}
-use Rattle.prop_language.specs.declared.command.Command.TheVariants.{Silent, Domain, Relation, Cell, Define, Attach, Fix, Tell, Kick, Bring, Limit, Settle, Ask, Why, Worldview}
+use Rattle.prop_language.specs.declared.command.Command.TheVariants.{Silent, Domain, Relation, Cell, Define, Attach, Fix, Tell, Choose, Kick, Bring, Limit, Settle, Ask, Why, Worldview, Nogoods}
 
 abbrev pub words : List (Bor (List ℕ)) → List (List ℕ)
 words items = map (λ (w : Bor (List ℕ)). w.now) items
@@ -58,6 +58,7 @@ said (Define name params steps) = Some (commands.Command.Define name.now (words 
 said (Attach name cells by) = Some (commands.Command.Attach name.now (words cells.items) (by_of by))
 said (Fix cell value) = Some (commands.Command.Fix cell.now (value_of value))
 said (Tell premise cell value) = Some (commands.Command.Tell premise.now cell.now (value_of value))
+said (Choose name cell values) = Some (commands.Command.Choose name.now cell.now (map value_of values.items))
 said (Kick premise) = Some (commands.Command.Kick premise.now)
 said (Bring premise) = Some (commands.Command.Bring premise.now)
 said (Limit steps) = Some (commands.Command.Limit (Some steps))
@@ -65,6 +66,7 @@ said Settle = Some commands.Command.Settle
 said (Ask cell) = Some (commands.Command.Ask cell.now)
 said (Why cell) = Some (commands.Command.Why cell.now)
 said Worldview = Some commands.Command.Worldview
+said Nogoods = Some commands.Command.Nogoods
 
 -- the steps, or why they are refused
 abbrev pub steps_said : List Step → Option Refusal → Result (List commands.Step) Refusal
@@ -76,9 +78,9 @@ abbrev pub Reads : Result Command Refusal → Result (Option commands.Command) R
 Reads (Ok command) read = read ≡ Ok (said command)
 Reads (Err refusal) read = (refusal ≡ Memory) ⊎ (read ≡ Err refusal)
 
--- The command keeps a list of words, its elements, pairs, parameters or cells or those in braces: for another line there is
+-- The command keeps a list: its elements, pairs, parameters, cells or values, or the words in braces. For another line there is
 -- no want of memory.
 abbrev pub KeepsWords : List Token → Type 0
 KeepsWords (Word w ∷ ts) =
-    (w ≡ codes "domain") ⊎ ((w ≡ codes "relation") ⊎ ((w ≡ codes "define") ⊎ ((w ≡ codes "attach") ⊎ (((w ≡ codes "fix") ⊎ (w ≡ codes "tell")) × Contains ts Open))))
+    (w ≡ codes "domain") ⊎ ((w ≡ codes "relation") ⊎ ((w ≡ codes "define") ⊎ ((w ≡ codes "attach") ⊎ ((w ≡ codes "choose") ⊎ (((w ≡ codes "fix") ⊎ (w ≡ codes "tell")) × Contains ts Open)))))
 KeepsWords ts = ⊥

@@ -1,5 +1,5 @@
 -- How each command is spelled: the tokens of a line that asks for it.
-use Rattle.std.specs.Prelude.{◌≡◌, ◌≢◌, ◌⊎◌, ℕ, List, [], ◌∷◌, ◌++◌, true, false, codes, pos, unsigned_abs, map}
+use Rattle.std.specs.Prelude.{◌≡◌, ◌≢◌, ◌⊎◌, ℕ, ◌≤◌, List, [], ◌∷◌, ◌++◌, true, false, codes, pos, unsigned_abs, map, length}
 use Rattle.std.specs.List.{AllByRecursion}
 use Rattle.std.specs.Option.{option_map}
 use Rattle.prop_language.specs.Tokens.{Token, Word, Open, Close, Semicolon, Equals, Star}
@@ -9,7 +9,7 @@ use Rattle.prop_language.specs.Commands.{Value, Bare, Braces, KindWord, Spans, T
 -- the first words of the commands
 abbrev pub command_words : List (List ℕ)
 command_words =
-    codes "domain" ∷ codes "relation" ∷ codes "cell" ∷ codes "define" ∷ codes "attach" ∷ codes "fix" ∷ codes "tell" ∷ codes "kick" ∷ codes "bring" ∷ codes "limit" ∷ codes "settle" ∷ codes "ask" ∷ codes "why" ∷ codes "worldview" ∷ []
+    codes "domain" ∷ codes "relation" ∷ codes "cell" ∷ codes "define" ∷ codes "attach" ∷ codes "fix" ∷ codes "tell" ∷ codes "choose" ∷ codes "kick" ∷ codes "bring" ∷ codes "limit" ∷ codes "settle" ∷ codes "ask" ∷ codes "why" ∷ codes "worldview" ∷ codes "nogoods" ∷ []
 
 -- The word stands for the kind. Three kinds have words of their own, and another word is a domain's name.
 abbrev pub StandsFor : List ℕ → KindWord → Type 0
@@ -66,8 +66,17 @@ abbrev pub tokens_of_value : Value → List Token
 tokens_of_value (Bare w) = Word w ∷ []
 tokens_of_value (Braces ws) = Open ∷ map Word ws ++ Close ∷ []
 
+-- the values after a first one, each behind an `or`
+abbrev pub further_values : List Value → List Token
+further_values [] = []
+further_values (v ∷ vs) = Word (codes "or") ∷ tokens_of_value v ++ further_values vs
+
+-- the number of a choice's values
+abbrev pub AreTwoToEight : List Value → Type 0
+AreTwoToEight vs = (2 ≤ length vs) × (length vs ≤ 8)
+
 -- The tokens spell the command. Of a domain's elements, a relation's pairs, a definition's parameters and steps and an
--- attachment's cells there is one or more, and of the cells only the first can be called `by`.
+-- attachment's cells there is one or more, and of the cells only the first can be called `by`. A choice has two to eight values.
 abbrev pub Spells : List Token → Command → Type 0
 Spells ts (Command.Domain name []) = ⊥
 Spells ts (Command.Domain name (e ∷ es)) = ts ≡ Word (codes "domain") ∷ Word name ∷ Word e ∷ map Word es
@@ -84,6 +93,9 @@ Spells ts (Command.Attach name (x ∷ xs) by) =
     (rest : List Token) × (ts ≡ Word (codes "attach") ∷ Word name ∷ Word x ∷ map Word xs ++ rest) × HaveNoBy xs × Gives by rest
 Spells ts (Command.Fix cell value) = ts ≡ Word (codes "fix") ∷ Word cell ∷ tokens_of_value value
 Spells ts (Command.Tell premise cell value) = ts ≡ Word (codes "tell") ∷ Word premise ∷ Word cell ∷ tokens_of_value value
+Spells ts (Command.Choose name cell []) = ⊥
+Spells ts (Command.Choose name cell (v ∷ vs)) =
+    (ts ≡ Word (codes "choose") ∷ Word name ∷ Word cell ∷ tokens_of_value v ++ further_values vs) × AreTwoToEight (v ∷ vs)
 Spells ts (Command.Kick premise) = ts ≡ Word (codes "kick") ∷ Word premise ∷ []
 Spells ts (Command.Bring premise) = ts ≡ Word (codes "bring") ∷ Word premise ∷ []
 Spells ts (Command.Limit steps) =
@@ -92,3 +104,4 @@ Spells ts Command.Settle = ts ≡ Word (codes "settle") ∷ []
 Spells ts (Command.Ask cell) = ts ≡ Word (codes "ask") ∷ Word cell ∷ []
 Spells ts (Command.Why cell) = ts ≡ Word (codes "why") ∷ Word cell ∷ []
 Spells ts Command.Worldview = ts ≡ Word (codes "worldview") ∷ []
+Spells ts Command.Nogoods = ts ≡ Word (codes "nogoods") ∷ []

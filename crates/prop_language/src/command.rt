@@ -40,7 +40,7 @@ pub enum Step<'a> {
 }
 
 /// A command with its words and numbers as read, in the order in which they stand on the line: of `Tell` the premise, then the
-/// cell, of `Relation` the name, the two domains, and the pairs, whose words need not be names, and of `Define` the name, the
+/// cell, of `Choose` the name, the cell and two to eight values, of `Relation` the name, the two domains, and the pairs, whose words need not be names, and of `Define` the name, the
 /// parameters and the steps. `Silent` is a line that gets no reply.
 #[derive(Drop)]
 pub enum Command<'a> {
@@ -52,6 +52,7 @@ pub enum Command<'a> {
     Attach(&'a str, Vec<&'a str>, By<'a>),
     Fix(&'a str, Value<'a>),
     Tell(&'a str, &'a str, Value<'a>),
+    Choose(&'a str, &'a str, Vec<Value<'a>>),
     Kick(&'a str),
     Bring(&'a str),
     Limit(u64),
@@ -59,4 +60,5 @@ pub enum Command<'a> {
     Ask(&'a str),
     Why(&'a str),
     Worldview,
+    Nogoods,
 }

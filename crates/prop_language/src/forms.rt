@@ -360,6 +360,7 @@ pub fn attach<'a>(alloc: Global, rest: &'a [u8]) -> Result<Command<'a>, Refusal>
 fn braces<'a>(alloc: Global, bytes: &'a [u8]) -> Result<(Value<'a>, &'a [u8]), Refusal>
     ensures ok { IfOk result (λ found. forms.in_braces [] (tokens bytes.now) ≡ forms.join (Some (value_of found.0)) (forms.values (tokens found.1.now))) }
     ensures err { IfErr result (λ refusal. (refusal ≡ Refusal.Memory) ⊎ ((refusal ≡ Refusal.WrongForm) × (forms.in_braces [] (tokens bytes.now) ≡ None))) }
+    ensures shorter { IfOk result (λ found. length found.1.now < length bytes.now) }
 {
     let mut words = Vec::new(alloc);
     let mut left = bytes;
@@ -378,9 +379,10 @@ fn braces<'a>(alloc: Global, bytes: &'a [u8]) -> Result<(Value<'a>, &'a [u8]), R
 }
 
 /// The value that the bytes begin with, and what stands behind it.
-fn value<'a>(alloc: Global, bytes: &'a [u8]) -> Result<(Value<'a>, &'a [u8]), Refusal>
+pub(crate) fn value<'a>(alloc: Global, bytes: &'a [u8]) -> Result<(Value<'a>, &'a [u8]), Refusal>
     ensures ok { IfOk result (λ found. forms.values (tokens bytes.now) ≡ forms.join (Some (value_of found.0)) (forms.values (tokens found.1.now))) }
     ensures err { IfErr result (λ refusal. (refusal ≡ Refusal.Memory) ⊎ ((refusal ≡ Refusal.WrongForm) × (some_values (tokens bytes.now) ≡ None))) }
+    ensures shorter { IfOk result (λ found. length found.1.now < length bytes.now) }
     ensures memory { (result ≡ Err Refusal.Memory) → BeginsOpen (tokens bytes.now) }
 {
     match next_token(bytes) {

@@ -1,6 +1,7 @@
 //! What a line of the workbench's language says.
 #![tactic(auto)]
 
+mod choices;
 pub mod command;
 mod forms;
 mod names;

@@ -6,11 +6,11 @@ ghost use Rattle.prop_language.specs.Tokens.{tokens};
 ghost use Rattle.prop_language.specs.Reading.{reading, reading_of, command_of, by_form_of, command_in_form, is_silent, without_return};
 ghost use Rattle.prop_language.specs.Parts.{form_of, form_entry, read_by, word_of, is_worded, KeepsWordsOf};
 ghost use Rattle.prop_language.specs.Said.{Reads, KeepsWords};
-ghost use Rattle.prop_language.specs.Refusals.{RefusesTheFirst, ReadsWhatIsSpelled, PassesOverSilence};
+ghost use Rattle.prop_language.specs.Refusals.{RefusesTheFirst, ReadsWhatIsSpelled, ChoosesAmongTwoToEight, PassesOverSilence};
 
 use crate::command::Command;
 use crate::tokens::{Token, is_blank, next_token};
-use crate::{forms, steps};
+use crate::{choices, forms, steps};
 use prop_lattice::Refusal;
 use std::alloc::Global;
 
@@ -49,6 +49,7 @@ enum CommandWord {
     Attach,
     Fix,
     Tell,
+    Choose,
     Kick,
     Bring,
     Limit,
@@ -56,10 +57,11 @@ enum CommandWord {
     Ask,
     Why,
     Worldview,
+    Nogoods,
 }
 
 /// The commands by their first words.
-const COMMANDS: [(&[u8], CommandWord); 14] = [
+const COMMANDS: [(&[u8], CommandWord); 16] = [
     (b"domain", CommandWord::Domain),
     (b"relation", CommandWord::Relation),
     (b"cell", CommandWord::Cell),
@@ -67,6 +69,7 @@ const COMMANDS: [(&[u8], CommandWord); 14] = [
     (b"attach", CommandWord::Attach),
     (b"fix", CommandWord::Fix),
     (b"tell", CommandWord::Tell),
+    (b"choose", CommandWord::Choose),
     (b"kick", CommandWord::Kick),
     (b"bring", CommandWord::Bring),
     (b"limit", CommandWord::Limit),
@@ -74,6 +77,7 @@ const COMMANDS: [(&[u8], CommandWord); 14] = [
     (b"ask", CommandWord::Ask),
     (b"why", CommandWord::Why),
     (b"worldview", CommandWord::Worldview),
+    (b"nogoods", CommandWord::Nogoods),
 ];
 
 /// The first of these commands that has this word.
@@ -106,6 +110,7 @@ fn read_form<'a>(
         CommandWord::Attach => forms::attach(alloc, rest),
         CommandWord::Fix => forms::fix(alloc, rest),
         CommandWord::Tell => forms::tell(alloc, rest),
+        CommandWord::Choose => choices::choose(alloc, rest),
         CommandWord::Kick => Ok(Command::Kick(forms::only_name(rest)?)),
         CommandWord::Bring => Ok(Command::Bring(forms::only_name(rest)?)),
         CommandWord::Limit => forms::limit(rest),
@@ -113,6 +118,7 @@ fn read_form<'a>(
         CommandWord::Ask => Ok(Command::Ask(forms::only_name(rest)?)),
         CommandWord::Why => Ok(Command::Why(forms::only_name(rest)?)),
         CommandWord::Worldview => forms::worldview(rest),
+        CommandWord::Nogoods => choices::nogoods(rest),
     }
 }
 
@@ -156,9 +162,11 @@ pub fn read_line<'a>(alloc: Global, line: &'a [u8]) -> Result<Command<'a>, Refus
     read_text(alloc, without_return(line))
 }
 
-/// What `read_line` answers, by the tokens that spell each command and by a condition for each refusal.
+/// What `read_line` answers, by the tokens that spell each command and by a condition for each refusal. A choice that it reads has
+/// two to eight values.
 pub fn reads_what_is_spelled()
     ensures refused { RefusesTheFirst }
     ensures read { ReadsWhatIsSpelled }
+    ensures values { ChoosesAmongTwoToEight }
     ensures silent { PassesOverSilence }
 {}

@@ -1,5 +1,5 @@
 //! The form of a definition: what is read from the bytes behind its word.
-ghost use Rattle.std.specs.Prelude.{◌≡◌, ◌∷◌, ◌++◌, [], ◌⊎◌, List, codes, IfOk, IfErr, OnOk, Ok, Err, Some, None};
+ghost use Rattle.std.specs.Prelude.{◌≡◌, ◌<◌, ◌∷◌, ◌++◌, [], ◌⊎◌, List, length, codes, IfSome, IfOk, IfErr, OnOk, Ok, Err, Some, None};
 ghost use Rattle.std.specs.Option.{option_map};
 ghost use Rattle.prop_language.specs.Tokens as words;
 ghost use Rattle.prop_language.specs.Tokens.{tokens, Word};
@@ -26,8 +26,9 @@ enum Given<'a> {
 }
 
 /// What stands behind this word, where the bytes begin with it.
-fn behind_word<'a>(bytes: &'a [u8], wanted: &[u8]) -> Option<&'a [u8]>
-    ensures { option_map (λ rest. tokens rest.now) result ≡ behind_word wanted.now (tokens bytes.now) }
+pub(crate) fn behind_word<'a>(bytes: &'a [u8], wanted: &[u8]) -> Option<&'a [u8]>
+    ensures found { option_map (λ rest. tokens rest.now) result ≡ behind_word wanted.now (tokens bytes.now) }
+    ensures shorter { IfSome result (λ rest. length rest.now < length bytes.now) }
 {
     match next_token(bytes) {
         Some((Token::Word(word), rest)) if word == wanted => Some(rest),

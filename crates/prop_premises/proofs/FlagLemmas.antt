@@ -1,9 +1,9 @@
 -- Numbers told by a list of flags.
-use Rattle.std.proofs.Common.{◌≡◌, ◌∙◌, ℕ, zero, suc, ◌+◌, ◌-◌, ◌<◌, ◌≤◌, Bool, true, false, ◌==◌, List, [], ◌∷◌, ◌++◌, length, get_or, take, replicate, refl, ap, arith, append-nil}
+use Rattle.std.proofs.Common.{◌≡◌, ◌∙◌, ℕ, zero, suc, ◌+◌, ◌-◌, ◌<◌, ◌≤◌, Bool, true, false, ◌||◌, ◌==◌, List, [], ◌∷◌, ◌++◌, length, get_or, take, replicate, filter, nat_lt, refl, sym, ap, arith, append-nil}
 use Rattle.std.specs.List.{AllByRecursion}
 use Rattle.std.proofs.lemmas.Grind.{common_steps}
 use Rattle.std.proofs.lemmas.Bool.Decides.{nat_tests}
-use Rattle.prop_premises.specs.Sets.{set_of}
+use Rattle.prop_premises.specs.Sets.{set_of, IsBelow}
 use Rattle.prop_premises.specs.Flags.{numbers_from}
 
 lower : (n p : ℕ) (bs : List Bool) → p < n → set_of (numbers_from n bs) p ≡ false
@@ -55,3 +55,53 @@ from_none n (p ∷ ps) e = (omega arith, from_none n ps e)
 pub from_next : (n p : ℕ) (ps : List ℕ) → n ≡ p + 1 → AllByRecursion (λ q. p < q) ps → AllByRecursion (λ q. n ≤ q) ps
 from_next n p [] e h = tt
 from_next n p (q ∷ qs) e h = (omega (arith, h.0), from_next n p qs e h.1)
+
+-- ---- numbers below a bound
+
+none_below : (n m : ℕ) (bs : List Bool) → m ≤ n → filter (λ p. nat_lt p m) (numbers_from n bs) ≡ []
+none_below n m [] l = refl
+none_below n m (true ∷ bs) l =
+    let out : nat_lt n m ≡ false = grind (arith, nat_tests) in
+    rw out (none_below (suc n) m bs (omega arith))
+none_below n m (false ∷ bs) l = none_below (suc n) m bs (omega arith)
+
+-- the first flags are those of the smaller numbers
+pub numbers_from-take : (n k m : ℕ) (bs : List Bool) → m ≡ n + k → numbers_from n (take k bs) ≡ filter (λ p. nat_lt p m) (numbers_from n bs)
+numbers_from-take n zero m [] e = refl
+numbers_from-take n (suc k) m [] e = refl
+numbers_from-take n zero m (b ∷ bs) e = sym (none_below n m (b ∷ bs) (omega (arith, e)))
+numbers_from-take n (suc k) m (true ∷ bs) e =
+    let in_it : nat_lt n m ≡ true = grind (arith, nat_tests) in
+    rw in_it (ap (λ l. n ∷ l) (numbers_from-take (suc n) k m bs (omega (arith, e))))
+numbers_from-take n (suc k) m (false ∷ bs) e = numbers_from-take (suc n) k m bs (omega (arith, e))
+
+or_first : (b c : Bool) → b ≡ true → (b || c) ≡ true
+or_first true c e = refl
+or_first false c e = cc
+
+or_last : (b c : Bool) → c ≡ true → (b || c) ≡ true
+or_last true c e = refl
+or_last false c e = e
+
+-- where all numbers are below the bound, all are kept
+pub filter-below : (m : ℕ) (ps : List ℕ) → IsBelow m (set_of ps) → filter (λ p. nat_lt p m) ps ≡ ps
+filter-below m [] h = refl
+filter-below m (p ∷ ps) h =
+    let own : (p == p) ≡ true = grind (arith, nat_tests) in
+    let low : p < m = h p (or_first (p == p) (set_of ps p) own) in
+    let in_it : nat_lt p m ≡ true = grind (arith, nat_tests) in
+    rw in_it (ap (λ l. p ∷ l) (filter-below m ps (λ q t. h q (or_last (p == q) (set_of ps q) t))))
+
+-- the flags of numbers that are all below p, filled up to it or cut there
+pub numbers_from-filled : (bs : List Bool) (n p : ℕ) (ps : List ℕ) → n ≡ length bs → numbers_from 0 bs ≡ ps → IsBelow p (set_of ps) → numbers_from 0 (take p bs ++ replicate (p - n) false) ≡ ps
+numbers_from-filled bs n p ps len same h =
+    numbers_from-append 0 (take p bs) (replicate (p - n) false) (0 + length (take p bs)) refl
+    ∙ rw (numbers_from-unset (0 + length (take p bs)) (p - n)) (append-nil (numbers_from 0 (take p bs)))
+    ∙ numbers_from-take 0 p p bs (omega arith) ∙ rw same (filter-below p ps h)
+
+-- one more number, above all others
+pub numbers_from-pushed : (bs : List Bool) (n p : ℕ) (ps : List ℕ) → n ≡ length bs → numbers_from 0 bs ≡ ps → IsBelow p (set_of ps) →
+    numbers_from 0 ((take p bs ++ replicate (p - n) false) ++ true ∷ []) ≡ ps ++ p ∷ []
+numbers_from-pushed bs n p ps len same h =
+    let end : 0 + length (take p bs ++ replicate (p - n) false) ≡ p = grind (arith, common_steps) in
+    rw (numbers_from-append 0 (take p bs ++ replicate (p - n) false) (true ∷ []) p end, numbers_from-filled bs n p ps len same h) refl

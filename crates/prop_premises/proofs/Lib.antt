@@ -3,3 +3,11 @@ pub mod MergeLemmas
 pub mod FlagLemmas
 pub mod OriginLemmas
 pub mod WithinLemmas
+pub mod ChoiceLemmas
+pub mod TableLemmas
+pub mod LookupLemmas
+pub mod NumberLemmas
+pub mod EntryLemmas
+pub mod SideLemmas
+pub mod ChangeLemmas
+pub mod WorldviewLemmas

@@ -1,67 +1,58 @@
--- Premises in order of number, and the table of their names.
-use Rattle.std.proofs.Common.{◌≡◌, ℕ, zero, suc, ◌<◌, Bool, true, false, List, [], ◌∷◌, ◌++◌, length, get_or, map, refl, ap, arith, position, slice_get, IsTrue, String, string_bytes, bytes_eq, take, ◌||◌, ◌&&◌, ◌==◌, not, ◌∙◌, sym}
-use Rattle.std.specs.List.{position_or_len}
+-- Premises in order of number, and which of them are believed.
+use Rattle.std.proofs.Common.{◌≡◌, ℕ, zero, suc, ◌<◌, Bool, true, false, List, [], ◌∷◌, ◌++◌, length, refl, ap, arith, slice_get, IsTrue, None, ◌≤◌, ◌||◌, ◌&&◌, ◌==◌, not, ◌∙◌, sym}
 use Rattle.std.proofs.lemmas.Bool.Decides.{nat_tests}
-use Rattle.std.specs.Map.{keys_of, values_of}
 use Rattle.std.specs.Option.{option_map_or}
-use Rattle.prop_premises.specs.Origins.{Origin, User, Side, is_user_called, premise_number, is_user_at, is_believed, is_user, believed_in, with_belief, with_belief_at}
+use Rattle.prop_premises.specs.Origins.{Origin, User, Side, is_user_at, is_believed, is_user, believed_in, with_belief, with_belief_at, side_of, side_at, starts, is_start}
 use Rattle.prop_premises.specs.Sets.{set_of, union, without, IsSame}
-use Rattle.prop_premises.specs.Named.{origin_of}
-use Rattle.indexmap.specs.Layout.{set_value_at}
-
-place_of_name : {A : Type 0} (name : List ℕ) (es : List (String A × Bool)) →
-    position_or_len (is_user_called name) (map origin_of es) ≡ position_or_len (λ k. bytes_eq name (string_bytes k)) (keys_of es)
-place_of_name name [] = refl
-place_of_name name (e ∷ es) = rw (place_of_name name es) refl
-
-lengths : {A : Type 0} (es : List (String A × Bool)) → length (map origin_of es) ≡ length (keys_of es)
-lengths [] = refl
-lengths (e ∷ es) = ap suc (lengths es)
-
--- a name's number is its place in the table
-pub premise_number-map : {A : Type 0} (name : List ℕ) (es : List (String A × Bool)) →
-    premise_number (map origin_of es) name ≡ position (λ k. bytes_eq name (string_bytes k)) (keys_of es)
-premise_number-map name es =
-    rw (place_of_name name es, lengths es) refl
-
-pub is_user_at-map : {A : Type 0} (es : List (String A × Bool)) (p : ℕ) → p < length es → is_user_at (map origin_of es) p ≡ true
-is_user_at-map [] p l = absurd (omega arith)
-is_user_at-map (e ∷ es) zero l = refl
-is_user_at-map (e ∷ es) (suc p) l = is_user_at-map es p (omega arith)
 
 pub in_range : (os : List Origin) (p : ℕ) → IsTrue (is_user_at os p) → p < length os
 in_range [] p h = cc
 in_range (o ∷ os) zero h = omega arith
 in_range (o ∷ os) (suc p) h = omega (arith, in_range os p h)
 
-pub with_belief_at-map : {A : Type 0} (es : List (String A × Bool)) (p : ℕ) (believed : Bool) →
-    map origin_of (set_value_at es p believed) ≡ with_belief_at (map origin_of es) p believed
-with_belief_at-map [] p believed = refl
-with_belief_at-map (e ∷ es) zero believed = refl
-with_belief_at-map (e ∷ es) (suc p) believed = ap (λ l. origin_of e ∷ l) (with_belief_at-map es p believed)
+-- ---- what is told of a number is told of the premise that has it
 
-pub believed_in-values : {A : Type 0} (es : List (String A × Bool)) (p : ℕ) → believed_in (map origin_of es) p ≡ get_or (values_of es) p false
-believed_in-values [] p = refl
-believed_in-values (e ∷ es) zero = refl
-believed_in-values (e ∷ es) (suc p) = believed_in-values es p
+pub is_user_at-at : (os : List Origin) (p : ℕ) → is_user_at os p ≡ option_map_or is_user (slice_get os p) false
+is_user_at-at [] p = refl
+is_user_at-at (o ∷ os) zero = refl
+is_user_at-at (o ∷ os) (suc p) = is_user_at-at os p
 
-pub believed_in-entry : {A : Type 0} (es : List (String A × Bool)) (p : ℕ) → believed_in (map origin_of es) p ≡ option_map_or (λ e. e.1) (slice_get es p) false
-believed_in-entry [] p = refl
-believed_in-entry (e ∷ es) zero = refl
-believed_in-entry (e ∷ es) (suc p) = believed_in-entry es p
+pub believed_in-at : (os : List Origin) (p : ℕ) → believed_in os p ≡ option_map_or is_believed (slice_get os p) false
+believed_in-at [] p = refl
+believed_in-at (o ∷ os) zero = refl
+believed_in-at (o ∷ os) (suc p) = believed_in-at os p
 
-pub take-origins : {A : Type 0} (n : ℕ) (es : List (String A × Bool)) → map origin_of (take n es) ≡ take n (map origin_of es)
-take-origins zero es = refl
-take-origins (suc n) [] = refl
-take-origins (suc n) (e ∷ es) = ap (λ l. origin_of e ∷ l) (take-origins n es)
+-- what has no number is not believed
+pub believed_in-past : (os : List Origin) (p : ℕ) → length os ≤ p → believed_in os p ≡ false
+believed_in-past [] p l = refl
+believed_in-past (o ∷ os) zero l = absurd (omega (arith, l))
+believed_in-past (o ∷ os) (suc p) l = believed_in-past os p (omega (arith, l))
 
-pub length-origins : {A : Type 0} (es : List (String A × Bool)) → length (map origin_of es) ≡ length es
-length-origins [] = refl
-length-origins (e ∷ es) = ap suc (length-origins es)
+pub side_at-at : (os : List Origin) (p : ℕ) → side_at os p ≡ option_map_or side_of (slice_get os p) None
+side_at-at [] p = refl
+side_at-at (o ∷ os) zero = refl
+side_at-at (o ∷ os) (suc p) = side_at-at os p
 
-pub map-push : {A : Type 0} (es : List (String A × Bool)) (e : String A × Bool) → map origin_of (es ++ e ∷ []) ≡ map origin_of es ++ origin_of e ∷ []
-map-push [] e = refl
-map-push (x ∷ xs) e = ap (λ l. origin_of x ∷ l) (map-push xs e)
+pub is_start-at : (os : List Origin) (p : ℕ) → p < length os → is_start os p ≡ option_map_or starts (slice_get os p) true
+is_start-at [] p l = absurd (omega (arith, l))
+is_start-at (o ∷ os) zero l = refl
+is_start-at (o ∷ os) (suc p) l = is_start-at os p (omega (arith, l))
+
+pub is_start-within : (os : List Origin) (p : ℕ) → IsTrue (is_start os p) → p ≤ length os
+is_start-within [] zero h = omega arith
+is_start-within [] (suc p) h = cc
+is_start-within (o ∷ os) zero h = omega arith
+is_start-within (o ∷ os) (suc p) h = omega (arith, is_start-within os p h)
+
+believed_user : (o : Origin) → is_believed o ≡ true → is_user o ≡ true
+believed_user (User name believed) h = refl
+believed_user (Side choice side sides) h = cc
+
+-- only premises of the user's are believed
+pub is_user_at-believed : (os : List Origin) (p : ℕ) → IsTrue (believed_in os p) → IsTrue (is_user_at os p)
+is_user_at-believed [] p h = cc
+is_user_at-believed (o ∷ os) zero h = believed_user o h
+is_user_at-believed (o ∷ os) (suc p) h = is_user_at-believed os p h
 
 pub is_user_at-push : (os : List Origin) (name : List ℕ) (believed : Bool) (p : ℕ) → p ≡ length os → is_user_at (os ++ User name believed ∷ []) p ≡ true
 is_user_at-push [] name believed p e = rw e refl
@@ -75,11 +66,11 @@ suc_eq p q = grind (arith, nat_tests)
 
 off : (o : Origin) → is_believed (with_belief false o) ≡ false
 off (User name believed) = refl
-off (Side choice side) = refl
+off (Side choice side sides) = refl
 
 on : (o : Origin) → is_user o ≡ true → is_believed (with_belief true o) ≡ true
 on (User name believed) h = refl
-on (Side choice side) h = cc
+on (Side choice side sides) h = cc
 
 goes : (now before here : Bool) → now ≡ false → here ≡ true → now ≡ (before && not here)
 goes now true here h k = rw (h, k) refl

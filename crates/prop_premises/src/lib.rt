@@ -1,12 +1,16 @@
 //! Premises by name, sets of them, and which of them are believed.
 #![tactic(auto)]
 
+pub mod choice;
+mod named;
 pub mod numbers;
 mod order;
 pub mod premise_set;
 pub mod premises;
+mod table;
 pub mod worldview;
 
+pub use choice::Choice;
 pub use numbers::Numbers;
 pub use premise_set::{Premise, PremiseSet};
 pub use premises::Premises;

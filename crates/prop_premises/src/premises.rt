@@ -1,123 +1,196 @@
-//! The names of the premises, and which of them are believed.
-ghost use Rattle.std.specs.Prelude.{◌≡◌, ◌≤◌, ◌<◌, ◌+◌, ◌↔◌, ◌⊎◌, List, [], ◌∷◌, ◌++◌, length, map, take, Some, None, Ok, Err, true, false, unwrap_or, slice_get, option_map, IsTrue, IfOk, IfErr, OnOk, OnErr, MatchResult};
-ghost use Rattle.indexmap.specs.IndexMap.{values};
+//! The names of premises and choices, and which premises are believed.
+ghost use Rattle.std.specs.Prelude.{◌≡◌, ◌≤◌, ◌<◌, ◌+◌, ◌↔◌, ◌⊎◌, ℕ, List, [], ◌∷◌, ◌++◌, length, take, Some, None, Ok, Err, true, false, unwrap_or, slice_get, option_map, get_or, IsTrue, IfOk, IfErr, OnOk, OnErr, MatchResult};
 ghost use Rattle.prop_lattice.specs.Refusals.{most};
-ghost use Rattle.prop_premises.specs.Sets.{set_of, union, without, IsSame};
-ghost use Rattle.prop_premises.specs.Origins.{Origin, User, name_of, is_user_at, premise_number, believed_in, with_belief_at, with_name};
-ghost use Rattle.prop_premises.specs.Named.{origin_of};
+ghost use Rattle.prop_premises.specs.Sets.{Members, set_of, union, without, IsSame};
+ghost use Rattle.prop_premises.specs.Origins.{Origin, name_of, is_user_at, premise_number, is_choice, believed_in, with_belief_at, with_name, with_choice, choices_of, side_at, is_start, IsNumbered};
+ghost use Rattle.prop_premises.specs.ChoiceLists.{hypotheticals_of, is_hypothetical, worldview, IsChoiceList};
 
+use crate::choice::Choice;
+use crate::named::Kind;
 use crate::premise_set::Premise;
+use crate::table::Table;
 use crate::worldview::Worldview;
-use indexmap::IndexMap;
 use prop_lattice::{Limit, Refusal};
 use std::alloc::{AllocError, Global};
 use std::marker::Model;
 
-/// How many premises there can be.
+/// How many numbers of premises there can be.
 const MOST: usize = 4_096;
 
-/// The premises by name, numbered in the order in which their names first appeared, and whether each is believed.
+/// The premises and choices by name, and which premises are believed.
+///
+/// Premises are numbered in the order in which their names first appeared. A choice has a number for each of its sides, one after the other.
 #[derive(Drop)]
 pub struct Premises {
-    beliefs: IndexMap<String, bool>,
+    table: Table,
+    choices: Vec<Choice>,
 }
 
 impl Model for Premises {
     ghost Value = { List Origin };
 
-    ghost view = { λ p. map origin_of p.beliefs.entries };
+    ghost view = { λ p. p.table };
 
-    ghost invariant = { λ p. length p.beliefs.entries ≤ 4_096 };
+    ghost invariant = { λ p. p.choices.items ≡ choices_of p.table };
 }
 
-/// Whether each premise is believed.
-fn flags_of(alloc: Global, beliefs: &IndexMap<String, bool>) -> Result<Vec<bool>, AllocError>
-    ensures { IfOk result (λ v. v.items ≡ values beliefs.now) }
+/// Sets the flag of each hypothetical premise that the list of sides takes.
+fn set_sides(flags: &mut [bool], choices: &[Choice], sides: &[u8])
+    requires list { IsChoiceList choices.now sides.now }
+    requires room { (p : ℕ) → IsTrue (is_hypothetical choices.now p) → p < length flags.old }
+    ensures len { length flags.new ≡ length flags.old }
+    ensures set { IsSame (λ p. get_or flags.new p false) (union (λ p. get_or flags.old p false) (hypotheticals_of choices.now sides.now)) }
 {
-    beliefs.values().copied().collect(alloc)
-}
-
-/// Adds a name that is not in the table.
-fn insert_believed(beliefs: &mut IndexMap<String, bool>, name: &str) -> Result<(), AllocError>
-    requires { premise_number (map origin_of beliefs.old.entries) name.now ≡ None }
-    ensures ok { OnOk result (map origin_of beliefs.new.entries ≡ map origin_of beliefs.old.entries ++ User name.now true ∷ []) }
-    ensures len { OnOk result (length beliefs.new.entries ≡ length beliefs.old.entries + 1) }
-    ensures err { OnErr result (beliefs.new.entries ≡ beliefs.old.entries) }
-{
-    let alloc = *beliefs.allocator();
-    let name = String::from_str(alloc, name)?;
-    beliefs.insert(name, true)?;
-    Ok(())
+    for place in 0..choices.len() {
+        let side = usize::from(sides[place]) - 1;
+        flags[usize::from(choices[place].first) + side] = true;
+    }
 }
 
 impl Premises {
-    /// No premises. It takes no memory.
+    /// No premises and no choices. It takes no memory.
     pub fn new(alloc: Global) -> Premises
         ensures { result ≡ [] }
     {
         Premises {
-            beliefs: IndexMap::new(alloc),
+            table: Table::new(alloc),
+            choices: Vec::new(alloc),
         }
     }
 
-    /// How many premises there are.
+    /// How many numbers there are: one for each premise of the user's, and one for each side of a choice.
     pub fn len(&self) -> usize
         ensures len { result ≡ length self.now }
         ensures bound { result ≤ most Limit.Premises }
     {
-        self.beliefs.len()
+        self.table.len()
     }
 
     pub fn is_empty(&self) -> bool
         ensures { IsTrue result ↔ (self.now ≡ []) }
     {
-        self.beliefs.is_empty()
+        self.table.len() == 0
     }
 
     /// The premise with this name. A name that appears for the first time gets the next number, and is believed.
     ///
-    /// There can be 4,096 premises: one more is `LimitReached`. Want of memory is `Memory`. After either nothing has changed.
+    /// `IsAChoice` where a choice has the name. There can be 4,096 numbers: one more is `LimitReached`. Want of memory is `Memory`. After each of these nothing has changed.
     pub fn intern(&mut self, name: &str) -> Result<Premise, Refusal>
         ensures number { IfOk result (λ p. p ≡ unwrap_or (premise_number self.old name.now) (length self.old)) }
         ensures ok { OnOk result (self.new ≡ with_name self.old name.now) }
         ensures user { IfOk result (λ p. IsTrue (is_user_at self.new p)) }
         ensures err { OnErr result (self.new ≡ self.old) }
-        ensures full { (result ≡ Err (Refusal.LimitReached Limit.Premises)) ↔ ((premise_number self.old name.now ≡ None) × (most Limit.Premises ≤ length self.old)) }
-        ensures why { IfErr result (λ e. (premise_number self.old name.now ≡ None) × ((e ≡ Refusal.LimitReached Limit.Premises) ⊎ (e ≡ Refusal.Memory))) }
+        ensures choice { (result ≡ Err Refusal.IsAChoice) ↔ IsTrue (is_choice self.old name.now) }
+        ensures full { (result ≡ Err (Refusal.LimitReached Limit.Premises)) ↔ ((premise_number self.old name.now ≡ None) × (is_choice self.old name.now ≡ false) × (most Limit.Premises ≤ length self.old)) }
+        ensures why { IfErr result (λ e. (premise_number self.old name.now ≡ None) × ((e ≡ Refusal.IsAChoice) ⊎ (e ≡ Refusal.LimitReached Limit.Premises) ⊎ (e ≡ Refusal.Memory))) }
     {
         match self.find(name) {
-            Ok(premise) => Ok(premise),
-            Err(_) if self.beliefs.len() == MOST => Err(Refusal::LimitReached(Limit::Premises)),
-            Err(_) => self.add(name),
+            Err(Refusal::NoSuchPremise) if self.table.len() == MOST => {
+                Err(Refusal::LimitReached(Limit::Premises))
+            },
+            Err(Refusal::NoSuchPremise) => self.add(name),
+            known => known,
         }
     }
 
     /// Adds a new name, which is believed.
     fn add(&mut self, name: &str) -> Result<Premise, Refusal>
         requires new { premise_number self.old name.now ≡ None }
+        requires free { is_choice self.old name.now ≡ false }
         requires room { length self.old < 4_096 }
         ensures number { IfOk result (λ p. p ≡ length self.old) }
-        ensures ok { OnOk result (self.new ≡ self.old ++ User name.now true ∷ []) }
+        ensures ok { OnOk result (self.new ≡ with_name self.old name.now) }
         ensures user { IfOk result (λ p. IsTrue (is_user_at self.new p)) }
         ensures err { OnErr result (self.new ≡ self.old) }
         ensures why { IfErr result (λ e. e ≡ Refusal.Memory) }
     {
-        let number = self.beliefs.len() as Premise;
-        match insert_believed(&mut self.beliefs, name) {
+        let number = self.table.len() as Premise;
+        match self.table.add(name, Kind::User(true)) {
             Ok(()) => Ok(number),
             Err(AllocError) => Err(Refusal::Memory),
         }
     }
 
-    /// The premise with this name, `NoSuchPremise` where there is none.
+    /// The premise with this name. `IsAChoice` where a choice has it, `NoSuchPremise` where neither a premise nor a choice has it.
     pub fn find(&self, name: &str) -> Result<Premise, Refusal>
-        ensures found { MatchResult result (λ p. premise_number self.now name.now ≡ Some p) (λ e. (e ≡ Refusal.NoSuchPremise) × (premise_number self.now name.now ≡ None)) }
+        ensures found { MatchResult result (λ p. premise_number self.now name.now ≡ Some p) (λ e. premise_number self.now name.now ≡ None) }
         ensures user { IfOk result (λ p. IsTrue (is_user_at self.now p)) }
+        ensures choice { (result ≡ Err Refusal.IsAChoice) ↔ IsTrue (is_choice self.now name.now) }
+        ensures none { (result ≡ Err Refusal.NoSuchPremise) ↔ ((premise_number self.now name.now ≡ None) × (is_choice self.now name.now ≡ false)) }
+        ensures why { IfErr result (λ e. (e ≡ Refusal.IsAChoice) ⊎ (e ≡ Refusal.NoSuchPremise)) }
     {
-        match self.beliefs.get_index_of(name) {
-            Some(number) => Ok(number as Premise),
+        match self.table.number_of(name) {
+            Some(premise) => Ok(premise),
+            None if self.table.has_choice(name) => Err(Refusal::IsAChoice),
             None => Err(Refusal::NoSuchPremise),
         }
+    }
+
+    /// Whether a choice has this name. It takes no memory.
+    pub fn is_choice(&self, name: &str) -> bool
+        ensures { result ≡ is_choice self.now name.now }
+    {
+        self.table.has_choice(name)
+    }
+
+    /// A new choice with this name. Its sides get the next numbers.
+    ///
+    /// `NameTaken` where a premise or a choice has the name. There can be 4,096 numbers: more are `LimitReached`. Want of memory is `Memory`. After each of these nothing has changed.
+    pub fn hypothetical(&mut self, name: &str, sides: u8) -> Result<Choice, Refusal>
+        requires least { 2 ≤ sides }
+        requires most { sides ≤ 8 }
+        ensures choice { IfOk result (λ c. (c.first ≡ length self.old) × (c.sides ≡ sides)) }
+        ensures ok { OnOk result (self.new ≡ with_choice self.old name.now sides) }
+        ensures choices { IfOk result (λ c. choices_of self.new ≡ choices_of self.old ++ c ∷ []) }
+        ensures err { OnErr result (self.new ≡ self.old) }
+        ensures free { OnOk result ((premise_number self.old name.now ≡ None) × (is_choice self.old name.now ≡ false)) }
+        ensures taken { (result ≡ Err Refusal.NameTaken) ↔ (((p : ℕ) × (premise_number self.old name.now ≡ Some p)) ⊎ IsTrue (is_choice self.old name.now)) }
+        ensures full { (result ≡ Err (Refusal.LimitReached Limit.Premises)) ↔ ((premise_number self.old name.now ≡ None) × (is_choice self.old name.now ≡ false) × (most Limit.Premises < length self.old + sides)) }
+        ensures why { IfErr result (λ e. (e ≡ Refusal.NameTaken) ⊎ (e ≡ Refusal.LimitReached Limit.Premises) ⊎ (e ≡ Refusal.Memory)) }
+    {
+        if !matches!(self.find(name), Err(Refusal::NoSuchPremise)) {
+            return Err(Refusal::NameTaken);
+        }
+        if self.table.len() + usize::from(sides) > MOST {
+            return Err(Refusal::LimitReached(Limit::Premises));
+        }
+        match self.add_choice(name, sides) {
+            Ok(choice) => Ok(choice),
+            Err(AllocError) => Err(Refusal::Memory),
+        }
+    }
+
+    /// Adds a choice with a new name.
+    fn add_choice(&mut self, name: &str, sides: u8) -> Result<Choice, AllocError>
+        requires new { premise_number self.old name.now ≡ None }
+        requires free { is_choice self.old name.now ≡ false }
+        requires least { 2 ≤ sides }
+        requires most { sides ≤ 8 }
+        requires room { length self.old + sides ≤ 4_096 }
+        ensures choice { IfOk result (λ c. (c.first ≡ length self.old) × (c.sides ≡ sides)) }
+        ensures ok { OnOk result (self.new ≡ with_choice self.old name.now sides) }
+        ensures choices { IfOk result (λ c. choices_of self.new ≡ choices_of self.old ++ c ∷ []) }
+        ensures err { OnErr result (self.new ≡ self.old) }
+    {
+        let choice = Choice {
+            first: self.table.len() as Premise,
+            sides,
+        };
+        self.choices.push(choice)?;
+        match self.table.add(name, Kind::Choice(sides)) {
+            Ok(()) => Ok(choice),
+            Err(error) => {
+                self.choices.pop();
+                Err(error)
+            },
+        }
+    }
+
+    /// The choices in order of declaration. It takes no memory.
+    pub fn choices(&self) -> &[Choice]
+        ensures { result.now ≡ choices_of self.now }
+    {
+        &self.choices
     }
 
     /// The premise is no longer believed, and nothing else changes. It takes no memory.
@@ -126,7 +199,7 @@ impl Premises {
         ensures only { self.new ≡ with_belief_at self.old premise false }
         ensures beliefs { IsSame (believed_in self.new) (without (believed_in self.old) premise) }
     {
-        self.set_belief(premise, false);
+        self.table.set_belief(premise, false);
     }
 
     /// The premise is believed from now on, and nothing else changes. It takes no memory.
@@ -135,54 +208,75 @@ impl Premises {
         ensures only { self.new ≡ with_belief_at self.old premise true }
         ensures beliefs { IsSame (believed_in self.new) (union (believed_in self.old) (set_of (premise ∷ []))) }
     {
-        self.set_belief(premise, true);
-    }
-
-    fn set_belief(&mut self, premise: Premise, believed: bool)
-        requires { IsTrue (is_user_at self.old premise) }
-        ensures { self.new ≡ with_belief_at self.old premise believed }
-    {
-        self.beliefs[usize::from(premise)] = believed;
+        self.table.set_belief(premise, true);
     }
 
     /// Whether the premise is one of the user's and believed.
     pub fn is_in(&self, premise: Premise) -> bool
         ensures { result ≡ believed_in self.now premise }
     {
-        match self.beliefs.get_index(usize::from(premise)) {
-            Some((_, believed)) => *believed,
+        match self.table.source(premise) {
+            Some(source) => source.is_believed(),
             None => false,
         }
     }
 
-    /// The name of a premise, by which `find` finds it.
+    /// The name of a premise, by which `find` finds it. That of a side is its choice's.
     pub fn name(&self, premise: Premise) -> &str
         requires { premise < length self.now }
         ensures name { option_map name_of (slice_get self.now premise) ≡ Some result.now }
         ensures found { IsTrue (is_user_at self.now premise) → premise_number self.now result.now ≡ Some premise }
     {
-        prove!(usize::from(premise) < self.beliefs.len());
-        match self.beliefs.get_index(usize::from(premise)) {
-            Some((name, _)) => name.as_str(),
-            None => unreachable!(),
-        }
+        self.table.name(premise)
     }
 
-    /// The worldview that believes just the believed premises. There are no choices yet, so no sides are taken.
-    pub fn worldview(&self, sides: &[u8]) -> Result<Worldview, AllocError>
-        requires { sides.now ≡ [] }
-        ensures { IfOk result (λ w. IsSame (set_of w) (believed_in self.now)) }
+    /// Which side of its choice the premise is, counted from 1, `None` where it is one of the user's.
+    pub fn side(&self, premise: Premise) -> Option<u8>
+        requires { premise < length self.now }
+        ensures { result ≡ side_at self.now premise }
     {
-        prove!(sides.is_empty());
-        let alloc = *self.beliefs.allocator();
-        let flags = flags_of(alloc, &self.beliefs)?;
+        self.table.source(premise)?.side()
+    }
+
+    /// The worldview that believes just the believed premises and, of each choice, the side that the list takes.
+    pub fn worldview(&self, sides: &[u8]) -> Result<Worldview, AllocError>
+        requires { IsChoiceList (choices_of self.now) sides.now }
+        ensures { IfOk result (λ w. IsSame (set_of w) (worldview (believed_in self.now) (choices_of self.now) sides.now)) }
+    {
+        let mut flags = self.flags()?;
+        self.numbered();
+        set_sides(&mut flags, &self.choices, sides);
         Ok(Worldview::from_flags(flags))
     }
 
-    /// Drops the names from number `count` on. It takes no memory.
+    /// Whether each premise is believed.
+    fn flags(&self) -> Result<Vec<bool>, AllocError>
+        ensures len { IfOk result (λ v. length v.items ≡ length self.now) }
+        ensures flags { IfOk result (λ v. IsSame (λ p. get_or v.items p false) (believed_in self.now)) }
+    {
+        let mut flags = Vec::with_capacity(self.table.alloc(), self.table.len())?;
+        for premise in 0..self.table.len() {
+            flags.push(self.is_in(premise as Premise))?;
+        }
+        Ok(flags)
+    }
+
+    /// Drops the names from number `count` on, where a name starts. It takes no memory.
     pub fn back(&mut self, count: usize)
+        requires { IsTrue (is_start self.old count) }
         ensures { self.new ≡ take count self.old }
     {
-        self.beliefs.truncate(count);
+        self.table.back(count);
+        self.choices
+            .retain(|choice| usize::from(choice.first) < count);
+    }
+
+    /// The invariant: the sides of a choice have numbers in a row, those of later choices larger ones, and the other numbers are the user's premises.
+    pub fn numbered(&self)
+        ensures numbered { IsNumbered self.now }
+        ensures below { (p : ℕ) → IsTrue (is_hypothetical (choices_of self.now) p) → p < length self.now }
+        ensures believed { (p : ℕ) → IsTrue (believed_in self.now p) → IsTrue (is_user_at self.now p) }
+    {
+        self.table.numbered();
     }
 }

@@ -1,6 +1,6 @@
 //! What is believed.
-ghost use Rattle.std.specs.Prelude.{◌≡◌, List, [], ℕ, false, slice_index_or, IsOk, IfOk};
-ghost use Rattle.prop_premises.specs.Sets.{set_of, is_within};
+ghost use Rattle.std.specs.Prelude.{◌≡◌, List, [], ◌∷◌, ◌++◌, ℕ, false, nat_lt, filter, slice_index_or, IsOk, IfOk, OnOk, OnErr};
+ghost use Rattle.prop_premises.specs.Sets.{set_of, is_within, IsBelow};
 ghost use Rattle.prop_premises.specs.Flags.{numbers_from};
 
 use crate::premise_set::{Premise, PremiseSet};
@@ -54,6 +54,25 @@ impl Worldview {
         ensures { result ≡ numbers_from 0 beliefs.items }
     {
         Worldview { beliefs }
+    }
+
+    /// One more premise is believed, whose number is above all others'. After want of memory nothing has changed.
+    pub fn believe(&mut self, premise: Premise) -> Result<(), AllocError>
+        requires { IsBelow premise (set_of self.old) }
+        ensures ok { OnOk result (self.new ≡ self.old ++ premise ∷ []) }
+        ensures err { OnErr result (self.new ≡ self.old) }
+    {
+        let count = usize::from(premise);
+        self.beliefs.resize(count, false)?;
+        self.beliefs.push(true)?;
+        Ok(())
+    }
+
+    /// Only the premises with a number below this one stay believed. It takes no memory.
+    pub fn back(&mut self, premise: Premise)
+        ensures { self.new ≡ filter (λ p. nat_lt p premise) self.old }
+    {
+        self.beliefs.truncate(usize::from(premise));
     }
 
     /// Whether the premise is believed. It takes no memory.

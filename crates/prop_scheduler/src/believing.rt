@@ -1,5 +1,5 @@
 //! Another worldview for a network under way.
-ghost use Rattle.std.specs.Prelude.{◌≡◌, ◌<◌, ◌≤◌, All, length};
+ghost use Rattle.std.specs.Prelude.{◌≡◌, ◌<◌, ◌≤◌, ℕ, All, Contains, length};
 ghost use Rattle.prop_procedures.specs.Kept.{stored_of};
 ghost use Rattle.prop_cells.specs.Data.{IsKept};
 ghost use Rattle.prop_cells.specs.Problems.{Premises};
@@ -15,6 +15,7 @@ pub fn wake_all<R: Rule + Drop>(network: &Network<R>, agenda: &mut Agenda)
     requires line { All (λ j. j < length network.now.cells.instances) agenda.old.line }
     requires room { length network.now.cells.instances ≤ agenda.old.room }
     ensures under_way { (s : Premises) → IsUnderWay (stored_of R.value_of network.now.library) s network.now.cells agenda.new.line }
+    ensures all { (j : ℕ) → j < length network.now.cells.instances → Contains agenda.new.line j }
     ensures room { agenda.new.room ≡ agenda.old.room }
 {
     agenda.alert_first(network.instances());

@@ -1,53 +1,67 @@
 -- The texts of premises, one more at a time.
-use Rattle.std.proofs.Common.{◌≡◌, ◌∙◌, ◌<◌, ◌+◌, ℕ, zero, suc, Bool, true, false, not, if◌then◌else◌, List, [], ◌∷◌, ◌++◌, Option, Some, None, length, take, get_or, slice_get, refl, sym, ap, arith, append-nil}
-use Rattle.std.specs.Option.{option_map, option_map_or}
-use Rattle.std.proofs.lemmas.List.{take_more}
+use Rattle.std.proofs.Common.{◌≡◌, ◌∙◌, ◌+◌, ℕ, zero, suc, Bool, true, false, not, cond, List, [], ◌∷◌, ◌++◌, Some, None, length, filter, slice_get, codes, decimal, refl, sym, ap, arith, append-nil}
+use Rattle.std.specs.List.{range_with_len}
+use Rattle.std.specs.Option.{option_map}
 use Rattle.std.proofs.lemmas.List.Concat.{flat_map-append}
-use Rattle.std.proofs.lemmas.Option.{slice_get-get_or}
-use Rattle.prop_premises.specs.Origins.{Origin, User, name_of, is_believed, believed_in}
-use Rattle.prop_texts.specs.Texts.{name_at, premises_text, is_listed, listed}
+use Rattle.std.proofs.lemmas.List.Elements.{filter-append, filter_agree}
+use Rattle.prop_premises.specs.Sets.{Members, IsSame}
+use Rattle.prop_premises.specs.Origins.{Origin, User, Side, name_of, side_at}
+use Rattle.prop_texts.specs.Texts.{label_at, premises_text, is_listed, members_text, worldview_text}
 
-map_or_from : {X Y : Type 0} (f : X → Y) (o : Option X) (v d : Y) → option_map f o ≡ Some v → option_map_or f o d ≡ v
-map_or_from f None v d e = cc
-map_or_from f (Some x) v d e = cc
+-- ---- labels
 
--- one more name
-pub premises_text_more : (premises : List Origin) (ps : List ℕ) (p : ℕ) (name before : List ℕ) → option_map name_of (slice_get premises p) ≡ Some name → before ≡ premises_text premises ps →
-    before ++ (32 ∷ name) ≡ premises_text premises (ps ++ p ∷ [])
-premises_text_more premises ps p name before e is =
-    let f : ℕ → List ℕ = λ q. 32 ∷ name_at premises q in
-    let named : name_at premises p ≡ name = map_or_from name_of (slice_get premises p) name [] e in
-    ap (λ t. t ++ (32 ∷ name)) is ∙ ap (λ n. premises_text premises ps ++ (32 ∷ n)) (sym named) ∙ ap (λ t. premises_text premises ps ++ t) (sym (append-nil (f p))) ∙ sym (flat_map-append f ps (p ∷ []))
+pub label_at-user : (premises : List Origin) (p : ℕ) (name : List ℕ) → option_map name_of (slice_get premises p) ≡ Some name → side_at premises p ≡ None → label_at premises p ≡ name
+label_at-user [] p name e h = cc
+label_at-user (User n believed ∷ os) zero name e h = cc
+label_at-user (Side n side sides ∷ os) zero name e h = cc
+label_at-user (o ∷ os) (suc p) name e h = label_at-user os p name e h
 
-believed_at : (premises : List Origin) (k : ℕ) (o : Origin) → k < length premises → believed_in premises k ≡ is_believed (get_or premises k o)
-believed_at [] k o l = absurd (omega (arith, l))
-believed_at (x ∷ xs) zero o l = refl
-believed_at (x ∷ xs) (suc k) o l = believed_at xs k o (omega (arith, l))
+pub label_at-side : (premises : List Origin) (p side : ℕ) (name : List ℕ) → option_map name_of (slice_get premises p) ≡ Some name → side_at premises p ≡ Some side →
+    label_at premises p ≡ name ++ (codes "=" ++ decimal side)
+label_at-side [] p side name e h = cc
+label_at-side (User n believed ∷ os) zero side name e h = cc
+label_at-side (Side n i sides ∷ os) zero side name e h = rw (some_is n name e, some_is i side h) refl
+  where
+    some_is : {X : Type 0} (a b : X) → Some a ≡ Some b → a ≡ b
+    some_is a b h = cc
+label_at-side (o ∷ os) (suc p) side name e h = label_at-side os p side name e h
 
-name_here : (premises : List Origin) (k : ℕ) (name : List ℕ) → k < length premises → option_map name_of (slice_get premises k) ≡ Some name → name_of (get_or premises k (User [] true)) ≡ name
-name_here premises k name l e =
-    let at = slice_get-get_or premises k (User [] true) l in
-    let named : option_map name_of (slice_get premises k) ≡ Some (name_of (get_or premises k (User [] true))) = ap (option_map name_of) at in
-    cc
+-- ---- premises
 
--- one more premise that is listed
-pub listed_more : (believed : Bool) (premises : List Origin) (k : ℕ) (name before : List ℕ) → k < length premises → option_map name_of (slice_get premises k) ≡ Some name →
-    (if believed then believed_in premises k else not (believed_in premises k)) ≡ true → before ≡ listed believed (take k premises) → before ++ (32 ∷ name) ≡ listed believed (take (k + 1) premises)
-listed_more believed premises k name before l e is_so is =
-    let o = get_or premises k (User [] true) in
-    let f : Origin → List ℕ = λ x. if is_listed believed x then 32 ∷ name_of x else [] in
-    let test : is_listed believed o ≡ true = ap (λ b. if believed then b else not b) (sym (believed_at premises k (User [] true) l)) ∙ is_so in
-    let here : f o ≡ 32 ∷ name = ap (λ b. if b then 32 ∷ name_of o else []) test ∙ ap (λ n. 32 ∷ n) (name_here premises k name l e) in
-    ap (λ t. t ++ (32 ∷ name)) is ∙ ap (λ t. listed believed (take k premises) ++ t) (sym here) ∙ ap (λ t. listed believed (take k premises) ++ t) (sym (append-nil (f o)))
-    ∙ sym (flat_map-append f (take k premises) (o ∷ [])) ∙ ap (listed believed) (sym (take_more premises k (User [] true) l))
+-- one more label
+pub premises_text_more : (premises : List Origin) (ps : List ℕ) (p : ℕ) (before : List ℕ) → before ≡ premises_text premises ps → before ++ (32 ∷ label_at premises p) ≡ premises_text premises (ps ++ p ∷ [])
+premises_text_more premises ps p before is =
+    let f : ℕ → List ℕ = λ q. 32 ∷ label_at premises q in
+    ap (λ t. t ++ f p) is ∙ ap (λ t. premises_text premises ps ++ t) (sym (append-nil (f p))) ∙ sym (flat_map-append f ps (p ∷ []))
+
+range_more : (a n : ℕ) → range_with_len a (suc n) ≡ range_with_len a n ++ (a + n) ∷ []
+range_more a zero = ap (λ x. x ∷ []) (omega arith)
+range_more a (suc n) =
+    let at : a + 1 + n ≡ a + suc n = omega arith in
+    ap (λ t. a ∷ t) (range_more (a + 1) n ∙ ap (λ x. range_with_len (a + 1) n ++ x ∷ []) at)
+
+filtered_more : (s : Members) (k : ℕ) → filter s (range_with_len 0 (k + 1)) ≡ filter s (range_with_len 0 k) ++ cond (s k) (k ∷ []) []
+filtered_more s k =
+    let next : k + 1 ≡ suc k = omega arith in
+    let last : 0 + k ≡ k = omega arith in
+    ap (λ n. filter s (range_with_len 0 n)) next ∙ ap (filter s) (range_more 0 k ∙ ap (λ x. range_with_len 0 k ++ x ∷ []) last) ∙ filter-append s (range_with_len 0 k) (k ∷ [])
+
+-- one more premise that is in the set
+pub members_more : (premises : List Origin) (s : Members) (k : ℕ) (before : List ℕ) → s k ≡ true → before ≡ premises_text premises (filter s (range_with_len 0 k)) →
+    before ++ (32 ∷ label_at premises k) ≡ premises_text premises (filter s (range_with_len 0 (k + 1)))
+members_more premises s k before h is =
+    premises_text_more premises (filter s (range_with_len 0 k)) k before is
+    ∙ ap (premises_text premises) (sym (filtered_more s k ∙ ap (λ b. filter s (range_with_len 0 k) ++ cond b (k ∷ []) []) h))
 
 -- and one that is not
-pub listed_same : (believed : Bool) (premises : List Origin) (k : ℕ) (before : List ℕ) → k < length premises → (if believed then believed_in premises k else not (believed_in premises k)) ≡ false →
-    before ≡ listed believed (take k premises) → before ≡ listed believed (take (k + 1) premises)
-listed_same believed premises k before l is_not is =
-    let o = get_or premises k (User [] true) in
-    let f : Origin → List ℕ = λ x. if is_listed believed x then 32 ∷ name_of x else [] in
-    let test : is_listed believed o ≡ false = ap (λ b. if believed then b else not b) (sym (believed_at premises k (User [] true) l)) ∙ is_not in
-    let here : f o ≡ [] = ap (λ b. if b then 32 ∷ name_of o else []) test in
-    is ∙ sym (append-nil (listed believed (take k premises))) ∙ ap (λ t. listed believed (take k premises) ++ t) (sym here) ∙ ap (λ t. listed believed (take k premises) ++ t) (sym (append-nil (f o)))
-    ∙ sym (flat_map-append f (take k premises) (o ∷ [])) ∙ ap (listed believed) (sym (take_more premises k (User [] true) l))
+pub members_same : (premises : List Origin) (s : Members) (k : ℕ) (before : List ℕ) → s k ≡ false → before ≡ premises_text premises (filter s (range_with_len 0 k)) →
+    before ≡ premises_text premises (filter s (range_with_len 0 (k + 1)))
+members_same premises s k before h is =
+    is ∙ ap (premises_text premises) (sym (filtered_more s k ∙ ap (λ b. filter s (range_with_len 0 k) ++ cond b (k ∷ []) []) h ∙ append-nil (filter s (range_with_len 0 k))))
+
+-- worldviews with the same premises have the same text
+pub worldview_text-same : (premises : List Origin) (w u : Members) → IsSame w u → worldview_text premises w ≡ worldview_text premises u
+worldview_text-same premises w u same = rw (those true (λ p. same p), those false (λ p. ap not (same p))) refl
+  where
+    those : (believed : Bool) → IsSame (is_listed believed w) (is_listed believed u) → members_text premises (is_listed believed w) ≡ members_text premises (is_listed believed u)
+    those believed h = ap (premises_text premises) (filter_agree (is_listed believed w) (is_listed believed u) h (range_with_len 0 (length premises)))

@@ -1,21 +1,28 @@
 -- The texts of values and replies.
-use Rattle.std.specs.Prelude.{ℕ, Bool, true, false, not, List, [], ◌∷◌, ◌++◌, flat_map, slice_get, codes, if◌then◌else◌}
+use Rattle.std.specs.Prelude.{ℕ, Bool, true, false, not, List, [], ◌∷◌, ◌++◌, length, filter, flat_map, slice_get, codes, decimal, if◌then◌else◌}
+use Rattle.std.specs.List.{range_with_len}
 use Rattle.std.specs.Option.{option_map_or}
-use Rattle.prop_premises.specs.Origins.{Origin, name_of, is_believed}
+use Rattle.prop_premises.specs.Sets.{Members}
+use Rattle.prop_premises.specs.Origins.{Origin, User, Side}
 
 -- X = V, and what stands behind it
 abbrev pub equation : List ℕ → List ℕ → List ℕ → List ℕ
 equation name value mark = name ++ (codes " = " ++ (value ++ mark))
 
--- the name of a premise
-abbrev pub name_at : List Origin → ℕ → List ℕ
-name_at premises p = option_map_or name_of (slice_get premises p) []
+-- a user's premise by its name, a side of a choice by the choice's name, `=` and the side's number
+abbrev pub label_of : Origin → List ℕ
+label_of (User name believed) = name
+label_of (Side choice side sides) = choice ++ (codes "=" ++ decimal side)
 
--- the names of these premises, each with one space before it
+-- the label of a premise
+abbrev pub label_at : List Origin → ℕ → List ℕ
+label_at premises p = option_map_or label_of (slice_get premises p) []
+
+-- the labels of these premises, each with one space before it
 abbrev pub premises_text : List Origin → List ℕ → List ℕ
-premises_text premises ps = flat_map (λ p. 32 ∷ name_at premises p) ps
+premises_text premises ps = flat_map (λ p. 32 ∷ label_at premises p) ps
 
--- the names of the premises that something rests on
+-- the labels of the premises that something rests on
 abbrev pub support_text : List Origin → List ℕ → List ℕ
 support_text premises [] = codes " no premise"
 support_text premises (p ∷ ps) = premises_text premises (p ∷ ps)
@@ -27,14 +34,18 @@ contradiction_text premises ps = codes "contradiction:" ++ support_text premises
 abbrev pub because : List Origin → List ℕ → List ℕ → List ℕ
 because premises mark ps = mark ++ (codes " because" ++ support_text premises ps)
 
--- the premise is one of those that are believed, or of those that are not
-abbrev pub is_listed : Bool → Origin → Bool
-is_listed believed o = if believed then is_believed o else not (is_believed o)
+-- the premises of a worldview, or all others
+abbrev pub is_listed : Bool → Members → Members
+is_listed believed w p = if believed then w p else not (w p)
 
--- the names of the premises that are believed, or of those that are not, each with one space before it
-abbrev pub listed : Bool → List Origin → List ℕ
-listed believed premises = flat_map (λ o. if is_listed believed o then 32 ∷ name_of o else []) premises
+-- the labels of the premises of a set, in order of number, each with one space before it
+abbrev pub members_text : List Origin → Members → List ℕ
+members_text premises s = premises_text premises (filter s (range_with_len 0 (length premises)))
 
 -- which premises are believed, and on a second line which are not
-abbrev pub worldview_text : List Origin → List ℕ
-worldview_text premises = codes "in:" ++ (listed true premises ++ (10 ∷ codes "out:" ++ listed false premises))
+abbrev pub worldview_text : List Origin → Members → List ℕ
+worldview_text premises w = codes "in:" ++ (members_text premises (is_listed true w) ++ (10 ∷ codes "out:" ++ members_text premises (is_listed false w)))
+
+-- how many nogoods there are, and a line for each
+abbrev pub nogoods_text : List Origin → List (List ℕ) → List ℕ
+nogoods_text premises nogoods = codes "nogoods " ++ (decimal (length nogoods) ++ flat_map (λ nogood. 10 ∷ codes "nogood:" ++ support_text premises nogood) nogoods)

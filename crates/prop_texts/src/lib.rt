@@ -1,6 +1,10 @@
-//! The replies that say a text: values, what they rest on, contradictions and the worldview.
+//! The replies that say a text: values, what they rest on, contradictions, nogoods and the worldview.
 #![tactic(auto)]
 
+mod labels;
+mod nogoods;
 mod texts;
 
-pub use texts::{because, contradiction_reply, text_reply, value_reply, worldview_reply};
+pub use labels::because;
+pub use nogoods::nogoods_reply;
+pub use texts::{contradiction_reply, text_reply, value_reply, worldview_reply};

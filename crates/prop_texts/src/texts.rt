@@ -1,12 +1,14 @@
 //! The texts of values and replies.
 ghost use Rattle.std.specs.Prelude.{◌≡◌, ◌<◌, ℕ, not, if◌then◌else◌, All, IfOk, length, string_bytes};
 ghost use Rattle.std.specs.List.Sorted.{IsStrictlyIncreasing};
-ghost use Rattle.prop_texts.specs.Texts.{equation, premises_text, support_text, contradiction_text, because, listed, worldview_text};
+ghost use Rattle.prop_premises.specs.Sets.{set_of};
+ghost use Rattle.prop_texts.specs.Texts.{equation, contradiction_text, is_listed, members_text, worldview_text};
 ghost use Rattle.prop_engine.specs.Answers.{answer_of, Says};
 
+use crate::labels::{push_label, support_text};
 use prop_engine::Reply;
 use prop_lattice::Refusal;
-use prop_premises::{Premise, PremiseSet, Premises};
+use prop_premises::{Premise, PremiseSet, Premises, Worldview};
 use std::alloc::{AllocError, Global};
 
 /// The reply of a text, or want of memory.
@@ -27,53 +29,6 @@ pub fn value_reply(alloc: Global, name: &str, value: &str, mark: &str) -> Reply
         Ok(text) => Reply::Text(text),
         Err(AllocError) => Reply::Refused(Refusal::Memory),
     }
-}
-
-/// The names of the premises of a set, in order of number, each with one space before it.
-fn premises_text(alloc: Global, premises: &Premises, set: &PremiseSet) -> Result<String, AllocError>
-    requires { All (λ p. p < length premises.now) set.now }
-    ensures text { IfOk result (λ text. string_bytes text ≡ premises_text premises.now set.now) }
-    ensures in_order { IsStrictlyIncreasing set.now }
-{
-    let mut text = String::new(alloc);
-    for premise in set.iter() {
-        text.push_str(" ")?;
-        text.push_str(premises.name(premise))?;
-    }
-    Ok(text)
-}
-
-/// The names of the premises that something rests on.
-fn support_text(
-    alloc: Global,
-    premises: &Premises,
-    support: &PremiseSet,
-) -> Result<String, AllocError>
-    requires { All (λ p. p < length premises.now) support.now }
-    ensures text { IfOk result (λ text. string_bytes text ≡ support_text premises.now support.now) }
-    ensures in_order { IsStrictlyIncreasing support.now }
-{
-    let text = premises_text(alloc, premises, support)?;
-    if support.is_empty() {
-        return String::from_str(alloc, " no premise");
-    }
-    Ok(text)
-}
-
-/// What stands behind a value to tell what it rests on: the mark, and the premises. `AllocError`
-/// where memory is refused.
-pub fn because(
-    alloc: Global,
-    premises: &Premises,
-    mark: &str,
-    support: &PremiseSet,
-) -> Result<String, AllocError>
-    requires { All (λ p. p < length premises.now) support.now }
-    ensures text { IfOk result (λ text. string_bytes text ≡ because premises.now mark.now support.now) }
-    ensures in_order { IsStrictlyIncreasing support.now }
-{
-    let names = support_text(alloc, premises, support)?;
-    format!(in alloc; "{mark} because{names}")
 }
 
 /// The reply that names contradictory premises, or want of memory.
@@ -98,35 +53,43 @@ fn is_listed(is_in: bool, believed: bool) -> bool
     is_in == believed
 }
 
-/// The names of the premises that are believed, or of those that are not, each with one space before it.
-fn listed(alloc: Global, premises: &Premises, believed: bool) -> Result<String, AllocError>
-    ensures { IfOk result (λ text. string_bytes text ≡ listed believed premises.now) }
+/// The labels of the premises that are believed, or of those that are not, each with one space before it.
+fn listed(
+    alloc: Global,
+    premises: &Premises,
+    worldview: &Worldview,
+    believed: bool,
+) -> Result<String, AllocError>
+    ensures { IfOk result (λ text. string_bytes text ≡ members_text premises.now (is_listed believed (set_of worldview.now))) }
 {
     let mut text = String::new(alloc);
     for number in 0..premises.len() {
         let premise = number as Premise;
-        if is_listed(premises.is_in(premise), believed) {
-            text.push_str(" ")?;
-            text.push_str(premises.name(premise))?;
+        if is_listed(worldview.has(premise), believed) {
+            push_label(&mut text, premises, premise)?;
         }
     }
     Ok(text)
 }
 
 /// Which premises are believed, and on a second line which are not.
-fn worldview_text(alloc: Global, premises: &Premises) -> Result<String, AllocError>
-    ensures { IfOk result (λ text. string_bytes text ≡ worldview_text premises.now) }
+fn worldview_text(
+    alloc: Global,
+    premises: &Premises,
+    worldview: &Worldview,
+) -> Result<String, AllocError>
+    ensures { IfOk result (λ text. string_bytes text ≡ worldview_text premises.now (set_of worldview.now)) }
 {
-    let believed = listed(alloc, premises, true)?;
-    let others = listed(alloc, premises, false)?;
+    let believed = listed(alloc, premises, worldview, true)?;
+    let others = listed(alloc, premises, worldview, false)?;
     format!(in alloc; "in:{believed}\nout:{others}")
 }
 
 /// The reply that tells the worldview, or want of memory.
-pub fn worldview_reply(alloc: Global, premises: &Premises) -> Reply
-    ensures { Says (answer_of result) (worldview_text premises.now) }
+pub fn worldview_reply(alloc: Global, premises: &Premises, worldview: &Worldview) -> Reply
+    ensures { Says (answer_of result) (worldview_text premises.now (set_of worldview.now)) }
 {
-    match worldview_text(alloc, premises) {
+    match worldview_text(alloc, premises, worldview) {
         Ok(text) => Reply::Text(text),
         Err(AllocError) => Reply::Refused(Refusal::Memory),
     }

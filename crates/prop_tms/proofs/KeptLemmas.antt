@@ -1,12 +1,12 @@
 -- Lists from which some elements were dropped.
-use Rattle.std.proofs.Common.{◌≡◌, ◌<◌, ℕ, zero, suc, Bool, true, false, List, [], ◌∷◌, length, get_or, refl, arith, inl, inr, ◌⊎◌, Contains, All, AllPairs, Any, IsTrue, ◌↔◌}
+use Rattle.std.proofs.Common.{◌≡◌, ◌<◌, ◌∙◌, ℕ, zero, suc, Bool, true, false, cond, List, [], ◌∷◌, ◌++◌, length, filter, ap, get_or, refl, arith, inl, inr, ◌⊎◌, Contains, All, AllPairs, Any, IsTrue, ◌↔◌}
 use Rattle.std.specs.Bool.{MatchBool}
 use Rattle.std.specs.List.{items_where_true, HoldsAt, AllWithin}
-use Rattle.std.proofs.lemmas.List.{get_or_default}
+use Rattle.std.proofs.lemmas.List.{get_or_default, append-nil}
 use Rattle.std.specs.List.Retain.{IsFiltered, ReturnsInTurn}
-use Rattle.std.proofs.lemmas.List.Elements.{All-nil, All-cons, All-head, All-tail, All-contains, All-contains_itself}
+use Rattle.std.proofs.lemmas.List.Elements.{filter-append, All-nil, All-cons, All-head, All-tail, All-contains, All-contains_itself}
 use Rattle.std.proofs.lemmas.List.Kept.{AllPairs-cons}
-use Rattle.prop_tms.specs.Kept.{IsLeftWithout}
+use Rattle.prop_tms.specs.Kept.{IsLeftWithout, IsGrownBy}
 
 pub contains_here : {X : Type 0} (x : X) (xs : List X) → Contains (x ∷ xs) x
 contains_here x xs = (0, omega arith, refl)
@@ -78,6 +78,19 @@ module _ {X : Type 0} (D : X → Type 0) where
       let first : All (R x) xs = λ j d l. k 0 (suc j) d (omega arith) (omega (arith, l)) in
       rw h.1.1 (AllPairs-cons R x h.1.0 (left_all (R x) xs h.1.0 h.1.2 first)
       (left_pairs R xs h.1.0 h.1.2 (λ i j d lt l. k (suc i) (suc j) d (omega (arith, lt)) (omega (arith, l)))))
+
+  -- what passes no test that those that went pass stays as it was
+  left_filter : (t : X → Bool) → ((x : X) → D x → t x ≡ false) → (xs ys : List X) → IsLeftWithout D xs ys → filter t ys ≡ filter t xs
+  left_filter t h [] ys k = rw k refl
+  left_filter t h (x ∷ xs) ys (inl k) = rw (h x k.0) (left_filter t h xs ys k.1)
+  left_filter t h (x ∷ xs) ys (inr k) = rw k.1.1 (ap (λ zs. cond (t x) (x ∷ zs) zs) (left_filter t h xs k.1.0 k.1.2))
+
+  -- what passes a test that neither the new element nor those that went pass stays as it was
+  pub grown_filter : (t : X → Bool) (x : X) → t x ≡ false → ((y : X) → D y → t y ≡ false) → (xs ys : List X) → IsGrownBy D xs ys x → filter t ys ≡ filter t xs
+  grown_filter t x own h xs ys (inl same) = ap (filter t) same
+  grown_filter t x own h xs ys (inr k) =
+      let last : filter t (x ∷ []) ≡ [] = rw own refl in
+      ap (filter t) k.2 ∙ filter-append t k.0 (x ∷ []) ∙ ap (λ zs. filter t k.0 ++ zs) last ∙ append-nil (filter t k.0) ∙ left_filter t h xs k.0 k.1
 
 -- what `any` tells
 pub known_from_any : {X : Type 0} (P : X → Type 0) (xs : List X) (r : Bool) → MatchBool r ((k : ℕ) × (k < length xs) × HoldsAt P xs k) (AllWithin (λ x. ¬ (P x)) xs 0 (length xs)) → IsTrue r ↔ Any P xs

@@ -2,7 +2,7 @@
 ghost use Rattle.std.specs.Prelude.{◌≡◌, ◌↔◌, ◌≤◌, ◌+◌, Any, List, [], length, filter, vec_capacity, vec_len, IsTrue, Ok, IsOk, IfOk, OnOk, OnErr};
 ghost use Rattle.prop_premises.specs.Sets.{Members, set_of, is_within, is_below, IsBelow};
 ghost use Rattle.prop_tms.specs.Beliefs.{belief_of, IsLeastBelief, Subsumes, NoneSubsumed, IsNeedless, Adds, IsLean};
-ghost use Rattle.prop_tms.specs.Kept.{IsLeftWithout};
+ghost use Rattle.prop_tms.specs.Kept.{IsLeftWithout, IsGrownBy};
 ghost use Rattle.prop_tms.specs.declared.supported.Supported.{Supported};
 
 use crate::strongest::{belief, strongest};
@@ -88,6 +88,7 @@ impl<V: Partial> Tms<V> {
         ensures needless { IsNeedless V.below V.bottom self.old (record { value = value; support = support }) → result ≡ Ok Change.Same }
         ensures unchanged { IfOk result (λ change. change ≡ Change.Same → self.new ≡ self.old) }
         ensures apart { NoneSubsumed V.below self.new }
+        ensures stay { OnOk result (IsGrownBy (Subsumes V.below (record { value = value; support = support })) self.old self.new (record { value = value; support = support })) }
         ensures len { length self.new ≤ length self.old + 1 }
         ensures err { OnErr result (self.new ≡ self.old) }
     {

@@ -1,11 +1,13 @@
-//! Worked values of informations, sets, premises, supported values and spans, by calls of the crates themselves. They stand
-//! apart, so that no crate is proved a second time for its tests. Whole sessions stand in tests/, at the top.
+//! Worked values of informations, sets, premises, supported values, nogoods and spans, by calls of the crates themselves.
+//! They stand apart, so that no crate is proved a second time for its tests. Whole sessions stand in tests/, at the top.
 #![tactic(auto)]
 
 #[cfg(test)]
 mod intervals;
 #[cfg(test)]
 mod lattice;
+#[cfg(test)]
+mod nogoods;
 #[cfg(test)]
 mod premises;
 #[cfg(test)]

@@ -1,14 +1,15 @@
 -- Two sessions that are given the same lines agree.
-use Rattle.std.proofs.Common.{◌≡◌, ◌≢◌, ◌∙◌, ◌⊎◌, ℕ, List, [], ◌∷◌, Option, Some, None, Result, Ok, Err, All, IsTrue, get_or, inl, inr, refl, sym, ap, subst}
+use Rattle.std.proofs.Common.{◌≡◌, ◌≢◌, ◌∙◌, ◌⊎◌, ℕ, zero, suc, List, [], ◌∷◌, Option, Some, None, Result, Ok, Err, IsTrue, inl, inr, refl, sym, ap}
 use Rattle.std.proofs.lemmas.List.Elements.{All-head, All-tail}
 use Rattle.prop_lattice.specs.declared.info.Info.{Info}
 use Rattle.prop_lattice.specs.declared.refusal.Refusal.{Refusal}
 use Rattle.prop_lattice.specs.declared.refusal.Refusal.TheVariants.{Memory}
-use Rattle.prop_premises.specs.Sets.{set_of, IsPart}
+use Rattle.prop_premises.specs.Sets.{set_of}
+use Rattle.prop_premises.specs.Origins.{Origin, User, Side, is_user_at, believed_in}
 use Rattle.prop_lattice.specs.Points.{Point}
 use Rattle.prop_procedures.specs.declared.shape.Param.{Param}
 use Rattle.prop_procedures.specs.Stored.{Stored}
-use Rattle.prop_cells.specs.Problems.{Problem, Premises, Assignment, IsConsistent, is_member}
+use Rattle.prop_cells.specs.Problems.{Assignment}
 use Rattle.prop_cells.proofs.ProblemLaws.{least_unique}
 use Rattle.prop_vocabulary.specs.Cells.{cell_named}
 use Rattle.prop_language.specs.Commands as commands
@@ -17,54 +18,67 @@ use Rattle.prop_language.specs.Reading.{reading}
 use Rattle.prop_texts.specs.Texts.{equation, because}
 use Rattle.prop_engine.specs.Answers.{Answer, Text, Refused}
 use Rattle.prop_engine.specs.Transcripts.{Run}
-use Rattle.prop_workbench.specs.Machine.{State, text_at, problem_in, worldview_of}
+use Rattle.prop_workbench.specs.Machine.{State, naming, text_at, problem_in, users_in, choices_in, worldview_at}
 use Rattle.prop_workbench.specs.Refusing.{refusal_of}
-use Rattle.prop_workbench.specs.Running.{Outcome, Settled, Contradiction, MayEnd, Replies, IsRest, IsValueReply, IsExplainedReply}
-use Rattle.prop_workbench.specs.Steps.{Runs, Changes, CarriesUnless, Follows, Step}
-use Rattle.prop_workbench.specs.Engine.{Gives, workbench}
-use Rattle.prop_workbench.specs.Agreeing.{HaveMemory, RunsMeet, AnswersMeet, IsSettledText, SayOneValue, SettledTextsMeet, SettledIsFree}
+use Rattle.prop_workbench.specs.Effects.{effect}
+use Rattle.prop_workbench.specs.Running.{named_by, Settled, MayEnd, Replies, IsRest, IsValueReply, IsExplainedReply}
+use Rattle.prop_workbench.specs.Steps.{Runs, Lists, Changes, CarriesUnless, Follows}
+use Rattle.prop_workbench.specs.Engine.{workbench}
+use Rattle.prop_workbench.specs.Agreeing.{AreAlike, HaveMemory, RunsMeet, AnswersMeet, SayOneValue, SettledTextsMeet, SettledIsFree}
+use Rattle.prop_workbench.proofs.NamingLaws.{refusal_alike, effect_alike}
+use Rattle.prop_amb.proofs.RefutedLaws.{first_unique, believed_refutes}
 
 -- ---- one line
 
--- two states are one, and two answers are one or both texts
+-- two states are alike, and two answers are one or both texts
 abbrev Meet : State → State → Answer → Answer → Type 0
-Meet first second answer other = (second ≡ first) × ((other ≡ answer) ⊎ ((text also : List ℕ) × (answer ≡ Text text) × (other ≡ Text also)))
+Meet first second answer other = AreAlike first second × ((other ≡ answer) ⊎ ((text also : List ℕ) × (answer ≡ Text text) × (other ≡ Text also)))
 
-changes_meet : (library : List Stored) (old first second : State) (command : Command) (answer other : Answer) (steps others : ℕ) → Changes library old command answer first steps → Changes library old command other second others → Meet first second answer other
-changes_meet library old first second command answer other steps others r q = (q.new_is ∙ sym r.new_is, inl (q.answer_is ∙ sym r.answer_is))
+same_alike : (s t first second : State) → AreAlike s t → first ≡ s → second ≡ t → AreAlike first second
+same_alike s t first second e f g = ap (λ u. naming u []) g ∙ e ∙ sym (ap (λ u. naming u []) f)
 
-runs_meet : (library : List Stored) (old first second : State) (command : Command) (answer other : Answer) (steps others : ℕ) → Runs library old command answer first steps → Runs library old command other second others → Meet first second answer other
-runs_meet library old first second command answer other steps others r q = (q.same ∙ sym r.same, inr (r.text, q.text, r.answer_is, q.answer_is))
+changes_meet : (library : List Stored) (s t first second : State) (command : Command) (answer other : Answer) (steps others : ℕ) → AreAlike s t → Changes library s command answer first steps → Changes library t command other second others → Meet first second answer other
+changes_meet library s t first second command answer other steps others e r q = (same_alike (effect library s command) (effect library t command) first second (effect_alike library s t command e) r.new_is q.new_is, inl (q.answer_is ∙ sym r.answer_is))
 
-carried_meet : (o : Option Refusal) (library : List Stored) (old first second : State) (command : Command) (answer other : Answer) (steps others : ℕ) → CarriesUnless o library old command answer first steps → CarriesUnless o library old command other second others → Meet first second answer other
-carried_meet (Some refusal) library old first second command answer other steps others r q = (q.same ∙ sym r.same, inl (q.answer_is ∙ sym r.answer_is))
-carried_meet None library old first second (commands.Command.Domain name elements) answer other steps others r q = changes_meet library old first second (commands.Command.Domain name elements) answer other steps others r q
-carried_meet None library old first second (commands.Command.Relation name from to pairs) answer other steps others r q = changes_meet library old first second (commands.Command.Relation name from to pairs) answer other steps others r q
-carried_meet None library old first second (commands.Command.Cell name kind) answer other steps others r q = changes_meet library old first second (commands.Command.Cell name kind) answer other steps others r q
-carried_meet None library old first second (commands.Command.Define name params body) answer other steps others r q = changes_meet library old first second (commands.Command.Define name params body) answer other steps others r q
-carried_meet None library old first second (commands.Command.Attach name cells by) answer other steps others r q = changes_meet library old first second (commands.Command.Attach name cells by) answer other steps others r q
-carried_meet None library old first second (commands.Command.Fix cell value) answer other steps others r q = changes_meet library old first second (commands.Command.Fix cell value) answer other steps others r q
-carried_meet None library old first second (commands.Command.Tell premise cell value) answer other steps others r q = changes_meet library old first second (commands.Command.Tell premise cell value) answer other steps others r q
-carried_meet None library old first second (commands.Command.Kick premise) answer other steps others r q = changes_meet library old first second (commands.Command.Kick premise) answer other steps others r q
-carried_meet None library old first second (commands.Command.Bring premise) answer other steps others r q = changes_meet library old first second (commands.Command.Bring premise) answer other steps others r q
-carried_meet None library old first second (commands.Command.Limit n) answer other steps others r q = changes_meet library old first second (commands.Command.Limit n) answer other steps others r q
-carried_meet None library old first second commands.Command.Settle answer other steps others r q = runs_meet library old first second commands.Command.Settle answer other steps others r q
-carried_meet None library old first second (commands.Command.Ask x) answer other steps others r q = runs_meet library old first second (commands.Command.Ask x) answer other steps others r q
-carried_meet None library old first second (commands.Command.Why x) answer other steps others r q = runs_meet library old first second (commands.Command.Why x) answer other steps others r q
-carried_meet None library old first second commands.Command.Worldview answer other steps others r q = runs_meet library old first second commands.Command.Worldview answer other steps others r q
+runs_meet : (library : List Stored) (s t first second : State) (command : Command) (answer other : Answer) (steps others : ℕ) → AreAlike s t → Runs library s command answer first steps → Runs library t command other second others → Meet first second answer other
+runs_meet library s t first second command answer other steps others e r q =
+    (same_alike (naming s (named_by r.outcome s.named)) (naming t (named_by q.outcome t.named)) first second e r.new_is q.new_is, inr (r.text, q.text, r.answer_is, q.answer_is))
 
-follows_meet : (library : List Stored) (old first second : State) (read : Result (Option Command) Refusal) (answer other : Answer) (steps others : ℕ) → Follows library old read answer first steps → Follows library old read other second others →
+lists_meet : (library : List Stored) (s t first second : State) (answer other : Answer) (steps others : ℕ) → AreAlike s t → Lists library s answer first steps → Lists library t other second others → Meet first second answer other
+lists_meet library s t first second answer other steps others e r q = (same_alike s t first second e r.same q.same, inr (r.text, q.text, r.answer_is, q.answer_is))
+
+carried_meet : (o : Option Refusal) (library : List Stored) (s t first second : State) (command : Command) (answer other : Answer) (steps others : ℕ) → AreAlike s t → CarriesUnless o library s command answer first steps → CarriesUnless o library t command other second others → Meet first second answer other
+carried_meet (Some refusal) library s t first second command answer other steps others e r q = (same_alike s t first second e r.same q.same, inl (q.answer_is ∙ sym r.answer_is))
+carried_meet None library s t first second (commands.Command.Domain name elements) answer other steps others e r q = changes_meet library s t first second (commands.Command.Domain name elements) answer other steps others e r q
+carried_meet None library s t first second (commands.Command.Relation name from to pairs) answer other steps others e r q = changes_meet library s t first second (commands.Command.Relation name from to pairs) answer other steps others e r q
+carried_meet None library s t first second (commands.Command.Cell name kind) answer other steps others e r q = changes_meet library s t first second (commands.Command.Cell name kind) answer other steps others e r q
+carried_meet None library s t first second (commands.Command.Define name params body) answer other steps others e r q = changes_meet library s t first second (commands.Command.Define name params body) answer other steps others e r q
+carried_meet None library s t first second (commands.Command.Attach name cells by) answer other steps others e r q = changes_meet library s t first second (commands.Command.Attach name cells by) answer other steps others e r q
+carried_meet None library s t first second (commands.Command.Fix cell value) answer other steps others e r q = changes_meet library s t first second (commands.Command.Fix cell value) answer other steps others e r q
+carried_meet None library s t first second (commands.Command.Tell premise cell value) answer other steps others e r q = changes_meet library s t first second (commands.Command.Tell premise cell value) answer other steps others e r q
+carried_meet None library s t first second (commands.Command.Choose name cell values) answer other steps others e r q = changes_meet library s t first second (commands.Command.Choose name cell values) answer other steps others e r q
+carried_meet None library s t first second (commands.Command.Kick premise) answer other steps others e r q = changes_meet library s t first second (commands.Command.Kick premise) answer other steps others e r q
+carried_meet None library s t first second (commands.Command.Bring premise) answer other steps others e r q = changes_meet library s t first second (commands.Command.Bring premise) answer other steps others e r q
+carried_meet None library s t first second (commands.Command.Limit n) answer other steps others e r q = changes_meet library s t first second (commands.Command.Limit n) answer other steps others e r q
+carried_meet None library s t first second commands.Command.Settle answer other steps others e r q = runs_meet library s t first second commands.Command.Settle answer other steps others e r q
+carried_meet None library s t first second (commands.Command.Ask x) answer other steps others e r q = runs_meet library s t first second (commands.Command.Ask x) answer other steps others e r q
+carried_meet None library s t first second (commands.Command.Why x) answer other steps others e r q = runs_meet library s t first second (commands.Command.Why x) answer other steps others e r q
+carried_meet None library s t first second commands.Command.Worldview answer other steps others e r q = runs_meet library s t first second commands.Command.Worldview answer other steps others e r q
+carried_meet None library s t first second commands.Command.Nogoods answer other steps others e r q = lists_meet library s t first second answer other steps others e r q
+
+follows_meet : (library : List Stored) (s t first second : State) (read : Result (Option Command) Refusal) (answer other : Answer) (steps others : ℕ) → AreAlike s t → Follows library s read answer first steps → Follows library t read other second others →
     answer ≢ Refused Memory → other ≢ Refused Memory → Meet first second answer other
-follows_meet library old first second (Ok None) answer other steps others r q n m = (q.1 ∙ sym r.1, inl (q.0 ∙ sym r.0))
-follows_meet library old first second (Err refusal) answer other steps others (inl r) (inl q) n m = (q.same ∙ sym r.same, inl (q.answer_is ∙ sym r.answer_is))
-follows_meet library old first second (Err refusal) answer other steps others (inl r) (inr q) n m = absurd (m q.answer_is)
-follows_meet library old first second (Err refusal) answer other steps others (inr r) q n m = absurd (n r.answer_is)
-follows_meet library old first second (Ok (Some command)) answer other steps others (inl r) (inl q) n m = carried_meet (refusal_of library old command) library old first second command answer other steps others r q
-follows_meet library old first second (Ok (Some command)) answer other steps others (inl r) (inr q) n m = absurd (m q.answer_is)
-follows_meet library old first second (Ok (Some command)) answer other steps others (inr r) q n m = absurd (n r.answer_is)
+follows_meet library s t first second (Ok None) answer other steps others e r q n m = (same_alike s t first second e r.1 q.1, inl (q.0 ∙ sym r.0))
+follows_meet library s t first second (Err refusal) answer other steps others e (inl r) (inl q) n m = (same_alike s t first second e r.same q.same, inl (q.answer_is ∙ sym r.answer_is))
+follows_meet library s t first second (Err refusal) answer other steps others e (inl r) (inr q) n m = absurd (m q.answer_is)
+follows_meet library s t first second (Err refusal) answer other steps others e (inr r) q n m = absurd (n r.answer_is)
+follows_meet library s t first second (Ok (Some command)) answer other steps others e (inl r) (inl q) n m =
+    carried_meet (refusal_of library s command) library s t first second command answer other steps others e r (rw (refusal_alike library s t command e) at q)
+follows_meet library s t first second (Ok (Some command)) answer other steps others e (inl r) (inr q) n m = absurd (m q.answer_is)
+follows_meet library s t first second (Ok (Some command)) answer other steps others e (inr r) q n m = absurd (n r.answer_is)
 
 pub answers_meet : (library : List Stored) → AnswersMeet library
-answers_meet library old first second line answer other steps others r q n m = (follows_meet library old first second (reading line) answer other steps others r q n m).1
+answers_meet library old first second line answer other steps others r q n m = (follows_meet library old old first second (reading line) answer other steps others refl r q n m).1
 
 -- ---- runs
 
@@ -72,15 +86,19 @@ answers_meet library old first second line answer other steps others r q n m = (
 abbrev IsNoWant : Answer → Type 0
 IsNoWant answer = answer ≢ Refused Memory
 
+runs_meet_from : (library : List Stored) (related : ℕ → Param → List Point → Point → Type 0) (s t first second : State) (lines : List (List ℕ)) (answers others : List Answer) → AreAlike s t →
+    Run (workbench library related) s lines answers first → Run (workbench library related) t lines others second → HaveMemory answers → HaveMemory others → AreAlike first second
+runs_meet_from library related s t first second [] [] [] e r q n m = same_alike s t first second e r q
+runs_meet_from library related s t first second [] [] (b ∷ ks) e r q n m = absurd q
+runs_meet_from library related s t first second [] (a ∷ ls) ks e r q n m = absurd r
+runs_meet_from library related s t first second (line ∷ lines) [] ks e r q n m = absurd r
+runs_meet_from library related s t first second (line ∷ lines) (a ∷ ls) [] e r q n m = absurd q
+runs_meet_from library related s t first second (line ∷ lines) (a ∷ ls) (b ∷ ks) e (mid, step, rest) (mid', step', rest') n m =
+    runs_meet_from library related mid mid' first second lines ls ks (follows_meet library s t mid mid' (reading line) a b step.steps step'.steps e step.step step'.step (All-head IsNoWant a ls n) (All-head IsNoWant b ks m)).0
+    rest rest' (All-tail IsNoWant a ls n) (All-tail IsNoWant b ks m)
+
 pub runs_meet_all : (library : List Stored) (related : ℕ → Param → List Point → Point → Type 0) → RunsMeet (workbench library related)
-runs_meet_all library related old first second [] [] [] r q n m = q ∙ sym r
-runs_meet_all library related old first second [] [] (b ∷ ks) r q n m = absurd q
-runs_meet_all library related old first second [] (a ∷ ls) ks r q n m = absurd r
-runs_meet_all library related old first second (line ∷ lines) [] ks r q n m = absurd r
-runs_meet_all library related old first second (line ∷ lines) (a ∷ ls) [] r q n m = absurd q
-runs_meet_all library related old first second (line ∷ lines) (a ∷ ls) (b ∷ ks) (mid, step, rest) (mid', step', rest') n m =
-    let same : mid' ≡ mid = (follows_meet library old mid mid' (reading line) a b step.steps step'.steps step.step step'.step (All-head IsNoWant a ls n) (All-head IsNoWant b ks m)).0 in
-    runs_meet_all library related mid first second lines ls ks rest (subst (λ (s : State). Run (workbench library related) s lines ks second) same rest') (All-tail IsNoWant a ls n) (All-tail IsNoWant b ks m)
+runs_meet_all library related old first second lines answers others r q n m = runs_meet_from library related old old first second lines answers others refl r q n m
 
 -- ---- what settles
 
@@ -88,22 +106,22 @@ same_cell : (s : State) (name : List ℕ) (c d : ℕ) → cell_named s.names nam
 same_cell s name c d e f = let g : Some d ≡ Some c = sym f ∙ e in cc
 
 -- what two settled replies say of a cell of one name
-same_value : (library : List Stored) (s : State) (c d : ℕ) (v w : Info) (a b : Assignment) → d ≡ c → v ≡ a c → w ≡ b d → IsRest library s a → IsRest library s b → w ≡ v
-same_value library s c d v w a b e f g r q = g ∙ ap b e ∙ sym (least_unique (problem_in library s) (worldview_of s) a b r.least q.least c) ∙ sym f
+same_value : (library : List Stored) (s : State) (list : List ℕ) (c d : ℕ) (v w : Info) (a b : Assignment) → d ≡ c → v ≡ a c → w ≡ b d → IsRest library s list a → IsRest library s list b → w ≡ v
+same_value library s list c d v w a b e f g r q = g ∙ ap b e ∙ sym (least_unique (problem_in library s) (worldview_at s list) a b r.least q.least c) ∙ sym f
 
 same_text : (s : State) (name behind : List ℕ) (c d : ℕ) (v w : Info) → d ≡ c → w ≡ v → equation name (text_at s d w) behind ≡ equation name (text_at s c v) behind
 same_text s name behind c d v w e f = λ i. equation name (text_at s (e i) (f i)) behind
 
-values_meet : (library : List Stored) (s : State) (name text also : List ℕ) → IsValueReply library s Settled name [] text → IsValueReply library s Settled name [] also → also ≡ text
-values_meet library s name text also r q =
+values_meet : (library : List Stored) (s : State) (list name text also : List ℕ) → IsValueReply library s (Settled list) name [] text → IsValueReply library s (Settled list) name [] also → also ≡ text
+values_meet library s list name text also r q =
     let e = same_cell s name r.cell q.cell r.cell_is q.cell_is in
-    let f = same_value library s r.cell q.cell r.v q.v r.value.solution q.value.solution e r.value.value q.value.value r.value.rest q.value.rest in
+    let f = same_value library s list r.cell q.cell r.v q.v r.value.solution q.value.solution e r.value.value q.value.value r.value.rest q.value.rest in
     q.text_is ∙ same_text s name [] r.cell q.cell r.v q.v e f ∙ sym r.text_is
 
-whys_meet : (library : List Stored) (s : State) (name text also : List ℕ) → IsExplainedReply library s Settled name [] text → IsExplainedReply library s Settled name [] also → SayOneValue s name text also
-whys_meet library s name text also r q =
+whys_meet : (library : List Stored) (s : State) (list name text also : List ℕ) → IsExplainedReply library s (Settled list) name [] text → IsExplainedReply library s (Settled list) name [] also → SayOneValue s name text also
+whys_meet library s list name text also r q =
     let e = same_cell s name r.cell q.cell r.cell_is q.cell_is in
-    let f = same_value library s r.cell q.cell r.v q.v r.value.solution q.value.solution e r.value.value q.value.value r.value.rest q.value.rest in
+    let f = same_value library s list r.cell q.cell r.v q.v r.value.solution q.value.solution e r.value.value q.value.value r.value.rest q.value.rest in
     record {
       cell = r.cell;
       cell_is = r.cell_is;
@@ -114,38 +132,40 @@ whys_meet library s name text also r q =
       also_is = q.text_is ∙ same_text s name (because s.premises [] q.premises) r.cell q.cell r.v q.v e f;
     }
 
+-- two settled ends of one state stand on one list
+one_list : (library : List Stored) (s : State) (l m : List ℕ) → MayEnd library s (Settled l) → MayEnd library s (Settled m) → m ≡ l
+one_list library s l m r q = sym (first_unique (problem_in library s) (users_in s) (choices_in s) l m r.first q.first)
+
+-- what may be replied where the run settled on a list
+texts_meet : (library : List Stored) (s : State) (command : Command) (list text also : List ℕ) (steps others : ℕ) → Replies library s command (Settled list) steps text → Replies library s command (Settled list) others also →
+    (also ≡ text) ⊎ ((name : List ℕ) × (command ≡ commands.Command.Why name) × SayOneValue s name text also)
+texts_meet library s commands.Command.Settle list text also steps others r q = inl (q ∙ sym r)
+texts_meet library s commands.Command.Worldview list text also steps others r q = inl (q ∙ sym r)
+texts_meet library s (commands.Command.Ask x) list text also steps others r q = inl (values_meet library s list x text also r q)
+texts_meet library s (commands.Command.Why x) list text also steps others r q = inr (x, refl, whys_meet library s list x text also r q)
+texts_meet library s commands.Command.Nogoods list text also steps others r q = absurd r
+texts_meet library s (commands.Command.Domain name elements) list text also steps others r q = absurd r
+texts_meet library s (commands.Command.Relation name from to pairs) list text also steps others r q = absurd r
+texts_meet library s (commands.Command.Cell name kind) list text also steps others r q = absurd r
+texts_meet library s (commands.Command.Define name params body) list text also steps others r q = absurd r
+texts_meet library s (commands.Command.Attach name cells by) list text also steps others r q = absurd r
+texts_meet library s (commands.Command.Fix cell value) list text also steps others r q = absurd r
+texts_meet library s (commands.Command.Tell premise cell value) list text also steps others r q = absurd r
+texts_meet library s (commands.Command.Choose name cell values) list text also steps others r q = absurd r
+texts_meet library s (commands.Command.Kick premise) list text also steps others r q = absurd r
+texts_meet library s (commands.Command.Bring premise) list text also steps others r q = absurd r
+texts_meet library s (commands.Command.Limit n) list text also steps others r q = absurd r
+
 pub settled_texts_meet : (library : List Stored) → SettledTextsMeet library
-settled_texts_meet library s commands.Command.Settle text also r q = inl (q.2 ∙ sym r.2)
-settled_texts_meet library s commands.Command.Worldview text also r q = inl (q.2 ∙ sym r.2)
-settled_texts_meet library s (commands.Command.Ask x) text also r q = inl (values_meet library s x text also r.2 q.2)
-settled_texts_meet library s (commands.Command.Why x) text also r q = inr (x, refl, whys_meet library s x text also r.2 q.2)
-settled_texts_meet library s (commands.Command.Domain name elements) text also r q = absurd r.2
-settled_texts_meet library s (commands.Command.Relation name from to pairs) text also r q = absurd r.2
-settled_texts_meet library s (commands.Command.Cell name kind) text also r q = absurd r.2
-settled_texts_meet library s (commands.Command.Define name params body) text also r q = absurd r.2
-settled_texts_meet library s (commands.Command.Attach name cells by) text also r q = absurd r.2
-settled_texts_meet library s (commands.Command.Fix cell value) text also r q = absurd r.2
-settled_texts_meet library s (commands.Command.Tell premise cell value) text also r q = absurd r.2
-settled_texts_meet library s (commands.Command.Kick premise) text also r q = absurd r.2
-settled_texts_meet library s (commands.Command.Bring premise) text also r q = absurd r.2
-settled_texts_meet library s (commands.Command.Limit n) text also r q = absurd r.2
+settled_texts_meet library s command text also (l, steps, ends, r) (m, others, end, q) = texts_meet library s command l text also steps others r (rw (one_list library s l m ends end) at q)
 
-still_member : (s t : Premises) → IsPart s t → (o : Option ℕ) → IsTrue (is_member s o) → IsTrue (is_member t o)
-still_member s t part None h = h
-still_member s t part (Some p) h = part p h
-
--- what is consistent stays so with fewer premises
-fewer_consistent : (problem : Problem) (s t : Premises) → IsPart s t → IsConsistent problem t → IsConsistent problem s
-fewer_consistent problem s t part c = record {
-  solution = c.solution;
-  solves = record {
-    kinds = c.solves.kinds;
-    statements = λ k d l m. c.solves.statements k d l (still_member s t part (get_or problem.statements k d).premise m);
-    instances = c.solves.instances;
-  };
-  free = c.free;
-}
+-- a believed premise is the user's
+pub believed_is_user : (os : List Origin) (p : ℕ) → IsTrue (believed_in os p) → IsTrue (is_user_at os p)
+believed_is_user [] p h = h
+believed_is_user (User name b ∷ os) zero h = refl
+believed_is_user (Side name side sides ∷ os) zero h = h
+believed_is_user (o ∷ os) (suc p) h = believed_is_user os p h
 
 pub settled_is_free : (library : List Stored) → SettledIsFree library
-settled_is_free library s premises (a, rest) conflict =
-    conflict.contradictory (fewer_consistent (problem_in library s) (set_of premises) (worldview_of s) conflict.part (record { solution = a; solves = rest.least.solves; free = rest.free }))
+settled_is_free library s list premises numbered settles contradicts =
+    believed_refutes (problem_in library s) (choices_in s) (users_in s) (set_of premises) (λ p h. numbered.users p (believed_is_user s.premises p (contradicts.believes p h))) contradicts.believes contradicts.refuted list settles.first.is_list settles.first.consistent

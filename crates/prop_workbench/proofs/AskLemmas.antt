@@ -1,63 +1,77 @@
 -- What is answered when the network was run for a cell.
-use Rattle.std.proofs.Common.{◌≡◌, ℕ, ◌<◌, ◌≤◌, ◌⊎◌, List, Some, None, All, length, codes, ◌∙◌, Result, Ok, Err, IfOk, inl, inr, refl}
+use Rattle.std.proofs.Common.{◌≡◌, ℕ, zero, suc, ◌+◌, ◌*◌, ◌<◌, ◌≤◌, ◌⊎◌, IsTrue, List, [], ◌∷◌, Some, None, All, get_or, length, codes, ◌∙◌, Result, Ok, Err, IfOk, inl, inr, refl, ap, subst, arith}
 use Rattle.std.specs.List.Sorted.{IsStrictlyIncreasing}
 use Rattle.std.proofs.lemmas.Option.{slice_get-get_or}
 use Rattle.prop_lattice.specs.declared.info.Info.{Info}
 use Rattle.prop_lattice.specs.declared.refusal.Refusal.TheVariants.{NoSuchCell}
-use Rattle.prop_premises.specs.Sets.{set_of}
-use Rattle.prop_premises.specs.Origins.{Origin, believed_in}
+use Rattle.prop_premises.specs.Sets.{Members, IsPart, set_of}
+use Rattle.prop_premises.specs.Origins.{Origin, believed_in, choices_of}
+use Rattle.prop_premises.specs.declared.choice.Choice.{Choice}
+use Rattle.prop_premises.specs.ChoiceLists as lists
+use Rattle.prop_nogoods.specs.Stores.{has_part}
+use Rattle.prop_scheduler.specs.Potential.{most_steps}
+use Rattle.prop_amb.specs.Refuted.{IsNogood, IsCovered, IsRuledOut, IsFirstConsistent, AllBeforeRefuted}
+use Rattle.prop_amb.specs.Search as search
+use Rattle.prop_amb.specs.Search.{Stand, IsStand}
+use Rattle.prop_amb.specs.Settling as settling
+use Rattle.prop_amb.specs.declared.outcome.Outcome as ends
+use Rattle.prop_amb.specs.declared.outcome.Outcome.TheVariants as ended
+use Rattle.prop_workbench.specs.declared.session.Session.{Session}
 use Rattle.prop_procedures.specs.declared.shape.Param.{Param}
 use Rattle.prop_procedures.specs.Stored.{Stored, span_kind}
-use Rattle.prop_cells.specs.Problems.{Problem, Premises}
-use Rattle.prop_cells.specs.Reach.{IsConflict, Explains}
-use Rattle.prop_cells.specs.Data.{Data, IsKept, IsWellMade, IsClash, beliefs, problem_of}
+use Rattle.prop_cells.specs.Problems.{Problem}
+use Rattle.prop_cells.specs.Reach.{Explains}
+use Rattle.prop_cells.specs.Data.{Data, IsKept, IsWellMade, beliefs, problem_of}
 use Rattle.prop_procedures.specs.Fitting.{kind_at}
 use Rattle.prop_cells.proofs.Founding.{believed_entailed}
 use Rattle.prop_scheduler.specs.Turns.{IsSettled}
-use Rattle.prop_scheduler.specs.Ends.{IfClash}
-use Rattle.prop_scheduler.specs.Potential.{most_steps}
-use Rattle.prop_scheduler.specs.declared.outcome.Run.{Run}
-use Rattle.prop_scheduler.specs.declared.outcome.Run.TheVariants.{Quiet, Clash, Spent}
 use Rattle.prop_language.specs.Commands as commands
 use Rattle.prop_language.specs.Commands.{Command}
 use Rattle.prop_vocabulary.specs.Vocabulary.{Vocabulary}
-use Rattle.prop_engine.specs.Answers.{Answer, Says, Text}
-use Rattle.prop_workbench.specs.Machine.{State, text_at}
+use Rattle.prop_engine.specs.Answers.{Answer, Says, Text, Refused}
+use Rattle.prop_lattice.specs.declared.refusal.Refusal.TheVariants.{Memory}
+use Rattle.prop_workbench.specs.Machine.{State, naming, text_at}
 use Rattle.prop_workbench.specs.Refusing.{refusal_of}
 use Rattle.prop_workbench.specs.declared.asking.Question.{Question}
 use Rattle.prop_workbench.specs.declared.asking.Question.TheVariants.{Settle, Worldview, Ask, Why}
-use Rattle.prop_workbench.specs.declared.session.Session.{Session}
-use Rattle.prop_workbench.specs.Questions.{command_of, IsNamed, HasRun, MaySay}
-use Rattle.prop_workbench.specs.Running.{Outcome, Unsettled, Contradiction, MayEnd, Replies, Explained, IsValue, IsValueReply, IsSettledValue, IsUnsettledValue, IsExplainedReply}
+use Rattle.prop_workbench.specs.Questions.{command_of, IsNamed, MaySay, HasRun}
+use Rattle.prop_workbench.specs.Running.{Outcome, Unsettled, Contradiction, named_by, worldview_of, MayEnd, Replies, Explained, IsValue, IsValueReply, IsSettledValue, IsUnsettledValue, IsExplainedReply}
 use Rattle.prop_workbench.specs.Sessions.{state_from, library_of, AreKnown}
 use Rattle.prop_workbench.proofs.StepLemmas.{obeys}
 use Rattle.prop_workbench.specs.Steps.{Obeys, Carries, Runs}
 use Rattle.prop_texts.specs.Texts.{equation, because, contradiction_text}
 use Rattle.prop_vocabulary.proofs.CellLookups.{of_named}
-use Rattle.prop_workbench.proofs.PremiseLemmas.{support_known}
+use Rattle.prop_workbench.proofs.PremiseLemmas.{support_known, same_set, set_has}
 use Rattle.prop_vocabulary.specs.Cells.{CellNames, cell_named}
 use Rattle.prop_compound.specs.Definitions.{Definitions}
 
+-- what is believed with the list
+abbrev pub worldview_in : List Origin → List ℕ → Members
+worldview_in premises list = lists.worldview (believed_in premises) (choices_of premises) list
+
+pub believes_same : (s : Stand) → IsStand s → set_of s.worldview ≡ worldview_in s.premises s.list
+believes_same s stand = same_set (set_of s.worldview) (worldview_in s.premises s.list) stand.believes
+
 -- a question for a cell that is there is not refused
-free : (library : List Stored) (s : State) (question : Question) → IsNamed s question → refusal_of library s (command_of question) ≡ None
+pub free : (library : List Stored) (s : State) (question : Question) → IsNamed s question → refusal_of library s (command_of question) ≡ None
 free library s Settle named = refl
 free library s Worldview named = refl
 free library s (Ask cell name) named = rw named refl
 free library s (Why cell name) named = rw named refl
 
-carries : (library : List Stored) (s t : State) (question : Question) (answer : Answer) (steps : ℕ) → Runs library s (command_of question) answer t steps → Carries library s (command_of question) answer t steps
+pub carries : (library : List Stored) (s t : State) (question : Question) (answer : Answer) (steps : ℕ) → Runs library s (command_of question) answer t steps → Carries library s (command_of question) answer t steps
 carries library s t Settle answer steps r = r
 carries library s t Worldview answer steps r = r
 carries library s t (Ask cell name) answer steps r = r
 carries library s t (Why cell name) answer steps r = r
 
 -- the run ended so, and what is answered may be said then
-pub ran : (library : List Stored) (s t : State) (question : Question) (outcome : Outcome) (answer : Answer) (steps : ℕ) → t ≡ s → IsNamed s question → MayEnd library s outcome → MaySay library s (command_of question) outcome steps answer → steps ≤ s.limit →
-    Obeys library s (command_of question) answer t steps
-ran library s t question outcome answer steps same named ends (inl (text, replies, e)) within =
+pub ran : (library : List Stored) (s t : State) (question : Question) (outcome : Outcome) (answer : Answer) (steps : ℕ) → t ≡ naming s (named_by outcome s.named) → IsNamed s question → MayEnd library s outcome → MaySay library s (command_of question) outcome steps answer → steps ≤ s.limit →
+    (answer ≡ Refused Memory → t ≡ s) → Obeys library s (command_of question) answer t steps
+ran library s t question outcome answer steps new_is named ends (inl (text, replies, e)) within same =
     obeys library s t (command_of question) answer steps (free library s question named)
-    (carries library s t question answer steps (record { outcome = outcome; ends = ends; text = text; replies = replies; answer_is = e; same = same; within = within }))
-ran library s t question outcome answer steps same named ends (inr m) within = inr (record { answer_is = m; same = same })
+    (carries library s t question answer steps (record { outcome = outcome; ends = ends; text = text; replies = replies; answer_is = e; new_is = new_is; within = within }))
+ran library s t question outcome answer steps new_is named ends (inr m) within same = inr (record { answer_is = m; same = same m })
 
 -- a contradiction may be said to each question
 pub may_contradict : (library : List Stored) (s : State) (question : Question) (support : List ℕ) (answer : Answer) (steps : ℕ) → IsStrictlyIncreasing support → Says answer (contradiction_text s.premises support) →
@@ -73,7 +87,7 @@ may_say_value library s command outcome name cell v mark answer steps named valu
 may_say_value library s command outcome name cell v mark answer steps named value replies (inr m) = inr m
 
 pub may_explain : (library : List Stored) (s : State) (command : Command) (outcome : Outcome) (name : List ℕ) (cell : ℕ) (v : Info) (mark : List ℕ) (answer : Answer) (steps : ℕ) → cell_named s.names name ≡ Some cell → IsValue library s outcome cell v →
-    ((text : List ℕ) → IsExplainedReply library s outcome name mark text → Replies library s command outcome steps text) → Explained library s cell v name mark answer → MaySay library s command outcome steps answer
+    ((text : List ℕ) → IsExplainedReply library s outcome name mark text → Replies library s command outcome steps text) → Explained library s (worldview_of s outcome) cell v name mark answer → MaySay library s command outcome steps answer
 may_explain library s command outcome name cell v mark answer steps named value replies (inl (ps, in_order, explains, e)) =
     inl (equation name (text_at s cell v) (because s.premises mark ps), replies _ (record { cell = cell; cell_is = named; v = v; value = value; premises = ps; in_order = in_order; explains = explains; text_is = refl }), e)
 may_explain library s command outcome name cell v mark answer steps named value replies (inr m) = inr m
@@ -83,53 +97,100 @@ pub may_say : (library : List Stored) (s : State) (command : Command) (outcome :
 may_say library s command outcome text answer steps replies (inl e) = inl (text, replies, e)
 may_say library s command outcome text answer steps replies (inr m) = inr m
 
-pub may_say_unsettled : (library : List Stored) (s : State) (question : Question) (answer : Answer) (steps : ℕ) → (question ≡ Settle) ⊎ (question ≡ Worldview) → steps ≡ s.limit → Says answer (codes "unsettled") → MaySay library s (command_of question) Unsettled steps answer
-may_say_unsettled library s question answer steps (inl e) all says = rw e (may_say library s commands.Command.Settle Unsettled (codes "unsettled") answer steps (refl, all) says)
-may_say_unsettled library s question answer steps (inr e) all says = rw e (may_say library s commands.Command.Worldview Unsettled (codes "unsettled") answer steps (refl, all) says)
+pub may_say_unsettled : (library : List Stored) (s : State) (list : List ℕ) (question : Question) (answer : Answer) (steps : ℕ) → (question ≡ Settle) ⊎ (question ≡ Worldview) → steps ≡ s.limit → Says answer (codes "unsettled") → MaySay library s (command_of question) (Unsettled list) steps answer
+may_say_unsettled library s list question answer steps (inl e) all says = rw e (may_say library s commands.Command.Settle (Unsettled list) (codes "unsettled") answer steps (refl, all) says)
+may_say_unsettled library s list question answer steps (inr e) all says = rw e (may_say library s commands.Command.Worldview (Unsettled list) (codes "unsettled") answer steps (refl, all) says)
 
 -- what is believed of a cell of a network at rest is its settled value
-pub settled_value : (library : List Stored) (names : CellNames) (words : Vocabulary) (definitions : Definitions) (premises : List Origin) (d : Data) (limit cell : ℕ) (v : Info) → IsSettled library (believed_in premises) d → v ≡ beliefs (believed_in premises) d.contents cell →
-    IsSettledValue library (state_from names words definitions premises d limit) cell v
-settled_value library names words definitions premises d limit cell v settled is_v = record {
-  solution = beliefs (believed_in premises) d.contents;
+pub settled_value : (library : List Stored) (names : CellNames) (words : Vocabulary) (definitions : Definitions) (premises : List Origin) (d : Data) (limit : ℕ) (list : List ℕ) (cell : ℕ) (v : Info) → IsSettled library (worldview_in premises list) d → v ≡ beliefs (worldview_in premises list) d.contents cell →
+    IsSettledValue library (state_from names words definitions premises d limit) list cell v
+settled_value library names words definitions premises d limit list cell v settled is_v = record {
+  solution = beliefs (worldview_in premises list) d.contents;
   rest = record { least = settled.least; free = settled.free };
   value = is_v;
 }
 
-pub unsettled_value : (library : List Stored) (names : CellNames) (words : Vocabulary) (definitions : Definitions) (premises : List Origin) (d : Data) (limit cell : ℕ) (name : List ℕ) (v : Info) → cell_named names name ≡ Some cell → All (λ k. k < length d.kinds) names.cells →
-    IsKept library d → IsWellMade d → v ≡ beliefs (believed_in premises) d.contents cell → IsUnsettledValue library (state_from names words definitions premises d limit) cell v
-unsettled_value library names words definitions premises d limit cell name v found named kept made is_v =
+pub unsettled_value : (library : List Stored) (names : CellNames) (words : Vocabulary) (definitions : Definitions) (premises : List Origin) (d : Data) (limit : ℕ) (list : List ℕ) (cell : ℕ) (name : List ℕ) (v : Info) → cell_named names name ≡ Some cell → All (λ k. k < length d.kinds) names.cells →
+    IsKept library d → IsWellMade d → v ≡ beliefs (worldview_in premises list) d.contents cell → IsUnsettledValue library (state_from names words definitions premises d limit) list cell v
+unsettled_value library names words definitions premises d limit list cell name v found named kept made is_v =
     let l : cell < length d.kinds = of_named (λ k. k < length d.kinds) names name cell named found in
     record {
-      of_kind = rw is_v ((made.of_kinds (believed_in premises)).of_kind cell (kind_at d.kinds cell) (slice_get-get_or d.kinds cell span_kind l));
-      entailed = rw is_v (believed_entailed library d (believed_in premises) kept cell);
-      stated = λ k x m believed here. rw (is_v, ← here) ((made.stated k x m).below (believed_in premises) believed);
+      of_kind = rw is_v ((made.of_kinds (worldview_in premises list)).of_kind cell (kind_at d.kinds cell) (slice_get-get_or d.kinds cell span_kind l));
+      entailed = rw is_v (believed_entailed library d (worldview_in premises list) kept cell);
+      stated = λ k x m believed here. rw (is_v, ← here) ((made.stated k x m).below (worldview_in premises list) believed);
     }
 
--- the premises of a conflict are known
-pub conflict_known : (problem : Problem) (believed : Premises) (n : ℕ) (ps : List ℕ) → AreKnown n problem.statements → IsConflict problem believed (set_of ps) → All (λ p. p < n) ps
-conflict_known problem believed n ps known conflict = support_known problem n conflict.cell ps known conflict.related
-
--- what a run tells of itself, over the believed premises
-pub has_run : {R O : Type 0} {X : Type 0} {F : X → Type 0} {g : _} {E : Type 0} (value : R → Param → List Info → Info) (s : Session R O X F g) (r : Result (Run × ℕ) E) →
-    IfOk r (λ x. x.0 ≡ Quiet → IsSettled (library_of value s) (believed_in s.premises) s.network.cells) →
-    IfOk r (λ x. IfClash x.0 (λ p. IsConflict (problem_of (library_of value s) s.network.cells) (believed_in s.premises) (set_of p))) →
-    IfOk r (λ x. IfClash x.0 (IsClash (believed_in s.premises) s.network.cells)) → IfOk r (λ x. x.1 ≤ s.limit) → IfOk r (λ x. x.0 ≡ Spent → x.1 ≡ s.limit) →
-    IfOk r (λ x. x.0 ≡ Spent → s.limit < most_steps (problem_of (library_of value s) s.network.cells)) → IfOk r (λ x. HasRun value s x.0 x.1)
-has_run value s (Err x) quiet conflict clash within spent earned = tt
-has_run value s (Ok (Quiet, n)) quiet conflict clash within spent earned =
-    let settled = quiet refl in
-    record { ends = (beliefs (believed_in s.premises) s.network.cells.contents, record { least = settled.least; free = settled.free }); clash = clash; settled = quiet; within = within; spent = spent }
-has_run value s (Ok (Spent, n)) quiet conflict clash within spent earned = record { ends = earned refl; clash = clash; settled = quiet; within = within; spent = spent }
-has_run value s (Ok (Clash support, n)) quiet conflict clash within spent earned = record { ends = conflict; clash = clash; settled = quiet; within = within; spent = spent }
-
 -- what is answered explains
-pub explained_by : (library : List Stored) (names : CellNames) (words : Vocabulary) (definitions : Definitions) (premises : List Origin) (d : Data) (limit cell : ℕ) (v : Info) (name mark support text : List ℕ) (answer : Answer) → v ≡ beliefs (believed_in premises) d.contents cell →
-    IsStrictlyIncreasing support → Explains (problem_of library d) (believed_in premises) cell v (set_of support) → text ≡ because premises mark support → Says answer (equation name (text_at (state_from names words definitions premises d limit) cell v) text) →
-    Explained library (state_from names words definitions premises d limit) cell (beliefs (believed_in premises) d.contents cell) name mark answer
-explained_by library names words definitions premises d limit cell v name mark support text answer is_v in_order explains is_text (inl e) =
+pub explained_by : (library : List Stored) (names : CellNames) (words : Vocabulary) (definitions : Definitions) (premises : List Origin) (d : Data) (limit : ℕ) (believed : Members) (cell : ℕ) (v : Info) (name mark support text : List ℕ) (answer : Answer) → v ≡ beliefs believed d.contents cell →
+    IsStrictlyIncreasing support → Explains (problem_of library d) believed cell v (set_of support) → text ≡ because premises mark support → Says answer (equation name (text_at (state_from names words definitions premises d limit) cell v) text) →
+    Explained library (state_from names words definitions premises d limit) believed cell (beliefs believed d.contents cell) name mark answer
+explained_by library names words definitions premises d limit believed cell v name mark support text answer is_v in_order explains is_text (inl e) =
     inl (support, in_order, rw is_v at explains, e ∙ (λ i. Text (equation name (text_at (state_from names words definitions premises d limit) cell (is_v i)) (is_text i))))
-explained_by library names words definitions premises d limit cell v name mark support text answer is_v in_order explains is_text (inr m) = inr m
+explained_by library names words definitions premises d limit believed cell v name mark support text answer is_v in_order explains is_text (inr m) = inr m
+
+-- the premises of a nogood are known
+pub nogood_known : (problem : Problem) (choices : List Choice) (n : ℕ) (ps : List ℕ) → AreKnown n problem.statements → IsNogood problem choices (set_of ps) → All (λ p. p < n) ps
+nogood_known problem choices n ps known nogood = support_known problem n nogood.cell ps known nogood.related
+
+-- believed premises of the user's are known
+believed_below : (os : List Origin) (p : ℕ) → IsTrue (believed_in os p) → p < length os
+believed_below [] p h = cc
+believed_below (o ∷ os) zero h = omega arith
+believed_below (o ∷ os) (suc p) h = let b = believed_below os p h in omega arith
+
+pub believed_known : (os : List Origin) (ps : List ℕ) → IsPart (set_of ps) (believed_in os) → All (λ p. p < length os) ps
+believed_known os ps part k d l = believed_below os (get_or ps k d) (part (get_or ps k d) (set_has ps k d l))
+
+-- ---- what a run leaves and tells of itself
+
+pub same_problem : (library library' : List Stored) (d new : Data) → library' ≡ library → new ≡ record d { contents = new.contents } → problem_of library' new ≡ problem_of library d
+same_problem library library' d new same rest = rw same (ap (λ (x : Data). problem_of library x) rest)
+
+-- what was covered still is, with more nogoods between the same choices
+pub cover_kept : (old new : Stand) (m : Members) → new.premises ≡ old.premises → ((n : Members) → IsTrue (has_part old.listed n) → IsTrue (has_part new.listed n)) → IsCovered (search.choices_in old) old.listed m → IsCovered (search.choices_in new) new.listed m
+cover_kept old new m same kept covered = rw same (λ list is_list. kept _ (covered list is_list))
+
+pub has_run : {R O : Type 0} {X : Type 0} {F : X → Type 0} {g : _} {E : Type 0} (value : R → Param → List Info → Info) (s : Session R O X F g) (problem : Problem) (r : Result (ends.Outcome × ℕ) E) → problem ≡ problem_of (library_of value s) s.network.cells → IsStand s.search →
+    AllBeforeRefuted problem (search.users_of s.search) (search.choices_in s.search) s.search.list →
+    IfOk r (λ x. x.0 ≡ ended.Settled → IsSettled (library_of value s) (set_of s.search.worldview) s.network.cells) →
+    IfOk r (λ x. x.0 ≡ ended.Settled → IsFirstConsistent problem (search.users_of s.search) (search.choices_in s.search) s.search.list) →
+    IfOk r (λ x. settling.IfContradiction x.0 (λ n. IsRuledOut problem (search.users_of s.search) (search.choices_in s.search) s.search.listed (set_of n))) →
+    IfOk r (λ x. x.1 ≤ s.limit) → IfOk r (λ x. x.0 ≡ ended.Unsettled → x.1 ≡ s.limit) →
+    IfOk r (λ x. x.0 ≡ ended.Unsettled → s.limit + 1 < lists.lists_count (search.choices_in s.search) * (most_steps problem + 1)) → IfOk r (λ x. HasRun value s x.0 x.1)
+has_run value s problem (Err e) same stand earlier settled first contradiction within spent earned = tt
+has_run value s problem (Ok (ended.Settled, n)) same stand earlier settled first contradiction within spent earned =
+    let rest = subst (λ (b : Members). IsSettled (library_of value s) b s.network.cells) (believes_same s.search stand) (settled refl) in
+    record {
+      ends = record {
+        first = subst (λ (q : Problem). IsFirstConsistent q (search.users_of s.search) (search.choices_in s.search) s.search.list) same (first refl);
+        solution = beliefs (worldview_in s.search.premises s.search.list) s.network.cells.contents;
+        rest = record { least = rest.least; free = rest.free };
+      };
+      covered = tt;
+      settled = settled;
+      within = within;
+      spent = spent;
+    }
+has_run value s problem (Ok (ended.Unsettled, n)) same stand earlier settled first contradiction within spent earned = record {
+  ends = record {
+    is_list = stand.is_list;
+    earlier = subst (λ (q : Problem). AllBeforeRefuted q (search.users_of s.search) (search.choices_in s.search) s.search.list) same earlier;
+    few = subst (λ (q : Problem). s.limit + 1 < lists.lists_count (search.choices_in s.search) * (most_steps q + 1)) same (earned refl);
+  };
+  covered = tt;
+  settled = settled;
+  within = within;
+  spent = spent;
+}
+has_run value s problem (Ok (ended.Contradiction ps, n)) same stand earlier settled first contradiction within spent earned =
+    let out = subst (λ (q : Problem). IsRuledOut q (search.users_of s.search) (search.choices_in s.search) s.search.listed (set_of ps)) same contradiction in
+    record {
+      ends = record { believes = out.believes; refuted = out.refuted; grounded = out.grounded };
+      covered = out.covered;
+      settled = settled;
+      within = within;
+      spent = spent;
+    }
 
 -- ---- what ends before the value
 

@@ -140,7 +140,7 @@ module _ (library : List Stored) (names : CellNames) (words : Vocabulary) (defin
       let instances : new.instances ≡ d.instances ++ map (instance_placed library cells (length d.kinds)) (used library (state_from names words definitions premises d limit) name cells by).placed =
       ap (λ (x : Data). x.instances) e ∙ ap (λ l. d.instances ++ l) (map_twice flat.instances.items ∙ ap (map (instance_placed library cells (length d.kinds))) (sym placed_used)) in
       let statements : new.statements ≡ d.statements = ap (λ (x : Data). x.statements) e in
-      λ i. record { names = names; words = words; definitions = definitions; kinds = kinds i; premises = premises; statements = statements i; instances = instances i; limit = limit }
+      λ i. record { names = names; words = words; definitions = definitions; kinds = kinds i; premises = premises; statements = statements i; instances = instances i; limit = limit; named = [] }
     where
       map_twice : (xs : List flats.Placed) → map (made_of library flat.params.items cells (length d.kinds)) xs ≡ map (instance_placed library cells (length d.kinds)) (map (placed_of flat.params.items) xs)
       map_twice [] = refl

@@ -1,29 +1,19 @@
 -- A text is earned by the calls that it counts.
-use Rattle.std.proofs.Common.{◌≡◌, ℕ, ◌<◌, ◌≤◌, List, length, Option, Some, None, Result, Ok, Err, IfOk, inl, inr, refl}
+use Rattle.std.proofs.Common.{◌≡◌, ◌⊎◌, ℕ, ◌<◌, List, length, Option, Some, None, Result, Ok, Err, inl, inr}
 use Rattle.prop_lattice.specs.declared.refusal.Refusal.{Refusal}
 use Rattle.prop_lattice.specs.declared.refusal.Refusal.TheVariants.{Memory}
 use Rattle.prop_procedures.specs.Stored.{Stored}
-use Rattle.prop_cells.specs.Problems.{Premises}
-use Rattle.prop_cells.specs.Data.{IsClash}
-use Rattle.prop_scheduler.specs.Turns.{Turns}
-use Rattle.prop_scheduler.specs.Ends.{IfClash}
-use Rattle.prop_scheduler.specs.declared.outcome.Run.{Run}
-use Rattle.prop_scheduler.specs.declared.outcome.Run.TheVariants.{Spent}
+use Rattle.prop_amb.specs.declared.outcome.Outcome.{Outcome}
+use Rattle.prop_amb.specs.declared.outcome.Outcome.TheVariants.{Unsettled}
+use Rattle.prop_amb.specs.Refuted.{IsListRefuted}
 use Rattle.prop_language.specs.Commands as commands
 use Rattle.prop_language.specs.Commands.{Command}
-use Rattle.prop_engine.specs.Answers.{Answer, Silent, Done, Text, Refused}
+use Rattle.prop_engine.specs.Answers.{Answer, Refused}
 use Rattle.prop_workbench.specs.declared.asking.Question.{Question}
 use Rattle.prop_workbench.specs.declared.asking.Question.TheVariants.{Settle, Worldview, Ask, Why}
-use Rattle.prop_workbench.specs.Machine.{State, worldview_of}
-use Rattle.prop_workbench.specs.Questions.{command_of, Picks, HasGone, MaySay, IsEarned, Earns}
-use Rattle.prop_workbench.specs.Running.{outcome_of}
+use Rattle.prop_workbench.specs.Machine.{State, problem_in, users_in, choices_in}
+use Rattle.prop_workbench.specs.Questions.{command_of, outcome_of, Picks, HasGone, MaySay, Earns}
 use Rattle.prop_workbench.specs.Sessions.{Work}
-
--- what a run tells of its way
-pub has_gone : {O E : Type 0} (picks : Picks O) (library : List Stored) (s : Premises) (old new : Work O) (r : Result (Run × ℕ) E) → IfOk r (λ x. Turns picks library s old.cells old.line old.order x.1 new.cells new.line new.order) → IfOk r (λ x. IfClash x.0 (IsClash s new.cells)) →
-    IfOk r (λ x. x.0 ≡ Spent → 0 < length new.line) → IfOk r (λ x. HasGone picks library s old new x.0 x.1)
-has_gone picks library s old new (Err x) turns clash left = tt
-has_gone picks library s old new (Ok (end, n)) turns clash left = record { turns = turns; clash = clash; left = left }
 
 -- a refusal is no text
 pub earns_refused : {O : Type 0} (picks : Picks O) (library : List Stored) (s : State) (old new : Work O) (read : Result (Option Command) Refusal) (refusal : Refusal) (steps : ℕ) → Earns picks library s old new read (Refused refusal) steps
@@ -40,10 +30,11 @@ pub earns_none : {O : Type 0} (picks : Picks O) (library : List Stored) (s : Sta
 earns_none picks library s old new read answer steps e = rw e (earns_refused picks library s old new read Memory steps)
 
 -- what was said after a run is earned
-pub earns : {O : Type 0} (picks : Picks O) (library : List Stored) (s : State) (old new : Work O) (question : Question) (end : Run) (steps : ℕ) (answer : Answer) → HasGone picks library (worldview_of s) old new end steps →
-    MaySay library s (command_of question) (outcome_of end) steps answer → Earns picks library s old new (Ok (Some (command_of question))) answer steps
-earns picks library s old new question end steps answer gone (inr m) = earns_none picks library s old new (Ok (Some (command_of question))) answer steps m
-earns picks library s old new Settle end steps answer gone (inl (text, replies, e)) = rw e (record { end = end; gone = gone; replies = replies })
-earns picks library s old new Worldview end steps answer gone (inl (text, replies, e)) = rw e (record { end = end; gone = gone; replies = replies })
-earns picks library s old new (Ask cell name) end steps answer gone (inl (text, replies, e)) = rw e (record { end = end; gone = gone; replies = replies })
-earns picks library s old new (Why cell name) end steps answer gone (inl (text, replies, e)) = rw e (record { end = end; gone = gone; replies = replies })
+pub earns : {O : Type 0} (picks : Picks O) (library : List Stored) (s : State) (old new : Work O) (question : Question) (end : Outcome) (steps : ℕ) (answer : Answer) → HasGone picks library s old new steps →
+    (end ≡ Unsettled → (0 < length new.line) ⊎ IsListRefuted (problem_in library s) (users_in s) (choices_in s) new.list) →
+    MaySay library s (command_of question) (outcome_of new.list end) steps answer → Earns picks library s old new (Ok (Some (command_of question))) answer steps
+earns picks library s old new question end steps answer went left (inr m) = earns_none picks library s old new (Ok (Some (command_of question))) answer steps m
+earns picks library s old new Settle end steps answer went left (inl (text, replies, e)) = rw e (record { end = end; gone = went; left = left; replies = replies })
+earns picks library s old new Worldview end steps answer went left (inl (text, replies, e)) = rw e (record { end = end; gone = went; left = left; replies = replies })
+earns picks library s old new (Ask cell name) end steps answer went left (inl (text, replies, e)) = rw e (record { end = end; gone = went; left = left; replies = replies })
+earns picks library s old new (Why cell name) end steps answer went left (inl (text, replies, e)) = rw e (record { end = end; gone = went; left = left; replies = replies })

@@ -41,8 +41,9 @@ keeps_no_comment w ts (inl e) = let h : 35 ≡ 100 = heads e in omega (arith, h)
 keeps_no_comment w ts (inr (inl e)) = let h : 35 ≡ 114 = heads e in omega (arith, h)
 keeps_no_comment w ts (inr (inr (inl e))) = let h : 35 ≡ 100 = heads e in omega (arith, h)
 keeps_no_comment w ts (inr (inr (inr (inl e)))) = let h : 35 ≡ 97 = heads e in omega (arith, h)
-keeps_no_comment w ts (inr (inr (inr (inr (inl e, more))))) = let h : 35 ≡ 102 = heads e in omega (arith, h)
-keeps_no_comment w ts (inr (inr (inr (inr (inr e, more))))) = let h : 35 ≡ 116 = heads e in omega (arith, h)
+keeps_no_comment w ts (inr (inr (inr (inr (inl e))))) = let h : 35 ≡ 99 = heads e in omega (arith, h)
+keeps_no_comment w ts (inr (inr (inr (inr (inr (inl e, more)))))) = let h : 35 ≡ 102 = heads e in omega (arith, h)
+keeps_no_comment w ts (inr (inr (inr (inr (inr (inr e, more)))))) = let h : 35 ≡ 116 = heads e in omega (arith, h)
 
 heard_words : (text : List ℕ) → KeepsWords (tokens text) → is_silent text ≡ true → ⊥
 heard_words text keeps h = by (silent_tokens text h)

@@ -7,12 +7,11 @@ use Rattle.prop_engine.specs.declared.reply.Reply.{Reply}
 use Rattle.prop_engine.specs.declared.reply.Reply.TheVariants as replies
 use Rattle.prop_engine.specs.Answers.{Answer, Refused, answer_of}
 use Rattle.prop_workbench.specs.Loading.{IsNoRefusal, Loads, StopsLoading}
-use Rattle.prop_workbench.specs.Machine.{State}
-use Rattle.prop_workbench.specs.Steps.{Step}
+use Rattle.prop_workbench.specs.Steps.{Shown, IsStepOf}
 
 -- one line more
-pub loads_more : (library : List Stored) (old mid new : State) (lines : List (List ℕ)) (line : List ℕ) (answer : Answer) (steps : ℕ) → Loads library old lines mid → IsNoRefusal answer → Step library mid line answer new steps → Loads library old (lines ++ line ∷ []) new
-loads_more library old mid new [] line answer steps e free step = (answer, new, steps, free, subst (λ (s : State). Step library s line answer new steps) e step, refl)
+pub loads_more : (library : List Stored) (old mid new : Shown) (lines : List (List ℕ)) (line : List ℕ) (answer : Answer) (steps : ℕ) → Loads library old lines mid → IsNoRefusal answer → IsStepOf library mid line answer new steps → Loads library old (lines ++ line ∷ []) new
+loads_more library old mid new [] line answer steps e free step = (answer, new, steps, free, subst (λ (s : Shown). IsStepOf library s line answer new steps) e step, refl)
 loads_more library old mid new (first ∷ lines) line answer steps (a, m, n, f, s, rest) free step =
     (a, m, n, f, s, loads_more library m mid new lines line answer steps rest free step)
 
@@ -24,14 +23,14 @@ no_refusal (replies.Text text) h = tt
 no_refusal (replies.Refused refusal) h = h refusal refl
 
 -- one line more of a list
-pub loads_next : (library : List Stored) (old mid new : State) (lines : List (List ℕ)) (i : ℕ) (line : List ℕ) (answer : Answer) (steps : ℕ) → i < length lines → line ≡ get_or lines i [] → Loads library old (take i lines) mid → IsNoRefusal answer →
-    Step library mid line answer new steps → Loads library old (take (i + 1) lines) new
+pub loads_next : (library : List Stored) (old mid new : Shown) (lines : List (List ℕ)) (i : ℕ) (line : List ℕ) (answer : Answer) (steps : ℕ) → i < length lines → line ≡ get_or lines i [] → Loads library old (take i lines) mid → IsNoRefusal answer →
+    IsStepOf library mid line answer new steps → Loads library old (take (i + 1) lines) new
 loads_next library old mid new lines i line answer steps l at loaded free step =
     subst (λ (xs : List (List ℕ)). Loads library old xs new) ((λ j. take i lines ++ at j ∷ []) ∙ sym (take_more lines i [] l)) (loads_more library old mid new (take i lines) line answer steps loaded free step)
 
 -- the first line that is refused
-pub stops_at : (library : List Stored) (old mid new : State) (lines : List (List ℕ)) (i : ℕ) (line : List ℕ) (refusal : Refusal) (steps : ℕ) → i < length lines → line ≡ get_or lines i [] → Loads library old (take i lines) mid →
-    Step library mid line (Refused refusal) new steps → StopsLoading library old lines refusal new
+pub stops_at : (library : List Stored) (old mid new : Shown) (lines : List (List ℕ)) (i : ℕ) (line : List ℕ) (refusal : Refusal) (steps : ℕ) → i < length lines → line ≡ get_or lines i [] → Loads library old (take i lines) mid →
+    IsStepOf library mid line (Refused refusal) new steps → StopsLoading library old lines refusal new
 stops_at library old mid new lines i line refusal steps l at loaded step = (
   take i lines,
   drop (i + 1) lines,

@@ -7,54 +7,66 @@ use Rattle.prop_lattice.specs.Points.{Point, Holds}
 use Rattle.prop_procedures.specs.declared.shape.Param.{Param}
 use Rattle.prop_procedures.specs.Stored.{Stored}
 use Rattle.prop_cells.specs.Problems.{Entails}
-use Rattle.prop_cells.specs.Reach.{IsConflict}
+use Rattle.prop_premises.specs.Origins.{IsNumbered}
+use Rattle.prop_premises.specs.ChoiceLists.{worldview}
+use Rattle.prop_amb.proofs.RefutedLaws.{believed_refutes}
 use Rattle.prop_cells.specs.Points.{AreSoundBy, AreFitting}
 use Rattle.prop_cells.proofs.PointLaws.{entailed_holds, points_consistent}
 use Rattle.prop_premises.specs.Sets.{set_of, IsPart}
 use Rattle.prop_language.specs.Commands as commands
 use Rattle.prop_language.specs.Commands.{Command}
 use Rattle.prop_engine.specs.Answers.{Answer, Text, Refused}
-use Rattle.prop_workbench.specs.Machine.{State, problem_in, worldview_of}
+use Rattle.prop_workbench.specs.Machine.{State, problem_in, users_in, choices_in, worldview_at}
 use Rattle.prop_workbench.specs.Points.{attached_in, Satisfy, SaysPoint, AreRefuted, BearsOut, HoldsPoints}
 use Rattle.prop_workbench.specs.Refusing.{refusal_of}
-use Rattle.prop_workbench.specs.Running.{Outcome, Settled, Unsettled, Contradiction, MayEnd, IsValue, IsValueReply, IsExplainedReply, Replies}
+use Rattle.prop_workbench.specs.Running.{Outcome, Settled, Unsettled, Contradiction, MayEnd, Contradicts, IsSettledValue, IsUnsettledValue, IsValueReply, IsExplainedReply, Replies}
 use Rattle.prop_workbench.specs.Steps.{Runs, Obeys, CarriesUnless, Follows, Step}
 use Rattle.prop_texts.specs.Texts.{because, contradiction_text}
+use Rattle.prop_workbench.proofs.AgreeLaws.{believed_is_user}
 
-module _ (library : List Stored) (related : ℕ → Param → List Point → Point → Type 0) (sound : AreSoundBy library related) (s : State) (fit : AreFitting library (attached_in s)) where
+module _ (library : List Stored) (related : ℕ → Param → List Point → Point → Type 0) (sound : AreSoundBy library related) (s : State) (fit : AreFitting library (attached_in s)) (numbered : IsNumbered s.premises) where
   -- what the answer says of points
   abbrev Bears : Command → List ℕ → Type 0
-  Bears command text = ((ps : List ℕ) × (text ≡ contradiction_text s.premises ps) × IsPart (set_of ps) (worldview_of s) × AreRefuted related s ps) ⊎ ((points : ℕ → Point) → Satisfy related s points → BearsOut s points command text)
+  Bears command text = ((ps : List ℕ) × (text ≡ contradiction_text s.premises ps) × IsPart (set_of ps) (users_in s) × AreRefuted related s ps) ⊎ ((list : List ℕ) × ((points : ℕ → Point) → Satisfy related s list points → BearsOut s list points command text))
 
-  -- premises in conflict are refuted
-  refuted : (ps : List ℕ) → IsConflict (problem_in library s) (worldview_of s) (set_of ps) → AreRefuted related s ps
-  refuted ps c = λ points p. c.contradictory (points_consistent library related sound (attached_in s) (set_of ps) points fit p)
+  -- no points satisfy what is contradicted, with any side of each choice
+  refuted : (ps : List ℕ) → Contradicts library s ps → AreRefuted related s ps
+  refuted ps c list is_list points p =
+      believed_refutes (problem_in library s) (choices_in s) (set_of ps) (set_of ps) (λ q h. numbered.users q (believed_is_user s.premises q (c.believes q h))) (λ q h. h) c.refuted list is_list
+      (points_consistent library related sound (attached_in s) (worldview (set_of ps) (choices_in s) list) points fit p)
 
-  module _ (points : ℕ → Point) (p : Satisfy related s points) where
-    holds : (cell : ℕ) (v : Info) → Entails (problem_in library s) (worldview_of s) cell v → Holds v (points cell)
-    holds cell v e = entailed_holds library related sound (attached_in s) (worldview_of s) points fit p cell v e
+  module _ (list : List ℕ) (points : ℕ → Point) (p : Satisfy related s list points) where
+    holds : (cell : ℕ) (v : Info) → Entails (problem_in library s) (worldview_at s list) cell v → Holds v (points cell)
+    holds cell v e = entailed_holds library related sound (attached_in s) (worldview_at s list) points fit p cell v e
 
-    value_holds : (outcome : Outcome) (cell : ℕ) (v : Info) → IsValue library s outcome cell v → Holds v (points cell)
-    value_holds Settled cell v x = holds cell v (rw x.value (x.rest.least.least cell))
-    value_holds Unsettled cell v x = holds cell v x.entailed
-    value_holds (Contradiction ps) cell v x = absurd x
+    settled_holds : (cell : ℕ) (v : Info) → IsSettledValue library s list cell v → Holds v (points cell)
+    settled_holds cell v x = holds cell v (rw x.value (x.rest.least.least cell))
 
-    said : (outcome : Outcome) (name mark text : List ℕ) → IsValueReply library s outcome name mark text → SaysPoint s points name mark text
-    said outcome name mark text r = record { cell = r.cell; cell_is = r.cell_is; v = r.v; holds = value_holds outcome r.cell r.v r.value; text_is = r.text_is }
+    unsettled_holds : (cell : ℕ) (v : Info) → IsUnsettledValue library s list cell v → Holds v (points cell)
+    unsettled_holds cell v x = holds cell v x.entailed
 
-    explained : (outcome : Outcome) (name mark text : List ℕ) (r : IsExplainedReply library s outcome name mark text) → SaysPoint s points name (because s.premises mark r.premises) text
-    explained outcome name mark text r = record { cell = r.cell; cell_is = r.cell_is; v = r.v; holds = value_holds outcome r.cell r.v r.value; text_is = r.text_is }
+    said : (name mark text : List ℕ) → IsValueReply library s (Settled list) name mark text → SaysPoint s points name mark text
+    said name mark text r = record { cell = r.cell; cell_is = r.cell_is; v = r.v; holds = settled_holds r.cell r.v r.value; text_is = r.text_is }
+
+    said_so_far : (name mark text : List ℕ) → IsValueReply library s (Unsettled list) name mark text → SaysPoint s points name mark text
+    said_so_far name mark text r = record { cell = r.cell; cell_is = r.cell_is; v = r.v; holds = unsettled_holds r.cell r.v r.value; text_is = r.text_is }
+
+    explained : (name mark text : List ℕ) (r : IsExplainedReply library s (Settled list) name mark text) → SaysPoint s points name (because s.premises mark r.premises) text
+    explained name mark text r = record { cell = r.cell; cell_is = r.cell_is; v = r.v; holds = settled_holds r.cell r.v r.value; text_is = r.text_is }
+
+    explained_so_far : (name mark text : List ℕ) (r : IsExplainedReply library s (Unsettled list) name mark text) → SaysPoint s points name (because s.premises mark r.premises) text
+    explained_so_far name mark text r = record { cell = r.cell; cell_is = r.cell_is; v = r.v; holds = unsettled_holds r.cell r.v r.value; text_is = r.text_is }
 
   replied : (command : Command) (outcome : Outcome) (steps : ℕ) (text : List ℕ) → MayEnd library s outcome → Replies library s command outcome steps text → Bears command text
-  replied command (Contradiction ps) steps text ends r = inl (ps, r.1, ends.part, refuted ps ends)
-  replied commands.Command.Settle Settled steps text ends r = inr (λ points p. inl r)
-  replied commands.Command.Settle Unsettled steps text ends r = inr (λ points p. inr r.0)
-  replied (commands.Command.Ask x) Settled steps text ends r = inr (λ points p. inl (said points p Settled x [] text r))
-  replied (commands.Command.Ask x) Unsettled steps text ends r = inr (λ points p. inr (said points p Unsettled x (codes " unsettled") text r.0))
-  replied (commands.Command.Why x) Settled steps text ends r = inr (λ points p. (r.premises, inl (explained points p Settled x [] text r)))
-  replied (commands.Command.Why x) Unsettled steps text ends r = inr (λ points p. (r.0.premises, inr (explained points p Unsettled x (codes " unsettled") text r.0)))
-  replied commands.Command.Worldview Settled steps text ends r = inr (λ points p. inl r)
-  replied commands.Command.Worldview Unsettled steps text ends r = inr (λ points p. inr r.0)
+  replied command (Contradiction ps) steps text ends r = inl (ps, r.1, ends.believes, refuted ps ends)
+  replied commands.Command.Settle (Settled l) steps text ends r = inr (l, λ points p. inl r)
+  replied commands.Command.Settle (Unsettled l) steps text ends r = inr (l, λ points p. inr r.0)
+  replied (commands.Command.Ask x) (Settled l) steps text ends r = inr (l, λ points p. inl (said l points p x [] text r))
+  replied (commands.Command.Ask x) (Unsettled l) steps text ends r = inr (l, λ points p. inr (said_so_far l points p x (codes " unsettled") text r.0))
+  replied (commands.Command.Why x) (Settled l) steps text ends r = inr (l, λ points p. (r.premises, inl (explained l points p x [] text r)))
+  replied (commands.Command.Why x) (Unsettled l) steps text ends r = inr (l, λ points p. (r.0.premises, inr (explained_so_far l points p x (codes " unsettled") text r.0)))
+  replied commands.Command.Worldview (Settled l) steps text ends r = inr (l, λ points p. inl r)
+  replied commands.Command.Worldview (Unsettled l) steps text ends r = inr (l, λ points p. inr r.0)
   replied command outcome steps text ends r = search rules
 
   ran : (command : Command) (answer : Answer) (new : State) (steps : ℕ) (text : List ℕ) → Runs library s command answer new steps → answer ≡ Text text → Bears command text
@@ -69,23 +81,25 @@ module _ (library : List Stored) (related : ℕ → Param → List Point → Poi
   carried None (commands.Command.Ask x) answer new steps text r e = ran (commands.Command.Ask x) answer new steps text r e
   carried None (commands.Command.Why x) answer new steps text r e = ran (commands.Command.Why x) answer new steps text r e
   carried None commands.Command.Worldview answer new steps text r e = ran commands.Command.Worldview answer new steps text r e
-  carried None (commands.Command.Domain name elements) answer new steps text r e = inr (λ points p. tt)
-  carried None (commands.Command.Relation name from to pairs) answer new steps text r e = inr (λ points p. tt)
-  carried None (commands.Command.Cell name kind) answer new steps text r e = inr (λ points p. tt)
-  carried None (commands.Command.Define name params steps_said) answer new steps text r e = inr (λ points p. tt)
-  carried None (commands.Command.Attach name cells by) answer new steps text r e = inr (λ points p. tt)
-  carried None (commands.Command.Fix cell value) answer new steps text r e = inr (λ points p. tt)
-  carried None (commands.Command.Tell premise cell value) answer new steps text r e = inr (λ points p. tt)
-  carried None (commands.Command.Kick premise) answer new steps text r e = inr (λ points p. tt)
-  carried None (commands.Command.Bring premise) answer new steps text r e = inr (λ points p. tt)
-  carried None (commands.Command.Limit n) answer new steps text r e = inr (λ points p. tt)
+  carried None (commands.Command.Domain name elements) answer new steps text r e = inr ([], λ points p. tt)
+  carried None (commands.Command.Relation name from to pairs) answer new steps text r e = inr ([], λ points p. tt)
+  carried None (commands.Command.Cell name kind) answer new steps text r e = inr ([], λ points p. tt)
+  carried None (commands.Command.Define name params steps_said) answer new steps text r e = inr ([], λ points p. tt)
+  carried None (commands.Command.Attach name cells by) answer new steps text r e = inr ([], λ points p. tt)
+  carried None (commands.Command.Fix cell value) answer new steps text r e = inr ([], λ points p. tt)
+  carried None (commands.Command.Tell premise cell value) answer new steps text r e = inr ([], λ points p. tt)
+  carried None (commands.Command.Choose name cell values) answer new steps text r e = inr ([], λ points p. tt)
+  carried None commands.Command.Nogoods answer new steps text r e = inr ([], λ points p. tt)
+  carried None (commands.Command.Kick premise) answer new steps text r e = inr ([], λ points p. tt)
+  carried None (commands.Command.Bring premise) answer new steps text r e = inr ([], λ points p. tt)
+  carried None (commands.Command.Limit n) answer new steps text r e = inr ([], λ points p. tt)
 
   obeyed : (command : Command) (answer : Answer) (new : State) (steps : ℕ) (text : List ℕ) → Obeys library s command answer new steps → answer ≡ Text text → Bears command text
   obeyed command answer new steps text (inl c) e = carried (refusal_of library s command) command answer new steps text c e
   obeyed command answer new steps text (inr l) e = let f : Refused Memory ≡ Text text = sym l.answer_is ∙ e in cc
 
 -- what a step answers says of points no more than is so
-pub step_holds_points : (library : List Stored) (related : ℕ → Param → List Point → Point → Type 0) → AreSoundBy library related → (old : State) → AreFitting library (attached_in old) → (line : List ℕ) (answer : Answer) (new : State) (steps : ℕ) → Step library old line answer new steps → HoldsPoints related old line answer
-step_holds_points library related sound old fit line answer new steps step command text read e =
+pub step_holds_points : (library : List Stored) (related : ℕ → Param → List Point → Point → Type 0) → AreSoundBy library related → (old : State) → AreFitting library (attached_in old) → IsNumbered old.premises → (line : List ℕ) (answer : Answer) (new : State) (steps : ℕ) → Step library old line answer new steps → HoldsPoints related old line answer
+step_holds_points library related sound old fit numbered line answer new steps step command text read e =
     let follows : Follows library old (Ok (Some command)) answer new steps = subst (λ (r : Result (Option Command) Refusal). Follows library old r answer new steps) read step in
-    obeyed library related sound old fit command answer new steps text follows e
+    obeyed library related sound old fit numbered command answer new steps text follows e

@@ -1,6 +1,5 @@
 -- Which premises are known, and what changes where one is new, believed or no longer believed.
-use Rattle.std.proofs.Common.{◌≡◌, ◌∙◌, ℕ, zero, suc, ◌<◌, ◌||◌, Bool, true, false, not, IsTrue, List, [], ◌∷◌, ◌++◌, Some, None, All, Contains, length, take, get_or, ◌≤◌, ◌==◌, refl, sym, ap, arith}
-use mathlib.Core.Bool.{beq}
+use Rattle.std.proofs.Common.{◌≡◌, ◌∙◌, ℕ, ◌<◌, ◌||◌, Bool, true, false, IsTrue, List, [], ◌∷◌, ◌++◌, Some, None, All, Contains, length, take, get_or, ◌≤◌, ◌==◌, refl, ap, arith}
 use Rattle.std.proofs.lemmas.Bool.{eq-eqb}
 use Rattle.std.proofs.lemmas.List.Folds.{list_any_at}
 use Rattle.std.proofs.lemmas.List.Quantifiers.{position-Some}
@@ -8,7 +7,7 @@ use Rattle.std.proofs.lemmas.List.Elements.{All-contains, All-weaker, All-push}
 use Rattle.prop_lattice.specs.declared.info.Info.TheVariants.{Nothing}
 use Rattle.prop_lattice.specs.Order.{merge_of}
 use Rattle.prop_premises.specs.Sets.{Members, set_of, is_within, IsSame}
-use Rattle.prop_premises.specs.Origins.{Origin, User, Side, believed_in, is_user_called, is_user_at, with_belief_at, with_name, premise_number}
+use Rattle.prop_premises.specs.Origins.{Origin, User, is_user_called, with_name, premise_number}
 use Rattle.prop_tms.specs.Beliefs.{merge_of_all, believed_of}
 use Rattle.prop_tms.proofs.KeptLemmas.{contains_here, contains_there}
 use Rattle.prop_procedures.specs.Stored.{Stored}
@@ -32,7 +31,7 @@ related_known problem n cell s known related p h =
     let x = reach_stated problem p cell (related p h) in
     All-contains (λ y. (q : ℕ) → y.premise ≡ Some q → q < n) problem.statements x.0 known x.1 p x.2
 
-set_has : (ps : List ℕ) (k d : ℕ) → k < length ps → set_of ps (get_or ps k d) ≡ true
+pub set_has : (ps : List ℕ) (k d : ℕ) → k < length ps → set_of ps (get_or ps k d) ≡ true
 set_has ps k d l = list_any_at (λ q. q == get_or ps k d) ps k d l (eq-eqb (get_or ps k d) (get_or ps k d) refl)
 
 pub support_known : (problem : Problem) (n cell : ℕ) (support : List ℕ) → AreKnown n problem.statements → IsRelatedAt problem cell (set_of support) → All (λ p. p < n) support
@@ -70,44 +69,9 @@ agree_beliefs library d n s t kept known agree = λ i cell. merge_of_all Nothing
     at cell = agree_believed s t (content_of d.contents cell) (λ e c. agree_within s t e.support (λ p h.
         agree p (related_known (problem_of library d) n cell (set_of e.support) known (All-contains (IsFounded (problem_of library d) cell) (content_of d.contents cell) e (kept.founded cell) c).related p h)))
 
-believed_push : (os : List Origin) (o : Origin) (p : ℕ) → p < length os → believed_in (os ++ o ∷ []) p ≡ believed_in os p
-believed_push [] o p l = absurd (omega (arith, l))
-believed_push (x ∷ os) o zero l = refl
-believed_push (x ∷ os) o (suc p) l = believed_push os o p (omega (arith, l))
-
--- a new premise changes nothing that is believed of a cell
-pub under_way_new : (library : List Stored) (d : Data) (line : List ℕ) (premises : List Origin) (o : Origin) → AreKnown (length premises) d.statements → IsUnderWay library (believed_in premises) d line →
-    IsUnderWay library (believed_in (premises ++ o ∷ [])) d line
-under_way_new library d line premises o known u =
-    under_way_believed library (believed_in premises) (believed_in (premises ++ o ∷ [])) d line
-    (agree_beliefs library d (length premises) (believed_in premises) (believed_in (premises ++ o ∷ [])) u.kept known (believed_push premises o)) u
-
--- ---- beliefs that change
-
-pub length-with_belief_at : (os : List Origin) (p : ℕ) (b : Bool) → length (with_belief_at os p b) ≡ length os
-length-with_belief_at [] p b = refl
-length-with_belief_at (o ∷ os) zero b = refl
-length-with_belief_at (o ∷ os) (suc p) b = ap suc (length-with_belief_at os p b)
-
--- a belief that is so already
-pub with_belief_same : (os : List Origin) (p : ℕ) (b : Bool) → IsTrue (is_user_at os p) → believed_in os p ≡ b → with_belief_at os p b ≡ os
-with_belief_same [] p b user e = cc
-with_belief_same (User name was ∷ os) zero b user e = ap (λ x. User name x ∷ os) (sym e)
-with_belief_same (Side choice side ∷ os) zero b user e = cc
-with_belief_same (o ∷ os) (suc p) b user e = ap (λ xs. o ∷ xs) (with_belief_same os p b user e)
-
--- a belief that changes back
-pub with_belief_back : (os : List Origin) (p : ℕ) (b c : Bool) → IsTrue (is_user_at os p) → believed_in os p ≡ c → with_belief_at (with_belief_at os p b) p c ≡ os
-with_belief_back [] p b c user e = cc
-with_belief_back (User name was ∷ os) zero b c user e = ap (λ x. User name x ∷ os) (sym e)
-with_belief_back (Side choice side ∷ os) zero b c user e = cc
-with_belief_back (o ∷ os) (suc p) b c user e = ap (λ xs. o ∷ xs) (with_belief_back os p b c user e)
-
-pub user_still : (os : List Origin) (p : ℕ) (b : Bool) → IsTrue (is_user_at os p) → IsTrue (is_user_at (with_belief_at os p b) p)
-user_still [] p b user = cc
-user_still (User name was ∷ os) zero b user = refl
-user_still (Side choice side ∷ os) zero b user = cc
-user_still (o ∷ os) (suc p) b user = user_still os p b user
+-- worldviews that agree on the known premises let a network be under way alike
+pub under_way_agree : (library : List Stored) (d : Data) (n : ℕ) (line : List ℕ) (s t : Premises) → AreKnown n d.statements → ((p : ℕ) → p < n → t p ≡ s p) → IsUnderWay library s d line → IsUnderWay library t d line
+under_way_agree library d n line s t known agree u = under_way_believed library s t d line (agree_beliefs library d n s t u.kept known agree) u
 
 -- ---- a new name, and without it
 
@@ -124,17 +88,3 @@ back_to os name n e none = ap (take n) (with_new_name os name none) ∙ ap (λ k
 -- a name that is there has a number below the length
 pub premise_below : (os : List Origin) (name : List ℕ) (n : ℕ) → premise_number os name ≡ Some n → n < length os
 premise_below os name n e = (position-Some (is_user_called name) os n (User [] true) e).0
-
--- ---- two tests
-
-pub beq_same : (a b : Bool) → beq a b ≡ true → a ≡ b
-beq_same true true e = refl
-beq_same true false e = cc
-beq_same false true e = cc
-beq_same false false e = refl
-
-pub beq_other : (a b : Bool) → beq a b ≡ false → a ≡ not b
-beq_other true true e = cc
-beq_other true false e = refl
-beq_other false true e = refl
-beq_other false false e = cc

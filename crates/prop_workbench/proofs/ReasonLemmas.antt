@@ -2,8 +2,9 @@
 use Rattle.std.proofs.Common.{◌≡◌, ◌∙◌, ◌⊎◌, ℕ, List, Option, Some, None, Result, Ok, Err, inl, inr, refl, sym}
 use Rattle.prop_lattice.specs.declared.info.Info.{Info}
 use Rattle.prop_lattice.specs.declared.refusal.Refusal.TheVariants.{Memory}
-use Rattle.prop_premises.specs.Origins.{Origin, believed_in}
-use Rattle.prop_cells.specs.Data.{Data, beliefs, IsLeanAt, IsClash}
+use Rattle.prop_premises.specs.Sets.{Members}
+use Rattle.prop_premises.specs.Origins.{Origin}
+use Rattle.prop_cells.specs.Data.{Data, beliefs, IsLeanAt}
 use Rattle.prop_vocabulary.specs.Vocabulary.{Vocabulary}
 use Rattle.prop_lattice.specs.declared.refusal.Refusal.{Refusal}
 use Rattle.prop_language.specs.Commands as commands
@@ -13,7 +14,7 @@ use Rattle.prop_workbench.specs.declared.asking.Question.{Question}
 use Rattle.prop_workbench.specs.declared.asking.Question.TheVariants.{Settle, Worldview, Ask, Why}
 use Rattle.prop_workbench.specs.Questions.{command_of}
 use Rattle.prop_workbench.specs.Machine.{State, text_at}
-use Rattle.prop_workbench.specs.Reasons.{IsLeanExplanation, IsLeanContradiction, IsLeanReply, IsLeanAnswer}
+use Rattle.prop_workbench.specs.Reasons.{IsLeanExplanation, IsContradiction, IsLeanReply, IsLeanAnswer}
 use Rattle.prop_workbench.specs.Sessions.{state_from}
 use Rattle.prop_texts.specs.Texts.{equation, because, contradiction_text}
 use Rattle.prop_vocabulary.specs.Cells.{CellNames}
@@ -24,49 +25,45 @@ pub the_text : (answer : Answer) (made text : List ℕ) → Says answer made →
 the_text answer made text (inl e) h = let same : Text made ≡ Text text = sym e ∙ h in cc
 the_text answer made text (inr m) h = let same : Refused Memory ≡ Text text = sym m ∙ h in cc
 
-pub lean_explained : (names : CellNames) (words : Vocabulary) (definitions : Definitions) (premises : List Origin) (d : Data) (limit cell : ℕ) (v : Info) (name mark support behind : List ℕ) (answer : Answer) → v ≡ beliefs (believed_in premises) d.contents cell →
-    IsLeanAt (believed_in premises) d.contents cell support → behind ≡ because premises mark support → Says answer (equation name (text_at (state_from names words definitions premises d limit) cell v) behind) → (text : List ℕ) → answer ≡ Text text → IsLeanExplanation d (state_from names words definitions premises d limit) cell name mark text
-lean_explained names words definitions premises d limit cell v name mark support behind answer is_v lean is_text says text e = record {
+pub lean_explained : (believed : Members) (names : CellNames) (words : Vocabulary) (definitions : Definitions) (premises : List Origin) (d : Data) (limit cell : ℕ) (v : Info) (name mark support behind : List ℕ) (answer : Answer) → v ≡ beliefs believed d.contents cell →
+    IsLeanAt believed d.contents cell support → behind ≡ because premises mark support → Says answer (equation name (text_at (state_from names words definitions premises d limit) cell v) behind) → (text : List ℕ) → answer ≡ Text text → IsLeanExplanation believed d (state_from names words definitions premises d limit) cell name mark text
+lean_explained believed names words definitions premises d limit cell v name mark support behind answer is_v lean is_text says text e = record {
   premises = support;
   lean = lean;
   text_is = the_text answer (equation name (text_at (state_from names words definitions premises d limit) cell v) behind) text says e ∙ (λ i. equation name (text_at (state_from names words definitions premises d limit) cell (is_v i)) (is_text i));
 }
 
-pub lean_contradiction : (d : Data) (s : State) (support : List ℕ) (answer : Answer) → IsClash (believed_in s.premises) d support → Says answer (contradiction_text s.premises support) → (text : List ℕ) → answer ≡ Text text → IsLeanContradiction d s text
-lean_contradiction d s support answer clash says text e = record {
-  premises = support;
-  clash = clash;
-  text_is = the_text answer (contradiction_text s.premises support) text says e;
-}
+pub contradiction_said : (s : State) (support : List ℕ) (answer : Answer) → Says answer (contradiction_text s.premises support) → (text : List ℕ) → answer ≡ Text text → IsContradiction s text
+contradiction_said s support answer says text e = (support, the_text answer (contradiction_text s.premises support) text says e)
 
 -- ---- to each question
 
 -- what a text of an explanation is lean by, its answer is
-pub lean_answer : (d : Data) (s : State) (name : List ℕ) (answer : Answer) → ((text : List ℕ) → answer ≡ Text text → IsLeanReply d s name text) → IsLeanAnswer d s (Ok (Some (commands.Command.Why name))) answer
-lean_answer d s name Silent lean = tt
-lean_answer d s name Done lean = tt
-lean_answer d s name (Text text) lean = lean text refl
-lean_answer d s name (Refused refusal) lean = tt
+pub lean_answer : (believed : Members) (d : Data) (s : State) (name : List ℕ) (answer : Answer) → ((text : List ℕ) → answer ≡ Text text → IsLeanReply believed d s name text) → IsLeanAnswer believed d s (Ok (Some (commands.Command.Why name))) answer
+lean_answer believed d s name Silent lean = tt
+lean_answer believed d s name Done lean = tt
+lean_answer believed d s name (Text text) lean = lean text refl
+lean_answer believed d s name (Refused refusal) lean = tt
 
-pub lean_refused : (d : Data) (s : State) (question : Question) (refusal : Refusal) → IsLeanAnswer d s (Ok (Some (command_of question))) (Refused refusal)
-lean_refused d s Settle refusal = tt
-lean_refused d s Worldview refusal = tt
-lean_refused d s (Ask cell name) refusal = tt
-lean_refused d s (Why cell name) refusal = tt
+pub lean_refused : (believed : Members) (d : Data) (s : State) (question : Question) (refusal : Refusal) → IsLeanAnswer believed d s (Ok (Some (command_of question))) (Refused refusal)
+lean_refused believed d s Settle refusal = tt
+lean_refused believed d s Worldview refusal = tt
+lean_refused believed d s (Ask cell name) refusal = tt
+lean_refused believed d s (Why cell name) refusal = tt
 
-pub lean_contradicted : (d : Data) (s : State) (question : Question) (answer : Answer) → ((text : List ℕ) → answer ≡ Text text → IsLeanContradiction d s text) → IsLeanAnswer d s (Ok (Some (command_of question))) answer
-lean_contradicted d s Settle answer lean = tt
-lean_contradicted d s Worldview answer lean = tt
-lean_contradicted d s (Ask cell name) answer lean = tt
-lean_contradicted d s (Why cell name) answer lean = lean_answer d s name.now answer (λ text e. inr (lean text e))
+pub lean_contradicted : (believed : Members) (d : Data) (s : State) (question : Question) (answer : Answer) → ((text : List ℕ) → answer ≡ Text text → IsContradiction s text) → IsLeanAnswer believed d s (Ok (Some (command_of question))) answer
+lean_contradicted believed d s Settle answer lean = tt
+lean_contradicted believed d s Worldview answer lean = tt
+lean_contradicted believed d s (Ask cell name) answer lean = tt
+lean_contradicted believed d s (Why cell name) answer lean = lean_answer believed d s name.now answer (λ text e. inr (lean text e))
 
-pub lean_bare : (d : Data) (s : State) (question : Question) (answer : Answer) → (question ≡ Settle) ⊎ (question ≡ Worldview) → IsLeanAnswer d s (Ok (Some (command_of question))) answer
-lean_bare d s question answer (inl e) = rw e tt
-lean_bare d s question answer (inr e) = rw e tt
+pub lean_bare : (believed : Members) (d : Data) (s : State) (question : Question) (answer : Answer) → (question ≡ Settle) ⊎ (question ≡ Worldview) → IsLeanAnswer believed d s (Ok (Some (command_of question))) answer
+lean_bare believed d s question answer (inl e) = rw e tt
+lean_bare believed d s question answer (inr e) = rw e tt
 
 -- a refusal explains nothing
-pub lean_read_refused : (d : Data) (s : State) (read : Result (Option Command) Refusal) (refusal : Refusal) → IsLeanAnswer d s read (Refused refusal)
-lean_read_refused d s (Err e) refusal = tt
-lean_read_refused d s (Ok None) refusal = tt
-lean_read_refused d s (Ok (Some (commands.Command.Why name))) refusal = tt
-lean_read_refused d s (Ok (Some command)) refusal = tt
+pub lean_read_refused : (believed : Members) (d : Data) (s : State) (read : Result (Option Command) Refusal) (refusal : Refusal) → IsLeanAnswer believed d s read (Refused refusal)
+lean_read_refused believed d s (Err e) refusal = tt
+lean_read_refused believed d s (Ok None) refusal = tt
+lean_read_refused believed d s (Ok (Some (commands.Command.Why name))) refusal = tt
+lean_read_refused believed d s (Ok (Some command)) refusal = tt

@@ -81,6 +81,7 @@ cell_made library names names' words definitions premises d new limit name kind 
         statements = ap (λ (x : Data). x.statements) e i;
         instances = ap (λ (x : Data). x.instances) e i;
         limit = limit;
+        named = [];
       };
       no_steps = refl;
     })
@@ -96,6 +97,8 @@ same_if_memory None library old new (commands.Command.Define name params body) a
 same_if_memory None library old new (commands.Command.Attach name cells by) answer steps e r = let f : Refused Memory ≡ Done = sym e ∙ r.answer_is in cc
 same_if_memory None library old new (commands.Command.Fix cell value) answer steps e r = let f : Refused Memory ≡ Done = sym e ∙ r.answer_is in cc
 same_if_memory None library old new (commands.Command.Tell premise cell value) answer steps e r = let f : Refused Memory ≡ Done = sym e ∙ r.answer_is in cc
+same_if_memory None library old new (commands.Command.Choose name cell values) answer steps e r = let f : Refused Memory ≡ Done = sym e ∙ r.answer_is in cc
+same_if_memory None library old new commands.Command.Nogoods answer steps e r = let f : Refused Memory ≡ Text r.text = sym e ∙ r.answer_is in cc
 same_if_memory None library old new (commands.Command.Kick premise) answer steps e r = let f : Refused Memory ≡ Done = sym e ∙ r.answer_is in cc
 same_if_memory None library old new (commands.Command.Bring premise) answer steps e r = let f : Refused Memory ≡ Done = sym e ∙ r.answer_is in cc
 same_if_memory None library old new (commands.Command.Limit n) answer steps e r = let f : Refused Memory ≡ Done = sym e ∙ r.answer_is in cc
@@ -127,7 +130,7 @@ none_within : (steps limit : ℕ) → steps ≡ 0 → steps ≤ limit
 none_within steps limit e = omega (arith, e)
 
 run_within : (library : List Stored) (old new : State) (command : Command) (answer : Answer) (steps : ℕ) → Runs library old command answer new steps → steps ≤ new.limit
-run_within library old new command answer steps r = rw r.same r.within
+run_within library old new command answer steps r = rw r.new_is r.within
 
 carried_within : (o : Option Refusal) (library : List Stored) (old new : State) (command : Command) (answer : Answer) (steps : ℕ) → CarriesUnless o library old command answer new steps → steps ≤ new.limit
 carried_within (Some refusal) library old new command answer steps r = none_within steps new.limit r.no_steps
@@ -138,6 +141,8 @@ carried_within None library old new (commands.Command.Define name params body) a
 carried_within None library old new (commands.Command.Attach name cells by) answer steps r = none_within steps new.limit r.no_steps
 carried_within None library old new (commands.Command.Fix cell value) answer steps r = none_within steps new.limit r.no_steps
 carried_within None library old new (commands.Command.Tell premise cell value) answer steps r = none_within steps new.limit r.no_steps
+carried_within None library old new (commands.Command.Choose name cell values) answer steps r = none_within steps new.limit r.no_steps
+carried_within None library old new commands.Command.Nogoods answer steps r = none_within steps new.limit r.no_steps
 carried_within None library old new (commands.Command.Kick premise) answer steps r = none_within steps new.limit r.no_steps
 carried_within None library old new (commands.Command.Bring premise) answer steps r = none_within steps new.limit r.no_steps
 carried_within None library old new (commands.Command.Limit n) answer steps r = none_within steps new.limit r.no_steps

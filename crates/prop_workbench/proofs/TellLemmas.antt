@@ -63,6 +63,7 @@ told_state names words definitions premises premises' with_it d new limit given 
   statements = (ap (λ (x : Data). x.statements) rest ∙ ap (λ p. d.statements ++ record { premise = Some p; cell = cell; info = info } ∷ []) numbered) i;
   instances = (rest i).instances;
   limit = limit;
+  named = [];
 }
 
 -- a statement under a name that a premise has, and under a new name

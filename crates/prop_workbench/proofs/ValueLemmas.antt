@@ -11,7 +11,7 @@ use Rattle.prop_lattice.specs.declared.info.Info.TheVariants.{Nothing}
 use Rattle.prop_lattice.specs.declared.info.Kind.{Kind}
 use Rattle.prop_lattice.specs.declared.info.Kind.TheVariants as kinds
 use Rattle.prop_lattice.specs.declared.refusal.Refusal.{Refusal}
-use Rattle.prop_lattice.specs.declared.refusal.Refusal.TheVariants.{NotAName, NotANumber, NoSuchCell, WrongKind, NotInTheDomain, EmptyValue, LimitReached, Memory}
+use Rattle.prop_lattice.specs.declared.refusal.Refusal.TheVariants.{NotAName, NotANumber, NoSuchCell, WrongKind, NotInTheDomain, EmptyValue, IsAChoice, LimitReached, Memory}
 use Rattle.prop_lattice.specs.declared.refusal.Limit.TheVariants.{Statements}
 use Rattle.prop_lattice.specs.Ends.{AreEnds, AreSome, ends_or_not, some_or_not, span_if, span_from, elements_if, elements_from}
 use Rattle.prop_lattice.specs.Refusals.{most}
@@ -33,18 +33,18 @@ use Rattle.prop_language.specs.Names.{whole_number, is_name, is_among}
 use Rattle.prop_values.specs.Values.{Meant, Known, Name, known, value_said, span_value, set_value, bits_named, ends_value, bounded_number, halves}
 use Rattle.prop_vocabulary.specs.Texts.{elements_of_kind}
 use Rattle.prop_workbench.specs.Machine.{State}
-use Rattle.prop_workbench.specs.Refusing.{refusal_of, telling_limit, stating_limit, stating_limit_at, meaning_at, is_error}
+use Rattle.prop_workbench.specs.Refusing.{refusal_of, telling_limit, stating_limit, stating_limit_at, meaning_at, is_error, is_choice_told, with_meant}
 use Rattle.prop_vocabulary.specs.Refusing.{first_of, when}
 use Rattle.prop_engine.specs.Answers.{Done, answer_done}
 use Rattle.prop_workbench.specs.Steps.{Obeys, Carries}
-use Rattle.prop_workbench.specs.Effects.{stated, stating, meant_at, words_at, info_at, with_meant, info_meant, MayMean}
+use Rattle.prop_workbench.specs.Effects.{stated, stating, meant_at, words_at, info_at, info_meant, MayMean}
 use Rattle.prop_workbench.proofs.StepLemmas.{first_of-one, obeys, refuses_or_lacks}
 use Rattle.prop_vocabulary.specs.Cells.{cell_named}
 
 -- ---- the refusals of values
 
 -- the reasons for which a value is refused
-data IsValueRefusal : Refusal → Type 0 where
+pub data IsValueRefusal : Refusal → Type 0 where
   no_name : IsValueRefusal NotAName
   no_number : IsValueRefusal NotANumber
   wrong_kind : IsValueRefusal WrongKind
@@ -80,7 +80,7 @@ symbol_refused : (t : Bool) (word : List ℕ) (e : Refusal) → cond t (Ok (Name
 symbol_refused true word e h = cc
 symbol_refused false word e h = let same : NotAName ≡ e = cc in subst IsValueRefusal same no_name
 
-value_refusal : (kind : Kind) (names : List (List ℕ)) (value : Value) (e : Refusal) → value_said kind names value ≡ Err e → IsValueRefusal e
+pub value_refusal : (kind : Kind) (names : List (List ℕ)) (value : Value) (e : Refusal) → value_said kind names value ≡ Err e → IsValueRefusal e
 value_refusal kinds.Span names (Bare word) e h = span_refusal (halves word) e (known_refusal (span_value (halves word)) e h)
 value_refusal kinds.Span names (Braces words) e h = let same : WrongKind ≡ e = cc in subst IsValueRefusal same wrong_kind
 value_refusal (kinds.Set d) names (Bare word) e h = set_refusal names (word ∷ []) e (known_refusal (set_value names (word ∷ [])) e h)
@@ -214,36 +214,43 @@ value_may_be k names value meant same few h = by k.kind refl value meant h
 -- ---- the refusal of a statement
 
 -- the rows of the refusals that a statement can meet
-abbrev value_rows : Option (Result Meant Refusal) → Option ℕ → Option Refusal → Option Refusal
-value_rows said cell limit =
+abbrev value_rows : Option (Result Meant Refusal) → Option ℕ → Bool → Option Refusal → Option Refusal
+value_rows said cell choice limit =
     first_of (when NotAName (option_map_or (is_error NotAName) said false) ∷ when NotANumber (option_map_or (is_error NotANumber) said false) ∷ None ∷ None ∷ when NoSuchCell (is_none cell || false) ∷ None
-    ∷ when WrongKind (option_map_or (is_error WrongKind) said false) ∷ when NotInTheDomain (option_map_or (is_error NotInTheDomain) said false) ∷ when EmptyValue (option_map_or (is_error EmptyValue) said false) ∷ limit ∷ [])
+    ∷ when WrongKind (option_map_or (is_error WrongKind) said false) ∷ when NotInTheDomain (option_map_or (is_error NotInTheDomain) said false) ∷ when EmptyValue (option_map_or (is_error EmptyValue) said false) ∷ when IsAChoice choice ∷ limit ∷ [])
 
 by_rows : (library : List Stored) (s : State) (premise : Option (List ℕ)) (name : List ℕ) (value : Value) (cell : ℕ) → cell_named s.names name ≡ Some cell →
-    refusal_of library s (stating premise name value) ≡ value_rows (Some (meaning_at s.words (kind_at s.kinds cell).kind value)) (Some cell) (stating_limit_at s premise (Some (meaning_at s.words (kind_at s.kinds cell).kind value)))
+    refusal_of library s (stating premise name value) ≡ value_rows (Some (meaning_at s.words (kind_at s.kinds cell).kind value)) (Some cell) (is_choice_told s premise) (stating_limit_at s premise (Some (meaning_at s.words (kind_at s.kinds cell).kind value)))
 by_rows library s None name value cell found = rw found refl
 by_rows library s (Some premise) name value cell found = rw found refl
 
-error_rows : (e : Refusal) (cell : ℕ) (limit : Option Refusal) → IsValueRefusal e → value_rows (Some (Err e)) (Some cell) limit ≡ Some e
-error_rows e cell limit no_name = refl
-error_rows e cell limit no_number = refl
-error_rows e cell limit wrong_kind = refl
-error_rows e cell limit outside = refl
-error_rows e cell limit empty = refl
+error_rows : (e : Refusal) (cell : ℕ) (choice : Bool) (limit : Option Refusal) → IsValueRefusal e → value_rows (Some (Err e)) (Some cell) choice limit ≡ Some e
+error_rows e cell choice limit no_name = refl
+error_rows e cell choice limit no_number = refl
+error_rows e cell choice limit wrong_kind = refl
+error_rows e cell choice limit outside = refl
+error_rows e cell choice limit empty = refl
 
 -- a value that is refused is refused first
 pub value_refused : (library : List Stored) (s : State) (premise : Option (List ℕ)) (name : List ℕ) (value : Value) (cell : ℕ) (e : Refusal) → cell_named s.names name ≡ Some cell → meaning_at s.words (kind_at s.kinds cell).kind value ≡ Err e →
     refusal_of library s (stating premise name value) ≡ Some e
 value_refused library s premise name value cell e found said =
-    by_rows library s premise name value cell found ∙ ap (λ (r : Result Meant Refusal). value_rows (Some r) (Some cell) (stating_limit_at s premise (Some r))) said
-    ∙ error_rows e cell None (value_refusal (kind_at s.kinds cell).kind (elements_of_kind s.words (kind_at s.kinds cell).kind) value e said)
+    by_rows library s premise name value cell found ∙ ap (λ (r : Result Meant Refusal). value_rows (Some r) (Some cell) (is_choice_told s premise) (stating_limit_at s premise (Some r))) said
+    ∙ error_rows e cell (is_choice_told s premise) None (value_refusal (kind_at s.kinds cell).kind (elements_of_kind s.words (kind_at s.kinds cell).kind) value e said)
+
+-- then a choice's name, where a premise is asked for
+pub choice_told : (library : List Stored) (s : State) (premise : Option (List ℕ)) (name : List ℕ) (value : Value) (cell : ℕ) (meant : Meant) → cell_named s.names name ≡ Some cell → meaning_at s.words (kind_at s.kinds cell).kind value ≡ Ok meant →
+    is_choice_told s premise ≡ true → refusal_of library s (stating premise name value) ≡ Some IsAChoice
+choice_told library s premise name value cell meant found said choice =
+    by_rows library s premise name value cell found ∙ ap (λ (r : Result Meant Refusal). value_rows (Some r) (Some cell) (is_choice_told s premise) (stating_limit_at s premise (Some r))) said
+    ∙ ap (λ (b : Bool). value_rows (Some (Ok meant)) (Some cell) b (stating_limit s premise meant)) choice
 
 -- and one that is not, for the limits alone
-pub value_limited : (library : List Stored) (s : State) (premise : Option (List ℕ)) (name : List ℕ) (value : Value) (cell : ℕ) (meant : Meant) → cell_named s.names name ≡ Some cell → meaning_at s.words (kind_at s.kinds cell).kind value ≡ Ok meant →
+pub value_limited : (library : List Stored) (s : State) (premise : Option (List ℕ)) (name : List ℕ) (value : Value) (cell : ℕ) (meant : Meant) → is_choice_told s premise ≡ false → cell_named s.names name ≡ Some cell → meaning_at s.words (kind_at s.kinds cell).kind value ≡ Ok meant →
     refusal_of library s (stating premise name value) ≡ stating_limit s premise meant
-value_limited library s premise name value cell meant found said =
-    by_rows library s premise name value cell found ∙ ap (λ (r : Result Meant Refusal). value_rows (Some r) (Some cell) (stating_limit_at s premise (Some r))) said
-    ∙ first_of-one (stating_limit s premise meant)
+value_limited library s premise name value cell meant free found said =
+    by_rows library s premise name value cell found ∙ ap (λ (r : Result Meant Refusal). value_rows (Some r) (Some cell) (is_choice_told s premise) (stating_limit_at s premise (Some r))) said
+    ∙ ap (λ (b : Bool). value_rows (Some (Ok meant)) (Some cell) b (stating_limit s premise meant)) free ∙ first_of-one (stating_limit s premise meant)
 
 -- what the value means is stated
 made_statement : (s : State) (premise : Option (List ℕ)) (name : List ℕ) (value : Value) (cell : ℕ) (meant : Meant) → cell_named s.names name ≡ Some cell → meaning_at s.words (kind_at s.kinds cell).kind value ≡ Ok meant →
@@ -260,23 +267,23 @@ changes library s new None name value e = record { answer_is = refl; new_is = e;
 changes library s new (Some premise) name value e = record { answer_is = refl; new_is = e; no_steps = refl }
 
 -- what a session states is what the machine does
-value_done : (library : List Stored) (s new : State) (premise : Option (List ℕ)) (name : List ℕ) (value : Value) (cell : ℕ) (meant : Meant) → cell_named s.names name ≡ Some cell → meaning_at s.words (kind_at s.kinds cell).kind value ≡ Ok meant →
+value_done : (library : List Stored) (s new : State) (premise : Option (List ℕ)) (name : List ℕ) (value : Value) (cell : ℕ) (meant : Meant) → is_choice_told s premise ≡ false → cell_named s.names name ≡ Some cell → meaning_at s.words (kind_at s.kinds cell).kind value ≡ Ok meant →
     stating_limit s premise meant ≡ None → new ≡ stated s premise cell (with_meant s.words meant) (info_meant s.words meant) → Obeys library s (stating premise name value) Done new 0
-value_done library s new premise name value cell meant found said fits e =
-    obeys library s new (stating premise name value) Done 0 (value_limited library s premise name value cell meant found said ∙ fits)
+value_done library s new premise name value cell meant free found said fits e =
+    obeys library s new (stating premise name value) Done 0 (value_limited library s premise name value cell meant free found said ∙ fits)
     (changes library s new premise name value (e ∙ made_statement s premise name value cell meant found said))
 
-value_stopped : (library : List Stored) (s : State) (premise : Option (List ℕ)) (name : List ℕ) (value : Value) (cell : ℕ) (meant : Meant) (e : Refusal) → cell_named s.names name ≡ Some cell → meaning_at s.words (kind_at s.kinds cell).kind value ≡ Ok meant →
+value_stopped : (library : List Stored) (s : State) (premise : Option (List ℕ)) (name : List ℕ) (value : Value) (cell : ℕ) (meant : Meant) (e : Refusal) → is_choice_told s premise ≡ false → cell_named s.names name ≡ Some cell → meaning_at s.words (kind_at s.kinds cell).kind value ≡ Ok meant →
     (stating_limit s premise meant ≡ Some e) ⊎ (e ≡ Memory) → (refusal_of library s (stating premise name value) ≡ Some e) ⊎ (e ≡ Memory)
-value_stopped library s premise name value cell meant e found said (inl h) = inl (value_limited library s premise name value cell meant found said ∙ h)
-value_stopped library s premise name value cell meant e found said (inr m) = inr m
+value_stopped library s premise name value cell meant e free found said (inl h) = inl (value_limited library s premise name value cell meant free found said ∙ h)
+value_stopped library s premise name value cell meant e free found said (inr m) = inr m
 
-pub value_done_or_not : (library : List Stored) (s new : State) (premise : Option (List ℕ)) (name : List ℕ) (value : Value) (cell : ℕ) (meant : Meant) → cell_named s.names name ≡ Some cell → meaning_at s.words (kind_at s.kinds cell).kind value ≡ Ok meant →
+pub value_done_or_not : (library : List Stored) (s new : State) (premise : Option (List ℕ)) (name : List ℕ) (value : Value) (cell : ℕ) (meant : Meant) → is_choice_told s premise ≡ false → cell_named s.names name ≡ Some cell → meaning_at s.words (kind_at s.kinds cell).kind value ≡ Ok meant →
     (r : Result ⊤ Refusal) → OnOk r (stating_limit s premise meant ≡ None) → OnOk r (new ≡ stated s premise cell (with_meant s.words meant) (info_meant s.words meant)) → IfErr r (λ e. (stating_limit s premise meant ≡ Some e) ⊎ (e ≡ Memory)) → OnErr r (new ≡ s) →
     Obeys library s (stating premise name value) (answer_done r) new 0
-value_done_or_not library s new premise name value cell meant found said (Ok t) fits made why same = value_done library s new premise name value cell meant found said fits made
-value_done_or_not library s new premise name value cell meant found said (Err refusal) fits made why same =
-    refuses_or_lacks library s new (stating premise name value) refusal (value_stopped library s premise name value cell meant refusal found said why) same
+value_done_or_not library s new premise name value cell meant free found said (Ok t) fits made why same = value_done library s new premise name value cell meant free found said fits made
+value_done_or_not library s new premise name value cell meant free found said (Err refusal) fits made why same =
+    refuses_or_lacks library s new (stating premise name value) refusal (value_stopped library s premise name value cell meant refusal free found said why) same
 
 pub no_cell : (library : List Stored) (s : State) (premise : Option (List ℕ)) (name : List ℕ) (value : Value) → cell_named s.names name ≡ None → refusal_of library s (stating premise name value) ≡ Some NoSuchCell
 no_cell library s None name value none = rw none refl

@@ -19,6 +19,7 @@ use Rattle.std.specs.Prelude.{Ok}
 use Rattle.prop_compound.specs.declared.definition.NumberedStep.{NumberedStep}
 use Rattle.prop_compound.specs.declared.definition.NumberedStep.TheVariants.{Local, Like, Use}
 use Rattle.prop_compound.specs.Definitions.{Definitions}
+use Rattle.prop_language.proofs.RefusalLaws.{choose_counts}
 use Rattle.prop_workbench.specs.Sessions.{IsSized, IsLocalOf, AreLocalsOf, HasElements}
 
 -- what is true of kinds, is true of those of locals
@@ -81,5 +82,6 @@ some_elements name (e ∷ es) h = omega arith
 pub has_elements : (line : List ℕ) (o : Option Command) → reading line ≡ Ok o → HasElements o
 has_elements line (Some (Command.Domain name [])) e = ((reads_what_is_spelled line (Command.Domain name [])).0 e).1.1
 has_elements line (Some (Command.Domain name (w ∷ ws))) e = tt
+has_elements line (Some (Command.Choose name cell values)) e = choose_counts line name cell values e
 has_elements line None e = tt
 has_elements line (Some command) e = search rules

@@ -1,26 +1,31 @@
 -- What any two sessions agree on that are given the same lines, whatever orders they call waiting procedures in.
-use Rattle.std.specs.Prelude.{◌≡◌, ◌≢◌, ◌⊎◌, ℕ, List, [], ◌∷◌, Option, Some, None, Result, Ok, All}
+use Rattle.std.specs.Prelude.{◌≡◌, ◌≢◌, ◌⊎◌, ◌<◌, IsTrue, ℕ, length, List, [], Some, All}
 use Rattle.prop_lattice.specs.declared.info.Info.{Info}
 use Rattle.prop_lattice.specs.declared.refusal.Refusal.TheVariants.{Memory}
+use Rattle.prop_premises.specs.Origins.{Origin, IsNumbered, choices_of}
+use Rattle.prop_premises.specs.ChoiceLists.{is_hypothetical}
 use Rattle.prop_procedures.specs.Stored.{Stored}
 use Rattle.prop_vocabulary.specs.Cells.{cell_named}
 use Rattle.prop_language.specs.Commands.{Command}
-use Rattle.prop_language.specs.Reading.{reading}
 use Rattle.prop_texts.specs.Texts.{equation, because}
 use Rattle.prop_engine.specs.Answers.{Answer, Text, Refused}
 use Rattle.prop_engine.specs.Transcripts.{Machine, Run}
-use Rattle.prop_workbench.specs.Machine.{State, text_at}
-use Rattle.prop_workbench.specs.Running.{Outcome, Settled, Contradiction, MayEnd, Replies}
+use Rattle.prop_workbench.specs.Machine.{State, text_at, naming}
+use Rattle.prop_workbench.specs.Running.{Settled, Contradiction, MayEnd, Replies}
 use Rattle.prop_workbench.specs.Steps.{Step}
 
 -- no answer is that memory was refused
 abbrev pub HaveMemory : List Answer → Type 0
 HaveMemory answers = All (λ answer. answer ≢ Refused Memory) answers
 
--- two runs over the same lines that were never refused memory end in the same state
-abbrev pub RunsMeet : {S : Type 0} → Machine S → Type 0
-RunsMeet {S = S} machine =
-    (old first second : S) (lines : List (List ℕ)) (answers others : List Answer) → Run machine old lines answers first → Run machine old lines others second → HaveMemory answers → HaveMemory others → second ≡ first
+-- the two states are one, but for the contradictions that were named
+abbrev pub AreAlike : State → State → Type 0
+AreAlike s t = naming t [] ≡ naming s []
+
+-- two runs over the same lines that were never refused memory end in the same state, but for the contradictions that were named
+abbrev pub RunsMeet : Machine State → Type 0
+RunsMeet machine =
+    (old first second : State) (lines : List (List ℕ)) (answers others : List Answer) → Run machine old lines answers first → Run machine old lines others second → HaveMemory answers → HaveMemory others → AreAlike first second
 
 -- where nothing is run, two answers to a line that were not refused memory are one
 abbrev pub AnswersMeet : List Stored → Type 0
@@ -30,7 +35,7 @@ AnswersMeet library =
 
 -- the text is what a settled run is answered to the command
 abbrev pub IsSettledText : List Stored → State → Command → List ℕ → Type 0
-IsSettledText library s command text = (steps : ℕ) × MayEnd library s Settled × Replies library s command Settled steps text
+IsSettledText library s command text = (list : List ℕ) × (steps : ℕ) × MayEnd library s (Settled list) × Replies library s command (Settled list) steps text
 
 -- the two texts name one value of the cell with the name, each with premises that explain it
 pub record SayOneValue (s : State) (name text also : List ℕ) : Type 0 where
@@ -49,4 +54,13 @@ SettledTextsMeet library =
 
 -- what settles is not contradictory: no other run over it ends in a contradiction
 abbrev pub SettledIsFree : List Stored → Type 0
-SettledIsFree library = (s : State) (premises : List ℕ) → MayEnd library s Settled → MayEnd library s (Contradiction premises) → ⊥
+SettledIsFree library = (s : State) (list premises : List ℕ) → IsNumbered s.premises → MayEnd library s (Settled list) → MayEnd library s (Contradiction premises) → ⊥
+
+-- premises are numbered, and each side of a choice is one of them
+pub record AreNumbered (origins : List Origin) : Type 0 where
+  pub numbered : IsNumbered origins
+  pub below : (p : ℕ) → IsTrue (is_hypothetical (choices_of origins) p) → p < length origins
+
+-- each line leaves the premises numbered
+abbrev pub StepsKeepNumbers : List Stored → Type 0
+StepsKeepNumbers library = (old new : State) (line : List ℕ) (answer : Answer) (steps : ℕ) → AreNumbered old.premises → Step library old line answer new steps → AreNumbered new.premises

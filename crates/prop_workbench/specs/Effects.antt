@@ -1,12 +1,12 @@
 -- What a command that isn't refused does to the state.
-use Rattle.std.specs.Prelude.{◌≡◌, ℕ, IsTrue, List, [], ◌∷◌, ◌++◌, Option, Some, None, true, false, drop, map, length, slice_get, unwrap_or}
+use Rattle.std.specs.Prelude.{◌≡◌, ℕ, suc, IsTrue, List, [], ◌∷◌, ◌++◌, Option, Some, None, true, false, drop, map, length, slice_get, unwrap_or}
 use Rattle.std.specs.Result.{result_unwrap_or}
 use Rattle.std.specs.Borrow.{Bor}
 use Rattle.std.specs.Option.{option_map, option_map_or, option_and_then}
 use Rattle.prop_lattice.specs.declared.info.Info.{Info}
 use Rattle.prop_lattice.specs.declared.info.Info.TheVariants.{Nothing, Sym}
 use Rattle.prop_lattice.specs.declared.info.Kind.TheVariants as kinds
-use Rattle.prop_premises.specs.Origins.{Origin, premise_number, with_name, with_belief_at}
+use Rattle.prop_premises.specs.Origins.{Origin, premise_number, with_name, with_choice, with_belief_at}
 use Rattle.prop_procedures.specs.declared.shape.Kinded.{Kinded}
 use Rattle.prop_procedures.specs.Stored.{Stored}
 use Rattle.prop_language.specs.Commands.{Value, Command}
@@ -16,12 +16,13 @@ use Rattle.prop_values.specs.Values.{Meant, Known, Name}
 use Rattle.prop_procedures.specs.declared.shape.Param.{Param}
 use Rattle.prop_procedures.specs.declared.shape.Param.TheVariants.{Plain}
 use Rattle.prop_procedures.specs.Fitting.{fitting_param}
+use Rattle.prop_cells.specs.declared.instance.Statement.{Statement}
 use Rattle.prop_cells.specs.Instances.{Instance}
 use Rattle.prop_cells.specs.Refusing.{may_be_stated}
 use Rattle.prop_scheduler.specs.Making.{cell_placed}
-use Rattle.prop_vocabulary.specs.Vocabulary.{Vocabulary, symbol_number, with_symbol, with_domain, with_relation}
+use Rattle.prop_vocabulary.specs.Vocabulary.{Vocabulary, symbol_number, with_domain, with_relation}
 use Rattle.prop_workbench.specs.Machine.{State}
-use Rattle.prop_workbench.specs.Refusing.{value_at, used}
+use Rattle.prop_workbench.specs.Refusing.{value_at, used, with_meant, meants_at}
 use Rattle.prop_vocabulary.specs.Cells.{cell_named, cells_named, with_cell_name}
 
 -- the cells that an instance reads: all but the last
@@ -60,11 +61,6 @@ with_use library s cells e = record s {
 abbrev pub info_meant : Vocabulary → Meant → Info
 info_meant words (Known info) = info
 info_meant words (Name symbol) = Sym (symbol_number words symbol)
-
--- the vocabulary with the symbol that is named
-abbrev pub with_meant : Vocabulary → Meant → Vocabulary
-with_meant words (Known info) = words
-with_meant words (Name symbol) = with_symbol words symbol
 
 -- what the value means at the cell with the name; nothing where it means nothing
 abbrev pub meant_at : State → List ℕ → Value → Meant
@@ -105,6 +101,25 @@ stated s premise cell words info = record s {
   statements = s.statements ++ record { premise = premise_given s.premises premise; cell = cell; info = info } ∷ [];
 }
 
+-- the statements of what each side says at a cell, where the first side has this number, and the words as far as they are known then
+abbrev pub sides_stated : Vocabulary → ℕ → ℕ → List Meant → List Statement
+sides_stated words side cell [] = []
+sides_stated words side cell (meant ∷ more) =
+    record { premise = Some side; cell = cell; info = info_meant words meant } ∷ sides_stated (with_meant words meant) (suc side) cell more
+
+-- the vocabulary with the symbols that are named
+abbrev pub with_meants : Vocabulary → List Meant → Vocabulary
+with_meants words [] = words
+with_meants words (meant ∷ more) = with_meants (with_meant words meant) more
+
+-- a choice more, between what is meant at a cell: each is stated under a side
+abbrev pub chosen : State → List ℕ → ℕ → List Meant → State
+chosen s name cell meants = record s {
+  words = with_meants s.words meants;
+  premises = with_choice s.premises name (length meants);
+  statements = s.statements ++ sides_stated s.words (length s.premises) cell meants;
+}
+
 -- the name of a premise, where one is given
 abbrev pub name_of : Option (Bor (List ℕ)) → Option (List ℕ)
 name_of premise = option_map (λ (name : Bor (List ℕ)). name.now) premise
@@ -125,6 +140,7 @@ effect library s (Command.Attach name cells by) =
     with_use library s (cells_named s.names cells) (used library s name (cells_named s.names cells) by)
 effect library s (Command.Fix cell value) = stated s None (unwrap_or (cell_named s.names cell) 0) (words_at s cell value) (info_at s cell value)
 effect library s (Command.Tell premise cell value) = stated s (Some premise) (unwrap_or (cell_named s.names cell) 0) (words_at s cell value) (info_at s cell value)
+effect library s (Command.Choose name cell values) = chosen s name (unwrap_or (cell_named s.names cell) 0) (unwrap_or (meants_at s cell values) [])
 effect library s (Command.Kick premise) = record s { premises = with_belief_at s.premises (number_given s.premises premise) false }
 effect library s (Command.Bring premise) = record s { premises = with_belief_at s.premises (number_given s.premises premise) true }
 effect library s (Command.Limit steps) = record s { limit = unwrap_or steps 0 }

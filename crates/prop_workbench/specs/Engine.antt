@@ -9,7 +9,7 @@ use Rattle.prop_engine.specs.Answers.{Answer}
 use Rattle.prop_engine.specs.Transcripts.{Machine}
 use Rattle.prop_workbench.specs.declared.session.Session.{Session}
 use Rattle.prop_workbench.specs.Machine.{State}
-use Rattle.prop_workbench.specs.Steps.{Step}
+use Rattle.prop_workbench.specs.Steps.{Step, Shown, IsStepOf}
 use Rattle.prop_workbench.specs.Points.{HoldsPoints}
 use Rattle.prop_workbench.specs.Sessions.{library_of, related_in}
 
@@ -20,10 +20,20 @@ pub record Gives (library : List Stored) (related : ℕ → Param → List Point
   pub step : Step library old line answer new steps
   pub points : AreSoundBy library related → HoldsPoints related old line answer
 
+-- the same of what a session shows, whichever contradictions were named, if what it has learned covers them
+pub record Shows (library : List Stored) (related : ℕ → Param → List Point → Point → Type 0) (old : Shown) (line : List ℕ) (answer : Answer) (new : Shown) : Type 0 where
+  pub steps : ℕ
+  pub step : IsStepOf library old line answer new steps
+  pub points : AreSoundBy library related → HoldsPoints related old.state line answer
+
 -- the workbench over a library of procedures and the points that belong together at each, as a machine
 abbrev pub workbench : List Stored → (ℕ → Param → List Point → Point → Type 0) → Machine State
 workbench library related = Gives library related
 
+-- the workbench with what it has learned, as a machine
+abbrev pub learning : List Stored → (ℕ → Param → List Point → Point → Type 0) → Machine Shown
+learning library related = Shows library related
+
 -- the machine that a session is
-abbrev pub machine_of : {R O : Type 0} {X : Type 0} {F : X → Type 0} {g : _} → (R → Param → List Info → Info) → (R → Param → List Point → Point → Type 0) → Session R O X F g → Machine State
-machine_of value related s = workbench (library_of value s) (related_in related s)
+abbrev pub machine_of : {R O : Type 0} {X : Type 0} {F : X → Type 0} {g : _} → (R → Param → List Info → Info) → (R → Param → List Point → Point → Type 0) → Session R O X F g → Machine Shown
+machine_of value related s = learning (library_of value s) (related_in related s)

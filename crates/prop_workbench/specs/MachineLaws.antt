@@ -12,9 +12,9 @@ use Rattle.prop_language.specs.Commands.{Command}
 use Rattle.prop_language.specs.Reading.{reading}
 use Rattle.prop_engine.specs.Lines.{kept_of}
 use Rattle.prop_engine.specs.Answers.{Answer, Silent, Text, Refused}
-use Rattle.prop_workbench.specs.Machine.{State}
-use Rattle.prop_workbench.specs.Steps.{Follows}
-use Rattle.prop_workbench.specs.Engine.{workbench}
+use Rattle.prop_workbench.specs.Machine.{State, naming}
+use Rattle.prop_workbench.specs.Steps.{Follows, IsFollowed}
+use Rattle.prop_workbench.specs.Engine.{workbench, learning, Shows}
 use Rattle.prop_engine.specs.Machines.{AsksByFront, IsTotal}
 
 -- a front of limit bytes is the line, or as long as the limit
@@ -39,6 +39,13 @@ workbench_asks_by_front library related old line answer new s = record {
   step = subst (λ (read : Result (Option Command) Refusal). Follows library old read answer new s.steps) (reading-kept_of line) s.step;
 }
 
+pub learning_asks_by_front : (library : List Stored) (related : ℕ → Param → List Point → Point → Type 0) → AsksByFront (learning library related)
+learning_asks_by_front library related old line answer new s = record {
+  steps = s.steps;
+  points = λ sound command text read e. s.points sound command text (reading-kept_of line ∙ read) e;
+  step = subst (λ (read : Result (Option Command) Refusal). IsFollowed library read answer s.steps old new) (reading-kept_of line) s.step;
+}
+
 -- silence, or want of memory, leaves the state and says no value
 pub record SaysNothing (library : List Stored) (old : State) (read : Result (Option Command) Refusal) (answer : Answer) : Type 0 where
   pub steps : ℕ
@@ -54,3 +61,21 @@ pub workbench_is_total : (library : List Stored) (related : ℕ → Param → Li
 workbench_is_total library related old line =
     let somehow = follows_somehow library old (reading line) in
     (somehow.0, record { steps = somehow.1.steps; step = somehow.1.follows; points = λ sound command text read e. absurd (somehow.1.no_text text e) })
+
+pub learning_is_total : (library : List Stored) (related : ℕ → Param → List Point → Point → Type 0) → IsTotal (learning library related)
+learning_is_total library related old line = total (reading line) refl
+  where
+    say : (read : Result (Option Command) Refusal) → reading line ≡ read → (answer : Answer) → ((s : State) → Follows library s read answer s 0) → ((text : List ℕ) → answer ≢ Text text) → (answer : Answer) × Shows library related old line answer old
+    say read is_read answer follows no_text = (
+      answer,
+      record {
+        steps = 0;
+        step = λ named covers. record { now = named; covers = covers; step = rw is_read (follows (naming old.state named)) };
+        points = λ sound command text r e. absurd (no_text text e);
+      },
+    )
+
+    total : (read : Result (Option Command) Refusal) → reading line ≡ read → (answer : Answer) × Shows library related old line answer old
+    total (Ok None) e = say (Ok None) e Silent (λ s. (refl, refl, refl)) (λ text f. cc)
+    total (Ok (Some command)) e = say (Ok (Some command)) e (Refused Memory) (λ s. inr record { answer_is = refl; same = refl }) (λ text f. cc)
+    total (Err refusal) e = say (Err refusal) e (Refused Memory) (λ s. inr record { answer_is = refl; same = refl }) (λ text f. cc)

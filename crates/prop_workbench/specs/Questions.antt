@@ -3,15 +3,15 @@ use Rattle.std.specs.Prelude.{◌≡◌, ℕ, ◌≤◌, ◌<◌, List, length, 
 use Rattle.prop_lattice.specs.declared.info.Info.{Info}
 use Rattle.prop_lattice.specs.declared.refusal.Refusal.{Refusal}
 use Rattle.prop_lattice.specs.declared.refusal.Refusal.TheVariants.{Memory}
-use Rattle.prop_premises.specs.Origins.{believed_in}
+use Rattle.prop_premises.specs.Sets.{set_of}
 use Rattle.prop_procedures.specs.declared.shape.Param.{Param}
 use Rattle.prop_procedures.specs.Stored.{Stored}
-use Rattle.prop_cells.specs.Problems.{Premises}
-use Rattle.prop_cells.specs.Data.{IsClash}
-use Rattle.prop_scheduler.specs.Ends.{IfClash}
-use Rattle.prop_scheduler.specs.Turns.{IsSettled, Turns}
-use Rattle.prop_scheduler.specs.declared.outcome.Run.{Run}
-use Rattle.prop_scheduler.specs.declared.outcome.Run.TheVariants.{Quiet, Spent}
+use Rattle.prop_scheduler.specs.Turns.{IsSettled}
+use Rattle.prop_amb.specs.declared.outcome.Outcome as ends
+use Rattle.prop_amb.specs.declared.outcome.Outcome.TheVariants.{Settled, Contradiction, Unsettled}
+use Rattle.prop_amb.specs.Refuted.{IsCovered, IsListRefuted}
+use Rattle.prop_amb.specs.Search as search
+use Rattle.prop_amb.specs.Going.{Goes}
 use Rattle.prop_language.specs.Commands as commands
 use Rattle.prop_language.specs.Commands.{Command}
 use Rattle.prop_vocabulary.specs.Cells.{cell_named}
@@ -19,9 +19,10 @@ use Rattle.prop_engine.specs.Answers.{Answer, Text, Refused}
 use Rattle.prop_workbench.specs.declared.asking.Question.{Question}
 use Rattle.prop_workbench.specs.declared.asking.Question.TheVariants.{Settle, Worldview, Ask, Why}
 use Rattle.prop_workbench.specs.declared.session.Session.{Session}
-use Rattle.prop_workbench.specs.Machine.{State, worldview_of}
+use Rattle.prop_workbench.specs.Machine.{State, problem_in, users_in, choices_in, worldview_at}
 use Rattle.prop_workbench.specs.Reasons.{IsLeanAnswer}
-use Rattle.prop_workbench.specs.Running.{Outcome, outcome_of, MayEnd, Replies}
+use Rattle.prop_workbench.specs.Running as running
+use Rattle.prop_workbench.specs.Running.{Outcome, MayEnd, Replies}
 use Rattle.prop_workbench.specs.Sessions.{Work, state_of, library_of}
 
 -- the command that asks so
@@ -38,34 +39,44 @@ IsNamed s Worldview = ⊤
 IsNamed s (Ask cell name) = cell_named s.names name.now ≡ Some cell
 IsNamed s (Why cell name) = cell_named s.names name.now ≡ Some cell
 
+-- how a run ended, as the machine sees it, where the choices stand on the sides of the list
+abbrev pub outcome_of : List ℕ → ends.Outcome → Outcome
+outcome_of list Settled = running.Settled list
+outcome_of list Unsettled = running.Unsettled list
+outcome_of list (Contradiction premises) = running.Contradiction premises
+
+-- where a run ended in a contradiction, its premises
+abbrev pub IfContradiction : ends.Outcome → (List ℕ → Type 0) → Type 0
+IfContradiction (Contradiction premises) P = P premises
+IfContradiction end P = ⊤
+
 -- a run of so many steps ended so, and left the session
-pub record HasRun {R O : Type 0} {X : Type 0} {F : X → Type 0} {g : _} (value : R → Param → List Info → Info) (s : Session R O X F g) (end : Run) (steps : ℕ) : Type 0 where
-  pub ends : MayEnd (library_of value s) (state_of s) (outcome_of end)
-  pub clash : IfClash end (IsClash (believed_in s.premises) s.network.cells)
-  pub settled : end ≡ Quiet → IsSettled (library_of value s) (believed_in s.premises) s.network.cells
+pub record HasRun {R O : Type 0} {X : Type 0} {F : X → Type 0} {g : _} (value : R → Param → List Info → Info) (s : Session R O X F g) (end : ends.Outcome) (steps : ℕ) : Type 0 where
+  pub ends : MayEnd (library_of value s) (state_of s) (outcome_of s.search.list end)
+  pub covered : IfContradiction end (λ ps. IsCovered (search.choices_in s.search) s.search.listed (set_of ps))
+  pub settled : end ≡ Settled → IsSettled (library_of value s) (set_of s.search.worldview) s.network.cells
   pub within : steps ≤ (state_of s).limit
-  pub spent : end ≡ Spent → steps ≡ (state_of s).limit
+  pub spent : end ≡ Unsettled → steps ≡ (state_of s).limit
 
 -- which place an order may pick among how many that wait, and how it goes on
 abbrev pub Picks : Type 0 → Type 1
 Picks O = O → ℕ → ℕ → O → Type 0
 
--- From the one network to the other it took exactly so many steps, each of which called a waiting procedure that the order picked. Where a contradiction ended that,
--- it is there now, and where the steps were used up, some procedure still waits.
-pub record HasGone {O : Type 0} (picks : Picks O) (library : List Stored) (s : Premises) (old new : Work O) (end : Run) (steps : ℕ) : Type 0 where
-  pub turns : Turns picks library s old.cells old.line old.order steps new.cells new.line new.order
-  pub clash : IfClash end (IsClash s new.cells)
-  pub left : end ≡ Spent → 0 < length new.line
-
 -- the answer is a text that the machine may reply where a run ended so, or memory was refused
 abbrev pub MaySay : List Stored → State → Command → Outcome → ℕ → Answer → Type 0
 MaySay library s command outcome steps answer = ((text : List ℕ) × Replies library s command outcome steps text × (answer ≡ Text text)) ⊎ (answer ≡ Refused Memory)
 
--- the text replies to the command as the network went from the one to the other
+-- from the one to the other it took exactly so many steps: each called a waiting procedure that the order picked, or left a choice list that is refuted
+abbrev pub HasGone : {O : Type 0} → Picks O → List Stored → State → Work O → Work O → ℕ → Type 0
+HasGone picks library s old new steps = Goes picks library (users_in s) (choices_in s) old.list old.cells old.line old.order steps new.list new.cells new.line new.order
+
+-- The text replies to the command as a run ended that went from the one to the other in exactly so many steps. Where they were used up, some procedure still waits, or the
+-- choice list is refuted.
 pub record IsEarned {O : Type 0} (picks : Picks O) (library : List Stored) (s : State) (old new : Work O) (command : Command) (text : List ℕ) (steps : ℕ) : Type 0 where
-  pub end : Run
-  pub gone : HasGone picks library (worldview_of s) old new end steps
-  pub replies : Replies library s command (outcome_of end) steps text
+  pub end : ends.Outcome
+  pub gone : HasGone picks library s old new steps
+  pub left : end ≡ Unsettled → (0 < length new.line) ⊎ IsListRefuted (problem_in library s) (users_in s) (choices_in s) new.list
+  pub replies : Replies library s command (outcome_of new.list end) steps text
 
 -- what a line that was read so is answered: a text to what runs the network is earned by the calls that it counts
 abbrev pub Earns : {O : Type 0} → Picks O → List Stored → State → Work O → Work O → Result (Option Command) Refusal → Answer → ℕ → Type 0
@@ -77,5 +88,5 @@ Earns picks library s old new read answer steps = ⊤
 
 -- what an answer rests on: an explanation is lean, and a text is earned
 pub record RestsOn {O : Type 0} (picks : Picks O) (library : List Stored) (s : State) (old new : Work O) (read : Result (Option Command) Refusal) (answer : Answer) (steps : ℕ) : Type 0 where
-  pub lean : IsLeanAnswer new.cells s read answer
+  pub lean : IsLeanAnswer (worldview_at s new.list) new.cells s read answer
   pub earned : Earns picks library s old new read answer steps

@@ -1,25 +1,26 @@
 -- For what a command is refused in a state: each condition by itself, and which of them comes first.
-use Rattle.std.specs.Prelude.{ℕ, List, [], ◌∷◌, Bool, false, ◌+◌, ◌==◌, ◌&&◌, nat_le, Option, Some, None, Result, Ok, Err, length, is_some, is_none, map, ◌-◌}
+use Rattle.std.specs.Prelude.{ℕ, List, [], ◌∷◌, Bool, false, ◌+◌, ◌==◌, ◌&&◌, ◌||◌, nat_le, nat_lt, Option, Some, None, Result, Ok, Err, length, is_some, is_none, not, map, ◌-◌}
 use Rattle.std.specs.List.{list_any}
 use Rattle.std.specs.Option.{option_map, option_map_or}
 use Rattle.prop_lattice.specs.declared.info.Kind.{Kind}
-use Rattle.prop_lattice.specs.declared.refusal.Limit.TheVariants.{Cells, Premises, Statements}
+use Rattle.prop_lattice.specs.declared.refusal.Limit.TheVariants.{Cells, Premises, Choices, Statements}
 use Rattle.prop_lattice.specs.declared.refusal.Refusal.{Refusal}
-use Rattle.prop_lattice.specs.declared.refusal.Refusal.TheVariants.{NotAName, NotANumber, NameTaken, NoSuchDomain, NoSuchRelation, NoSuchCell, NoSuchPremise, WrongKind, NotInTheDomain, EmptyValue, LimitReached}
+use Rattle.prop_lattice.specs.declared.refusal.Refusal.TheVariants.{NotAName, NotANumber, NameTaken, NoSuchDomain, NoSuchRelation, NoSuchCell, NoSuchPremise, WrongKind, NotInTheDomain, EmptyValue, IsAChoice, LimitReached}
 use Rattle.prop_lattice.specs.Refusals.{number_of, most}
-use Rattle.prop_premises.specs.Origins.{premise_number}
+use Rattle.prop_premises.specs.Origins.{premise_number, is_choice, choices_of}
 use Rattle.prop_procedures.specs.declared.shape.Param.{Param}
 use Rattle.prop_procedures.specs.declared.shape.Param.TheVariants as params
 use Rattle.prop_procedures.specs.Stored.{Stored}
 use Rattle.prop_language.specs.Commands.{By, KindWord, Named, Value, Command}
 use Rattle.prop_values.specs.Values.{Meant, Known, Name, value_said}
 use Rattle.prop_procedures.specs.Fitting.{kind_at}
-use Rattle.prop_vocabulary.specs.Vocabulary.{Vocabulary, domain_number, relation_named}
+use Rattle.prop_vocabulary.specs.Vocabulary.{Vocabulary, domain_number, relation_named, with_symbol}
 use Rattle.prop_vocabulary.specs.Texts.{elements_of_kind}
 use Rattle.prop_vocabulary.specs.Refusing.{when, first_of, domain_refusal, relation_refusal, symbol_refusal}
 use Rattle.prop_scheduler.specs.Making.{room_refusal}
 use Rattle.prop_workbench.specs.Machine.{State}
 use Rattle.prop_vocabulary.specs.Cells.{cell_named, cells_named, is_cell_missing}
+use Rattle.prop_cells.specs.Refusing.{or_else}
 use Rattle.prop_compound.specs.Expansion.{Expansion, expanded}
 use Rattle.prop_compound.specs.Expanding.{expand_refusal}
 use Rattle.prop_compound.specs.Defining.{define_refusal}
@@ -36,15 +37,21 @@ abbrev pub is_error : Refusal → Result Meant Refusal → Bool
 is_error refusal (Ok meant) = false
 is_error refusal (Err other) = number_of other == number_of refusal
 
--- the command's value is refused so at its cell
+-- the value is refused so at the cell with the name
+abbrev pub is_refused_at : State → List ℕ → Refusal → Value → Bool
+is_refused_at s cell refusal value = option_map_or (is_error refusal) (value_at s cell value) false
+
+-- a value of the command is refused so at its cell
 abbrev pub is_value_refused : State → Command → Refusal → Bool
-is_value_refused s (Command.Fix cell value) refusal = option_map_or (is_error refusal) (value_at s cell value) false
-is_value_refused s (Command.Tell premise cell value) refusal = option_map_or (is_error refusal) (value_at s cell value) false
+is_value_refused s (Command.Fix cell value) refusal = is_refused_at s cell refusal value
+is_value_refused s (Command.Tell premise cell value) refusal = is_refused_at s cell refusal value
+is_value_refused s (Command.Choose choice cell values) refusal = list_any (is_refused_at s cell refusal) values
 is_value_refused s command refusal = false
 
 -- the declared name exists in its space
 abbrev pub is_taken : State → Command → Bool
 is_taken s (Command.Cell name kind) = is_some (cell_named s.names name)
+is_taken s (Command.Choose choice cell values) = is_some (premise_number s.premises choice) || is_choice s.premises choice
 is_taken s command = false
 
 -- a domain is named, of which there is none
@@ -66,15 +73,32 @@ is_unknown words (By.Relation name) = is_none (relation_named words name)
 abbrev pub cells_in : Command → List (List ℕ)
 cells_in (Command.Fix cell value) = cell ∷ []
 cells_in (Command.Tell premise cell value) = cell ∷ []
+cells_in (Command.Choose choice cell values) = cell ∷ []
 cells_in (Command.Ask cell) = cell ∷ []
 cells_in (Command.Why cell) = cell ∷ []
 cells_in command = []
 
+-- neither a premise nor a choice has the name
+abbrev pub is_nobody : State → List ℕ → Bool
+is_nobody s name = is_none (premise_number s.premises name) && not (is_choice s.premises name)
+
 -- a belief is to change of a premise that there is not
 abbrev pub is_premise_missing : State → Command → Bool
-is_premise_missing s (Command.Kick premise) = is_none (premise_number s.premises premise)
-is_premise_missing s (Command.Bring premise) = is_none (premise_number s.premises premise)
+is_premise_missing s (Command.Kick premise) = is_nobody s premise
+is_premise_missing s (Command.Bring premise) = is_nobody s premise
 is_premise_missing s command = false
+
+-- a choice has the name, where one is given
+abbrev pub is_choice_told : State → Option (List ℕ) → Bool
+is_choice_told s None = false
+is_choice_told s (Some name) = is_choice s.premises name
+
+-- a choice has the name where a premise is asked for
+abbrev pub is_choice_given : State → Command → Bool
+is_choice_given s (Command.Tell premise cell value) = is_choice s.premises premise
+is_choice_given s (Command.Kick premise) = is_choice s.premises premise
+is_choice_given s (Command.Bring premise) = is_choice s.premises premise
+is_choice_given s command = false
 
 -- what a command gives with its procedure
 abbrev pub given_by : Vocabulary → By → Option Param
@@ -90,6 +114,16 @@ telling_limit s premise =
     ∷ when (LimitReached Statements) (nat_le (most Statements) (length s.statements))
     ∷ []
     )
+
+-- the vocabulary with the symbol that is named
+abbrev pub with_meant : Vocabulary → Meant → Vocabulary
+with_meant words (Known info) = words
+with_meant words (Name symbol) = with_symbol words symbol
+
+-- the first with those behind it, where each means something
+abbrev pub both_meant : Option (Result Meant Refusal) → Option (List Meant) → Option (List Meant)
+both_meant (Some (Ok meant)) (Some more) = Some (meant ∷ more)
+both_meant first more = None
 
 -- the same, and under no premise only the statements count
 abbrev pub statement_limit : State → Option (List ℕ) → Option Refusal
@@ -110,11 +144,37 @@ abbrev pub stating_limit_at : State → Option (List ℕ) → Option (Result Mea
 stating_limit_at s premise (Some (Ok meant)) = stating_limit s premise meant
 stating_limit_at s premise meant = None
 
+-- there are too many premises for so many sides, as many choices as there can be, or too many statements for one a side
+abbrev pub choosing_limit : State → ℕ → Option Refusal
+choosing_limit s sides =
+    first_of (
+    when (LimitReached Premises) (nat_lt (most Premises) (length s.premises + sides))
+    ∷ when (LimitReached Choices) (nat_le (most Choices) (length (choices_of s.premises)))
+    ∷ when (LimitReached Statements) (nat_lt (most Statements) (length s.statements + sides))
+    ∷ []
+    )
+
+-- the values that are meant are refused, one after another, where one names a new symbol and there are as many as there can be
+abbrev pub all_naming_limit : Vocabulary → List Meant → Option Refusal
+all_naming_limit words [] = None
+all_naming_limit words (meant ∷ more) = or_else (naming_limit words meant) (all_naming_limit (with_meant words meant) more)
+
+-- what each value means at the cell with the name, where all mean something
+abbrev pub meants_at : State → List ℕ → List Value → Option (List Meant)
+meants_at s cell [] = Some []
+meants_at s cell (value ∷ values) = both_meant (value_at s cell value) (meants_at s cell values)
+
+-- why a choice between the values at the cell with the name is refused, where there is such a cell and each of them means something there
+abbrev pub choosing_limit_at : State → Option (List Meant) → Option Refusal
+choosing_limit_at s (Some meants) = first_of (choosing_limit s (length meants) ∷ all_naming_limit s.words meants ∷ [])
+choosing_limit_at s None = None
+
 -- there are as many already as there can be of what the command makes one more of
 abbrev pub limit_refusal : State → Command → Option Refusal
 limit_refusal s (Command.Cell name kind) = when (LimitReached Cells) (nat_le (most Cells) (length s.kinds))
 limit_refusal s (Command.Fix cell value) = stating_limit_at s None (value_at s cell value)
 limit_refusal s (Command.Tell premise cell value) = stating_limit_at s (Some premise) (value_at s cell value)
+limit_refusal s (Command.Choose choice cell values) = choosing_limit_at s (meants_at s cell values)
 limit_refusal s command = None
 
 -- ---- attaching
@@ -160,6 +220,7 @@ refusal_of library s command =
     ∷ when WrongKind (is_value_refused s command WrongKind)
     ∷ when NotInTheDomain (is_value_refused s command NotInTheDomain)
     ∷ when EmptyValue (is_value_refused s command EmptyValue)
+    ∷ when IsAChoice (is_choice_given s command)
     ∷ limit_refusal s command
     ∷ []
     )

@@ -10,7 +10,7 @@ use prop_scheduler::Order;
 use std::io::{Read, Write};
 
 impl<R: Rule + Drop, O: Order + Drop> Session<R, O> {
-    ghost use Rattle.prop_workbench.specs.Sessions.{state_of, IsSound, IsMeant};
+    ghost use Rattle.prop_workbench.specs.Sessions.{shown_of, IsSound, IsMeant};
     ghost use Rattle.prop_workbench.specs.Engine.{machine_of};
     ghost use Rattle.prop_engine.specs.Endings.{Tells, WritesTranscript, WritesFront};
 
@@ -32,15 +32,15 @@ impl<R: Rule + Drop, O: Order + Drop> Session<R, O> {
 
         // What was written is a transcript of all that the reader had left.
         ensures transcript { IfOk result (λ counts. WritesTranscript (machine_of R.value_of R.related self.old) (Rd.remaining (device reader.old))
-            (W.contents (device writer.old)) (W.contents (device writer.new)) counts (state_of self.old) (state_of self.new)) }
+            (W.contents (device writer.old)) (W.contents (device writer.new)) counts (shown_of self.old) (shown_of self.new)) }
         // At a fault it is the front of an allowed one.
         ensures front { OnErr result (WritesFront (machine_of R.value_of R.related self.old) (Rd.remaining (device reader.old))
-            (W.contents (device writer.old)) (W.contents (device writer.new)) (state_of self.old)) }
+            (W.contents (device writer.old)) (W.contents (device writer.new)) (shown_of self.old)) }
         // Which lines were carried out, by what the reads gave.
         ensures told { (input : List ℕ) × (output : List ℕ)
             × Consumes (Rd.remaining (device reader.old)) (Rd.remaining (device reader.new)) input
             × Appends (W.contents (device writer.old)) (W.contents (device writer.new)) output
-            × Tells (machine_of R.value_of R.related self.old) result (Rd.remaining (device reader.new)) (has_stopped reader.new) (state_of self.old) input output (state_of self.new) }
+            × Tells (machine_of R.value_of R.related self.old) result (Rd.remaining (device reader.new)) (has_stopped reader.new) (shown_of self.old) input output (shown_of self.new) }
 
         // When each fault comes.
         ensures read { IsErrOf result EngineFault.Read ↔ (has_failed reader.new ≡ true) }

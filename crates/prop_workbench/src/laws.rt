@@ -3,7 +3,7 @@ ghost use Rattle.std.specs.Prelude.{◌≡◌, ℕ, ◌++◌, List};
 ghost use Rattle.prop_procedures.specs.Kept.{stored_of, related_of};
 ghost use Rattle.prop_workbench.specs.Machine.{State};
 ghost use Rattle.prop_engine.specs.Transcripts.{WriteStopped, ReadStopped, IsFrontOfTranscript};
-ghost use Rattle.prop_workbench.specs.Agreeing.{RunsMeet, AnswersMeet, SettledTextsMeet, SettledIsFree};
+ghost use Rattle.prop_workbench.specs.Agreeing.{RunsMeet, AnswersMeet, SettledTextsMeet, SettledIsFree, StepsKeepNumbers};
 ghost use Rattle.prop_workbench.specs.Engine.{workbench};
 
 use prop_procedures::{Library, Rule};
@@ -21,10 +21,11 @@ pub fn a_stopped_read_leaves_a_front<R: Rule + Drop>(library: &Library<R>)
 
 /// Two sessions that are given the same lines agree, in whatever orders they call waiting procedures, as long as neither is refused memory: they
 /// end in one state, answer alike where nothing is run, and alike wherever both settle, but for the premises that explain a value. Where one
-/// settles the other says no contradiction.
+/// settles the other says no contradiction. Every line leaves the premises numbered.
 pub fn two_sessions_agree<R: Rule + Drop>(library: &Library<R>)
     ensures states { RunsMeet (workbench (stored_of R.value_of library.now) (related_of R.related library.now)) }
     ensures answers { AnswersMeet (stored_of R.value_of library.now) }
     ensures settled { SettledTextsMeet (stored_of R.value_of library.now) }
     ensures free { SettledIsFree (stored_of R.value_of library.now) }
+    ensures numbers { StepsKeepNumbers (stored_of R.value_of library.now) }
 {}

@@ -15,10 +15,13 @@ use prop_procedures::Rule;
 use prop_scheduler::{Order, state};
 use prop_values::{Meant, read_value};
 use prop_vocabulary::Vocabulary;
-use std::alloc::AllocError;
 
 /// What a value means at a cell of a kind.
-fn meaning<'a>(words: &Vocabulary, kind: Kind, value: &Value<'a>) -> Result<Meant<'a>, Refusal>
+pub(crate) fn meaning<'a>(
+    words: &Vocabulary,
+    kind: Kind,
+    value: &Value<'a>,
+) -> Result<Meant<'a>, Refusal>
     requires { IsKnown words.now kind }
     ensures ok { IfOk result (λ meant. meaning_at words.now kind (value_of value.now) ≡ Ok (meant_of meant)) }
     ensures err { IfErr result (λ e. meaning_at words.now kind (value_of value.now) ≡ Err e) }
@@ -33,20 +36,20 @@ fn meaning<'a>(words: &Vocabulary, kind: Kind, value: &Value<'a>) -> Result<Mean
 }
 
 impl<R: Rule + Drop, O: Order + Drop> Session<R, O> {
-    ghost use Rattle.std.specs.Prelude.{◌≡◌, ◌<◌, ◌++◌, ◌∷◌, [], ◌⊎◌, ℕ, IsTrue, None, Some, OnOk, OnErr, IfErr, length};
+    ghost use Rattle.std.specs.Prelude.{◌≡◌, ◌<◌, ◌++◌, ◌∷◌, [], ◌⊎◌, ℕ, IsTrue, false, None, Some, OnOk, OnErr, IfErr, length};
     ghost use Rattle.prop_lattice.specs.declared.refusal.Refusal.TheVariants.{Memory};
-    ghost use Rattle.prop_premises.specs.Origins.{premise_number, with_name};
+    ghost use Rattle.prop_premises.specs.Origins.{premise_number, is_choice, with_name};
     ghost use Rattle.prop_language.specs.Commands as commands;
     ghost use Rattle.prop_language.specs.Said.{value_of};
     ghost use Rattle.prop_procedures.specs.Fitting.{kind_at};
     ghost use Rattle.prop_cells.specs.Refusing.{may_be_stated, state_refusal};
     ghost use Rattle.prop_engine.specs.Answers.{answer_done};
-    ghost use Rattle.prop_workbench.specs.Effects.{number_given, name_of, stating, stated, with_meant, info_meant, MayMean};
+    ghost use Rattle.prop_workbench.specs.Effects.{number_given, name_of, stating, stated, info_meant, MayMean};
     ghost use Rattle.prop_values.specs.Said.{meant_of};
     ghost use Rattle.prop_values.specs.Values.{Name};
     ghost use Rattle.prop_vocabulary.specs.Vocabulary.{with_symbol, symbol_number};
-    ghost use Rattle.prop_workbench.specs.Refusing.{telling_limit, statement_limit, stating_limit};
-    ghost use Rattle.prop_workbench.specs.Sessions.{state_of, library_of, IsInOrder, Keeps, IsMeant};
+    ghost use Rattle.prop_workbench.specs.Refusing.{telling_limit, statement_limit, stating_limit, is_choice_told, with_meant};
+    ghost use Rattle.prop_workbench.specs.Sessions.{state_of, library_of, IsInOrder, Keeps};
     ghost use Rattle.prop_workbench.specs.Steps.{Obeys};
 
     /// States what a value says at a cell, under the premise with a name or under none.
@@ -69,7 +72,20 @@ impl<R: Rule + Drop, O: Order + Drop> Session<R, O> {
             Ok(meant) => meant,
             Err(refusal) => return Err(refusal),
         };
+        if self.is_choice(premise) {
+            return Err(Refusal::IsAChoice);
+        }
         self.state_meant(premise, cell, meant)
+    }
+
+    /// Whether the name is that of a choice, where there is one.
+    fn is_choice(&self, premise: Option<&str>) -> bool
+        ensures { result ≡ is_choice_told (state_of self.now) (name_of premise.entry) }
+    {
+        match premise {
+            Some(name) => self.search.premises().is_choice(name),
+            None => false,
+        }
     }
 
     /// States what a value means at a cell. A symbol that it names is new or known.
@@ -80,6 +96,7 @@ impl<R: Rule + Drop, O: Order + Drop> Session<R, O> {
         meant: Meant,
     ) -> Result<(), Refusal>
         requires sound { IsInOrder R.value_of self.old }
+        requires told { is_choice_told (state_of self.old) (name_of premise) ≡ false }
         requires cell { cell < length self.old.network.cells.kinds }
         requires may { MayMean (kind_at self.old.network.cells.kinds cell) (meant_of meant) }
         ensures keeps { Keeps R.value_of self.old self.new }
@@ -102,6 +119,7 @@ impl<R: Rule + Drop, O: Order + Drop> Session<R, O> {
         symbol: &str,
     ) -> Result<(), Refusal>
         requires sound { IsInOrder R.value_of self.old }
+        requires told { is_choice_told (state_of self.old) (name_of premise) ≡ false }
         requires cell { cell < length self.old.network.cells.kinds }
         requires may { (kind_at self.old.network.cells.kinds cell).kind ≡ Kind.Symbol }
         ensures keeps { Keeps R.value_of self.old self.new }
@@ -131,12 +149,13 @@ impl<R: Rule + Drop, O: Order + Drop> Session<R, O> {
     /// Why one more statement is refused, under the premise with a name or under none.
     fn statement_limit(&self, premise: Option<&str>) -> Option<Refusal>
         requires sound { IsInOrder R.value_of self.now }
+        requires told { is_choice_told (state_of self.now) (name_of premise) ≡ false }
         ensures { result ≡ statement_limit (state_of self.now) (name_of premise.entry) }
     {
         match premise {
             Some(name)
-                if self.premises.find(name).is_err()
-                    && self.premises.len() >= Limit::Premises.most() => {
+                if self.search.premises().find(name).is_err()
+                    && self.search.premises().len() >= Limit::Premises.most() => {
                 Some(Refusal::LimitReached(Limit::Premises))
             }
             _ if self.network.data().statement_count() >= Limit::Statements.most() => {
@@ -149,6 +168,7 @@ impl<R: Rule + Drop, O: Order + Drop> Session<R, O> {
     /// Makes a statement under the premise with a name, which may be new, or under none.
     fn state_said(&mut self, premise: Option<&str>, cell: usize, info: Info) -> Result<(), Refusal>
         requires sound { IsInOrder R.value_of self.old }
+        requires told { is_choice_told (state_of self.old) (name_of premise) ≡ false }
         requires cell { cell < length self.old.network.cells.kinds }
         requires may { IsTrue (may_be_stated (kind_at self.old.network.cells.kinds cell).kind (kind_at self.old.network.cells.kinds cell).size info) }
         ensures keeps { Keeps R.value_of self.old self.new }
@@ -167,6 +187,7 @@ impl<R: Rule + Drop, O: Order + Drop> Session<R, O> {
     /// Makes a statement under the premise with a name, which may be new.
     fn state_told(&mut self, premise: &str, cell: usize, info: Info) -> Result<(), Refusal>
         requires sound { IsInOrder R.value_of self.old }
+        requires told { is_choice self.old.search.premises premise.now ≡ false }
         requires cell { cell < length self.old.network.cells.kinds }
         requires may { IsTrue (may_be_stated (kind_at self.old.network.cells.kinds cell).kind (kind_at self.old.network.cells.kinds cell).size info) }
         ensures keeps { Keeps R.value_of self.old self.new }
@@ -176,7 +197,7 @@ impl<R: Rule + Drop, O: Order + Drop> Session<R, O> {
         ensures err { IfErr result (λ e. (telling_limit (state_of self.old) premise.now ≡ Some e) ⊎ (e ≡ Memory)) }
         ensures err_same { OnErr result (state_of self.new ≡ state_of self.old) }
     {
-        match self.premises.find(premise) {
+        match self.search.premises().find(premise) {
             Ok(known) => self.state(Some(known), cell, info),
             Err(_) => self.state_under_new(premise, cell, info),
         }
@@ -186,7 +207,7 @@ impl<R: Rule + Drop, O: Order + Drop> Session<R, O> {
     fn state(&mut self, premise: Option<Premise>, cell: usize, info: Info) -> Result<(), Refusal>
         requires sound { IsInOrder R.value_of self.old }
         requires cell { cell < length self.old.network.cells.kinds }
-        requires known { (p : ℕ) → premise ≡ Some p → p < length self.old.premises }
+        requires known { (p : ℕ) → premise ≡ Some p → p < length self.old.search.premises }
         ensures keeps { Keeps R.value_of self.old self.new }
         ensures words { self.new.words ≡ self.old.words }
         ensures fits { OnOk result (state_refusal self.old.network.cells cell info ≡ None) }
@@ -197,7 +218,7 @@ impl<R: Rule + Drop, O: Order + Drop> Session<R, O> {
         state(
             &mut self.network,
             &mut self.agenda,
-            &self.worldview,
+            self.search.worldview(),
             premise,
             cell,
             info,
@@ -208,42 +229,33 @@ impl<R: Rule + Drop, O: Order + Drop> Session<R, O> {
     /// Makes a statement under a premise with a new name, which is believed.
     fn state_under_new(&mut self, name: &str, cell: usize, info: Info) -> Result<(), Refusal>
         requires sound { IsInOrder R.value_of self.old }
+        requires told { is_choice self.old.search.premises name.now ≡ false }
         requires cell { cell < length self.old.network.cells.kinds }
         requires may { IsTrue (may_be_stated (kind_at self.old.network.cells.kinds cell).kind (kind_at self.old.network.cells.kinds cell).size info) }
-        requires new { premise_number self.old.premises name.now ≡ None }
+        requires new { premise_number self.old.search.premises name.now ≡ None }
         ensures keeps { Keeps R.value_of self.old self.new }
         ensures words { self.new.words ≡ self.old.words }
         ensures fits { OnOk result (telling_limit (state_of self.old) name.now ≡ None) }
-        ensures ok { OnOk result (state_of self.new ≡ record (state_of self.old) { premises = with_name (state_of self.old).premises name.now; statements = (state_of self.old).statements ++ record { premise = Some (length self.old.premises); cell = cell; info = info } ∷ [] }) }
+        ensures ok { OnOk result (state_of self.new ≡ record (state_of self.old) { premises = with_name (state_of self.old).premises name.now; statements = (state_of self.old).statements ++ record { premise = Some (length self.old.search.premises); cell = cell; info = info } ∷ [] }) }
         ensures err { IfErr result (λ e. (telling_limit (state_of self.old) name.now ≡ Some e) ⊎ (e ≡ Memory)) }
         ensures err_same { OnErr result (state_of self.new ≡ state_of self.old) }
     {
-        let count = self.premises.len();
-        let premise = match self.premises.intern(name) {
+        let premise = match self.search.intern(name) {
             Ok(premise) => premise,
             Err(refusal) => return Err(refusal),
         };
-        let worldview = match self.premises.worldview(&[]) {
-            Ok(worldview) => worldview,
-            Err(AllocError) => {
-                self.premises.back(count);
-                return Err(Refusal::Memory);
-            }
-        };
+        self.search.well_made();
         match state(
             &mut self.network,
             &mut self.agenda,
-            &worldview,
+            self.search.worldview(),
             Some(premise),
             cell,
             info,
         ) {
-            Ok(()) => {
-                self.worldview = worldview;
-                Ok(())
-            }
+            Ok(()) => Ok(()),
             Err(refusal) => {
-                self.premises.back(count);
+                self.search.take_back(premise);
                 Err(refusal)
             }
         }

@@ -1,7 +1,8 @@
 -- How a session begins.
-use Rattle.std.proofs.Common.{◌≡◌, ◌∙◌, ℕ, zero, suc, ◌+◌, ◌<◌, ◌≤◌, ap, List, [], ◌∷◌, ◌++◌, length, map, take, get_or, inl, refl, arith, subst}
+use Rattle.std.proofs.Common.{◌≡◌, ◌∙◌, ℕ, zero, suc, ◌+◌, ◌<◌, ◌≤◌, ap, List, [], ◌∷◌, ◌++◌, length, map, take, get_or, inl, inr, refl, arith, subst}
 use Rattle.std.proofs.lemmas.List.{take_more, take_all, map-append}
-use Rattle.std.specs.Prelude.{Option, Some, slice_get, IsSomeAnd, Result, IfOk, OnErr}
+use Rattle.std.proofs.lemmas.List.Elements.{All-nil}
+use Rattle.std.specs.Prelude.{Option, Some, None, slice_get, IsSomeAnd, Result, Ok, Err, IfOk, OnErr}
 use Rattle.std.proofs.lemmas.Option.{none-some, same_Some}
 use Rattle.prop_lattice.specs.Points.{Point}
 use Rattle.prop_procedures.specs.declared.shape.Param.{Param}
@@ -17,9 +18,16 @@ use Rattle.prop_arith.specs.KitLaws.{kit_sound}
 use Rattle.prop_arith.specs.declared.kit.Kit.{Kit}
 use Rattle.prop_arith.specs.declared.kit.Kit.TheVariants.{Add, Sub, Mul, Div, Square, Root, Less, Below, Above, Copy, Alike, Apart, Switch, Not, And, AndBack, Or, OrBack, Image, Coimage}
 use Rattle.prop_engine.specs.declared.outcome.Counts.{Counts}
-use Rattle.prop_workbench.specs.Machine.{State, new_state}
+use Rattle.prop_engine.specs.Endings.{WritesTranscript, WritesFront}
+use Rattle.prop_arith.specs.Prelude.{prelude_lines}
+use Rattle.prop_workbench.specs.Machine.{naming}
+use Rattle.prop_workbench.specs.Steps.{Shown, Covers, new_shown}
+use Rattle.prop_workbench.specs.Loading.{Loads}
+use Rattle.prop_workbench.specs.Engine.{learning}
+use Rattle.prop_workbench.specs.Shown.{IsShown}
+use Rattle.prop_workbench.proofs.NamedLaws.{shown_transcripts, shown_fronts}
 use Rattle.propbench.specs.declared.fault.Fault.{Fault}
-use Rattle.propbench.specs.Kits.{stored_kit, kit_library, kit_related, IsAnsweredBy, IsAnsweredInFrontBy, IsAnswered, IsAnsweredInFront}
+use Rattle.propbench.specs.Kits.{stored_kit, kit_library, kit_related, CarriesOut, IsAnsweredAs, IsAnsweredInFrontAs, IsAnswered, IsAnsweredInFront}
 
 -- before the session nothing is written
 pub nothing_yet : (left held : Option (List ℕ)) (limit : ℕ) → IsAnsweredInFront left held held limit
@@ -87,16 +95,51 @@ ruled_more items all p rules i d e h s l = rw (e, map-append (λ q. q.rule) item
 
 -- ---- what a session over the kit wrote
 
--- a session whose library has the kit's procedures, from the state of a new one
-pub answered_by_kit : {X : Type 0} {F : X → Type 0} {g : _} → (library : Library Kit X F g) (items : List (Procedure Kit X F g)) (s : State) (limit : ℕ) (left held held' : Option (List ℕ)) (result : Result Counts Fault) → library.procedures.items ≡ items → map (stored_as value_of) items ≡ kit_library → map (λ p. p.rule) items ≡ in_order → s ≡ new_state limit → IfOk result (IsAnsweredBy (stored_of value_of library) (related_of Related library) s left held held') → IfOk result (IsAnswered left held held' limit)
-answered_by_kit library items s limit left held held' result same listed ruled begun h =
+-- lines that a session carried out are carried out by the machine, whichever contradictions were named
+carried_out : (library : List Stored) (old new : Shown) (lines : List (List ℕ)) → Loads library old lines new → (named : List (List ℕ)) → Covers old named → IsShown (λ s. CarriesOut library (naming old.state named) lines s) new
+carried_out library old new [] same named covers = record { now = named; covers = rw same covers; done = rw same refl }
+carried_out library old new (line ∷ lines) (answer, mid, steps, free, step, rest) named covers =
+    let one = step named covers in
+    let more = carried_out library mid new lines rest one.now one.covers in
+    record { now = more.now; covers = more.covers; done = (answer, naming mid.state one.now, steps, free, one.step, more.done) }
+
+-- a session that loaded the prelude, and wrote a transcript of what it shows
+pub answered_as : (library : List Stored) (related : ℕ → Param → List Point → Point → Type 0) (begun first new : Shown) (left held held' : Option (List ℕ)) (counts : Counts) → Loads library begun prelude_lines first →
+    WritesTranscript (learning library related) left held held' counts first new → IsAnsweredAs library related begun left held held' counts
+answered_as library related begun first new None held held' counts loads written named covers =
+    let before = carried_out library begun first prelude_lines loads named covers in (naming first.state before.now, new.state, before.done, tt)
+answered_as library related begun first new (Some input) held held' counts loads (output, appends, transcript) named covers =
+    let before = carried_out library begun first prelude_lines loads named covers in
+    let shown = shown_transcripts library related first new input output counts.lines counts.refused transcript before.now before.covers in
+    (naming first.state before.now, naming new.state shown.now, before.done, (output, appends, shown.done))
+
+-- the same of the front of one
+pub answered_in_front_as : (library : List Stored) (related : ℕ → Param → List Point → Point → Type 0) (begun first : Shown) (left held held' : Option (List ℕ)) → Loads library begun prelude_lines first →
+    WritesFront (learning library related) left held held' first → IsAnsweredInFrontAs library related begun left held held'
+answered_in_front_as library related begun first None held held' loads written named covers =
+    let before = carried_out library begun first prelude_lines loads named covers in inr (naming first.state before.now, before.done, tt)
+answered_in_front_as library related begun first (Some input) held held' loads (output, appends, front) named covers =
+    let before = carried_out library begun first prelude_lines loads named covers in
+    inr (naming first.state before.now, before.done, (output, appends, shown_fronts library related first input output front before.now before.covers))
+
+-- no contradictions are covered by what was learned
+none_covered : (s : Shown) → Covers s []
+none_covered s = All-nil _
+
+-- a session whose library has the kit's procedures, from what a new one shows
+pub answered_by_kit : {X : Type 0} {F : X → Type 0} {g : _} → (library : Library Kit X F g) (items : List (Procedure Kit X F g)) (s : Shown) (limit : ℕ) (left held held' : Option (List ℕ)) (result : Result Counts Fault) → library.procedures.items ≡ items → map (stored_as value_of) items ≡ kit_library → map (λ p. p.rule) items ≡ in_order → s ≡ new_shown limit → IfOk result (IsAnsweredAs (stored_of value_of library) (related_of Related library) s left held held') → IfOk result (IsAnswered left held held' limit)
+answered_by_kit library items s limit left held held' (Ok counts) same listed ruled begun h =
     let stored : stored_of value_of library ≡ kit_library = ap (map (stored_as value_of)) same ∙ listed in
     let related : related_of Related library ≡ kit_related = related_by_rules library (ap (map (λ p. p.rule)) same ∙ ruled) in
-    subst (λ (P : Type 0). P) (λ i. IfOk result (IsAnsweredBy (stored i) (related i) (begun i) left held held')) h
+    let answered : IsAnsweredAs kit_library kit_related (new_shown limit) left held held' counts = subst (λ (P : Type 0). P) (λ i. IsAnsweredAs (stored i) (related i) (begun i) left held held' counts) h in
+    answered [] (none_covered (new_shown limit))
+answered_by_kit library items s limit left held held' (Err e) same listed ruled begun h = tt
 
 -- the same of what it wrote until it was stopped
-pub answered_in_front_by_kit : {X : Type 0} {F : X → Type 0} {g : _} → (library : Library Kit X F g) (items : List (Procedure Kit X F g)) (s : State) (limit : ℕ) (left held held' : Option (List ℕ)) (result : Result Counts Fault) → library.procedures.items ≡ items → map (stored_as value_of) items ≡ kit_library → map (λ p. p.rule) items ≡ in_order → s ≡ new_state limit → OnErr result (IsAnsweredInFrontBy (stored_of value_of library) (related_of Related library) s left held held') → OnErr result (IsAnsweredInFront left held held' limit)
-answered_in_front_by_kit library items s limit left held held' result same listed ruled begun h =
+pub answered_in_front_by_kit : {X : Type 0} {F : X → Type 0} {g : _} → (library : Library Kit X F g) (items : List (Procedure Kit X F g)) (s : Shown) (limit : ℕ) (left held held' : Option (List ℕ)) (result : Result Counts Fault) → library.procedures.items ≡ items → map (stored_as value_of) items ≡ kit_library → map (λ p. p.rule) items ≡ in_order → s ≡ new_shown limit → OnErr result (IsAnsweredInFrontAs (stored_of value_of library) (related_of Related library) s left held held') → OnErr result (IsAnsweredInFront left held held' limit)
+answered_in_front_by_kit library items s limit left held held' (Ok counts) same listed ruled begun h = tt
+answered_in_front_by_kit library items s limit left held held' (Err e) same listed ruled begun h =
     let stored : stored_of value_of library ≡ kit_library = ap (map (stored_as value_of)) same ∙ listed in
     let related : related_of Related library ≡ kit_related = related_by_rules library (ap (map (λ p. p.rule)) same ∙ ruled) in
-    subst (λ (P : Type 0). P) (λ i. OnErr result (IsAnsweredInFrontBy (stored i) (related i) (begun i) left held held')) h
+    let answered : IsAnsweredInFrontAs kit_library kit_related (new_shown limit) left held held' = subst (λ (P : Type 0). P) (λ i. IsAnsweredInFrontAs (stored i) (related i) (begun i) left held held') h in
+    answered [] (none_covered (new_shown limit))

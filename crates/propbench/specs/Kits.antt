@@ -1,15 +1,17 @@
 -- What the program writes, by the rules of the kit.
-use Rattle.std.specs.Prelude.{◌≡◌, ◌⊎◌, ℕ, List, Option, map, slice_get, IsSomeAnd}
+use Rattle.std.specs.Prelude.{◌≡◌, ◌⊎◌, ℕ, List, [], ◌∷◌, Option, map, slice_get, IsSomeAnd}
 use Rattle.prop_lattice.specs.Points.{Point}
 use Rattle.prop_procedures.specs.declared.shape.Param.{Param}
 use Rattle.prop_procedures.specs.Stored.{Stored}
 use Rattle.prop_arith.specs.Kit.{in_order, name_of, ins_of, out_of, need_of, value_of, Related}
 use Rattle.prop_arith.specs.declared.kit.Kit.{Kit}
 use Rattle.prop_engine.specs.declared.outcome.Counts.{Counts}
-use Rattle.prop_workbench.specs.Machine.{State, new_state}
+use Rattle.prop_engine.specs.Answers.{Answer}
+use Rattle.prop_workbench.specs.Machine.{State, new_state, naming}
 use Rattle.prop_workbench.specs.Engine.{workbench}
+use Rattle.prop_workbench.specs.Steps.{Step, Shown, Covers}
 use Rattle.prop_arith.specs.Prelude.{prelude_lines}
-use Rattle.prop_workbench.specs.Loading.{Loads}
+use Rattle.prop_workbench.specs.Loading.{IsNoRefusal}
 use Rattle.prop_engine.specs.Endings.{WritesTranscript, WritesFront}
 
 -- the procedure of a rule
@@ -24,17 +26,32 @@ kit_library = map stored_kit in_order
 abbrev pub kit_related : ℕ → Param → List Point → Point → Type 0
 kit_related n param points point = IsSomeAnd (slice_get in_order n) (λ rule. Related rule param points point)
 
+-- the machine carried out the lines one after another, none of them refused
+abbrev pub CarriesOut : List Stored → State → List (List ℕ) → State → Type 0
+CarriesOut library old [] new = new ≡ old
+CarriesOut library old (line ∷ lines) new =
+    (answer : Answer) × (mid : State) × (steps : ℕ) × IsNoRefusal answer × Step library old line answer mid steps × CarriesOut library mid lines new
+
 -- a writer got a transcript of all that the reader had left, where that is known, of a session that loaded the prelude in this state
 abbrev pub IsAnsweredBy : List Stored → (ℕ → Param → List Point → Point → Type 0) → State → Option (List ℕ) → Option (List ℕ) → Option (List ℕ) → Counts → Type 0
 IsAnsweredBy library related begun left held held' counts =
-    (first : State) × (new : State) × Loads library begun prelude_lines first × WritesTranscript (workbench library related) left held held' counts first new
+    (first : State) × (new : State) × CarriesOut library begun prelude_lines first × WritesTranscript (workbench library related) left held held' counts first new
 
 -- a writer got nothing, or the front of such a transcript
 abbrev pub IsAnsweredInFrontBy : List Stored → (ℕ → Param → List Point → Point → Type 0) → State → Option (List ℕ) → Option (List ℕ) → Option (List ℕ) → Type 0
 IsAnsweredInFrontBy library related begun left held held' =
-    (held' ≡ held) ⊎ ((first : State) × Loads library begun prelude_lines first × WritesFront (workbench library related) left held held' first)
+    (held' ≡ held) ⊎ ((first : State) × CarriesOut library begun prelude_lines first × WritesFront (workbench library related) left held held' first)
 
--- the same of a session with the kit's procedures that begins without cells
+-- the same of a session that shows this state, whichever contradictions were named in it, if what it has learned covers them
+abbrev pub IsAnsweredAs : List Stored → (ℕ → Param → List Point → Point → Type 0) → Shown → Option (List ℕ) → Option (List ℕ) → Option (List ℕ) → Counts → Type 0
+IsAnsweredAs library related begun left held held' counts =
+    (named : List (List ℕ)) → Covers begun named → IsAnsweredBy library related (naming begun.state named) left held held' counts
+
+abbrev pub IsAnsweredInFrontAs : List Stored → (ℕ → Param → List Point → Point → Type 0) → Shown → Option (List ℕ) → Option (List ℕ) → Option (List ℕ) → Type 0
+IsAnsweredInFrontAs library related begun left held held' =
+    (named : List (List ℕ)) → Covers begun named → IsAnsweredInFrontBy library related (naming begun.state named) left held held'
+
+-- the same of a session with the kit's procedures that begins without cells, and with no contradictions named
 abbrev pub IsAnswered : Option (List ℕ) → Option (List ℕ) → Option (List ℕ) → ℕ → Counts → Type 0
 IsAnswered left held held' limit counts = IsAnsweredBy kit_library kit_related (new_state limit) left held held' counts
 

@@ -3,9 +3,9 @@ ghost use Rattle.std.specs.Prelude.{◌≡◌, IfOk, OnErr, map};
 ghost use Rattle.prop_arith.specs.Kit.{value_of, in_order};
 ghost use Rattle.prop_procedures.specs.Kept.{AllMean, stored_as};
 ghost use Rattle.prop_engine.specs.Watched.{device, IsFresh};
-ghost use Rattle.propbench.specs.Kits.{kit_library, kit_related, IsAnswered, IsAnsweredInFront, IsAnsweredBy, IsAnsweredInFrontBy};
+ghost use Rattle.propbench.specs.Kits.{kit_library, kit_related, IsAnswered, IsAnsweredInFront, IsAnsweredAs, IsAnsweredInFrontAs};
 ghost use Rattle.prop_cells.specs.Points.{AreSoundBy};
-ghost use Rattle.prop_workbench.specs.Sessions.{state_of, library_of, related_in, IsSound, IsMeant};
+ghost use Rattle.prop_workbench.specs.Sessions.{shown_of, library_of, related_in, IsSound, IsMeant};
 
 use crate::chosen::{Options, Pick};
 use crate::fault::Fault;
@@ -109,8 +109,8 @@ fn answer<R: Rule + Drop, O: Order + Drop, Rd: Read, W: Write>(
     requires writer { IsFresh writer.old }
     requires means { IsMeant R.value_of session.old }
     requires sound { IsSound R.value_of session.old }
-    ensures ok { IfOk result (IsAnsweredBy (library_of R.value_of session.old) (related_in R.related session.old) (state_of session.old) (Rd.remaining (device reader.old)) (W.contents (device writer.old)) (W.contents (device writer.new))) }
-    ensures err { OnErr result (IsAnsweredInFrontBy (library_of R.value_of session.old) (related_in R.related session.old) (state_of session.old) (Rd.remaining (device reader.old)) (W.contents (device writer.old)) (W.contents (device writer.new))) }
+    ensures ok { IfOk result (IsAnsweredAs (library_of R.value_of session.old) (related_in R.related session.old) (shown_of session.old) (Rd.remaining (device reader.old)) (W.contents (device writer.old)) (W.contents (device writer.new))) }
+    ensures err { OnErr result (IsAnsweredInFrontAs (library_of R.value_of session.old) (related_in R.related session.old) (shown_of session.old) (Rd.remaining (device reader.old)) (W.contents (device writer.old)) (W.contents (device writer.new))) }
 {
     match session.load_prelude() {
         Ok(()) => {}

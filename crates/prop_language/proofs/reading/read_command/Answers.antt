@@ -3,7 +3,7 @@ use Rattle.prop_language.specs.Tokens.{Token, Word, tokens}
 use Rattle.prop_language.specs.Said.{KeepsWords}
 use Rattle.prop_language.specs.Parts.{KeepsWordsOf, word_of}
 use Rattle.prop_language.specs.declared.reading.CommandWord.{CommandWord}
-use Rattle.prop_language.specs.declared.reading.CommandWord.TheVariants.{Domain, Relation, Cell, Define, Attach, Fix, Tell, Kick, Bring, Limit, Settle, Ask, Why, Worldview}
+use Rattle.prop_language.specs.declared.reading.CommandWord.TheVariants.{Domain, Relation, Cell, Define, Attach, Fix, Tell, Choose, Kick, Bring, Limit, Settle, Ask, Why, Worldview, Nogoods}
 use Rattle.prop_language.proofs.reading.read_command.Goals as goal
 
 keeps : (command : CommandWord) (w : List ℕ) (ts : List Token) → w ≡ word_of command → KeepsWordsOf command ts → KeepsWords (Word w ∷ ts)
@@ -12,8 +12,9 @@ keeps Relation w ts e h = inr (inl e)
 keeps Cell w ts e h = absurd h
 keeps Define w ts e h = inr (inr (inl e))
 keeps Attach w ts e h = inr (inr (inr (inl e)))
-keeps Fix w ts e h = inr (inr (inr (inr (inl e, h))))
-keeps Tell w ts e h = inr (inr (inr (inr (inr e, h))))
+keeps Fix w ts e h = inr (inr (inr (inr (inr (inl e, h)))))
+keeps Tell w ts e h = inr (inr (inr (inr (inr (inr e, h)))))
+keeps Choose w ts e h = inr (inr (inr (inr (inl e))))
 keeps Kick w ts e h = absurd h
 keeps Bring w ts e h = absurd h
 keeps Limit w ts e h = absurd h
@@ -21,6 +22,7 @@ keeps Settle w ts e h = absurd h
 keeps Ask w ts e h = absurd h
 keeps Why w ts e h = absurd h
 keeps Worldview w ts e h = absurd h
+keeps Nogoods w ts e h = absurd h
 
 pub returns-in-Some-clause-read : goal.returns-in-Some-clause-read
 returns-in-Some-clause-read c =

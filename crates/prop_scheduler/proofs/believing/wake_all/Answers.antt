@@ -14,3 +14,8 @@ returns-clause-under_way g c =
     let count = c.instances.ensures.count in
     let below : (j : ℕ) → Contains line j → j < n = λ j k. elim (first.only j k) as (λ _. j < n) [ inl was ↦ All-contains (λ i. i < n) c.args.agenda.now.line j c.requires.line was | inr l ↦ omega (arith, l, count) ] in
     λ s. under_way_all (stored_of g.R.Rule.value_of c.args.network.now.library) s d line c.requires.kept (All-from_contains (λ j. j < n) line below) (λ j l. first.alerted j (omega (arith, l, count)))
+
+pub returns-clause-all : goal.returns-clause-all
+returns-clause-all g c =
+    let count = c.instances.ensures.count in
+    λ j l. c.alert_first.ensures.alerted.alerted j (omega (arith, l, count))

@@ -1,24 +1,25 @@
-use Rattle.std.proofs.Common.{◌≡◌, inl, inr, refl}
-use Rattle.prop_workbench.specs.Engine.{workbench, machine_of}
-use Rattle.prop_workbench.specs.Sessions.{state_of, library_of, related_in}
+use Rattle.std.proofs.Common.{◌≡◌, inl, refl}
+use Rattle.prop_workbench.specs.Engine.{learning, machine_of}
+use Rattle.prop_workbench.specs.Sessions.{shown_of, library_of, related_in}
 use Rattle.prop_engine.proofs.Io.{on_err}
 use Rattle.prop_procedures.specs.Kept.{stored_of, related_of}
+use Rattle.propbench.proofs.Starts.{answered_as, answered_in_front_as}
 use Rattle.propbench.proofs.running.answer.Goals as goal
 
 pub returns-in-Err-clause-err : goal.returns-in-Err-clause-err
-returns-in-Err-clause-err g c = inl refl
+returns-in-Err-clause-err g c = λ named covers. inl refl
 
 pub returns-clause-ok : goal.returns-clause-ok
 returns-clause-ok g c =
     let same = c.load_prelude.ensures.same in
-    let machine : machine_of g.R.Rule.value_of g.R.Rule.related c.load_prelude.new.self ≡ workbench (library_of g.R.Rule.value_of c.args.session.now) (related_in g.R.Rule.related c.args.session.now) = λ i. workbench (stored_of g.R.Rule.value_of (same i)) (related_of g.R.Rule.related (same i)) in
-    (state_of c.load_prelude.new.self, state_of c.run_session.new.self, c.in-Ok.ensures.ok, rw machine at c.in_ok-run_session.ensures.transcript)
+    let machine : machine_of g.R.Rule.value_of g.R.Rule.related c.load_prelude.new.self ≡ learning (library_of g.R.Rule.value_of c.args.session.now) (related_in g.R.Rule.related c.args.session.now) = λ i. learning (stored_of g.R.Rule.value_of (same i)) (related_of g.R.Rule.related (same i)) in
+    answered_as _ _ (shown_of c.args.session.now) (shown_of c.load_prelude.new.self) (shown_of c.run_session.new.self) _ _ _ _ c.in-Ok.ensures.ok (rw machine at c.in_ok-run_session.ensures.transcript)
 
 pub returns-in_err-run_session-clause-err : goal.returns-in_err-run_session-clause-err
 returns-in_err-run_session-clause-err g c =
     let same = c.load_prelude.ensures.same in
-    let machine : machine_of g.R.Rule.value_of g.R.Rule.related c.load_prelude.new.self ≡ workbench (library_of g.R.Rule.value_of c.args.session.now) (related_in g.R.Rule.related c.args.session.now) = λ i. workbench (stored_of g.R.Rule.value_of (same i)) (related_of g.R.Rule.related (same i)) in
-    on_err _ _ (inr (state_of c.load_prelude.new.self, c.in-Ok.ensures.ok, rw machine at c.in_err-run_session.ensures.front))
+    let machine : machine_of g.R.Rule.value_of g.R.Rule.related c.load_prelude.new.self ≡ learning (library_of g.R.Rule.value_of c.args.session.now) (related_in g.R.Rule.related c.args.session.now) = λ i. learning (stored_of g.R.Rule.value_of (same i)) (related_of g.R.Rule.related (same i)) in
+    on_err _ _ (answered_in_front_as _ _ (shown_of c.args.session.now) (shown_of c.load_prelude.new.self) _ _ _ c.in-Ok.ensures.ok (rw machine at c.in_err-run_session.ensures.front))
 
 pub run_session-requires-clause-means : goal.run_session-requires-clause-means
 run_session-requires-clause-means g c = rw c.load_prelude.ensures.same c.requires.means

@@ -1,14 +1,18 @@
-use Rattle.std.proofs.Common.{◌≡◌, ◌∙◌, sym, true, map, length}
-use Rattle.prop_premises.proofs.OriginLemmas.{is_user_at-push, length-origins}
-use Rattle.prop_premises.specs.Named.{origin_of}
+use Rattle.std.proofs.Common.{◌∙◌, sym, ap, true}
+use Rattle.prop_premises.specs.Origins.{choices_of}
+use Rattle.prop_premises.proofs.ChoiceLemmas.{choices_of-user}
+use Rattle.prop_premises.proofs.OriginLemmas.{is_user_at-push}
 use Rattle.prop_premises.proofs.premises.Premises.add.Goals as goal
 use Rattle.prop_premises.proofs.premises.Premises.add.Goals.{in-Ok, in-Err}
 
+pub invariant_of-self : goal.invariant_of-self
+invariant_of-self c = elim c.match-add.branch [
+  | in-Ok w ↦ c.self.invariant ∙ sym (ap choices_of w.in-Ok.ensures.ok ∙ choices_of-user c.self.inside.table c.args.name.now true)
+  | in-Err w ↦ c.self.invariant ∙ ap choices_of (sym w.in-Err.ensures.err)
+]
+
 pub returns-clause-user : goal.returns-clause-user
-returns-clause-user c =
-    let es = c.self.inside.beliefs.entries in
-    let last : c.len-number.result ≡ length (map origin_of es) = c.len-number.ensures.len ∙ sym (length-origins es) in
-    elim c.match-insert_believed.branch [
-      | in-Ok w ↦ (let pushed = w.in-Ok.ensures.ok in rw (w.result-is, pushed) (is_user_at-push (map origin_of es) c.args.name.now true c.len-number.result last))
-      | in-Err w ↦ rw w.result-is tt
-    ]
+returns-clause-user c = elim c.match-add.branch [
+  | in-Ok w ↦ rw (w.result-is, w.in-Ok.ensures.ok) (is_user_at-push c.self.inside.table c.args.name.now true c.len-number.result c.len-number.ensures.len)
+  | in-Err w ↦ rw w.result-is tt
+]

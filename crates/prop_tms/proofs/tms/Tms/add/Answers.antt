@@ -1,4 +1,4 @@
-use Rattle.std.proofs.Common.{refl}
+use Rattle.std.proofs.Common.{refl, inl, inr}
 use Rattle.prop_tms.specs.Beliefs.{IsNeedless}
 use Rattle.prop_tms.specs.declared.supported.Supported.{Supported}
 use Rattle.prop_tms.proofs.BeliefLemmas.{adds_joined, adds_needless, none_subsumed-joined}
@@ -56,3 +56,11 @@ returns-clause-apart g c =
     let left = rw c.in_ok-reserve.ensures.items at c.drop_subsumed.ensures.kept in
     let needed : ¬ (IsNeedless g.V.Partial.below g.V.Partial.bottom c.self.inside.entries.items e) = λ n. cc (c.if-is_needless.false, c.is_needless.ensures.1 (rw c.deref.ensures.value n)) in
     rw pushed (none_subsumed-joined g.met.V.Partial.laws c.self.inside.entries.items c.drop_subsumed.new.entries.items e left needed c.self.invariant)
+
+pub returns-then-is_needless-clause-stay : goal.returns-then-is_needless-clause-stay
+returns-then-is_needless-clause-stay g c = inl refl
+
+pub returns-clause-stay : goal.returns-clause-stay
+returns-clause-stay g c =
+    let left = rw c.in_ok-reserve.ensures.items at c.drop_subsumed.ensures.kept in
+    inr (c.drop_subsumed.new.entries.items, rw (← c.self.view_is) left, c.in_ok-push.ensures.items)

@@ -14,17 +14,15 @@ returns-clause-keeps g c =
     record {
       library = refl;
       sound = record {
-        under_way = c.requires.sound.under_way;
-        worldview = c.requires.sound.worldview;
-        known = c.requires.sound.known;
+        at_work = c.requires.sound.at_work;
         sized = c.requires.sound.sized;
         locals = locals_defined_or_not s.words c.domain_count.ensures.whole (stored_of g.R.Rule.value_of s.network.library) s.definitions c.define.new.self c.args.name.now (words c.args.params.now) (map step_of c.args.steps.now) c.define.result
             (rw c.library.ensures at c.define.ensures.fits) (rw c.library.ensures at c.define.ensures.ok) c.define.ensures.err_same c.requires.sound.locals;
         named = c.requires.sound.named;
         defined = rw c.library.ensures at c.define.ensures.over;
-        roomy = c.requires.sound.roomy;
       };
       steps = refl;
+      covers = λ m covered. covered;
     }
 
 pub returns-clause-step : goal.returns-clause-step

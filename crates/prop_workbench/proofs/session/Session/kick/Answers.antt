@@ -1,13 +1,82 @@
-use Rattle.std.proofs.Common.{false}
+use Rattle.std.proofs.Common.{◌≡◌, ◌∙◌, true, false, Some, Ok, refl, sym, ap}
 use Rattle.prop_procedures.specs.Kept.{stored_of}
-use Rattle.prop_workbench.specs.Sessions.{state_of}
-use Rattle.prop_workbench.proofs.BeliefLemmas.{believed_or_not}
+use Rattle.prop_premises.specs.Sets.{set_of}
+use Rattle.prop_premises.specs.Origins.{premise_number, is_choice, with_belief_at}
+use Rattle.prop_amb.specs.Search.{Stand, users_of}
+use Rattle.prop_amb.specs.Moving.{restarted}
+use Rattle.prop_cells.specs.Data.{problem_of}
+use Rattle.prop_workbench.specs.Sessions.{state_of, state_from}
+use Rattle.prop_workbench.proofs.BeliefLemmas.{believed_or_not, found_free}
+use Rattle.prop_workbench.proofs.StandingLemmas.{with_belief_same, believing_at_work, believing_covers, same_at_work, same_covers}
 use Rattle.prop_workbench.proofs.session.Session.kick.Goals as goal
 
-pub returns-clause-keeps : goal.returns-clause-keeps
-returns-clause-keeps g c = c.believe.ensures.keeps
+-- ---- the premise was believed
 
-pub returns-clause-step : goal.returns-clause-step
-returns-clause-step g c =
+pub returns-in-Ok-true-clause-keeps : goal.returns-in-Ok-true-clause-keeps
+returns-in-Ok-true-clause-keeps g c =
     let s = c.args.self.now in
-    believed_or_not (stored_of g.R.Rule.value_of s.network.library) (state_of s) (state_of c.believe.new.self) false c.args.name.now c.believe.result c.believe.ensures.ok c.believe.ensures.err c.believe.ensures.err_same
+    let p = c.in_ok-premise.premise in
+    let library = stored_of g.R.Rule.value_of s.network.library in
+    let new = c.kick.new.self in
+    let was : users_of s.search p ≡ true = sym c.in-Ok-true.ensures.was ∙ c.in-Ok-true.field-0-test in
+    let made : new ≡ record (restarted s.search) { premises = with_belief_at s.search.premises p false; worldview = new.worldview } = c.in-Ok-true.ensures.kicked was in
+    let changed : new.premises ≡ with_belief_at s.search.premises p false = ap (λ (t : Stand). t.premises) made in
+    let listed : new.listed ≡ s.search.listed = ap (λ (t : Stand). t.listed) made in
+    let sound = c.requires.sound in
+    record {
+      library = refl;
+      sound = record {
+        at_work = believing_at_work library s.search new p false s.network.cells s.agenda c.wake_all.new.agenda sound.at_work changed c.well_made.ensures (c.kick.ensures.search (problem_of library s.network.cells)) (c.wake_all.ensures.under_way (set_of new.worldview)) c.wake_all.ensures.room;
+        sized = sound.sized;
+        locals = sound.locals;
+        named = sound.named;
+        defined = sound.defined;
+      };
+      steps = refl;
+      covers = believing_covers s.search new p false changed listed;
+    }
+
+-- ---- it was not
+
+pub returns-in-Ok-false-clause-keeps : goal.returns-in-Ok-false-clause-keeps
+returns-in-Ok-false-clause-keeps g c =
+    let s = c.args.self.now in
+    let library = stored_of g.R.Rule.value_of s.network.library in
+    let was : users_of s.search c.in_ok-premise.premise ≡ false = sym c.in-Ok-false.ensures.was ∙ c.in-Ok-false.field-0-test in
+    let same : c.kick.new.self ≡ s.search = (c.kick.ensures.out was).1 in
+    let sound = c.requires.sound in
+    record {
+      library = refl;
+      sound = record { at_work = same_at_work library s.search c.kick.new.self s.network.cells s.agenda same sound.at_work; sized = sound.sized; locals = sound.locals; named = sound.named; defined = sound.defined };
+      steps = refl;
+      covers = same_covers s.search c.kick.new.self same;
+    }
+
+pub returns-in-Ok-false-clause-step : goal.returns-in-Ok-false-clause-step
+returns-in-Ok-false-clause-step g c =
+    let s = c.args.self.now in
+    let p = c.in_ok-premise.premise in
+    let premises = s.search.premises in
+    let library = stored_of g.R.Rule.value_of s.network.library in
+    let was : users_of s.search p ≡ false = sym c.in-Ok-false.ensures.was ∙ c.in-Ok-false.field-0-test in
+    let same : c.kick.new.self ≡ s.search = (c.kick.ensures.out was).1 in
+    let changed : c.kick.new.self.premises ≡ with_belief_at premises p false = ap (λ (t : Stand). t.premises) same ∙ sym (with_belief_same premises p false (rw c.premises.ensures at c.in_ok-premise.ensures.user) was) in
+    let found : premise_number premises c.args.name.now ≡ Some p = rw c.premises.ensures at c.in_ok-premise.ensures.found in
+    let free : is_choice premises c.args.name.now ≡ false = found_free (is_choice premises c.args.name.now) _ p refl (rw c.premises.ensures at c.in_ok-premise.ensures.choice) in
+    believed_or_not library (state_of s) (state_from s.names s.words s.definitions c.kick.new.self.premises s.network.cells s.limit) false c.args.name.now (Ok tt)
+    (p, found, free, λ i. state_from s.names s.words s.definitions (changed i) s.network.cells s.limit) tt tt
+
+-- ---- memory was refused
+
+pub returns-in-Err-clause-keeps : goal.returns-in-Err-clause-keeps
+returns-in-Err-clause-keeps g c =
+    let s = c.args.self.now in
+    let library = stored_of g.R.Rule.value_of s.network.library in
+    let same : c.kick.new.self ≡ s.search = c.in-Err.ensures.err in
+    let sound = c.requires.sound in
+    record {
+      library = refl;
+      sound = record { at_work = same_at_work library s.search c.kick.new.self s.network.cells s.agenda same sound.at_work; sized = sound.sized; locals = sound.locals; named = sound.named; defined = sound.defined };
+      steps = refl;
+      covers = same_covers s.search c.kick.new.self same;
+    }

@@ -18,16 +18,14 @@ returns-clause-keeps g c =
     record {
       library = refl;
       sound = record {
-        under_way = c.requires.sound.under_way;
-        worldview = c.requires.sound.worldview;
-        known = c.requires.sound.known;
+        at_work = c.requires.sound.at_work;
         sized = made_or_not (λ (w : Vocabulary). All (IsSized w) s.network.cells.kinds) s.words c.declare_relation.new.self made r c.declare_relation.ensures.ok c.declare_relation.ensures.err c.requires.sound.sized (sized_same s.words (with_relation s.words c.args.name.now c.args.from.now c.args.to.now (pairs_of c.args.pairs.now)) s.network.cells.kinds refl c.requires.sound.sized);
         locals = made_or_not (λ (w : Vocabulary). AreLocalsOf (IsSized w) s.definitions) s.words c.declare_relation.new.self made r c.declare_relation.ensures.ok c.declare_relation.ensures.err c.requires.sound.locals (locals_same s.words (with_relation s.words c.args.name.now c.args.from.now c.args.to.now (pairs_of c.args.pairs.now)) s.definitions refl c.requires.sound.locals);
         named = c.requires.sound.named;
         defined = c.requires.sound.defined;
-        roomy = c.requires.sound.roomy;
       };
       steps = refl;
+      covers = λ m covered. covered;
     }
 
 pub returns-clause-step : goal.returns-clause-step

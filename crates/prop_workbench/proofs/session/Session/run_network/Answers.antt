@@ -1,37 +1,41 @@
-use Rattle.std.proofs.Common.{ap, refl}
-use Rattle.prop_workbench.proofs.AskLemmas.{has_run}
-use Rattle.prop_workbench.specs.Sessions.{work_of}
-use Rattle.prop_workbench.proofs.EarnedLemmas.{has_gone}
+use Rattle.std.proofs.Common.{refl, sym}
+use Rattle.prop_procedures.specs.Kept.{stored_of}
+use Rattle.prop_workbench.proofs.AskLemmas.{same_problem, cover_kept, has_run}
 use Rattle.prop_workbench.proofs.session.Session.run_network.Goals as goal
 
-pub run-requires-clause-under_way : goal.run-requires-clause-under_way
-run-requires-clause-under_way g c =
-    rw c.requires.sound.worldview c.requires.sound.under_way
-
 pub returns-clause-keeps : goal.returns-clause-keeps
-returns-clause-keeps g c = record {
-  library = c.run.ensures.same;
-  sound =
-      let rest = c.run.ensures.rest in
-      record {
-        under_way = rw c.requires.sound.worldview at c.run.ensures.under_way;
-        worldview = c.requires.sound.worldview;
-        known = rw (ap (λ d. d.statements) rest) c.requires.sound.known;
-        sized = rw (ap (λ d. d.kinds) rest) c.requires.sound.sized;
+returns-clause-keeps g c =
+    let s = c.args.self.now in
+    let e = c.settle-ended.ensures in
+    let t = c.settle-ended.new in
+    let library = stored_of g.R.Rule.value_of s.network.library in
+    let library' = stored_of g.R.Rule.value_of t.network.library in
+    let rest = e.rest in
+    record {
+      library = e.same;
+      sound = record {
+        at_work = record {
+          under_way = rw e.same e.under_way;
+          well_made = c.well_made.ensures;
+          search = rw (same_problem library library' s.network.cells t.network.cells (λ i. stored_of g.R.Rule.value_of (e.same i)) rest) e.search;
+          known = rw (e.premises, rest) c.requires.sound.at_work.known;
+          roomy = rw (e.room, rest) c.requires.sound.at_work.roomy;
+        };
+        sized = rw rest c.requires.sound.sized;
         locals = c.requires.sound.locals;
-        defined = rw c.run.ensures.same c.requires.sound.defined;
-        named = rw (ap (λ d. d.kinds) rest) c.requires.sound.named;
-        roomy = rw (c.run.ensures.room, ap (λ d. d.instances) rest) c.requires.sound.roomy;
+        named = rw rest c.requires.sound.named;
+        defined = rw e.same c.requires.sound.defined;
       };
-  steps = refl;
-}
+      steps = refl;
+      covers = λ m covered. cover_kept s.search t.search m e.premises e.listed covered;
+    }
 
 pub returns-clause-run : goal.returns-clause-run
 returns-clause-run g c =
-    let believed = c.requires.sound.worldview in
-    has_run g.R.Rule.value_of _ c.run.result (rw believed at c.run.ensures.quiet) (rw believed at c.run.ensures.conflict) (rw believed at c.run.ensures.clash) c.run.ensures.steps c.run.ensures.spent c.run.ensures.earned
-
-pub returns-clause-gone : goal.returns-clause-gone
-returns-clause-gone g c =
-    let believed = c.requires.sound.worldview in
-    has_gone _ _ _ (work_of c.args.self.now) _ c.run.result (rw believed at c.run.ensures.turns) (rw believed at c.run.ensures.clash) c.run.ensures.left
+    let s = c.args.self.now in
+    let e = c.settle-ended.ensures in
+    let t = c.settle-ended.new in
+    let library = stored_of g.R.Rule.value_of s.network.library in
+    let library' = stored_of g.R.Rule.value_of t.network.library in
+    let problem = same_problem library library' s.network.cells t.network.cells (λ i. stored_of g.R.Rule.value_of (e.same i)) e.rest in
+    has_run g.R.Rule.value_of _ _ c.settle-ended.result (sym problem) c.well_made.ensures e.earlier (rw (← e.same) at e.settled) e.first e.contradiction e.steps e.spent e.earned

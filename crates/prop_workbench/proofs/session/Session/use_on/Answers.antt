@@ -1,13 +1,15 @@
 use Rattle.std.proofs.Common.{◌<◌, All, length, refl}
 use Rattle.std.proofs.lemmas.Result.{on_ok_weaker, on_err_weaker, IfErr-weaker}
-use Rattle.prop_premises.specs.Origins.{believed_in}
+use Rattle.prop_premises.specs.Sets.{set_of}
 use Rattle.prop_procedures.specs.Kept.{stored_of}
-use Rattle.prop_cells.specs.Data.{Data}
+use Rattle.prop_cells.specs.Data.{Data, problem_of}
+use Rattle.prop_amb.specs.Search.{IsSearch}
 use Rattle.prop_language.specs.Said.{by_of}
 use Rattle.prop_scheduler.specs.Making.{with_flat}
 use Rattle.prop_workbench.specs.Refusing.{given_by}
 use Rattle.prop_workbench.specs.Sessions.{state_of, state_from, AreKnown, IsSized}
 use Rattle.prop_workbench.proofs.AttachLemmas.{may_make, sized_made, named_made, state_made}
+use Rattle.prop_workbench.proofs.AdditionLemmas.{search_added}
 use Rattle.prop_workbench.proofs.SoundLemmas.{made_or_not}
 use Rattle.prop_workbench.proofs.RefusedLemmas.{unexpanded, no_room, with_room}
 use Rattle.prop_workbench.proofs.session.Session.use_on.Goals as goal
@@ -15,7 +17,7 @@ use Rattle.prop_workbench.proofs.session.Session.use_on.Goals as goal
 -- ---- where it is expanded
 
 pub make-requires-clause-kept : goal.make-requires-clause-kept
-make-requires-clause-kept g c = c.requires.sound.under_way.kept
+make-requires-clause-kept g c = c.requires.sound.at_work.under_way.kept
 
 pub make-requires-clause-may : goal.make-requires-clause-may
 make-requires-clause-may g c =
@@ -34,41 +36,46 @@ returns-in-Ok-clause-keeps g c = record {
       let made = with_flat library d cells c.in-Ok.flat in
       let was = c.requires.sound in
       record {
-        under_way = c.make.ensures.under_way (believed_in s.premises) was.under_way;
-        worldview = was.worldview;
-        known = made_or_not (λ (x : Data). AreKnown (length s.premises) x.statements) d new made c.make.result c.make.ensures.ok c.make.ensures.err_same was.known was.known;
+        at_work = record {
+          under_way = c.make.ensures.under_way (set_of s.search.worldview) was.at_work.under_way;
+          well_made = was.at_work.well_made;
+          search = rw c.make.ensures.same (made_or_not (λ (x : Data). IsSearch (problem_of library x) s.search) d new made c.make.result c.make.ensures.ok c.make.ensures.err_same was.at_work.search
+              (search_added library d made s.search (record { fresh = c.in-Ok.flat.fresh.items; made = _; kinds = refl; statements = refl; instances = refl }) was.at_work.search));
+          known = made_or_not (λ (x : Data). AreKnown (length s.search.premises) x.statements) d new made c.make.result c.make.ensures.ok c.make.ensures.err_same was.at_work.known was.at_work.known;
+          roomy = c.make.ensures.room was.at_work.roomy;
+        };
         sized = made_or_not (λ (x : Data). All (IsSized s.words) x.kinds) d new made c.make.result c.make.ensures.ok c.make.ensures.err_same was.sized
             (sized_made library s.words s.definitions d c.args.name.now cells (given_by s.words (by_of c.args.by)) c.in-Ok.flat c.in-Ok.ensures.ok was.sized was.locals);
         locals = was.locals;
         named = made_or_not (λ (x : Data). All (λ cell. cell < length x.kinds) s.names.cells) d new made c.make.result c.make.ensures.ok c.make.ensures.err_same was.named (named_made s.names.cells d.kinds c.in-Ok.flat.fresh.items was.named);
         defined = rw c.make.ensures.same was.defined;
-        roomy = c.make.ensures.room was.roomy;
       };
   steps = refl;
+  covers = λ m covered. covered;
 }
 
 pub returns-in-Ok-clause-fits : goal.returns-in-Ok-clause-fits
 returns-in-Ok-clause-fits g c =
     let s = c.args.self.now in
-    on_ok_weaker c.make.result (with_room (stored_of g.R.Rule.value_of s.network.library) s.names s.words s.definitions s.premises s.network.cells s.limit c.args.name.now c.args.cells.now (by_of c.args.by) c.in-Ok.flat c.in-Ok.ensures.ok c.in-Ok.ensures.fits)
+    on_ok_weaker c.make.result (with_room (stored_of g.R.Rule.value_of s.network.library) s.names s.words s.definitions s.search.premises s.network.cells s.limit c.args.name.now c.args.cells.now (by_of c.args.by) c.in-Ok.flat c.in-Ok.ensures.ok c.in-Ok.ensures.fits)
     c.make.ensures.fits
 
 pub returns-in-Ok-clause-ok : goal.returns-in-Ok-clause-ok
 returns-in-Ok-clause-ok g c =
     let s = c.args.self.now in
-    on_ok_weaker c.make.result (state_made (stored_of g.R.Rule.value_of s.network.library) s.names s.words s.definitions s.premises s.network.cells s.limit c.args.name.now c.args.cells.now (by_of c.args.by) c.in-Ok.flat c.in-Ok.ensures.ok c.make.new.network.cells)
+    on_ok_weaker c.make.result (state_made (stored_of g.R.Rule.value_of s.network.library) s.names s.words s.definitions s.search.premises s.network.cells s.limit c.args.name.now c.args.cells.now (by_of c.args.by) c.in-Ok.flat c.in-Ok.ensures.ok c.make.new.network.cells)
     c.make.ensures.ok
 
 pub returns-in-Ok-clause-err : goal.returns-in-Ok-clause-err
 returns-in-Ok-clause-err g c =
     let s = c.args.self.now in
-    IfErr-weaker c.make.result _ _ (no_room (stored_of g.R.Rule.value_of s.network.library) s.names s.words s.definitions s.premises s.network.cells s.limit c.args.name.now c.args.cells.now (by_of c.args.by) c.in-Ok.flat c.in-Ok.ensures.ok c.in-Ok.ensures.fits)
+    IfErr-weaker c.make.result _ _ (no_room (stored_of g.R.Rule.value_of s.network.library) s.names s.words s.definitions s.search.premises s.network.cells s.limit c.args.name.now c.args.cells.now (by_of c.args.by) c.in-Ok.flat c.in-Ok.ensures.ok c.in-Ok.ensures.fits)
     c.make.ensures.err
 
 pub returns-in-Ok-clause-err_same : goal.returns-in-Ok-clause-err_same
 returns-in-Ok-clause-err_same g c =
     let s = c.args.self.now in
-    on_err_weaker c.make.result (λ e i. state_from s.names s.words s.definitions s.premises (e i) s.limit) c.make.ensures.err_same
+    on_err_weaker c.make.result (λ e i. state_from s.names s.words s.definitions s.search.premises (e i) s.limit) c.make.ensures.err_same
 
 -- ---- where it is not expanded
 
@@ -79,7 +86,7 @@ pub expanded-requires-clause-cells : goal.expanded-requires-clause-cells
 expanded-requires-clause-cells g c = c.requires.cells
 
 pub returns-in-Err-clause-keeps : goal.returns-in-Err-clause-keeps
-returns-in-Err-clause-keeps g c = record { library = refl; sound = c.requires.sound; steps = refl }
+returns-in-Err-clause-keeps g c = record { library = refl; sound = c.requires.sound; steps = refl; covers = λ m covered. covered }
 
 pub returns-in-Err-clause-err : goal.returns-in-Err-clause-err
 returns-in-Err-clause-err g c =

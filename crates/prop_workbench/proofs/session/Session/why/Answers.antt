@@ -1,9 +1,9 @@
 use Rattle.std.proofs.Common.{sym, refl}
 use Rattle.prop_procedures.specs.Kept.{stored_of}
 use Rattle.prop_language.specs.Commands as commands
-use Rattle.prop_workbench.specs.Sessions.{state_of}
+use Rattle.prop_workbench.specs.Sessions.{state_of, shown_of}
 use Rattle.prop_workbench.proofs.AskLemmas.{nowhere_why}
-use Rattle.prop_workbench.proofs.StepLemmas.{refuses}
+use Rattle.prop_workbench.proofs.RunLemmas.{refused_obeyed}
 use Rattle.prop_workbench.proofs.session.Session.why.Goals as goal
 
 pub answered-requires-clause-named : goal.answered-requires-clause-named
@@ -12,10 +12,11 @@ answered-requires-clause-named g c = sym c.in-Some.ensures.number
 pub returns-in-None-clause-step : goal.returns-in-None-clause-step
 returns-in-None-clause-step g c =
     let s = c.args.self.now in
-    refuses (stored_of g.R.Rule.value_of s.network.library) (state_of s) (state_of s) (commands.Command.Why c.args.name.now) _ (nowhere_why (stored_of g.R.Rule.value_of s.network.library) (state_of s) c.args.name.now (sym c.in-None.ensures.number)) refl
+    let library = stored_of g.R.Rule.value_of s.network.library in
+    refused_obeyed library (shown_of s) (commands.Command.Why c.args.name.now) _ (nowhere_why library (state_of s) c.args.name.now (sym c.in-None.ensures.number))
 
 pub returns-in-None-clause-keeps : goal.returns-in-None-clause-keeps
-returns-in-None-clause-keeps g c = record { library = refl; sound = c.requires.sound; steps = refl }
+returns-in-None-clause-keeps g c = record { library = refl; sound = c.requires.sound; steps = refl; covers = λ m covered. covered }
 
 pub returns-in-Some-clause-keeps : goal.returns-in-Some-clause-keeps
 returns-in-Some-clause-keeps g c = c.answered.ensures.keeps

@@ -1,0 +1,59 @@
+-- A nogood that is believed with the list on which the choices stand.
+use Rattle.std.proofs.Common.{◌≡◌, ◌∙◌, ℕ, zero, suc, IsTrue, List, [], ◌∷◌, Contains, Some, slice_get, refl, sym, inl, inr, arith}
+use Rattle.std.proofs.lemmas.List.Elements.{All-contains}
+use Rattle.prop_premises.specs.Sets.{set_of, is_within}
+use Rattle.prop_premises.specs.ChoiceLists.{worldview, IsBefore}
+use Rattle.prop_premises.proofs.WithinLemmas.{within_has}
+use Rattle.prop_cells.specs.Problems.{Problem}
+use Rattle.prop_cells.specs.Reach.{IsConflict}
+use Rattle.prop_nogoods.specs.Stores.{AddsSet}
+use Rattle.prop_nogoods.proofs.StoreLaws.{has_part-from}
+use Rattle.prop_amb.specs.Refuted.{IsNogood, IsListRefuted}
+use Rattle.prop_amb.specs.Search.{Stand, IsStand, IsSearch, users_of, choices_in}
+use Rattle.prop_amb.specs.Moving.{advanced}
+use Rattle.prop_amb.specs.Settling.{IsMet}
+use Rattle.prop_amb.proofs.StandLaws.{users_no_sides}
+use Rattle.prop_amb.proofs.SearchLaws.{clash_refuted, refuted_within}
+
+-- what is believed is the worldview of the list
+pub believes_worldview : (s : Stand) → IsStand s → set_of s.worldview ≡ worldview (users_of s) (choices_in s) s.list
+believes_worldview s stand = λ i p. stand.believes p i
+
+-- a clash of a run is a nogood
+pub clash_nogood : (problem : Problem) (s : Stand) (n : List ℕ) → IsStand s → IsConflict problem (set_of s.worldview) (set_of n) → IsNogood problem (choices_in s) (set_of n)
+clash_nogood problem s n stand clash = record {
+  refuted = clash_refuted problem (users_of s) (set_of n) (choices_in s) s.list stand.numbered.in_order stand.is_list (users_no_sides s stand) (λ p t. sym (stand.believes p) ∙ clash.part p t) clash.contradictory;
+  cell = clash.cell;
+  related = clash.related;
+}
+
+-- a noted nogood all of which is believed
+pub met_listed : (problem : Problem) (s : Stand) (n : List ℕ) → IsSearch problem s → Contains s.listed n → IsTrue (is_within (set_of s.worldview) n) → IsMet problem s n
+met_listed problem s n search listed within = record {
+  believed = λ p t. within_has (set_of s.worldview) n p within t;
+  nogood = All-contains (λ line. IsNogood problem (choices_in s) (set_of line)) s.listed n search.nogoods listed;
+  noted = has_part-from s.listed (set_of n) n listed (λ p t. t);
+}
+
+-- with a nogood that is believed the list is refuted
+pub met_refutes : (problem : Problem) (s : Stand) (n : List ℕ) → IsStand s → IsMet problem s n → IsListRefuted problem (users_of s) (choices_in s) s.list
+met_refutes problem s n stand met =
+    refuted_within problem (users_of s) (set_of n) (choices_in s) s.list stand.numbered.in_order stand.is_list (users_no_sides s stand) (λ p t. sym (stand.believes p) ∙ met.believed p t) met.nogood.refuted
+
+-- an advanced list stands later
+pub advanced_later : (list : List ℕ) (j side : ℕ) → slice_get list j ≡ Some side → IsBefore list (advanced list j)
+advanced_later [] j side e = cc
+advanced_later (a ∷ list) zero side e = inl (omega arith)
+advanced_later (a ∷ list) (suc j) side e = inr (refl, advanced_later list j side e)
+
+-- a clash of a run, once it is noted
+pub met_noted : (problem : Problem) (s : Stand) (listed : List (List ℕ)) (copy n : List ℕ) (new : Stand) → IsStand s → IsConflict problem (set_of s.worldview) (set_of n) → copy ≡ n → AddsSet s.listed new.listed copy →
+    new ≡ record s { listed = new.listed } → IsMet problem new n
+met_noted problem s listed copy n new stand clash same adds only =
+    let nogood = clash_nogood problem s n stand clash in
+    let added : AddsSet s.listed new.listed n = rw same at adds in
+    record {
+      believed = rw only clash.part;
+      nogood = rw only nogood;
+      noted = added.has;
+    }

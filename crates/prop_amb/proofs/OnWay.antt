@@ -1,0 +1,80 @@
+-- The lists that are tried one after the other: what is known on the way, and what is known of each once it was tried.
+use Rattle.std.proofs.Common.{◌≡◌, ℕ, ◌+◌, ◌*◌, ◌<◌, ◌≤◌, ◌⊎◌, IsTrue, false, List, [], length}
+use Rattle.prop_premises.specs.Sets.{Members, set_of}
+use Rattle.prop_premises.specs.ChoiceLists.{place_of}
+use Rattle.prop_procedures.specs.Stored.{Stored}
+use Rattle.prop_cells.specs.Data.{Data, IsFree, beliefs, problem_of}
+use Rattle.prop_nogoods.specs.Stores.{has_part}
+use Rattle.prop_scheduler.specs.Turns.{IsUnderWay, IsSettled, Turns}
+use Rattle.prop_scheduler.specs.Potential.{potential, most_steps}
+use Rattle.prop_amb.specs.Search.{Stand, IsStand, IsSearch, users_of, choices_in}
+use Rattle.prop_amb.specs.Going.{Goes}
+use Rattle.prop_amb.specs.declared.settling.Tried.{Tried}
+use Rattle.prop_amb.specs.declared.settling.Tried.TheVariants.{Quiet, Spent}
+
+-- nothing waits, no cell is believed to hold a contradiction, and no noted nogood is believed
+pub record IsResting (old : Stand) (start : Data) (line : List ℕ) : Type 0 where
+  pub idle : line ≡ []
+  pub free : IsFree (set_of old.worldview) start
+  pub unblocked : has_part old.listed (set_of old.worldview) ≡ false
+
+-- nothing has happened yet
+pub record IsStart (old s : Stand) (start d : Data) (line waiting : List ℕ) (steps : ℕ) : Type 0 where
+  pub stand : s ≡ old
+  pub cells : d ≡ start
+  pub waits : waiting ≡ line
+  pub none : steps ≡ 0
+
+-- a list is to be tried: the first, or a later one
+pub record OnWay {O : Type 0} (picks : O → ℕ → ℕ → O → Type 0) (library : List Stored) (old : Stand) (start : Data) (line : List ℕ) (first : O) (s : Stand) (d : Data) (waiting : List ℕ) (order : O) (steps : ℕ) : Type 0 where
+  pub premises : s.premises ≡ old.premises
+  pub listed : (m : Members) → IsTrue (has_part old.listed m) → IsTrue (has_part s.listed m)
+  pub search : IsSearch (problem_of library start) s
+  pub stand : IsStand s
+  pub rest : d ≡ record start { contents = d.contents }
+  pub under_way : IsUnderWay library (set_of s.worldview) d waiting
+  pub gone : Goes picks library (users_of old) (choices_in old) old.list start line first steps s.list d waiting order
+  pub further : ℕ
+  pub place : place_of (choices_in old) s.list ≡ place_of (choices_in old) old.list + further
+  pub few : steps ≤ further * (most_steps (problem_of library start) + 1)
+  pub since : IsStart old s start d line waiting steps ⊎ ((1 ≤ further) × (IsResting old start line → ⊥))
+
+-- what came of one list
+pub record Attempted {O : Type 0} (picks : O → ℕ → ℕ → O → Type 0) (library : List Stored) (s : Stand) (d : Data) (waiting : List ℕ) (order : O) (budget : ℕ) (tried : Tried) (calls : ℕ) (new : Stand) (cells : Data) (after : List ℕ) (next : O) : Type 0 where
+  pub only : new ≡ record s { listed = new.listed }
+  pub kept : (m : Members) → IsTrue (has_part s.listed m) → IsTrue (has_part new.listed m)
+  pub search : IsSearch (problem_of library d) new
+  pub stand : IsStand new
+  pub rest : cells ≡ record d { contents = cells.contents }
+  pub under_way : IsUnderWay library (set_of s.worldview) cells after
+  pub turns : Turns picks library (set_of s.worldview) d waiting order calls cells after next
+  pub quiet : tried ≡ Quiet → IsSettled library (set_of s.worldview) cells
+  pub rests : tried ≡ Quiet → after ≡ []
+  pub spent : tried ≡ Spent → calls ≡ budget
+  pub leaves : tried ≡ Spent → 0 < length after
+  pub earned : tried ≡ Spent → calls < most_steps (problem_of library d)
+  pub steps : calls ≤ budget
+  pub at_rest : IsResting s d waiting → (tried ≡ Quiet) × (calls ≡ 0)
+  pub falls : potential (problem_of library d) (beliefs (set_of s.worldview) cells.contents) after + calls ≤ potential (problem_of library d) (beliefs (set_of s.worldview) d.contents) waiting
+  pub few : calls ≤ most_steps (problem_of library d)
+
+-- a list was tried, after so many steps of the budget
+pub record OnTry {O : Type 0} (picks : O → ℕ → ℕ → O → Type 0) (library : List Stored) (old : Stand) (start : Data) (line : List ℕ) (first : O) (s : Stand) (d : Data) (waiting : List ℕ) (order : O) (steps budget : ℕ) (tried : Tried) : Type 0 where
+  pub premises : s.premises ≡ old.premises
+  pub listed : (m : Members) → IsTrue (has_part old.listed m) → IsTrue (has_part s.listed m)
+  pub search : IsSearch (problem_of library start) s
+  pub stand : IsStand s
+  pub rest : d ≡ record start { contents = d.contents }
+  pub under_way : IsUnderWay library (set_of s.worldview) d waiting
+  pub gone : Goes picks library (users_of old) (choices_in old) old.list start line first steps s.list d waiting order
+  pub further : ℕ
+  pub place : place_of (choices_in old) s.list ≡ place_of (choices_in old) old.list + further
+  pub few : steps < (further + 1) * (most_steps (problem_of library start) + 1)
+  pub quiet : tried ≡ Quiet → IsSettled library (set_of s.worldview) d
+  pub rests : tried ≡ Quiet → waiting ≡ []
+  pub spent : tried ≡ Spent → steps ≡ budget
+  pub leaves : tried ≡ Spent → 0 < length waiting
+  pub earned : tried ≡ Spent → budget + 1 < (further + 1) * (most_steps (problem_of library start) + 1)
+  pub within : steps ≤ budget
+  pub at_rest : IsResting old start line → (tried ≡ Quiet) × (steps ≡ 0)
+  pub falls : s.list ≡ old.list → potential (problem_of library start) (beliefs (set_of old.worldview) d.contents) waiting + steps ≤ potential (problem_of library start) (beliefs (set_of old.worldview) start.contents) line

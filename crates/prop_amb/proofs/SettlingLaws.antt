@@ -1,0 +1,234 @@
+-- One list after the other: an attempt on the way, a move to a later list, and the end.
+use Rattle.std.proofs.Common.{◌≡◌, ◌∙◌, ℕ, ◌+◌, ◌-◌, ◌*◌, ◌<◌, ◌≤◌, ◌⊎◌, List, length, refl, sym, ap, subst, inl, inr, arith}
+use Rattle.std.proofs.Math.Nat.{mul-le-mul_right, add-mul}
+use Rattle.prop_premises.specs.Sets.{set_of}
+use Rattle.prop_premises.specs.declared.choice.Choice.{Choice}
+use Rattle.prop_premises.specs.Origins.{Origin, believed_in, choices_of}
+use Rattle.prop_premises.specs.ChoiceLists.{IsChoiceList, worldview, place_of, lists_count}
+use Rattle.prop_procedures.specs.Stored.{Stored}
+use Rattle.prop_cells.specs.Problems.{Problem, IsConsistent}
+use Rattle.prop_cells.specs.Data.{Data, beliefs, problem_of}
+use Rattle.prop_scheduler.specs.Turns.{IsUnderWay, IsSettled}
+use Rattle.prop_scheduler.specs.Potential.{potential, most_steps}
+use Rattle.prop_amb.specs.Refuted.{IsListRefuted, IsFirstConsistent, IsRuledOut}
+use Rattle.prop_amb.specs.Search.{Stand, IsStand, IsSearch, users_of, choices_in, Moves}
+use Rattle.prop_amb.specs.Settling.{IfContradiction, IsHeld}
+use Rattle.prop_amb.specs.Going.{Goes, IsMove}
+use Rattle.prop_amb.specs.Going.Goes.{none, moved}
+use Rattle.prop_amb.specs.declared.outcome.Outcome.{Outcome}
+use Rattle.prop_amb.specs.declared.settling.Tried.{Tried}
+use Rattle.prop_amb.specs.declared.settling.Tried.TheVariants.{Quiet, Spent}
+use Rattle.prop_amb.proofs.Consistent.{settled_consistent}
+use Rattle.prop_amb.proofs.CountLaws.{place_below, earlier_place, few_within, few_in_all}
+use Rattle.prop_amb.proofs.GoingLaws.{goes_on}
+use Rattle.prop_amb.proofs.MetLaws.{believes_worldview}
+use Rattle.prop_amb.proofs.OnWay.{IsResting, IsStart, OnWay, Attempted, OnTry}
+use Rattle.prop_amb.proofs.RunLaws.{same_problem}
+use Rattle.prop_amb.proofs.SearchLaws.{kept_refute}
+
+-- ---- numbers
+
+-- a list that was given up after fewer steps than the most
+earned_within : (further most steps calls budget : ℕ) → steps ≤ further * (most + 1) → calls < most → calls ≡ budget - steps → steps ≤ budget → budget + 1 < (further + 1) * (most + 1)
+earned_within further most steps calls budget few c all within =
+    let e = add-mul further 1 (most + 1) in
+    omega (arith, e, few, c, all, within)
+
+-- one more step fits where there is one more list
+one_list_more : (further most steps : ℕ) → steps < (further + 1) * (most + 1) → steps + 1 < ((further + 1) + 1) * (most + 1)
+one_list_more further most steps few =
+    let e = add-mul (further + 1) 1 (most + 1) in
+    omega (arith, e, few)
+
+moved_few : (further more most steps : ℕ) → steps < (further + 1) * (most + 1) → further < more → steps + 1 ≤ more * (most + 1)
+moved_few further more most steps few lt =
+    let le = mul-le-mul_right {m = further + 1} {n = more} (most + 1) (omega (arith, lt)) in
+    omega (arith, few, le)
+
+-- cells whose contents alone differ pose one problem
+pub same_in : (library : List Stored) (start d : Data) → d ≡ record start { contents = d.contents } → problem_of library d ≡ problem_of library start
+same_in library start d rest = λ i. problem_of library (rest i)
+
+-- what an attempt and a run leave as it was
+pub count_in : (start d : Data) → d ≡ record start { contents = d.contents } → length d.instances ≡ length start.instances
+count_in start d rest = λ i. length (rest i).instances
+
+pub rest_on : (start d new : Data) → d ≡ record start { contents = d.contents } → new ≡ record d { contents = new.contents } → new ≡ record start { contents = new.contents }
+rest_on start d new first then = then ∙ (λ i. record (first i) { contents = new.contents })
+
+pub premises_in : (s new : Stand) → new ≡ record s { listed = new.listed } → new.premises ≡ s.premises
+premises_in s new only = λ i. (only i).premises
+
+pub worldview_in : (s new : Stand) → new ≡ record s { listed = new.listed } → new.worldview ≡ s.worldview
+worldview_in s new only = λ i. (only i).worldview
+
+-- ---- the library stays
+
+pub search_in : {L : Type 0} (stored : L → List Stored) (a b : L) (start d : Data) (s : Stand) → b ≡ a → d ≡ record start { contents = d.contents } → IsSearch (problem_of (stored b) d) s → IsSearch (problem_of (stored a) start) s
+search_in stored a b start d s same rest h = subst (λ p. IsSearch p s) (same_problem stored a b start d same rest) h
+
+pub search_from : {L : Type 0} (stored : L → List Stored) (a b : L) (start d : Data) (s : Stand) → b ≡ a → d ≡ record start { contents = d.contents } → IsSearch (problem_of (stored a) start) s → IsSearch (problem_of (stored b) d) s
+search_from stored a b start d s same rest h = subst (λ p. IsSearch p s) (sym (same_problem stored a b start d same rest)) h
+
+pub attempted_in : {L O : Type 0} (stored : L → List Stored) (a b : L) (picks : O → ℕ → ℕ → O → Type 0) (s : Stand) (d : Data) (waiting : List ℕ) (order : O) (budget : ℕ) (tried : Tried) (calls : ℕ) (new : Stand) (cells : Data) (after : List ℕ) (next : O) → b ≡ a →
+    Attempted picks (stored b) s d waiting order budget tried calls new cells after next → Attempted picks (stored a) s d waiting order budget tried calls new cells after next
+attempted_in stored a b picks s d waiting order budget tried calls new cells after next same h =
+    subst (λ l. Attempted picks (stored l) s d waiting order budget tried calls new cells after next) same h
+
+pub contradiction_in : {L : Type 0} (stored : L → List Stored) (a b : L) (start d : Data) (s new : Stand) (outcome : Outcome) → b ≡ a → d ≡ record start { contents = d.contents } → new ≡ s →
+    IfContradiction outcome (λ n. IsRuledOut (problem_of (stored b) d) (users_of s) (choices_in s) s.listed (set_of n)) → IfContradiction outcome (λ n. IsRuledOut (problem_of (stored a) start) (users_of new) (choices_in new) new.listed (set_of n))
+contradiction_in stored a b start d s new outcome same rest as_was h =
+    subst (λ (x : Stand). IfContradiction outcome (λ n. IsRuledOut (problem_of (stored a) start) (users_of x) (choices_in x) x.listed (set_of n))) (sym as_was)
+    (subst (λ p. IfContradiction outcome (λ n. IsRuledOut p (users_of s) (choices_in s) s.listed (set_of n))) (same_problem stored a b start d same rest) h)
+
+pub held_in : {L : Type 0} (stored : L → List Stored) (a b : L) (d : Data) (s new : Stand) → b ≡ a → new ≡ s → IsHeld (problem_of (stored b) d) s → IsHeld (problem_of (stored a) d) new
+held_in stored a b d s new same as_was h = subst (λ (x : Stand). IsHeld (problem_of (stored a) d) x) (sym as_was) (subst (λ l. IsHeld (problem_of (stored l) d) s) same h)
+
+module _ {O : Type 0} (picks : O → ℕ → ℕ → O → Type 0) (library : List Stored) (old : Stand) (start : Data) (line : List ℕ) (first : O) where
+  abbrev choices : List Choice
+  choices = choices_in old
+
+  abbrev problem : Problem
+  problem = problem_of library start
+
+  -- ---- the start
+
+  pub at_start : IsStand old → IsSearch (problem_of library start) old → IsUnderWay library (set_of old.worldview) start line → OnWay picks library old start line first old start line first 0
+  at_start stand learned under_way = record {
+    premises = refl;
+    listed = λ m t. t;
+    search = learned;
+    stand = stand;
+    rest = refl;
+    under_way = under_way;
+    gone = none;
+    further = 0;
+    place = omega arith;
+    few = omega arith;
+    since = inl (record { stand = refl; cells = refl; waits = refl; none = refl });
+  }
+
+  -- ---- an attempt
+
+  -- what is believed, in the words of the start
+  believes_old : (s : Stand) → s.premises ≡ old.premises → IsStand s → set_of s.worldview ≡ worldview (users_of old) choices s.list
+  believes_old s same stand = believes_worldview s stand ∙ ap (λ (o : List Origin). worldview (believed_in o) (choices_of o) s.list) same
+
+  -- no list further on is the first one
+  not_further : (s : Stand) (further : ℕ) → place_of choices s.list ≡ place_of choices old.list + further → 1 ≤ further → s.list ≡ old.list → ⊥
+  not_further s further place one same =
+      let e : place_of choices s.list ≡ place_of choices old.list = ap (place_of choices) same in
+      omega (arith, place, one, e)
+
+  pub after_try : (s : Stand) (d : Data) (waiting : List ℕ) (order : O) (steps budget : ℕ) (tried : Tried) (calls : ℕ) (new : Stand) (cells : Data) (after : List ℕ) (next : O) → OnWay picks library old start line first s d waiting order steps → steps ≤ budget →
+      Attempted picks library s d waiting order (budget - steps) tried calls new cells after next → OnTry picks library old start line first new cells after next (steps + calls) budget tried
+  after_try s d waiting order steps budget tried calls new cells after next way within a =
+      let e : problem_of library d ≡ problem = same_in library start d way.rest in
+      let few : calls ≤ most_steps problem = subst (λ p. calls ≤ most_steps p) e a.few in
+      record {
+        premises = premises_in s new a.only ∙ way.premises;
+        listed = λ m t. a.kept m (way.listed m t);
+        search = subst (λ p. IsSearch p new) e a.search;
+        stand = a.stand;
+        rest = rest_on start d cells way.rest a.rest;
+        under_way = subst (λ w. IsUnderWay library (set_of w) cells after) (sym (worldview_in s new a.only)) a.under_way;
+        gone = subst (λ l. Goes picks library (users_of old) choices old.list start line first (steps + calls) l cells after next) (sym (ap (λ (x : Stand). x.list) a.only))
+            (goes_on picks library (users_of old) choices old.list start line first steps s.list d waiting order way.gone (set_of s.worldview) calls cells after next (believes_old s way.premises way.stand) a.turns);
+        further = way.further;
+        place = ap (λ (x : Stand). place_of choices x.list) a.only ∙ way.place;
+        few = few_within way.further (most_steps problem) steps calls way.few few;
+        quiet = λ q. subst (λ w. IsSettled library (set_of w) cells) (sym (worldview_in s new a.only)) (a.quiet q);
+        rests = a.rests;
+        spent = λ q. all q (a.spent q);
+        leaves = a.leaves;
+        earned = λ q. earned_within way.further (most_steps problem) steps calls budget way.few (subst (λ p. calls < most_steps p) e (a.earned q)) (a.spent q) within;
+        within = (let x = a.steps in omega (arith, x, within));
+        at_rest = λ r. stays r way.since;
+        falls = λ same. fall e (ap (λ (x : Stand). x.list) (sym a.only) ∙ same) way.since;
+      }
+    where
+      all : tried ≡ Spent → calls ≡ budget - steps → steps + calls ≡ budget
+      all q x = omega (arith, x, within)
+
+      stays : IsResting old start line → IsStart old s start d line waiting steps ⊎ ((1 ≤ way.further) × (IsResting old start line → ⊥)) → (tried ≡ Quiet) × (steps + calls ≡ 0)
+      stays r (inl x) =
+          let here : IsResting s d waiting = rw (x.stand, x.cells, x.waits) r in
+          let y : (tried ≡ Quiet) × (calls ≡ 0) = a.at_rest here in
+          (y.0, omega (arith, y.1, x.none))
+      stays r (inr x) = absurd (x.1 r)
+
+      fall : problem_of library d ≡ problem → s.list ≡ old.list → IsStart old s start d line waiting steps ⊎ ((1 ≤ way.further) × (IsResting old start line → ⊥)) →
+          potential problem (beliefs (set_of old.worldview) cells.contents) after + (steps + calls) ≤ potential problem (beliefs (set_of old.worldview) start.contents) line
+      fall e same (inl x) =
+          let h : potential problem (beliefs (set_of old.worldview) cells.contents) after + calls ≤ potential problem (beliefs (set_of old.worldview) start.contents) line =
+          rw (x.stand, x.cells, x.waits) at a.falls in
+          omega (arith, h, x.none)
+      fall e same (inr x) = absurd (not_further s way.further way.place x.0 same)
+
+  -- ---- a move
+
+  in_old : (s : Stand) → s.premises ≡ old.premises → IsStand s → IsChoiceList choices s.list
+  in_old s same stand = subst (λ (o : List Origin). IsChoiceList (choices_of o) s.list) same stand.is_list
+
+  pub after_move : (s : Stand) (d : Data) (waiting : List ℕ) (order : O) (steps budget : ℕ) (tried : Tried) (new : Stand) (after : List ℕ) → OnTry picks library old start line first s d waiting order steps budget tried →
+      (tried ≡ Quiet → ⊥) → new.premises ≡ s.premises → new.listed ≡ s.listed → IsSearch (problem_of library d) new → IsStand new → IsUnderWay library (set_of new.worldview) d after →
+      IsMove library (users_of s) (choices_in s) d s.list new.list after → OnWay picks library old start line first new d after order (steps + 1)
+  after_move s d waiting order steps budget tried new after t restless same_premises same_listed learned stand under_way move =
+      let move_old : IsMove library (users_of old) choices d s.list new.list after = subst (λ (o : List Origin). IsMove library (believed_in o) (choices_of o) d s.list new.list after) t.premises move in
+      let less : place_of choices s.list < place_of choices new.list = earlier_place choices s.list new.list (in_old s t.premises t.stand) move_old.is_list move_old.later in
+      record {
+        premises = same_premises ∙ t.premises;
+        listed = λ m x. rw same_listed (t.listed m x);
+        search = subst (λ p. IsSearch p new) (same_in library start d t.rest) learned;
+        stand = stand;
+        rest = t.rest;
+        under_way = under_way;
+        gone = moved steps s.list new.list d waiting after order t.gone move_old;
+        further = place_of choices new.list - place_of choices old.list;
+        place = omega (arith, t.place, less);
+        few = moved_few t.further (place_of choices new.list - place_of choices old.list) (most_steps problem) steps t.few (omega (arith, t.place, less));
+        since = inr (omega (arith, t.place, less), λ r. restless (t.at_rest r).0);
+      }
+
+  -- ---- the end
+
+  pub ended : (s : Stand) (d : Data) (waiting : List ℕ) (order : O) (steps budget : ℕ) (tried : Tried) (new : Stand) (after : List ℕ) → OnTry picks library old start line first s d waiting order steps budget tried → new ≡ s → after ≡ waiting →
+      OnTry picks library old start line first new d after order steps budget tried
+  ended s d waiting order steps budget tried new after t same same_line = rw (same, same_line) t
+
+  module _ (s : Stand) (d : Data) (waiting : List ℕ) (order : O) (steps budget : ℕ) (tried : Tried) (t : OnTry picks library old start line first s d waiting order steps budget tried) where
+    same_choices : choices_in s ≡ choices
+    same_choices = ap (λ (o : List Origin). choices_of o) t.premises
+
+    pub first_consistent : tried ≡ Quiet → IsFirstConsistent (problem_of library start) (users_of s) (choices_in s) s.list
+    first_consistent q = record {
+      is_list = t.stand.is_list;
+      consistent = subst (λ w. IsConsistent problem w) (believes_worldview s t.stand) (subst (λ p. IsConsistent p (set_of s.worldview)) (same_in library start d t.rest) (settled_consistent library (set_of s.worldview) d (t.quiet q)));
+      earlier = kept_refute problem s t.stand t.search.reasons;
+    }
+
+    pub all_moves : Moves (problem_of library start) (choices_in s) old.list s.list steps
+    all_moves = record { further = t.further; place = rw same_choices t.place; few = t.few }
+
+    below_all : place_of choices s.list < lists_count choices
+    below_all = place_below choices s.list (in_old s t.premises t.stand)
+
+    in_all : budget + 1 < lists_count choices * (most_steps problem + 1) → budget + 1 < lists_count (choices_in s) * (most_steps (problem_of library start) + 1)
+    in_all h = rw same_choices h
+
+    pub spent_earned : tried ≡ Spent → budget + 1 < lists_count (choices_in s) * (most_steps (problem_of library start) + 1)
+    spent_earned q = in_all (few_in_all t.further (place_of choices old.list) (lists_count choices) (most_steps problem) (budget + 1) (t.earned q) (omega (arith, below_all, t.place)))
+
+    -- the same where the last list is refuted, and another could be tried
+    pub held_earned : budget ≤ steps → IsHeld (problem_of library d) s → budget + 1 < lists_count (choices_in s) * (most_steps (problem_of library start) + 1)
+    held_earned used h =
+        let is_list : IsChoiceList choices h.later = subst (λ cs. IsChoiceList cs h.later) same_choices h.is_list in
+        let less : place_of choices s.list < place_of choices h.later = earlier_place choices s.list h.later (in_old s t.premises t.stand) is_list h.is_later in
+        let last : place_of choices h.later < lists_count choices = place_below choices h.later is_list in
+        let one = one_list_more t.further (most_steps problem) steps t.few in
+        let within = t.within in
+        let few : budget + 1 < ((t.further + 1) + 1) * (most_steps problem + 1) = omega (arith, one, used) in
+        in_all (few_in_all (t.further + 1) (place_of choices old.list) (lists_count choices) (most_steps problem) (budget + 1) few (omega (arith, less, last, t.place)))
+
+    pub held_refuted : IsHeld (problem_of library d) s → IsListRefuted (problem_of library start) (users_of s) (choices_in s) s.list
+    held_refuted h = subst (λ p. IsListRefuted p (users_of s) (choices_in s) s.list) (same_in library start d t.rest) h.refuted

@@ -1,0 +1,28 @@
+use Rattle.std.proofs.Common.{◌∙◌, sym, ap}
+use Rattle.prop_premises.specs.Origins.{choices_of, believed_in}
+use Rattle.prop_premises.proofs.ChoiceLemmas.{choices_of-with_name}
+use Rattle.prop_premises.proofs.ChangeLemmas.{is_start-with_name}
+use Rattle.prop_amb.proofs.KeepingLaws.{search_believing}
+use Rattle.prop_amb.proofs.NamingLaws.{interned_below, interned_stand, believed_in-kept}
+use Rattle.prop_amb.proofs.search.Search.intern.Goals as goal
+
+pub believe-requires : goal.believe-requires
+believe-requires c =
+    let known = c.in_ok-premise.ensures in
+    interned_below _ c.args.name.now c.intern.new.self c.in_ok-premise.premise c.self.invariant known.ok known.number
+    (λ e. c.if-len-count.false (c.len.ensures.len ∙ e ∙ sym c.len-count.ensures.len)) c.numbered.ensures.numbered c.numbered.ensures.below
+
+pub invariant_of-self-in-Ok : goal.invariant_of-self-in-Ok
+invariant_of-self-in-Ok c =
+    let known = c.in_ok-premise.ensures in
+    rw c.in-Ok.ensures.ok (interned_stand _ c.args.name.now c.intern.new.self c.in_ok-premise.premise c.self.invariant known.ok known.number
+    (λ e. c.if-len-count.false (c.len.ensures.len ∙ e ∙ sym c.len-count.ensures.len)) c.numbered.ensures.numbered)
+
+pub back-requires : goal.back-requires
+back-requires c = rw c.in_ok-premise.ensures.ok (is_start-with_name c.self.inside.premises c.args.name.now c.len-count.result c.len-count.ensures.len)
+
+pub returns-in-Ok-clause-search : goal.returns-in-Ok-clause-search
+returns-in-Ok-clause-search c problem h =
+    let now = c.in_ok-premise.ensures.ok in
+    search_believing problem _ c.intern.new.self c.believe.new.self (ap choices_of now ∙ choices_of-with_name c.self.inside.premises c.args.name.now)
+    (λ p b. ap (λ os. believed_in os p) now ∙ believed_in-kept c.self.inside.premises c.args.name.now p b) (rw (← c.self.view_is) at h)

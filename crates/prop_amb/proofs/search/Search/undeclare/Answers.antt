@@ -1,0 +1,18 @@
+use Rattle.std.proofs.Common.{◌∙◌}
+use Rattle.prop_amb.proofs.LastChoiceLaws.{last_choice_starts, stand_undeclared, undeclared_undoes}
+use Rattle.prop_amb.proofs.search.Search.undeclare.Goals as goal
+
+pub back-requires : goal.back-requires
+back-requires c = rw c.from.ensures (last_choice_starts c.self.inside.premises c.requires.earlier c.args.choice (rw (← c.self.view_is) at c.requires.last))
+
+pub invariant_of-self : goal.invariant_of-self
+invariant_of-self c =
+    rw (c.back.ensures, c.from.ensures, c.back-2.ensures)
+    (stand_undeclared _ c.args.choice c.requires.earlier c.pop.new.self.items c.pop-2.new.self.items c.self.inside.list.len c.self.inside.reasons.len c.self.invariant (rw (← c.self.view_is) at c.requires.last)
+    (rw (c.back.ensures, c.from.ensures) at c.numbered.ensures.numbered) c.pop.ensures.rest c.self.inside.list.ok.0 c.pop-2.ensures.rest c.self.inside.reasons.ok.0)
+
+pub returns-clause-undoes : goal.returns-clause-undoes
+returns-clause-undoes c before name stand e =
+    rw (c.back.ensures, c.from.ensures, c.back-2.ensures)
+    (undeclared_undoes _ c.args.choice c.requires.earlier c.pop.new.self.items c.pop-2.new.self.items c.self.inside.list.len c.self.inside.reasons.len before name c.self.invariant
+    (rw (← c.self.view_is) at c.requires.last) (rw (← c.self.view_is) at c.requires.end) c.pop.ensures.rest c.self.inside.list.ok.0 c.pop-2.ensures.rest c.self.inside.reasons.ok.0 stand (c.self.view_is ∙ e))

@@ -1,0 +1,67 @@
+-- How a stand changes: by names, by choices, and by moves from one list to a later one.
+use Rattle.std.specs.Prelude.{◌≡◌, ℕ, zero, suc, ◌+◌, List, [], ◌∷◌, ◌++◌, length, map, cond, if◌then◌else◌, ◌||◌, nat_lt, nat_le, is_some, Option, Some, None, false}
+use Rattle.prop_lattice.specs.Refusals.{most}
+use Rattle.prop_lattice.specs.declared.refusal.Limit.TheVariants.{Premises, Choices}
+use Rattle.prop_lattice.specs.declared.refusal.Refusal.{Refusal}
+use Rattle.prop_lattice.specs.declared.refusal.Refusal.TheVariants.{NameTaken, LimitReached}
+use Rattle.prop_premises.specs.Origins.{Origin, premise_number, is_choice, with_name, with_choice, choices_of}
+use Rattle.prop_premises.specs.declared.choice.Choice.{Choice}
+use Rattle.prop_premises.specs.ChoiceLists.{is_side_of}
+use Rattle.prop_cells.specs.Problems.{Problem}
+use Rattle.prop_cells.specs.Reach.{Reaches}
+use Rattle.prop_amb.specs.Search.{Stand}
+
+-- each choice stands on its first side
+abbrev pub first_sides : List ℕ → List ℕ
+first_sides list = map (λ side. 1) list
+
+-- no reason is kept, for as many choices
+abbrev pub no_reasons : List (List (List ℕ)) → List (List (List ℕ))
+no_reasons reasons = map (λ each. []) reasons
+
+-- every choice stands on its first side, and no reason is kept
+abbrev pub restarted : Stand → Stand
+restarted s = record s { list = first_sides s.list; reasons = no_reasons s.reasons }
+
+-- a new name is believed, and a known one changes nothing
+abbrev pub interned : Stand → List ℕ → Stand
+interned s name =
+    cond (is_some (premise_number s.premises name)) s (record s { premises = with_name s.premises name; worldview = s.worldview ++ length s.premises ∷ [] })
+
+-- a new choice stands on its first side, and no reason is kept against it
+abbrev pub declared : Stand → List ℕ → ℕ → Stand
+declared s name sides = record s {
+  premises = with_choice s.premises name sides;
+  list = s.list ++ 1 ∷ [];
+  reasons = s.reasons ++ [] ∷ [];
+  worldview = s.worldview ++ length s.premises ∷ [];
+}
+
+-- the choice is the last one, and its sides have the last numbers
+pub record IsLastChoice (origins : List Origin) (choice : Choice) : Type 0 where
+  pub earlier : List Choice
+  pub last : choices_of origins ≡ earlier ++ choice ∷ []
+  pub end : choice.first + choice.sides ≡ length origins
+
+-- no side of the choice reaches a cell yet
+abbrev pub IsFresh : Problem → Choice → Type 0
+IsFresh problem choice = (p cell : ℕ) → Reaches problem p cell → is_side_of choice p ≡ false
+
+-- the choice at place j goes to its next side, and the later ones to their first
+abbrev pub advanced : List ℕ → ℕ → List ℕ
+advanced [] j = []
+advanced (side ∷ list) zero = suc side ∷ first_sides list
+advanced (side ∷ list) (suc j) = side ∷ advanced list j
+
+-- the choice at place j keeps this reason too, and the later ones keep none
+abbrev pub reasons_advanced : List (List (List ℕ)) → ℕ → List ℕ → List (List (List ℕ))
+reasons_advanced [] j reason = []
+reasons_advanced (each ∷ reasons) zero reason = (each ++ reason ∷ []) ∷ no_reasons reasons
+reasons_advanced (each ∷ reasons) (suc j) reason = each ∷ reasons_advanced reasons j reason
+
+-- why no choice with this name and so many sides can be declared
+abbrev pub declare_refusal : Stand → List ℕ → ℕ → Option Refusal
+declare_refusal s name sides =
+    if is_some (premise_number s.premises name) || is_choice s.premises name then Some NameTaken else
+    if nat_lt (most Premises) (length s.premises + sides) then Some (LimitReached Premises) else
+    if nat_le (most Choices) (length s.list) then Some (LimitReached Choices) else None

@@ -1,0 +1,93 @@
+//! What a nogood shows of the choices, and the move that follows.
+ghost use Rattle.std.specs.Prelude.{◌≡◌, ◌+◌, ◌<◌, ℕ, length, IsTrue, IfOk, OnOk, OnErr};
+ghost use Rattle.prop_premises.specs.Sets.{set_of, IsPart};
+ghost use Rattle.prop_cells.specs.Problems.{Problem};
+ghost use Rattle.prop_nogoods.specs.Stores.{has_part};
+ghost use Rattle.prop_amb.specs.Refuted.{IsNogood};
+ghost use Rattle.prop_amb.specs.Search.{choices_in, IsSearch};
+ghost use Rattle.prop_amb.specs.Moving.{advanced, reasons_advanced};
+ghost use Rattle.prop_amb.specs.Resolving.{MayAdvance, IsReason, IsResolved, IfAgainst, IsShown, IsWithin, IfLeaves, IsLooked};
+
+use crate::joining::joined;
+use crate::lists::advanced;
+use crate::reasons::advance_reasons;
+use crate::search::Search;
+use prop_premises::{Premise, PremiseSet};
+use std::alloc::AllocError;
+
+/// What a believed nogood shows.
+#[derive(Drop)]
+pub enum Resolved {
+    /// The choice at this place leaves its side, which isn't its last, for the reason given.
+    Against(usize, PremiseSet),
+    /// Every list is refuted, by these believed premises of the user's.
+    RuledOut(PremiseSet),
+}
+
+/// What a refuted set shows of one choice, where it holds no side of a later one.
+#[derive(Drop)]
+enum Looked {
+    /// The choice leaves its side, which isn't its last, for this reason.
+    Leaves(PremiseSet),
+    /// This refuted set holds no side of the choice.
+    Free(PremiseSet),
+}
+
+impl Search {
+    /// What a believed nogood shows: the last choice whose side it holds leaves the side. Where that is its last side, the nogood and
+    /// the reasons against the other sides, without the sides of the choice, are looked at in its place.
+    pub fn resolve(&self, nogood: PremiseSet) -> Result<Resolved, AllocError>
+        requires believed { IsPart (set_of nogood) (set_of self.now.worldview) }
+        ensures may { IfOk result (λ r. IfAgainst r (MayAdvance self.now)) }
+        ensures resolved { IfOk result (λ r. (problem : Problem) → IsSearch problem self.now → IsNogood problem (choices_in self.now) (set_of nogood) → IsTrue (has_part self.now.listed (set_of nogood)) → IsResolved problem self.now r) }
+    {
+        let mut set = nogood;
+        for place in (0..self.list.len()).rev() {
+            match self.looked_at(place, set)? {
+                Looked::Leaves(reason) => return Ok(Resolved::Against(place, reason)),
+                Looked::Free(rest) => set = rest,
+            }
+        }
+        Ok(Resolved::RuledOut(set))
+    }
+
+    /// What a refuted set shows of the choice at a place, where it holds no side of a later one.
+    fn looked_at(&self, place: usize, set: PremiseSet) -> Result<Looked, AllocError>
+        requires { place < length self.now.list }
+        ensures may { IfOk result (λ r. IfLeaves r (MayAdvance self.now place)) }
+        ensures looked { IfOk result (λ r. (problem : Problem) → IsSearch problem self.now → IsWithin self.now (place + 1) (set_of set) → IsShown problem self.now (set_of set) → IsLooked problem self.now place r) }
+    {
+        self.premises.numbered();
+        let _numbers = self.premises.len();
+        let choice = self.premises.choices()[place];
+        let side = self.list[place];
+        let premise = choice.first + Premise::from(side - 1);
+        if !set.contains(premise) {
+            return Ok(Looked::Free(set));
+        }
+        if side < choice.sides {
+            return Ok(Looked::Leaves(set));
+        }
+        let reasons = self.reasons[place].sets();
+        Ok(Looked::Free(joined(&set, premise, reasons, choice.first)?))
+    }
+
+    /// The choice at a place goes to its next side, and the reason is kept against the side that it leaves. All later choices go to
+    /// their first side, and no reason is kept of them. After want of memory nothing has changed.
+    pub fn advance(&mut self, place: usize, reason: PremiseSet) -> Result<(), AllocError>
+        requires { MayAdvance self.old place }
+        ensures premises { self.new.premises ≡ self.old.premises }
+        ensures listed { self.new.listed ≡ self.old.listed }
+        ensures list { OnOk result (self.new.list ≡ advanced self.old.list place) }
+        ensures reasons { OnOk result (self.new.reasons ≡ reasons_advanced self.old.reasons place reason) }
+        ensures err { OnErr result (self.new ≡ self.old) }
+        ensures search { (problem : Problem) → IsReason problem self.old place (set_of reason) → IsSearch problem self.old → IsSearch problem self.new }
+    {
+        let list = advanced(*self.list.allocator(), &self.list, place)?;
+        let worldview = self.premises.worldview(&list)?;
+        advance_reasons(&mut self.reasons, place, reason)?;
+        self.list = list;
+        self.worldview = worldview;
+        Ok(())
+    }
+}

@@ -1,0 +1,104 @@
+//! Where the search for the first consistent list of choices stands, and what it has learned.
+ghost use Rattle.std.specs.Prelude.{◌≡◌, ℕ, List, Contains, IsTrue, None, Ok, false, not, IfOk, IfSome, OnOk, OnErr};
+ghost use Rattle.prop_premises.specs.Sets.{set_of, is_within};
+ghost use Rattle.prop_cells.specs.Problems.{Problem};
+ghost use Rattle.prop_nogoods.specs.Stores.{has_part, AddsSet};
+ghost use Rattle.prop_amb.specs.Refuted.{IsNogood};
+ghost use Rattle.prop_amb.specs.Search.{Stand, no_stand, choices_in, IsStand, IsSearch};
+
+use crate::reasons::Reasons;
+use prop_nogoods::Store;
+use prop_premises::{PremiseSet, Premises, Worldview};
+use std::alloc::{AllocError, Global};
+use std::marker::Model;
+
+/// The premises, the side on which each choice stands, why it left the sides before, the nogoods, and what is believed.
+#[derive(Drop)]
+pub struct Search {
+    pub(crate) premises: Premises,
+    pub(crate) list: Vec<u8>,
+    pub(crate) reasons: Vec<Reasons>,
+    pub(crate) store: Store,
+    pub(crate) worldview: Worldview,
+}
+
+impl Model for Search {
+    ghost Value = { Stand };
+
+    ghost view = { λ s. record { premises = s.premises; list = s.list.items; reasons = s.reasons.items; listed = s.store; worldview = s.worldview } };
+
+    ghost invariant = { λ s. IsStand (record { premises = s.premises; list = s.list.items; reasons = s.reasons.items; listed = s.store; worldview = s.worldview }) };
+}
+
+impl Search {
+    /// No premises, no choices and no nogoods. It takes no memory.
+    pub fn new(alloc: Global) -> Search
+        ensures { result ≡ no_stand }
+    {
+        Search {
+            premises: Premises::new(alloc),
+            list: Vec::new(alloc),
+            reasons: Vec::new(alloc),
+            store: Store::new(alloc),
+            worldview: Worldview::empty(alloc),
+        }
+    }
+
+    /// The premises and the choices.
+    pub fn premises(&self) -> &Premises
+        ensures { result.now ≡ self.now.premises }
+    {
+        &self.premises
+    }
+
+    /// The side on which each choice stands, from 1, in order of declaration.
+    pub fn list(&self) -> &[u8]
+        ensures { result.now ≡ self.now.list }
+    {
+        &self.list
+    }
+
+    /// The nogoods that were noted.
+    pub fn nogoods(&self) -> &Store
+        ensures { result.now ≡ self.now.listed }
+    {
+        &self.store
+    }
+
+    /// What is believed: the believed premises of the user's, and the side on which each choice stands.
+    pub fn worldview(&self) -> &Worldview
+        ensures { result.now ≡ self.now.worldview }
+    {
+        &self.worldview
+    }
+
+    /// What a search keeps by itself, whatever the problem.
+    pub fn well_made(&self)
+        ensures { IsStand self.now }
+    {
+        let _ = &self.list;
+    }
+
+    /// Notes a nogood, and answers whether it says more than those noted before.
+    ///
+    /// Where a part of it was noted it takes no memory, and nothing changes. After want of memory nothing has changed.
+    pub fn note(&mut self, nogood: PremiseSet) -> Result<bool, AllocError>
+        ensures only { self.new ≡ record self.old { listed = self.new.listed } }
+        ensures adds { OnOk result (AddsSet self.old.listed self.new.listed nogood) }
+        ensures new { IfOk result (λ is_new. is_new ≡ not (has_part self.old.listed (set_of nogood))) }
+        ensures known { IsTrue (has_part self.old.listed (set_of nogood)) → (result ≡ Ok false) × (self.new ≡ self.old) }
+        ensures err { OnErr result (self.new ≡ self.old) }
+        ensures search { (problem : Problem) → IsNogood problem (choices_in self.old) (set_of nogood) → IsSearch problem self.old → IsSearch problem self.new }
+    {
+        self.store.add(nogood)
+    }
+
+    /// A nogood of which every premise is believed, none where there is no such nogood. It takes no memory.
+    pub fn blocked(&self) -> Option<&PremiseSet>
+        ensures listed { IfSome result (λ s. Contains self.now.listed s.now) }
+        ensures believed { IfSome result (λ s. IsTrue (is_within (set_of self.now.worldview) s.now)) }
+        ensures none { result ≡ None → has_part self.now.listed (set_of self.now.worldview) ≡ false }
+    {
+        self.store.blocks(&self.worldview)
+    }
+}

@@ -1,0 +1,182 @@
+//! Settling: the first list of choices that isn't refuted, and the least solution with it.
+ghost use Rattle.std.specs.Prelude.{◌≡◌, ◌⊎◌, ℕ, ◌+◌, ◌*◌, ◌<◌, ◌≤◌, [], true, false, IsTrue, length, Ok, Some, None, IfOk, IfSome};
+ghost use Rattle.prop_premises.specs.Sets.{Members, set_of};
+ghost use Rattle.prop_premises.specs.ChoiceLists.{lists_count};
+ghost use Rattle.prop_procedures.specs.Kept.{AllMean, stored_of};
+ghost use Rattle.prop_cells.specs.Data.{problem_of, beliefs, IsFree};
+ghost use Rattle.prop_scheduler.specs.Turns.{IsUnderWay, IsSettled, Turns};
+ghost use Rattle.prop_scheduler.specs.Potential.{potential, most_steps};
+ghost use Rattle.prop_nogoods.specs.Stores.{has_part};
+ghost use Rattle.prop_amb.specs.Refuted.{IsListRefuted, AllBeforeRefuted, IsFirstConsistent, IsRuledOut};
+ghost use Rattle.prop_amb.specs.Search.{users_of, choices_in, IsStand, IsSearch, AllBeforeBlocked, Moves};
+ghost use Rattle.prop_amb.specs.Going.{IsMove, Goes};
+ghost use Rattle.prop_amb.specs.Settling.{IfContradiction, IfRefuted, IsMet, IsHeld};
+
+use crate::outcome::Outcome;
+use crate::resolving::Resolved;
+use crate::search::Search;
+use prop_cells::Network;
+use prop_premises::PremiseSet;
+use prop_procedures::Rule;
+use prop_scheduler::{Agenda, Order, Run, run, wake_all};
+use std::alloc::{AllocError, Global};
+
+/// What came of one list of choices.
+#[derive(Drop)]
+enum Tried {
+    /// It holds, and no instance waits.
+    Quiet,
+    /// It is refuted by this nogood, which is noted.
+    Refuted(PremiseSet),
+    /// The budget is used.
+    Spent,
+}
+
+/// Looks whether a noted nogood is believed, and else runs the network with the list on which the choices stand; a clash is noted.
+/// Answers what came of the list and how many instances were called.
+fn attempt<R: Rule + Drop, O: Order>(
+    alloc: Global,
+    search: &mut Search,
+    network: &mut Network<R>,
+    agenda: &mut Agenda,
+    order: &mut O,
+    budget: u64,
+) -> Result<(Tried, u64), AllocError>
+    requires means { AllMean R.value_of network.old.library.procedures.items }
+    requires under_way { IsUnderWay (stored_of R.value_of network.old.library) (set_of search.old.worldview) network.old.cells agenda.old.line }
+    requires room { length network.old.cells.instances ≤ agenda.old.room }
+    requires search { IsSearch (problem_of (stored_of R.value_of network.old.library) network.old.cells) search.old }
+    ensures same { network.new.library ≡ network.old.library }
+    ensures rest { network.new.cells ≡ record network.old.cells { contents = network.new.cells.contents } }
+    ensures room { agenda.new.room ≡ agenda.old.room }
+    ensures only { search.new ≡ record search.old { listed = search.new.listed } }
+    ensures listed { (m : Members) → IsTrue (has_part search.old.listed m) → IsTrue (has_part search.new.listed m) }
+    ensures search { IsSearch (problem_of (stored_of R.value_of network.old.library) network.old.cells) search.new }
+    ensures stand { IsStand search.new }
+    ensures under_way { IsUnderWay (stored_of R.value_of network.old.library) (set_of search.old.worldview) network.new.cells agenda.new.line }
+    ensures turns { IfOk result (λ r. Turns O.picks (stored_of R.value_of network.old.library) (set_of search.old.worldview) network.old.cells agenda.old.line order.old r.1 network.new.cells agenda.new.line order.new) }
+    ensures quiet { IfOk result (λ r. r.0 ≡ Tried.Quiet → IsSettled (stored_of R.value_of network.old.library) (set_of search.old.worldview) network.new.cells) }
+    ensures rests { IfOk result (λ r. r.0 ≡ Tried.Quiet → agenda.new.line ≡ []) }
+    ensures refuted { IfOk result (λ r. IfRefuted r.0 (IsMet (problem_of (stored_of R.value_of network.old.library) network.old.cells) search.new)) }
+    ensures spent { IfOk result (λ r. r.0 ≡ Tried.Spent → r.1 ≡ budget) }
+    ensures left { IfOk result (λ r. r.0 ≡ Tried.Spent → 0 < length agenda.new.line) }
+    ensures earned { IfOk result (λ r. r.0 ≡ Tried.Spent → r.1 < most_steps (problem_of (stored_of R.value_of network.old.library) network.old.cells)) }
+    ensures steps { IfOk result (λ r. r.1 ≤ budget) }
+    ensures at_rest { IfOk result (λ r. agenda.old.line ≡ [] → IsFree (set_of search.old.worldview) network.old.cells → has_part search.old.listed (set_of search.old.worldview) ≡ false → (r.0 ≡ Tried.Quiet) × (r.1 ≡ 0)) }
+    ensures falls { IfOk result (λ r. potential (problem_of (stored_of R.value_of network.old.library) network.old.cells) (beliefs (set_of search.old.worldview) network.new.cells.contents) agenda.new.line + r.1 ≤ potential (problem_of (stored_of R.value_of network.old.library) network.old.cells) (beliefs (set_of search.old.worldview) network.old.cells.contents) agenda.old.line) }
+    ensures few { IfOk result (λ r. r.1 ≤ most_steps (problem_of (stored_of R.value_of network.old.library) network.old.cells)) }
+{
+    network.data().well_made();
+    let _waiting = agenda.waiting();
+    search.well_made();
+    if let Some(nogood) = search.blocked() {
+        return Ok((Tried::Refuted(nogood.copy()?), 0));
+    }
+    let (end, calls) = run(alloc, network, search.worldview(), agenda, order, budget)?;
+    match end {
+        Run::Quiet => Ok((Tried::Quiet, calls)),
+        Run::Spent => Ok((Tried::Spent, calls)),
+        Run::Clash(support) => {
+            search.note(support.copy()?)?;
+            search.well_made();
+            Ok((Tried::Refuted(support), calls))
+        }
+    }
+}
+
+/// What follows where a list was tried: an end, or the choices go on to a later list and every instance waits.
+/// Where one more step is not allowed, that is an end too.
+fn decide<R: Rule + Drop>(
+    search: &mut Search,
+    network: &Network<R>,
+    agenda: &mut Agenda,
+    tried: Tried,
+    may_move: bool,
+) -> Result<Option<Outcome>, AllocError>
+    requires room { length network.now.cells.instances ≤ agenda.old.room }
+    requires search { IsSearch (problem_of (stored_of R.value_of network.now.library) network.now.cells) search.old }
+    requires under_way { IsUnderWay (stored_of R.value_of network.now.library) (set_of search.old.worldview) network.now.cells agenda.old.line }
+    requires met { IfRefuted tried (IsMet (problem_of (stored_of R.value_of network.now.library) network.now.cells) search.old) }
+    ensures premises { search.new.premises ≡ search.old.premises }
+    ensures listed { search.new.listed ≡ search.old.listed }
+    ensures search { IsSearch (problem_of (stored_of R.value_of network.now.library) network.now.cells) search.new }
+    ensures stand { IsStand search.new }
+    ensures under_way { IsUnderWay (stored_of R.value_of network.now.library) (set_of search.new.worldview) network.now.cells agenda.new.line }
+    ensures room { agenda.new.room ≡ agenda.old.room }
+    ensures same { IfOk result (λ o. IfSome o (λ end. search.new ≡ search.old)) }
+    ensures same_line { IfOk result (λ o. IfSome o (λ end. agenda.new.line ≡ agenda.old.line)) }
+    ensures quiet { tried ≡ Tried.Quiet → result ≡ Ok (Some Outcome.Settled) }
+    ensures settled { IfOk result (λ o. o ≡ Some Outcome.Settled → tried ≡ Tried.Quiet) }
+    ensures contradiction { IfOk result (λ o. IfSome o (λ end. IfContradiction end (λ n. IsRuledOut (problem_of (stored_of R.value_of network.now.library) network.now.cells) (users_of search.old) (choices_in search.old) search.old.listed (set_of n)))) }
+    ensures unsettled { IfOk result (λ o. o ≡ Some Outcome.Unsettled → (tried ≡ Tried.Spent) ⊎ ((may_move ≡ false) × IsHeld (problem_of (stored_of R.value_of network.now.library) network.now.cells) search.old)) }
+    ensures moves { IfOk result (λ o. o ≡ None → (may_move ≡ true) × IsMove (stored_of R.value_of network.now.library) (users_of search.old) (choices_in search.old) network.now.cells search.old.list search.new.list agenda.new.line) }
+{
+    search.well_made();
+    let nogood = match tried {
+        Tried::Quiet => return Ok(Some(Outcome::Settled)),
+        Tried::Spent => return Ok(Some(Outcome::Unsettled)),
+        Tried::Refuted(nogood) => nogood,
+    };
+    match search.resolve(nogood)? {
+        Resolved::RuledOut(premises) => Ok(Some(Outcome::Contradiction(premises))),
+        Resolved::Against(place, reason) => {
+            if !may_move {
+                return Ok(Some(Outcome::Unsettled));
+            }
+            search.advance(place, reason)?;
+            search.well_made();
+            wake_all(network, agenda);
+            Ok(None)
+        }
+    }
+}
+
+/// Looks for the first list that isn't refuted, from the one on which the choices stand, and for the least solution with it. Each call of an instance
+/// is a step, and each move to a later list. Answers how it ended, and after how many steps.
+///
+/// After want of memory the steps that were taken stay.
+pub fn settle<R: Rule + Drop, O: Order>(
+    alloc: Global,
+    search: &mut Search,
+    network: &mut Network<R>,
+    agenda: &mut Agenda,
+    order: &mut O,
+    budget: u64,
+) -> Result<(Outcome, u64), AllocError>
+    requires means { AllMean R.value_of network.old.library.procedures.items }
+    requires under_way { IsUnderWay (stored_of R.value_of network.old.library) (set_of search.old.worldview) network.old.cells agenda.old.line }
+    requires room { length network.old.cells.instances ≤ agenda.old.room }
+    requires search { IsSearch (problem_of (stored_of R.value_of network.old.library) network.old.cells) search.old }
+    ensures same { network.new.library ≡ network.old.library }
+    ensures rest { network.new.cells ≡ record network.old.cells { contents = network.new.cells.contents } }
+    ensures room { agenda.new.room ≡ agenda.old.room }
+    ensures premises { search.new.premises ≡ search.old.premises }
+    ensures listed { (m : Members) → IsTrue (has_part search.old.listed m) → IsTrue (has_part search.new.listed m) }
+    ensures search { IsSearch (problem_of (stored_of R.value_of network.old.library) network.old.cells) search.new }
+    ensures under_way { IsUnderWay (stored_of R.value_of network.old.library) (set_of search.new.worldview) network.new.cells agenda.new.line }
+    ensures settled { IfOk result (λ r. r.0 ≡ Outcome.Settled → IsSettled (stored_of R.value_of network.old.library) (set_of search.new.worldview) network.new.cells) }
+    ensures first { IfOk result (λ r. r.0 ≡ Outcome.Settled → IsFirstConsistent (problem_of (stored_of R.value_of network.old.library) network.old.cells) (users_of search.new) (choices_in search.new) search.new.list) }
+    ensures rests { IfOk result (λ r. r.0 ≡ Outcome.Settled → agenda.new.line ≡ []) }
+    ensures contradiction { IfOk result (λ r. IfContradiction r.0 (λ n. IsRuledOut (problem_of (stored_of R.value_of network.old.library) network.old.cells) (users_of search.new) (choices_in search.new) search.new.listed (set_of n))) }
+    ensures passed { AllBeforeBlocked search.new }
+    ensures earlier { AllBeforeRefuted (problem_of (stored_of R.value_of network.old.library) network.old.cells) (users_of search.new) (choices_in search.new) search.new.list }
+    ensures spent { IfOk result (λ r. r.0 ≡ Outcome.Unsettled → r.1 ≡ budget) }
+    ensures steps { IfOk result (λ r. r.1 ≤ budget) }
+    ensures moves { IfOk result (λ r. Moves (problem_of (stored_of R.value_of network.old.library) network.old.cells) (choices_in search.new) search.old.list search.new.list r.1) }
+    ensures earned { IfOk result (λ r. r.0 ≡ Outcome.Unsettled → budget + 1 < lists_count (choices_in search.new) * (most_steps (problem_of (stored_of R.value_of network.old.library) network.old.cells) + 1)) }
+    ensures left { IfOk result (λ r. r.0 ≡ Outcome.Unsettled → (0 < length agenda.new.line) ⊎ IsListRefuted (problem_of (stored_of R.value_of network.old.library) network.old.cells) (users_of search.new) (choices_in search.new) search.new.list) }
+    ensures falls { IfOk result (λ r. search.new.list ≡ search.old.list → potential (problem_of (stored_of R.value_of network.old.library) network.old.cells) (beliefs (set_of search.old.worldview) network.new.cells.contents) agenda.new.line + r.1 ≤ potential (problem_of (stored_of R.value_of network.old.library) network.old.cells) (beliefs (set_of search.old.worldview) network.old.cells.contents) agenda.old.line) }
+    ensures at_rest { IfOk result (λ r. agenda.old.line ≡ [] → IsFree (set_of search.old.worldview) network.old.cells → has_part search.old.listed (set_of search.old.worldview) ≡ false → (r.0 ≡ Outcome.Settled) × (r.1 ≡ 0)) }
+    ensures gone { IfOk result (λ r. Goes O.picks (stored_of R.value_of network.old.library) (users_of search.old) (choices_in search.old) search.old.list network.old.cells agenda.old.line order.old r.1 search.new.list network.new.cells agenda.new.line order.new) }
+{
+    search.well_made();
+    let mut steps: u64 = 0;
+    loop {
+        let (tried, calls) = attempt(alloc, search, network, agenda, order, budget - steps)?;
+        steps += calls;
+        match decide(search, network, agenda, tried, steps < budget)? {
+            Some(outcome) => return Ok((outcome, steps)),
+            None => steps += 1,
+        }
+    }
+}

@@ -1,0 +1,101 @@
+-- A set joins listed ones, none of which is part of it, and those that it is part of go.
+use Rattle.std.proofs.Common.{◌≡◌, ◌∙◌, ◌<◌, ℕ, zero, suc, Bool, true, false, not, cond, List, [], ◌∷◌, ◌++◌, length, get_or, refl, sym, arith, inl, inr, All, Contains, filter, IsTrue, ◌||◌, Option, None, Some}
+use Rattle.std.proofs.lemmas.List.Elements.{All-contains, All-filter, All-contains_itself, All-get_or, All-push, filter_passes, Contains-get_or, Contains-push, Contains-append_left, Contains-push_cases}
+use Rattle.std.specs.List.{find}
+use Rattle.std.specs.List.Sorted.{IsStrictlyIncreasing}
+use Rattle.std.specs.Option.{option_map}
+use Rattle.std.proofs.lemmas.List.Quantifiers.{all_pairs_push}
+use Rattle.std.proofs.lemmas.List.Kept.{AllPairs-filter}
+use Rattle.prop_premises.specs.Sets.{Members, set_of, is_within}
+use Rattle.prop_premises.proofs.WithinLemmas.{within_has}
+use Rattle.prop_nogoods.specs.Stores.{has_part, AreMinimal, AddsSet}
+use Rattle.prop_nogoods.proofs.StoreLaws.{PartOf, part-listed, has_part-from}
+
+contains_here : {X : Type 0} (x : X) (xs : List X) → Contains (x ∷ xs) x
+contains_here x xs = (0, omega arith, refl)
+
+contains_there : {X : Type 0} (x y : X) (xs : List X) → Contains xs y → Contains (x ∷ xs) y
+contains_there x y xs h = (suc h.0, omega (arith, h.1), h.2)
+
+-- what passes the test stays
+stays : {X : Type 0} (test : X → Bool) (xs : List X) (k : ℕ) (d : X) → k < length xs → test (get_or xs k d) ≡ true → Contains (filter test xs) (get_or xs k d)
+stays test [] k d l t = absurd (omega (arith, l))
+stays test (x ∷ xs) zero d l t = rw t (contains_here x (filter test xs))
+stays test (x ∷ xs) (suc k) d l t = by (test x) (stays test xs k d (omega (arith, l)) t)
+  where
+    by : (b : Bool) → Contains (filter test xs) (get_or xs k d) → Contains (cond b (x ∷ filter test xs) (filter test xs)) (get_or xs k d)
+    by true c = contains_there x (get_or xs k d) (filter test xs) c
+    by false c = c
+
+stays_in : {X : Type 0} (test : X → Bool) (xs : List X) (x : X) → Contains xs x → test x ≡ true → Contains (filter test xs) x
+stays_in test xs x c t = rw c.2 at (stays test xs c.0 x c.1 (rw c.2 t))
+
+-- the set is not part of the line
+abbrev pub is_kept : List ℕ → List ℕ → Bool
+is_kept n line = not (is_within (set_of line) n)
+
+-- the listed sets that the set is not part of
+abbrev pub kept_of : List (List ℕ) → List ℕ → List (List ℕ)
+kept_of old n = filter (is_kept n) old
+
+module _ (old : List (List ℕ)) (n : List ℕ) where
+  left_only : (line : List ℕ) → Contains (kept_of old n) line → Contains old line
+  left_only line c = All-contains (Contains old) (kept_of old n) line (All-filter (is_kept n) (Contains old) old (All-contains_itself old)) c
+
+  kept : (m : Members) → IsTrue (has_part old m) → IsTrue (has_part (kept_of old n ++ n ∷ []) m)
+  kept m h = by (is_within (set_of its.line) n) refl
+    where
+      its : PartOf old m
+      its = part-listed old m h
+
+      by : (b : Bool) → is_within (set_of its.line) n ≡ b → IsTrue (has_part (kept_of old n ++ n ∷ []) m)
+      by true e = has_part-from (kept_of old n ++ n ∷ []) m n (Contains-push (kept_of old n) n) (λ p t. its.is_part p (within_has (set_of its.line) n p e t))
+      by false e = has_part-from (kept_of old n ++ n ∷ []) m its.line (Contains-append_left (kept_of old n) (n ∷ []) its.line (stays_in (is_kept n) old its.line its.listed_in (rw e refl))) its.is_part
+
+  pub adds_joined : AddsSet old (kept_of old n ++ n ∷ []) n
+  adds_joined = record {
+    has = has_part-from (kept_of old n ++ n ∷ []) (set_of n) n (Contains-push (kept_of old n) n) (λ p t. t);
+    kept = kept;
+    only = λ line c. elim (Contains-push_cases (kept_of old n) n line c) [ inl there ↦ inl (left_only line there) | inr is ↦ inr (sym is) ];
+  }
+
+  pub adds_known : IsTrue (has_part old (set_of n)) → AddsSet old old n
+  adds_known h = record {
+    has = h;
+    kept = λ m t. t;
+    only = λ line c. inl c;
+  }
+
+  not_true : (b : Bool) → not b ≡ true → b ≡ false
+  not_true true h = cc
+  not_true false h = refl
+
+  never : (b : Bool) → ¬ (b ≡ true) → b ≡ false
+  never true h = absurd (h refl)
+  never false h = refl
+
+  pub minimal_joined : has_part old (set_of n) ≡ false → AreMinimal old → AreMinimal (kept_of old n ++ n ∷ [])
+  minimal_joined none apart =
+      all_pairs_push (λ a b. (is_within (set_of b) a ≡ false) × (is_within (set_of a) b ≡ false)) (kept_of old n) n
+      (AllPairs-filter (λ a b. (is_within (set_of b) a ≡ false) × (is_within (set_of a) b ≡ false)) (is_kept n) old apart)
+      (λ k d l. (
+        never (is_within (set_of n) (get_or (kept_of old n) k d)) (λ t.
+            let listed = has_part-from old (set_of n) (get_or (kept_of old n) k d) (left_only (get_or (kept_of old n) k d) (Contains-get_or (kept_of old n) k d l)) (λ p s. within_has (set_of n) (get_or (kept_of old n) k d) p t s) in
+            cc (none, listed)),
+        not_true (is_within (set_of (get_or (kept_of old n) k d)) n) (All-get_or (λ x. (is_kept n) x ≡ true) (kept_of old n) k d l (filter_passes (is_kept n) old)),
+      ))
+
+  pub in_order_joined : IsStrictlyIncreasing n → All IsStrictlyIncreasing old → All IsStrictlyIncreasing (kept_of old n ++ n ∷ [])
+  in_order_joined h all = All-push IsStrictlyIncreasing (kept_of old n) n (All-filter (is_kept n) IsStrictlyIncreasing old all) h
+
+-- where a search finds no set in a worldview, no listed set is part of it
+pub none_found : {A : Type 0} (listed : List (List ℕ)) (w : Members) (r : Option A) (v : A → List ℕ) → option_map v r ≡ find (λ line. is_within w line) listed → r ≡ None → has_part listed w ≡ false
+none_found listed w r v h none = none_in listed (sym h ∙ rw none refl)
+  where
+    none_in : (xs : List (List ℕ)) → find (λ line. is_within w line) xs ≡ None → has_part xs w ≡ false
+    none_in [] e = refl
+    none_in (x ∷ xs) e = by (is_within w x) e (none_in xs)
+      where
+        by : (b : Bool) → cond b (Some x) (find (λ line. is_within w line) xs) ≡ None → (find (λ line. is_within w line) xs ≡ None → has_part xs w ≡ false) → (b || has_part xs w) ≡ false
+        by true e k = cc
+        by false e k = k e

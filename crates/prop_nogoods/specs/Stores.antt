@@ -1,0 +1,18 @@
+-- Lists of nogoods, none of which is part of another.
+use Rattle.std.specs.Prelude.{◌≡◌, ℕ, Bool, false, IsTrue, List, AllPairs, Contains, ◌⊎◌}
+use Rattle.std.specs.List.{list_any}
+use Rattle.prop_premises.specs.Sets.{Members, set_of, is_within}
+
+-- some listed set is part of this one
+abbrev pub has_part : List (List ℕ) → Members → Bool
+has_part listed n = list_any (λ line. is_within n line) listed
+
+-- no listed set is part of another
+abbrev pub AreMinimal : List (List ℕ) → Type 0
+AreMinimal listed = AllPairs (λ a b. (is_within (set_of b) a ≡ false) × (is_within (set_of a) b ≡ false)) listed
+
+-- a set was added: it has a listed part, each set that had one keeps one, and nothing else is listed
+pub record AddsSet (old new : List (List ℕ)) (n : List ℕ) : Type 0 where
+  pub has : IsTrue (has_part new (set_of n))
+  pub kept : (m : Members) → IsTrue (has_part old m) → IsTrue (has_part new m)
+  pub only : (line : List ℕ) → Contains new line → Contains old line ⊎ (line ≡ n)

@@ -1,0 +1,8 @@
+//! Nogoods: sets of premises that can't all be believed.
+#![tactic(auto)]
+
+pub mod nogoods;
+pub mod store;
+
+pub use nogoods::Nogoods;
+pub use store::Store;

@@ -1,0 +1,111 @@
+//! A store of nogoods, none of which is part of another.
+ghost use Rattle.std.specs.Prelude.{◌≡◌, ◌↔◌, ◌≤◌, ◌+◌, List, ℕ, [], length, filter, not, false, All, None, Ok, Contains, IsTrue, IfOk, IfSome, OnOk, OnErr, vec_capacity, vec_len};
+ghost use Rattle.std.specs.List.Sorted.{IsStrictlyIncreasing};
+ghost use Rattle.prop_premises.specs.Sets.{set_of, is_within};
+ghost use Rattle.prop_nogoods.specs.Stores.{has_part, AreMinimal, AddsSet};
+
+use crate::nogoods::Nogoods;
+use prop_premises::{PremiseSet, Worldview};
+use std::alloc::{AllocError, Global};
+use std::marker::Model;
+
+/// Sets of premises that can't all be believed, none of which is part of another, in the order in which they were added.
+#[derive(Drop)]
+pub struct Store {
+    nogoods: Vec<PremiseSet>,
+}
+
+impl Model for Store {
+    ghost Value = { List (List ℕ) };
+
+    ghost view = { λ s. s.nogoods.items };
+
+    ghost invariant = { λ s. AreMinimal s.nogoods.items × All IsStrictlyIncreasing s.nogoods.items };
+}
+
+/// Whether a listed set is part of this one.
+fn has_part(listed: &[PremiseSet], nogood: &PremiseSet) -> bool
+    ensures { result ≡ has_part listed.now (set_of nogood.now) }
+{
+    listed.iter().any(|part| part.is_subset(nogood))
+}
+
+/// Drops the listed sets that this one is part of.
+fn drop_larger(listed: &mut Vec<PremiseSet>, nogood: &PremiseSet)
+    ensures left { listed.new.items ≡ filter (λ line. not (is_within (set_of line) nogood.now)) listed.old.items }
+    ensures capacity { vec_capacity listed.new ≡ vec_capacity listed.old }
+    ensures len { vec_len listed.new ≤ vec_len listed.old }
+{
+    listed.retain(|larger| !nogood.is_subset(larger));
+}
+
+impl Store {
+    /// No nogoods. It takes no memory.
+    pub fn new(alloc: Global) -> Store
+        ensures { result ≡ [] }
+    {
+        Store {
+            nogoods: Vec::new(alloc),
+        }
+    }
+
+    /// How many nogoods are listed.
+    pub fn len(&self) -> usize
+        ensures { result ≡ length self.now }
+    {
+        self.nogoods.len()
+    }
+
+    pub fn is_empty(&self) -> bool
+        ensures { IsTrue result ↔ (self.now ≡ []) }
+    {
+        self.nogoods.is_empty()
+    }
+
+    /// The nogoods in the order in which they were added.
+    pub fn iter(&self) -> Nogoods<'_>
+        ensures { result ≡ self.now }
+    {
+        Nogoods::new(&self.nogoods)
+    }
+
+    /// No nogood of a store is part of another, and the premises of each are in order of number.
+    pub fn minimal(&self)
+        ensures minimal { AreMinimal self.now }
+        ensures in_order { All IsStrictlyIncreasing self.now }
+    {
+        let _ = &self.nogoods;
+    }
+
+    /// Adds a nogood, and answers whether it says more than those listed; the listed ones that it is part of go.
+    ///
+    /// Where a part of it is listed it takes no memory, and nothing changes. After want of memory nothing has changed.
+    pub fn add(&mut self, nogood: PremiseSet) -> Result<bool, AllocError>
+        ensures adds { OnOk result (AddsSet self.old self.new nogood) }
+        ensures new { IfOk result (λ is_new. is_new ≡ not (has_part self.old (set_of nogood))) }
+        ensures known { IsTrue (has_part self.old (set_of nogood)) → (result ≡ Ok false) × (self.new ≡ self.old) }
+        ensures minimal { AreMinimal self.new }
+        ensures in_order { All IsStrictlyIncreasing self.new }
+        ensures len { length self.new ≤ length self.old + 1 }
+        ensures err { OnErr result (self.new ≡ self.old) }
+    {
+        if has_part(&self.nogoods, &nogood) {
+            return Ok(false);
+        }
+        self.nogoods.reserve(1)?;
+        drop_larger(&mut self.nogoods, &nogood);
+        self.nogoods.push(nogood)?;
+        Ok(true)
+    }
+
+    /// A nogood of which every premise is believed, none where there is no such nogood. It takes no memory.
+    pub fn blocks(&self, worldview: &Worldview) -> Option<&PremiseSet>
+        ensures listed { IfSome result (λ s. Contains self.now s.now) }
+        ensures believed { IfSome result (λ s. IsTrue (is_within (set_of worldview.now) s.now)) }
+        ensures none { result ≡ None → has_part self.now (set_of worldview.now) ≡ false }
+    {
+        self.nogoods
+            .iter()
+            .find(|nogood| worldview.believes(nogood))
+    }
+}

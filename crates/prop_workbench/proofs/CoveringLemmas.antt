@@ -1,0 +1,101 @@
+-- Steps that hold whichever contradictions were named.
+use Rattle.std.proofs.Common.{◌∙◌, ℕ, List, [], ◌∷◌, ◌++◌, Option, Some, None, Result, sym, ap, inl, inr}
+use Rattle.std.proofs.lemmas.List.Elements.{All-weaker, All-push}
+use Rattle.prop_lattice.specs.declared.refusal.Refusal.{Refusal}
+use Rattle.prop_premises.specs.Sets.{Members, set_of}
+use Rattle.prop_amb.specs.Refuted.{IsCovered}
+use Rattle.prop_procedures.specs.Stored.{Stored}
+use Rattle.prop_language.specs.Commands as commands
+use Rattle.prop_language.specs.Commands.{Command}
+use Rattle.prop_engine.specs.Answers.{Answer}
+use Rattle.prop_workbench.specs.Machine.{State, naming, choices_in}
+use Rattle.prop_workbench.specs.Refusing.{refusal_of}
+use Rattle.prop_workbench.specs.Steps.{Shown, Covers, Changes, Carries, CarriesUnless, Obeys, Follows, IsObeyed, IsFollowed}
+use Rattle.prop_workbench.proofs.NamingLaws.{refusal_naming, effect_naming}
+
+-- the command runs nothing and lists nothing
+abbrev pub IsStill : Command → Type 0
+IsStill commands.Command.Settle = ⊥
+IsStill (commands.Command.Ask x) = ⊥
+IsStill (commands.Command.Why x) = ⊥
+IsStill commands.Command.Worldview = ⊥
+IsStill commands.Command.Nogoods = ⊥
+IsStill command = Unit {0}
+
+-- what was covered still is
+abbrev pub KeepsCover : Shown → Shown → Type 0
+KeepsCover old new = (m : Members) → IsCovered (choices_in old.state) old.learned m → IsCovered (choices_in new.state) new.learned m
+
+pub covers_still : (old new : Shown) (named : List (List ℕ)) → KeepsCover old new → Covers old named → Covers new named
+covers_still old new named keeps covers =
+    All-weaker (λ m. IsCovered (choices_in old.state) old.learned (set_of m)) (λ m. IsCovered (choices_in new.state) new.learned (set_of m)) (λ m h. keeps (set_of m) h) named covers
+
+changes_carry : (library : List Stored) (s t : State) (command : Command) (answer : Answer) (steps : ℕ) → IsStill command → Changes library s command answer t steps → Carries library s command answer t steps
+changes_carry library s t (commands.Command.Domain name elements) answer steps still r = r
+changes_carry library s t (commands.Command.Relation name from to pairs) answer steps still r = r
+changes_carry library s t (commands.Command.Cell name kind) answer steps still r = r
+changes_carry library s t (commands.Command.Define name params body) answer steps still r = r
+changes_carry library s t (commands.Command.Attach name cells by) answer steps still r = r
+changes_carry library s t (commands.Command.Fix cell value) answer steps still r = r
+changes_carry library s t (commands.Command.Tell premise cell value) answer steps still r = r
+changes_carry library s t (commands.Command.Choose name cell values) answer steps still r = r
+changes_carry library s t (commands.Command.Kick premise) answer steps still r = r
+changes_carry library s t (commands.Command.Bring premise) answer steps still r = r
+changes_carry library s t (commands.Command.Limit n) answer steps still r = r
+changes_carry library s t commands.Command.Settle answer steps still r = absurd still
+changes_carry library s t (commands.Command.Ask x) answer steps still r = absurd still
+changes_carry library s t (commands.Command.Why x) answer steps still r = absurd still
+changes_carry library s t commands.Command.Worldview answer steps still r = absurd still
+changes_carry library s t commands.Command.Nogoods answer steps still r = absurd still
+
+carry_changes : (library : List Stored) (s t : State) (command : Command) (answer : Answer) (steps : ℕ) → IsStill command → Carries library s command answer t steps → Changes library s command answer t steps
+carry_changes library s t (commands.Command.Domain name elements) answer steps still r = r
+carry_changes library s t (commands.Command.Relation name from to pairs) answer steps still r = r
+carry_changes library s t (commands.Command.Cell name kind) answer steps still r = r
+carry_changes library s t (commands.Command.Define name params body) answer steps still r = r
+carry_changes library s t (commands.Command.Attach name cells by) answer steps still r = r
+carry_changes library s t (commands.Command.Fix cell value) answer steps still r = r
+carry_changes library s t (commands.Command.Tell premise cell value) answer steps still r = r
+carry_changes library s t (commands.Command.Choose name cell values) answer steps still r = r
+carry_changes library s t (commands.Command.Kick premise) answer steps still r = r
+carry_changes library s t (commands.Command.Bring premise) answer steps still r = r
+carry_changes library s t (commands.Command.Limit n) answer steps still r = r
+carry_changes library s t commands.Command.Settle answer steps still r = absurd still
+carry_changes library s t (commands.Command.Ask x) answer steps still r = absurd still
+carry_changes library s t (commands.Command.Why x) answer steps still r = absurd still
+carry_changes library s t commands.Command.Worldview answer steps still r = absurd still
+carry_changes library s t commands.Command.Nogoods answer steps still r = absurd still
+
+changes_named : (library : List Stored) (s t : State) (named : List (List ℕ)) (command : Command) (answer : Answer) (steps : ℕ) → Changes library s command answer t steps → Changes library (naming s named) command answer (naming t named) steps
+changes_named library s t named command answer steps r = record {
+  answer_is = r.answer_is;
+  new_is = ap (λ u. naming u named) r.new_is ∙ sym (effect_naming library s named command);
+  no_steps = r.no_steps;
+}
+
+carries_named : (o : Option Refusal) (library : List Stored) (s t : State) (named : List (List ℕ)) (command : Command) (answer : Answer) (steps : ℕ) → IsStill command → CarriesUnless o library s command answer t steps →
+    CarriesUnless o library (naming s named) command answer (naming t named) steps
+carries_named (Some refusal) library s t named command answer steps still r = record { answer_is = r.answer_is; same = ap (λ u. naming u named) r.same; no_steps = r.no_steps }
+carries_named None library s t named command answer steps still r =
+    changes_carry library (naming s named) (naming t named) command answer steps still (changes_named library s t named command answer steps (carry_changes library s t command answer steps still r))
+
+pub obeys_named : (library : List Stored) (s t : State) (named : List (List ℕ)) (command : Command) (answer : Answer) (steps : ℕ) → IsStill command → Obeys library s command answer t steps → Obeys library (naming s named) command answer (naming t named) steps
+obeys_named library s t named command answer steps still (inl c) =
+    inl (rw (refusal_naming library s named command) (carries_named (refusal_of library s command) library s t named command answer steps still c))
+obeys_named library s t named command answer steps still (inr l) = inr (record { answer_is = l.answer_is; same = ap (λ u. naming u named) l.same })
+
+-- a command that runs nothing is obeyed whichever contradictions were named
+pub still_obeyed : (library : List Stored) (old new : Shown) (command : Command) (answer : Answer) (steps : ℕ) → IsStill command → KeepsCover old new → Obeys library old.state command answer new.state steps → IsObeyed library command answer steps old new
+still_obeyed library old new command answer steps still keeps obeys named covers = record {
+  now = named;
+  covers = covers_still old new named keeps covers;
+  step = obeys_named library old.state new.state named command answer steps still obeys;
+}
+
+-- silence, and a refusal that was read, hold whichever contradictions were named
+pub refused_followed : (library : List Stored) (old new : Shown) (read : Result (Option Command) Refusal) (answer : Answer) (steps : ℕ) → KeepsCover old new → ((named : List (List ℕ)) → Follows library (naming old.state named) read answer (naming new.state named) steps) → IsFollowed library read answer steps old new
+refused_followed library old new read answer steps keeps follows named covers = record { now = named; covers = covers_still old new named keeps covers; step = follows named }
+
+-- one contradiction more is covered
+pub covers_more : (s : Shown) (named : List (List ℕ)) (ps : List ℕ) → Covers s named → IsCovered (choices_in s.state) s.learned (set_of ps) → Covers s (named ++ ps ∷ [])
+covers_more s named ps covers one = All-push (λ m. IsCovered (choices_in s.state) s.learned (set_of m)) named ps covers one

@@ -1,0 +1,182 @@
+-- How a run ends holds whichever contradictions were named.
+use Rattle.std.proofs.Common.{◌≡◌, ◌≤◌, ◌∙◌, ℕ, List, [], Some, All, codes, refl, ap, inl, inr}
+use Rattle.prop_premises.specs.Sets.{set_of}
+use Rattle.prop_amb.specs.Refuted.{IsCovered, IsNogood}
+use Rattle.prop_lattice.specs.declared.info.Info.{Info}
+use Rattle.prop_lattice.specs.declared.refusal.Refusal.{Refusal}
+use Rattle.prop_lattice.specs.declared.refusal.Refusal.TheVariants.{Memory}
+use Rattle.prop_procedures.specs.Stored.{Stored}
+use Rattle.prop_language.specs.Commands as commands
+use Rattle.prop_language.specs.Commands.{Command}
+use Rattle.prop_engine.specs.Answers.{Answer, Refused, Says}
+use Rattle.prop_texts.specs.Texts.{nogoods_text}
+use Rattle.std.specs.List.Sorted.{IsStrictlyIncreasing}
+use Rattle.prop_nogoods.specs.Stores.{AreMinimal}
+use Rattle.prop_workbench.specs.declared.asking.Question.{Question}
+use Rattle.prop_workbench.specs.declared.asking.Question.TheVariants.{Settle, Worldview, Ask, Why}
+use Rattle.prop_workbench.specs.Machine.{State, naming, problem_in, choices_in}
+use Rattle.prop_amb.specs.declared.outcome.Outcome as ends
+use Rattle.prop_amb.specs.declared.outcome.Outcome.TheVariants as ended
+use Rattle.prop_workbench.specs.Questions.{command_of, outcome_of, IfContradiction, IsNamed, MaySay}
+use Rattle.prop_workbench.specs.Refusing.{refusal_of}
+use Rattle.prop_workbench.specs.Running.{Outcome, Settled, Unsettled, Contradiction, named_by, MayEnd, IsRest, IsValue, IsValueReply, IsExplainedReply, Replies}
+use Rattle.prop_workbench.specs.Steps.{Shown, Covers, IsObeyed}
+use Rattle.prop_workbench.proofs.AskLemmas.{free, carries}
+use Rattle.prop_workbench.proofs.NamingLaws.{refusal_naming}
+use Rattle.prop_workbench.proofs.StepLemmas.{obeys, refuses}
+use Rattle.prop_workbench.proofs.CoveringLemmas.{KeepsCover, covers_still, covers_more}
+
+rest_named : (library : List Stored) (s : State) (named : List (List ℕ)) (list : List ℕ) (a : ℕ → Info) → IsRest library s list a → IsRest library (naming s named) list a
+rest_named library s named list a r = record { least = r.least; free = r.free }
+
+may_end_named : (library : List Stored) (s : State) (named : List (List ℕ)) (outcome : Outcome) → MayEnd library s outcome → MayEnd library (naming s named) outcome
+may_end_named library s named (Settled list) r = record { first = r.first; solution = r.solution; rest = rest_named library s named list r.solution r.rest }
+may_end_named library s named (Unsettled list) r = record { is_list = r.is_list; earlier = r.earlier; few = r.few }
+may_end_named library s named (Contradiction ps) r = record { believes = r.believes; refuted = r.refuted; grounded = r.grounded }
+
+value_named : (library : List Stored) (s : State) (named : List (List ℕ)) (outcome : Outcome) (cell : ℕ) (v : Info) → IsValue library s outcome cell v → IsValue library (naming s named) outcome cell v
+value_named library s named (Settled list) cell v r = record { solution = r.solution; rest = rest_named library s named list r.solution r.rest; value = r.value }
+value_named library s named (Unsettled list) cell v r = record { of_kind = r.of_kind; entailed = r.entailed; stated = r.stated }
+value_named library s named (Contradiction ps) cell v r = absurd r
+
+value_reply_named : (library : List Stored) (s : State) (named : List (List ℕ)) (outcome : Outcome) (name mark text : List ℕ) → IsValueReply library s outcome name mark text → IsValueReply library (naming s named) outcome name mark text
+value_reply_named library s named outcome name mark text r = record { cell = r.cell; cell_is = r.cell_is; v = r.v; value = value_named library s named outcome r.cell r.v r.value; text_is = r.text_is }
+
+settled_reply_named : (library : List Stored) (s : State) (named : List (List ℕ)) (list name mark text : List ℕ) → IsExplainedReply library s (Settled list) name mark text → IsExplainedReply library (naming s named) (Settled list) name mark text
+settled_reply_named library s named list name mark text r = record {
+  cell = r.cell;
+  cell_is = r.cell_is;
+  v = r.v;
+  value = value_named library s named (Settled list) r.cell r.v r.value;
+  premises = r.premises;
+  in_order = r.in_order;
+  explains = r.explains;
+  text_is = r.text_is;
+}
+
+unsettled_reply_named : (library : List Stored) (s : State) (named : List (List ℕ)) (list name mark text : List ℕ) → IsExplainedReply library s (Unsettled list) name mark text → IsExplainedReply library (naming s named) (Unsettled list) name mark text
+unsettled_reply_named library s named list name mark text r = record {
+  cell = r.cell;
+  cell_is = r.cell_is;
+  v = r.v;
+  value = value_named library s named (Unsettled list) r.cell r.v r.value;
+  premises = r.premises;
+  in_order = r.in_order;
+  explains = r.explains;
+  text_is = r.text_is;
+}
+
+replies_named : (library : List Stored) (s : State) (named : List (List ℕ)) (command : Command) (outcome : Outcome) (steps : ℕ) (text : List ℕ) → Replies library s command outcome steps text → Replies library (naming s named) command outcome steps text
+replies_named library s named command (Contradiction ps) steps text r = r
+replies_named library s named commands.Command.Settle (Settled list) steps text r = r
+replies_named library s named commands.Command.Settle (Unsettled list) steps text r = r
+replies_named library s named commands.Command.Worldview (Settled list) steps text r = r
+replies_named library s named commands.Command.Worldview (Unsettled list) steps text r = r
+replies_named library s named (commands.Command.Ask x) (Settled list) steps text r = value_reply_named library s named (Settled list) x [] text r
+replies_named library s named (commands.Command.Ask x) (Unsettled list) steps text r = (value_reply_named library s named (Unsettled list) x (codes " unsettled") text r.0, r.1)
+replies_named library s named (commands.Command.Why x) (Settled list) steps text r = settled_reply_named library s named list x [] text r
+replies_named library s named (commands.Command.Why x) (Unsettled list) steps text r = (unsettled_reply_named library s named list x (codes " unsettled") text r.0, r.1)
+replies_named library s named (commands.Command.Domain name elements) (Settled list) steps text r = absurd r
+replies_named library s named (commands.Command.Domain name elements) (Unsettled list) steps text r = absurd r
+replies_named library s named (commands.Command.Relation name from to pairs) (Settled list) steps text r = absurd r
+replies_named library s named (commands.Command.Relation name from to pairs) (Unsettled list) steps text r = absurd r
+replies_named library s named (commands.Command.Cell name kind) (Settled list) steps text r = absurd r
+replies_named library s named (commands.Command.Cell name kind) (Unsettled list) steps text r = absurd r
+replies_named library s named (commands.Command.Define name params body) (Settled list) steps text r = absurd r
+replies_named library s named (commands.Command.Define name params body) (Unsettled list) steps text r = absurd r
+replies_named library s named (commands.Command.Attach name cells by) (Settled list) steps text r = absurd r
+replies_named library s named (commands.Command.Attach name cells by) (Unsettled list) steps text r = absurd r
+replies_named library s named (commands.Command.Fix cell value) (Settled list) steps text r = absurd r
+replies_named library s named (commands.Command.Fix cell value) (Unsettled list) steps text r = absurd r
+replies_named library s named (commands.Command.Tell premise cell value) (Settled list) steps text r = absurd r
+replies_named library s named (commands.Command.Tell premise cell value) (Unsettled list) steps text r = absurd r
+replies_named library s named (commands.Command.Choose name cell values) (Settled list) steps text r = absurd r
+replies_named library s named (commands.Command.Choose name cell values) (Unsettled list) steps text r = absurd r
+replies_named library s named (commands.Command.Kick premise) (Settled list) steps text r = absurd r
+replies_named library s named (commands.Command.Kick premise) (Unsettled list) steps text r = absurd r
+replies_named library s named (commands.Command.Bring premise) (Settled list) steps text r = absurd r
+replies_named library s named (commands.Command.Bring premise) (Unsettled list) steps text r = absurd r
+replies_named library s named (commands.Command.Limit n) (Settled list) steps text r = absurd r
+replies_named library s named (commands.Command.Limit n) (Unsettled list) steps text r = absurd r
+replies_named library s named commands.Command.Nogoods (Settled list) steps text r = absurd r
+replies_named library s named commands.Command.Nogoods (Unsettled list) steps text r = absurd r
+
+named_still : (s : State) (named : List (List ℕ)) (question : Question) → IsNamed s question → IsNamed (naming s named) question
+named_still s named Settle h = h
+named_still s named Worldview h = h
+named_still s named (Ask cell name) h = h
+named_still s named (Why cell name) h = h
+
+-- what is named when a run has ended is covered, where a contradiction that ended it is
+abbrev pub IsCoveredEnd : Shown → Outcome → Type 0
+IsCoveredEnd s (Contradiction ps) = IsCovered (choices_in s.state) s.learned (set_of ps)
+IsCoveredEnd s (Settled list) = Unit {0}
+IsCoveredEnd s (Unsettled list) = Unit {0}
+
+covers_end : (s : Shown) (named : List (List ℕ)) (outcome : Outcome) → Covers s named → IsCoveredEnd s outcome → Covers s (named_by outcome named)
+covers_end s named (Contradiction ps) covers one = covers_more s named ps covers one
+covers_end s named (Settled list) covers one = covers
+covers_end s named (Unsettled list) covers one = covers
+
+pub covered_end : (s : Shown) (list : List ℕ) (end : ends.Outcome) → IfContradiction end (λ ps. IsCovered (choices_in s.state) s.learned (set_of ps)) → IsCoveredEnd s (outcome_of list end)
+covered_end s list (ended.Contradiction ps) covered = covered
+covered_end s list ended.Settled covered = tt
+covered_end s list ended.Unsettled covered = tt
+
+-- want of memory changes nothing, whichever contradictions were named
+pub lacks_obeyed : (library : List Stored) (old new : Shown) (command : Command) (steps : ℕ) → new.state ≡ old.state → KeepsCover old new → IsObeyed library command (Refused Memory) steps old new
+lacks_obeyed library old new command steps same keeps named covers = record {
+  now = named;
+  covers = covers_still old new named keeps covers;
+  step = inr (record { answer_is = refl; same = ap (λ u. naming u named) same });
+}
+
+-- what is refused changes nothing, whichever contradictions were named
+pub refused_obeyed : (library : List Stored) (s : Shown) (command : Command) (refusal : Refusal) → refusal_of library s.state command ≡ Some refusal → IsObeyed library command (Refused refusal) 0 s s
+refused_obeyed library s command refusal refused named covers = record {
+  now = named;
+  covers = covers;
+  step = refuses library (naming s.state named) (naming s.state named) command refusal (refusal_naming library s.state named command ∙ refused) refl;
+}
+
+-- a question is answered whichever contradictions were named
+pub run_obeyed : (library : List Stored) (old new : Shown) (question : Question) (outcome : Outcome) (answer : Answer) (steps : ℕ) → new.state ≡ old.state → KeepsCover old new → IsCoveredEnd new outcome → IsNamed old.state question → MayEnd library old.state outcome →
+    MaySay library old.state (command_of question) outcome steps answer → steps ≤ old.state.limit → IsObeyed library (command_of question) answer steps old new
+run_obeyed library old new question outcome answer steps same keeps end is_named ends (inl (text, replies, e)) within named covers = record {
+  now = named_by outcome named;
+  covers = covers_end new named outcome (covers_still old new named keeps covers) end;
+  step =
+      let s = naming old.state named in
+      let t = naming new.state (named_by outcome named) in
+      obeys library s t (command_of question) answer steps (free library s question (named_still old.state named question is_named))
+      (carries library s t question answer steps (record {
+        outcome = outcome;
+        ends = may_end_named library old.state named outcome ends;
+        text = text;
+        replies = replies_named library old.state named (command_of question) outcome steps text replies;
+        answer_is = e;
+        new_is = ap (λ u. naming u (named_by outcome named)) same;
+        within = within;
+      }));
+}
+run_obeyed library old new question outcome answer steps same keeps end is_named ends (inr m) within named covers = record {
+  now = named;
+  covers = covers_still old new named keeps covers;
+  step = inr (record { answer_is = m; same = ap (λ u. naming u named) same });
+}
+
+-- the nogoods that were learned are listed whichever contradictions were named, if they cover them
+pub nogoods_obeyed : (library : List Stored) (s : Shown) (answer : Answer) → All IsStrictlyIncreasing s.learned → All (λ n. IsNogood (problem_in library s.state) (choices_in s.state) (set_of n)) s.learned → AreMinimal s.learned →
+    Says answer (nogoods_text s.state.premises s.learned) → IsObeyed library commands.Command.Nogoods answer 0 s s
+nogoods_obeyed library s answer in_order refuted minimal (inl e) named covers = record {
+  now = named;
+  covers = covers;
+  step = inl (record {
+    text = nogoods_text s.state.premises s.learned;
+    lists = record { lines = s.learned; nogoods = record { in_order = in_order; refuted = refuted; minimal = minimal; covers = covers }; text_is = refl };
+    answer_is = e;
+    same = refl;
+    no_steps = refl;
+  });
+}
+nogoods_obeyed library s answer in_order refuted minimal (inr m) named covers = record { now = named; covers = covers; step = inr (record { answer_is = m; same = refl }) }

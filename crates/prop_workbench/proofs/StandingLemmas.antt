@@ -1,0 +1,124 @@
+-- What a search keeps where a belief changes, a statement is made, or a name is taken up.
+use Rattle.std.proofs.Common.{◌≡◌, ◌∙◌, ℕ, zero, suc, Bool, true, false, IsTrue, List, [], ◌∷◌, ◌++◌, Contains, All, Some, None, ◌+◌, ◌<◌, ◌==◌, ◌||◌, map, unwrap_or, length, get_or, arith, refl, sym, ap}
+use Rattle.std.proofs.lemmas.Bool.Decides.{nat_tests}
+use Rattle.std.proofs.lemmas.List.{length-append}
+use Rattle.std.proofs.lemmas.List.Elements.{All-weaker, Contains-get_or, Contains-append_left}
+use Rattle.prop_premises.specs.Sets.{Members, set_of}
+use Rattle.prop_premises.specs.Origins.{Origin, User, Side, believed_in, is_user_at, premise_number, with_belief_at}
+use Rattle.prop_premises.proofs.ChoiceLemmas.{choices_of-user, choices_of-with_belief_at}
+use Rattle.prop_procedures.specs.Stored.{Stored}
+use Rattle.prop_cells.specs.declared.instance.Statement.{Statement}
+use Rattle.prop_cells.specs.Problems.{Extends}
+use Rattle.prop_cells.specs.Data.{Data, problem_of}
+use Rattle.prop_cells.specs.Instances.{constraint_of}
+use Rattle.prop_scheduler.specs.Agendas.{Waiting}
+use Rattle.prop_scheduler.specs.Turns.{IsUnderWay}
+use Rattle.prop_amb.specs.Refuted.{IsCovered}
+use Rattle.prop_amb.specs.Search.{Stand, IsStand, IsSearch, choices_in}
+use Rattle.prop_amb.specs.Moving.{interned}
+use Rattle.prop_amb.proofs.KeepingLaws.{search_extends}
+use Rattle.prop_workbench.specs.Sessions.{IsAtWork}
+use Rattle.prop_workbench.proofs.PremiseLemmas.{known_more, under_way_agree}
+
+-- ---- a belief
+
+-- what is believed already, or not, changes nothing
+pub with_belief_same : (os : List Origin) (p : ℕ) (b : Bool) → IsTrue (is_user_at os p) → believed_in os p ≡ b → with_belief_at os p b ≡ os
+with_belief_same [] p b u e = cc
+with_belief_same (User name was ∷ os) zero b u e = ap (λ (x : Bool). User name x ∷ os) (sym e)
+with_belief_same (Side name side sides ∷ os) zero b u e = cc
+with_belief_same (o ∷ os) (suc p) b u e = ap (λ xs. o ∷ xs) (with_belief_same os p b u e)
+
+length-with_belief_at : (os : List Origin) (p : ℕ) (b : Bool) → length (with_belief_at os p b) ≡ length os
+length-with_belief_at [] p b = refl
+length-with_belief_at (o ∷ os) zero b = refl
+length-with_belief_at (o ∷ os) (suc p) b = ap suc (length-with_belief_at os p b)
+
+-- a search in which one premise is believed, or not, is at work where all instances wait
+pub believing_at_work : (library : List Stored) (old new : Stand) (p : ℕ) (b : Bool) (d : Data) (before after : Waiting) → IsAtWork library old d before → new.premises ≡ with_belief_at old.premises p b → IsStand new →
+    (IsSearch (problem_of library d) old → IsSearch (problem_of library d) new) → IsUnderWay library (set_of new.worldview) d after.line → after.room ≡ before.room → IsAtWork library new d after
+believing_at_work library old new p b d before after work changed stand search under_way room = record {
+  under_way = under_way;
+  well_made = stand;
+  search = search work.search;
+  known = rw (changed, length-with_belief_at old.premises p b) work.known;
+  roomy = rw room work.roomy;
+}
+
+pub believing_covers : (old new : Stand) (p : ℕ) (b : Bool) → new.premises ≡ with_belief_at old.premises p b → new.listed ≡ old.listed → (m : Members) → IsCovered (choices_in old) old.listed m → IsCovered (choices_in new) new.listed m
+believing_covers old new p b changed listed m h = rw (changed, listed, choices_of-with_belief_at old.premises p b) h
+
+-- ---- a stand that is as it was
+
+pub same_at_work : (library : List Stored) (old new : Stand) (d : Data) (agenda : Waiting) → new ≡ old → IsAtWork library old d agenda → IsAtWork library new d agenda
+same_at_work library old new d agenda e work = rw e work
+
+pub same_covers : (old new : Stand) → new ≡ old → (m : Members) → IsCovered (choices_in old) old.listed m → IsCovered (choices_in new) new.listed m
+same_covers old new e m h = rw e h
+
+-- ---- one more statement
+
+all_contained : {X : Type 0} (xs ys : List X) → All (Contains (xs ++ ys)) xs
+all_contained xs ys = λ k d l. Contains-append_left xs ys (get_or xs k d) (Contains-get_or xs k d l)
+
+extends_stated : (library : List Stored) (d new : Data) (x : Statement) → new ≡ record d { statements = d.statements ++ x ∷ []; contents = new.contents } → Extends (problem_of library d) (problem_of library new)
+extends_stated library d new x e = rw e (record {
+  cells = λ c k at. at;
+  statements = all_contained d.statements (x ∷ []);
+  constraints = λ k y l. Contains-get_or (map (constraint_of library) d.instances) k y l;
+})
+
+pub stated_kinds : (d new : Data) (x : Statement) → new ≡ record d { statements = d.statements ++ x ∷ []; contents = new.contents } → new.kinds ≡ d.kinds
+stated_kinds d new x e = ap (λ (y : Data). y.kinds) e
+
+-- a statement under a premise that there is, or under none
+pub stated_at_work : (library : List Stored) (stand : Stand) (d new : Data) (before after : Waiting) (x : Statement) → IsAtWork library stand d before →
+    new ≡ record d { statements = d.statements ++ x ∷ []; contents = new.contents } → ((p : ℕ) → x.premise ≡ Some p → p < length stand.premises) → IsUnderWay library (set_of stand.worldview) new after.line → after.room ≡ before.room →
+    IsAtWork library stand new after
+stated_at_work library stand d new before after x work e known under_way room =
+    let n = length stand.premises in
+    record {
+      under_way = under_way;
+      well_made = work.well_made;
+      search = search_extends (problem_of library d) (problem_of library new) stand (extends_stated library d new x e) work.search;
+      known = rw (ap (λ (y : Data). y.statements) e) (known_more n n d.statements x (omega arith) work.known known);
+      roomy = rw (room, ap (λ (y : Data). y.instances) e) work.roomy;
+    }
+
+-- ---- a new name
+
+set_before : (w : List ℕ) (n p : ℕ) → p < n → set_of (w ++ n ∷ []) p ≡ set_of w p
+set_before [] n p l = let other : (n == p) ≡ false = grind (arith, nat_tests) in ap (λ b. b || false) other
+set_before (q ∷ w) n p l = ap (λ b. (q == p) || b) (set_before w n p l)
+
+pub new_stand : (old : Stand) (name : List ℕ) → premise_number old.premises name ≡ None → interned old name ≡ record old { premises = old.premises ++ User name true ∷ []; worldview = old.worldview ++ length old.premises ∷ [] }
+new_stand old name none = rw none refl
+
+new_length : (old new : Stand) (name : List ℕ) → premise_number old.premises name ≡ None → new ≡ interned old name → length new.premises ≡ length old.premises + 1
+new_length old new name none made = ap (λ (t : Stand). length t.premises) (made ∙ new_stand old name none) ∙ length-append old.premises (User name true ∷ [])
+
+-- the new name's number is there
+pub new_number : (old new : Stand) (name : List ℕ) (given : ℕ) → premise_number old.premises name ≡ None → new ≡ interned old name → given ≡ unwrap_or (premise_number old.premises name) (length old.premises) → (p : ℕ) → Some given ≡ Some p → p < length new.premises
+new_number old new name given none made is p e =
+    let same : given ≡ p = cc in
+    let number : given ≡ length old.premises = is ∙ ap (λ o. unwrap_or o (length old.premises)) none in
+    let more = new_length old new name none made in
+    omega (arith, same, number, more)
+
+-- a search with a new name is at work as before
+pub named_at_work : (library : List Stored) (old new : Stand) (name : List ℕ) (d : Data) (agenda : Waiting) → IsAtWork library old d agenda → premise_number old.premises name ≡ None → new ≡ interned old name → IsStand new →
+    (IsSearch (problem_of library d) old → IsSearch (problem_of library d) new) → IsAtWork library new d agenda
+named_at_work library old new name d agenda work none made stand search =
+    let n = length old.premises in
+    let is : new ≡ record old { premises = old.premises ++ User name true ∷ []; worldview = old.worldview ++ n ∷ [] } = made ∙ new_stand old name none in
+    let more = new_length old new name none made in
+    record {
+      under_way = rw (ap (λ (t : Stand). t.worldview) is) (under_way_agree library d n agenda.line (set_of old.worldview) (set_of (old.worldview ++ n ∷ [])) work.known (λ p l. set_before old.worldview n p l) work.under_way);
+      well_made = stand;
+      search = search work.search;
+      known = All-weaker (λ y. (p : ℕ) → y.premise ≡ Some p → p < n) (λ y. (p : ℕ) → y.premise ≡ Some p → p < length new.premises) (λ y h p e. let l = h p e in omega (arith, l, more)) d.statements work.known;
+      roomy = work.roomy;
+    }
+
+pub named_covers : (old new : Stand) (name : List ℕ) → new ≡ interned old name → premise_number old.premises name ≡ None → (m : Members) → IsCovered (choices_in old) old.listed m → IsCovered (choices_in new) new.listed m
+named_covers old new name made none m h = rw (made, new_stand old name none, choices_of-user old.premises name true) h

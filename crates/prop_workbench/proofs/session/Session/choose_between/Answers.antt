@@ -1,0 +1,74 @@
+use Rattle.std.proofs.Common.{◌≡◌, ◌∙◌, length, refl, sym, ap}
+use Rattle.prop_premises.specs.Sets.{set_of}
+use Rattle.prop_procedures.specs.Kept.{stored_of}
+use Rattle.prop_amb.specs.Moving.{declared, declare_refusal}
+use Rattle.prop_workbench.specs.Sessions.{state_of}
+use Rattle.prop_workbench.proofs.ChosenLemmas.{declared_fits, only_memory, chosen_at_work, chosen_covers}
+use Rattle.prop_workbench.proofs.StandingLemmas.{same_at_work, same_covers}
+use Rattle.prop_workbench.proofs.session.Session.choose_between.Goals as goal
+
+-- ---- there was no memory for the choice
+
+pub returns-in-Err-clause-keeps : goal.returns-in-Err-clause-keeps
+returns-in-Err-clause-keeps g c =
+    let s = c.args.self.now in
+    let library = stored_of g.R.Rule.value_of s.network.library in
+    let sound = c.requires.sound in
+    let same = c.in-Err.ensures.err in
+    record {
+      library = refl;
+      sound = record { at_work = same_at_work library s.search c.declare.new.self s.network.cells s.agenda same sound.at_work; sized = sound.sized; locals = sound.locals; named = sound.named; defined = sound.defined };
+      steps = refl;
+      covers = same_covers s.search c.declare.new.self same;
+    }
+
+pub returns-in-Err-clause-err : goal.returns-in-Err-clause-err
+returns-in-Err-clause-err g c =
+    let s = c.args.self.now in
+    only_memory (declare_refusal s.search c.args.choice.now (length c.args.infos.now)) c.in-Err.refusal
+    (declared_fits s.search (state_of s) c.args.choice.now (length c.args.infos.now) c.requires.sound.at_work.well_made refl c.requires.new c.requires.free c.requires.fits) c.in-Err.ensures.why
+
+-- ---- the choice is made
+
+pub returns-in-Ok-state_sides-clause-keeps : goal.returns-in-Ok-state_sides-clause-keeps
+returns-in-Ok-state_sides-clause-keeps g c =
+    let s = c.args.self.now in
+    let library = stored_of g.R.Rule.value_of s.network.library in
+    let sound = c.requires.sound in
+    let rest = c.in-Ok-state_sides.ensures.rest in
+    let kinds : c.state_sides.new.self.cells.kinds ≡ s.network.cells.kinds = ap (λ d. d.kinds) rest in
+    record {
+      library = c.state_sides.ensures.same;
+      sound = record {
+        at_work = rw c.state_sides.ensures.same (chosen_at_work library s.search c.declare.new.self c.args.choice.now (length c.args.infos.now) c.args.cell c.in-Ok.choice c.args.infos.now s.network.cells c.state_sides.new.self.cells s.agenda c.wake_all.new.agenda sound.at_work
+            c.in-Ok.ensures.ok c.in-Ok.ensures.choice.0 refl c.well_made.ensures c.in-Ok.ensures.search rest (rw c.state_sides.ensures.same at (c.wake_all.ensures.under_way (set_of c.declare.new.self.worldview))) c.wake_all.ensures.room);
+        sized = rw kinds sound.sized;
+        locals = sound.locals;
+        named = rw kinds sound.named;
+        defined = rw c.state_sides.ensures.same sound.defined;
+      };
+      steps = refl;
+      covers = chosen_covers s.search c.declare.new.self c.in-Ok.choice c.in-Ok.ensures.choices (ap (λ t. t.listed) c.in-Ok.ensures.ok);
+    }
+
+-- ---- there was no memory for its statements
+
+pub returns-in-Err-state_sides-clause-keeps : goal.returns-in-Err-state_sides-clause-keeps
+returns-in-Err-state_sides-clause-keeps g c =
+    let s = c.args.self.now in
+    let library = stored_of g.R.Rule.value_of s.network.library in
+    let sound = c.requires.sound in
+    let cells = c.in-Err-state_sides.ensures.err_same in
+    let same : c.undeclare.new.self ≡ s.search = c.undeclare.ensures.undoes s.search c.args.choice.now sound.at_work.well_made (c.in-Ok.ensures.ok ∙ (λ i. declared s.search c.args.choice.now (sym c.in-Ok.ensures.choice.1 i))) in
+    record {
+      library = c.state_sides.ensures.same;
+      sound = record {
+        at_work = rw (c.state_sides.ensures.same, cells) (same_at_work library s.search c.undeclare.new.self s.network.cells s.agenda same sound.at_work);
+        sized = rw cells sound.sized;
+        locals = sound.locals;
+        named = rw cells sound.named;
+        defined = rw c.state_sides.ensures.same sound.defined;
+      };
+      steps = refl;
+      covers = same_covers s.search c.undeclare.new.self same;
+    }
