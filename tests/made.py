@@ -88,6 +88,7 @@ def limits():
         ("relations", 1_024, ["domain d e"], lambda n: f"relation r{n} d d = e e"),
         ("definitions", 1_024 - len(PRELUDE), [], lambda n: f"define f{n} x y = copier x y"),
         ("symbols", 100_000, [f"cell c{n} symbol" for n in range(101)], lambda n: f"fix c{n // 1_000} s{n}"),
+        ("choices", 64, ["cell a span"], lambda n: f"choose k{n} a 1 or 2"),
     ]:
         yield Case(
             f"limits: {word}",
@@ -104,6 +105,18 @@ def wrong_at_limit(replies, word, taken):
     if replies[taken : taken + 2] != [refusal, refusal]:
         return f"line {taken + 1} and the next are answered by {replies[taken : taken + 2]}"
     return None if len(replies) == taken + 4 else f"{len(replies)} replies, wanted {taken + 4}"
+
+
+def sides_among_premises():
+    """Each side of a choice takes one of the numbers of premises; a choice that finds too few of them is refused before the limit of choices is looked at."""
+    limit = "error 16: limit reached: premises"
+    eight = " or ".join(map(str, range(1, 9)))
+    lines = ["cell a span", *(f"choose k{n} a {eight}" for n in range(62)), *(f"tell p{n} a 1" for n in range(3_598))]
+    yield Case(
+        "limits: premises, of which the sides of choices are some",
+        sent(*lines, "choose c a 1 or 2 or 3", "choose c a 1 or 2", "tell q a 1", "choose d a 1 or 2", "choose c a 1 or 2", "tell p0 a 1"),
+        answered(len(lines), limit, "ok", limit, limit, "error 7: name taken", "ok"),
+    )
 
 
 def line_lengths():
@@ -182,6 +195,7 @@ def cases():
     yield from large_uses()
     yield from long_ways()
     yield from limits()
+    yield from sides_among_premises()
     yield from line_lengths()
     yield from command_lines()
     yield from steps()
