@@ -9,12 +9,20 @@ use Rattle.prop_premises.specs.Sets.{set_of, IsPart}
 use Rattle.prop_premises.proofs.MergeLemmas.{Rising, rising_from_increasing}
 
 -- the numbers but for the first that is this one
-but_one : ℕ → List ℕ → List ℕ
+abbrev but_one : ℕ → List ℕ → List ℕ
 but_one p [] = []
 but_one p (w ∷ ws) = cond (w == p) ws (w ∷ but_one p ws)
 
 same : (q p : ℕ) → (q == p) ≡ true → q ≡ p
 same q p h = elim (eqb_tells q p) [ inl e ↦ e.1 | inr e ↦ cc (e.0, h) ]
+
+second : (c d : Bool) → (c ≡ true → ⊥) → (c || d) ≡ true → d ≡ true
+second true d apart h = absurd (apart refl)
+second false d apart h = h
+
+first_or : (c d e : Bool) → (c || d) ≡ true → (d ≡ true → e ≡ true) → (c || e) ≡ true
+first_or true d e h rest = refl
+first_or false d e h rest = rest h
 
 but_one_length : (p : ℕ) (ws : List ℕ) → IsTrue (set_of ws p) → length ws ≡ suc (length (but_one p ws))
 but_one_length p [] h = cc
@@ -27,16 +35,11 @@ but_one_length p (w ∷ ws) h = by (w == p) h (but_one_length p ws)
 -- another number stays
 but_one_has : (p q : ℕ) (ws : List ℕ) → (p ≡ q → ⊥) → IsTrue (set_of ws q) → IsTrue (set_of (but_one p ws) q)
 but_one_has p q [] other h = h
-but_one_has p q (w ∷ ws) other h = by (w == p) (w == q) (λ is at. other (sym (same w p is) ∙ same w q at)) h (but_one_has p q ws other)
+but_one_has p q (w ∷ ws) other h = by (w == p) (λ is at. other (sym (same w p is) ∙ same w q at)) h (but_one_has p q ws other)
   where
-    by : (b c : Bool) → (b ≡ true → c ≡ true → ⊥) → (c || set_of ws q) ≡ true → (IsTrue (set_of ws q) → IsTrue (set_of (but_one p ws) q)) → IsTrue (set_of (cond b ws (w ∷ but_one p ws)) q)
-    by true true apart h rest = absurd (apart refl refl)
-    by true false apart h rest = h
-    by false c apart h rest = first_or c (set_of ws q) (set_of (but_one p ws) q) h rest
-
-    first_or : (c d e : Bool) → (c || d) ≡ true → (d ≡ true → e ≡ true) → (c || e) ≡ true
-    first_or true d e h rest = refl
-    first_or false d e h rest = rest h
+    by : (b : Bool) → (b ≡ true → (w == q) ≡ true → ⊥) → ((w == q) || set_of ws q) ≡ true → (IsTrue (set_of ws q) → IsTrue (set_of (but_one p ws) q)) → IsTrue (set_of (cond b ws (w ∷ but_one p ws)) q)
+    by true apart h rest = second (w == q) (set_of ws q) (apart refl) h
+    by false apart h rest = first_or (w == q) (set_of ws q) (set_of (but_one p ws) q) h rest
 
 -- each of these is above the first, and so is none of them the first
 above_others : (p : ℕ) (ps : List ℕ) → AllByRecursion (λ q. p < q) ps → (q : ℕ) → IsTrue (set_of ps q) → p ≡ q → ⊥
