@@ -75,12 +75,12 @@ pub fn reduce<R: Rule + Drop, O: Order>(
     ensures room { agenda.new.room ≡ agenda.old.room }
     ensures explains { IfOk result (λ r. OfCore r.0 (λ v s. (v ≡ beliefs (set_of worldview.now) network.old.cells.contents cell) × Explains (problem_of (stored_of R.value_of network.old.library) network.old.cells) (set_of worldview.now) cell v (set_of s))) }
     ensures least { IfOk result (λ r. IfLeast r.0 (λ v s. IsIrreducible (problem_of (stored_of R.value_of network.old.library) network.old.cells) (set_of s) cell v)) }
-    ensures spent { IfOk result (λ r. IfNotReduced r.0 (r.1 ≡ budget)) }
+    ensures spent { IfOk result (λ r. IfNotReduced r.0 (λ v s. r.1 ≡ budget)) }
     ensures steps { IfOk result (λ r. r.1 ≤ budget) }
 
     // The steps are those of the tries, each of which takes at most as many as the network can.
     ensures tries { IfOk result (λ r. (line : List ℕ) × Tries O.picks (stored_of R.value_of network.old.library) network.old.cells agenda.old.line order.old r.1 network.new.cells line order.new) }
-    ensures earned { IfOk result (λ r. IfNotReduced r.0 (budget < length worldview.now * most_steps (problem_of (stored_of R.value_of network.old.library) network.old.cells))) }
+    ensures earned { IfOk result (λ r. IfNotReduced r.0 (λ v s. budget < length worldview.now * most_steps (problem_of (stored_of R.value_of network.old.library) network.old.cells))) }
 {
     let reduced = explained_least(alloc, network, agenda, order, worldview, cell, budget);
     wake_all(network, agenda);
@@ -110,10 +110,10 @@ fn explained_least<R: Rule + Drop, O: Order>(
     ensures room { agenda.new.room ≡ agenda.old.room }
     ensures explains { IfOk result (λ r. OfCore r.0 (λ v s. (v ≡ beliefs (set_of worldview.now) network.old.cells.contents cell) × Explains (problem_of (stored_of R.value_of network.old.library) network.old.cells) (set_of worldview.now) cell v (set_of s))) }
     ensures least { IfOk result (λ r. IfLeast r.0 (λ v s. IsIrreducible (problem_of (stored_of R.value_of network.old.library) network.old.cells) (set_of s) cell v)) }
-    ensures spent { IfOk result (λ r. IfNotReduced r.0 (r.1 ≡ budget)) }
+    ensures spent { IfOk result (λ r. IfNotReduced r.0 (λ v s. r.1 ≡ budget)) }
     ensures steps { IfOk result (λ r. r.1 ≤ budget) }
     ensures tries { IfOk result (λ r. Tries O.picks (stored_of R.value_of network.old.library) network.old.cells agenda.old.line order.old r.1 network.new.cells agenda.new.line order.new) }
-    ensures earned { IfOk result (λ r. IfNotReduced r.0 (budget < length worldview.now * most_steps (problem_of (stored_of R.value_of network.old.library) network.old.cells))) }
+    ensures earned { IfOk result (λ r. IfNotReduced r.0 (λ v s. budget < length worldview.now * most_steps (problem_of (stored_of R.value_of network.old.library) network.old.cells))) }
 {
     let why = network.explanation(cell, worldview)?;
     let (support, end, steps) = left_of(alloc, network, agenda, order, &why, cell, budget)?;
