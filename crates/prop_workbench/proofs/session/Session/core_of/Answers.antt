@@ -49,7 +49,7 @@ returns-in-Ok-clause-rests g c =
     let state = c.run_network.ensures.state in
     record {
       lean = tt;
-      earned = earns_core _ (stored_of g.R.Rule.value_of s.network.library) (state_of s) (work_of s) (work_of t) (work_of u) c.args.name.now c.in-Ok.end c.in-Ok.steps c.core_reply.result.1 _ c.in-Ok.ensures.gone c.in-Ok.ensures.left
+      earned = earns_core g.O.Order.picks (stored_of g.R.Rule.value_of s.network.library) (state_of s) (work_of s) (work_of t) (work_of u) c.args.name.now c.in-Ok.end c.in-Ok.steps c.core_reply.result.1 _ c.in-Ok.ensures.gone c.in-Ok.ensures.left
           (rw kept.library at c.core_reply.ensures.tried) c.core_reply.ensures.untried (rw (kept.library, state) at c.core_reply.ensures.says);
     }
 
@@ -61,7 +61,7 @@ returns-in-Err-clause-step g c =
 pub returns-in-Err-clause-rests : goal.returns-in-Err-clause-rests
 returns-in-Err-clause-rests g c =
     let s = c.args.self.now in
-    record { lean = tt; earned = earns_refused _ (stored_of g.R.Rule.value_of s.network.library) (state_of s) (work_of s) (work_of c.run_network.new.self) (Ok (Some (commands.Command.Core c.args.name.now))) Memory 0 }
+    record { lean = tt; earned = earns_refused g.O.Order.picks (stored_of g.R.Rule.value_of s.network.library) (state_of s) (work_of s) (work_of c.run_network.new.self) (Ok (Some (commands.Command.Core c.args.name.now))) Memory 0 }
 
 pub returns-in-Err-clause-keeps : goal.returns-in-Err-clause-keeps
 returns-in-Err-clause-keeps g c = c.run_network.ensures.keeps

@@ -23,8 +23,8 @@ unsettled-requires-clause-sound g c = c.requires.sound
 pub unsettled-requires-clause-named : goal.unsettled-requires-clause-named
 unsettled-requires-clause-named g c = c.requires.named
 
-pub contradiction_reply-requires : goal.contradiction_reply-requires
-contradiction_reply-requires g c =
+pub contradiction_reply-reply-requires : goal.contradiction_reply-reply-requires
+contradiction_reply-reply-requires g c =
     let s = c.args.self.now in
     let library = stored_of g.R.Rule.value_of s.network.library in
     let ends : MayEnd library (state_of s) (Contradiction c.in-Contradiction.premises) = rw c.in-Contradiction.is at c.requires.run.ends in
@@ -48,7 +48,7 @@ returns-in-Contradiction-clause-keeps g c = record { library = refl; sound = c.r
 pub returns-in-Contradiction-clause-says : goal.returns-in-Contradiction-clause-says
 returns-in-Contradiction-clause-says g c =
     let s = c.args.self.now in
-    rw c.in-Contradiction.is (may_contradict (stored_of g.R.Rule.value_of s.network.library) (state_of s) (commands.Command.Core c.args.name.now) c.in-Contradiction.premises _ c.args.steps c.contradiction_reply.ensures.in_order (rw c.premises.ensures at c.contradiction_reply.ensures.says))
+    rw c.in-Contradiction.is (may_contradict (stored_of g.R.Rule.value_of s.network.library) (state_of s) (commands.Command.Core c.args.name.now) c.in-Contradiction.premises _ c.args.steps c.contradiction_reply-reply.ensures.in_order (rw c.premises.ensures at c.contradiction_reply-reply.ensures.says))
 
 pub returns-in-Contradiction-clause-within : goal.returns-in-Contradiction-clause-within
 returns-in-Contradiction-clause-within g c = c.requires.run.within

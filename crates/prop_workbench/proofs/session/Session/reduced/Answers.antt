@@ -14,22 +14,22 @@ use Rattle.prop_workbench.proofs.AskLemmas.{believes_same, same_problem}
 use Rattle.prop_workbench.proofs.CoreLemmas.{core_known, may_core, settled_core, used_up}
 use Rattle.prop_workbench.proofs.session.Session.reduced.Goals as goal
 
-pub reduce-requires-clause-kept : goal.reduce-requires-clause-kept
-reduce-requires-clause-kept g c = c.requires.sound.at_work.under_way.kept
+pub reduce-ended-requires-clause-kept : goal.reduce-ended-requires-clause-kept
+reduce-ended-requires-clause-kept g c = c.requires.sound.at_work.under_way.kept
 
-pub reduce-requires-clause-line : goal.reduce-requires-clause-line
-reduce-requires-clause-line g c = c.requires.sound.at_work.under_way.line_below
+pub reduce-ended-requires-clause-line : goal.reduce-ended-requires-clause-line
+reduce-ended-requires-clause-line g c = c.requires.sound.at_work.under_way.line_below
 
-pub reduce-requires-clause-room : goal.reduce-requires-clause-room
-reduce-requires-clause-room g c = c.requires.sound.at_work.roomy
+pub reduce-ended-requires-clause-room : goal.reduce-ended-requires-clause-room
+reduce-ended-requires-clause-room g c = c.requires.sound.at_work.roomy
 
-pub reduce-requires-clause-cell : goal.reduce-requires-clause-cell
-reduce-requires-clause-cell g c =
+pub reduce-ended-requires-clause-cell : goal.reduce-ended-requires-clause-cell
+reduce-ended-requires-clause-cell g c =
     let s = c.args.self.now in
     of_named (λ k. k < length s.network.cells.kinds) s.names c.args.name.now c.args.cell c.requires.sound.named c.requires.named
 
-pub reduce-requires-clause-settled : goal.reduce-requires-clause-settled
-reduce-requires-clause-settled g c = rw c.worldview.ensures c.requires.rest
+pub reduce-ended-requires-clause-settled : goal.reduce-ended-requires-clause-settled
+reduce-ended-requires-clause-settled g c = rw c.worldview.ensures c.requires.rest
 
 pub core_text-requires-clause-cell : goal.core_text-requires-clause-cell
 core_text-requires-clause-cell g c =
