@@ -1,5 +1,5 @@
 -- A list without repeats among the numbers of another is no longer than that.
-use Rattle.std.proofs.Common.{◌≡◌, ◌≤◌, ◌<◌, ◌+◌, ◌*◌, ◌-◌, ◌++◌, ◌⊎◌, ◌∙◌, ℕ, suc, Bool, true, false, cond, ◌==◌, ◌||◌, IsTrue, List, [], ◌∷◌, length, inl, inr, refl, sym, ap, arith}
+use Rattle.std.proofs.Common.{◌≡◌, ◌≤◌, ◌<◌, ◌+◌, ◌*◌, ◌-◌, ◌++◌, ◌∙◌, ℕ, suc, Bool, true, false, cond, ◌==◌, ◌||◌, IsTrue, List, [], ◌∷◌, length, inl, inr, refl, sym, ap, arith}
 use Rattle.std.specs.List.{AllByRecursion}
 use Rattle.std.proofs.lemmas.List.{length-append}
 use Rattle.std.proofs.Math.Nat.{add-mul}

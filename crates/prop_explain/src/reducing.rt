@@ -117,7 +117,10 @@ fn explained_least<R: Rule + Drop, O: Order>(
 {
     let why = network.explanation(cell, worldview)?;
     let (support, end, steps) = left_of(alloc, network, agenda, order, &why, cell, budget)?;
-    let reduced = Supported { value: why.value, support };
+    let reduced = Supported {
+        value: why.value,
+        support,
+    };
     match end {
         End::AllTried => Ok((Core::Least(reduced), steps)),
         End::Spent => Ok((Core::NotReduced(reduced), steps)),

@@ -28,14 +28,13 @@ use Rattle.prop_scheduler.specs.Turns.{IsSettled}
 use Rattle.prop_language.specs.Commands as commands
 use Rattle.prop_language.specs.Commands.{Command}
 use Rattle.prop_vocabulary.specs.Vocabulary.{Vocabulary}
-use Rattle.prop_engine.specs.Answers.{Answer, Says, Text, Refused}
-use Rattle.prop_lattice.specs.declared.refusal.Refusal.TheVariants.{Memory}
+use Rattle.prop_engine.specs.Answers.{Answer, Says, Text}
 use Rattle.prop_workbench.specs.Machine.{State, problem_in, text_at, worldview_at}
 use Rattle.prop_workbench.specs.Refusing.{refusal_of}
 use Rattle.prop_workbench.specs.declared.asking.Question.{Question}
 use Rattle.prop_workbench.specs.declared.asking.Question.TheVariants.{Settle, Worldview, Ask, Why}
 use Rattle.prop_workbench.specs.Questions.{command_of, IsNamed, MaySay, HasRun}
-use Rattle.prop_workbench.specs.Running.{Outcome, Settled, Unsettled, Contradiction, worldview_of, MayEnd, Replies, Explained, IsValue, IsValueReply, IsSettledValue, IsUnsettledValue, IsExplainedReply}
+use Rattle.prop_workbench.specs.Running.{Outcome, Settled, Unsettled, Contradiction, worldview_of, Replies, Explained, IsValue, IsValueReply, IsSettledValue, IsUnsettledValue, IsExplainedReply}
 use Rattle.prop_workbench.specs.Sessions.{state_from, library_of, AreKnown}
 use Rattle.prop_workbench.specs.Steps.{Carries, Runs}
 use Rattle.prop_explain.specs.Irreducible.{IsIrreducible}

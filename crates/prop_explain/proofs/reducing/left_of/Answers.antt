@@ -1,13 +1,13 @@
-use Rattle.std.proofs.Common.{◌≡◌, ◌∙◌, ◌++◌, ◌∷◌, [], ◌≤◌, ap, subst, sym, refl, arith, append_assoc}
+use Rattle.std.proofs.Common.{◌≡◌, ◌∙◌, ◌∷◌, [], ◌≤◌, subst, sym, refl, arith, append_assoc}
 use Rattle.prop_premises.specs.Sets.{Members, set_of, without, IsPart}
 use Rattle.prop_procedures.specs.Kept.{stored_of}
-use Rattle.prop_cells.specs.Problems.{Problem, Entails, IsConsistent}
+use Rattle.prop_cells.specs.Problems.{Problem}
 use Rattle.prop_cells.specs.Data.{problem_of}
 use Rattle.prop_scheduler.specs.Potential.{most_steps}
 use Rattle.prop_explain.specs.Trying.Tries.{none}
 use Rattle.prop_explain.proofs.CountLemmas.{few_more}
 use Rattle.prop_explain.proofs.ReducingLaws.{consistent_fewer, rest_of, there, kept_there, one_more}
-use Rattle.prop_explain.proofs.TryingLaws.{AreTried, none_tried, left_out, stays, without_part}
+use Rattle.prop_explain.proofs.TryingLaws.{none_tried, left_out, stays, without_part}
 use Rattle.prop_explain.proofs.reducing.left_of.Goals as goal
 
 pub loop-premise-init : goal.loop-premise-init

@@ -1,4 +1,4 @@
-use Rattle.std.proofs.Common.{◌≡◌, ◌∙◌, ◌<◌, ◌+◌, ◌-◌, ap, length, sym, refl, inr, arith, subst, List, ℕ, All, codes, []}
+use Rattle.std.proofs.Common.{◌≡◌, ◌∙◌, ◌<◌, ◌+◌, ap, length, refl, inr, arith, subst, codes, []}
 use Rattle.std.specs.List.Sorted.{IsStrictlyIncreasing}
 use Rattle.prop_premises.specs.Sets.{Members, set_of}
 use Rattle.prop_procedures.specs.Kept.{stored_of}
