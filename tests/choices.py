@@ -55,7 +55,7 @@ class Session(plain.Session):
         *["choose"] * 4,
         *["nogoods", "limit", "refused"],
     ]
-    QUESTIONS = ["ask", "why", "settle", "worldview", "worldview"]
+    QUESTIONS = ["ask", "why", "core", "settle", "worldview", "worldview"]
     PROCEDURES = [*sorted(plain.PROCEDURES), *["imager by differ", "inverter", "comparer"] * 3]
     CELLS, LINES = CELLS, 50
 

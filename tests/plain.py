@@ -185,7 +185,15 @@ class Question:
             return reply == "settled"
         value = self.plain.values(worldview)[self.cell]
         said, _, reason = reply.partition(" because ")
-        return said == f"{self.cell} = {text_of(value)}" and self.is_behind(reason, worldview, value)
+        settled = f"{self.cell} = {text_of(value)}"
+        if self.word == "core" and said == f"{settled} not reduced":
+            return self.plain.limit < ENOUGH and self.is_behind(reason, worldview, value)
+        return said == settled and self.is_behind(reason, worldview, value) and (self.word != "core" or self.is_least(reason, value))
+
+    def is_least(self, reason, value):
+        """Whether none of the premises can be left out."""
+        premises = premises_in(reason)
+        return not any(is_below(value, self.plain.values(premises - {it})[self.cell]) for it in premises)
 
     def is_contradiction(self, reply):
         head, _, reason = reply.partition(": ")
@@ -230,7 +238,7 @@ class Session:
     """Lines that look random, with what each of their replies has to be."""
 
     COMMANDS = ["tell", "tell", "tell", "tell", "fix", "fix", "kick", "kick", "bring", "bring", "attach", "attach", "ask", "ask", "limit"]
-    QUESTIONS = ["ask", "why", "settle"]
+    QUESTIONS = ["ask", "why", "core", "core", "settle"]
     PROCEDURES, LINES = sorted(PROCEDURES), 40
 
     def __init__(self, number):

@@ -45,5 +45,6 @@ pub data Command : Type 0 where
   Settle : Command
   Ask : (cell : List ℕ) → Command
   Why : (cell : List ℕ) → Command
+  Core : (cell : List ℕ) → Command
   Worldview : Command
   Nogoods : Command

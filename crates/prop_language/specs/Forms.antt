@@ -196,6 +196,7 @@ forms =
     ∷ (codes "settle", bare Command.Settle)
     ∷ (codes "ask", on_word Command.Ask)
     ∷ (codes "why", on_word Command.Why)
+    ∷ (codes "core", on_word Command.Core)
     ∷ (codes "worldview", bare Command.Worldview)
     ∷ (codes "nogoods", bare Command.Nogoods)
     ∷ []

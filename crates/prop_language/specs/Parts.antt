@@ -17,7 +17,7 @@ use Rattle.prop_language.specs.declared.tokens.Token.TheVariants as reads
 use Rattle.prop_language.specs.declared.steps.Given.{Given}
 use Rattle.prop_language.specs.declared.steps.Given.TheVariants as givens
 use Rattle.prop_language.specs.declared.reading.CommandWord.{CommandWord}
-use Rattle.prop_language.specs.declared.reading.CommandWord.TheVariants.{Domain, Relation, Cell, Define, Attach, Fix, Tell, Choose, Kick, Bring, Limit, Settle, Ask, Why, Worldview, Nogoods}
+use Rattle.prop_language.specs.declared.reading.CommandWord.TheVariants.{Domain, Relation, Cell, Define, Attach, Fix, Tell, Choose, Kick, Bring, Limit, Settle, Ask, Why, Core, Worldview, Nogoods}
 
 -- a token without where its word lies in memory
 abbrev pub token_of : read.Token → Token
@@ -169,6 +169,7 @@ form_of Limit = on_word limit_of
 form_of Settle = bare Command.Settle
 form_of Ask = on_word Command.Ask
 form_of Why = on_word Command.Why
+form_of Core = on_word Command.Core
 form_of Worldview = bare Command.Worldview
 form_of Nogoods = bare Command.Nogoods
 
@@ -210,6 +211,7 @@ word_of Limit = codes "limit"
 word_of Settle = codes "settle"
 word_of Ask = codes "ask"
 word_of Why = codes "why"
+word_of Core = codes "core"
 word_of Worldview = codes "worldview"
 word_of Nogoods = codes "nogoods"
 

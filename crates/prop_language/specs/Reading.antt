@@ -54,6 +54,7 @@ names_in (Command.Limit steps) = []
 names_in Command.Settle = []
 names_in (Command.Ask cell) = cell ∷ []
 names_in (Command.Why cell) = cell ∷ []
+names_in (Command.Core cell) = cell ∷ []
 names_in Command.Worldview = []
 names_in Command.Nogoods = []
 

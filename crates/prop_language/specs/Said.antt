@@ -16,7 +16,7 @@ use Rattle.prop_language.specs.declared.command.Passed.TheVariants as passeds
 use Rattle.prop_language.specs.declared.command.Step.{Step}
 use Rattle.prop_language.specs.declared.command.Step.TheVariants as steps
 use Rattle.prop_language.specs.declared.command.Command.{Command}
-use Rattle.prop_language.specs.declared.command.Command.TheVariants.{Silent, Domain, Relation, Cell, Define, Attach, Fix, Tell, Choose, Kick, Bring, Limit, Settle, Ask, Why, Worldview, Nogoods}
+use Rattle.prop_language.specs.declared.command.Command.TheVariants.{Silent, Domain, Relation, Cell, Define, Attach, Fix, Tell, Choose, Kick, Bring, Limit, Settle, Ask, Why, Core, Worldview, Nogoods}
 
 abbrev pub words : List (Bor (List ℕ)) → List (List ℕ)
 words items = map (λ (w : Bor (List ℕ)). w.now) items
@@ -65,6 +65,7 @@ said (Limit steps) = Some (commands.Command.Limit (Some steps))
 said Settle = Some commands.Command.Settle
 said (Ask cell) = Some (commands.Command.Ask cell.now)
 said (Why cell) = Some (commands.Command.Why cell.now)
+said (Core cell) = Some (commands.Command.Core cell.now)
 said Worldview = Some commands.Command.Worldview
 said Nogoods = Some commands.Command.Nogoods
 

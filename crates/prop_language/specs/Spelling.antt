@@ -9,7 +9,7 @@ use Rattle.prop_language.specs.Commands.{Value, Bare, Braces, KindWord, Spans, T
 -- the first words of the commands
 abbrev pub command_words : List (List ℕ)
 command_words =
-    codes "domain" ∷ codes "relation" ∷ codes "cell" ∷ codes "define" ∷ codes "attach" ∷ codes "fix" ∷ codes "tell" ∷ codes "choose" ∷ codes "kick" ∷ codes "bring" ∷ codes "limit" ∷ codes "settle" ∷ codes "ask" ∷ codes "why" ∷ codes "worldview" ∷ codes "nogoods" ∷ []
+    codes "domain" ∷ codes "relation" ∷ codes "cell" ∷ codes "define" ∷ codes "attach" ∷ codes "fix" ∷ codes "tell" ∷ codes "choose" ∷ codes "kick" ∷ codes "bring" ∷ codes "limit" ∷ codes "settle" ∷ codes "ask" ∷ codes "why" ∷ codes "core" ∷ codes "worldview" ∷ codes "nogoods" ∷ []
 
 -- The word stands for the kind. Three kinds have words of their own, and another word is a domain's name.
 abbrev pub StandsFor : List ℕ → KindWord → Type 0
@@ -103,5 +103,6 @@ Spells ts (Command.Limit steps) =
 Spells ts Command.Settle = ts ≡ Word (codes "settle") ∷ []
 Spells ts (Command.Ask cell) = ts ≡ Word (codes "ask") ∷ Word cell ∷ []
 Spells ts (Command.Why cell) = ts ≡ Word (codes "why") ∷ Word cell ∷ []
+Spells ts (Command.Core cell) = ts ≡ Word (codes "core") ∷ Word cell ∷ []
 Spells ts Command.Worldview = ts ≡ Word (codes "worldview") ∷ []
 Spells ts Command.Nogoods = ts ≡ Word (codes "nogoods") ∷ []

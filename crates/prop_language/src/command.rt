@@ -59,6 +59,7 @@ pub enum Command<'a> {
     Settle,
     Ask(&'a str),
     Why(&'a str),
+    Core(&'a str),
     Worldview,
     Nogoods,
 }

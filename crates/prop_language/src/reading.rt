@@ -56,12 +56,13 @@ enum CommandWord {
     Settle,
     Ask,
     Why,
+    Core,
     Worldview,
     Nogoods,
 }
 
 /// The commands by their first words.
-const COMMANDS: [(&[u8], CommandWord); 16] = [
+const COMMANDS: [(&[u8], CommandWord); 17] = [
     (b"domain", CommandWord::Domain),
     (b"relation", CommandWord::Relation),
     (b"cell", CommandWord::Cell),
@@ -76,6 +77,7 @@ const COMMANDS: [(&[u8], CommandWord); 16] = [
     (b"settle", CommandWord::Settle),
     (b"ask", CommandWord::Ask),
     (b"why", CommandWord::Why),
+    (b"core", CommandWord::Core),
     (b"worldview", CommandWord::Worldview),
     (b"nogoods", CommandWord::Nogoods),
 ];
@@ -117,6 +119,7 @@ fn read_form<'a>(
         CommandWord::Settle => forms::settle(rest),
         CommandWord::Ask => Ok(Command::Ask(forms::only_name(rest)?)),
         CommandWord::Why => Ok(Command::Why(forms::only_name(rest)?)),
+        CommandWord::Core => Ok(Command::Core(forms::only_name(rest)?)),
         CommandWord::Worldview => forms::worldview(rest),
         CommandWord::Nogoods => choices::nogoods(rest),
     }

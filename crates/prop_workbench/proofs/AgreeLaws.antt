@@ -1,5 +1,5 @@
 -- Two sessions that are given the same lines agree.
-use Rattle.std.proofs.Common.{◌≡◌, ◌≢◌, ◌∙◌, ◌⊎◌, ℕ, zero, suc, List, [], ◌∷◌, Option, Some, None, Result, Ok, Err, IsTrue, inl, inr, refl, sym, ap}
+use Rattle.std.proofs.Common.{◌≡◌, ◌≢◌, ◌∙◌, ◌⊎◌, ℕ, zero, suc, List, [], ◌∷◌, codes, Option, Some, None, Result, Ok, Err, IsTrue, inl, inr, refl, sym, ap}
 use Rattle.std.proofs.lemmas.List.Elements.{All-head, All-tail}
 use Rattle.prop_lattice.specs.declared.info.Info.{Info}
 use Rattle.prop_lattice.specs.declared.refusal.Refusal.{Refusal}
@@ -24,7 +24,7 @@ use Rattle.prop_workbench.specs.Effects.{effect}
 use Rattle.prop_workbench.specs.Running.{named_by, Settled, MayEnd, Replies, IsRest, IsValueReply, IsExplainedReply}
 use Rattle.prop_workbench.specs.Steps.{Runs, Lists, Changes, CarriesUnless, Follows}
 use Rattle.prop_workbench.specs.Engine.{workbench}
-use Rattle.prop_workbench.specs.Agreeing.{AreAlike, HaveMemory, RunsMeet, AnswersMeet, SayOneValue, SettledTextsMeet, SettledIsFree}
+use Rattle.prop_workbench.specs.Agreeing.{AreAlike, HaveMemory, RunsMeet, AnswersMeet, IsCoreMark, SayOneValue, SettledTextsMeet, SettledIsFree}
 use Rattle.prop_workbench.proofs.NamingLaws.{refusal_alike, effect_alike}
 use Rattle.prop_amb.proofs.RefutedLaws.{first_unique, believed_refutes}
 
@@ -63,6 +63,7 @@ carried_meet None library s t first second (commands.Command.Limit n) answer oth
 carried_meet None library s t first second commands.Command.Settle answer other steps others e r q = runs_meet library s t first second commands.Command.Settle answer other steps others e r q
 carried_meet None library s t first second (commands.Command.Ask x) answer other steps others e r q = runs_meet library s t first second (commands.Command.Ask x) answer other steps others e r q
 carried_meet None library s t first second (commands.Command.Why x) answer other steps others e r q = runs_meet library s t first second (commands.Command.Why x) answer other steps others e r q
+carried_meet None library s t first second (commands.Command.Core x) answer other steps others e r q = runs_meet library s t first second (commands.Command.Core x) answer other steps others e r q
 carried_meet None library s t first second commands.Command.Worldview answer other steps others e r q = runs_meet library s t first second commands.Command.Worldview answer other steps others e r q
 carried_meet None library s t first second commands.Command.Nogoods answer other steps others e r q = lists_meet library s t first second answer other steps others e r q
 
@@ -118,8 +119,8 @@ values_meet library s list name text also r q =
     let f = same_value library s list r.cell q.cell r.v q.v r.value.solution q.value.solution e r.value.value q.value.value r.value.rest q.value.rest in
     q.text_is ∙ same_text s name [] r.cell q.cell r.v q.v e f ∙ sym r.text_is
 
-whys_meet : (library : List Stored) (s : State) (list name text also : List ℕ) → IsExplainedReply library s (Settled list) name [] text → IsExplainedReply library s (Settled list) name [] also → SayOneValue s name text also
-whys_meet library s list name text also r q =
+whys_meet : (library : List Stored) (s : State) (list name mark also_mark text also : List ℕ) → IsExplainedReply library s (Settled list) name mark text → IsExplainedReply library s (Settled list) name also_mark also → SayOneValue s name mark also_mark text also
+whys_meet library s list name mark also_mark text also r q =
     let e = same_cell s name r.cell q.cell r.cell_is q.cell_is in
     let f = same_value library s list r.cell q.cell r.v q.v r.value.solution q.value.solution e r.value.value q.value.value r.value.rest q.value.rest in
     record {
@@ -129,8 +130,13 @@ whys_meet library s list name text also r q =
       premises = r.premises;
       others = q.premises;
       text_is = r.text_is;
-      also_is = q.text_is ∙ same_text s name (because s.premises [] q.premises) r.cell q.cell r.v q.v e f;
+      also_is = q.text_is ∙ same_text s name (because s.premises also_mark q.premises) r.cell q.cell r.v q.v e f;
     }
+
+-- a settled core explains, whether it is reduced or not
+core_explained : (library : List Stored) (s : State) (list name text : List ℕ) (steps : ℕ) → Replies library s (commands.Command.Core name) (Settled list) steps text → (mark : List ℕ) × IsCoreMark mark × IsExplainedReply library s (Settled list) name mark text
+core_explained library s list name text steps (inl r) = ([], inl refl, r.explained)
+core_explained library s list name text steps (inr r) = (codes " not reduced", inr refl, r.0)
 
 -- two settled ends of one state stand on one list
 one_list : (library : List Stored) (s : State) (l m : List ℕ) → MayEnd library s (Settled l) → MayEnd library s (Settled m) → m ≡ l
@@ -138,11 +144,17 @@ one_list library s l m r q = sym (first_unique (problem_in library s) (users_in 
 
 -- what may be replied where the run settled on a list
 texts_meet : (library : List Stored) (s : State) (command : Command) (list text also : List ℕ) (steps others : ℕ) → Replies library s command (Settled list) steps text → Replies library s command (Settled list) others also →
-    (also ≡ text) ⊎ ((name : List ℕ) × (command ≡ commands.Command.Why name) × SayOneValue s name text also)
+    (also ≡ text)
+    ⊎ ((name : List ℕ) × (command ≡ commands.Command.Why name) × SayOneValue s name [] [] text also)
+    ⊎ ((name mark also_mark : List ℕ) × (command ≡ commands.Command.Core name) × IsCoreMark mark × IsCoreMark also_mark × SayOneValue s name mark also_mark text also)
 texts_meet library s commands.Command.Settle list text also steps others r q = inl (q ∙ sym r)
 texts_meet library s commands.Command.Worldview list text also steps others r q = inl (q ∙ sym r)
 texts_meet library s (commands.Command.Ask x) list text also steps others r q = inl (values_meet library s list x text also r q)
-texts_meet library s (commands.Command.Why x) list text also steps others r q = inr (x, refl, whys_meet library s list x text also r q)
+texts_meet library s (commands.Command.Why x) list text also steps others r q = inr (inl (x, refl, whys_meet library s list x [] [] text also r q))
+texts_meet library s (commands.Command.Core x) list text also steps others r q =
+    let c = core_explained library s list x text steps r in
+    let d = core_explained library s list x also others q in
+    inr (inr (x, c.0, d.0, refl, c.1, d.1, whys_meet library s list x c.0 d.0 text also c.2 d.2))
 texts_meet library s commands.Command.Nogoods list text also steps others r q = absurd r
 texts_meet library s (commands.Command.Domain name elements) list text also steps others r q = absurd r
 texts_meet library s (commands.Command.Relation name from to pairs) list text also steps others r q = absurd r

@@ -28,17 +28,16 @@ use Rattle.prop_scheduler.specs.Turns.{IsSettled}
 use Rattle.prop_language.specs.Commands as commands
 use Rattle.prop_language.specs.Commands.{Command}
 use Rattle.prop_vocabulary.specs.Vocabulary.{Vocabulary}
-use Rattle.prop_engine.specs.Answers.{Answer, Says, Text, Refused}
-use Rattle.prop_lattice.specs.declared.refusal.Refusal.TheVariants.{Memory}
-use Rattle.prop_workbench.specs.Machine.{State, naming, text_at}
+use Rattle.prop_engine.specs.Answers.{Answer, Says, Text}
+use Rattle.prop_workbench.specs.Machine.{State, problem_in, text_at, worldview_at}
 use Rattle.prop_workbench.specs.Refusing.{refusal_of}
 use Rattle.prop_workbench.specs.declared.asking.Question.{Question}
 use Rattle.prop_workbench.specs.declared.asking.Question.TheVariants.{Settle, Worldview, Ask, Why}
 use Rattle.prop_workbench.specs.Questions.{command_of, IsNamed, MaySay, HasRun}
-use Rattle.prop_workbench.specs.Running.{Outcome, Unsettled, Contradiction, named_by, worldview_of, MayEnd, Replies, Explained, IsValue, IsValueReply, IsSettledValue, IsUnsettledValue, IsExplainedReply}
+use Rattle.prop_workbench.specs.Running.{Outcome, Settled, Unsettled, Contradiction, worldview_of, Replies, Explained, IsValue, IsValueReply, IsSettledValue, IsUnsettledValue, IsExplainedReply}
 use Rattle.prop_workbench.specs.Sessions.{state_from, library_of, AreKnown}
-use Rattle.prop_workbench.proofs.StepLemmas.{obeys}
-use Rattle.prop_workbench.specs.Steps.{Obeys, Carries, Runs}
+use Rattle.prop_workbench.specs.Steps.{Carries, Runs}
+use Rattle.prop_explain.specs.Irreducible.{IsIrreducible}
 use Rattle.prop_texts.specs.Texts.{equation, because, contradiction_text}
 use Rattle.prop_vocabulary.proofs.CellLookups.{of_named}
 use Rattle.prop_workbench.proofs.PremiseLemmas.{support_known, same_set, set_has}
@@ -65,19 +64,11 @@ carries library s t Worldview answer steps r = r
 carries library s t (Ask cell name) answer steps r = r
 carries library s t (Why cell name) answer steps r = r
 
--- the run ended so, and what is answered may be said then
-pub ran : (library : List Stored) (s t : State) (question : Question) (outcome : Outcome) (answer : Answer) (steps : ℕ) → t ≡ naming s (named_by outcome s.named) → IsNamed s question → MayEnd library s outcome → MaySay library s (command_of question) outcome steps answer → steps ≤ s.limit →
-    (answer ≡ Refused Memory → t ≡ s) → Obeys library s (command_of question) answer t steps
-ran library s t question outcome answer steps new_is named ends (inl (text, replies, e)) within same =
-    obeys library s t (command_of question) answer steps (free library s question named)
-    (carries library s t question answer steps (record { outcome = outcome; ends = ends; text = text; replies = replies; answer_is = e; new_is = new_is; within = within }))
-ran library s t question outcome answer steps new_is named ends (inr m) within same = inr (record { answer_is = m; same = same m })
-
 -- a contradiction may be said to each question
-pub may_contradict : (library : List Stored) (s : State) (question : Question) (support : List ℕ) (answer : Answer) (steps : ℕ) → IsStrictlyIncreasing support → Says answer (contradiction_text s.premises support) →
-    MaySay library s (command_of question) (Contradiction support) steps answer
-may_contradict library s question support answer steps in_order (inl e) = inl (contradiction_text s.premises support, (in_order, refl), e)
-may_contradict library s question support answer steps in_order (inr m) = inr m
+pub may_contradict : (library : List Stored) (s : State) (command : Command) (support : List ℕ) (answer : Answer) (steps : ℕ) → IsStrictlyIncreasing support → Says answer (contradiction_text s.premises support) →
+    MaySay library s command (Contradiction support) steps answer
+may_contradict library s command support answer steps in_order (inl e) = inl (contradiction_text s.premises support, (in_order, refl), e)
+may_contradict library s command support answer steps in_order (inr m) = inr m
 
 -- what is said of a value, and what explains one
 pub may_say_value : (library : List Stored) (s : State) (command : Command) (outcome : Outcome) (name : List ℕ) (cell : ℕ) (v : Info) (mark : List ℕ) (answer : Answer) (steps : ℕ) → cell_named s.names name ≡ Some cell → IsValue library s outcome cell v →
@@ -91,6 +82,29 @@ pub may_explain : (library : List Stored) (s : State) (command : Command) (outco
 may_explain library s command outcome name cell v mark answer steps named value replies (inl (ps, in_order, explains, e)) =
     inl (equation name (text_at s cell v) (because s.premises mark ps), replies _ (record { cell = cell; cell_is = named; v = v; value = value; premises = ps; in_order = in_order; explains = explains; text_is = refl }), e)
 may_explain library s command outcome name cell v mark answer steps named value replies (inr m) = inr m
+
+-- a settled value with premises that explain it
+abbrev settled_reply : (library : List Stored) (s : State) (list name : List ℕ) (cell : ℕ) (v : Info) (mark ps : List ℕ) → cell_named s.names name ≡ Some cell → IsSettledValue library s list cell v → IsStrictlyIncreasing ps → Explains (problem_in library s) (worldview_at s list) cell v (set_of ps) →
+    IsExplainedReply library s (Settled list) name mark (equation name (text_at s cell v) (because s.premises mark ps))
+settled_reply library s list name cell v mark ps named value in_order explains = record { cell = cell; cell_is = named; v = v; value = value; premises = ps; in_order = in_order; explains = explains; text_is = refl }
+
+-- premises of which none can be left out, and those that were left when every step was used
+pub may_be_least : (library : List Stored) (s : State) (list name : List ℕ) (cell : ℕ) (v : Info) (ps : List ℕ) (answer : Answer) (steps : ℕ) → cell_named s.names name ≡ Some cell → IsSettledValue library s list cell v → IsStrictlyIncreasing ps → Explains (problem_in library s) (worldview_at s list) cell v (set_of ps) →
+    IsIrreducible (problem_in library s) (set_of ps) cell v → Says answer (equation name (text_at s cell v) (because s.premises [] ps)) → MaySay library s (commands.Command.Core name) (Settled list) steps answer
+may_be_least library s list name cell v ps answer steps named value in_order explains least (inl e) =
+    inl (equation name (text_at s cell v) (because s.premises [] ps), inl (record { explained = settled_reply library s list name cell v [] ps named value in_order explains; least = least }), e)
+may_be_least library s list name cell v ps answer steps named value in_order explains least (inr m) = inr m
+
+pub may_not_be_reduced : (library : List Stored) (s : State) (list name : List ℕ) (cell : ℕ) (v : Info) (ps : List ℕ) (answer : Answer) (steps : ℕ) → cell_named s.names name ≡ Some cell → IsSettledValue library s list cell v → IsStrictlyIncreasing ps → Explains (problem_in library s) (worldview_at s list) cell v (set_of ps) →
+    steps ≡ s.limit → Says answer (equation name (text_at s cell v) (because s.premises (codes " not reduced") ps)) → MaySay library s (commands.Command.Core name) (Settled list) steps answer
+may_not_be_reduced library s list name cell v ps answer steps named value in_order explains all (inl e) =
+    inl (equation name (text_at s cell v) (because s.premises (codes " not reduced") ps), inr (settled_reply library s list name cell v (codes " not reduced") ps named value in_order explains, all), e)
+may_not_be_reduced library s list name cell v ps answer steps named value in_order explains all (inr m) = inr m
+
+-- what isn't settled is said to a core as to why
+pub why_so_far : (library : List Stored) (s : State) (list name : List ℕ) (answer : Answer) (steps : ℕ) → MaySay library s (commands.Command.Why name) (Unsettled list) steps answer → MaySay library s (commands.Command.Core name) (Unsettled list) steps answer
+why_so_far library s list name answer steps (inl (text, replies, e)) = inl (text, replies, e)
+why_so_far library s list name answer steps (inr m) = inr m
 
 -- what is said by one text may be said
 pub may_say : (library : List Stored) (s : State) (command : Command) (outcome : Outcome) (text : List ℕ) (answer : Answer) (steps : ℕ) → Replies library s command outcome steps text → Says answer text → MaySay library s command outcome steps answer
@@ -197,6 +211,13 @@ has_run value s problem (Ok (ended.Contradiction ps, n)) same stand earlier sett
 -- a cell that is not there is refused
 pub nowhere : (library : List Stored) (s : State) (name : List ℕ) → cell_named s.names name ≡ None → refusal_of library s (commands.Command.Ask name) ≡ Some NoSuchCell
 nowhere library s name none = rw none refl
+
+pub nowhere_core : (library : List Stored) (s : State) (name : List ℕ) → cell_named s.names name ≡ None → refusal_of library s (commands.Command.Core name) ≡ Some NoSuchCell
+nowhere_core library s name none = rw none refl
+
+-- a core is asked for by a run
+pub free_core : (library : List Stored) (s : State) (name : List ℕ) (cell : ℕ) → cell_named s.names name ≡ Some cell → refusal_of library s (commands.Command.Core name) ≡ None
+free_core library s name cell named = rw named refl
 
 pub nowhere_why : (library : List Stored) (s : State) (name : List ℕ) → cell_named s.names name ≡ None → refusal_of library s (commands.Command.Why name) ≡ Some NoSuchCell
 nowhere_why library s name none = rw none refl

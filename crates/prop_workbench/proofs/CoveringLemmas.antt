@@ -18,6 +18,7 @@ abbrev pub IsStill : Command → Type 0
 IsStill commands.Command.Settle = ⊥
 IsStill (commands.Command.Ask x) = ⊥
 IsStill (commands.Command.Why x) = ⊥
+IsStill (commands.Command.Core x) = ⊥
 IsStill commands.Command.Worldview = ⊥
 IsStill commands.Command.Nogoods = ⊥
 IsStill command = Unit {0}
@@ -45,6 +46,7 @@ changes_carry library s t (commands.Command.Limit n) answer steps still r = r
 changes_carry library s t commands.Command.Settle answer steps still r = absurd still
 changes_carry library s t (commands.Command.Ask x) answer steps still r = absurd still
 changes_carry library s t (commands.Command.Why x) answer steps still r = absurd still
+changes_carry library s t (commands.Command.Core x) answer steps still r = absurd still
 changes_carry library s t commands.Command.Worldview answer steps still r = absurd still
 changes_carry library s t commands.Command.Nogoods answer steps still r = absurd still
 
@@ -63,6 +65,7 @@ carry_changes library s t (commands.Command.Limit n) answer steps still r = r
 carry_changes library s t commands.Command.Settle answer steps still r = absurd still
 carry_changes library s t (commands.Command.Ask x) answer steps still r = absurd still
 carry_changes library s t (commands.Command.Why x) answer steps still r = absurd still
+carry_changes library s t (commands.Command.Core x) answer steps still r = absurd still
 carry_changes library s t commands.Command.Worldview answer steps still r = absurd still
 carry_changes library s t commands.Command.Nogoods answer steps still r = absurd still
 

@@ -35,6 +35,9 @@ bears_named s named list points (commands.Command.Ask x) text (inl h) = inl (say
 bears_named s named list points (commands.Command.Ask x) text (inr h) = inr (says_named s named points x (codes " unsettled") text h)
 bears_named s named list points (commands.Command.Why x) text (ps, inl h) = (ps, inl (says_named s named points x (because s.premises [] ps) text h))
 bears_named s named list points (commands.Command.Why x) text (ps, inr h) = (ps, inr (says_named s named points x (because s.premises (codes " unsettled") ps) text h))
+bears_named s named list points (commands.Command.Core x) text (ps, inl h) = (ps, inl (says_named s named points x (because s.premises [] ps) text h))
+bears_named s named list points (commands.Command.Core x) text (ps, inr (inl h)) = (ps, inr (inl (says_named s named points x (because s.premises (codes " not reduced") ps) text h)))
+bears_named s named list points (commands.Command.Core x) text (ps, inr (inr h)) = (ps, inr (inr (says_named s named points x (because s.premises (codes " unsettled") ps) text h)))
 bears_named s named list points commands.Command.Worldview text h = h
 bears_named s named list points commands.Command.Nogoods text h = h
 

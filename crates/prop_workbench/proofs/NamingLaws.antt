@@ -23,6 +23,7 @@ refusal_naming library s named (commands.Command.Limit n) = refl
 refusal_naming library s named commands.Command.Settle = refl
 refusal_naming library s named (commands.Command.Ask x) = refl
 refusal_naming library s named (commands.Command.Why x) = refl
+refusal_naming library s named (commands.Command.Core x) = refl
 refusal_naming library s named commands.Command.Worldview = refl
 refusal_naming library s named commands.Command.Nogoods = refl
 
@@ -41,6 +42,7 @@ effect_naming library s named (commands.Command.Limit n) = refl
 effect_naming library s named commands.Command.Settle = refl
 effect_naming library s named (commands.Command.Ask x) = refl
 effect_naming library s named (commands.Command.Why x) = refl
+effect_naming library s named (commands.Command.Core x) = refl
 effect_naming library s named commands.Command.Worldview = refl
 effect_naming library s named commands.Command.Nogoods = refl
 

@@ -196,6 +196,7 @@ carried library s t None (commands.Command.Limit limit) answer steps n few r = r
 carried library s t None commands.Command.Settle answer steps n few r = rw r.new_is n
 carried library s t None (commands.Command.Ask x) answer steps n few r = rw r.new_is n
 carried library s t None (commands.Command.Why x) answer steps n few r = rw r.new_is n
+carried library s t None (commands.Command.Core x) answer steps n few r = rw r.new_is n
 carried library s t None commands.Command.Worldview answer steps n few r = rw r.new_is n
 carried library s t None commands.Command.Nogoods answer steps n few r = rw r.same n
 

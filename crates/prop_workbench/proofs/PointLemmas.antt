@@ -65,6 +65,9 @@ module _ (library : List Stored) (related : ℕ → Param → List Point → Poi
   replied (commands.Command.Ask x) (Unsettled l) steps text ends r = inr (l, λ points p. inr (said_so_far l points p x (codes " unsettled") text r.0))
   replied (commands.Command.Why x) (Settled l) steps text ends r = inr (l, λ points p. (r.premises, inl (explained l points p x [] text r)))
   replied (commands.Command.Why x) (Unsettled l) steps text ends r = inr (l, λ points p. (r.0.premises, inr (explained_so_far l points p x (codes " unsettled") text r.0)))
+  replied (commands.Command.Core x) (Settled l) steps text ends (inl r) = inr (l, λ points p. (r.explained.premises, inl (explained l points p x [] text r.explained)))
+  replied (commands.Command.Core x) (Settled l) steps text ends (inr r) = inr (l, λ points p. (r.0.premises, inr (inl (explained l points p x (codes " not reduced") text r.0))))
+  replied (commands.Command.Core x) (Unsettled l) steps text ends r = inr (l, λ points p. (r.0.premises, inr (inr (explained_so_far l points p x (codes " unsettled") text r.0))))
   replied commands.Command.Worldview (Settled l) steps text ends r = inr (l, λ points p. inl r)
   replied commands.Command.Worldview (Unsettled l) steps text ends r = inr (l, λ points p. inr r.0)
   replied command outcome steps text ends r = search rules
@@ -80,6 +83,7 @@ module _ (library : List Stored) (related : ℕ → Param → List Point → Poi
   carried None commands.Command.Settle answer new steps text r e = ran commands.Command.Settle answer new steps text r e
   carried None (commands.Command.Ask x) answer new steps text r e = ran (commands.Command.Ask x) answer new steps text r e
   carried None (commands.Command.Why x) answer new steps text r e = ran (commands.Command.Why x) answer new steps text r e
+  carried None (commands.Command.Core x) answer new steps text r e = ran (commands.Command.Core x) answer new steps text r e
   carried None commands.Command.Worldview answer new steps text r e = ran commands.Command.Worldview answer new steps text r e
   carried None (commands.Command.Domain name elements) answer new steps text r e = inr ([], λ points p. tt)
   carried None (commands.Command.Relation name from to pairs) answer new steps text r e = inr ([], λ points p. tt)

@@ -1,5 +1,5 @@
 -- How a run ends holds whichever contradictions were named.
-use Rattle.std.proofs.Common.{◌≡◌, ◌≤◌, ◌∙◌, ℕ, List, [], Some, All, codes, refl, ap, inl, inr}
+use Rattle.std.proofs.Common.{◌≡◌, ◌≤◌, ◌∙◌, ℕ, List, [], Some, None, All, codes, refl, ap, inl, inr}
 use Rattle.prop_premises.specs.Sets.{set_of}
 use Rattle.prop_amb.specs.Refuted.{IsCovered, IsNogood}
 use Rattle.prop_lattice.specs.declared.info.Info.{Info}
@@ -12,16 +12,16 @@ use Rattle.prop_engine.specs.Answers.{Answer, Refused, Says}
 use Rattle.prop_texts.specs.Texts.{nogoods_text}
 use Rattle.std.specs.List.Sorted.{IsStrictlyIncreasing}
 use Rattle.prop_nogoods.specs.Stores.{AreMinimal}
-use Rattle.prop_workbench.specs.declared.asking.Question.{Question}
-use Rattle.prop_workbench.specs.declared.asking.Question.TheVariants.{Settle, Worldview, Ask, Why}
 use Rattle.prop_workbench.specs.Machine.{State, naming, problem_in, choices_in}
 use Rattle.prop_amb.specs.declared.outcome.Outcome as ends
 use Rattle.prop_amb.specs.declared.outcome.Outcome.TheVariants as ended
-use Rattle.prop_workbench.specs.Questions.{command_of, outcome_of, IfContradiction, IsNamed, MaySay}
+use Rattle.prop_workbench.specs.Questions.{outcome_of, IfContradiction, MaySay}
 use Rattle.prop_workbench.specs.Refusing.{refusal_of}
 use Rattle.prop_workbench.specs.Running.{Outcome, Settled, Unsettled, Contradiction, named_by, MayEnd, IsRest, IsValue, IsValueReply, IsExplainedReply, Replies}
-use Rattle.prop_workbench.specs.Steps.{Shown, Covers, IsObeyed}
-use Rattle.prop_workbench.proofs.AskLemmas.{free, carries}
+use Rattle.prop_procedures.specs.declared.shape.Param.{Param}
+use Rattle.prop_workbench.specs.declared.session.Session.{Session}
+use Rattle.prop_workbench.specs.Sessions.{Keeps}
+use Rattle.prop_workbench.specs.Steps.{Shown, Covers, IsObeyed, Runs, Carries}
 use Rattle.prop_workbench.proofs.NamingLaws.{refusal_naming}
 use Rattle.prop_workbench.proofs.StepLemmas.{obeys, refuses}
 use Rattle.prop_workbench.proofs.CoveringLemmas.{KeepsCover, covers_still, covers_more}
@@ -42,7 +42,7 @@ value_named library s named (Contradiction ps) cell v r = absurd r
 value_reply_named : (library : List Stored) (s : State) (named : List (List ℕ)) (outcome : Outcome) (name mark text : List ℕ) → IsValueReply library s outcome name mark text → IsValueReply library (naming s named) outcome name mark text
 value_reply_named library s named outcome name mark text r = record { cell = r.cell; cell_is = r.cell_is; v = r.v; value = value_named library s named outcome r.cell r.v r.value; text_is = r.text_is }
 
-settled_reply_named : (library : List Stored) (s : State) (named : List (List ℕ)) (list name mark text : List ℕ) → IsExplainedReply library s (Settled list) name mark text → IsExplainedReply library (naming s named) (Settled list) name mark text
+abbrev settled_reply_named : (library : List Stored) (s : State) (named : List (List ℕ)) (list name mark text : List ℕ) → IsExplainedReply library s (Settled list) name mark text → IsExplainedReply library (naming s named) (Settled list) name mark text
 settled_reply_named library s named list name mark text r = record {
   cell = r.cell;
   cell_is = r.cell_is;
@@ -76,6 +76,9 @@ replies_named library s named (commands.Command.Ask x) (Settled list) steps text
 replies_named library s named (commands.Command.Ask x) (Unsettled list) steps text r = (value_reply_named library s named (Unsettled list) x (codes " unsettled") text r.0, r.1)
 replies_named library s named (commands.Command.Why x) (Settled list) steps text r = settled_reply_named library s named list x [] text r
 replies_named library s named (commands.Command.Why x) (Unsettled list) steps text r = (unsettled_reply_named library s named list x (codes " unsettled") text r.0, r.1)
+replies_named library s named (commands.Command.Core x) (Settled list) steps text (inl r) = inl (record { explained = settled_reply_named library s named list x [] text r.explained; least = record { entails = r.least.entails; needed = r.least.needed } })
+replies_named library s named (commands.Command.Core x) (Settled list) steps text (inr r) = inr (settled_reply_named library s named list x (codes " not reduced") text r.0, r.1)
+replies_named library s named (commands.Command.Core x) (Unsettled list) steps text r = (unsettled_reply_named library s named list x (codes " unsettled") text r.0, r.1)
 replies_named library s named (commands.Command.Domain name elements) (Settled list) steps text r = absurd r
 replies_named library s named (commands.Command.Domain name elements) (Unsettled list) steps text r = absurd r
 replies_named library s named (commands.Command.Relation name from to pairs) (Settled list) steps text r = absurd r
@@ -101,12 +104,6 @@ replies_named library s named (commands.Command.Limit n) (Unsettled list) steps 
 replies_named library s named commands.Command.Nogoods (Settled list) steps text r = absurd r
 replies_named library s named commands.Command.Nogoods (Unsettled list) steps text r = absurd r
 
-named_still : (s : State) (named : List (List ℕ)) (question : Question) → IsNamed s question → IsNamed (naming s named) question
-named_still s named Settle h = h
-named_still s named Worldview h = h
-named_still s named (Ask cell name) h = h
-named_still s named (Why cell name) h = h
-
 -- what is named when a run has ended is covered, where a contradiction that ended it is
 abbrev pub IsCoveredEnd : Shown → Outcome → Type 0
 IsCoveredEnd s (Contradiction ps) = IsCovered (choices_in s.state) s.learned (set_of ps)
@@ -122,6 +119,16 @@ pub covered_end : (s : Shown) (list : List ℕ) (end : ends.Outcome) → IfContr
 covered_end s list (ended.Contradiction ps) covered = covered
 covered_end s list ended.Settled covered = tt
 covered_end s list ended.Unsettled covered = tt
+
+-- and it still is, where what was covered still is
+pub covered_still : (old new : Shown) (outcome : Outcome) → KeepsCover old new → IsCoveredEnd old outcome → IsCoveredEnd new outcome
+covered_still old new (Contradiction ps) keeps covered = keeps (set_of ps) covered
+covered_still old new (Settled list) keeps covered = tt
+covered_still old new (Unsettled list) keeps covered = tt
+
+-- what two changes keep, one after the other
+pub keeps_then : {R O : Type 0} {X : Type 0} {F : X → Type 0} {g : _} (value : R → Param → List Info → Info) (old middle new : Session R O X F g) → Keeps value old middle → Keeps value middle new → Keeps value old new
+keeps_then value old middle new first second = record { library = second.library ∙ first.library; sound = second.sound; steps = second.steps ∙ first.steps; covers = λ m covered. second.covers m (first.covers m covered) }
 
 -- want of memory changes nothing, whichever contradictions were named
 pub lacks_obeyed : (library : List Stored) (old new : Shown) (command : Command) (steps : ℕ) → new.state ≡ old.state → KeepsCover old new → IsObeyed library command (Refused Memory) steps old new
@@ -139,27 +146,31 @@ refused_obeyed library s command refusal refused named covers = record {
   step = refuses library (naming s.state named) (naming s.state named) command refusal (refusal_naming library s.state named command ∙ refused) refl;
 }
 
--- a question is answered whichever contradictions were named
-pub run_obeyed : (library : List Stored) (old new : Shown) (question : Question) (outcome : Outcome) (answer : Answer) (steps : ℕ) → new.state ≡ old.state → KeepsCover old new → IsCoveredEnd new outcome → IsNamed old.state question → MayEnd library old.state outcome →
-    MaySay library old.state (command_of question) outcome steps answer → steps ≤ old.state.limit → IsObeyed library (command_of question) answer steps old new
-run_obeyed library old new question outcome answer steps same keeps end is_named ends (inl (text, replies, e)) within named covers = record {
+-- the command runs the network
+abbrev pub IsRunning : Command → Type 0
+IsRunning command = (library : List Stored) (s t : State) (answer : Answer) (steps : ℕ) → Runs library s command answer t steps → Carries library s command answer t steps
+
+-- a command that runs the network is answered whichever contradictions were named
+pub run_obeyed : (library : List Stored) (old new : Shown) (command : Command) (outcome : Outcome) (answer : Answer) (steps : ℕ) → IsRunning command → refusal_of library old.state command ≡ None → new.state ≡ old.state → KeepsCover old new → IsCoveredEnd new outcome → MayEnd library old.state outcome →
+    MaySay library old.state command outcome steps answer → steps ≤ old.state.limit → IsObeyed library command answer steps old new
+run_obeyed library old new command outcome answer steps running free same keeps end ends (inl (text, replies, e)) within named covers = record {
   now = named_by outcome named;
   covers = covers_end new named outcome (covers_still old new named keeps covers) end;
   step =
       let s = naming old.state named in
       let t = naming new.state (named_by outcome named) in
-      obeys library s t (command_of question) answer steps (free library s question (named_still old.state named question is_named))
-      (carries library s t question answer steps (record {
+      obeys library s t command answer steps (refusal_naming library old.state named command ∙ free)
+      (running library s t answer steps (record {
         outcome = outcome;
         ends = may_end_named library old.state named outcome ends;
         text = text;
-        replies = replies_named library old.state named (command_of question) outcome steps text replies;
+        replies = replies_named library old.state named command outcome steps text replies;
         answer_is = e;
         new_is = ap (λ u. naming u (named_by outcome named)) same;
         within = within;
       }));
 }
-run_obeyed library old new question outcome answer steps same keeps end is_named ends (inr m) within named covers = record {
+run_obeyed library old new command outcome answer steps running free same keeps end ends (inr m) within named covers = record {
   now = named;
   covers = covers_still old new named keeps covers;
   step = inr (record { answer_is = m; same = ap (λ u. naming u named) same });

@@ -103,6 +103,7 @@ same_if_memory None library old new (commands.Command.Kick premise) answer steps
 same_if_memory None library old new (commands.Command.Bring premise) answer steps e r = let f : Refused Memory ≡ Done = sym e ∙ r.answer_is in cc
 same_if_memory None library old new (commands.Command.Limit n) answer steps e r = let f : Refused Memory ≡ Done = sym e ∙ r.answer_is in cc
 same_if_memory None library old new (commands.Command.Why cell) answer steps e r = let f : Refused Memory ≡ Text r.text = sym e ∙ r.answer_is in cc
+same_if_memory None library old new (commands.Command.Core cell) answer steps e r = let f : Refused Memory ≡ Text r.text = sym e ∙ r.answer_is in cc
 same_if_memory None library old new commands.Command.Worldview answer steps e r = let f : Refused Memory ≡ Text r.text = sym e ∙ r.answer_is in cc
 same_if_memory None library old new commands.Command.Settle answer steps e r = let f : Refused Memory ≡ Text r.text = sym e ∙ r.answer_is in cc
 same_if_memory None library old new (commands.Command.Ask cell) answer steps e r = let f : Refused Memory ≡ Text r.text = sym e ∙ r.answer_is in cc
@@ -149,6 +150,7 @@ carried_within None library old new (commands.Command.Limit n) answer steps r = 
 carried_within None library old new commands.Command.Settle answer steps r = run_within library old new commands.Command.Settle answer steps r
 carried_within None library old new (commands.Command.Ask cell) answer steps r = run_within library old new (commands.Command.Ask cell) answer steps r
 carried_within None library old new (commands.Command.Why cell) answer steps r = run_within library old new (commands.Command.Why cell) answer steps r
+carried_within None library old new (commands.Command.Core cell) answer steps r = run_within library old new (commands.Command.Core cell) answer steps r
 carried_within None library old new commands.Command.Worldview answer steps r = run_within library old new commands.Command.Worldview answer steps r
 
 -- a step takes no more steps than the limit behind it, but where memory was refused

@@ -1,5 +1,5 @@
 -- What any two sessions agree on that are given the same lines, whatever orders they call waiting procedures in.
-use Rattle.std.specs.Prelude.{◌≡◌, ◌≢◌, ◌⊎◌, ◌<◌, IsTrue, ℕ, length, List, [], Some, All}
+use Rattle.std.specs.Prelude.{◌≡◌, ◌≢◌, ◌⊎◌, ◌<◌, IsTrue, ℕ, length, List, [], codes, Some, All}
 use Rattle.prop_lattice.specs.declared.info.Info.{Info}
 use Rattle.prop_lattice.specs.declared.refusal.Refusal.TheVariants.{Memory}
 use Rattle.prop_premises.specs.Origins.{Origin, IsNumbered, choices_of}
@@ -37,20 +37,27 @@ AnswersMeet library =
 abbrev pub IsSettledText : List Stored → State → Command → List ℕ → Type 0
 IsSettledText library s command text = (list : List ℕ) × (steps : ℕ) × MayEnd library s (Settled list) × Replies library s command (Settled list) steps text
 
--- the two texts name one value of the cell with the name, each with premises that explain it
-pub record SayOneValue (s : State) (name text also : List ℕ) : Type 0 where
+-- what stands behind the value of a core: nothing, or that it isn't reduced
+abbrev pub IsCoreMark : List ℕ → Type 0
+IsCoreMark mark = (mark ≡ []) ⊎ (mark ≡ codes " not reduced")
+
+-- the two texts name one value of the cell with the name, each with premises that explain it behind a mark
+pub record SayOneValue (s : State) (name mark also_mark text also : List ℕ) : Type 0 where
   pub cell : ℕ
   pub cell_is : cell_named s.names name ≡ Some cell
   pub v : Info
   pub premises : List ℕ
   pub others : List ℕ
-  pub text_is : text ≡ equation name (text_at s cell v) (because s.premises [] premises)
-  pub also_is : also ≡ equation name (text_at s cell v) (because s.premises [] others)
+  pub text_is : text ≡ equation name (text_at s cell v) (because s.premises mark premises)
+  pub also_is : also ≡ equation name (text_at s cell v) (because s.premises also_mark others)
 
--- settled texts to one command in one state are one; where it asks why, they may differ in the premises
+-- settled texts to one command in one state are one; where it asks why, they may differ in the premises, and where it asks for a
+-- core, in the premises and in whether they are reduced
 abbrev pub SettledTextsMeet : List Stored → Type 0
 SettledTextsMeet library =
-    (s : State) (command : Command) (text also : List ℕ) → IsSettledText library s command text → IsSettledText library s command also → (also ≡ text) ⊎ ((name : List ℕ) × (command ≡ Command.Why name) × SayOneValue s name text also)
+    (s : State) (command : Command) (text also : List ℕ) → IsSettledText library s command text → IsSettledText library s command also → (also ≡ text)
+    ⊎ ((name : List ℕ) × (command ≡ Command.Why name) × SayOneValue s name [] [] text also)
+    ⊎ ((name mark also_mark : List ℕ) × (command ≡ Command.Core name) × IsCoreMark mark × IsCoreMark also_mark × SayOneValue s name mark also_mark text also)
 
 -- what settles is not contradictory: no other run over it ends in a contradiction
 abbrev pub SettledIsFree : List Stored → Type 0

@@ -40,6 +40,8 @@ BearsOut s list points Command.Settle text = (text ≡ codes "settled") ⊎ (tex
 BearsOut s list points (Command.Ask x) text = SaysPoint s points x [] text ⊎ SaysPoint s points x (codes " unsettled") text
 BearsOut s list points (Command.Why x) text =
     (ps : List ℕ) × (SaysPoint s points x (because s.premises [] ps) text ⊎ SaysPoint s points x (because s.premises (codes " unsettled") ps) text)
+BearsOut s list points (Command.Core x) text =
+    (ps : List ℕ) × (SaysPoint s points x (because s.premises [] ps) text ⊎ SaysPoint s points x (because s.premises (codes " not reduced") ps) text ⊎ SaysPoint s points x (because s.premises (codes " unsettled") ps) text)
 BearsOut s list points Command.Worldview text = (text ≡ worldview_text s.premises (worldview_at s list)) ⊎ (text ≡ codes "unsettled")
 BearsOut s list points command text = ⊤
 

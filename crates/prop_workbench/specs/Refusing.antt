@@ -76,6 +76,7 @@ cells_in (Command.Tell premise cell value) = cell ∷ []
 cells_in (Command.Choose choice cell values) = cell ∷ []
 cells_in (Command.Ask cell) = cell ∷ []
 cells_in (Command.Why cell) = cell ∷ []
+cells_in (Command.Core cell) = cell ∷ []
 cells_in command = []
 
 -- neither a premise nor a choice has the name

@@ -20,6 +20,7 @@ use Rattle.prop_engine.specs.Answers.{Answer, Text, Refused}
 use Rattle.prop_workbench.specs.Machine.{State, problem_in, text_at, users_in, choices_in, worldview_at}
 use Rattle.prop_texts.specs.Texts.{equation, because, contradiction_text, worldview_text, nogoods_text}
 use Rattle.prop_vocabulary.specs.Cells.{cell_named}
+use Rattle.prop_explain.specs.Irreducible.{IsIrreducible}
 
 -- a run settles on a choice list, ends on one unsettled, or ends in a contradiction of premises
 pub data Outcome : Type 0 where
@@ -104,13 +105,18 @@ pub record IsExplainedReply (library : List Stored) (s : State) (outcome : Outco
   pub explains : Explains (problem_in library s) (worldview_of s outcome) cell v (set_of premises)
   pub text_is : text ≡ equation name (text_at s cell v) (because s.premises mark premises)
 
+-- the same, settled, and none of the premises can be left out
+pub record IsLeastReply (library : List Stored) (s : State) (list name text : List ℕ) : Type 0 where
+  pub explained : IsExplainedReply library s (Settled list) name [] text
+  pub least : IsIrreducible (problem_in library s) (set_of explained.premises) explained.cell explained.v
+
 -- the answer says the value of the cell, the mark, and premises of the worldview that explain it; or memory was refused
 abbrev pub Explained : List Stored → State → Members → ℕ → Info → List ℕ → List ℕ → Answer → Type 0
 Explained library s believed cell v name mark answer =
     ((ps : List ℕ) × IsStrictlyIncreasing ps × Explains (problem_in library s) believed cell v (set_of ps) × (answer ≡ Text (equation name (text_at s cell v) (because s.premises mark ps)))) ⊎ (answer ≡ Refused Memory)
 
--- what a command that runs may answer when it ends so, having taken these steps: an end that isn't settled comes
--- only with every step of the limit taken
+-- what a command that runs may answer when it ends so, having taken these steps: an end that isn't settled, and premises that
+-- aren't reduced, come only with every step of the limit taken
 abbrev pub Replies : List Stored → State → Command → Outcome → ℕ → List ℕ → Type 0
 Replies library s command (Contradiction ps) steps text = IsStrictlyIncreasing ps × (text ≡ contradiction_text s.premises ps)
 Replies library s Command.Settle (Settled list) steps text = text ≡ codes "settled"
@@ -119,6 +125,9 @@ Replies library s (Command.Ask x) (Settled list) steps text = IsValueReply libra
 Replies library s (Command.Ask x) (Unsettled list) steps text = IsValueReply library s (Unsettled list) x (codes " unsettled") text × (steps ≡ s.limit)
 Replies library s (Command.Why x) (Settled list) steps text = IsExplainedReply library s (Settled list) x [] text
 Replies library s (Command.Why x) (Unsettled list) steps text = IsExplainedReply library s (Unsettled list) x (codes " unsettled") text × (steps ≡ s.limit)
+Replies library s (Command.Core x) (Settled list) steps text =
+    IsLeastReply library s list x text ⊎ (IsExplainedReply library s (Settled list) x (codes " not reduced") text × (steps ≡ s.limit))
+Replies library s (Command.Core x) (Unsettled list) steps text = IsExplainedReply library s (Unsettled list) x (codes " unsettled") text × (steps ≡ s.limit)
 Replies library s Command.Worldview (Settled list) steps text = text ≡ worldview_text s.premises (worldview_at s list)
 Replies library s Command.Worldview (Unsettled list) steps text = (text ≡ codes "unsettled") × (steps ≡ s.limit)
 Replies library s command outcome steps text = ⊥

@@ -4,12 +4,14 @@ ghost use Rattle.std.specs.Prelude.{◌≡◌, ℕ, length};
 use crate::session::Session;
 use prop_amb::{Outcome, settle};
 use prop_engine::Reply;
+use prop_explain::{Core, reduce};
 use prop_lattice::{Info, Refusal};
 use prop_procedures::Rule;
 use prop_scheduler::Order;
 use prop_texts::{
     because, contradiction_reply, nogoods_reply, text_reply, value_reply, worldview_reply,
 };
+use prop_tms::Supported;
 use std::alloc::AllocError;
 
 /// What a command that runs the network asks; a cell stands with its number and its name.
@@ -26,16 +28,19 @@ pub(crate) enum Question<'a> {
 }
 
 impl<R: Rule + Drop, O: Order + Drop> Session<R, O> {
-    ghost use Rattle.std.specs.Prelude.{◌≡◌, ◌<◌, ◌⊎◌, ℕ, List, Ok, Some, IfOk, length};
+    ghost use Rattle.std.specs.Prelude.{◌≡◌, ◌≢◌, ◌<◌, ◌≤◌, ◌+◌, ◌⊎◌, ℕ, List, [], All, Ok, Some, IfOk, codes, length};
+    ghost use Rattle.std.specs.List.Sorted.{IsStrictlyIncreasing};
     ghost use Rattle.prop_premises.specs.Sets.{set_of};
     ghost use Rattle.prop_cells.specs.Data.{beliefs};
     ghost use Rattle.prop_scheduler.specs.Turns.{IsSettled};
     ghost use Rattle.prop_language.specs.Commands as commands;
+    ghost use Rattle.prop_explain.specs.Irreducible.{IfLeast, IfNotReduced, OfCore};
     ghost use Rattle.prop_engine.specs.Answers.{answer_of, Says, Text};
     ghost use Rattle.prop_amb.specs.Refuted.{IsListRefuted};
     ghost use Rattle.prop_workbench.specs.Machine.{text_at, problem_in, users_in, choices_in};
-    ghost use Rattle.prop_texts.specs.Texts.{equation};
-    ghost use Rattle.prop_workbench.specs.Questions.{command_of, outcome_of, IsNamed, HasRun, HasGone, MaySay, RestsOn};
+    ghost use Rattle.prop_texts.specs.Texts.{equation, because};
+    ghost use Rattle.prop_vocabulary.specs.Cells.{cell_named};
+    ghost use Rattle.prop_workbench.specs.Questions.{command_of, outcome_of, IsNamed, HasRun, HasGone, HasTried, MaySay, RestsOn};
     ghost use Rattle.prop_workbench.specs.Reasons.{IsLeanExplanation, IsLeanAnswer};
     ghost use Rattle.prop_workbench.specs.Running.{Settled, Unsettled, Explained};
     ghost use Rattle.prop_workbench.specs.Sessions.{state_of, shown_of, work_of, library_of, IsInOrder, Keeps, IsMeant};
@@ -160,6 +165,100 @@ impl<R: Rule + Drop, O: Order + Drop> Session<R, O> {
         }
     }
 
+    /// What follows for a cell, and for which premises, none of which can be left out.
+    pub(crate) fn core(&mut self, name: &str) -> (Reply, u64)
+        requires means { IsMeant R.value_of self.old }
+        requires sound { IsInOrder R.value_of self.old }
+        ensures keeps { Keeps R.value_of self.old self.new }
+        ensures step { IsObeyed (library_of R.value_of self.old) (commands.Command.Core name.now) (answer_of result.0) result.1 (shown_of self.old) (shown_of self.new) }
+        ensures rests { RestsOn O.picks (library_of R.value_of self.old) (state_of self.old) (work_of self.old) (work_of self.new) (Ok (Some (commands.Command.Core name.now))) (answer_of result.0) result.1 }
+    {
+        match self.names.find(name) {
+            Some(cell) => self.core_of(cell, name),
+            None => (Reply::Refused(Refusal::NoSuchCell), 0),
+        }
+    }
+
+    /// Runs the network, and where it settles leaves out what premises it can.
+    fn core_of(&mut self, cell: usize, name: &str) -> (Reply, u64)
+        requires means { IsMeant R.value_of self.old }
+        requires sound { IsInOrder R.value_of self.old }
+        requires named { cell_named self.old.names name.now ≡ Some cell }
+        ensures keeps { Keeps R.value_of self.old self.new }
+        ensures step { IsObeyed (library_of R.value_of self.old) (commands.Command.Core name.now) (answer_of result.0) result.1 (shown_of self.old) (shown_of self.new) }
+        ensures rests { RestsOn O.picks (library_of R.value_of self.old) (state_of self.old) (work_of self.old) (work_of self.new) (Ok (Some (commands.Command.Core name.now))) (answer_of result.0) result.1 }
+    {
+        match self.run_network() {
+            Ok((end, steps)) => self.core_reply(cell, name, &end, steps),
+            Err(AllocError) => (Reply::Refused(Refusal::Memory), 0),
+        }
+    }
+
+    /// The answer with a core where a run of so many steps ended so, and the steps that both take.
+    fn core_reply(&mut self, cell: usize, name: &str, end: &Outcome, steps: u64) -> (Reply, u64)
+        requires means { IsMeant R.value_of self.old }
+        requires sound { IsInOrder R.value_of self.old }
+        requires named { cell_named self.old.names name.now ≡ Some cell }
+        requires run { HasRun R.value_of self.old end.now steps }
+        ensures keeps { Keeps R.value_of self.old self.new }
+        ensures state { state_of self.new ≡ state_of self.old }
+        ensures says { MaySay (library_of R.value_of self.old) (state_of self.old) (commands.Command.Core name.now) (outcome_of self.old.search.list end.now) result.1 (answer_of result.0) }
+        ensures within { result.1 ≤ self.old.limit }
+        ensures tried { end.now ≡ Outcome.Settled → (text : List ℕ) → answer_of result.0 ≡ Text text → (tries : ℕ) × (result.1 ≡ steps + tries) × HasTried O.picks (library_of R.value_of self.old) (work_of self.old) (work_of self.new) tries }
+        ensures untried { end.now ≢ Outcome.Settled → (work_of self.new ≡ work_of self.old) × (result.1 ≡ steps) }
+    {
+        match end {
+            Outcome::Settled => self.reduced(cell, name, steps),
+            Outcome::Contradiction(premises) => {
+                let reply = contradiction_reply(self.alloc, self.search.premises(), premises);
+                (reply, steps)
+            }
+            Outcome::Unsettled => (self.unsettled(Question::Why(cell, name)), steps),
+        }
+    }
+
+    /// What follows for a cell of a network that came to rest in so many steps, and for which premises, where as many are left out as
+    /// the steps that are left allow; and how many steps that makes together.
+    fn reduced(&mut self, cell: usize, name: &str, steps: u64) -> (Reply, u64)
+        requires means { IsMeant R.value_of self.old }
+        requires sound { IsInOrder R.value_of self.old }
+        requires named { cell_named self.old.names name.now ≡ Some cell }
+        requires rest { IsSettled (library_of R.value_of self.old) (set_of self.old.search.worldview) self.old.network.cells }
+        requires within { steps ≤ self.old.limit }
+        ensures keeps { Keeps R.value_of self.old self.new }
+        ensures state { state_of self.new ≡ state_of self.old }
+        ensures says { MaySay (library_of R.value_of self.old) (state_of self.old) (commands.Command.Core name.now) (Settled self.old.search.list) result.1 (answer_of result.0) }
+        ensures within { result.1 ≤ self.old.limit }
+        ensures tried { (text : List ℕ) → answer_of result.0 ≡ Text text → (tries : ℕ) × (result.1 ≡ steps + tries) × HasTried O.picks (library_of R.value_of self.old) (work_of self.old) (work_of self.new) tries }
+    {
+        let ended = reduce(
+            self.alloc,
+            &mut self.network,
+            &mut self.agenda,
+            &mut self.order,
+            self.search.worldview(),
+            cell,
+            self.limit - steps,
+        );
+        match ended {
+            Ok((core, tries)) => (self.core_text(cell, name, &core), steps + tries),
+            Err(AllocError) => (Reply::Refused(Refusal::Memory), 0),
+        }
+    }
+
+    /// What a core says of a cell.
+    fn core_text(&self, cell: usize, name: &str, core: &Core) -> Reply
+        requires cell { cell < length self.now.network.cells.kinds }
+        requires known { OfCore core.now (λ v s. All (λ p. p < length self.now.search.premises) s) }
+        ensures least { IfLeast core.now (λ v s. IsStrictlyIncreasing s × Says (answer_of result) (equation name.now (text_at (state_of self.now) cell v) (because self.now.search.premises [] s))) }
+        ensures not_reduced { IfNotReduced core.now (λ v s. IsStrictlyIncreasing s × Says (answer_of result) (equation name.now (text_at (state_of self.now) cell v) (because self.now.search.premises (codes " not reduced") s))) }
+    {
+        match core {
+            Core::Least(why) => self.said_because(cell, name, "", why),
+            Core::NotReduced(why) => self.said_because(cell, name, " not reduced", why),
+        }
+    }
+
     /// The nogoods that were learned.
     pub(crate) fn nogoods(&self) -> Reply
         requires sound { IsInOrder R.value_of self.now }
@@ -200,6 +299,16 @@ impl<R: Rule + Drop, O: Order + Drop> Session<R, O> {
             Ok(why) => why,
             Err(AllocError) => return Reply::Refused(Refusal::Memory),
         };
+        self.said_because(cell, name, mark, &why)
+    }
+
+    /// A value of a cell, the mark, and the premises that it rests on.
+    fn said_because(&self, cell: usize, name: &str, mark: &str, why: &Supported<Info>) -> Reply
+        requires cell { cell < length self.now.network.cells.kinds }
+        requires known { All (λ p. p < length self.now.search.premises) why.now.support }
+        ensures in_order { IsStrictlyIncreasing why.now.support }
+        ensures says { Says (answer_of result) (equation name.now (text_at (state_of self.now) cell why.now.value) (because self.now.search.premises mark.now why.now.support)) }
+    {
         match because(self.alloc, self.search.premises(), mark, &why.support) {
             Ok(mark) => self.value_of(cell, name, why.value, &mark),
             Err(AllocError) => Reply::Refused(Refusal::Memory),

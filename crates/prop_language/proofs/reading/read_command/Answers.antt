@@ -3,7 +3,7 @@ use Rattle.prop_language.specs.Tokens.{Token, Word, tokens}
 use Rattle.prop_language.specs.Said.{KeepsWords}
 use Rattle.prop_language.specs.Parts.{KeepsWordsOf, word_of}
 use Rattle.prop_language.specs.declared.reading.CommandWord.{CommandWord}
-use Rattle.prop_language.specs.declared.reading.CommandWord.TheVariants.{Domain, Relation, Cell, Define, Attach, Fix, Tell, Choose, Kick, Bring, Limit, Settle, Ask, Why, Worldview, Nogoods}
+use Rattle.prop_language.specs.declared.reading.CommandWord.TheVariants.{Domain, Relation, Cell, Define, Attach, Fix, Tell, Choose, Kick, Bring, Limit, Settle, Ask, Why, Core, Worldview, Nogoods}
 use Rattle.prop_language.proofs.reading.read_command.Goals as goal
 
 keeps : (command : CommandWord) (w : List ℕ) (ts : List Token) → w ≡ word_of command → KeepsWordsOf command ts → KeepsWords (Word w ∷ ts)
@@ -21,6 +21,7 @@ keeps Limit w ts e h = absurd h
 keeps Settle w ts e h = absurd h
 keeps Ask w ts e h = absurd h
 keeps Why w ts e h = absurd h
+keeps Core w ts e h = absurd h
 keeps Worldview w ts e h = absurd h
 keeps Nogoods w ts e h = absurd h
 

@@ -25,6 +25,10 @@ turn_on stored s place old new line line' a b same turn = subst (λ l. Turn (sto
 turn_rest : (library : List Stored) (s : Premises) (place : ℕ) (start old new : Data) (line line' : List ℕ) → Turn library s place old new line line' → old ≡ record start { contents = old.contents } → new ≡ record start { contents = new.contents }
 turn_rest library s place start old new line line' turn rest = turn.calls.rest ∙ (λ i. record (rest i) { contents = new.contents })
 
+-- the most steps are those of the start, over the same library and with other contents alone
+most_same : (library library' : List Stored) (start new : Data) → library' ≡ library → new ≡ record start { contents = new.contents } → most_steps (problem_of library' new) ≡ most_steps (problem_of library start)
+most_same library library' start new same rest = λ i. most_steps (problem_of (same i) (rest i))
+
 pub returns-in-Some-clause-same : goal.returns-in-Some-clause-same
 returns-in-Some-clause-same g c =
     refl
@@ -92,6 +96,10 @@ returns-in-Some-clause-falls g c =
 pub returns-in-Some-clause-earned : goal.returns-in-Some-clause-earned
 returns-in-Some-clause-earned g c =
     λ e. cc e
+
+pub returns-in-Some-clause-bounded : goal.returns-in-Some-clause-bounded
+returns-in-Some-clause-bounded g c =
+    omega arith
 
 pub returns-in_err-support-clause-same : goal.returns-in_err-support-clause-same
 returns-in_err-support-clause-same g c =
@@ -413,7 +421,33 @@ pub returns-clause-earned : goal.returns-clause-earned
 returns-clause-earned g c =
     λ spent.
     let made : IsWellMade c.args.network.now.cells = rw c.data.ensures at c.well_made.ensures in
-    let most = under_way_within (stored_of g.R.Rule.value_of c.args.network.now.library) (set_of c.args.worldview.now) c.args.network.now.cells c.args.agenda.now made c.waiting-waiting.ensures.line c.requires.under_way in
-    let same : most_steps (problem_of (stored_of g.R.Rule.value_of c.loop-steps.network.library) c.loop-steps.network.cells) ≡ most_steps (problem_of (stored_of g.R.Rule.value_of c.args.network.now.library) c.args.network.now.cells) =
-    λ i. most_steps (problem_of (stored_of g.R.Rule.value_of (c.loop-steps.invariant.same i)) (c.loop-steps.invariant.rest i)) in
+    let library = stored_of g.R.Rule.value_of c.args.network.now.library in
+    let most = under_way_within library (set_of c.args.worldview.now) c.args.network.now.cells c.args.agenda.now made c.waiting-waiting.ensures.line c.requires.under_way in
+    let same = most_same library (stored_of g.R.Rule.value_of c.loop-steps.network.library) c.args.network.now.cells c.loop-steps.network.cells (ap (stored_of g.R.Rule.value_of) c.loop-steps.invariant.same) c.loop-steps.invariant.rest in
     omega (arith, most, c.loop-steps.invariant.falls, c.loop-steps.invariant.waiting, same)
+
+pub returns-clause-bounded : goal.returns-clause-bounded
+returns-clause-bounded g c =
+    let made : IsWellMade c.args.network.now.cells = rw c.data.ensures at c.well_made.ensures in
+    let library = stored_of g.R.Rule.value_of c.args.network.now.library in
+    let most = under_way_within library (set_of c.args.worldview.now) c.args.network.now.cells c.args.agenda.now made c.waiting-waiting.ensures.line c.requires.under_way in
+    let same = most_same library (stored_of g.R.Rule.value_of c.loop-steps.network.library) c.args.network.now.cells c.loop-steps.network.cells (ap (stored_of g.R.Rule.value_of) c.loop-steps.invariant.same) c.loop-steps.invariant.rest in
+    omega (arith, most, c.loop-steps.invariant.falls, same)
+
+pub returns-then-waiting-eq0-clause-bounded : goal.returns-then-waiting-eq0-clause-bounded
+returns-then-waiting-eq0-clause-bounded g c =
+    let made : IsWellMade c.args.network.now.cells = rw c.data.ensures at c.well_made.ensures in
+    let library = stored_of g.R.Rule.value_of c.args.network.now.library in
+    let most = under_way_within library (set_of c.args.worldview.now) c.args.network.now.cells c.args.agenda.now made c.waiting-waiting.ensures.line c.requires.under_way in
+    let same = most_same library (stored_of g.R.Rule.value_of c.loop-steps.network.library) c.args.network.now.cells c.loop-steps.network.cells (ap (stored_of g.R.Rule.value_of) c.loop-steps.invariant.same) c.loop-steps.invariant.rest in
+    omega (arith, most, c.loop-steps.invariant.falls, same)
+
+pub returns-in-Some-clash-clause-bounded : goal.returns-in-Some-clash-clause-bounded
+returns-in-Some-clash-clause-bounded g c =
+    let made : IsWellMade c.args.network.now.cells = rw c.data.ensures at c.well_made.ensures in
+    let library = stored_of g.R.Rule.value_of c.args.network.now.library in
+    let most = under_way_within library (set_of c.args.worldview.now) c.args.network.now.cells c.args.agenda.now made c.waiting-waiting.ensures.line c.requires.under_way in
+    let turn : Turn library (set_of c.args.worldview.now) c.pick-place.result c.loop-steps.network.cells c.turn.new.network.cells c.loop-steps.agenda.line c.turn.new.agenda.line = turn_on (stored_of g.R.Rule.value_of) (set_of c.args.worldview.now) c.pick-place.result c.loop-steps.network.cells c.turn.new.network.cells c.loop-steps.agenda.line c.turn.new.agenda.line c.args.network.now.library c.loop-steps.network.library c.loop-steps.invariant.same c.in_ok-clash.ensures.turn in
+    let rest = turn_rest library (set_of c.args.worldview.now) c.pick-place.result c.args.network.now.cells c.loop-steps.network.cells c.turn.new.network.cells c.loop-steps.agenda.line c.turn.new.agenda.line turn c.loop-steps.invariant.rest in
+    let same = most_same library (stored_of g.R.Rule.value_of c.turn.new.network.library) c.args.network.now.cells c.turn.new.network.cells (ap (stored_of g.R.Rule.value_of) (c.turn.ensures.same ∙ c.loop-steps.invariant.same)) rest in
+    omega (arith, most, c.in_ok-clash.ensures.falls, c.loop-steps.invariant.falls, same)

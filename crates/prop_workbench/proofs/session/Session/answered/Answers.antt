@@ -7,7 +7,7 @@ use Rattle.prop_workbench.specs.Reasons.{IsLeanAnswer}
 use Rattle.prop_engine.specs.Answers.{answer_of}
 use Rattle.prop_workbench.specs.Questions.{command_of, outcome_of, IsNamed}
 use Rattle.prop_workbench.specs.Sessions.{state_of, shown_of, work_of}
-use Rattle.prop_workbench.proofs.AskLemmas.{believes_same}
+use Rattle.prop_workbench.proofs.AskLemmas.{believes_same, carries, free}
 use Rattle.prop_workbench.proofs.EarnedLemmas.{earns, earns_refused}
 use Rattle.prop_workbench.proofs.ReasonLemmas.{lean_refused}
 use Rattle.prop_workbench.proofs.RunLemmas.{covered_end, lacks_obeyed, run_obeyed}
@@ -29,8 +29,9 @@ returns-in-Ok-clause-step g c =
     let said = c.in-Ok.ensures.run in
     let library = c.run_network.ensures.keeps.library in
     let state = c.run_network.ensures.state in
-    run_obeyed (stored_of g.R.Rule.value_of s.network.library) (shown_of s) (shown_of t) c.args.question (outcome_of t.search.list c.in-Ok.end) _ c.in-Ok.steps state c.run_network.ensures.keeps.covers
-    (covered_end (shown_of t) t.search.list c.in-Ok.end said.covered) c.requires.named (rw (library, state) at said.ends) (rw (library, state) at c.reply_to.ensures.says) (rw (ap (λ (u : State). u.limit) state) at said.within)
+    run_obeyed (stored_of g.R.Rule.value_of s.network.library) (shown_of s) (shown_of t) (command_of c.args.question) (outcome_of t.search.list c.in-Ok.end) _ c.in-Ok.steps (λ lib u v. carries lib u v c.args.question)
+    (free (stored_of g.R.Rule.value_of s.network.library) (state_of s) c.args.question c.requires.named) state c.run_network.ensures.keeps.covers
+    (covered_end (shown_of t) t.search.list c.in-Ok.end said.covered) (rw (library, state) at said.ends) (rw (library, state) at c.reply_to.ensures.says) (rw (ap (λ (u : State). u.limit) state) at said.within)
 
 pub returns-in-Ok-clause-rests : goal.returns-in-Ok-clause-rests
 returns-in-Ok-clause-rests g c =

@@ -1,0 +1,3 @@
+pub mod ReducingLaws
+pub mod TryingLaws
+pub mod CountLemmas

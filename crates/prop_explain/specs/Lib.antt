@@ -1,0 +1,2 @@
+pub mod Irreducible
+pub mod Trying
