@@ -5,10 +5,12 @@ ghost use Rattle.prop_host_tests.specs.Host.{value_of as host_value};
 
 use crate::calling::{call_on_spans, larger};
 use crate::host::Host;
+use crate::session::replies;
 use prop_arith::{KITS, Kit};
 use prop_lattice::{Info, Kind, Span};
 use prop_procedures::fitting::{are_right, span_kinded};
 use prop_procedures::{Both, Kinded, Library, Need, Param, Procedure, Rule, Shape};
+use prop_workbench::Reply;
 use smallvec::SmallVec;
 use std::alloc::AllocError;
 
@@ -143,4 +145,46 @@ fn kinds_fit_shapes(rt: HostRuntime) {
     );
     assert!(rt; !are_right(Need::Nothing, None, &[(any, span), (any, truth)]));
     assert!(rt; !are_right(Need::Nothing, None, &[(Shape::Span, truth)]));
+}
+
+#[test]
+fn a_session_has_the_rules_of_both(rt: HostRuntime) -> Result<(), AllocError> {
+    let lines = [
+        "cell x span",
+        "cell y span",
+        "cell z span",
+        "attach maxer x y z",
+        "fix x 3..5",
+        "tell p y 4..9",
+        "ask z",
+        "why z",
+        "cell s span",
+        "attach adder x z s",
+        "ask s",
+    ];
+    let answers = [
+        "ok",
+        "ok",
+        "ok",
+        "ok",
+        "ok",
+        "ok",
+        "z = 4..9",
+        "z = 4..9 because p",
+        "ok",
+        "ok",
+        "s = 7..14",
+    ];
+    let replies = replies(rt.alloc(), &lines)?;
+    assert_eq!(rt; replies.len(), answers.len());
+    for (reply, answer) in replies.iter().zip(answers) {
+        let text = match reply {
+            Reply::Silent => "",
+            Reply::Done => "ok",
+            Reply::Text(text) => text.as_str(),
+            Reply::Refused(refusal) => refusal.text(),
+        };
+        assert_eq!(rt; text, answer);
+    }
+    Ok(())
 }

@@ -1,0 +1,94 @@
+//! A host of the workbench: it makes the kit's procedures and its own, and has a session with them carry out lines.
+ghost use Rattle.std.specs.Prelude.{◌≡◌, IfOk, map};
+ghost use Rattle.prop_arith.specs.Kit.{value_of};
+ghost use Rattle.prop_procedures.specs.Kept.{AllMean};
+ghost use Rattle.prop_language.specs.Said.{words};
+ghost use Rattle.prop_engine.specs.Answers.{answer_of};
+ghost use Rattle.prop_engine.specs.Transcripts.{Run};
+ghost use Rattle.prop_workbench.specs.Engine.{machine_of};
+ghost use Rattle.prop_workbench.specs.Sessions.{shown_of, IsSound, IsMeant};
+ghost use Rattle.prop_host_tests.specs.Host.{value_of as host_value};
+
+use crate::host::Host;
+use prop_arith::KITS;
+use prop_cells::Network;
+use prop_lattice::Info;
+use prop_procedures::{Both, Library, Need, Param, Procedure, Rule, Shape};
+use prop_scheduler::{Fifo, Order};
+use prop_workbench::{Reply, Session};
+use smallvec::SmallVec;
+use std::alloc::{AllocError, Global};
+
+/// How many steps a line may take.
+const LIMIT: u64 = 1_000_000_000;
+
+/// Makes the kit's procedures in order and the host's behind them, and tells what these lines are answered in a session with them.
+pub fn replies(alloc: Global, lines: &[&str]) -> Result<Vec<Reply>, AllocError> {
+    let mut procedures = Vec::new(alloc);
+    for rule in KITS {
+        let ins = SmallVec::<Shape, 8>::from_slice(alloc, rule.ins())?;
+        let run = Box::new(
+            alloc,
+            move |param: &Param, args: &[Info]| -> Info
+                ensures { result ≡ value_of rule param.now args.now }
+            { rule.run(param, args) },
+        )?;
+        procedures.push(Procedure::new(
+            rule.name(),
+            ins,
+            rule.out(),
+            rule.need(),
+            Both::One(rule),
+            run,
+        ))?;
+    }
+    let ins = SmallVec::<Shape, 8>::from_slice(alloc, &[Shape::Span, Shape::Span])?;
+    let run = Box::new(
+        alloc,
+        move |param: &Param, args: &[Info]| -> Info
+            ensures { result ≡ host_value Host.Maxer param.now args.now }
+        { Host::Maxer.run(param, args) },
+    )?;
+    procedures.push(Procedure::new(
+        "maxer",
+        ins,
+        Shape::Span,
+        Need::Nothing,
+        Both::Two(Host::Maxer),
+        run,
+    ))?;
+    serve(alloc, procedures, lines)
+}
+
+/// Makes a session with these procedures and has it carry out lines.
+fn serve<R: Rule + Drop>(
+    alloc: Global,
+    procedures: Vec<Procedure<R>>,
+    lines: &[&str],
+) -> Result<Vec<Reply>, AllocError>
+    requires means { AllMean R.value_of procedures.items }
+{
+    let network = Network::new(alloc, Library::new(procedures));
+    let mut session = Session::new(alloc, network, Fifo, LIMIT)?;
+    let replies = carry_out(alloc, &mut session, lines);
+    // One call in place of the drop of each part, which a proof would go through one by one.
+    drop(session);
+    replies
+}
+
+/// Carries out lines one after another, and tells what each is answered.
+fn carry_out<R: Rule + Drop, O: Order + Drop>(
+    alloc: Global,
+    session: &mut Session<R, O>,
+    lines: &[&str],
+) -> Result<Vec<Reply>, AllocError>
+    requires means { IsMeant R.value_of session.old }
+    requires sound { IsSound R.value_of session.old }
+    ensures { IfOk result (λ replies. Run (machine_of R.value_of R.related session.old) (shown_of session.old) (words lines.now) (map answer_of replies.items) (shown_of session.new)) }
+{
+    let mut replies = Vec::new(alloc);
+    for line in lines {
+        replies.push(session.command(line.as_bytes()))?;
+    }
+    Ok(replies)
+}
