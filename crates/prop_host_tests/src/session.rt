@@ -1,16 +1,18 @@
 //! A host of the workbench: it makes the kit's procedures and its own, and has a session with them carry out lines.
 ghost use Rattle.std.specs.Prelude.{◌≡◌, IfOk, map};
 ghost use Rattle.prop_arith.specs.Kit.{value_of};
-ghost use Rattle.prop_procedures.specs.Kept.{AllMean};
+ghost use Rattle.prop_procedures.specs.Both.{either_of};
+ghost use Rattle.prop_procedures.specs.Kept.{AllMean, stored_as};
 ghost use Rattle.prop_language.specs.Said.{words};
 ghost use Rattle.prop_engine.specs.Answers.{answer_of};
 ghost use Rattle.prop_engine.specs.Transcripts.{Run};
 ghost use Rattle.prop_workbench.specs.Engine.{machine_of};
 ghost use Rattle.prop_workbench.specs.Sessions.{shown_of, IsSound, IsMeant};
 ghost use Rattle.prop_host_tests.specs.Host.{value_of as host_value};
+ghost use Rattle.prop_host_tests.specs.Answered.{host_rules, host_library, IsAnswered};
 
 use crate::host::Host;
-use prop_arith::KITS;
+use prop_arith::{KITS, Kit};
 use prop_cells::Network;
 use prop_lattice::Info;
 use prop_procedures::{Both, Library, Need, Param, Procedure, Rule, Shape};
@@ -23,7 +25,9 @@ use std::alloc::{AllocError, Global};
 const LIMIT: u64 = 1_000_000_000;
 
 /// Makes the kit's procedures in order and the host's behind them, and tells what these lines are answered in a session with them.
-pub fn replies(alloc: Global, lines: &[&str]) -> Result<Vec<Reply>, AllocError> {
+pub fn replies(alloc: Global, lines: &[&str]) -> Result<Vec<Reply>, AllocError>
+    ensures { IfOk result (λ replies. IsAnswered (words lines.now) (map answer_of replies.items)) }
+{
     let mut procedures = Vec::new(alloc);
     for rule in KITS {
         let ins = SmallVec::<Shape, 8>::from_slice(alloc, rule.ins())?;
@@ -49,24 +53,28 @@ pub fn replies(alloc: Global, lines: &[&str]) -> Result<Vec<Reply>, AllocError> 
             ensures { result ≡ host_value Host.Maxer param.now args.now }
         { Host::Maxer.run(param, args) },
     )?;
-    procedures.push(Procedure::new(
+    let maxer = Procedure::new(
         "maxer",
         ins,
         Shape::Span,
         Need::Nothing,
         Both::Two(Host::Maxer),
         run,
-    ))?;
+    );
+    procedures.push(maxer)?;
     serve(alloc, procedures, lines)
 }
 
 /// Makes a session with these procedures and has it carry out lines.
-fn serve<R: Rule + Drop>(
+fn serve(
     alloc: Global,
-    procedures: Vec<Procedure<R>>,
+    procedures: Vec<Procedure<Both<Kit, Host>>>,
     lines: &[&str],
 ) -> Result<Vec<Reply>, AllocError>
-    requires means { AllMean R.value_of procedures.items }
+    requires means { AllMean (either_of value_of host_value) procedures.items }
+    requires listed { map (stored_as (either_of value_of host_value)) procedures.items ≡ host_library }
+    requires ruled { map (λ p. p.rule) procedures.items ≡ host_rules }
+    ensures { IfOk result (λ replies. IsAnswered (words lines.now) (map answer_of replies.items)) }
 {
     let network = Network::new(alloc, Library::new(procedures));
     let mut session = Session::new(alloc, network, Fifo, LIMIT)?;
