@@ -2,7 +2,8 @@
 use Rattle.std.proofs.Common.{◌≡◌, ◌∙◌, ℕ, zero, suc, ◌+◌, ◌<◌, ◌≤◌, ap, List, [], ◌∷◌, ◌++◌, length, map, take, get_or, refl, All, codes, subst}
 use Rattle.std.proofs.lemmas.List.{take_more, take_all, map-append}
 use Rattle.std.proofs.lemmas.List.Elements.{All-head, All-tail}
-use Rattle.std.specs.Prelude.{slice_get, IsSomeAnd, Result, Ok, Err, IfOk}
+use Rattle.std.proofs.lemmas.Option.{none-some, same_Some}
+use Rattle.std.specs.Prelude.{slice_get, Some, IsSomeAnd, Result, Ok, Err, IfOk}
 use Rattle.prop_lattice.specs.Points.{Point}
 use Rattle.prop_procedures.specs.declared.both.Both.{Both}
 use Rattle.prop_procedures.specs.declared.both.Both.TheVariants.{One, Two}
@@ -12,9 +13,13 @@ use Rattle.prop_procedures.specs.declared.shape.Need.TheVariants.{Nothing}
 use Rattle.prop_procedures.specs.declared.procedure.Procedure.{Procedure}
 use Rattle.prop_procedures.specs.declared.library.Library.{Library}
 use Rattle.prop_procedures.specs.Both.{either_of}
+use Rattle.prop_procedures.specs.Rules.{IsSound}
+use Rattle.prop_procedures.specs.Stored.{Stored}
 use Rattle.prop_procedures.specs.Kept.{stored_as, stored_of, related_of}
 use Rattle.prop_arith.specs.Kit.{in_order, name_of, ins_of, out_of, need_of, value_of, Related}
+use Rattle.prop_arith.specs.KitLaws.{kit_sound}
 use Rattle.prop_arith.specs.declared.kit.Kit.{Kit}
+use Rattle.prop_cells.specs.Points.{AreSoundBy}
 use Rattle.prop_engine.specs.Answers.{Answer}
 use Rattle.prop_engine.specs.Transcripts.{Run}
 use Rattle.prop_workbench.specs.Steps.{Shown, new_shown}
@@ -22,6 +27,7 @@ use Rattle.prop_workbench.specs.Engine.{learning}
 use Rattle.prop_host_tests.specs.declared.host.Host.{Host}
 use Rattle.prop_host_tests.specs.declared.host.Host.TheVariants.{Maxer}
 use Rattle.prop_host_tests.specs.Host.{value_of as host_value, Related as host_points}
+use Rattle.prop_host_tests.specs.HostLaws.{host_sound}
 use Rattle.prop_host_tests.specs.Answered.{host_rules, stored_rule, host_library, host_related, IsAnswered}
 
 -- the procedure has the name, the form and the value of its rule
@@ -58,6 +64,18 @@ related_by_rules {X} {F} {g} library e = (λ i n param points point. by library.
     by [] n param points point = refl
     by (p ∷ rest) zero param points point = refl
     by (p ∷ rest) (suc k) param points point = by rest k param points point
+
+-- each rule's answers hold the points that it relates
+pub host_is_sound : AreSoundBy host_library host_related
+host_is_sound n p at = by host_rules n p at
+  where
+    of_rule : (rule : Both Kit Host) → IsSound (stored_rule rule).value (either_of Related host_points rule) (stored_rule rule).ins (stored_rule rule).out (stored_rule rule).need
+    of_rule (One rule) = kit_sound rule (ins_of rule) (out_of rule) (need_of rule) (refl, refl, refl)
+    of_rule (Two Maxer) = host_sound Maxer (Span ∷ Span ∷ []) Span Nothing (refl, refl, refl)
+    by : (rules : List (Both Kit Host)) (n : ℕ) (p : Stored) → slice_get (map stored_rule rules) n ≡ Some p → IsSound p.value (λ param points point. IsSomeAnd (slice_get rules n) (λ rule. either_of Related host_points rule param points point)) p.ins p.out p.need
+    by [] n p at = absurd (none-some p at)
+    by (rule ∷ rest) zero p at = let same : stored_rule rule ≡ p = same_Some (stored_rule rule) p at in rw (← same) (of_rule rule)
+    by (rule ∷ rest) (suc k) p at = by rest k p at
 
 -- what a new session with these procedures answered
 pub answered : {X : Type 0} {F : X → Type 0} {g : _} {A E : Type 0} → (library : Library (Both Kit Host) X F g) (items : List (Procedure (Both Kit Host) X F g)) (s new : Shown) (lines : List (List ℕ)) (answers : A → List Answer) (result : Result A E) → library.procedures.items ≡ items → map (stored_as (either_of value_of host_value)) items ≡ host_library → map (λ p. p.rule) items ≡ host_rules → s ≡ new_shown 1_000_000_000 →

@@ -7,7 +7,7 @@ pub mod session;
 
 pub use calling::{call_on_spans, larger};
 pub use host::Host;
-pub use session::replies;
+pub use session::{answers_hold_points, replies};
 
 #[cfg(test)]
 mod tests;

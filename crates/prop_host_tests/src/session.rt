@@ -3,13 +3,14 @@ ghost use Rattle.std.specs.Prelude.{◌≡◌, IfOk, map};
 ghost use Rattle.prop_arith.specs.Kit.{value_of};
 ghost use Rattle.prop_procedures.specs.Both.{either_of};
 ghost use Rattle.prop_procedures.specs.Kept.{AllMean, stored_as};
+ghost use Rattle.prop_cells.specs.Points.{AreSoundBy};
 ghost use Rattle.prop_language.specs.Said.{words};
 ghost use Rattle.prop_engine.specs.Answers.{answer_of};
 ghost use Rattle.prop_engine.specs.Transcripts.{Run};
 ghost use Rattle.prop_workbench.specs.Engine.{machine_of};
 ghost use Rattle.prop_workbench.specs.Sessions.{shown_of, IsSound, IsMeant};
 ghost use Rattle.prop_host_tests.specs.Host.{value_of as host_value};
-ghost use Rattle.prop_host_tests.specs.Answered.{host_rules, host_library, IsAnswered};
+ghost use Rattle.prop_host_tests.specs.Answered.{host_rules, host_library, host_related, IsAnswered};
 
 use crate::host::Host;
 use prop_arith::{KITS, Kit};
@@ -64,6 +65,11 @@ pub fn replies(alloc: Global, lines: &[&str]) -> Result<Vec<Reply>, AllocError>
     procedures.push(maxer)?;
     serve(alloc, procedures, lines)
 }
+
+/// The procedures' answers hold the points that belong together, so numbers that satisfy all that is believed lie in each answer of the session.
+pub fn answers_hold_points()
+    ensures { AreSoundBy host_library host_related }
+{}
 
 /// Makes a session with these procedures and has it carry out lines.
 fn serve(
