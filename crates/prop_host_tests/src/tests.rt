@@ -147,44 +147,34 @@ fn kinds_fit_shapes(rt: HostRuntime) {
     assert!(rt; !are_right(Need::Nothing, None, &[(Shape::Span, truth)]));
 }
 
+/// The lines of a session with the kit's procedures and the host's, and what each is answered.
+const SESSION: [(&str, &str); 11] = [
+    ("cell x span", "ok"),
+    ("cell y span", "ok"),
+    ("cell z span", "ok"),
+    ("attach maxer x y z", "ok"),
+    ("fix x 3..5", "ok"),
+    ("tell p y 4..9", "ok"),
+    ("ask z", "z = 4..9"),
+    ("why z", "z = 4..9 because p"),
+    ("cell s span", "ok"),
+    ("attach adder x z s", "ok"),
+    ("ask s", "s = 7..14"),
+];
+
 #[test]
 fn a_session_has_the_rules_of_both(rt: HostRuntime) -> Result<(), AllocError> {
-    let lines = [
-        "cell x span",
-        "cell y span",
-        "cell z span",
-        "attach maxer x y z",
-        "fix x 3..5",
-        "tell p y 4..9",
-        "ask z",
-        "why z",
-        "cell s span",
-        "attach adder x z s",
-        "ask s",
-    ];
-    let answers = [
-        "ok",
-        "ok",
-        "ok",
-        "ok",
-        "ok",
-        "ok",
-        "z = 4..9",
-        "z = 4..9 because p",
-        "ok",
-        "ok",
-        "s = 7..14",
-    ];
+    let lines = SESSION.map(|(line, _)| line);
     let replies = replies(rt.alloc(), &lines)?;
-    assert_eq!(rt; replies.len(), answers.len());
-    for (reply, answer) in replies.iter().zip(answers) {
+    assert_eq!(rt; replies.len(), SESSION.len());
+    for (reply, (line, answer)) in replies.iter().zip(SESSION) {
         let text = match reply {
             Reply::Silent => "",
             Reply::Done => "ok",
             Reply::Text(text) => text.as_str(),
-            Reply::Refused(refusal) => refusal.text(),
+            Reply::Refused(refusal) => refusal.reply(),
         };
-        assert_eq!(rt; text, answer);
+        assert_eq!(rt; text, answer, "to {line}");
     }
     Ok(())
 }
