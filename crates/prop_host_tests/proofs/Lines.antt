@@ -16,4 +16,4 @@ pub run_next : (library : List Stored) (related : ℕ → Param → List Point �
     Run (learning library related) old (take i lines) (map answer_of replies) mid → Shows library related mid line (answer_of reply) new → Run (learning library related) old (take (i + 1) lines) (map answer_of all) new
 run_next library related old mid new lines i line replies all reply l at e run step =
     rw (e, map-append answer_of replies (reply ∷ []))
-      (subst (λ (xs : List (List ℕ)). Run (learning library related) old xs (map answer_of replies ++ answer_of reply ∷ []) new) ((λ j. take i lines ++ at j ∷ []) ∙ sym (take_more lines i [] l)) (run_more (learning library related) old (take i lines) (map answer_of replies) mid line (answer_of reply) new run step))
+    (subst (λ (xs : List (List ℕ)). Run (learning library related) old xs (map answer_of replies ++ answer_of reply ∷ []) new) ((λ j. take i lines ++ at j ∷ []) ∙ sym (take_more lines i [] l)) (run_more (learning library related) old (take i lines) (map answer_of replies) mid line (answer_of reply) new run step))

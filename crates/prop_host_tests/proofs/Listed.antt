@@ -72,6 +72,7 @@ host_is_sound n p at = by host_rules n p at
     of_rule : (rule : Both Kit Host) → IsSound (stored_rule rule).value (either_of Related host_points rule) (stored_rule rule).ins (stored_rule rule).out (stored_rule rule).need
     of_rule (One rule) = kit_sound rule (ins_of rule) (out_of rule) (need_of rule) (refl, refl, refl)
     of_rule (Two Maxer) = host_sound Maxer (Span ∷ Span ∷ []) Span Nothing (refl, refl, refl)
+
     by : (rules : List (Both Kit Host)) (n : ℕ) (p : Stored) → slice_get (map stored_rule rules) n ≡ Some p → IsSound p.value (λ param points point. IsSomeAnd (slice_get rules n) (λ rule. either_of Related host_points rule param points point)) p.ins p.out p.need
     by [] n p at = absurd (none-some p at)
     by (rule ∷ rest) zero p at = let same : stored_rule rule ≡ p = same_Some (stored_rule rule) p at in rw (← same) (of_rule rule)
