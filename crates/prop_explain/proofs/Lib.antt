@@ -1,4 +1,3 @@
-pub mod IrreducibleLaws
 pub mod ReducingLaws
 pub mod TryingLaws
 pub mod CountLemmas

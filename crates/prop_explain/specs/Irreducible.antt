@@ -11,14 +11,14 @@ pub record IsIrreducible (problem : Problem) (s : Members) (cell : ℕ) (v : Inf
   pub entails : Entails problem s cell v
   pub needed : (p : ℕ) → IsTrue (s p) → ¬ (Entails problem (without s p) cell v)
 
--- the value and the premises of a core, however it ended
+-- the value and the premises of a core where it is least, where it isn't, and however it ended
 abbrev pub IfLeast : Core → (Info → List ℕ → Type 0) → Type 0
 IfLeast (Least e) P = P e.value e.support
 IfLeast (NotReduced e) P = Unit {0}
 
-abbrev pub IfNotReduced : Core → Type 0 → Type 0
+abbrev pub IfNotReduced : Core → (Info → List ℕ → Type 0) → Type 0
 IfNotReduced (Least e) P = Unit {0}
-IfNotReduced (NotReduced e) P = P
+IfNotReduced (NotReduced e) P = P e.value e.support
 
 abbrev pub OfCore : Core → (Info → List ℕ → Type 0) → Type 0
 OfCore (Least e) P = P e.value e.support

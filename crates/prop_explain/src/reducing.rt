@@ -1,7 +1,8 @@
 //! The reduction of an explanation: premises are left out, one after the other, as long as what is left entails the value.
 ghost use Rattle.std.specs.Prelude.{◌≡◌, ◌≢◌, ◌<◌, ◌≤◌, ◌*◌, ℕ, List, All, Contains, length, IfOk};
 ghost use Rattle.prop_lattice.specs.Order.{Below};
-ghost use Rattle.prop_premises.specs.Sets.{set_of};
+ghost use Rattle.std.specs.List.Sorted.{IsStrictlyIncreasing};
+ghost use Rattle.prop_premises.specs.Sets.{set_of, IsPart};
 ghost use Rattle.prop_procedures.specs.Kept.{AllMean, stored_of};
 ghost use Rattle.prop_cells.specs.Problems.{Entails, IsConsistent, Premises};
 ghost use Rattle.prop_cells.specs.Reach.{Explains};
@@ -26,6 +27,15 @@ pub enum Core {
     Least(Supported<Info>),
     /// The budget was used before each premise was tried.
     NotReduced(Supported<Info>),
+}
+
+/// How a reduction ended.
+#[derive(Clone, Copy, PartialEq, Eq)]
+enum End {
+    /// Each premise was tried.
+    AllTried,
+    /// The budget was used before that.
+    Spent,
 }
 
 /// What came of a set of premises.
@@ -65,20 +75,20 @@ pub fn reduce<R: Rule + Drop, O: Order>(
     ensures room { agenda.new.room ≡ agenda.old.room }
     ensures explains { IfOk result (λ r. OfCore r.0 (λ v s. (v ≡ beliefs (set_of worldview.now) network.old.cells.contents cell) × Explains (problem_of (stored_of R.value_of network.old.library) network.old.cells) (set_of worldview.now) cell v (set_of s))) }
     ensures least { IfOk result (λ r. IfLeast r.0 (λ v s. IsIrreducible (problem_of (stored_of R.value_of network.old.library) network.old.cells) (set_of s) cell v)) }
-    ensures spent { IfOk result (λ r. IfNotReduced r.0 (r.1 ≡ budget)) }
+    ensures spent { IfOk result (λ r. IfNotReduced r.0 (λ v s. r.1 ≡ budget)) }
     ensures steps { IfOk result (λ r. r.1 ≤ budget) }
 
     // The steps are those of the tries, each of which takes at most as many as the network can.
     ensures tries { IfOk result (λ r. (line : List ℕ) × Tries O.picks (stored_of R.value_of network.old.library) network.old.cells agenda.old.line order.old r.1 network.new.cells line order.new) }
-    ensures earned { IfOk result (λ r. IfNotReduced r.0 (budget < length worldview.now * most_steps (problem_of (stored_of R.value_of network.old.library) network.old.cells))) }
+    ensures earned { IfOk result (λ r. IfNotReduced r.0 (λ v s. budget < length worldview.now * most_steps (problem_of (stored_of R.value_of network.old.library) network.old.cells))) }
 {
-    let reduced = tried_in_order(alloc, network, agenda, order, worldview, cell, budget);
+    let reduced = explained_least(alloc, network, agenda, order, worldview, cell, budget);
     wake_all(network, agenda);
     reduced
 }
 
 /// The reduction itself, after which some instances wait, in the worldview that was tried last.
-fn tried_in_order<R: Rule + Drop, O: Order>(
+fn explained_least<R: Rule + Drop, O: Order>(
     alloc: Global,
     network: &mut Network<R>,
     agenda: &mut Agenda,
@@ -100,13 +110,54 @@ fn tried_in_order<R: Rule + Drop, O: Order>(
     ensures room { agenda.new.room ≡ agenda.old.room }
     ensures explains { IfOk result (λ r. OfCore r.0 (λ v s. (v ≡ beliefs (set_of worldview.now) network.old.cells.contents cell) × Explains (problem_of (stored_of R.value_of network.old.library) network.old.cells) (set_of worldview.now) cell v (set_of s))) }
     ensures least { IfOk result (λ r. IfLeast r.0 (λ v s. IsIrreducible (problem_of (stored_of R.value_of network.old.library) network.old.cells) (set_of s) cell v)) }
-    ensures spent { IfOk result (λ r. IfNotReduced r.0 (r.1 ≡ budget)) }
+    ensures spent { IfOk result (λ r. IfNotReduced r.0 (λ v s. r.1 ≡ budget)) }
     ensures steps { IfOk result (λ r. r.1 ≤ budget) }
     ensures tries { IfOk result (λ r. Tries O.picks (stored_of R.value_of network.old.library) network.old.cells agenda.old.line order.old r.1 network.new.cells agenda.new.line order.new) }
-    ensures earned { IfOk result (λ r. IfNotReduced r.0 (budget < length worldview.now * most_steps (problem_of (stored_of R.value_of network.old.library) network.old.cells))) }
+    ensures earned { IfOk result (λ r. IfNotReduced r.0 (λ v s. budget < length worldview.now * most_steps (problem_of (stored_of R.value_of network.old.library) network.old.cells))) }
 {
     let why = network.explanation(cell, worldview)?;
-    let value = why.value;
+    let (support, end, steps) = left_of(alloc, network, agenda, order, &why, cell, budget)?;
+    let reduced = Supported {
+        value: why.value,
+        support,
+    };
+    match end {
+        End::AllTried => Ok((Core::Least(reduced), steps)),
+        End::Spent => Ok((Core::NotReduced(reduced), steps)),
+    }
+}
+
+/// What is left of the support of a value when each of its premises was tried, or the budget was used; which of them; and in how many steps.
+fn left_of<R: Rule + Drop, O: Order>(
+    alloc: Global,
+    network: &mut Network<R>,
+    agenda: &mut Agenda,
+    order: &mut O,
+    why: &Supported<Info>,
+    cell: usize,
+    budget: u64,
+) -> Result<(PremiseSet, End, u64), AllocError>
+    requires means { AllMean R.value_of network.old.library.procedures.items }
+    requires kept { IsKept (stored_of R.value_of network.old.library) network.old.cells }
+    requires line { All (λ j. j < length network.old.cells.instances) agenda.old.line }
+    requires room { length network.old.cells.instances ≤ agenda.old.room }
+    requires cell { cell < length network.old.cells.kinds }
+    requires entails { Entails (problem_of (stored_of R.value_of network.old.library) network.old.cells) (set_of why.now.support) cell why.now.value }
+    requires consistent { IsConsistent (problem_of (stored_of R.value_of network.old.library) network.old.cells) (set_of why.now.support) }
+    ensures same { network.new.library ≡ network.old.library }
+    ensures rest { network.new.cells ≡ record network.old.cells { contents = network.new.cells.contents } }
+    ensures kept { IsKept (stored_of R.value_of network.old.library) network.new.cells }
+    ensures line { All (λ j. j < length network.new.cells.instances) agenda.new.line }
+    ensures room { agenda.new.room ≡ agenda.old.room }
+    ensures part { IfOk result (λ r. IsPart (set_of r.0) (set_of why.now.support)) }
+    ensures entails { IfOk result (λ r. Entails (problem_of (stored_of R.value_of network.old.library) network.old.cells) (set_of r.0) cell why.now.value) }
+    ensures least { IfOk result (λ r. r.1 ≡ End.AllTried → IsIrreducible (problem_of (stored_of R.value_of network.old.library) network.old.cells) (set_of r.0) cell why.now.value) }
+    ensures spent { IfOk result (λ r. r.1 ≡ End.Spent → r.2 ≡ budget) }
+    ensures steps { IfOk result (λ r. r.2 ≤ budget) }
+    ensures earned { IfOk result (λ r. r.1 ≡ End.Spent → budget < length why.now.support * most_steps (problem_of (stored_of R.value_of network.old.library) network.old.cells)) }
+    ensures in_order { IfOk result (λ r. IsStrictlyIncreasing why.now.support) }
+    ensures tries { IfOk result (λ r. Tries O.picks (stored_of R.value_of network.old.library) network.old.cells agenda.old.line order.old r.2 network.new.cells agenda.new.line order.new) }
+{
     let mut support = why.support.copy()?;
     let mut steps: u64 = 0;
     for premise in why.support.iter() {
@@ -118,17 +169,17 @@ fn tried_in_order<R: Rule + Drop, O: Order>(
             order,
             &less,
             cell,
-            value,
+            why.value,
             budget - steps,
         )?;
         steps += calls;
         match tried {
             Tried::Enough => support = less,
             Tried::TooFew => {}
-            Tried::Spent => return Ok((Core::NotReduced(Supported { value, support }), steps)),
+            Tried::Spent => return Ok((support, End::Spent, steps)),
         }
     }
-    Ok((Core::Least(Supported { value, support }), steps))
+    Ok((support, End::AllTried, steps))
 }
 
 /// Runs the network in the worldview of the set alone, and tells whether the value is believed there, and how many instances were called.

@@ -28,14 +28,13 @@ use Rattle.prop_scheduler.specs.Turns.{IsSettled}
 use Rattle.prop_language.specs.Commands as commands
 use Rattle.prop_language.specs.Commands.{Command}
 use Rattle.prop_vocabulary.specs.Vocabulary.{Vocabulary}
-use Rattle.prop_engine.specs.Answers.{Answer, Says, Text, Refused}
-use Rattle.prop_lattice.specs.declared.refusal.Refusal.TheVariants.{Memory}
+use Rattle.prop_engine.specs.Answers.{Answer, Says, Text}
 use Rattle.prop_workbench.specs.Machine.{State, problem_in, text_at, worldview_at}
 use Rattle.prop_workbench.specs.Refusing.{refusal_of}
 use Rattle.prop_workbench.specs.declared.asking.Question.{Question}
 use Rattle.prop_workbench.specs.declared.asking.Question.TheVariants.{Settle, Worldview, Ask, Why}
 use Rattle.prop_workbench.specs.Questions.{command_of, IsNamed, MaySay, HasRun}
-use Rattle.prop_workbench.specs.Running.{Outcome, Settled, Unsettled, Contradiction, worldview_of, MayEnd, Replies, Explained, IsValue, IsValueReply, IsSettledValue, IsUnsettledValue, IsExplainedReply}
+use Rattle.prop_workbench.specs.Running.{Outcome, Settled, Unsettled, Contradiction, worldview_of, Replies, Explained, IsValue, IsValueReply, IsSettledValue, IsUnsettledValue, IsExplainedReply}
 use Rattle.prop_workbench.specs.Sessions.{state_from, library_of, AreKnown}
 use Rattle.prop_workbench.specs.Steps.{Carries, Runs}
 use Rattle.prop_explain.specs.Irreducible.{IsIrreducible}
@@ -66,10 +65,10 @@ carries library s t (Ask cell name) answer steps r = r
 carries library s t (Why cell name) answer steps r = r
 
 -- a contradiction may be said to each question
-pub may_contradict : (library : List Stored) (s : State) (question : Question) (support : List ℕ) (answer : Answer) (steps : ℕ) → IsStrictlyIncreasing support → Says answer (contradiction_text s.premises support) →
-    MaySay library s (command_of question) (Contradiction support) steps answer
-may_contradict library s question support answer steps in_order (inl e) = inl (contradiction_text s.premises support, (in_order, refl), e)
-may_contradict library s question support answer steps in_order (inr m) = inr m
+pub may_contradict : (library : List Stored) (s : State) (command : Command) (support : List ℕ) (answer : Answer) (steps : ℕ) → IsStrictlyIncreasing support → Says answer (contradiction_text s.premises support) →
+    MaySay library s command (Contradiction support) steps answer
+may_contradict library s command support answer steps in_order (inl e) = inl (contradiction_text s.premises support, (in_order, refl), e)
+may_contradict library s command support answer steps in_order (inr m) = inr m
 
 -- what is said of a value, and what explains one
 pub may_say_value : (library : List Stored) (s : State) (command : Command) (outcome : Outcome) (name : List ℕ) (cell : ℕ) (v : Info) (mark : List ℕ) (answer : Answer) (steps : ℕ) → cell_named s.names name ≡ Some cell → IsValue library s outcome cell v →
@@ -85,7 +84,7 @@ may_explain library s command outcome name cell v mark answer steps named value 
 may_explain library s command outcome name cell v mark answer steps named value replies (inr m) = inr m
 
 -- a settled value with premises that explain it
-settled_reply : (library : List Stored) (s : State) (list name : List ℕ) (cell : ℕ) (v : Info) (mark ps : List ℕ) → cell_named s.names name ≡ Some cell → IsSettledValue library s list cell v → IsStrictlyIncreasing ps → Explains (problem_in library s) (worldview_at s list) cell v (set_of ps) →
+abbrev settled_reply : (library : List Stored) (s : State) (list name : List ℕ) (cell : ℕ) (v : Info) (mark ps : List ℕ) → cell_named s.names name ≡ Some cell → IsSettledValue library s list cell v → IsStrictlyIncreasing ps → Explains (problem_in library s) (worldview_at s list) cell v (set_of ps) →
     IsExplainedReply library s (Settled list) name mark (equation name (text_at s cell v) (because s.premises mark ps))
 settled_reply library s list name cell v mark ps named value in_order explains = record { cell = cell; cell_is = named; v = v; value = value; premises = ps; in_order = in_order; explains = explains; text_is = refl }
 
@@ -101,6 +100,11 @@ pub may_not_be_reduced : (library : List Stored) (s : State) (list name : List �
 may_not_be_reduced library s list name cell v ps answer steps named value in_order explains all (inl e) =
     inl (equation name (text_at s cell v) (because s.premises (codes " not reduced") ps), inr (settled_reply library s list name cell v (codes " not reduced") ps named value in_order explains, all), e)
 may_not_be_reduced library s list name cell v ps answer steps named value in_order explains all (inr m) = inr m
+
+-- what isn't settled is said to a core as to why
+pub why_so_far : (library : List Stored) (s : State) (list name : List ℕ) (answer : Answer) (steps : ℕ) → MaySay library s (commands.Command.Why name) (Unsettled list) steps answer → MaySay library s (commands.Command.Core name) (Unsettled list) steps answer
+why_so_far library s list name answer steps (inl (text, replies, e)) = inl (text, replies, e)
+why_so_far library s list name answer steps (inr m) = inr m
 
 -- what is said by one text may be said
 pub may_say : (library : List Stored) (s : State) (command : Command) (outcome : Outcome) (text : List ℕ) (answer : Answer) (steps : ℕ) → Replies library s command outcome steps text → Says answer text → MaySay library s command outcome steps answer

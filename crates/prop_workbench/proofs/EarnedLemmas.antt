@@ -1,18 +1,18 @@
 -- A text is earned by the calls that it counts.
-use Rattle.std.proofs.Common.{◌≡◌, ◌⊎◌, ℕ, ◌<◌, List, length, Option, Some, None, Result, Ok, Err, inl, inr}
+use Rattle.std.proofs.Common.{◌≡◌, ◌≢◌, ◌⊎◌, ℕ, ◌+◌, ◌<◌, List, length, Option, Some, None, Result, Ok, Err, inl, inr, refl, arith}
 use Rattle.prop_lattice.specs.declared.refusal.Refusal.{Refusal}
 use Rattle.prop_lattice.specs.declared.refusal.Refusal.TheVariants.{Memory}
 use Rattle.prop_procedures.specs.Stored.{Stored}
 use Rattle.prop_amb.specs.declared.outcome.Outcome.{Outcome}
-use Rattle.prop_amb.specs.declared.outcome.Outcome.TheVariants.{Unsettled}
+use Rattle.prop_amb.specs.declared.outcome.Outcome.TheVariants.{Settled, Unsettled, Contradiction}
 use Rattle.prop_amb.specs.Refuted.{IsListRefuted}
 use Rattle.prop_language.specs.Commands as commands
 use Rattle.prop_language.specs.Commands.{Command}
-use Rattle.prop_engine.specs.Answers.{Answer, Refused}
+use Rattle.prop_engine.specs.Answers.{Answer, Text, Refused}
 use Rattle.prop_workbench.specs.declared.asking.Question.{Question}
 use Rattle.prop_workbench.specs.declared.asking.Question.TheVariants.{Settle, Worldview, Ask, Why}
 use Rattle.prop_workbench.specs.Machine.{State, problem_in, users_in, choices_in}
-use Rattle.prop_workbench.specs.Questions.{command_of, outcome_of, Picks, HasGone, MaySay, Earns}
+use Rattle.prop_workbench.specs.Questions.{command_of, outcome_of, Picks, HasGone, HasTried, MaySay, Earns}
 use Rattle.prop_workbench.specs.Sessions.{Work}
 
 -- a refusal is no text
@@ -39,3 +39,31 @@ earns picks library s old new Settle end steps answer went left (inl (text, repl
 earns picks library s old new Worldview end steps answer went left (inl (text, replies, e)) = rw e (record { end = end; gone = went; left = left; replies = replies })
 earns picks library s old new (Ask cell name) end steps answer went left (inl (text, replies, e)) = rw e (record { end = end; gone = went; left = left; replies = replies })
 earns picks library s old new (Why cell name) end steps answer went left (inl (text, replies, e)) = rw e (record { end = end; gone = went; left = left; replies = replies })
+
+-- a core is earned by the calls of its run and of the tries that were made where it settled
+pub earns_reduced : {O : Type 0} (picks : Picks O) (library : List Stored) (s : State) (old run new : Work O) (name : List ℕ) (calls steps : ℕ) (answer : Answer) → HasGone picks library s old run calls →
+    ((text : List ℕ) → answer ≡ Text text → (tries : ℕ) × (steps ≡ calls + tries) × HasTried picks library run new tries) →
+    MaySay library s (commands.Command.Core name) (outcome_of run.list Settled) steps answer → Earns picks library s old new (Ok (Some (commands.Command.Core name))) answer steps
+earns_reduced picks library s old run new name calls steps answer went tried (inr m) = earns_none picks library s old new (Ok (Some (commands.Command.Core name))) answer steps m
+earns_reduced picks library s old run new name calls steps answer went tried (inl (text, replies, e)) =
+    let t = tried text e in
+    rw e (record { end = Settled; run = run; calls = calls; tries = t.0; gone = went; left = λ u. cc; tried = λ settled. t.2; untried = λ other. absurd (other refl); sum = t.1; replies = replies })
+
+-- and by those of its run alone where it ended otherwise
+pub earns_untried : {O : Type 0} (picks : Picks O) (library : List Stored) (s : State) (old run new : Work O) (name : List ℕ) (end : Outcome) (calls steps : ℕ) (answer : Answer) → end ≢ Settled → HasGone picks library s old run calls →
+    (end ≡ Unsettled → (0 < length run.line) ⊎ IsListRefuted (problem_in library s) (users_in s) (choices_in s) run.list) → (new ≡ run) × (steps ≡ calls) →
+    MaySay library s (commands.Command.Core name) (outcome_of run.list end) steps answer → Earns picks library s old new (Ok (Some (commands.Command.Core name))) answer steps
+earns_untried picks library s old run new name end calls steps answer other went left same (inr m) = earns_none picks library s old new (Ok (Some (commands.Command.Core name))) answer steps m
+earns_untried picks library s old run new name end calls steps answer other went left same (inl (text, replies, e)) =
+    rw e (record { end = end; run = run; calls = calls; tries = 0; gone = went; left = left; tried = λ settled. absurd (other settled); untried = λ u. (same.0, refl); sum = omega (arith, same.1); replies = replies })
+
+-- whichever way the run ended
+pub earns_core : {O : Type 0} (picks : Picks O) (library : List Stored) (s : State) (old run new : Work O) (name : List ℕ) (end : Outcome) (calls steps : ℕ) (answer : Answer) → HasGone picks library s old run calls →
+    (end ≡ Unsettled → (0 < length run.line) ⊎ IsListRefuted (problem_in library s) (users_in s) (choices_in s) run.list) →
+    (end ≡ Settled → (text : List ℕ) → answer ≡ Text text → (tries : ℕ) × (steps ≡ calls + tries) × HasTried picks library run new tries) → (end ≢ Settled → (new ≡ run) × (steps ≡ calls)) →
+    MaySay library s (commands.Command.Core name) (outcome_of run.list end) steps answer → Earns picks library s old new (Ok (Some (commands.Command.Core name))) answer steps
+earns_core picks library s old run new name Settled calls steps answer went left tried untried says = earns_reduced picks library s old run new name calls steps answer went (tried refl) says
+earns_core picks library s old run new name Unsettled calls steps answer went left tried untried says =
+    let other : Unsettled ≢ Settled = λ e. cc in earns_untried picks library s old run new name Unsettled calls steps answer other went left (untried other) says
+earns_core picks library s old run new name (Contradiction ps) calls steps answer went left tried untried says =
+    let other : Contradiction ps ≢ Settled = λ e. cc in earns_untried picks library s old run new name (Contradiction ps) calls steps answer other went left (untried other) says

@@ -18,6 +18,9 @@ use Rattle.prop_amb.specs.declared.outcome.Outcome.TheVariants as ended
 use Rattle.prop_workbench.specs.Questions.{outcome_of, IfContradiction, MaySay}
 use Rattle.prop_workbench.specs.Refusing.{refusal_of}
 use Rattle.prop_workbench.specs.Running.{Outcome, Settled, Unsettled, Contradiction, named_by, MayEnd, IsRest, IsValue, IsValueReply, IsExplainedReply, Replies}
+use Rattle.prop_procedures.specs.declared.shape.Param.{Param}
+use Rattle.prop_workbench.specs.declared.session.Session.{Session}
+use Rattle.prop_workbench.specs.Sessions.{Keeps}
 use Rattle.prop_workbench.specs.Steps.{Shown, Covers, IsObeyed, Runs, Carries}
 use Rattle.prop_workbench.proofs.NamingLaws.{refusal_naming}
 use Rattle.prop_workbench.proofs.StepLemmas.{obeys, refuses}
@@ -39,7 +42,7 @@ value_named library s named (Contradiction ps) cell v r = absurd r
 value_reply_named : (library : List Stored) (s : State) (named : List (List ℕ)) (outcome : Outcome) (name mark text : List ℕ) → IsValueReply library s outcome name mark text → IsValueReply library (naming s named) outcome name mark text
 value_reply_named library s named outcome name mark text r = record { cell = r.cell; cell_is = r.cell_is; v = r.v; value = value_named library s named outcome r.cell r.v r.value; text_is = r.text_is }
 
-settled_reply_named : (library : List Stored) (s : State) (named : List (List ℕ)) (list name mark text : List ℕ) → IsExplainedReply library s (Settled list) name mark text → IsExplainedReply library (naming s named) (Settled list) name mark text
+abbrev settled_reply_named : (library : List Stored) (s : State) (named : List (List ℕ)) (list name mark text : List ℕ) → IsExplainedReply library s (Settled list) name mark text → IsExplainedReply library (naming s named) (Settled list) name mark text
 settled_reply_named library s named list name mark text r = record {
   cell = r.cell;
   cell_is = r.cell_is;
@@ -116,6 +119,16 @@ pub covered_end : (s : Shown) (list : List ℕ) (end : ends.Outcome) → IfContr
 covered_end s list (ended.Contradiction ps) covered = covered
 covered_end s list ended.Settled covered = tt
 covered_end s list ended.Unsettled covered = tt
+
+-- and it still is, where what was covered still is
+pub covered_still : (old new : Shown) (outcome : Outcome) → KeepsCover old new → IsCoveredEnd old outcome → IsCoveredEnd new outcome
+covered_still old new (Contradiction ps) keeps covered = keeps (set_of ps) covered
+covered_still old new (Settled list) keeps covered = tt
+covered_still old new (Unsettled list) keeps covered = tt
+
+-- what two changes keep, one after the other
+pub keeps_then : {R O : Type 0} {X : Type 0} {F : X → Type 0} {g : _} (value : R → Param → List Info → Info) (old middle new : Session R O X F g) → Keeps value old middle → Keeps value middle new → Keeps value old new
+keeps_then value old middle new first second = record { library = second.library ∙ first.library; sound = second.sound; steps = second.steps ∙ first.steps; covers = λ m covered. second.covers m (first.covers m covered) }
 
 -- want of memory changes nothing, whichever contradictions were named
 pub lacks_obeyed : (library : List Stored) (old new : Shown) (command : Command) (steps : ℕ) → new.state ≡ old.state → KeepsCover old new → IsObeyed library command (Refused Memory) steps old new

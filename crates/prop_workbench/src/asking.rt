@@ -28,12 +28,13 @@ pub(crate) enum Question<'a> {
 }
 
 impl<R: Rule + Drop, O: Order + Drop> Session<R, O> {
-    ghost use Rattle.std.specs.Prelude.{◌≡◌, ◌<◌, ◌≤◌, ◌+◌, ◌⊎◌, ℕ, List, All, Ok, Some, IfOk, length};
+    ghost use Rattle.std.specs.Prelude.{◌≡◌, ◌≢◌, ◌<◌, ◌≤◌, ◌+◌, ◌⊎◌, ℕ, List, [], All, Ok, Some, IfOk, codes, length};
     ghost use Rattle.std.specs.List.Sorted.{IsStrictlyIncreasing};
     ghost use Rattle.prop_premises.specs.Sets.{set_of};
     ghost use Rattle.prop_cells.specs.Data.{beliefs};
     ghost use Rattle.prop_scheduler.specs.Turns.{IsSettled};
     ghost use Rattle.prop_language.specs.Commands as commands;
+    ghost use Rattle.prop_explain.specs.Irreducible.{IfLeast, IfNotReduced, OfCore};
     ghost use Rattle.prop_engine.specs.Answers.{answer_of, Says, Text};
     ghost use Rattle.prop_amb.specs.Refuted.{IsListRefuted};
     ghost use Rattle.prop_workbench.specs.Machine.{text_at, problem_in, users_in, choices_in};
@@ -188,13 +189,31 @@ impl<R: Rule + Drop, O: Order + Drop> Session<R, O> {
         ensures rests { RestsOn O.picks (library_of R.value_of self.old) (state_of self.old) (work_of self.old) (work_of self.new) (Ok (Some (commands.Command.Core name.now))) (answer_of result.0) result.1 }
     {
         match self.run_network() {
-            Ok((Outcome::Settled, steps)) => self.reduced(cell, name, steps),
-            Ok((Outcome::Contradiction(premises), steps)) => {
-                let reply = contradiction_reply(self.alloc, self.search.premises(), &premises);
+            Ok((end, steps)) => self.core_reply(cell, name, &end, steps),
+            Err(AllocError) => (Reply::Refused(Refusal::Memory), 0),
+        }
+    }
+
+    /// The answer with a core where a run of so many steps ended so, and the steps that both take.
+    fn core_reply(&mut self, cell: usize, name: &str, end: &Outcome, steps: u64) -> (Reply, u64)
+        requires means { IsMeant R.value_of self.old }
+        requires sound { IsInOrder R.value_of self.old }
+        requires named { cell_named self.old.names name.now ≡ Some cell }
+        requires run { HasRun R.value_of self.old end.now steps }
+        ensures keeps { Keeps R.value_of self.old self.new }
+        ensures state { state_of self.new ≡ state_of self.old }
+        ensures says { MaySay (library_of R.value_of self.old) (state_of self.old) (commands.Command.Core name.now) (outcome_of self.old.search.list end.now) result.1 (answer_of result.0) }
+        ensures within { result.1 ≤ self.old.limit }
+        ensures tried { end.now ≡ Outcome.Settled → (text : List ℕ) → answer_of result.0 ≡ Text text → (tries : ℕ) × (result.1 ≡ steps + tries) × HasTried O.picks (library_of R.value_of self.old) (work_of self.old) (work_of self.new) tries }
+        ensures untried { end.now ≢ Outcome.Settled → (work_of self.new ≡ work_of self.old) × (result.1 ≡ steps) }
+    {
+        match end {
+            Outcome::Settled => self.reduced(cell, name, steps),
+            Outcome::Contradiction(premises) => {
+                let reply = contradiction_reply(self.alloc, self.search.premises(), premises);
                 (reply, steps)
             }
-            Ok((Outcome::Unsettled, steps)) => (self.unsettled(Question::Why(cell, name)), steps),
-            Err(AllocError) => (Reply::Refused(Refusal::Memory), 0),
+            Outcome::Unsettled => (self.unsettled(Question::Why(cell, name)), steps),
         }
     }
 
@@ -222,13 +241,21 @@ impl<R: Rule + Drop, O: Order + Drop> Session<R, O> {
             self.limit - steps,
         );
         match ended {
-            Ok((Core::Least(why), tries)) => {
-                (self.said_because(cell, name, "", &why), steps + tries)
-            }
-            Ok((Core::NotReduced(why), tries)) => {
-                (self.said_because(cell, name, " not reduced", &why), steps + tries)
-            }
+            Ok((core, tries)) => (self.core_text(cell, name, &core), steps + tries),
             Err(AllocError) => (Reply::Refused(Refusal::Memory), 0),
+        }
+    }
+
+    /// What a core says of a cell.
+    fn core_text(&self, cell: usize, name: &str, core: &Core) -> Reply
+        requires cell { cell < length self.now.network.cells.kinds }
+        requires known { OfCore core.now (λ v s. All (λ p. p < length self.now.search.premises) s) }
+        ensures least { IfLeast core.now (λ v s. IsStrictlyIncreasing s × Says (answer_of result) (equation name.now (text_at (state_of self.now) cell v) (because self.now.search.premises [] s))) }
+        ensures not_reduced { IfNotReduced core.now (λ v s. IsStrictlyIncreasing s × Says (answer_of result) (equation name.now (text_at (state_of self.now) cell v) (because self.now.search.premises (codes " not reduced") s))) }
+    {
+        match core {
+            Core::Least(why) => self.said_because(cell, name, "", why),
+            Core::NotReduced(why) => self.said_because(cell, name, " not reduced", why),
         }
     }
 

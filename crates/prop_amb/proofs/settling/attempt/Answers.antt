@@ -33,6 +33,10 @@ returns-in_ok-note-in-Clash-clause-search g c =
     (conflict_in _ _ _ _ _ _ same (ap set_of c.worldview.ensures) refl h)))
     c.requires.search
 
+pub returns-in-Spent-clause-falls : goal.returns-in-Spent-clause-falls
+returns-in-Spent-clause-falls g c =
+    falls_in _ _ _ _ _ _ _ (same_problem (stored_of g.R.Rule.value_of) c.args.network.now.library c.run.new.network.library c.args.network.now.cells c.run.new.network.cells c.in_ok-end.ensures.same c.in_ok-end.ensures.rest) (rw c.worldview.ensures at c.in_ok-end.ensures.falls)
+
 pub returns-in_ok-note-in-Clash-clause-falls : goal.returns-in_ok-note-in-Clash-clause-falls
 returns-in_ok-note-in-Clash-clause-falls g c =
     falls_in _ _ _ _ _ _ _ (same_problem (stored_of g.R.Rule.value_of) c.args.network.now.library c.run.new.network.library c.args.network.now.cells c.run.new.network.cells c.in_ok-end.ensures.same c.in_ok-end.ensures.rest) (rw c.worldview.ensures at c.in_ok-end.ensures.falls)

@@ -159,6 +159,15 @@ returns-in-Why-clause-step g c = rw c.in-Why.is c.why.ensures.step
 pub returns-in-Why-clause-rests : goal.returns-in-Why-clause-rests
 returns-in-Why-clause-rests g c = rw c.in-Why.is c.why.ensures.rests
 
+pub returns-in-Core-clause-keeps : goal.returns-in-Core-clause-keeps
+returns-in-Core-clause-keeps g c = c.core.ensures.keeps
+
+pub returns-in-Core-clause-step : goal.returns-in-Core-clause-step
+returns-in-Core-clause-step g c = rw c.in-Core.is c.core.ensures.step
+
+pub returns-in-Core-clause-rests : goal.returns-in-Core-clause-rests
+returns-in-Core-clause-rests g c = rw c.in-Core.is c.core.ensures.rests
+
 pub returns-in-Worldview-clause-keeps : goal.returns-in-Worldview-clause-keeps
 returns-in-Worldview-clause-keeps g c = c.answered-in-Worldview.ensures.keeps
 

@@ -1,5 +1,6 @@
 use Rattle.prop_premises.specs.Sets.{set_of}
 use Rattle.prop_procedures.specs.Kept.{stored_of}
+use Rattle.prop_workbench.specs.Questions.{command_of}
 use Rattle.prop_workbench.specs.Running.{MayEnd, Contradiction}
 use Rattle.prop_workbench.specs.Sessions.{state_of}
 use Rattle.prop_workbench.proofs.AskLemmas.{may_contradict, believed_known}
@@ -31,7 +32,7 @@ returns-in-Settled-clause-lean g c = c.settled.ensures.lean
 pub returns-in-Contradiction-clause-says : goal.returns-in-Contradiction-clause-says
 returns-in-Contradiction-clause-says g c =
     let s = c.args.self.now in
-    rw c.in-Contradiction.is (may_contradict (stored_of g.R.Rule.value_of s.network.library) (state_of s) c.args.question c.in-Contradiction.premises _ c.args.steps c.contradiction_reply.ensures.in_order (rw c.premises.ensures at c.contradiction_reply.ensures.says))
+    rw c.in-Contradiction.is (may_contradict (stored_of g.R.Rule.value_of s.network.library) (state_of s) (command_of c.args.question) c.in-Contradiction.premises _ c.args.steps c.contradiction_reply.ensures.in_order (rw c.premises.ensures at c.contradiction_reply.ensures.says))
 
 pub returns-in-Contradiction-clause-lean : goal.returns-in-Contradiction-clause-lean
 returns-in-Contradiction-clause-lean g c =

@@ -1,0 +1,137 @@
+use Rattle.std.proofs.Common.{◌≡◌, ◌∙◌, ◌<◌, ◌+◌, ap, length, refl, inr, arith, subst, codes, []}
+use Rattle.std.specs.List.Sorted.{IsStrictlyIncreasing}
+use Rattle.prop_premises.specs.Sets.{Members, set_of}
+use Rattle.prop_procedures.specs.Kept.{stored_of}
+use Rattle.prop_cells.specs.Data.{Data, problem_of}
+use Rattle.prop_scheduler.specs.Turns.{IsSettled}
+use Rattle.prop_explain.specs.Irreducible.{IfLeast, IfNotReduced}
+use Rattle.prop_texts.specs.Texts.{equation, because}
+use Rattle.prop_vocabulary.proofs.CellLookups.{of_named}
+use Rattle.prop_engine.specs.Answers.{answer_of, Says}
+use Rattle.prop_workbench.specs.Machine.{State, text_at}
+use Rattle.prop_workbench.specs.Sessions.{state_from, state_of}
+use Rattle.prop_workbench.proofs.AskLemmas.{believes_same, same_problem}
+use Rattle.prop_workbench.proofs.CoreLemmas.{core_known, may_core, settled_core, used_up}
+use Rattle.prop_workbench.proofs.session.Session.reduced.Goals as goal
+
+pub reduce-ended-requires-clause-kept : goal.reduce-ended-requires-clause-kept
+reduce-ended-requires-clause-kept g c = c.requires.sound.at_work.under_way.kept
+
+pub reduce-ended-requires-clause-line : goal.reduce-ended-requires-clause-line
+reduce-ended-requires-clause-line g c = c.requires.sound.at_work.under_way.line_below
+
+pub reduce-ended-requires-clause-room : goal.reduce-ended-requires-clause-room
+reduce-ended-requires-clause-room g c = c.requires.sound.at_work.roomy
+
+pub reduce-ended-requires-clause-cell : goal.reduce-ended-requires-clause-cell
+reduce-ended-requires-clause-cell g c =
+    let s = c.args.self.now in
+    of_named (λ k. k < length s.network.cells.kinds) s.names c.args.name.now c.args.cell c.requires.sound.named c.requires.named
+
+pub reduce-ended-requires-clause-settled : goal.reduce-ended-requires-clause-settled
+reduce-ended-requires-clause-settled g c = rw c.worldview.ensures c.requires.rest
+
+pub core_text-requires-clause-cell : goal.core_text-requires-clause-cell
+core_text-requires-clause-cell g c =
+    let s = c.args.self.now in
+    rw c.reduce-ended.ensures.rest (of_named (λ k. k < length s.network.cells.kinds) s.names c.args.name.now c.args.cell c.requires.sound.named c.requires.named)
+
+pub core_text-requires-clause-known : goal.core_text-requires-clause-known
+core_text-requires-clause-known g c =
+    let s = c.args.self.now in
+    core_known (problem_of (stored_of g.R.Rule.value_of s.network.library) s.network.cells) (length s.search.premises) _ c.args.cell _ c.in-Ok.core c.requires.sound.at_work.known c.in-Ok.ensures.explains
+
+pub returns-in-Ok-clause-keeps : goal.returns-in-Ok-clause-keeps
+returns-in-Ok-clause-keeps g c =
+    let s = c.args.self.now in
+    let e = c.reduce-ended.ensures in
+    let t = c.reduce-ended.new in
+    let library = stored_of g.R.Rule.value_of s.network.library in
+    let library' = stored_of g.R.Rule.value_of t.network.library in
+    let sound = c.requires.sound in
+    record {
+      library = e.same;
+      sound = record {
+        at_work = record {
+          under_way = e.under_way (set_of s.search.worldview);
+          well_made = sound.at_work.well_made;
+          search = rw (same_problem library library' s.network.cells t.network.cells (λ i. stored_of g.R.Rule.value_of (e.same i)) e.rest) sound.at_work.search;
+          known = rw e.rest sound.at_work.known;
+          roomy = rw (e.room, e.rest) sound.at_work.roomy;
+        };
+        sized = rw e.rest sound.sized;
+        locals = sound.locals;
+        named = rw e.rest sound.named;
+        defined = rw e.same sound.defined;
+      };
+      steps = refl;
+      covers = λ m covered. covered;
+    }
+
+pub returns-in-Ok-clause-state : goal.returns-in-Ok-clause-state
+returns-in-Ok-clause-state g c =
+    let s = c.args.self.now in
+    ap (λ (d : Data). state_from s.names s.words s.definitions s.search.premises d s.limit) c.reduce-ended.ensures.rest
+
+pub returns-in-Ok-clause-says : goal.returns-in-Ok-clause-says
+returns-in-Ok-clause-says g c =
+    let s = c.args.self.now in
+    let library = stored_of g.R.Rule.value_of s.network.library in
+    let core = c.in-Ok.core in
+    let name = c.args.name.now in
+    let answer = answer_of c.core_text.result in
+    let same = c.worldview.ensures ∙ refl in
+    let believed = believes_same s.search c.requires.sound.at_work.well_made in
+    let rest = subst (λ (b : Members). IsSettled library b s.network.cells) believed c.requires.rest in
+    let state : state_of (record s { network = c.reduce-ended.new.network }) ≡ state_of s = ap (λ (d : Data). state_from s.names s.words s.definitions s.search.premises d s.limit) c.reduce-ended.ensures.rest in
+    may_core library (state_of s) s.search.list name c.args.cell core answer (c.args.steps + c.in-Ok.tries) c.requires.named
+    (settled_core library s.names s.words s.definitions s.search.premises s.network.cells s.limit s.search.list (set_of s.search.worldview) c.args.cell core believed rest (rw c.worldview.ensures at c.in-Ok.ensures.explains))
+    c.in-Ok.ensures.least (used_up core c.args.steps c.in-Ok.tries s.limit c.requires.within c.in-Ok.ensures.spent)
+    (subst (λ (t : State). IfLeast core (λ v ps. IsStrictlyIncreasing ps × Says answer (equation name (text_at t c.args.cell v) (because t.premises [] ps)))) state c.core_text.ensures.least)
+    (subst (λ (t : State). IfNotReduced core (λ v ps. IsStrictlyIncreasing ps × Says answer (equation name (text_at t c.args.cell v) (because t.premises (codes " not reduced") ps)))) state c.core_text.ensures.not_reduced)
+
+pub returns-in-Ok-clause-within : goal.returns-in-Ok-clause-within
+returns-in-Ok-clause-within g c = omega (arith, c.in-Ok.ensures.steps, c.requires.within)
+
+pub returns-in-Ok-clause-tried : goal.returns-in-Ok-clause-tried
+returns-in-Ok-clause-tried g c =
+    let e = c.in-Ok.ensures in
+    λ text is. (c.in-Ok.tries, refl, record { list = refl; line = e.tries.0; tries = e.tries.1; all_wait = c.reduce-ended.ensures.all })
+
+pub returns-in-Err-clause-keeps : goal.returns-in-Err-clause-keeps
+returns-in-Err-clause-keeps g c =
+    let s = c.args.self.now in
+    let e = c.reduce-ended.ensures in
+    let t = c.reduce-ended.new in
+    let library = stored_of g.R.Rule.value_of s.network.library in
+    let library' = stored_of g.R.Rule.value_of t.network.library in
+    let sound = c.requires.sound in
+    record {
+      library = e.same;
+      sound = record {
+        at_work = record {
+          under_way = e.under_way (set_of s.search.worldview);
+          well_made = sound.at_work.well_made;
+          search = rw (same_problem library library' s.network.cells t.network.cells (λ i. stored_of g.R.Rule.value_of (e.same i)) e.rest) sound.at_work.search;
+          known = rw e.rest sound.at_work.known;
+          roomy = rw (e.room, e.rest) sound.at_work.roomy;
+        };
+        sized = rw e.rest sound.sized;
+        locals = sound.locals;
+        named = rw e.rest sound.named;
+        defined = rw e.same sound.defined;
+      };
+      steps = refl;
+      covers = λ m covered. covered;
+    }
+
+pub returns-in-Err-clause-state : goal.returns-in-Err-clause-state
+returns-in-Err-clause-state g c =
+    let s = c.args.self.now in
+    ap (λ (d : Data). state_from s.names s.words s.definitions s.search.premises d s.limit) c.reduce-ended.ensures.rest
+
+pub returns-in-Err-clause-says : goal.returns-in-Err-clause-says
+returns-in-Err-clause-says g c = inr refl
+
+pub returns-in-Err-clause-tried : goal.returns-in-Err-clause-tried
+returns-in-Err-clause-tried g c = λ text is. cc is
