@@ -4,7 +4,7 @@ use Rattle.std.proofs.lemmas.List.{length-map, get_or-map}
 use Rattle.prop_procedures.specs.Kept.{stored_of, related_of}
 use Rattle.prop_language.specs.Said.{words}
 use Rattle.prop_engine.specs.Answers.{answer_of}
-use Rattle.prop_workbench.specs.Engine.{machine_of, learning, Shows}
+use Rattle.prop_workbench.specs.Engine.{machine_of, learning}
 use Rattle.prop_workbench.specs.Sessions.{shown_of, steps_of, library_of, related_in}
 use Rattle.prop_host_tests.proofs.Lines.{run_next}
 use Rattle.prop_host_tests.proofs.session.carry_out.Goals as goal
