@@ -1,2 +1,3 @@
 pub mod Host
 pub mod HostLaws
+pub mod Answered

@@ -1,11 +1,13 @@
-//! A host's own rule beside the kit's, made into procedures and called.
+//! A host's own rule beside the kit's, made into procedures, called, and used in a session.
 #![tactic(auto)]
 
 pub mod calling;
 pub mod host;
+pub mod session;
 
 pub use calling::{call_on_spans, larger};
 pub use host::Host;
+pub use session::{answers_hold_points, replies};
 
 #[cfg(test)]
 mod tests;

@@ -5,10 +5,12 @@ ghost use Rattle.prop_host_tests.specs.Host.{value_of as host_value};
 
 use crate::calling::{call_on_spans, larger};
 use crate::host::Host;
+use crate::session::replies;
 use prop_arith::{KITS, Kit};
 use prop_lattice::{Info, Kind, Span};
 use prop_procedures::fitting::{are_right, span_kinded};
 use prop_procedures::{Both, Kinded, Library, Need, Param, Procedure, Rule, Shape};
+use prop_workbench::Reply;
 use smallvec::SmallVec;
 use std::alloc::AllocError;
 
@@ -143,4 +145,36 @@ fn kinds_fit_shapes(rt: HostRuntime) {
     );
     assert!(rt; !are_right(Need::Nothing, None, &[(any, span), (any, truth)]));
     assert!(rt; !are_right(Need::Nothing, None, &[(Shape::Span, truth)]));
+}
+
+/// The lines of a session with the kit's procedures and the host's, and what each is answered.
+const SESSION: [(&str, &str); 11] = [
+    ("cell x span", "ok"),
+    ("cell y span", "ok"),
+    ("cell z span", "ok"),
+    ("attach maxer x y z", "ok"),
+    ("fix x 3..5", "ok"),
+    ("tell p y 4..9", "ok"),
+    ("ask z", "z = 4..9"),
+    ("why z", "z = 4..9 because p"),
+    ("cell s span", "ok"),
+    ("attach adder x z s", "ok"),
+    ("ask s", "s = 7..14"),
+];
+
+#[test]
+fn a_session_has_the_rules_of_both(rt: HostRuntime) -> Result<(), AllocError> {
+    let lines = SESSION.map(|(line, _)| line);
+    let replies = replies(rt.alloc(), &lines)?;
+    assert_eq!(rt; replies.len(), SESSION.len());
+    for (reply, (line, answer)) in replies.iter().zip(SESSION) {
+        let text = match reply {
+            Reply::Silent => "",
+            Reply::Done => "ok",
+            Reply::Text(text) => text.as_str(),
+            Reply::Refused(refusal) => refusal.reply(),
+        };
+        assert_eq!(rt; text, answer, "to {line}");
+    }
+    Ok(())
 }
