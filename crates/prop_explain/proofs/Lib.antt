@@ -1,3 +1,2 @@
 pub mod ReducingLaws
 pub mod TryingLaws
-pub mod CountLemmas

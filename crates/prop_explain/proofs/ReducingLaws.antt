@@ -10,7 +10,7 @@ use Rattle.prop_cells.specs.Reach.{IsConflict}
 use Rattle.prop_cells.specs.Data.{Data, problem_of, beliefs, IsKept}
 use Rattle.prop_scheduler.specs.Turns.{IsSettled, Turns}
 use Rattle.prop_explain.specs.Trying.{Tries}
-use Rattle.prop_explain.specs.Trying.Tries.{tried}
+use Rattle.prop_explain.specs.Trying.Tries.{none, tried}
 
 -- at rest, what is entailed is below what is believed
 pub settled_below : (library : List Stored) (s : Members) (d : Data) (cell : ℕ) (v : Info) → IsSettled library s d → Entails (problem_of library d) s cell v → Below v (beliefs s d.contents cell)
@@ -56,7 +56,14 @@ module _ {O L : Type 0} (picks : O → ℕ → ℕ → O → Type 0) (stored : L
   pub kept_there : (new : Data) → IsKept (stored b) new → IsKept (stored a) new
   kept_there new kept = subst (λ l. IsKept (stored l) new) same kept
 
-  pub one_more : (line before after : List ℕ) (order first next : O) (s : Members) (steps calls : ℕ) (new : Data) → Tries picks (stored a) start line order steps d before first →
-      ((all : List ℕ) × ((j : ℕ) → j < length d.instances → Contains all j) × Turns picks (stored b) s d all first calls new after next) → Tries picks (stored a) start line order (steps + calls) new after next
-  one_more line before after order first next s steps calls new before_it (all, waits, turns) =
-      tried steps calls s d new before all after first next before_it waits (subst (λ l. Turns picks (stored l) s d all first calls new after next) same turns)
+  pub one_more : (believed : Members) (line before after : List ℕ) (order first next : O) (s : Members) (steps calls : ℕ) (new : Data) → IsPart s believed → Tries picks (stored a) believed start line order steps d before first →
+      ((all : List ℕ) × ((j : ℕ) → j < length d.instances → Contains all j) × Turns picks (stored b) s d all first calls new after next) → Tries picks (stored a) believed start line order (steps + calls) new after next
+  one_more believed line before after order first next s steps calls new part before_it (all, waits, turns) =
+      tried steps calls s d new before all after first next part before_it waits (subst (λ l. Turns picks (stored l) s d all first calls new after next) same turns)
+
+-- what was tried of some premises was tried of more
+pub tries_of_more : {O : Type 0} (picks : O → ℕ → ℕ → O → Type 0) (library : List Stored) (s t : Members) (start : Data) (line : List ℕ) (order : O) (n : ℕ) (new : Data) (after : List ℕ) (next : O) → IsPart s t →
+    Tries picks library s start line order n new after next → Tries picks library t start line order n new after next
+tries_of_more picks library s t start line order n new after next part none = none
+tries_of_more picks library s t start line order n new after next part (tried k m set d last before all behind first following within earlier waits turns) =
+    tried k m set d new before all after first next (λ p h. part p (within p h)) (tries_of_more picks library s t start line order k d before first part earlier) waits turns

@@ -1,7 +1,9 @@
 -- Premises that are tried one after the other, and left out where the others are enough.
-use Rattle.std.proofs.Common.{◌≡◌, ◌⊎◌, ◌∙◌, ℕ, Bool, true, false, ◌==◌, ◌||◌, ◌&&◌, not, IsTrue, List, [], ◌∷◌, ◌++◌, inl, inr, refl, sym}
+use Rattle.std.proofs.Common.{◌≡◌, ◌⊎◌, ◌∙◌, ℕ, ◌≤◌, ◌+◌, ◌*◌, Bool, true, false, ◌==◌, ◌||◌, ◌&&◌, not, IsTrue, List, [], ◌∷◌, ◌++◌, length, inl, inr, refl, sym, arith}
 use Rattle.std.proofs.lemmas.Bool.Decides.{eqb_tells}
+use Rattle.std.proofs.lemmas.List.{length-append}
 use Rattle.std.proofs.lemmas.List.Folds.{list_any-append}
+use Rattle.std.proofs.Math.Nat.{add-mul}
 use Rattle.prop_lattice.specs.declared.info.Info.{Info}
 use Rattle.prop_premises.specs.Sets.{Members, set_of, IsPart, without}
 use Rattle.prop_cells.specs.Problems.{Problem, Entails}
@@ -81,3 +83,7 @@ module _ (problem : Problem) (cell : ℕ) (v : Info) (tried : List ℕ) (s : Mem
 -- each premise that is left was tried, so none can be left out
 pub all_tried : (problem : Problem) (cell : ℕ) (v : Info) (tried : List ℕ) (s : Members) → AreTried problem cell v tried s → IsPart s (set_of tried) → IsIrreducible problem s cell v
 all_tried problem cell v tried s known part = record { entails = known.entails; needed = λ p there. known.needed p (part p there) there }
+
+-- one try more, which takes at most so many steps
+pub few_more : (ps : List ℕ) (p most steps calls : ℕ) → steps ≤ length ps * most → calls ≤ most → steps + calls ≤ length (ps ++ p ∷ []) * most
+few_more ps p most steps calls few more = rw (length-append ps (p ∷ []), add-mul (length ps) 1 most) (omega (arith, few, more))

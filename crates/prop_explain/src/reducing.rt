@@ -78,9 +78,9 @@ pub fn reduce<R: Rule + Drop, O: Order>(
     ensures spent { IfOk result (λ r. IfNotReduced r.0 (λ v s. r.1 ≡ budget)) }
     ensures steps { IfOk result (λ r. r.1 ≤ budget) }
 
-    // The steps are those of the tries, each of which takes at most as many as the network can.
-    ensures tries { IfOk result (λ r. (line : List ℕ) × Tries O.picks (stored_of R.value_of network.old.library) network.old.cells agenda.old.line order.old r.1 network.new.cells line order.new) }
-    ensures earned { IfOk result (λ r. IfNotReduced r.0 (λ v s. budget < length worldview.now * most_steps (problem_of (stored_of R.value_of network.old.library) network.old.cells))) }
+    // The steps are those of the tries. The budget was used only where it is less than a try of each premise of some explanation may take.
+    ensures tries { IfOk result (λ r. (line : List ℕ) × Tries O.picks (stored_of R.value_of network.old.library) (set_of worldview.now) network.old.cells agenda.old.line order.old r.1 network.new.cells line order.new) }
+    ensures earned { IfOk result (λ r. IfNotReduced r.0 (λ v s. (ps : List ℕ) × IsStrictlyIncreasing ps × Explains (problem_of (stored_of R.value_of network.old.library) network.old.cells) (set_of worldview.now) cell v (set_of ps) × (budget < length ps * most_steps (problem_of (stored_of R.value_of network.old.library) network.old.cells)))) }
 {
     let reduced = explained_least(alloc, network, agenda, order, worldview, cell, budget);
     wake_all(network, agenda);
@@ -112,8 +112,8 @@ fn explained_least<R: Rule + Drop, O: Order>(
     ensures least { IfOk result (λ r. IfLeast r.0 (λ v s. IsIrreducible (problem_of (stored_of R.value_of network.old.library) network.old.cells) (set_of s) cell v)) }
     ensures spent { IfOk result (λ r. IfNotReduced r.0 (λ v s. r.1 ≡ budget)) }
     ensures steps { IfOk result (λ r. r.1 ≤ budget) }
-    ensures tries { IfOk result (λ r. Tries O.picks (stored_of R.value_of network.old.library) network.old.cells agenda.old.line order.old r.1 network.new.cells agenda.new.line order.new) }
-    ensures earned { IfOk result (λ r. IfNotReduced r.0 (λ v s. budget < length worldview.now * most_steps (problem_of (stored_of R.value_of network.old.library) network.old.cells))) }
+    ensures tries { IfOk result (λ r. Tries O.picks (stored_of R.value_of network.old.library) (set_of worldview.now) network.old.cells agenda.old.line order.old r.1 network.new.cells agenda.new.line order.new) }
+    ensures earned { IfOk result (λ r. IfNotReduced r.0 (λ v s. (ps : List ℕ) × IsStrictlyIncreasing ps × Explains (problem_of (stored_of R.value_of network.old.library) network.old.cells) (set_of worldview.now) cell v (set_of ps) × (budget < length ps * most_steps (problem_of (stored_of R.value_of network.old.library) network.old.cells)))) }
 {
     let why = network.explanation(cell, worldview)?;
     let (support, end, steps) = left_of(alloc, network, agenda, order, &why, cell, budget)?;
@@ -156,7 +156,7 @@ fn left_of<R: Rule + Drop, O: Order>(
     ensures steps { IfOk result (λ r. r.2 ≤ budget) }
     ensures earned { IfOk result (λ r. r.1 ≡ End.Spent → budget < length why.now.support * most_steps (problem_of (stored_of R.value_of network.old.library) network.old.cells)) }
     ensures in_order { IfOk result (λ r. IsStrictlyIncreasing why.now.support) }
-    ensures tries { IfOk result (λ r. Tries O.picks (stored_of R.value_of network.old.library) network.old.cells agenda.old.line order.old r.2 network.new.cells agenda.new.line order.new) }
+    ensures tries { IfOk result (λ r. Tries O.picks (stored_of R.value_of network.old.library) (set_of why.now.support) network.old.cells agenda.old.line order.old r.2 network.new.cells agenda.new.line order.new) }
 {
     let mut support = why.support.copy()?;
     let mut steps: u64 = 0;

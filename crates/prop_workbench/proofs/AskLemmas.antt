@@ -14,6 +14,7 @@ use Rattle.prop_amb.specs.Refuted.{IsNogood, IsCovered, IsRuledOut, IsFirstConsi
 use Rattle.prop_amb.specs.Search as search
 use Rattle.prop_amb.specs.Search.{Stand, IsStand}
 use Rattle.prop_amb.specs.Settling as settling
+use Rattle.prop_amb.proofs.CountLaws.{place_below, few_in_all}
 use Rattle.prop_amb.specs.declared.outcome.Outcome as ends
 use Rattle.prop_amb.specs.declared.outcome.Outcome.TheVariants as ended
 use Rattle.prop_workbench.specs.declared.session.Session.{Session}
@@ -34,7 +35,7 @@ use Rattle.prop_workbench.specs.Refusing.{refusal_of}
 use Rattle.prop_workbench.specs.declared.asking.Question.{Question}
 use Rattle.prop_workbench.specs.declared.asking.Question.TheVariants.{Settle, Worldview, Ask, Why}
 use Rattle.prop_workbench.specs.Questions.{command_of, IsNamed, MaySay, HasRun}
-use Rattle.prop_workbench.specs.Running.{Outcome, Settled, Unsettled, Contradiction, worldview_of, Replies, Explained, IsValue, IsValueReply, IsSettledValue, IsUnsettledValue, IsExplainedReply}
+use Rattle.prop_workbench.specs.Running.{Outcome, Settled, Unsettled, Contradiction, worldview_of, Replies, Explained, IsValue, IsValueReply, IsSettledValue, IsUnsettledValue, IsExplainedReply, IsTooFewToReduce}
 use Rattle.prop_workbench.specs.Sessions.{state_from, library_of, AreKnown}
 use Rattle.prop_workbench.specs.Steps.{Carries, Runs}
 use Rattle.prop_explain.specs.Irreducible.{IsIrreducible}
@@ -96,10 +97,10 @@ may_be_least library s list name cell v ps answer steps named value in_order exp
 may_be_least library s list name cell v ps answer steps named value in_order explains least (inr m) = inr m
 
 pub may_not_be_reduced : (library : List Stored) (s : State) (list name : List ℕ) (cell : ℕ) (v : Info) (ps : List ℕ) (answer : Answer) (steps : ℕ) → cell_named s.names name ≡ Some cell → IsSettledValue library s list cell v → IsStrictlyIncreasing ps → Explains (problem_in library s) (worldview_at s list) cell v (set_of ps) →
-    steps ≡ s.limit → Says answer (equation name (text_at s cell v) (because s.premises (codes " not reduced") ps)) → MaySay library s (commands.Command.Core name) (Settled list) steps answer
-may_not_be_reduced library s list name cell v ps answer steps named value in_order explains all (inl e) =
-    inl (equation name (text_at s cell v) (because s.premises (codes " not reduced") ps), inr (settled_reply library s list name cell v (codes " not reduced") ps named value in_order explains, all), e)
-may_not_be_reduced library s list name cell v ps answer steps named value in_order explains all (inr m) = inr m
+    steps ≡ s.limit → IsTooFewToReduce library s → Says answer (equation name (text_at s cell v) (because s.premises (codes " not reduced") ps)) → MaySay library s (commands.Command.Core name) (Settled list) steps answer
+may_not_be_reduced library s list name cell v ps answer steps named value in_order explains all few (inl e) =
+    inl (equation name (text_at s cell v) (because s.premises (codes " not reduced") ps), inr (settled_reply library s list name cell v (codes " not reduced") ps named value in_order explains, all, few), e)
+may_not_be_reduced library s list name cell v ps answer steps named value in_order explains all few (inr m) = inr m
 
 -- what isn't settled is said to a core as to why
 pub why_so_far : (library : List Stored) (s : State) (list name : List ℕ) (answer : Answer) (steps : ℕ) → MaySay library s (commands.Command.Why name) (Unsettled list) steps answer → MaySay library s (commands.Command.Core name) (Unsettled list) steps answer
@@ -164,15 +165,22 @@ same_problem library library' d new same rest = rw same (ap (λ (x : Data). prob
 pub cover_kept : (old new : Stand) (m : Members) → new.premises ≡ old.premises → ((n : Members) → IsTrue (has_part old.listed n) → IsTrue (has_part new.listed n)) → IsCovered (search.choices_in old) old.listed m → IsCovered (search.choices_in new) new.listed m
 cover_kept old new m same kept covered = rw same (λ list is_list. kept _ (covered list is_list))
 
-pub has_run : {R O : Type 0} {X : Type 0} {F : X → Type 0} {g : _} {E : Type 0} (value : R → Param → List Info → Info) (s : Session R O X F g) (problem : Problem) (r : Result (ends.Outcome × ℕ) E) → problem ≡ problem_of (library_of value s) s.network.cells → IsStand s.search →
+-- the steps of a run are fewer than all lists allow together
+few_steps : (library : List Stored) (s : Stand) (before : List ℕ) (d : Data) (problem : Problem) (n : ℕ) → problem ≡ problem_of library d → IsStand s → search.Moves problem (search.choices_in s) before s.list n → n < lists.lists_count (search.choices_in s) * (most_steps (problem_of library d) + 1)
+few_steps library s before d problem n same stand moves =
+    let below = place_below (search.choices_in s) s.list stand.is_list in
+    let few = few_in_all moves.further (lists.place_of (search.choices_in s) before) (lists.lists_count (search.choices_in s)) (most_steps problem) n moves.few (omega (arith, moves.place, below)) in
+    subst (λ (q : Problem). n < lists.lists_count (search.choices_in s) * (most_steps q + 1)) same few
+
+pub has_run : {R O : Type 0} {X : Type 0} {F : X → Type 0} {g : _} {E : Type 0} (value : R → Param → List Info → Info) (s : Session R O X F g) (before : List ℕ) (problem : Problem) (r : Result (ends.Outcome × ℕ) E) → problem ≡ problem_of (library_of value s) s.network.cells → IsStand s.search →
     AllBeforeRefuted problem (search.users_of s.search) (search.choices_in s.search) s.search.list →
     IfOk r (λ x. x.0 ≡ ended.Settled → IsSettled (library_of value s) (set_of s.search.worldview) s.network.cells) →
     IfOk r (λ x. x.0 ≡ ended.Settled → IsFirstConsistent problem (search.users_of s.search) (search.choices_in s.search) s.search.list) →
     IfOk r (λ x. settling.IfContradiction x.0 (λ n. IsRuledOut problem (search.users_of s.search) (search.choices_in s.search) s.search.listed (set_of n))) →
-    IfOk r (λ x. x.1 ≤ s.limit) → IfOk r (λ x. x.0 ≡ ended.Unsettled → x.1 ≡ s.limit) →
+    IfOk r (λ x. x.1 ≤ s.limit) → IfOk r (λ x. search.Moves problem (search.choices_in s.search) before s.search.list x.1) → IfOk r (λ x. x.0 ≡ ended.Unsettled → x.1 ≡ s.limit) →
     IfOk r (λ x. x.0 ≡ ended.Unsettled → s.limit + 1 < lists.lists_count (search.choices_in s.search) * (most_steps problem + 1)) → IfOk r (λ x. HasRun value s x.0 x.1)
-has_run value s problem (Err e) same stand earlier settled first contradiction within spent earned = tt
-has_run value s problem (Ok (ended.Settled, n)) same stand earlier settled first contradiction within spent earned =
+has_run value s before problem (Err e) same stand earlier settled first contradiction within moves spent earned = tt
+has_run value s before problem (Ok (ended.Settled, n)) same stand earlier settled first contradiction within moves spent earned =
     let rest = subst (λ (b : Members). IsSettled (library_of value s) b s.network.cells) (believes_same s.search stand) (settled refl) in
     record {
       ends = record {
@@ -183,9 +191,10 @@ has_run value s problem (Ok (ended.Settled, n)) same stand earlier settled first
       covered = tt;
       settled = settled;
       within = within;
+      few = few_steps (library_of value s) s.search before s.network.cells problem n same stand moves;
       spent = spent;
     }
-has_run value s problem (Ok (ended.Unsettled, n)) same stand earlier settled first contradiction within spent earned = record {
+has_run value s before problem (Ok (ended.Unsettled, n)) same stand earlier settled first contradiction within moves spent earned = record {
   ends = record {
     is_list = stand.is_list;
     earlier = subst (λ (q : Problem). AllBeforeRefuted q (search.users_of s.search) (search.choices_in s.search) s.search.list) same earlier;
@@ -194,15 +203,17 @@ has_run value s problem (Ok (ended.Unsettled, n)) same stand earlier settled fir
   covered = tt;
   settled = settled;
   within = within;
+  few = few_steps (library_of value s) s.search before s.network.cells problem n same stand moves;
   spent = spent;
 }
-has_run value s problem (Ok (ended.Contradiction ps, n)) same stand earlier settled first contradiction within spent earned =
+has_run value s before problem (Ok (ended.Contradiction ps, n)) same stand earlier settled first contradiction within moves spent earned =
     let out = subst (λ (q : Problem). IsRuledOut q (search.users_of s.search) (search.choices_in s.search) s.search.listed (set_of ps)) same contradiction in
     record {
       ends = record { believes = out.believes; refuted = out.refuted; grounded = out.grounded };
       covered = out.covered;
       settled = settled;
       within = within;
+      few = few_steps (library_of value s) s.search before s.network.cells problem n same stand moves;
       spent = spent;
     }
 

@@ -1,14 +1,20 @@
 -- What is said of a core.
-use Rattle.std.proofs.Common.{◌≡◌, ◌∙◌, ◌<◌, ◌≤◌, ◌+◌, ◌-◌, ℕ, List, [], All, Some, codes, ap, arith, subst}
+use Rattle.std.proofs.Common.{◌≡◌, ◌∙◌, ◌<◌, ◌≤◌, ◌+◌, ◌-◌, ◌*◌, ℕ, List, [], ◌∷◌, All, Some, codes, length, ap, arith, subst}
+use Rattle.std.specs.List.{AllByRecursion}
+use Rattle.std.proofs.Math.Nat.{mul-le-mul_right}
+use Rattle.std.proofs.lemmas.List.Elements.{recursion_from_All}
 use Rattle.std.specs.List.Sorted.{IsStrictlyIncreasing}
 use Rattle.prop_premises.specs.Sets.{Members, set_of}
 use Rattle.prop_premises.specs.Origins.{Origin}
+use Rattle.prop_premises.specs.ChoiceLists.{lists_count}
+use Rattle.prop_premises.proofs.MergeLemmas.{Rising, rising_from_increasing}
 use Rattle.prop_procedures.specs.Stored.{Stored}
 use Rattle.prop_lattice.specs.declared.info.Info.{Info}
 use Rattle.prop_cells.specs.Problems.{Problem}
 use Rattle.prop_cells.specs.Reach.{Explains}
 use Rattle.prop_cells.specs.Data.{Data, beliefs, problem_of}
 use Rattle.prop_scheduler.specs.Turns.{IsSettled}
+use Rattle.prop_scheduler.specs.Potential.{most_steps}
 use Rattle.prop_explain.specs.declared.reducing.Core.{Core}
 use Rattle.prop_explain.specs.declared.reducing.Core.TheVariants.{Least, NotReduced}
 use Rattle.prop_explain.specs.Irreducible.{IsIrreducible, IfLeast, IfNotReduced, OfCore}
@@ -18,9 +24,9 @@ use Rattle.prop_vocabulary.specs.Vocabulary.{Vocabulary}
 use Rattle.prop_vocabulary.specs.Cells.{CellNames, cell_named}
 use Rattle.prop_compound.specs.Definitions.{Definitions}
 use Rattle.prop_engine.specs.Answers.{Answer, Says}
-use Rattle.prop_workbench.specs.Machine.{State, problem_in, text_at, worldview_at}
+use Rattle.prop_workbench.specs.Machine.{State, problem_in, choices_in, text_at, worldview_at}
 use Rattle.prop_workbench.specs.Questions.{MaySay}
-use Rattle.prop_workbench.specs.Running.{Settled, IsSettledValue}
+use Rattle.prop_workbench.specs.Running.{Settled, IsSettledValue, IsTooFewToReduce}
 use Rattle.prop_workbench.specs.Sessions.{state_from, AreKnown}
 use Rattle.prop_workbench.proofs.AskLemmas.{may_be_least, may_not_be_reduced, settled_value, worldview_in}
 use Rattle.prop_workbench.proofs.PremiseLemmas.{support_known}
@@ -44,10 +50,29 @@ pub used_up : (core : Core) (steps tries limit : ℕ) → steps ≤ limit → If
 used_up (Least e) steps tries limit within spent = tt
 used_up (NotReduced e) steps tries limit within spent = omega (arith, within, spent)
 
+-- numbers in order above one number and below another are no more than lie between them
+between_few : (x : ℕ) (ps : List ℕ) (n : ℕ) → AllByRecursion (λ p. x < p) ps → Rising ps → AllByRecursion (λ p. p < n) ps → x < n → length ps + x < n
+between_few x [] n above up below lt = lt
+between_few x (p ∷ ps) n above up below lt = let rest = between_few p ps n up.0 up.1 below.1 below.0 in omega (arith, rest, above.0)
+
+rising_few : (ps : List ℕ) (n : ℕ) → Rising ps → AllByRecursion (λ p. p < n) ps → length ps ≤ n
+rising_few [] n up below = omega arith
+rising_few (p ∷ ps) n up below = let rest = between_few p ps n up.0 up.1 below.1 below.0 in omega (arith, rest)
+
+-- where it isn't reduced, the limit is too small
+pub too_few : (library : List Stored) (s : State) (believed : Members) (cell : ℕ) (core : Core) (steps : ℕ) → AreKnown (length s.premises) s.statements → steps ≤ s.limit → steps < lists_count (choices_in s) * (most_steps (problem_in library s) + 1) →
+    IfNotReduced core (λ v kept. (ps : List ℕ) × IsStrictlyIncreasing ps × Explains (problem_in library s) believed cell v (set_of ps) × (s.limit - steps < length ps * most_steps (problem_in library s))) → IfNotReduced core (λ v kept. IsTooFewToReduce library s)
+too_few library s believed cell (Least e) steps known within few earned = tt
+too_few library s believed cell (NotReduced e) steps known within few (ps, up, explains, short) =
+    let most = most_steps (problem_in library s) in
+    let below = support_known (problem_in library s) (length s.premises) cell ps known explains.related in
+    let count = rising_few ps (length s.premises) (rising_from_increasing ps up) (recursion_from_All (λ p. p < length s.premises) ps below) in
+    omega (arith, short, few, within, mul-le-mul_right {m = length ps} {n = length s.premises} most count)
+
 -- it may be said as it ended
 pub may_core : (library : List Stored) (s : State) (list name : List ℕ) (cell : ℕ) (core : Core) (answer : Answer) (steps : ℕ) → cell_named s.names name ≡ Some cell →
-    OfCore core (λ v ps. IsSettledValue library s list cell v × Explains (problem_in library s) (worldview_at s list) cell v (set_of ps)) → IfLeast core (λ v ps. IsIrreducible (problem_in library s) (set_of ps) cell v) → IfNotReduced core (λ v ps. steps ≡ s.limit) →
+    OfCore core (λ v ps. IsSettledValue library s list cell v × Explains (problem_in library s) (worldview_at s list) cell v (set_of ps)) → IfLeast core (λ v ps. IsIrreducible (problem_in library s) (set_of ps) cell v) → IfNotReduced core (λ v ps. steps ≡ s.limit) → IfNotReduced core (λ v ps. IsTooFewToReduce library s) →
     IfLeast core (λ v ps. IsStrictlyIncreasing ps × Says answer (equation name (text_at s cell v) (because s.premises [] ps))) → IfNotReduced core (λ v ps. IsStrictlyIncreasing ps × Says answer (equation name (text_at s cell v) (because s.premises (codes " not reduced") ps))) →
     MaySay library s (commands.Command.Core name) (Settled list) steps answer
-may_core library s list name cell (Least e) answer steps named settled least spent says other = may_be_least library s list name cell e.value e.support answer steps named settled.0 says.0 settled.1 least says.1
-may_core library s list name cell (NotReduced e) answer steps named settled least spent other says = may_not_be_reduced library s list name cell e.value e.support answer steps named settled.0 says.0 settled.1 spent says.1
+may_core library s list name cell (Least e) answer steps named settled least spent few says other = may_be_least library s list name cell e.value e.support answer steps named settled.0 says.0 settled.1 least says.1
+may_core library s list name cell (NotReduced e) answer steps named settled least spent few other says = may_not_be_reduced library s list name cell e.value e.support answer steps named settled.0 says.0 settled.1 spent few says.1

@@ -42,7 +42,7 @@ earns picks library s old new (Why cell name) end steps answer went left (inl (t
 
 -- a core is earned by the calls of its run and of the tries that were made where it settled
 pub earns_reduced : {O : Type 0} (picks : Picks O) (library : List Stored) (s : State) (old run new : Work O) (name : List ℕ) (calls steps : ℕ) (answer : Answer) → HasGone picks library s old run calls →
-    ((text : List ℕ) → answer ≡ Text text → (tries : ℕ) × (steps ≡ calls + tries) × HasTried picks library run new tries) →
+    ((text : List ℕ) → answer ≡ Text text → (tries : ℕ) × (steps ≡ calls + tries) × HasTried picks library s run new tries) →
     MaySay library s (commands.Command.Core name) (outcome_of run.list Settled) steps answer → Earns picks library s old new (Ok (Some (commands.Command.Core name))) answer steps
 earns_reduced picks library s old run new name calls steps answer went tried (inr m) = earns_none picks library s old new (Ok (Some (commands.Command.Core name))) answer steps m
 earns_reduced picks library s old run new name calls steps answer went tried (inl (text, replies, e)) =
@@ -60,7 +60,7 @@ earns_untried picks library s old run new name end calls steps answer other went
 -- whichever way the run ended
 pub earns_core : {O : Type 0} (picks : Picks O) (library : List Stored) (s : State) (old run new : Work O) (name : List ℕ) (end : Outcome) (calls steps : ℕ) (answer : Answer) → HasGone picks library s old run calls →
     (end ≡ Unsettled → (0 < length run.line) ⊎ IsListRefuted (problem_in library s) (users_in s) (choices_in s) run.list) →
-    (end ≡ Settled → (text : List ℕ) → answer ≡ Text text → (tries : ℕ) × (steps ≡ calls + tries) × HasTried picks library run new tries) → (end ≢ Settled → (new ≡ run) × (steps ≡ calls)) →
+    (end ≡ Settled → (text : List ℕ) → answer ≡ Text text → (tries : ℕ) × (steps ≡ calls + tries) × HasTried picks library s run new tries) → (end ≢ Settled → (new ≡ run) × (steps ≡ calls)) →
     MaySay library s (commands.Command.Core name) (outcome_of run.list end) steps answer → Earns picks library s old new (Ok (Some (commands.Command.Core name))) answer steps
 earns_core picks library s old run new name Settled calls steps answer went left tried untried says = earns_reduced picks library s old run new name calls steps answer went (tried refl) says
 earns_core picks library s old run new name Unsettled calls steps answer went left tried untried says =

@@ -10,42 +10,58 @@ use Rattle.prop_engine.specs.Answers.{Answer}
 use Rattle.prop_engine.specs.Transcripts.{Run}
 use Rattle.prop_workbench.specs.Machine.{State, naming}
 use Rattle.prop_workbench.specs.Steps.{Shown, Covers}
-use Rattle.prop_workbench.specs.Points.{SaysPoint, BearsOut, HoldsPoints}
+use Rattle.prop_workbench.specs.Points.{SaysPoint, IsBorneOut, BearsOut, HoldsPoints}
 use Rattle.prop_workbench.specs.Engine.{workbench, learning}
 use Rattle.prop_workbench.specs.Shown.{ShownRunsAreRuns, ShownTranscripts, ShownFronts}
 
-says_named : (s : State) (named : List (List ℕ)) (points : ℕ → Point) (name mark text : List ℕ) → SaysPoint s points name mark text → SaysPoint (naming s named) points name mark text
-says_named s named points name mark text h = record { cell = h.cell; cell_is = h.cell_is; v = h.v; holds = h.holds; text_is = h.text_is }
+module _ (library : List Stored) (related : ℕ → Param → List Point → Point → Type 0) (s : State) (named : List (List ℕ)) where
+  borne_named : (text : List ℕ) (says says_then : List ℕ → (ℕ → Point) → Type 0) → ((list : List ℕ) (points : ℕ → Point) → says list points → says_then list points) → IsBorneOut library related s text says → IsBorneOut library related (naming s named) text says_then
+  borne_named text says says_then then (inl h) = inl h
+  borne_named text says says_then then (inr (list, is_list, earlier, borne)) = inr (list, is_list, earlier, λ points satisfy. then list points (borne points satisfy))
 
--- what points bear out has nothing to do with the contradictions that were named
-bears_named : (s : State) (named : List (List ℕ)) (list : List ℕ) (points : ℕ → Point) (command : Command) (text : List ℕ) → BearsOut s list points command text → BearsOut (naming s named) list points command text
-bears_named s named list points (commands.Command.Domain name elements) text h = h
-bears_named s named list points (commands.Command.Relation name from to pairs) text h = h
-bears_named s named list points (commands.Command.Cell name kind) text h = h
-bears_named s named list points (commands.Command.Define name params body) text h = h
-bears_named s named list points (commands.Command.Attach name cells by) text h = h
-bears_named s named list points (commands.Command.Fix cell value) text h = h
-bears_named s named list points (commands.Command.Tell premise cell value) text h = h
-bears_named s named list points (commands.Command.Choose name cell values) text h = h
-bears_named s named list points (commands.Command.Kick premise) text h = h
-bears_named s named list points (commands.Command.Bring premise) text h = h
-bears_named s named list points (commands.Command.Limit n) text h = h
-bears_named s named list points commands.Command.Settle text h = h
-bears_named s named list points (commands.Command.Ask x) text (inl h) = inl (says_named s named points x [] text h)
-bears_named s named list points (commands.Command.Ask x) text (inr h) = inr (says_named s named points x (codes " unsettled") text h)
-bears_named s named list points (commands.Command.Why x) text (ps, inl h) = (ps, inl (says_named s named points x (because s.premises [] ps) text h))
-bears_named s named list points (commands.Command.Why x) text (ps, inr h) = (ps, inr (says_named s named points x (because s.premises (codes " unsettled") ps) text h))
-bears_named s named list points (commands.Command.Core x) text (ps, inl h) = (ps, inl (says_named s named points x (because s.premises [] ps) text h))
-bears_named s named list points (commands.Command.Core x) text (ps, inr (inl h)) = (ps, inr (inl (says_named s named points x (because s.premises (codes " not reduced") ps) text h)))
-bears_named s named list points (commands.Command.Core x) text (ps, inr (inr h)) = (ps, inr (inr (says_named s named points x (because s.premises (codes " unsettled") ps) text h)))
-bears_named s named list points commands.Command.Worldview text h = h
-bears_named s named list points commands.Command.Nogoods text h = h
+  module _ (points : ℕ → Point) (x text : List ℕ) where
+    marked : (mark : List ℕ) → SaysPoint s points x mark text → SaysPoint (naming s named) points x mark text
+    marked mark h = record { cell = h.cell; cell_is = h.cell_is; v = h.v; holds = h.holds; text_is = h.text_is }
 
-points_named : (related : ℕ → Param → List Point → Point → Type 0) (s : State) (named : List (List ℕ)) (line : List ℕ) (answer : Answer) → HoldsPoints related s line answer → HoldsPoints related (naming s named) line answer
-points_named related s named line answer h command text read e = elim (h command text read e) [
-  | inl x ↦ inl x
-  | inr y ↦ inr (y.0, λ points satisfy. bears_named s named y.0 points command text (y.1 points satisfy))
-]
+    -- one of the two marks, or one of the three
+    either : (a b : List ℕ) → SaysPoint s points x a text ⊎ SaysPoint s points x b text → SaysPoint (naming s named) points x a text ⊎ SaysPoint (naming s named) points x b text
+    either a b (inl h) = inl (marked a h)
+    either a b (inr h) = inr (marked b h)
+
+    any : (a b c : List ℕ) → SaysPoint s points x a text ⊎ SaysPoint s points x b text ⊎ SaysPoint s points x c text → SaysPoint (naming s named) points x a text ⊎ SaysPoint (naming s named) points x b text ⊎ SaysPoint (naming s named) points x c text
+    any a b c (inl h) = inl (marked a h)
+    any a b c (inr h) = inr (either b c h)
+
+  -- what points bear out has nothing to do with the contradictions that were named
+  bears_named : (command : Command) (text : List ℕ) → BearsOut library related s command text → BearsOut library related (naming s named) command text
+  bears_named (commands.Command.Domain name elements) text h = h
+  bears_named (commands.Command.Relation name from to pairs) text h = h
+  bears_named (commands.Command.Cell name kind) text h = h
+  bears_named (commands.Command.Define name params body) text h = h
+  bears_named (commands.Command.Attach name cells by) text h = h
+  bears_named (commands.Command.Fix cell value) text h = h
+  bears_named (commands.Command.Tell premise cell value) text h = h
+  bears_named (commands.Command.Choose name cell values) text h = h
+  bears_named (commands.Command.Kick premise) text h = h
+  bears_named (commands.Command.Bring premise) text h = h
+  bears_named (commands.Command.Limit n) text h = h
+  bears_named commands.Command.Nogoods text h = h
+  bears_named commands.Command.Settle text h = h
+  bears_named commands.Command.Worldview text h = h
+  bears_named (commands.Command.Ask x) text h =
+      borne_named text (λ list points. SaysPoint s points x [] text ⊎ SaysPoint s points x (codes " unsettled") text) (λ list points. SaysPoint (naming s named) points x [] text ⊎ SaysPoint (naming s named) points x (codes " unsettled") text)
+      (λ list points. either points x text [] (codes " unsettled")) h
+  bears_named (commands.Command.Why x) text h =
+      borne_named text (λ list points. (ps : List ℕ) × (SaysPoint s points x (because s.premises [] ps) text ⊎ SaysPoint s points x (because s.premises (codes " unsettled") ps) text))
+      (λ list points. (ps : List ℕ) × (SaysPoint (naming s named) points x (because s.premises [] ps) text ⊎ SaysPoint (naming s named) points x (because s.premises (codes " unsettled") ps) text))
+      (λ list points h. (h.0, either points x text (because s.premises [] h.0) (because s.premises (codes " unsettled") h.0) h.1)) h
+  bears_named (commands.Command.Core x) text h =
+      borne_named text (λ list points. (ps : List ℕ) × (SaysPoint s points x (because s.premises [] ps) text ⊎ SaysPoint s points x (because s.premises (codes " not reduced") ps) text ⊎ SaysPoint s points x (because s.premises (codes " unsettled") ps) text))
+      (λ list points. (ps : List ℕ) × (SaysPoint (naming s named) points x (because s.premises [] ps) text ⊎ SaysPoint (naming s named) points x (because s.premises (codes " not reduced") ps) text ⊎ SaysPoint (naming s named) points x (because s.premises (codes " unsettled") ps) text))
+      (λ list points h. (h.0, any points x text (because s.premises [] h.0) (because s.premises (codes " not reduced") h.0) (because s.premises (codes " unsettled") h.0) h.1)) h
+
+  points_named : (line : List ℕ) (answer : Answer) → HoldsPoints library related s line answer → HoldsPoints library related (naming s named) line answer
+  points_named line answer h command text read e = bears_named command text (h command text read e)
 
 -- a run that a session shows is one of the machine, whichever contradictions were named before
 run_named : (library : List Stored) (related : ℕ → Param → List Point → Point → Type 0) (old new : Shown) (lines : List (List ℕ)) (answers : List Answer) → Run (learning library related) old lines answers new →
@@ -56,7 +72,7 @@ run_named library related old new (line ∷ lines) [] r named covers = absurd r
 run_named library related old new (line ∷ lines) (a ∷ ls) (mid, shows, rest) named covers =
     let step = shows.step named covers in
     let more = run_named library related mid new lines ls rest step.now step.covers in
-    (more.0, more.1, (naming mid.state step.now, record { steps = shows.steps; step = step.step; points = λ sound. points_named related old.state named line a (shows.points sound) }, more.2))
+    (more.0, more.1, (naming mid.state step.now, record { steps = shows.steps; step = step.step; points = λ sound. points_named library related old.state named line a (shows.points sound) }, more.2))
 
 pub shown_runs_are_runs : (library : List Stored) (related : ℕ → Param → List Point → Point → Type 0) → ShownRunsAreRuns library related
 shown_runs_are_runs library related old new lines answers r named covers =

@@ -25,10 +25,6 @@ use Rattle.prop_texts.specs.Texts.{because, contradiction_text}
 use Rattle.prop_workbench.proofs.AgreeLaws.{believed_is_user}
 
 module _ (library : List Stored) (related : ℕ → Param → List Point → Point → Type 0) (sound : AreSoundBy library related) (s : State) (fit : AreFitting library (attached_in s)) (numbered : IsNumbered s.premises) where
-  -- what the answer says of points
-  abbrev Bears : Command → List ℕ → Type 0
-  Bears command text = ((ps : List ℕ) × (text ≡ contradiction_text s.premises ps) × IsPart (set_of ps) (users_in s) × AreRefuted related s ps) ⊎ ((list : List ℕ) × ((points : ℕ → Point) → Satisfy related s list points → BearsOut s list points command text))
-
   -- no points satisfy what is contradicted, with any side of each choice
   refuted : (ps : List ℕ) → Contradicts library s ps → AreRefuted related s ps
   refuted ps c list is_list points p =
@@ -57,53 +53,57 @@ module _ (library : List Stored) (related : ℕ → Param → List Point → Poi
     explained_so_far : (name mark text : List ℕ) (r : IsExplainedReply library s (Unsettled list) name mark text) → SaysPoint s points name (because s.premises mark r.premises) text
     explained_so_far name mark text r = record { cell = r.cell; cell_is = r.cell_is; v = r.v; holds = unsettled_holds r.cell r.v r.value; text_is = r.text_is }
 
-  replied : (command : Command) (outcome : Outcome) (steps : ℕ) (text : List ℕ) → MayEnd library s outcome → Replies library s command outcome steps text → Bears command text
-  replied command (Contradiction ps) steps text ends r = inl (ps, r.1, ends.believes, refuted ps ends)
-  replied commands.Command.Settle (Settled l) steps text ends r = inr (l, λ points p. inl r)
-  replied commands.Command.Settle (Unsettled l) steps text ends r = inr (l, λ points p. inr r.0)
-  replied (commands.Command.Ask x) (Settled l) steps text ends r = inr (l, λ points p. inl (said l points p x [] text r))
-  replied (commands.Command.Ask x) (Unsettled l) steps text ends r = inr (l, λ points p. inr (said_so_far l points p x (codes " unsettled") text r.0))
-  replied (commands.Command.Why x) (Settled l) steps text ends r = inr (l, λ points p. (r.premises, inl (explained l points p x [] text r)))
-  replied (commands.Command.Why x) (Unsettled l) steps text ends r = inr (l, λ points p. (r.0.premises, inr (explained_so_far l points p x (codes " unsettled") text r.0)))
-  replied (commands.Command.Core x) (Settled l) steps text ends (inl r) = inr (l, λ points p. (r.explained.premises, inl (explained l points p x [] text r.explained)))
-  replied (commands.Command.Core x) (Settled l) steps text ends (inr r) = inr (l, λ points p. (r.0.premises, inr (inl (explained l points p x (codes " not reduced") text r.0))))
-  replied (commands.Command.Core x) (Unsettled l) steps text ends r = inr (l, λ points p. (r.0.premises, inr (inr (explained_so_far l points p x (codes " unsettled") text r.0))))
-  replied commands.Command.Worldview (Settled l) steps text ends r = inr (l, λ points p. inl r)
-  replied commands.Command.Worldview (Unsettled l) steps text ends r = inr (l, λ points p. inr r.0)
+  replied : (command : Command) (outcome : Outcome) (steps : ℕ) (text : List ℕ) → MayEnd library s outcome → Replies library s command outcome steps text → BearsOut library related s command text
+  replied commands.Command.Settle (Contradiction ps) steps text ends r = inl (ps, r.1, ends.believes, refuted ps ends)
+  replied commands.Command.Settle (Settled l) steps text ends r = inr (l, ends.first.is_list, ends.first.earlier, λ points p. inl r)
+  replied commands.Command.Settle (Unsettled l) steps text ends r = inr (l, ends.is_list, ends.earlier, λ points p. inr r.0)
+  replied (commands.Command.Ask x) (Contradiction ps) steps text ends r = inl (ps, r.1, ends.believes, refuted ps ends)
+  replied (commands.Command.Ask x) (Settled l) steps text ends r = inr (l, ends.first.is_list, ends.first.earlier, λ points p. inl (said l points p x [] text r))
+  replied (commands.Command.Ask x) (Unsettled l) steps text ends r = inr (l, ends.is_list, ends.earlier, λ points p. inr (said_so_far l points p x (codes " unsettled") text r.0))
+  replied (commands.Command.Why x) (Contradiction ps) steps text ends r = inl (ps, r.1, ends.believes, refuted ps ends)
+  replied (commands.Command.Why x) (Settled l) steps text ends r = inr (l, ends.first.is_list, ends.first.earlier, λ points p. (r.premises, inl (explained l points p x [] text r)))
+  replied (commands.Command.Why x) (Unsettled l) steps text ends r = inr (l, ends.is_list, ends.earlier, λ points p. (r.0.premises, inr (explained_so_far l points p x (codes " unsettled") text r.0)))
+  replied (commands.Command.Core x) (Contradiction ps) steps text ends r = inl (ps, r.1, ends.believes, refuted ps ends)
+  replied (commands.Command.Core x) (Settled l) steps text ends (inl r) = inr (l, ends.first.is_list, ends.first.earlier, λ points p. (r.explained.premises, inl (explained l points p x [] text r.explained)))
+  replied (commands.Command.Core x) (Settled l) steps text ends (inr r) = inr (l, ends.first.is_list, ends.first.earlier, λ points p. (r.0.premises, inr (inl (explained l points p x (codes " not reduced") text r.0))))
+  replied (commands.Command.Core x) (Unsettled l) steps text ends r = inr (l, ends.is_list, ends.earlier, λ points p. (r.0.premises, inr (inr (explained_so_far l points p x (codes " unsettled") text r.0))))
+  replied commands.Command.Worldview (Contradiction ps) steps text ends r = inl (ps, r.1, ends.believes, refuted ps ends)
+  replied commands.Command.Worldview (Settled l) steps text ends r = inr (l, ends.first.is_list, ends.first.earlier, λ points p. inl r)
+  replied commands.Command.Worldview (Unsettled l) steps text ends r = inr (l, ends.is_list, ends.earlier, λ points p. inr r.0)
   replied command outcome steps text ends r = search rules
 
-  ran : (command : Command) (answer : Answer) (new : State) (steps : ℕ) (text : List ℕ) → Runs library s command answer new steps → answer ≡ Text text → Bears command text
+  ran : (command : Command) (answer : Answer) (new : State) (steps : ℕ) (text : List ℕ) → Runs library s command answer new steps → answer ≡ Text text → BearsOut library related s command text
   ran command answer new steps text r e =
       let same : Text r.text ≡ Text text = sym r.answer_is ∙ e in
       let texts : r.text ≡ text = cc in
-      subst (Bears command) texts (replied command r.outcome steps r.text r.ends r.replies)
+      subst (BearsOut library related s command) texts (replied command r.outcome steps r.text r.ends r.replies)
 
-  carried : (o : Option Refusal) (command : Command) (answer : Answer) (new : State) (steps : ℕ) (text : List ℕ) → CarriesUnless o library s command answer new steps → answer ≡ Text text → Bears command text
+  carried : (o : Option Refusal) (command : Command) (answer : Answer) (new : State) (steps : ℕ) (text : List ℕ) → CarriesUnless o library s command answer new steps → answer ≡ Text text → BearsOut library related s command text
   carried (Some refusal) command answer new steps text r e = let f : Refused refusal ≡ Text text = sym r.answer_is ∙ e in cc
   carried None commands.Command.Settle answer new steps text r e = ran commands.Command.Settle answer new steps text r e
   carried None (commands.Command.Ask x) answer new steps text r e = ran (commands.Command.Ask x) answer new steps text r e
   carried None (commands.Command.Why x) answer new steps text r e = ran (commands.Command.Why x) answer new steps text r e
   carried None (commands.Command.Core x) answer new steps text r e = ran (commands.Command.Core x) answer new steps text r e
   carried None commands.Command.Worldview answer new steps text r e = ran commands.Command.Worldview answer new steps text r e
-  carried None (commands.Command.Domain name elements) answer new steps text r e = inr ([], λ points p. tt)
-  carried None (commands.Command.Relation name from to pairs) answer new steps text r e = inr ([], λ points p. tt)
-  carried None (commands.Command.Cell name kind) answer new steps text r e = inr ([], λ points p. tt)
-  carried None (commands.Command.Define name params steps_said) answer new steps text r e = inr ([], λ points p. tt)
-  carried None (commands.Command.Attach name cells by) answer new steps text r e = inr ([], λ points p. tt)
-  carried None (commands.Command.Fix cell value) answer new steps text r e = inr ([], λ points p. tt)
-  carried None (commands.Command.Tell premise cell value) answer new steps text r e = inr ([], λ points p. tt)
-  carried None (commands.Command.Choose name cell values) answer new steps text r e = inr ([], λ points p. tt)
-  carried None commands.Command.Nogoods answer new steps text r e = inr ([], λ points p. tt)
-  carried None (commands.Command.Kick premise) answer new steps text r e = inr ([], λ points p. tt)
-  carried None (commands.Command.Bring premise) answer new steps text r e = inr ([], λ points p. tt)
-  carried None (commands.Command.Limit n) answer new steps text r e = inr ([], λ points p. tt)
+  carried None (commands.Command.Domain name elements) answer new steps text r e = tt
+  carried None (commands.Command.Relation name from to pairs) answer new steps text r e = tt
+  carried None (commands.Command.Cell name kind) answer new steps text r e = tt
+  carried None (commands.Command.Define name params steps_said) answer new steps text r e = tt
+  carried None (commands.Command.Attach name cells by) answer new steps text r e = tt
+  carried None (commands.Command.Fix cell value) answer new steps text r e = tt
+  carried None (commands.Command.Tell premise cell value) answer new steps text r e = tt
+  carried None (commands.Command.Choose name cell values) answer new steps text r e = tt
+  carried None commands.Command.Nogoods answer new steps text r e = tt
+  carried None (commands.Command.Kick premise) answer new steps text r e = tt
+  carried None (commands.Command.Bring premise) answer new steps text r e = tt
+  carried None (commands.Command.Limit n) answer new steps text r e = tt
 
-  obeyed : (command : Command) (answer : Answer) (new : State) (steps : ℕ) (text : List ℕ) → Obeys library s command answer new steps → answer ≡ Text text → Bears command text
+  obeyed : (command : Command) (answer : Answer) (new : State) (steps : ℕ) (text : List ℕ) → Obeys library s command answer new steps → answer ≡ Text text → BearsOut library related s command text
   obeyed command answer new steps text (inl c) e = carried (refusal_of library s command) command answer new steps text c e
   obeyed command answer new steps text (inr l) e = let f : Refused Memory ≡ Text text = sym l.answer_is ∙ e in cc
 
 -- what a step answers says of points no more than is so
-pub step_holds_points : (library : List Stored) (related : ℕ → Param → List Point → Point → Type 0) → AreSoundBy library related → (old : State) → AreFitting library (attached_in old) → IsNumbered old.premises → (line : List ℕ) (answer : Answer) (new : State) (steps : ℕ) → Step library old line answer new steps → HoldsPoints related old line answer
+pub step_holds_points : (library : List Stored) (related : ℕ → Param → List Point → Point → Type 0) → AreSoundBy library related → (old : State) → AreFitting library (attached_in old) → IsNumbered old.premises → (line : List ℕ) (answer : Answer) (new : State) (steps : ℕ) → Step library old line answer new steps → HoldsPoints library related old line answer
 step_holds_points library related sound old fit numbered line answer new steps step command text read e =
     let follows : Follows library old (Ok (Some command)) answer new steps = subst (λ (r : Result (Option Command) Refusal). Follows library old r answer new steps) read step in
     obeyed library related sound old fit numbered command answer new steps text follows e

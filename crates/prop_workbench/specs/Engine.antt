@@ -18,13 +18,13 @@ use Rattle.prop_workbench.specs.Sessions.{library_of, related_in}
 pub record Gives (library : List Stored) (related : ℕ → Param → List Point → Point → Type 0) (old : State) (line : List ℕ) (answer : Answer) (new : State) : Type 0 where
   pub steps : ℕ
   pub step : Step library old line answer new steps
-  pub points : AreSoundBy library related → HoldsPoints related old line answer
+  pub points : AreSoundBy library related → HoldsPoints library related old line answer
 
 -- the same of what a session shows, whichever contradictions were named, if what it has learned covers them
 pub record Shows (library : List Stored) (related : ℕ → Param → List Point → Point → Type 0) (old : Shown) (line : List ℕ) (answer : Answer) (new : Shown) : Type 0 where
   pub steps : ℕ
   pub step : IsStepOf library old line answer new steps
-  pub points : AreSoundBy library related → HoldsPoints related old.state line answer
+  pub points : AreSoundBy library related → HoldsPoints library related old.state line answer
 
 -- the workbench over a library of procedures and the points that belong together at each, as a machine
 abbrev pub workbench : List Stored → (ℕ → Param → List Point → Point → Type 0) → Machine State

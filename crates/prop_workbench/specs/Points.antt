@@ -5,11 +5,13 @@ use Rattle.prop_lattice.specs.declared.info.Info.{Info}
 use Rattle.prop_premises.specs.Sets.{set_of, union, IsPart}
 use Rattle.prop_premises.specs.ChoiceLists.{IsChoiceList, hypotheticals_of}
 use Rattle.prop_procedures.specs.declared.shape.Param.{Param}
+use Rattle.prop_procedures.specs.Stored.{Stored}
 use Rattle.prop_cells.specs.Points.{Attached, ArePoints}
+use Rattle.prop_amb.specs.Refuted.{AllBeforeRefuted}
 use Rattle.prop_language.specs.Commands.{Command}
 use Rattle.prop_language.specs.Reading.{reading}
 use Rattle.prop_engine.specs.Answers.{Answer, Text}
-use Rattle.prop_workbench.specs.Machine.{State, text_at, users_in, choices_in, worldview_at}
+use Rattle.prop_workbench.specs.Machine.{State, problem_in, text_at, users_in, choices_in, worldview_at}
 use Rattle.prop_texts.specs.Texts.{equation, because, contradiction_text, worldview_text}
 use Rattle.prop_vocabulary.specs.Cells.{cell_named}
 
@@ -34,20 +36,24 @@ abbrev pub AreRefuted : (ℕ → Param → List Point → Point → Type 0) → 
 AreRefuted related s ps =
     (list : List ℕ) → IsChoiceList (choices_in s) list → (points : ℕ → Point) → ArePoints related (attached_in s) (union (set_of ps) (hypotheticals_of (choices_in s) list)) points → ⊥
 
--- what a command that runs the network may answer where there are points that satisfy the state with the list: a value holds its cell's point, settled or not
-abbrev pub BearsOut : State → List ℕ → (ℕ → Point) → Command → List ℕ → Type 0
-BearsOut s list points Command.Settle text = (text ≡ codes "settled") ⊎ (text ≡ codes "unsettled")
-BearsOut s list points (Command.Ask x) text = SaysPoint s points x [] text ⊎ SaysPoint s points x (codes " unsettled") text
-BearsOut s list points (Command.Why x) text =
-    (ps : List ℕ) × (SaysPoint s points x (because s.premises [] ps) text ⊎ SaysPoint s points x (because s.premises (codes " unsettled") ps) text)
-BearsOut s list points (Command.Core x) text =
-    (ps : List ℕ) × (SaysPoint s points x (because s.premises [] ps) text ⊎ SaysPoint s points x (because s.premises (codes " not reduced") ps) text ⊎ SaysPoint s points x (because s.premises (codes " unsettled") ps) text)
-BearsOut s list points Command.Worldview text = (text ≡ worldview_text s.premises (worldview_at s list)) ⊎ (text ≡ codes "unsettled")
-BearsOut s list points command text = ⊤
+-- The text names a contradiction of believed premises that no points satisfy; or there is a choice list before which every list is refuted,
+-- and the text says so much of all points that satisfy the state with that list.
+abbrev pub IsBorneOut : List Stored → (ℕ → Param → List Point → Point → Type 0) → State → List ℕ → (List ℕ → (ℕ → Point) → Type 0) → Type 0
+IsBorneOut library related s text says =
+    ((ps : List ℕ) × (text ≡ contradiction_text s.premises ps) × IsPart (set_of ps) (users_in s) × AreRefuted related s ps) ⊎
+    ((list : List ℕ) × IsChoiceList (choices_in s) list × AllBeforeRefuted (problem_in library s) (users_in s) (choices_in s) list × ((points : ℕ → Point) → Satisfy related s list points → says list points))
 
--- What a line is answered says a contradiction of believed premises that no points satisfy, or there is a choice list such that each points that satisfy the state with it bear
--- the answer out.
-abbrev pub HoldsPoints : (ℕ → Param → List Point → Point → Type 0) → State → List ℕ → Answer → Type 0
-HoldsPoints related s line answer =
-    (command : Command) (text : List ℕ) → reading line ≡ Ok (Some command) → answer ≡ Text text →
-    ((ps : List ℕ) × (text ≡ contradiction_text s.premises ps) × IsPart (set_of ps) (users_in s) × AreRefuted related s ps) ⊎ ((list : List ℕ) × ((points : ℕ → Point) → Satisfy related s list points → BearsOut s list points command text))
+-- what points bear out of an answer to a command that runs the network: a value holds its cell's point, settled or not
+abbrev pub BearsOut : List Stored → (ℕ → Param → List Point → Point → Type 0) → State → Command → List ℕ → Type 0
+BearsOut library related s Command.Settle text = IsBorneOut library related s text (λ list points. (text ≡ codes "settled") ⊎ (text ≡ codes "unsettled"))
+BearsOut library related s (Command.Ask x) text = IsBorneOut library related s text (λ list points. SaysPoint s points x [] text ⊎ SaysPoint s points x (codes " unsettled") text)
+BearsOut library related s (Command.Why x) text =
+    IsBorneOut library related s text (λ list points. (ps : List ℕ) × (SaysPoint s points x (because s.premises [] ps) text ⊎ SaysPoint s points x (because s.premises (codes " unsettled") ps) text))
+BearsOut library related s (Command.Core x) text =
+    IsBorneOut library related s text (λ list points. (ps : List ℕ) × (SaysPoint s points x (because s.premises [] ps) text ⊎ SaysPoint s points x (because s.premises (codes " not reduced") ps) text ⊎ SaysPoint s points x (because s.premises (codes " unsettled") ps) text))
+BearsOut library related s Command.Worldview text = IsBorneOut library related s text (λ list points. (text ≡ worldview_text s.premises (worldview_at s list)) ⊎ (text ≡ codes "unsettled"))
+BearsOut library related s command text = ⊤
+
+-- points bear out what a line is answered
+abbrev pub HoldsPoints : List Stored → (ℕ → Param → List Point → Point → Type 0) → State → List ℕ → Answer → Type 0
+HoldsPoints library related s line answer = (command : Command) (text : List ℕ) → reading line ≡ Ok (Some command) → answer ≡ Text text → BearsOut library related s command text

@@ -1,5 +1,5 @@
 -- What a command that runs the network asks, and what may be said to it.
-use Rattle.std.specs.Prelude.{◌≡◌, ◌≢◌, ℕ, ◌+◌, ◌≤◌, ◌<◌, List, length, Option, Some, Result, Ok, ⊤, ◌⊎◌}
+use Rattle.std.specs.Prelude.{◌≡◌, ◌≢◌, ℕ, ◌+◌, ◌*◌, ◌≤◌, ◌<◌, List, length, Option, Some, Result, Ok, ⊤, ◌⊎◌}
 use Rattle.prop_lattice.specs.declared.info.Info.{Info}
 use Rattle.prop_lattice.specs.declared.refusal.Refusal.{Refusal}
 use Rattle.prop_lattice.specs.declared.refusal.Refusal.TheVariants.{Memory}
@@ -12,6 +12,8 @@ use Rattle.prop_amb.specs.declared.outcome.Outcome.TheVariants.{Settled, Contrad
 use Rattle.prop_amb.specs.Refuted.{IsCovered, IsListRefuted}
 use Rattle.prop_amb.specs.Search as search
 use Rattle.prop_amb.specs.Going.{Goes, AllWait}
+use Rattle.prop_premises.specs.ChoiceLists.{lists_count}
+use Rattle.prop_scheduler.specs.Potential.{most_steps}
 use Rattle.prop_explain.specs.Trying.{Tries}
 use Rattle.prop_language.specs.Commands as commands
 use Rattle.prop_language.specs.Commands.{Command}
@@ -57,6 +59,7 @@ pub record HasRun {R O : Type 0} {X : Type 0} {F : X → Type 0} {g : _} (value 
   pub covered : IfContradiction end (λ ps. IsCovered (search.choices_in s.search) s.search.listed (set_of ps))
   pub settled : end ≡ Settled → IsSettled (library_of value s) (set_of s.search.worldview) s.network.cells
   pub within : steps ≤ (state_of s).limit
+  pub few : steps < lists_count (choices_in (state_of s)) * (most_steps (problem_in (library_of value s) (state_of s)) + 1)
   pub spent : end ≡ Unsettled → steps ≡ (state_of s).limit
 
 -- which place an order may pick among how many that wait, and how it goes on
@@ -79,11 +82,11 @@ pub record IsEarned {O : Type 0} (picks : Picks O) (library : List Stored) (s : 
   pub left : end ≡ Unsettled → (0 < length new.line) ⊎ IsListRefuted (problem_in library s) (users_in s) (choices_in s) new.list
   pub replies : Replies library s command (outcome_of new.list end) steps text
 
--- from the one to the other premises were tried in exactly so many steps, and then every instance waits
-pub record HasTried {O : Type 0} (picks : Picks O) (library : List Stored) (old new : Work O) (steps : ℕ) : Type 0 where
+-- from the one to the other believed premises were tried in exactly so many steps, and then every instance waits
+pub record HasTried {O : Type 0} (picks : Picks O) (library : List Stored) (s : State) (old new : Work O) (steps : ℕ) : Type 0 where
   pub list : new.list ≡ old.list
   pub line : List ℕ
-  pub tries : Tries picks library old.cells old.line old.order steps new.cells line new.order
+  pub tries : Tries picks library (worldview_at s old.list) old.cells old.line old.order steps new.cells line new.order
   pub all_wait : AllWait (length new.cells.instances) new.line
 
 -- The text replies with a core as a run ended that went from the one to a middle in so many steps, and, where it settled, as premises were
@@ -95,7 +98,7 @@ pub record IsEarnedCore {O : Type 0} (picks : Picks O) (library : List Stored) (
   pub tries : ℕ
   pub gone : HasGone picks library s old run calls
   pub left : end ≡ Unsettled → (0 < length run.line) ⊎ IsListRefuted (problem_in library s) (users_in s) (choices_in s) run.list
-  pub tried : end ≡ Settled → HasTried picks library run new tries
+  pub tried : end ≡ Settled → HasTried picks library s run new tries
   pub untried : end ≢ Settled → (new ≡ run) × (tries ≡ 0)
   pub sum : steps ≡ calls + tries
   pub replies : Replies library s (commands.Command.Core name) (outcome_of run.list end) steps text

@@ -1,5 +1,5 @@
 -- How a command that runs the network may end, and what it may answer then.
-use Rattle.std.specs.Prelude.{◌≡◌, ◌≢◌, ℕ, IsTrue, ◌+◌, ◌*◌, ◌<◌, List, [], ◌∷◌, ◌++◌, codes, Some, All, ◌⊎◌}
+use Rattle.std.specs.Prelude.{◌≡◌, ◌≢◌, ℕ, IsTrue, ◌+◌, ◌*◌, ◌<◌, List, [], ◌∷◌, ◌++◌, length, codes, Some, All, ◌⊎◌}
 use Rattle.std.specs.List.Sorted.{IsStrictlyIncreasing}
 use Rattle.prop_lattice.specs.declared.info.Info.{Info}
 use Rattle.prop_lattice.specs.declared.info.Info.TheVariants as infos
@@ -115,6 +115,10 @@ abbrev pub Explained : List Stored → State → Members → ℕ → Info → Li
 Explained library s believed cell v name mark answer =
     ((ps : List ℕ) × IsStrictlyIncreasing ps × Explains (problem_in library s) believed cell v (set_of ps) × (answer ≡ Text (equation name (text_at s cell v) (because s.premises mark ps)))) ⊎ (answer ≡ Refused Memory)
 
+-- the limit is too small for all lists, and a try of each premise beside, with the most steps that the procedures can take
+abbrev pub IsTooFewToReduce : List Stored → State → Type 0
+IsTooFewToReduce library s = s.limit < lists_count (choices_in s) * (most_steps (problem_in library s) + 1) + length s.premises * most_steps (problem_in library s)
+
 -- what a command that runs may answer when it ends so, having taken these steps: an end that isn't settled, and premises that
 -- aren't reduced, come only with every step of the limit taken
 abbrev pub Replies : List Stored → State → Command → Outcome → ℕ → List ℕ → Type 0
@@ -126,7 +130,7 @@ Replies library s (Command.Ask x) (Unsettled list) steps text = IsValueReply lib
 Replies library s (Command.Why x) (Settled list) steps text = IsExplainedReply library s (Settled list) x [] text
 Replies library s (Command.Why x) (Unsettled list) steps text = IsExplainedReply library s (Unsettled list) x (codes " unsettled") text × (steps ≡ s.limit)
 Replies library s (Command.Core x) (Settled list) steps text =
-    IsLeastReply library s list x text ⊎ (IsExplainedReply library s (Settled list) x (codes " not reduced") text × (steps ≡ s.limit))
+    IsLeastReply library s list x text ⊎ (IsExplainedReply library s (Settled list) x (codes " not reduced") text × (steps ≡ s.limit) × IsTooFewToReduce library s)
 Replies library s (Command.Core x) (Unsettled list) steps text = IsExplainedReply library s (Unsettled list) x (codes " unsettled") text × (steps ≡ s.limit)
 Replies library s Command.Worldview (Settled list) steps text = text ≡ worldview_text s.premises (worldview_at s list)
 Replies library s Command.Worldview (Unsettled list) steps text = (text ≡ codes "unsettled") × (steps ≡ s.limit)

@@ -28,11 +28,13 @@ pub(crate) enum Question<'a> {
 }
 
 impl<R: Rule + Drop, O: Order + Drop> Session<R, O> {
-    ghost use Rattle.std.specs.Prelude.{◌≡◌, ◌≢◌, ◌<◌, ◌≤◌, ◌+◌, ◌⊎◌, ℕ, List, [], All, Ok, Some, IfOk, codes, length};
+    ghost use Rattle.std.specs.Prelude.{◌≡◌, ◌≢◌, ◌<◌, ◌≤◌, ◌+◌, ◌*◌, ◌⊎◌, ℕ, List, [], All, Ok, Some, IfOk, codes, length};
     ghost use Rattle.std.specs.List.Sorted.{IsStrictlyIncreasing};
     ghost use Rattle.prop_premises.specs.Sets.{set_of};
+    ghost use Rattle.prop_premises.specs.ChoiceLists.{lists_count};
     ghost use Rattle.prop_cells.specs.Data.{beliefs};
     ghost use Rattle.prop_scheduler.specs.Turns.{IsSettled};
+    ghost use Rattle.prop_scheduler.specs.Potential.{most_steps};
     ghost use Rattle.prop_language.specs.Commands as commands;
     ghost use Rattle.prop_explain.specs.Irreducible.{IfLeast, IfNotReduced, OfCore};
     ghost use Rattle.prop_engine.specs.Answers.{answer_of, Says, Text};
@@ -204,7 +206,7 @@ impl<R: Rule + Drop, O: Order + Drop> Session<R, O> {
         ensures state { state_of self.new ≡ state_of self.old }
         ensures says { MaySay (library_of R.value_of self.old) (state_of self.old) (commands.Command.Core name.now) (outcome_of self.old.search.list end.now) result.1 (answer_of result.0) }
         ensures within { result.1 ≤ self.old.limit }
-        ensures tried { end.now ≡ Outcome.Settled → (text : List ℕ) → answer_of result.0 ≡ Text text → (tries : ℕ) × (result.1 ≡ steps + tries) × HasTried O.picks (library_of R.value_of self.old) (work_of self.old) (work_of self.new) tries }
+        ensures tried { end.now ≡ Outcome.Settled → (text : List ℕ) → answer_of result.0 ≡ Text text → (tries : ℕ) × (result.1 ≡ steps + tries) × HasTried O.picks (library_of R.value_of self.old) (state_of self.old) (work_of self.old) (work_of self.new) tries }
         ensures untried { end.now ≢ Outcome.Settled → (work_of self.new ≡ work_of self.old) × (result.1 ≡ steps) }
     {
         match end {
@@ -225,11 +227,12 @@ impl<R: Rule + Drop, O: Order + Drop> Session<R, O> {
         requires named { cell_named self.old.names name.now ≡ Some cell }
         requires rest { IsSettled (library_of R.value_of self.old) (set_of self.old.search.worldview) self.old.network.cells }
         requires within { steps ≤ self.old.limit }
+        requires few { steps < lists_count (choices_in (state_of self.old)) * (most_steps (problem_in (library_of R.value_of self.old) (state_of self.old)) + 1) }
         ensures keeps { Keeps R.value_of self.old self.new }
         ensures state { state_of self.new ≡ state_of self.old }
         ensures says { MaySay (library_of R.value_of self.old) (state_of self.old) (commands.Command.Core name.now) (Settled self.old.search.list) result.1 (answer_of result.0) }
         ensures within { result.1 ≤ self.old.limit }
-        ensures tried { (text : List ℕ) → answer_of result.0 ≡ Text text → (tries : ℕ) × (result.1 ≡ steps + tries) × HasTried O.picks (library_of R.value_of self.old) (work_of self.old) (work_of self.new) tries }
+        ensures tried { (text : List ℕ) → answer_of result.0 ≡ Text text → (tries : ℕ) × (result.1 ≡ steps + tries) × HasTried O.picks (library_of R.value_of self.old) (state_of self.old) (work_of self.old) (work_of self.new) tries }
     {
         let ended = reduce(
             self.alloc,

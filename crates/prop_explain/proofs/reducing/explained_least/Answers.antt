@@ -1,13 +1,22 @@
-use Rattle.std.proofs.Common.{length, arith}
-use Rattle.std.proofs.Math.Nat.{mul-le-mul_right}
+use Rattle.std.proofs.Common.{}
+use Rattle.prop_premises.specs.Sets.{set_of}
 use Rattle.prop_procedures.specs.Kept.{stored_of}
-use Rattle.prop_cells.specs.Data.{problem_of}
-use Rattle.prop_scheduler.specs.Potential.{most_steps}
-use Rattle.prop_explain.proofs.CountLemmas.{part_few}
+use Rattle.prop_explain.proofs.ReducingLaws.{tries_of_more}
 use Rattle.prop_explain.proofs.reducing.explained_least.Goals as goal
 
 pub returns-clause-earned : goal.returns-clause-earned
-returns-clause-earned g c =
-    let most = most_steps (problem_of (stored_of g.R.Rule.value_of c.args.network.now.library) c.args.network.now.cells) in
-    let few = part_few c.in_ok-why.why.support c.args.worldview.now c.in_ok-support.ensures.in_order c.in_ok-why.ensures.explains.part in
-    omega (arith, c.in_ok-support.ensures.earned c.in-Spent.is, mul-le-mul_right {m = length c.in_ok-why.why.support} {n = length c.args.worldview.now} most few)
+returns-clause-earned g c = (c.in_ok-why.why.support, c.in_ok-support.ensures.in_order, c.in_ok-why.ensures.explains, c.in_ok-support.ensures.earned c.in-Spent.is)
+
+pub returns-in-AllTried-clause-tries : goal.returns-in-AllTried-clause-tries
+returns-in-AllTried-clause-tries g c =
+    let value = g.R.Rule.value_of in
+    let new = c.left_of.new in
+    tries_of_more g.O.Order.picks (stored_of value c.args.network.now.library) (set_of c.in_ok-why.why.support) (set_of c.args.worldview.now) c.args.network.now.cells c.args.agenda.now.line c.args.order.now
+    c.in_ok-support.steps new.network.cells new.agenda.line new.order c.in_ok-why.ensures.explains.part c.in_ok-support.ensures.tries
+
+pub returns-clause-tries : goal.returns-clause-tries
+returns-clause-tries g c =
+    let value = g.R.Rule.value_of in
+    let new = c.left_of.new in
+    tries_of_more g.O.Order.picks (stored_of value c.args.network.now.library) (set_of c.in_ok-why.why.support) (set_of c.args.worldview.now) c.args.network.now.cells c.args.agenda.now.line c.args.order.now
+    c.in_ok-support.steps new.network.cells new.agenda.line new.order c.in_ok-why.ensures.explains.part c.in_ok-support.ensures.tries

@@ -5,9 +5,8 @@ use Rattle.prop_cells.specs.Problems.{Problem}
 use Rattle.prop_cells.specs.Data.{problem_of}
 use Rattle.prop_scheduler.specs.Potential.{most_steps}
 use Rattle.prop_explain.specs.Trying.Tries.{none}
-use Rattle.prop_explain.proofs.CountLemmas.{few_more}
 use Rattle.prop_explain.proofs.ReducingLaws.{consistent_fewer, rest_of, there, kept_there, one_more}
-use Rattle.prop_explain.proofs.TryingLaws.{none_tried, left_out, stays, without_part}
+use Rattle.prop_explain.proofs.TryingLaws.{none_tried, left_out, stays, without_part, few_more}
 use Rattle.prop_explain.proofs.reducing.left_of.Goals as goal
 
 pub loop-premise-init : goal.loop-premise-init
@@ -48,6 +47,7 @@ loop-premise-preserved-in-Enough g c =
     let new = c.attempt.new.network in
     let whole = rw c.in-Some.ensures.steps at kept.so_far in
     let less_is : set_of c.in_ok-less.less ≡ without (set_of c.loop-premise.support) c.in-Some.premise = λ i p. c.in_ok-less.ensures p i in
+    let less_part : IsPart (set_of c.in_ok-less.less) (set_of c.args.why.now.support) = subst (λ (s : Members). IsPart s (set_of c.args.why.now.support)) (sym less_is) (λ p h. kept.part p (without_part (set_of c.loop-premise.support) c.in-Some.premise p h)) in
     let problem = there g.O.Order.picks (stored_of value) start.library middle.library start.cells middle.cells kept.same kept.rest in
     let entails = rw (problem, less_is) at try.enough c.in-Enough.is in
     record {
@@ -58,10 +58,10 @@ loop-premise-preserved-in-Enough g c =
       line = try.line;
       room = try.room ∙ kept.room;
       tried = rw less_is (left_out (problem_of (stored_of value start.library) start.cells) c.args.cell c.args.why.now.value c.loop-premise.yielded (set_of c.loop-premise.support) c.in-Some.premise kept.tried entails);
-      part = subst (λ (s : Members). IsPart s (set_of c.args.why.now.support)) (sym less_is) (λ p h. kept.part p (without_part (set_of c.loop-premise.support) c.in-Some.premise p h));
+      part = less_part;
       steps = omega (arith, try.steps, kept.steps);
       few = few_more c.loop-premise.yielded c.in-Some.premise _ c.loop-premise.steps c.in_ok-tried.calls kept.few (subst (λ (q : Problem). c.in_ok-tried.calls ≤ most_steps q) problem try.falls);
-      tries = one_more g.O.Order.picks (stored_of value) start.library middle.library start.cells middle.cells kept.same kept.rest c.args.agenda.now.line c.loop-premise.agenda.line c.attempt.new.agenda.line c.args.order.now c.loop-premise.order c.attempt.new.order (set_of c.in_ok-less.less) c.loop-premise.steps c.in_ok-tried.calls new.cells kept.tries try.turns;
+      tries = one_more g.O.Order.picks (stored_of value) start.library middle.library start.cells middle.cells kept.same kept.rest (set_of c.args.why.now.support) c.args.agenda.now.line c.loop-premise.agenda.line c.attempt.new.agenda.line c.args.order.now c.loop-premise.order c.attempt.new.order (set_of c.in_ok-less.less) c.loop-premise.steps c.in_ok-tried.calls new.cells less_part kept.tries try.turns;
     }
 
 pub loop-premise-preserved : goal.loop-premise-preserved
@@ -74,6 +74,7 @@ loop-premise-preserved g c =
     let new = c.attempt.new.network in
     let whole = rw c.in-Some.ensures.steps at kept.so_far in
     let less_is : set_of c.in_ok-less.less ≡ without (set_of c.loop-premise.support) c.in-Some.premise = λ i p. c.in_ok-less.ensures p i in
+    let less_part : IsPart (set_of c.in_ok-less.less) (set_of c.args.why.now.support) = subst (λ (s : Members). IsPart s (set_of c.args.why.now.support)) (sym less_is) (λ p h. kept.part p (without_part (set_of c.loop-premise.support) c.in-Some.premise p h)) in
     let problem = there g.O.Order.picks (stored_of value) start.library middle.library start.cells middle.cells kept.same kept.rest in
     let few = rw (problem, less_is) at try.too_few c.in-TooFew.is in
     record {
@@ -87,7 +88,7 @@ loop-premise-preserved g c =
       part = kept.part;
       steps = omega (arith, try.steps, kept.steps);
       few = few_more c.loop-premise.yielded c.in-Some.premise _ c.loop-premise.steps c.in_ok-tried.calls kept.few (subst (λ (q : Problem). c.in_ok-tried.calls ≤ most_steps q) problem try.falls);
-      tries = one_more g.O.Order.picks (stored_of value) start.library middle.library start.cells middle.cells kept.same kept.rest c.args.agenda.now.line c.loop-premise.agenda.line c.attempt.new.agenda.line c.args.order.now c.loop-premise.order c.attempt.new.order (set_of c.in_ok-less.less) c.loop-premise.steps c.in_ok-tried.calls new.cells kept.tries try.turns;
+      tries = one_more g.O.Order.picks (stored_of value) start.library middle.library start.cells middle.cells kept.same kept.rest (set_of c.args.why.now.support) c.args.agenda.now.line c.loop-premise.agenda.line c.attempt.new.agenda.line c.args.order.now c.loop-premise.order c.attempt.new.order (set_of c.in_ok-less.less) c.loop-premise.steps c.in_ok-tried.calls new.cells less_part kept.tries try.turns;
     }
 
 pub returns-in-Spent-clause-tries : goal.returns-in-Spent-clause-tries
@@ -96,4 +97,6 @@ returns-in-Spent-clause-tries g c =
     let kept = c.loop-premise.invariant in
     let start = c.args.network.now in
     let middle = c.loop-premise.network in
-    one_more g.O.Order.picks (stored_of value) start.library middle.library start.cells middle.cells kept.same kept.rest c.args.agenda.now.line c.loop-premise.agenda.line c.attempt.new.agenda.line c.args.order.now c.loop-premise.order c.attempt.new.order (set_of c.in_ok-less.less) c.loop-premise.steps c.in_ok-tried.calls c.attempt.new.network.cells kept.tries c.in_ok-tried.ensures.turns
+    let less_is : set_of c.in_ok-less.less ≡ without (set_of c.loop-premise.support) c.in-Some.premise = λ i p. c.in_ok-less.ensures p i in
+    let less_part : IsPart (set_of c.in_ok-less.less) (set_of c.args.why.now.support) = subst (λ (s : Members). IsPart s (set_of c.args.why.now.support)) (sym less_is) (λ p h. kept.part p (without_part (set_of c.loop-premise.support) c.in-Some.premise p h)) in
+    one_more g.O.Order.picks (stored_of value) start.library middle.library start.cells middle.cells kept.same kept.rest (set_of c.args.why.now.support) c.args.agenda.now.line c.loop-premise.agenda.line c.attempt.new.agenda.line c.args.order.now c.loop-premise.order c.attempt.new.order (set_of c.in_ok-less.less) c.loop-premise.steps c.in_ok-tried.calls c.attempt.new.network.cells less_part kept.tries c.in_ok-tried.ensures.turns

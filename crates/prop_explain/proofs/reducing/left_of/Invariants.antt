@@ -19,5 +19,5 @@ invariant-loop-premise g l = record {
   part : IsPart (set_of l.support) (set_of l.why.support);
   steps : l.steps ≤ l.budget;
   few : l.steps ≤ length l.yielded * most_steps (problem_of (stored_of g.R.Rule.value_of l.fn.network.library) l.fn.network.cells);
-  tries : Tries g.O.Order.picks (stored_of g.R.Rule.value_of l.fn.network.library) l.fn.network.cells l.fn.agenda.line l.fn.order l.steps l.network.cells l.agenda.line l.order;
+  tries : Tries g.O.Order.picks (stored_of g.R.Rule.value_of l.fn.network.library) (set_of l.why.support) l.fn.network.cells l.fn.agenda.line l.fn.order l.steps l.network.cells l.agenda.line l.order;
 }

@@ -13,6 +13,9 @@ reduced-requires-clause-rest g c = c.requires.run.settled c.in-Settled.is
 pub reduced-requires-clause-within : goal.reduced-requires-clause-within
 reduced-requires-clause-within g c = c.requires.run.within
 
+pub reduced-requires-clause-few : goal.reduced-requires-clause-few
+reduced-requires-clause-few g c = c.requires.run.few
+
 pub reduced-requires-clause-sound : goal.reduced-requires-clause-sound
 reduced-requires-clause-sound g c = c.requires.sound
 

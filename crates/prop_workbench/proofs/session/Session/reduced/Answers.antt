@@ -11,7 +11,7 @@ use Rattle.prop_engine.specs.Answers.{answer_of, Says}
 use Rattle.prop_workbench.specs.Machine.{State, text_at}
 use Rattle.prop_workbench.specs.Sessions.{state_from, state_of}
 use Rattle.prop_workbench.proofs.AskLemmas.{believes_same, same_problem}
-use Rattle.prop_workbench.proofs.CoreLemmas.{core_known, may_core, settled_core, used_up}
+use Rattle.prop_workbench.proofs.CoreLemmas.{core_known, may_core, settled_core, too_few, used_up}
 use Rattle.prop_workbench.proofs.session.Session.reduced.Goals as goal
 
 pub reduce-ended-requires-clause-kept : goal.reduce-ended-requires-clause-kept
@@ -87,6 +87,7 @@ returns-in-Ok-clause-says g c =
     may_core library (state_of s) s.search.list name c.args.cell core answer (c.args.steps + c.in-Ok.tries) c.requires.named
     (settled_core library s.names s.words s.definitions s.search.premises s.network.cells s.limit s.search.list (set_of s.search.worldview) c.args.cell core believed rest (rw c.worldview.ensures at c.in-Ok.ensures.explains))
     c.in-Ok.ensures.least (used_up core c.args.steps c.in-Ok.tries s.limit c.requires.within c.in-Ok.ensures.spent)
+    (too_few library (state_of s) (set_of c.worldview.result) c.args.cell core c.args.steps c.requires.sound.at_work.known c.requires.within c.requires.few c.in-Ok.ensures.earned)
     (subst (λ (t : State). IfLeast core (λ v ps. IsStrictlyIncreasing ps × Says answer (equation name (text_at t c.args.cell v) (because t.premises [] ps)))) state c.core_text.ensures.least)
     (subst (λ (t : State). IfNotReduced core (λ v ps. IsStrictlyIncreasing ps × Says answer (equation name (text_at t c.args.cell v) (because t.premises (codes " not reduced") ps)))) state c.core_text.ensures.not_reduced)
 
@@ -95,8 +96,11 @@ returns-in-Ok-clause-within g c = omega (arith, c.in-Ok.ensures.steps, c.require
 
 pub returns-in-Ok-clause-tried : goal.returns-in-Ok-clause-tried
 returns-in-Ok-clause-tried g c =
+    let s = c.args.self.now in
     let e = c.in-Ok.ensures in
-    λ text is. (c.in-Ok.tries, refl, record { list = refl; line = e.tries.0; tries = e.tries.1; all_wait = c.reduce-ended.ensures.all })
+    let believed = believes_same s.search c.requires.sound.at_work.well_made in
+    let tries = rw (c.worldview.ensures, believed) at e.tries.1 in
+    λ text is. (c.in-Ok.tries, refl, record { list = refl; line = e.tries.0; tries = tries; all_wait = c.reduce-ended.ensures.all })
 
 pub returns-in-Err-clause-keeps : goal.returns-in-Err-clause-keeps
 returns-in-Err-clause-keeps g c =

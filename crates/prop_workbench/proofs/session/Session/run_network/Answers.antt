@@ -38,4 +38,4 @@ returns-clause-run g c =
     let library = stored_of g.R.Rule.value_of s.network.library in
     let library' = stored_of g.R.Rule.value_of t.network.library in
     let problem = same_problem library library' s.network.cells t.network.cells (λ i. stored_of g.R.Rule.value_of (e.same i)) e.rest in
-    has_run g.R.Rule.value_of _ _ c.settle-ended.result (sym problem) c.well_made.ensures e.earlier (rw (← e.same) at e.settled) e.first e.contradiction e.steps e.spent e.earned
+    has_run g.R.Rule.value_of _ s.search.list _ c.settle-ended.result (sym problem) c.well_made.ensures e.earlier (rw (← e.same) at e.settled) e.first e.contradiction e.steps e.moves e.spent e.earned
