@@ -52,7 +52,7 @@ used_up (NotReduced e) steps tries limit within spent = omega (arith, within, sp
 
 -- numbers in order above one number and below another are no more than lie between them
 between_few : (x : ℕ) (ps : List ℕ) (n : ℕ) → AllByRecursion (λ p. x < p) ps → Rising ps → AllByRecursion (λ p. p < n) ps → x < n → length ps + x < n
-between_few x [] n above up below lt = lt
+between_few x [] n above up below lt = omega (arith, lt)
 between_few x (p ∷ ps) n above up below lt = let rest = between_few p ps n up.0 up.1 below.1 below.0 in omega (arith, rest, above.0)
 
 rising_few : (ps : List ℕ) (n : ℕ) → Rising ps → AllByRecursion (λ p. p < n) ps → length ps ≤ n

@@ -1,5 +1,5 @@
 -- What each answer to a line says of points is so.
-use Rattle.std.proofs.Common.{◌≡◌, ◌∙◌, ◌⊎◌, ℕ, List, [], codes, Option, Some, None, Result, Ok, inl, inr, sym, subst, rules}
+use Rattle.std.proofs.Common.{◌≡◌, ◌∙◌, ℕ, List, [], codes, Option, Some, None, Result, Ok, inl, inr, sym, subst, rules}
 use Rattle.prop_lattice.specs.declared.info.Info.{Info}
 use Rattle.prop_lattice.specs.declared.refusal.Refusal.{Refusal}
 use Rattle.prop_lattice.specs.declared.refusal.Refusal.TheVariants.{Memory}
@@ -12,16 +12,16 @@ use Rattle.prop_premises.specs.ChoiceLists.{worldview}
 use Rattle.prop_amb.proofs.RefutedLaws.{believed_refutes}
 use Rattle.prop_cells.specs.Points.{AreSoundBy, AreFitting}
 use Rattle.prop_cells.proofs.PointLaws.{entailed_holds, points_consistent}
-use Rattle.prop_premises.specs.Sets.{set_of, IsPart}
+use Rattle.prop_premises.specs.Sets.{set_of}
 use Rattle.prop_language.specs.Commands as commands
 use Rattle.prop_language.specs.Commands.{Command}
 use Rattle.prop_engine.specs.Answers.{Answer, Text, Refused}
-use Rattle.prop_workbench.specs.Machine.{State, problem_in, users_in, choices_in, worldview_at}
+use Rattle.prop_workbench.specs.Machine.{State, problem_in, choices_in, worldview_at}
 use Rattle.prop_workbench.specs.Points.{attached_in, Satisfy, SaysPoint, AreRefuted, BearsOut, HoldsPoints}
 use Rattle.prop_workbench.specs.Refusing.{refusal_of}
 use Rattle.prop_workbench.specs.Running.{Outcome, Settled, Unsettled, Contradiction, MayEnd, Contradicts, IsSettledValue, IsUnsettledValue, IsValueReply, IsExplainedReply, Replies}
 use Rattle.prop_workbench.specs.Steps.{Runs, Obeys, CarriesUnless, Follows, Step}
-use Rattle.prop_texts.specs.Texts.{because, contradiction_text}
+use Rattle.prop_texts.specs.Texts.{because}
 use Rattle.prop_workbench.proofs.AgreeLaws.{believed_is_user}
 
 module _ (library : List Stored) (related : ℕ → Param → List Point → Point → Type 0) (sound : AreSoundBy library related) (s : State) (fit : AreFitting library (attached_in s)) (numbered : IsNumbered s.premises) where

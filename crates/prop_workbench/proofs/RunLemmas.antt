@@ -77,7 +77,7 @@ replies_named library s named (commands.Command.Ask x) (Unsettled list) steps te
 replies_named library s named (commands.Command.Why x) (Settled list) steps text r = settled_reply_named library s named list x [] text r
 replies_named library s named (commands.Command.Why x) (Unsettled list) steps text r = (unsettled_reply_named library s named list x (codes " unsettled") text r.0, r.1)
 replies_named library s named (commands.Command.Core x) (Settled list) steps text (inl r) = inl (record { explained = settled_reply_named library s named list x [] text r.explained; least = record { entails = r.least.entails; needed = r.least.needed } })
-replies_named library s named (commands.Command.Core x) (Settled list) steps text (inr r) = inr (settled_reply_named library s named list x (codes " not reduced") text r.0, r.1)
+replies_named library s named (commands.Command.Core x) (Settled list) steps text (inr r) = inr (settled_reply_named library s named list x (codes " not reduced") text r.0, r.1, r.2)
 replies_named library s named (commands.Command.Core x) (Unsettled list) steps text r = (unsettled_reply_named library s named list x (codes " unsettled") text r.0, r.1)
 replies_named library s named (commands.Command.Domain name elements) (Settled list) steps text r = absurd r
 replies_named library s named (commands.Command.Domain name elements) (Unsettled list) steps text r = absurd r

@@ -50,7 +50,7 @@ returns-in-Ok-clause-rests g c =
     record {
       lean = tt;
       earned = earns_core g.O.Order.picks (stored_of g.R.Rule.value_of s.network.library) (state_of s) (work_of s) (work_of t) (work_of u) c.args.name.now c.in-Ok.end c.in-Ok.steps c.core_reply.result.1 _ c.in-Ok.ensures.gone c.in-Ok.ensures.left
-          (rw kept.library at c.core_reply.ensures.tried) c.core_reply.ensures.untried (rw (kept.library, state) at c.core_reply.ensures.says);
+          (rw (kept.library, state) at c.core_reply.ensures.tried) c.core_reply.ensures.untried (rw (kept.library, state) at c.core_reply.ensures.says);
     }
 
 pub returns-in-Err-clause-step : goal.returns-in-Err-clause-step

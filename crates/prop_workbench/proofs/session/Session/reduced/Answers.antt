@@ -87,7 +87,7 @@ returns-in-Ok-clause-says g c =
     may_core library (state_of s) s.search.list name c.args.cell core answer (c.args.steps + c.in-Ok.tries) c.requires.named
     (settled_core library s.names s.words s.definitions s.search.premises s.network.cells s.limit s.search.list (set_of s.search.worldview) c.args.cell core believed rest (rw c.worldview.ensures at c.in-Ok.ensures.explains))
     c.in-Ok.ensures.least (used_up core c.args.steps c.in-Ok.tries s.limit c.requires.within c.in-Ok.ensures.spent)
-    (too_few library (state_of s) (set_of c.worldview.result) c.args.cell core c.args.steps c.requires.sound.at_work.known c.requires.within c.requires.few c.in-Ok.ensures.earned)
+    (too_few library (state_of s) (set_of c.worldview.result.now) c.args.cell core c.args.steps c.requires.sound.at_work.known c.requires.within c.requires.few c.in-Ok.ensures.earned)
     (subst (λ (t : State). IfLeast core (λ v ps. IsStrictlyIncreasing ps × Says answer (equation name (text_at t c.args.cell v) (because t.premises [] ps)))) state c.core_text.ensures.least)
     (subst (λ (t : State). IfNotReduced core (λ v ps. IsStrictlyIncreasing ps × Says answer (equation name (text_at t c.args.cell v) (because t.premises (codes " not reduced") ps)))) state c.core_text.ensures.not_reduced)
 
