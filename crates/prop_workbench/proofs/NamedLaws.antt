@@ -15,22 +15,22 @@ use Rattle.prop_workbench.specs.Engine.{workbench, learning}
 use Rattle.prop_workbench.specs.Shown.{ShownRunsAreRuns, ShownTranscripts, ShownFronts}
 
 module _ (library : List Stored) (related : ℕ → Param → List Point → Point → Type 0) (s : State) (named : List (List ℕ)) where
-  borne_named : (text : List ℕ) (says says_then : List ℕ → (ℕ → Point) → Type 0) → ((list : List ℕ) (points : ℕ → Point) → says list points → says_then list points) → IsBorneOut library related s text says → IsBorneOut library related (naming s named) text says_then
-  borne_named text says says_then then (inl h) = inl h
-  borne_named text says says_then then (inr (list, is_list, earlier, borne)) = inr (list, is_list, earlier, λ points satisfy. then list points (borne points satisfy))
+  borne_named : (text : List ℕ) (settled unsettled settled_then unsettled_then : List ℕ → (ℕ → Point) → Type 0) → ((list : List ℕ) (points : ℕ → Point) → settled list points → settled_then list points) →
+      ((list : List ℕ) (points : ℕ → Point) → unsettled list points → unsettled_then list points) → IsBorneOut library related s text settled unsettled → IsBorneOut library related (naming s named) text settled_then unsettled_then
+  borne_named text settled unsettled settled_then unsettled_then so so_far (inl h) = inl h
+  borne_named text settled unsettled settled_then unsettled_then so so_far (inr (inl (list, first, borne))) = inr (inl (list, first, λ points satisfy. so list points (borne points satisfy)))
+  borne_named text settled unsettled settled_then unsettled_then so so_far (inr (inr (list, is_list, earlier, borne))) = inr (inr (list, is_list, earlier, λ points satisfy. so_far list points (borne points satisfy)))
 
-  module _ (points : ℕ → Point) (x text : List ℕ) where
-    marked : (mark : List ℕ) → SaysPoint s points x mark text → SaysPoint (naming s named) points x mark text
-    marked mark h = record { cell = h.cell; cell_is = h.cell_is; v = h.v; holds = h.holds; text_is = h.text_is }
+  marked : (x text mark list : List ℕ) (points : ℕ → Point) → SaysPoint s points x mark text → SaysPoint (naming s named) points x mark text
+  marked x text mark list points h = record { cell = h.cell; cell_is = h.cell_is; v = h.v; holds = h.holds; text_is = h.text_is }
 
-    -- one of the two marks, or one of the three
-    either : (a b : List ℕ) → SaysPoint s points x a text ⊎ SaysPoint s points x b text → SaysPoint (naming s named) points x a text ⊎ SaysPoint (naming s named) points x b text
-    either a b (inl h) = inl (marked a h)
-    either a b (inr h) = inr (marked b h)
+  marked_because : (x text mark list : List ℕ) (points : ℕ → Point) → (ps : List ℕ) × SaysPoint s points x (because s.premises mark ps) text → (ps : List ℕ) × SaysPoint (naming s named) points x (because s.premises mark ps) text
+  marked_because x text mark list points (ps, h) = (ps, marked x text (because s.premises mark ps) list points h)
 
-    any : (a b c : List ℕ) → SaysPoint s points x a text ⊎ SaysPoint s points x b text ⊎ SaysPoint s points x c text → SaysPoint (naming s named) points x a text ⊎ SaysPoint (naming s named) points x b text ⊎ SaysPoint (naming s named) points x c text
-    any a b c (inl h) = inl (marked a h)
-    any a b c (inr h) = inr (either b c h)
+  either_because : (x text list : List ℕ) (points : ℕ → Point) → (ps : List ℕ) × (SaysPoint s points x (because s.premises [] ps) text ⊎ SaysPoint s points x (because s.premises (codes " not reduced") ps) text) →
+      (ps : List ℕ) × (SaysPoint (naming s named) points x (because s.premises [] ps) text ⊎ SaysPoint (naming s named) points x (because s.premises (codes " not reduced") ps) text)
+  either_because x text list points (ps, inl h) = (ps, inl (marked x text (because s.premises [] ps) list points h))
+  either_because x text list points (ps, inr h) = (ps, inr (marked x text (because s.premises (codes " not reduced") ps) list points h))
 
   -- what points bear out has nothing to do with the contradictions that were named
   bears_named : (command : Command) (text : List ℕ) → BearsOut library related s command text → BearsOut library related (naming s named) command text
@@ -49,16 +49,17 @@ module _ (library : List Stored) (related : ℕ → Param → List Point → Poi
   bears_named commands.Command.Settle text h = h
   bears_named commands.Command.Worldview text h = h
   bears_named (commands.Command.Ask x) text h =
-      borne_named text (λ list points. SaysPoint s points x [] text ⊎ SaysPoint s points x (codes " unsettled") text) (λ list points. SaysPoint (naming s named) points x [] text ⊎ SaysPoint (naming s named) points x (codes " unsettled") text)
-      (λ list points. either points x text [] (codes " unsettled")) h
+      borne_named text (λ list points. SaysPoint s points x [] text) (λ list points. SaysPoint s points x (codes " unsettled") text) (λ list points. SaysPoint (naming s named) points x [] text) (λ list points. SaysPoint (naming s named) points x (codes " unsettled") text)
+      (marked x text []) (marked x text (codes " unsettled")) h
   bears_named (commands.Command.Why x) text h =
-      borne_named text (λ list points. (ps : List ℕ) × (SaysPoint s points x (because s.premises [] ps) text ⊎ SaysPoint s points x (because s.premises (codes " unsettled") ps) text))
-      (λ list points. (ps : List ℕ) × (SaysPoint (naming s named) points x (because s.premises [] ps) text ⊎ SaysPoint (naming s named) points x (because s.premises (codes " unsettled") ps) text))
-      (λ list points h. (h.0, either points x text (because s.premises [] h.0) (because s.premises (codes " unsettled") h.0) h.1)) h
+      borne_named text (λ list points. (ps : List ℕ) × SaysPoint s points x (because s.premises [] ps) text) (λ list points. (ps : List ℕ) × SaysPoint s points x (because s.premises (codes " unsettled") ps) text)
+      (λ list points. (ps : List ℕ) × SaysPoint (naming s named) points x (because s.premises [] ps) text) (λ list points. (ps : List ℕ) × SaysPoint (naming s named) points x (because s.premises (codes " unsettled") ps) text)
+      (marked_because x text []) (marked_because x text (codes " unsettled")) h
   bears_named (commands.Command.Core x) text h =
-      borne_named text (λ list points. (ps : List ℕ) × (SaysPoint s points x (because s.premises [] ps) text ⊎ SaysPoint s points x (because s.premises (codes " not reduced") ps) text ⊎ SaysPoint s points x (because s.premises (codes " unsettled") ps) text))
-      (λ list points. (ps : List ℕ) × (SaysPoint (naming s named) points x (because s.premises [] ps) text ⊎ SaysPoint (naming s named) points x (because s.premises (codes " not reduced") ps) text ⊎ SaysPoint (naming s named) points x (because s.premises (codes " unsettled") ps) text))
-      (λ list points h. (h.0, any points x text (because s.premises [] h.0) (because s.premises (codes " not reduced") h.0) (because s.premises (codes " unsettled") h.0) h.1)) h
+      borne_named text (λ list points. (ps : List ℕ) × (SaysPoint s points x (because s.premises [] ps) text ⊎ SaysPoint s points x (because s.premises (codes " not reduced") ps) text))
+      (λ list points. (ps : List ℕ) × SaysPoint s points x (because s.premises (codes " unsettled") ps) text)
+      (λ list points. (ps : List ℕ) × (SaysPoint (naming s named) points x (because s.premises [] ps) text ⊎ SaysPoint (naming s named) points x (because s.premises (codes " not reduced") ps) text))
+      (λ list points. (ps : List ℕ) × SaysPoint (naming s named) points x (because s.premises (codes " unsettled") ps) text) (either_because x text) (marked_because x text (codes " unsettled")) h
 
   points_named : (line : List ℕ) (answer : Answer) → HoldsPoints library related s line answer → HoldsPoints library related (naming s named) line answer
   points_named line answer h command text read e = bears_named command text (h command text read e)

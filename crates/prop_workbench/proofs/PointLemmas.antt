@@ -55,21 +55,21 @@ module _ (library : List Stored) (related : ℕ → Param → List Point → Poi
 
   replied : (command : Command) (outcome : Outcome) (steps : ℕ) (text : List ℕ) → MayEnd library s outcome → Replies library s command outcome steps text → BearsOut library related s command text
   replied commands.Command.Settle (Contradiction ps) steps text ends r = inl (ps, r.1, ends.believes, refuted ps ends)
-  replied commands.Command.Settle (Settled l) steps text ends r = inr (l, ends.first.is_list, ends.first.earlier, λ points p. inl r)
-  replied commands.Command.Settle (Unsettled l) steps text ends r = inr (l, ends.is_list, ends.earlier, λ points p. inr r.0)
+  replied commands.Command.Settle (Settled l) steps text ends r = inr (inl (l, ends.first, λ points p. r))
+  replied commands.Command.Settle (Unsettled l) steps text ends r = inr (inr (l, ends.is_list, ends.earlier, λ points p. r.0))
   replied (commands.Command.Ask x) (Contradiction ps) steps text ends r = inl (ps, r.1, ends.believes, refuted ps ends)
-  replied (commands.Command.Ask x) (Settled l) steps text ends r = inr (l, ends.first.is_list, ends.first.earlier, λ points p. inl (said l points p x [] text r))
-  replied (commands.Command.Ask x) (Unsettled l) steps text ends r = inr (l, ends.is_list, ends.earlier, λ points p. inr (said_so_far l points p x (codes " unsettled") text r.0))
+  replied (commands.Command.Ask x) (Settled l) steps text ends r = inr (inl (l, ends.first, λ points p. said l points p x [] text r))
+  replied (commands.Command.Ask x) (Unsettled l) steps text ends r = inr (inr (l, ends.is_list, ends.earlier, λ points p. said_so_far l points p x (codes " unsettled") text r.0))
   replied (commands.Command.Why x) (Contradiction ps) steps text ends r = inl (ps, r.1, ends.believes, refuted ps ends)
-  replied (commands.Command.Why x) (Settled l) steps text ends r = inr (l, ends.first.is_list, ends.first.earlier, λ points p. (r.premises, inl (explained l points p x [] text r)))
-  replied (commands.Command.Why x) (Unsettled l) steps text ends r = inr (l, ends.is_list, ends.earlier, λ points p. (r.0.premises, inr (explained_so_far l points p x (codes " unsettled") text r.0)))
+  replied (commands.Command.Why x) (Settled l) steps text ends r = inr (inl (l, ends.first, λ points p. (r.premises, explained l points p x [] text r)))
+  replied (commands.Command.Why x) (Unsettled l) steps text ends r = inr (inr (l, ends.is_list, ends.earlier, λ points p. (r.0.premises, explained_so_far l points p x (codes " unsettled") text r.0)))
   replied (commands.Command.Core x) (Contradiction ps) steps text ends r = inl (ps, r.1, ends.believes, refuted ps ends)
-  replied (commands.Command.Core x) (Settled l) steps text ends (inl r) = inr (l, ends.first.is_list, ends.first.earlier, λ points p. (r.explained.premises, inl (explained l points p x [] text r.explained)))
-  replied (commands.Command.Core x) (Settled l) steps text ends (inr r) = inr (l, ends.first.is_list, ends.first.earlier, λ points p. (r.0.premises, inr (inl (explained l points p x (codes " not reduced") text r.0))))
-  replied (commands.Command.Core x) (Unsettled l) steps text ends r = inr (l, ends.is_list, ends.earlier, λ points p. (r.0.premises, inr (inr (explained_so_far l points p x (codes " unsettled") text r.0))))
+  replied (commands.Command.Core x) (Settled l) steps text ends (inl r) = inr (inl (l, ends.first, λ points p. (r.explained.premises, inl (explained l points p x [] text r.explained))))
+  replied (commands.Command.Core x) (Settled l) steps text ends (inr r) = inr (inl (l, ends.first, λ points p. (r.0.premises, inr (explained l points p x (codes " not reduced") text r.0))))
+  replied (commands.Command.Core x) (Unsettled l) steps text ends r = inr (inr (l, ends.is_list, ends.earlier, λ points p. (r.0.premises, explained_so_far l points p x (codes " unsettled") text r.0)))
   replied commands.Command.Worldview (Contradiction ps) steps text ends r = inl (ps, r.1, ends.believes, refuted ps ends)
-  replied commands.Command.Worldview (Settled l) steps text ends r = inr (l, ends.first.is_list, ends.first.earlier, λ points p. inl r)
-  replied commands.Command.Worldview (Unsettled l) steps text ends r = inr (l, ends.is_list, ends.earlier, λ points p. inr r.0)
+  replied commands.Command.Worldview (Settled l) steps text ends r = inr (inl (l, ends.first, λ points p. r))
+  replied commands.Command.Worldview (Unsettled l) steps text ends r = inr (inr (l, ends.is_list, ends.earlier, λ points p. r.0))
   replied command outcome steps text ends r = search rules
 
   ran : (command : Command) (answer : Answer) (new : State) (steps : ℕ) (text : List ℕ) → Runs library s command answer new steps → answer ≡ Text text → BearsOut library related s command text

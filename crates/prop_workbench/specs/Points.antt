@@ -7,7 +7,7 @@ use Rattle.prop_premises.specs.ChoiceLists.{IsChoiceList, hypotheticals_of}
 use Rattle.prop_procedures.specs.declared.shape.Param.{Param}
 use Rattle.prop_procedures.specs.Stored.{Stored}
 use Rattle.prop_cells.specs.Points.{Attached, ArePoints}
-use Rattle.prop_amb.specs.Refuted.{AllBeforeRefuted}
+use Rattle.prop_amb.specs.Refuted.{AllBeforeRefuted, IsFirstConsistent}
 use Rattle.prop_language.specs.Commands.{Command}
 use Rattle.prop_language.specs.Reading.{reading}
 use Rattle.prop_engine.specs.Answers.{Answer, Text}
@@ -36,22 +36,24 @@ abbrev pub AreRefuted : (ℕ → Param → List Point → Point → Type 0) → 
 AreRefuted related s ps =
     (list : List ℕ) → IsChoiceList (choices_in s) list → (points : ℕ → Point) → ArePoints related (attached_in s) (union (set_of ps) (hypotheticals_of (choices_in s) list)) points → ⊥
 
--- The text names a contradiction of believed premises that no points satisfy; or there is a choice list before which every list is refuted,
--- and the text says so much of all points that satisfy the state with that list.
-abbrev pub IsBorneOut : List Stored → (ℕ → Param → List Point → Point → Type 0) → State → List ℕ → (List ℕ → (ℕ → Point) → Type 0) → Type 0
-IsBorneOut library related s text says =
-    ((ps : List ℕ) × (text ≡ contradiction_text s.premises ps) × IsPart (set_of ps) (users_in s) × AreRefuted related s ps) ⊎
-    ((list : List ℕ) × IsChoiceList (choices_in s) list × AllBeforeRefuted (problem_in library s) (users_in s) (choices_in s) list × ((points : ℕ → Point) → Satisfy related s list points → says list points))
+-- What points bear out of a text: it names a contradiction of believed premises that no points satisfy; or it says so much of all points that satisfy
+-- the state with the first consistent choice list, where it is settled; or of those with some list before which every list is refuted, where it isn't.
+abbrev pub IsBorneOut : List Stored → (ℕ → Param → List Point → Point → Type 0) → State → List ℕ → (settled unsettled : List ℕ → (ℕ → Point) → Type 0) → Type 0
+IsBorneOut library related s text settled unsettled =
+    ((ps : List ℕ) × (text ≡ contradiction_text s.premises ps) × IsPart (set_of ps) (users_in s) × AreRefuted related s ps)
+    ⊎ ((list : List ℕ) × IsFirstConsistent (problem_in library s) (users_in s) (choices_in s) list × ((points : ℕ → Point) → Satisfy related s list points → settled list points))
+    ⊎ ((list : List ℕ) × IsChoiceList (choices_in s) list × AllBeforeRefuted (problem_in library s) (users_in s) (choices_in s) list × ((points : ℕ → Point) → Satisfy related s list points → unsettled list points))
 
--- what points bear out of an answer to a command that runs the network: a value holds its cell's point, settled or not
+-- what points bear out of an answer to a command that runs the network: a value holds its cell's point
 abbrev pub BearsOut : List Stored → (ℕ → Param → List Point → Point → Type 0) → State → Command → List ℕ → Type 0
-BearsOut library related s Command.Settle text = IsBorneOut library related s text (λ list points. (text ≡ codes "settled") ⊎ (text ≡ codes "unsettled"))
-BearsOut library related s (Command.Ask x) text = IsBorneOut library related s text (λ list points. SaysPoint s points x [] text ⊎ SaysPoint s points x (codes " unsettled") text)
+BearsOut library related s Command.Settle text = IsBorneOut library related s text (λ list points. text ≡ codes "settled") (λ list points. text ≡ codes "unsettled")
+BearsOut library related s (Command.Ask x) text = IsBorneOut library related s text (λ list points. SaysPoint s points x [] text) (λ list points. SaysPoint s points x (codes " unsettled") text)
 BearsOut library related s (Command.Why x) text =
-    IsBorneOut library related s text (λ list points. (ps : List ℕ) × (SaysPoint s points x (because s.premises [] ps) text ⊎ SaysPoint s points x (because s.premises (codes " unsettled") ps) text))
+    IsBorneOut library related s text (λ list points. (ps : List ℕ) × SaysPoint s points x (because s.premises [] ps) text) (λ list points. (ps : List ℕ) × SaysPoint s points x (because s.premises (codes " unsettled") ps) text)
 BearsOut library related s (Command.Core x) text =
-    IsBorneOut library related s text (λ list points. (ps : List ℕ) × (SaysPoint s points x (because s.premises [] ps) text ⊎ SaysPoint s points x (because s.premises (codes " not reduced") ps) text ⊎ SaysPoint s points x (because s.premises (codes " unsettled") ps) text))
-BearsOut library related s Command.Worldview text = IsBorneOut library related s text (λ list points. (text ≡ worldview_text s.premises (worldview_at s list)) ⊎ (text ≡ codes "unsettled"))
+    IsBorneOut library related s text (λ list points. (ps : List ℕ) × (SaysPoint s points x (because s.premises [] ps) text ⊎ SaysPoint s points x (because s.premises (codes " not reduced") ps) text))
+    (λ list points. (ps : List ℕ) × SaysPoint s points x (because s.premises (codes " unsettled") ps) text)
+BearsOut library related s Command.Worldview text = IsBorneOut library related s text (λ list points. text ≡ worldview_text s.premises (worldview_at s list)) (λ list points. text ≡ codes "unsettled")
 BearsOut library related s command text = ⊤
 
 -- points bear out what a line is answered
