@@ -1,34 +1,32 @@
 -- What an added entry changes, in each worldview.
-use Rattle.std.proofs.Common.{◌≡◌, ◌∙◌, ℕ, Bool, true, false, IsTrue, if◌then◌else◌, List, refl, sym, ap, Option, Some, None, inl, inr, slice_get}
+use Rattle.std.proofs.Common.{◌≡◌, ◌∙◌, ℕ, Bool, true, false, IsTrue, if◌then◌else◌, List, refl, sym, ap, Option, Some, None, inl, inr, All}
 use Rattle.std.proofs.lemmas.Bool.Decides.{eqb_tells}
 use Rattle.std.proofs.lemmas.Option.{get_or_from_slice_get}
+use Rattle.std.proofs.lemmas.List.Elements.{All-contains}
 use Rattle.prop_lattice.specs.declared.info.Info.{Info}
 use Rattle.prop_lattice.specs.declared.info.Info.TheVariants.{Nothing}
 use Rattle.prop_lattice.specs.Order.{Below, merge_of}
 use Rattle.prop_lattice.specs.OrderLaws.{info_laws}
 use Rattle.prop_lattice.specs.Rank.{IsOf}
-use Rattle.prop_premises.specs.Sets.{is_within}
+use Rattle.prop_premises.specs.Sets.{is_within, is_alike}
 use Rattle.prop_tms.specs.Beliefs.{belief_of}
+use Rattle.prop_tms.proofs.BeliefUses.{said_kept}
 use Rattle.prop_procedures.specs.declared.shape.Kinded.{Kinded}
 use Rattle.prop_procedures.specs.Stored.{span_kind}
 use Rattle.prop_cells.specs.Problems.{Premises, Assignment, AreOfKinds, MergesAt, is_member}
 use Rattle.prop_procedures.specs.Fitting.{kind_at}
-use Rattle.prop_cells.specs.Data.{Entry, AddsAt, Merges, beliefs, support_of}
+use Rattle.prop_cells.specs.Data.{Data, Entry, IsWellMade, AddsAt, Merges, beliefs, content_of, support_of}
 use Rattle.prop_cells.proofs.Fitted.{merge_of_kind}
-use Rattle.prop_cells.proofs.Fixpoint.{merges_grow}
+use Rattle.prop_cells.proofs.Fixpoint.{All-from_contains, merges_grow}
 
-pub merged_of_kinds : (kinds : List Kinded) (a b : Assignment) (cell : ℕ) (v : Info) → IsOf (kind_at kinds cell).kind (kind_at kinds cell).size v → MergesAt a b cell v → AreOfKinds kinds a → AreOfKinds kinds b
-merged_of_kinds kinds a b cell v of_kind m h = record {
-  of_kind = λ c k e.
-      elim (eqb_tells c cell) as (λ _. IsOf k.kind k.size (b c)) [
-        | inl same ↦
-            (let at_cell : slice_get kinds cell ≡ Some k = rw same.1 at e in
-            let k_is : kind_at kinds cell ≡ k = get_or_from_slice_get kinds cell k span_kind at_cell in
-            let of_k : IsOf k.kind k.size v = rw k_is at of_kind in
-            let old : IsOf k.kind k.size (a cell) = h.of_kind cell k at_cell in
-            rw (same.1, m.merged) (merge_of_kind k.kind k.size (a cell) v old of_k))
-        | inr other ↦ rw (m.others c other.1) (h.of_kind c k e)
-      ];
+-- where each entry is of its cell's kind, so is what is believed
+pub beliefs_of_kinds : (d : Data) → IsWellMade d → (s : Premises) → AreOfKinds d.kinds (beliefs s d.contents)
+beliefs_of_kinds d made s = record {
+  of_kind = λ cell k at.
+      let k_is : kind_at d.kinds cell ≡ k = get_or_from_slice_get d.kinds cell k span_kind at in
+      let each = rw k_is at made.of_kinds cell in
+      said_kept Nothing merge_of (λ e. is_within s e.support) (IsOf k.kind k.size) tt (merge_of_kind k.kind k.size) (content_of d.contents cell)
+      (λ x c on. All-contains (λ e. IsOf k.kind k.size e.value) (content_of d.contents cell) x each c);
 }
 
 module _ (old new : List (List Entry)) (cell : ℕ) (e : Entry) (a : AddsAt old new cell e) where
@@ -54,12 +52,19 @@ module _ (old new : List (List Entry)) (cell : ℕ) (e : Entry) (a : AddsAt old 
       by true on = merges_grow (beliefs t old) (beliefs t new) cell e.value (adds_merges t on) c
       by false off = rw (adds_same t off c) (info_laws.reflexive (beliefs t old c))
 
-  pub adds_of_kinds : (kinds : List Kinded) (t : Premises) → IsOf (kind_at kinds cell).kind (kind_at kinds cell).size e.value → AreOfKinds kinds (beliefs t old) → AreOfKinds kinds (beliefs t new)
-  adds_of_kinds kinds t of_kind h = by (is_within t e.support) refl
-    where
-      by : (b : Bool) → is_within t e.support ≡ b → AreOfKinds kinds (beliefs t new)
-      by true on = merged_of_kinds kinds (beliefs t old) (beliefs t new) cell e.value of_kind (adds_merges t on) h
-      by false off = record { of_kind = λ c k at. rw (adds_same t off c) (h.of_kind c k at) }
+  pub adds_of_kinds : (kinds : List Kinded) → IsOf (kind_at kinds cell).kind (kind_at kinds cell).size e.value → ((c : ℕ) → All (λ x. IsOf (kind_at kinds c).kind (kind_at kinds c).size x.value) (content_of old c)) →
+      (c : ℕ) → All (λ x. IsOf (kind_at kinds c).kind (kind_at kinds c).size x.value) (content_of new c)
+  adds_of_kinds kinds of_kind h c =
+      elim (eqb_tells c cell) as (λ _. All (λ x. IsOf (kind_at kinds c).kind (kind_at kinds c).size x.value) (content_of new c)) [
+        | inl same ↦
+            (let k = kind_at kinds cell in
+            rw same.1 (All-from_contains (λ x. IsOf k.kind k.size x.value) (content_of new cell) (λ x at. elim (a.adds.only x at) as (λ _. IsOf k.kind k.size x.value) [
+              | inl there ↦ All-contains (λ y. IsOf k.kind k.size y.value) (content_of old cell) x (h cell) there
+              | inr is ↦ rw is (merge_of_kind k.kind k.size e.value _ of_kind (said_kept Nothing merge_of (λ y. is_alike y.support e.support) (IsOf k.kind k.size) tt (merge_of_kind k.kind k.size) (content_of old cell)
+                  (λ y c on. All-contains (λ z. IsOf k.kind k.size z.value) (content_of old cell) y (h cell) c)))
+            ])))
+        | inr other ↦ rw (a.others c other.1) (h c)
+      ]
 
 -- whoever believes the premise of a statement believes its entry
 pub within_own : (t : Premises) (o : Option ℕ) → IsTrue (is_member t o) → is_within t (support_of o) ≡ true

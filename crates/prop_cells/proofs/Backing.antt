@@ -11,6 +11,7 @@ use Rattle.prop_cells.specs.Instances.{Instance, IsWithin, readers_of, writers_o
 use Rattle.prop_cells.specs.Data.{Data, Entry, IsWellMade, IsStored}
 use Rattle.prop_cells.specs.Rooms.{Unnoted}
 use Rattle.prop_cells.specs.Back.{GoesBackTo}
+use Rattle.prop_cells.proofs.Telling.{told_taken}
 use Rattle.prop_cells.proofs.RowLemmas.{or_none, rows_unnoted, rows_taken, numbers_none}
 
 -- ---- back to what was there before
@@ -58,9 +59,9 @@ module _ (before d : Data) (h : GoesBackTo before d) where
 
 -- ---- the last instance
 
-pub stored_unnoted : (d : Data) (old_reading old_writing reading writing : List (List ℕ)) (x : Instance) → Unnoted old_reading reading x.inputs → Unnoted old_writing writing (x.output ∷ []) →
-    IsStored (record d { instances = d.instances ++ x ∷ [] }) old_reading old_writing → IsStored d reading writing
-stored_unnoted d old_reading old_writing reading writing x read written h = record {
+pub stored_unnoted : (d : Data) (old_reading old_writing reading writing told : List (List ℕ)) (x : Instance) → Unnoted old_reading reading x.inputs → Unnoted old_writing writing (x.output ∷ []) →
+    IsStored (record d { instances = d.instances ++ x ∷ [] }) old_reading old_writing told → IsStored d reading writing told
+stored_unnoted d old_reading old_writing reading writing told x read written h = record {
   made = record {
     contents_length = h.made.contents_length;
     within = (All-pop (IsWithin (length d.kinds)) (d.instances ++ x ∷ []) d.instances (Some x) refl h.made.within).0;
@@ -69,6 +70,7 @@ stored_unnoted d old_reading old_writing reading writing x read written h = reco
   };
   readers = rows_unnoted (length d.kinds) (λ cell y. list_any (λ input. input == cell) y.inputs) d.instances x x.inputs old_reading reading h.readers read (λ cell. refl);
   writers = rows_unnoted (length d.kinds) (λ cell y. y.output == cell) d.instances x (x.output ∷ []) old_writing writing h.writers written (λ cell. sym (or_none (x.output == cell)));
+  told = record { count = h.told.count; each = h.told.each };
 }
 
 -- ---- the last cells
@@ -90,12 +92,13 @@ module _ (n cell : ℕ) (l : n ≤ cell) (instances : List Instance) (h : All (I
   none_writes = numbers_none (λ x. x.output == cell) 0 instances
       (All-weaker (IsWithin n) (λ x. x.output == cell ≡ false) (λ x w. let o = w.output in ne_eqb x.output cell (omega (arith, o, l))) instances h)
 
-pub stored_taken : (d : Data) (reading writing : List (List ℕ)) (count : ℕ) → IsWellMade (record d { kinds = take count d.kinds; contents = take count d.contents }) → IsStored d reading writing →
-    IsStored (record d { kinds = take count d.kinds; contents = take count d.contents }) (take count reading) (take count writing)
-stored_taken d reading writing count made h =
+pub stored_taken : (d : Data) (reading writing told : List (List ℕ)) (count : ℕ) → IsWellMade (record d { kinds = take count d.kinds; contents = take count d.contents }) → IsStored d reading writing told →
+    IsStored (record d { kinds = take count d.kinds; contents = take count d.contents }) (take count reading) (take count writing) (take count told)
+stored_taken d reading writing told count made h =
     let n = length-take count d.kinds in
     record {
       made = made;
       readers = rw n (rows_taken (length d.kinds) count (readers_of d.instances) reading h.readers (λ cell l. none_reads (length (take count d.kinds)) cell (omega (arith, n, l)) d.instances made.within));
       writers = rw n (rows_taken (length d.kinds) count (writers_of d.instances) writing h.writers (λ cell l. none_writes (length (take count d.kinds)) cell (omega (arith, n, l)) d.instances made.within));
+      told = told_taken d told count made h.told;
     }

@@ -5,10 +5,11 @@ use Rattle.std.proofs.lemmas.List.{append-nil, append_assoc, ext_get_or, length-
 use Rattle.std.proofs.lemmas.List.Elements.{All-contains, All-head, All-tail, All-weaker}
 use Rattle.std.proofs.Math.Seq.{take-length}
 use Rattle.prop_lattice.specs.declared.info.Info.{Info}
-use Rattle.prop_lattice.specs.Order.{Below}
+use Rattle.prop_lattice.specs.declared.info.Info.TheVariants.{Nothing}
+use Rattle.prop_lattice.specs.Order.{Below, merge_of}
 use Rattle.prop_premises.specs.Sets.{set_of, is_below}
 use Rattle.prop_premises.proofs.WithinLemmas.{within_has, within_from}
-use Rattle.prop_tms.specs.Beliefs.{Subsumes}
+use Rattle.prop_tms.specs.Beliefs.{Subsumes, joined_with}
 use Rattle.prop_tms.proofs.KeptLemmas.{grown_filter}
 use Rattle.prop_procedures.specs.Stored.{Stored}
 use Rattle.prop_cells.specs.declared.instance.Statement.{Statement}
@@ -112,7 +113,8 @@ module _ (first p : ℕ) (l : first ≤ p) where
       let x : Statement = side_at p cell info in
       let before : take (length old.statements) cur.statements ≡ old.statements = ap (λ d. d.statements) h in
       let statements : take (length old.statements) (cur.statements ++ x ∷ []) ≡ take (length old.statements) cur.statements = take_more_of old.statements cur.statements (x ∷ []) before ∙ sym before in
-      let left = grown_filter (Subsumes Below (record { value = info; support = p ∷ [] })) (λ e. is_below first e.support) (record { value = info; support = p ∷ [] }) rests (subsumed_rest info)
+      let stood : Entry = joined_with Nothing merge_of (content_of cur.contents cell) (record { value = info; support = p ∷ [] }) in
+      let left = grown_filter (Subsumes Below stood) (λ e. is_below first e.support) stood rests (subsumed_rest stood.value)
       (content_of cur.contents cell) (content_of new.contents cell) stands in
       let entries : entries_below first new.contents cell ≡ entries_below first cur.contents cell =
       ap (slice_set new.contents cell) left ∙ set_agree new.contents cur.contents cell (filter (λ e. is_below first e.support) (content_of cur.contents cell)) [] s.adds.same_length s.adds.others in

@@ -1,9 +1,10 @@
 -- The sides of a choice at a cell: statements under premises with numbers in a row, which are made all or none.
 use Rattle.std.specs.Prelude.{◌≡◌, ◌<◌, ℕ, suc, List, [], ◌∷◌, Some, All, take, filter, slice_set}
 use Rattle.prop_lattice.specs.declared.info.Info.{Info}
-use Rattle.prop_lattice.specs.Order.{Below}
+use Rattle.prop_lattice.specs.declared.info.Info.TheVariants.{Nothing}
+use Rattle.prop_lattice.specs.Order.{Below, merge_of}
 use Rattle.prop_premises.specs.Sets.{is_below}
-use Rattle.prop_tms.specs.Beliefs.{Subsumes}
+use Rattle.prop_tms.specs.Beliefs.{Subsumes, joined_with}
 use Rattle.prop_tms.specs.Kept.{IsGrownBy}
 use Rattle.prop_cells.specs.declared.instance.Statement.{Statement}
 use Rattle.prop_cells.specs.Data.{Data, Entry, States, content_of}
@@ -22,9 +23,10 @@ StatesAll old new (x ∷ xs) = (next : Data) × States old next x × StatesAll n
 abbrev pub AreUnderBelow : ℕ → List Statement → Type 0
 AreUnderBelow first statements = All (λ x. (p : ℕ) → x.premise ≡ Some p → p < first) statements
 
--- the entry stands last at the cell, without those that it subsumes; or the cell stays
+-- the entry, with what those on its premises say, stands last at the cell, without those that it subsumes; or the cell stays
 abbrev pub StandsAt : List (List Entry) → List (List Entry) → ℕ → Entry → Type 0
-StandsAt old new cell e = IsGrownBy (Subsumes Below e) (content_of old cell) (content_of new cell) e
+StandsAt old new cell e =
+    IsGrownBy (Subsumes Below (joined_with Nothing merge_of (content_of old cell) e)) (content_of old cell) (content_of new cell) (joined_with Nothing merge_of (content_of old cell) e)
 
 -- the cell's entries with premises below this alone
 abbrev pub entries_below : ℕ → List (List Entry) → ℕ → List (List Entry)

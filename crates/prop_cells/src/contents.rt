@@ -1,9 +1,11 @@
 //! The entries of cells, in one worldview.
-ghost use Rattle.std.specs.Prelude.{◌≡◌, ◌≢◌, ◌<◌, ℕ, List, [], length, map, All, IsOk, IfOk, IfSome, OnOk, OnErr, None};
+ghost use Rattle.std.specs.Prelude.{◌≡◌, ◌≢◌, ◌<◌, ◌≤◌, ◌⊎◌, ℕ, List, [], length, filter, not, map, All, Contains, IsTrue, IsOk, IfOk, IfSome, OnOk, OnErr, None};
 ghost use Rattle.std.specs.List.{list_any};
-ghost use Rattle.prop_premises.specs.Sets.{set_of};
+ghost use Rattle.prop_lattice.specs.Order.{merge_of};
+ghost use Rattle.prop_tms.specs.Beliefs.{AreNeeded};
+ghost use Rattle.prop_premises.specs.Sets.{set_of, is_at_most_one_of};
 ghost use Rattle.prop_cells.specs.Problems.{is_contradiction};
-ghost use Rattle.prop_cells.specs.Data.{beliefs, support_of, IsSupport, IsLeanAt, AddsAt};
+ghost use Rattle.prop_cells.specs.Data.{beliefs, support_of, IsSupport, IsLeanAt, AddsAt, TrimsAt, Entry, content_of};
 ghost use Rattle.prop_cells.specs.Sides.{StandsAt, entries_below};
 
 use prop_lattice::{Info, Partial};
@@ -117,6 +119,27 @@ pub(crate) fn add_to(
 {
     contents[cell].add(value, support)?;
     Ok(())
+}
+
+/// How many derived entries a cell may keep that the present worldview does without.
+const MOST_DERIVED: usize = 8;
+
+/// Drops entries of a cell that the worldview does without, where there are too many that rest on something else than one of the
+/// premises that were told of it. It takes no memory.
+pub(crate) fn trim_at(
+    contents: &mut Vec<Tms<Info>>,
+    cell: usize,
+    told: &PremiseSet,
+    worldview: &Worldview,
+)
+    requires { cell < length contents.old.items }
+    ensures trims { TrimsAt (set_of worldview.now) contents.old.items contents.new.items cell }
+    ensures kept { (e : Entry) → Contains (content_of contents.old.items cell) e → IsTrue (is_at_most_one_of (set_of told.now) e.support) → Contains (content_of contents.new.items cell) e }
+    ensures bounded { (length (filter (λ e. not (is_at_most_one_of (set_of told.now) e.support)) (content_of contents.new.items cell)) ≤ 8) ⊎ AreNeeded Info.Nothing merge_of (set_of told.now) (set_of worldview.now) (content_of contents.new.items cell) }
+{
+    if contents[cell].derived(told) > MOST_DERIVED {
+        contents[cell].trim(told, worldview);
+    }
 }
 
 /// Drops the entries of a cell whose support holds a premise with this number or a larger one.

@@ -1,5 +1,5 @@
 -- Sets of premises, as tests of which numbers are in them.
-use Rattle.std.specs.Prelude.{◌≡◌, ℕ, Bool, ◌==◌, ◌||◌, ◌&&◌, not, nat_lt, ◌<◌, IsTrue, List}
+use Rattle.std.specs.Prelude.{◌≡◌, ℕ, Bool, true, ◌==◌, ◌||◌, ◌&&◌, not, nat_lt, ◌<◌, IsTrue, List, [], ◌∷◌}
 use Rattle.std.specs.List.{list_any, list_all}
 
 abbrev pub Members : Type 0
@@ -32,6 +32,15 @@ IsBelow n s = (p : ℕ) → IsTrue (s p) → p < n
 -- whether each of these numbers is in the set
 abbrev pub is_within : Members → List ℕ → Bool
 is_within s ps = list_all s ps
+
+-- whether the two lists have the same numbers
+abbrev pub is_alike : List ℕ → List ℕ → Bool
+is_alike ps qs = is_within (set_of qs) ps && is_within (set_of ps) qs
+
+-- whether there is no number in the list, or no other than one in the set
+abbrev pub is_at_most_one_of : Members → List ℕ → Bool
+is_at_most_one_of s [] = true
+is_at_most_one_of s (p ∷ ps) = s p && is_within (set_of (p ∷ [])) ps
 
 -- whether each of these numbers is below n
 abbrev pub is_below : ℕ → List ℕ → Bool

@@ -1,7 +1,7 @@
 //! Sets of premises.
 ghost use Rattle.std.specs.Prelude.{◌≡◌, ◌↔◌, ◌<◌, List, ℕ, [], ◌∷◌, All, IsTrue, IfOk};
 ghost use Rattle.std.specs.List.Sorted.{IsStrictlyIncreasing};
-ghost use Rattle.prop_premises.specs.Sets.{set_of, union, without, is_below, is_within, IsSame};
+ghost use Rattle.prop_premises.specs.Sets.{set_of, union, without, is_below, is_within, is_alike, is_at_most_one_of, IsSame};
 
 use crate::numbers::Numbers;
 use crate::order::{all_but, merged};
@@ -76,6 +76,20 @@ impl PremiseSet {
         ensures { result ≡ is_within (set_of other.now) self.now }
     {
         self.numbers.iter().all(|p| other.contains(*p))
+    }
+
+    /// Whether the same premises are in both sets. It takes no memory.
+    pub fn is_same(&self, other: &PremiseSet) -> bool
+        ensures { result ≡ is_alike self.now other.now }
+    {
+        self.is_subset(other) && other.is_subset(self)
+    }
+
+    /// Whether the set has no premise, or a single one that is in the other set. It takes no memory.
+    pub fn is_at_most_one_of(&self, other: &PremiseSet) -> bool
+        ensures { result ≡ is_at_most_one_of (set_of other.now) self.now }
+    {
+        self.numbers.len() <= 1 && self.is_subset(other)
     }
 
     /// Whether the premise is in the set. It takes no memory.

@@ -1,16 +1,16 @@
 -- What entries say in each worldview, in any order of information.
-use Rattle.std.proofs.Common.{◌≡◌, ◌∙◌, ◌<◌, ℕ, Bool, true, false, List, [], ◌∷◌, ◌++◌, length, get_or, take, ◌+◌, refl, sym, ap, inl, inr, Contains, filter, cond, if◌then◌else◌, append-nil}
+use Rattle.std.proofs.Common.{◌≡◌, ◌∙◌, ◌<◌, ℕ, Bool, true, false, ◌&&◌, List, [], ◌∷◌, ◌++◌, length, get_or, take, ◌+◌, refl, sym, ap, inl, inr, Contains, filter, cond, if◌then◌else◌, append-nil}
 use Rattle.std.specs.List.{AllByRecursion}
 use Rattle.std.proofs.lemmas.List.{take_more}
 use Rattle.std.proofs.lemmas.List.Elements.{All-contains, All-from_recursion, recursion_from_All, Contains-get_or, Contains-append_left, Contains-push, Contains-push_cases, filter-append}
 use Rattle.std.proofs.lemmas.List.Quantifiers.{all_pairs_push}
 use Rattle.prop_lattice.specs.Laws.{IsInformationOrder}
-use Rattle.prop_premises.specs.Sets.{Members, is_within}
+use Rattle.prop_premises.specs.Sets.{Members, set_of, is_within, is_alike}
 use Rattle.prop_premises.proofs.WithinLemmas.{is_within-trans}
-use Rattle.prop_tms.specs.Beliefs.{merge_of_all, believed_of, belief_of, Subsumes, NoneSubsumed, IsNeedless, Adds}
+use Rattle.prop_tms.specs.Beliefs.{merge_of_all, believed_of, belief_of, Subsumes, NoneSubsumed, NoneAlike, IsNeedless, Adds, joined_with}
 use Rattle.prop_tms.specs.Kept.{IsLeftWithout}
 use Rattle.prop_tms.specs.declared.supported.Supported.{Supported}
-use Rattle.prop_tms.proofs.MergedLemmas.{first_below, second_below, join_below, merged_below, below_merged, merge_of_all-push, join-above}
+use Rattle.prop_tms.proofs.MergedLemmas.{first_below, second_below, join_below, merged_below, below_merged, merge_of_all-push, join-above, join-assoc}
 use Rattle.prop_tms.proofs.KeptLemmas.{left_only, left_kept, left_none, left_pairs}
 
 filtered : {X : Type 0} (t : X → Bool) (P : X → Type 0) (xs : List X) → AllByRecursion (λ x. t x ≡ true → P x) xs → AllByRecursion P (filter t xs)
@@ -29,6 +29,14 @@ unfiltered t P (x ∷ xs) h = by (t x) refl h (λ k. unfiltered t P xs k)
         (t x ≡ true → P x) × AllByRecursion (λ y. t y ≡ true → P y) xs
     by true e k rest = (λ sure. k.0, rest k.1)
     by false e k rest = (λ sure. absurd (cc (e, sure)), rest k)
+
+and_first : (b c : Bool) → (b && c) ≡ true → b ≡ true
+and_first true c h = refl
+and_first false c h = cc
+
+and_second : (b c : Bool) → (b && c) ≡ true → c ≡ true
+and_second true c h = h
+and_second false c h = cc
 
 module _ {V : Type 0} {below : V → V → Type 0} {bottom top : V} {join : V → V → V} (laws : IsInformationOrder below bottom top join) where
   -- a belief is the least value above those of the believed entries
@@ -95,11 +103,71 @@ module _ {V : Type 0} {below : V → V → Type 0} {bottom top : V} {join : V �
       more : below then_ now
       more = both b (λ t. here (at ∙ t))
 
-  pub adds_joined : (old rest : List (Supported V)) (e : Supported V) → IsLeftWithout (Subsumes below e) old rest → Adds bottom join old (rest ++ e ∷ []) e
+  -- nothing is needless but what is least, or is subsumed
+  pub needless_nothing : (es : List (Supported V)) (e : Supported V) → below e.value bottom → IsNeedless below bottom es e
+  needless_nothing es e h = inl (laws.antisymmetric e.value bottom h (laws.from_bottom e.value))
+
+  -- what the entries on the same premises say
+  alike_said : List (Supported V) → Supported V → V
+  alike_said es e = merge_of_all bottom join (filter (λ x. is_alike x.support e.support) es)
+
+  alike_on : (w : Members) (x e : Supported V) → is_alike x.support e.support ≡ true → is_within w e.support ≡ true → is_within w x.support ≡ true
+  alike_on w x e alike on = is_within-trans w x.support e.support on (and_first (is_within (set_of e.support) x.support) (is_within (set_of x.support) e.support) alike)
+
+  -- is no more than is believed where these premises are
+  alike_below : (w : Members) (es : List (Supported V)) (e : Supported V) → is_within w e.support ≡ true → below (alike_said es e) (belief_of bottom join w es)
+  alike_below w es e on =
+      let z = belief_of bottom join w es in
+      merged_below laws (filter (λ x. is_alike x.support e.support) es) z (filtered (λ x. is_alike x.support e.support) (λ x. below x.value z) es
+      (recursion_from_All (λ x. is_alike x.support e.support ≡ true → below x.value z) es (λ k d l alike. below_belief w es (get_or es k d) (Contains-get_or es k d l) (alike_on w (get_or es k d) e alike on))))
+
+  -- and no less than each of them says
+  below_alike : (es : List (Supported V)) (e x : Supported V) → Contains es x → is_alike x.support e.support ≡ true → below x.value (alike_said es e)
+  below_alike es e x =
+      let z = alike_said es e in
+      All-contains (λ y. is_alike y.support e.support ≡ true → below y.value z) es x
+      (All-from_recursion (λ y. is_alike y.support e.support ≡ true → below y.value z) es
+      (unfiltered (λ y. is_alike y.support e.support) (λ y. below y.value z) es (below_merged laws (filter (λ y. is_alike y.support e.support) es))))
+
+  -- an entry joins those that are left, with what those on its premises said
+  pub adds_joined : (old rest : List (Supported V)) (e : Supported V) → IsLeftWithout (Subsumes below (joined_with bottom join old e)) old rest → Adds bottom join old (rest ++ joined_with bottom join old e ∷ []) e
   adds_joined old rest e left = record {
-    beliefs = λ w. belief-joined w old rest e left (is_within w e.support) refl;
-    only = λ x c. elim (Contains-push_cases rest e x c) [ inl there ↦ inl (left_only (Subsumes below e) old rest x left there) | inr is ↦ inr (sym is) ];
+    beliefs = λ w. belief-joined w old rest m left (is_within w e.support) refl ∙ by w (is_within w e.support) (λ on. alike_below w old e on);
+    only = λ x c. elim (Contains-push_cases rest m x c) [ inl there ↦ inl (left_only (Subsumes below m) old rest x left there) | inr is ↦ inr (sym is) ];
   }
+    where
+      m : Supported V
+      m = joined_with bottom join old e
+
+      same : (before said : V) → below said before → join before (join e.value said) ≡ join before e.value
+      same before said h = join-assoc laws before e.value said ∙ join-above laws (join before e.value) said (laws.transitive said before (join before e.value) h (first_below laws before e.value))
+
+      by : (w : Members) (b : Bool) → (b ≡ true → below (alike_said old e) (belief_of bottom join w old)) →
+          (if b then join (belief_of bottom join w old) m.value else belief_of bottom join w old) ≡ (if b then join (belief_of bottom join w old) e.value else belief_of bottom join w old)
+      by w true h = same (belief_of bottom join w old) (alike_said old e) (h refl)
+      by w false h = refl
+
+  -- where the entry was needed, so is what it joins
+  pub needed_joined : (old : List (Supported V)) (e : Supported V) → ¬ (IsNeedless below bottom old e) → ¬ (IsNeedless below bottom old (joined_with bottom join old e))
+  needed_joined old e needed (inl none) = needed (needless_nothing old e (rw none at (first_below laws e.value (alike_said old e))))
+  needed_joined old e needed (inr some) =
+      let x = some.1 in
+      needed (inr (some.0, x, some.2, some.3, record { value = laws.transitive e.value _ x.value (first_below laws e.value (alike_said old e)) some.4.value; support = some.4.support }))
+
+  -- what is left rests on other premises
+  pub none_alike-joined : (old rest : List (Supported V)) (e : Supported V) → IsLeftWithout (Subsumes below (joined_with bottom join old e)) old rest → NoneAlike old → NoneAlike (rest ++ joined_with bottom join old e ∷ [])
+  none_alike-joined old rest e left alone =
+      all_pairs_push (λ a b. is_alike a.support b.support ≡ false) rest (joined_with bottom join old e) (left_pairs (Subsumes below (joined_with bottom join old e)) (λ a b. is_alike a.support b.support ≡ false) old rest left alone)
+      (λ k d l. by (get_or rest k d) (left_only (Subsumes below (joined_with bottom join old e)) old rest (get_or rest k d) left (Contains-get_or rest k d l)) (left_none (Subsumes below (joined_with bottom join old e)) old rest left k d l)
+      (is_alike (get_or rest k d).support e.support) refl)
+    where
+      by : (x : Supported V) → Contains old x → ¬ (Subsumes below (joined_with bottom join old e) x) → (b : Bool) → is_alike x.support e.support ≡ b → b ≡ false
+      by x c apart true alike =
+          absurd (apart (record {
+            value = laws.transitive x.value (alike_said old e) _ (below_alike old e x c alike) (second_below laws e.value (alike_said old e));
+            support = and_second (is_within (set_of e.support) x.support) (is_within (set_of x.support) e.support) alike;
+          }))
+      by x c apart false alike = refl
 
   needless_below : (w : Members) (es : List (Supported V)) (e : Supported V) → IsNeedless below bottom es e → is_within w e.support ≡ true → below e.value (belief_of bottom join w es)
   needless_below w es e (inl none) sure = rw none (laws.from_bottom (belief_of bottom join w es))
@@ -128,23 +196,24 @@ module _ {V : Type 0} {below : V → V → Type 0} {bottom top : V} {join : V �
         (λ s. left_none (Subsumes below e) old rest left k d l s),
       ))
 
-  -- nothing is needless but what is least, or is subsumed
-  pub needless_nothing : (es : List (Supported V)) (e : Supported V) → below e.value bottom → IsNeedless below bottom es e
-  needless_nothing es e h = inl (laws.antisymmetric e.value bottom h (laws.from_bottom e.value))
-
   -- ---- one more entry
 
-  pub belief-push : (w : Members) (es : List (Supported V)) (e : Supported V) (b : Bool) → is_within w e.support ≡ b →
-      belief_of bottom join w (es ++ e ∷ []) ≡ (if b then join (belief_of bottom join w es) e.value else belief_of bottom join w es)
-  belief-push w es e b at = ap (merge_of_all bottom join) (filter-append (λ x. is_within w x.support) es (e ∷ [])) ∙ by b at
+  -- of what those say that pass a test
+  said-push : (t : Supported V → Bool) (es : List (Supported V)) (e : Supported V) (b : Bool) → t e ≡ b →
+      merge_of_all bottom join (filter t (es ++ e ∷ [])) ≡ (if b then join (merge_of_all bottom join (filter t es)) e.value else merge_of_all bottom join (filter t es))
+  said-push t es e b at = ap (merge_of_all bottom join) (filter-append t es (e ∷ [])) ∙ by b at
     where
-      by : (b : Bool) → is_within w e.support ≡ b →
-          merge_of_all bottom join (believed_of w es ++ cond (is_within w e.support) (e ∷ []) []) ≡ (if b then join (belief_of bottom join w es) e.value else belief_of bottom join w es)
-      by true h = rw h (merge_of_all-push laws (believed_of w es) e)
-      by false h = rw (h, append-nil (believed_of w es)) refl
+      by : (b : Bool) → t e ≡ b →
+          merge_of_all bottom join (filter t es ++ cond (t e) (e ∷ []) []) ≡ (if b then join (merge_of_all bottom join (filter t es)) e.value else merge_of_all bottom join (filter t es))
+      by true h = rw h (merge_of_all-push laws (filter t es) e)
+      by false h = rw (h, append-nil (filter t es)) refl
+
+  pub said-more : (t : Supported V → Bool) (es : List (Supported V)) (i : ℕ) (e : Supported V) (b : Bool) → i < length es → e ≡ get_or es i e → t e ≡ b →
+      merge_of_all bottom join (filter t (take (i + 1) es)) ≡ (if b then join (merge_of_all bottom join (filter t (take i es))) e.value else merge_of_all bottom join (filter t (take i es)))
+  said-more t es i e b l is at =
+      let bigger : take (i + 1) es ≡ take i es ++ e ∷ [] = rw (take_more es i e l, ← is) refl in
+      rw bigger (said-push t (take i es) e b at)
 
   pub belief-more : (w : Members) (es : List (Supported V)) (i : ℕ) (e : Supported V) (b : Bool) → i < length es → e ≡ get_or es i e → is_within w e.support ≡ b →
       belief_of bottom join w (take (i + 1) es) ≡ (if b then join (belief_of bottom join w (take i es)) e.value else belief_of bottom join w (take i es))
-  belief-more w es i e b l is at =
-      let bigger : take (i + 1) es ≡ take i es ++ e ∷ [] = rw (take_more es i e l, ← is) refl in
-      rw bigger (belief-push w (take i es) e b at)
+  belief-more w es i e b l is at = said-more (λ x. is_within w x.support) es i e b l is at

@@ -32,15 +32,20 @@ belief_of-below bottom join n w low es =
     ap (merge_of_all bottom join) (filter_idle (λ e. is_below n e.support) (λ e. is_within w e.support)
     (λ x on. within_from (λ p. nat_lt p n) x.support (λ p t. lt_test p n (low p (within_has w x.support p on t)))) es)
 
+-- what entries say that pass a test keeps what each of them keeps
+pub said_kept : {V : Type 0} (bottom : V) (join : V → V → V) (t : Supported V → Bool) (P : V → Type 0) → P bottom → ((a b : V) → P a → P b → P (join a b)) → (es : List (Supported V)) →
+    ((x : Supported V) → Contains es x → t x ≡ true → P x.value) → P (merge_of_all bottom join (filter t es))
+said_kept bottom join t P base both [] h = base
+said_kept bottom join t P base both (e ∷ es) h = by (t e) refl (said_kept bottom join t P base both es (λ x c on. h x (contains_there e x es c) on))
+  where
+    by : (b : Bool) → t e ≡ b → P (merge_of_all bottom join (filter t es)) → P (merge_of_all bottom join (cond b (e ∷ filter t es) (filter t es)))
+    by true on ih = both e.value (merge_of_all bottom join (filter t es)) (h e (contains_here e es) on) ih
+    by false off ih = ih
+
 -- a belief keeps what each entry keeps
 pub belief_of-kept : {V : Type 0} (bottom : V) (join : V → V → V) (P : V → Type 0) → P bottom → ((a b : V) → P a → P b → P (join a b)) → (w : Members) (es : List (Supported V)) →
     ((x : Supported V) → Contains es x → P x.value) → P (belief_of bottom join w es)
-belief_of-kept bottom join P base both w [] h = base
-belief_of-kept bottom join P base both w (e ∷ es) h = by (is_within w e.support) (belief_of-kept bottom join P base both w es (λ x c. h x (contains_there e x es c)))
-  where
-    by : (b : Bool) → P (merge_of_all bottom join (believed_of w es)) → P (merge_of_all bottom join (cond b (e ∷ believed_of w es) (believed_of w es)))
-    by true ih = both e.value (merge_of_all bottom join (believed_of w es)) (h e (contains_here e es)) ih
-    by false ih = ih
+belief_of-kept bottom join P base both w es h = said_kept bottom join (λ e. is_within w e.support) P base both es (λ x c on. h x c)
 
 believed_of-same : {V : Type 0} (w u : Members) → IsSame w u → (es : List (Supported V)) → believed_of w es ≡ believed_of u es
 believed_of-same w u same [] = refl
@@ -57,11 +62,6 @@ lean_each bottom join P entries w v support lean h p t =
     let some = Any-from_list_any (λ e. set_of e.support p) lean.chosen (sym (lean.joined p) ∙ t) in
     let among : Contains entries some.1 = rw some.3 at (lean.among some.0 some.1 some.2) in
     h some.1 among p some.4
-
--- what holds of each entry before, and of the new one, holds of each entry
-pub adds_all : {V : Type 0} (bottom : V) (join : V → V → V) (P : Supported V → Type 0) (old new : List (Supported V)) (e : Supported V) → Adds bottom join old new e →
-    ((x : Supported V) → Contains old x → P x) → P e → (x : Supported V) → Contains new x → P x
-adds_all bottom join P old new e a h k x c = elim (a.only x c) [ inl before ↦ h x before | inr is ↦ rw is k ]
 
 module _ {V : Type 0} {below : V → V → Type 0} {bottom top : V} {join : V → V → V} (laws : IsInformationOrder below bottom top join) where
   -- a lean support is believed

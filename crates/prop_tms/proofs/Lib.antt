@@ -3,3 +3,4 @@ pub mod KeptLemmas
 pub mod BeliefLemmas
 pub mod LeanLemmas
 pub mod BeliefUses
+pub mod TrimLemmas

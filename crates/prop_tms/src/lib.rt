@@ -5,6 +5,7 @@ mod gain;
 mod strongest;
 pub mod supported;
 pub mod tms;
+mod trimming;
 
 pub use supported::Supported;
 pub use tms::{Change, Tms};

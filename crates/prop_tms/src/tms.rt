@@ -1,12 +1,13 @@
 //! The entries of one value.
-ghost use Rattle.std.specs.Prelude.{◌≡◌, ◌↔◌, ◌≤◌, ◌+◌, Any, List, [], length, filter, vec_capacity, vec_len, IsTrue, Ok, IsOk, IfOk, OnOk, OnErr};
-ghost use Rattle.prop_premises.specs.Sets.{Members, set_of, is_within, is_below, IsBelow};
-ghost use Rattle.prop_tms.specs.Beliefs.{belief_of, IsLeastBelief, Subsumes, NoneSubsumed, IsNeedless, Adds, IsLean};
+ghost use Rattle.std.specs.Prelude.{◌≡◌, ◌↔◌, ◌≤◌, ◌+◌, Any, not, List, [], length, filter, vec_capacity, vec_len, IsTrue, Ok, IsOk, IfOk, OnOk, OnErr};
+ghost use Rattle.prop_premises.specs.Sets.{Members, set_of, is_within, is_below, is_at_most_one_of, IsBelow};
+ghost use Rattle.prop_tms.specs.Beliefs.{belief_of, IsLeastBelief, Subsumes, NoneSubsumed, NoneAlike, IsNeedless, Adds, IsLean, Trims, AreNeeded, joined_with};
 ghost use Rattle.prop_tms.specs.Kept.{IsLeftWithout, IsGrownBy};
 ghost use Rattle.prop_tms.specs.declared.supported.Supported.{Supported};
 
 use crate::strongest::{belief, strongest};
 use crate::supported::Supported;
+use crate::trimming::{count_derived, trim};
 use prop_lattice::Partial;
 use prop_premises::{PremiseSet, Worldview};
 use std::alloc::{AllocError, Global};
@@ -19,7 +20,8 @@ pub enum Change {
     Grown,
 }
 
-/// What is known of one thing: values, each with the premises that it rests on, none of which subsumes another.
+/// What is known of one thing: values, each with the premises that it rests on. None subsumes another, and no two rest on the same
+/// premises.
 #[derive(Drop)]
 pub struct Tms<V: Partial> {
     entries: Vec<Supported<V>>,
@@ -30,7 +32,7 @@ impl<V: Partial> Model for Tms<V> {
 
     ghost view = { λ t. t.entries.items };
 
-    ghost invariant = { λ t. NoneSubsumed V.below t.entries.items };
+    ghost invariant = { λ t. NoneSubsumed V.below t.entries.items × NoneAlike t.entries.items };
 }
 
 /// Whether the first entry knows all that the second does, on no other premises.
@@ -52,6 +54,19 @@ fn is_needless<V: Partial>(entries: &[Supported<V>], entry: &Supported<V>) -> bo
     ensures { IsTrue result ↔ IsNeedless V.below V.bottom entries.now entry.now }
 {
     V::nothing().implies(entry.value) || is_known(entries, entry)
+}
+
+/// The value of an entry with this value and support, with what the entries that rest on the same premises say.
+fn joined<V: Partial>(entries: &[Supported<V>], value: V, support: &PremiseSet) -> V
+    ensures { result ≡ (joined_with V.bottom V.join entries.now (record { value = value; support = support.now })).value }
+{
+    let mut said = V::nothing();
+    for entry in entries {
+        if entry.support.is_same(support) {
+            said = said.merge(entry.value);
+        }
+    }
+    value.merge(said)
 }
 
 /// Drops the entries that this one subsumes.
@@ -80,15 +95,16 @@ impl<V: Partial> Tms<V> {
         self.entries.len()
     }
 
-    /// Adds a value that is known where the support is believed. What says nothing new takes no memory; after want of
-    /// memory nothing has changed.
+    /// Adds a value that is known where the support is believed; it joins what an entry with the same support says. What says nothing
+    /// new takes no memory; after want of memory nothing has changed.
     pub fn add(&mut self, value: V, support: PremiseSet) -> Result<Change, AllocError>
         ensures adds { OnOk result (Adds V.bottom V.join self.old self.new (record { value = value; support = support })) }
         ensures same { IfOk result (λ change. (change ≡ Change.Same) ↔ IsNeedless V.below V.bottom self.old (record { value = value; support = support })) }
         ensures needless { IsNeedless V.below V.bottom self.old (record { value = value; support = support }) → result ≡ Ok Change.Same }
         ensures unchanged { IfOk result (λ change. change ≡ Change.Same → self.new ≡ self.old) }
         ensures apart { NoneSubsumed V.below self.new }
-        ensures stay { OnOk result (IsGrownBy (Subsumes V.below (record { value = value; support = support })) self.old self.new (record { value = value; support = support })) }
+        ensures alone { NoneAlike self.new }
+        ensures stay { OnOk result (IsGrownBy (Subsumes V.below (joined_with V.bottom V.join self.old (record { value = value; support = support }))) self.old self.new (joined_with V.bottom V.join self.old (record { value = value; support = support }))) }
         ensures len { length self.new ≤ length self.old + 1 }
         ensures err { OnErr result (self.new ≡ self.old) }
     {
@@ -97,6 +113,9 @@ impl<V: Partial> Tms<V> {
             return Ok(Change::Same);
         }
         self.entries.reserve(1)?;
+        let value = joined(&self.entries, entry.value, &entry.support);
+        let support = entry.support;
+        let entry = Supported { value, support };
         drop_subsumed(&mut self.entries, &entry);
         self.entries.push(entry)?;
         Ok(Change::Grown)
@@ -120,6 +139,21 @@ impl<V: Partial> Tms<V> {
         ensures enough { IfOk result (λ e. belief_of V.bottom V.join (set_of e.support) self.now ≡ e.value) }
     {
         strongest(*self.entries.allocator(), &self.entries, worldview)
+    }
+
+    /// How many entries rest on something else than one told premise. It takes no memory.
+    pub fn derived(&self, told: &PremiseSet) -> usize
+        ensures { result ≡ length (filter (λ e. not (is_at_most_one_of (set_of told.now) e.support)) self.now) }
+    {
+        count_derived(&self.entries, told)
+    }
+
+    /// Drops entries that the worldview does without, but for those that rest on nothing or on one told premise alone. It takes no memory.
+    pub fn trim(&mut self, told: &PremiseSet, worldview: &Worldview)
+        ensures trims { Trims V.bottom V.join (set_of told.now) (set_of worldview.now) self.old self.new }
+        ensures needed { AreNeeded V.bottom V.join (set_of told.now) (set_of worldview.now) self.new }
+    {
+        trim(&mut self.entries, told, worldview);
     }
 
     /// Drops the entries whose support holds a premise with a number of `count` or more. It takes no memory.
