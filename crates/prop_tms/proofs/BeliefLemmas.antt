@@ -1,5 +1,5 @@
 -- What entries say in each worldview, in any order of information.
-use Rattle.std.proofs.Common.{◌≡◌, ◌∙◌, ◌<◌, ℕ, Bool, true, false, ◌&&◌, List, [], ◌∷◌, ◌++◌, length, get_or, take, ◌+◌, refl, sym, ap, inl, inr, Contains, filter, cond, if◌then◌else◌, append-nil}
+use Rattle.std.proofs.Common.{◌≡◌, ◌∙◌, ◌<◌, ℕ, Bool, true, false, ◌&&◌, List, [], ◌∷◌, ◌++◌, length, get_or, take, ◌+◌, refl, sym, ap, subst, inl, inr, Contains, filter, cond, if◌then◌else◌, append-nil}
 use Rattle.std.specs.List.{AllByRecursion}
 use Rattle.std.proofs.lemmas.List.{take_more}
 use Rattle.std.proofs.lemmas.List.Elements.{All-contains, All-from_recursion, recursion_from_All, Contains-get_or, Contains-append_left, Contains-push, Contains-push_cases, filter-append}
@@ -108,7 +108,7 @@ module _ {V : Type 0} {below : V → V → Type 0} {bottom top : V} {join : V �
   needless_nothing es e h = inl (laws.antisymmetric e.value bottom h (laws.from_bottom e.value))
 
   -- what the entries on the same premises say
-  alike_said : List (Supported V) → Supported V → V
+  abbrev alike_said : List (Supported V) → Supported V → V
   alike_said es e = merge_of_all bottom join (filter (λ x. is_alike x.support e.support) es)
 
   alike_on : (w : Members) (x e : Supported V) → is_alike x.support e.support ≡ true → is_within w e.support ≡ true → is_within w x.support ≡ true
@@ -149,7 +149,7 @@ module _ {V : Type 0} {below : V → V → Type 0} {bottom top : V} {join : V �
 
   -- where the entry was needed, so is what it joins
   pub needed_joined : (old : List (Supported V)) (e : Supported V) → ¬ (IsNeedless below bottom old e) → ¬ (IsNeedless below bottom old (joined_with bottom join old e))
-  needed_joined old e needed (inl none) = needed (needless_nothing old e (rw none at (first_below laws e.value (alike_said old e))))
+  needed_joined old e needed (inl none) = needed (needless_nothing old e (subst (λ v. below e.value v) none (first_below laws e.value (alike_said old e))))
   needed_joined old e needed (inr some) =
       let x = some.1 in
       needed (inr (some.0, x, some.2, some.3, record { value = laws.transitive e.value _ x.value (first_below laws e.value (alike_said old e)) some.4.value; support = some.4.support }))

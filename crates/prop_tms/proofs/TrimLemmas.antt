@@ -1,11 +1,13 @@
 -- What entries say without one of them.
-use Rattle.std.proofs.Common.{◌≡◌, ◌≢◌, ◌∙◌, ◌<◌, ◌≤◌, ◌+◌, ℕ, zero, suc, Bool, true, false, IsTrue, List, [], ◌∷◌, ◌++◌, length, take, drop, get_or, slice_get, Some, refl, sym, ap, arith, inl, inr, ◌⊎◌, Contains, All, AllPairs}
+use Rattle.std.proofs.Common.{◌≡◌, ◌≢◌, ◌∙◌, ◌<◌, ◌≤◌, ◌+◌, not, ℕ, zero, suc, Bool, true, false, IsTrue, List, [], ◌∷◌, ◌++◌, length, take, drop, get_or, slice_get, Some, refl, sym, ap, subst, arith, inl, inr, ◌⊎◌, Contains, All, AllPairs}
 use Rattle.std.specs.List.{remove}
-use Rattle.std.proofs.lemmas.List.Elements.{All-contains, Contains-get_or, filter-append}
+use Rattle.std.proofs.lemmas.List.Elements.{All-contains, All-contains_itself, Contains-get_or, filter-append}
+use Rattle.std.proofs.lemmas.Bool.{cases_lt}
+use Rattle.std.proofs.lemmas.Option.{slice_get_within}
 use Rattle.std.proofs.lemmas.List.Kept.{AllPairs-cons}
 use Rattle.prop_lattice.specs.Laws.{IsInformationOrder}
-use Rattle.prop_premises.specs.Sets.{Members, is_within}
-use Rattle.prop_tms.specs.Beliefs.{merge_of_all, believed_of, belief_of}
+use Rattle.prop_premises.specs.Sets.{Members, is_within, is_at_most_one_of}
+use Rattle.prop_tms.specs.Beliefs.{merge_of_all, believed_of, belief_of, Trims, AreNeeded}
 use Rattle.prop_tms.specs.declared.supported.Supported.{Supported}
 use Rattle.prop_tms.proofs.KeptLemmas.{contains_here, contains_there, contains_cases}
 use Rattle.prop_tms.proofs.MergedLemmas.{merge_of_all-append}
@@ -30,7 +32,7 @@ pub remove_cases : {X : Type 0} (xs : List X) (k : ℕ) (x : X) → Contains xs 
 remove_cases [] k x h = absurd (omega (arith, h.1))
 remove_cases (y ∷ ys) zero x h = elim (contains_cases y x ys h) [ inl e ↦ inl (ap Some e) | inr there ↦ inr there ]
 remove_cases (y ∷ ys) (suc k) x h = elim (contains_cases y x ys h) [
-  | inl e ↦ inr (rw e (contains_here x (remove ys k)))
+  | inl e ↦ inr (subst (λ z. Contains (z ∷ remove ys k) x) (sym e) (contains_here x (remove ys k)))
   | inr there ↦ elim (remove_cases ys k x there) [
     | inl is ↦ inl is
     | inr stays ↦ inr (contains_there y x (remove ys k) stays)
@@ -59,9 +61,9 @@ remove_before (y ∷ ys) (suc k) (suc i) lt = remove_before ys k i (omega (arith
 
 -- and goes, where two go, whichever goes first
 pub remove_both : {X : Type 0} (xs : List X) (k i : ℕ) → i ≤ k → remove (remove xs (suc k)) i ≡ remove (remove xs i) k
-remove_both [] k i le = by k i
+remove_both {X} [] k i le = by k i
   where
-    by : (k i : ℕ) → remove (remove [] (suc k)) i ≡ remove (remove [] i) k
+    by : (k i : ℕ) → remove (remove {X = X} [] (suc k)) i ≡ remove (remove {X = X} [] i) k
     by zero zero = refl
     by (suc k) zero = refl
     by zero (suc i) = refl
@@ -101,3 +103,63 @@ module _ {V : Type 0} {below : V → V → Type 0} {bottom top : V} {join : V �
       let both : belief_of bottom join w (remove (remove xs i) k) ≡ all = sym (ap (belief_of bottom join w) (remove_both xs k i (omega (arith, lt)))) ∙ e ∙ same in
       let up : below all less = rw both at (belief_removed (remove xs i) k) in
       needed (laws.antisymmetric less all (belief_removed xs i) up)
+
+  -- an entry is needed just where the others don't say as much
+  pub is_needed : (xs : List (Supported V)) (k : ℕ) (b : Bool) → (below (belief_of bottom join w xs) (belief_of bottom join w (remove xs k)) → IsTrue b) → IsTrue (not b) → belief_of bottom join w (remove xs k) ≢ belief_of bottom join w xs
+  is_needed xs k true h t e = cc
+  is_needed xs k false h t e = let no = h (subst (λ v. below v (belief_of bottom join w (remove xs k))) e (laws.reflexive (belief_of bottom join w (remove xs k)))) in cc
+
+  pub is_needless : (xs : List (Supported V)) (k : ℕ) (b : Bool) → (IsTrue b → below (belief_of bottom join w xs) (belief_of bottom join w (remove xs k))) → not b ≡ false → belief_of bottom join w (remove xs k) ≡ belief_of bottom join w xs
+  is_needless xs k true h t = laws.antisymmetric _ _ (belief_removed xs k) (h refl)
+  is_needless xs k false h t = cc
+
+  -- ---- one after the other
+
+  -- the entries before a place were looked at
+  abbrev pub AreJudged : Members → ℕ → List (Supported V) → Type 0
+  AreJudged told place entries =
+      (k : ℕ) (e : Supported V) → k < place → slice_get entries k ≡ Some e → IsTrue (is_at_most_one_of told e.support) ⊎ (belief_of bottom join w (remove entries k) ≢ belief_of bottom join w entries)
+
+  pub judged_next : (told : Members) (place : ℕ) (xs : List (Supported V)) (x : Supported V) → AreJudged told place xs → slice_get xs place ≡ Some x →
+      IsTrue (is_at_most_one_of told x.support) ⊎ (belief_of bottom join w (remove xs place) ≢ belief_of bottom join w xs) → AreJudged told (place + 1) xs
+  judged_next told place xs x judged at last k e l at_k = elim (cases_lt k place) [
+    | inl before ↦ judged k e before at_k
+    | inr here ↦
+        (let is : place ≡ k = omega (arith, l, here) in
+        let both : Some x ≡ Some e = sym at ∙ ap (slice_get xs) is ∙ at_k in
+        let same : x ≡ e = cc in
+        subst (λ (p : ℕ). IsTrue (is_at_most_one_of told e.support) ⊎ (belief_of bottom join w (remove xs p) ≢ belief_of bottom join w xs)) is
+        (subst (λ (y : Supported V). IsTrue (is_at_most_one_of told y.support) ⊎ (belief_of bottom join w (remove xs place) ≢ belief_of bottom join w xs)) same last))
+  ]
+
+  pub judged_removed : (told : Members) (place : ℕ) (xs : List (Supported V)) → AreJudged told place xs → belief_of bottom join w (remove xs place) ≡ belief_of bottom join w xs → AreJudged told place (remove xs place)
+  judged_removed told place xs judged same k e l at_k = elim (judged k e l (sym (remove_before xs place k l) ∙ at_k)) [
+    | inl told ↦ inl told
+    | inr needed ↦ inr (still_needed xs place k l same needed)
+  ]
+
+  pub all_judged : (told : Members) (place : ℕ) (xs : List (Supported V)) → length xs ≤ place → AreJudged told place xs → AreNeeded bottom join told w xs
+  all_judged told place xs le judged k e at = judged k e (let l = slice_get_within xs k e at in omega (arith, l, le)) at
+
+  pub trims_none : (told : Members) (xs : List (Supported V)) → Trims bottom join told w xs xs
+  trims_none told xs = record { among = All-contains_itself xs; belief = refl; kept = λ e c t. c }
+
+  pub trims_more : (told : Members) (old xs : List (Supported V)) (k : ℕ) (x : Supported V) → Trims bottom join told w old xs → slice_get xs k ≡ Some x → is_at_most_one_of told x.support ≡ false →
+      belief_of bottom join w (remove xs k) ≡ belief_of bottom join w xs → Trims bottom join told w old (remove xs k)
+  trims_more told old xs k x t at other same = record {
+    among = λ j d l. All-contains (Contains old) xs (get_or (remove xs k) j d) t.among (in_remove xs k (get_or (remove xs k) j d) (Contains-get_or (remove xs k) j d l));
+    belief = same ∙ t.belief;
+    kept = λ e c is_told. elim (remove_cases xs k e (t.kept e c is_told)) as (λ _. Contains (remove xs k) e) [
+      | inl is ↦ (let both : Some x ≡ Some e = sym at ∙ is in let es : x ≡ e = cc in let no : is_at_most_one_of told e.support ≡ false = rw es at other in cc)
+      | inr stays ↦ stays
+    ];
+  }
+
+pub remove_length : {X : Type 0} (xs : List X) (k : ℕ) → k < length xs → length (remove xs k) + 1 ≡ length xs
+remove_length [] k l = absurd (omega (arith, l))
+remove_length (x ∷ xs) zero l = omega arith
+remove_length (x ∷ xs) (suc k) l = let n = remove_length xs k (omega (arith, l)) in omega (arith, n)
+
+pub not_not : (b : Bool) → b ≡ not (not b)
+not_not true = refl
+not_not false = refl

@@ -1,5 +1,5 @@
 //! Entries that a belief can do without.
-ghost use Rattle.std.specs.Prelude.{◌≡◌, ◌≢◌, ◌<◌, ◌↔◌, IsTrue, not, List, All, Contains, length, filter, slice_index_or};
+ghost use Rattle.std.specs.Prelude.{◌≡◌, ◌≢◌, ◌<◌, IsTrue, false, not, List, All, Contains, length, filter, slice_index_or};
 ghost use Rattle.std.specs.List.{remove};
 ghost use Rattle.prop_premises.specs.Sets.{set_of, is_at_most_one_of};
 ghost use Rattle.prop_tms.specs.Beliefs.{belief_of, NoneSubsumed, NoneAlike, Trims, AreNeeded};
@@ -40,7 +40,8 @@ fn is_needed<V: Partial>(
 ) -> bool
     requires place { place < length entries.now }
     requires value { value ≡ belief_of V.bottom V.join (set_of worldview.now) entries.now }
-    ensures { IsTrue result ↔ belief_of V.bottom V.join (set_of worldview.now) (remove entries.now place) ≢ belief_of V.bottom V.join (set_of worldview.now) entries.now }
+    ensures needed { IsTrue result → belief_of V.bottom V.join (set_of worldview.now) (remove entries.now place) ≢ belief_of V.bottom V.join (set_of worldview.now) entries.now }
+    ensures needless { result ≡ false → belief_of V.bottom V.join (set_of worldview.now) (remove entries.now place) ≡ belief_of V.bottom V.join (set_of worldview.now) entries.now }
 {
     worldview.believes(&entries[place].support)
         && !belief_without(entries, place, worldview).implies(value)
