@@ -1,5 +1,5 @@
 -- What an added entry changes, in each worldview.
-use Rattle.std.proofs.Common.{◌≡◌, ◌∙◌, ℕ, Bool, true, false, IsTrue, if◌then◌else◌, List, refl, sym, ap, Option, Some, None, inl, inr, All}
+use Rattle.std.proofs.Common.{◌≡◌, ◌∙◌, ℕ, Bool, true, false, IsTrue, if◌then◌else◌, List, refl, sym, ap, Option, Some, None, inl, inr, All, subst}
 use Rattle.std.proofs.lemmas.Bool.Decides.{eqb_tells}
 use Rattle.std.proofs.lemmas.Option.{get_or_from_slice_get}
 use Rattle.std.proofs.lemmas.List.Elements.{All-contains}
@@ -24,7 +24,7 @@ pub beliefs_of_kinds : (d : Data) → IsWellMade d → (s : Premises) → AreOfK
 beliefs_of_kinds d made s = record {
   of_kind = λ cell k at.
       let k_is : kind_at d.kinds cell ≡ k = get_or_from_slice_get d.kinds cell k span_kind at in
-      let each = rw k_is at made.of_kinds cell in
+      let each : All (λ e. IsOf k.kind k.size e.value) (content_of d.contents cell) = subst (λ (q : Kinded). All (λ e. IsOf q.kind q.size e.value) (content_of d.contents cell)) k_is (made.of_kinds cell) in
       said_kept Nothing merge_of (λ e. is_within s e.support) (IsOf k.kind k.size) tt (merge_of_kind k.kind k.size) (content_of d.contents cell)
       (λ x c on. All-contains (λ e. IsOf k.kind k.size e.value) (content_of d.contents cell) x each c);
 }

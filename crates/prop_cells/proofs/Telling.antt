@@ -1,13 +1,16 @@
 -- The premises under which something was told of each cell.
-use Rattle.std.proofs.Common.{◌≡◌, ◌≢◌, ◌∙◌, ℕ, ◌<◌, ◌≤◌, ◌==◌, ◌&&◌, ◌||◌, Bool, true, false, IsTrue, Contains, List, [], ◌∷◌, ◌++◌, length, take, get_or, slice_index_or, refl, sym, arith, inl, inr, Option, Some, None, All}
+use Rattle.std.proofs.Common.{◌≡◌, ◌≢◌, ◌∙◌, ℕ, ◌<◌, ◌≤◌, ◌==◌, ◌&&◌, ◌||◌, Bool, true, false, IsTrue, Contains, List, [], ◌∷◌, ◌++◌, length, take, get_or, slice_index_or, slice_set, refl, sym, ap, arith, inl, inr, Option, Some, None, All}
+use Rattle.std.proofs.lemmas.Bool.{eqb-true}
 use Rattle.std.proofs.lemmas.Bool.Decides.{eqb_tells}
-use Rattle.std.proofs.lemmas.List.{length-append, length-take, get_or-take}
-use Rattle.std.proofs.lemmas.List.Elements.{All-weaker, All-push, All-contains, All-take}
+use Rattle.std.proofs.lemmas.List.{get_or_default, get_or-set_other, get_or-set_same, get_or-take, length-append, length-set, length-take}
+use Rattle.std.proofs.lemmas.List.Elements.{All-weaker, All-push, All-contains, All-contains_itself, All-take}
 use Rattle.prop_lattice.specs.declared.info.Info.{Info}
-use Rattle.prop_lattice.specs.Order.{Below}
+use Rattle.prop_lattice.specs.declared.info.Info.TheVariants.{Nothing}
+use Rattle.prop_lattice.specs.Order.{Below, merge_of}
 use Rattle.prop_lattice.specs.OrderLaws.{info_laws}
 use Rattle.prop_lattice.specs.Rank.{IsOf}
-use Rattle.prop_premises.specs.Sets.{set_of, is_within, is_at_most_one_of}
+use Rattle.prop_premises.specs.Sets.{set_of, union, is_within, is_at_most_one_of, IsSame}
+use Rattle.prop_tms.specs.Beliefs.{belief_of, Trims}
 use Rattle.prop_tms.proofs.BeliefLemmas.{belief_below, below_belief}
 use Rattle.prop_tms.proofs.BeliefUses.{belief_of-more}
 use Rattle.prop_procedures.specs.declared.shape.Kinded.{Kinded}
@@ -24,18 +27,40 @@ pub record TellsAt (old new : List (List ℕ)) (cell : ℕ) (support : List ℕ)
   pub told : (p : ℕ) → IsTrue (set_of support p) → IsTrue (set_of (slice_index_or new cell []) p)
   pub others : (c : ℕ) → c ≢ cell → slice_index_or new c [] ≡ slice_index_or old c []
 
+or_left : (a b : Bool) → a ≡ true → (a || b) ≡ true
+or_left true b h = refl
+or_left false b h = cc
+
+or_right : (a b : Bool) → b ≡ true → (a || b) ≡ true
+or_right true b h = refl
+or_right false b h = h
+
+pub tells_at : (telling : List (List ℕ)) (cell : ℕ) (here now support : List ℕ) → cell < length telling → here ≡ slice_index_or telling cell here → IsSame (set_of now) (union (set_of here) (set_of support)) → TellsAt telling (slice_set telling cell now) cell support
+tells_at telling cell here now support l at same =
+    let is : here ≡ slice_index_or telling cell [] = at ∙ get_or_default telling cell here [] l in
+    record {
+      same_length = length-set telling cell now;
+      more = λ p h. rw (get_or-set_same telling cell now [] l) (same p ∙ or_left (set_of here p) (set_of support p) (rw (← is) at h));
+      told = λ p h. rw (get_or-set_same telling cell now [] l) (same p ∙ or_right (set_of here p) (set_of support p) h);
+      others = λ c ne. get_or-set_other telling cell c now [] ne;
+    }
+
 own : (p : ℕ) → set_of (p ∷ []) p ≡ true
 own p = elim (eqb_tells p p) [ inl e ↦ rw e.0 refl | inr e ↦ absurd (e.1 refl) ]
+
+still_told : (old new : List (List ℕ)) (s : Statement) → TellsAt old new s.cell (support_of s.premise) → (x : Statement) → ((p : ℕ) → x.premise ≡ Some p → IsTrue (set_of (slice_index_or old x.cell []) p)) →
+    (p : ℕ) → x.premise ≡ Some p → IsTrue (set_of (slice_index_or new x.cell []) p)
+still_told old new s tells x told p is = elim (eqb_tells x.cell s.cell) as (λ _. IsTrue (set_of (slice_index_or new x.cell []) p)) [
+  | inl same ↦ rw same.1 (tells.more p (rw same.1 at told p is))
+  | inr other ↦ rw (tells.others x.cell other.1) (told p is)
+]
 
 pub told_statement : (d : Data) (contents : List (List Entry)) (old new : List (List ℕ)) (s : Statement) → TellsAt old new s.cell (support_of s.premise) → AreTold d old → AreTold (record d { contents = contents; statements = d.statements ++ s ∷ [] }) new
 told_statement d contents old new s tells h = record {
   count = tells.same_length ∙ h.count;
   each = All-push (λ x. (p : ℕ) → x.premise ≡ Some p → IsTrue (set_of (slice_index_or new x.cell []) p)) d.statements s
       (All-weaker (λ x. (p : ℕ) → x.premise ≡ Some p → IsTrue (set_of (slice_index_or old x.cell []) p)) (λ x. (p : ℕ) → x.premise ≡ Some p → IsTrue (set_of (slice_index_or new x.cell []) p))
-      (λ x told p is. elim (eqb_tells x.cell s.cell) as (λ _. IsTrue (set_of (slice_index_or new x.cell []) p)) [
-        | inl same ↦ rw same.1 (tells.more p (rw same.1 at told p is))
-        | inr other ↦ rw (tells.others x.cell other.1) (told p is)
-      ]) d.statements h.each)
+      (still_told old new s tells) d.statements h.each)
       (λ p is. tells.told p (rw is (own p)));
 }
 
@@ -53,7 +78,7 @@ told_taken d told count made h = record {
   each = λ k x l p is.
       let s = get_or d.statements k x in
       let within = (made.stated k x l).within in
-      let same : slice_index_or (take count told) s.cell [] ≡ slice_index_or told s.cell [] = get_or-take told count s.cell [] (omega (arith, within, length-take count d.kinds)) in
+      let same : slice_index_or (take count told) s.cell [] ≡ slice_index_or told s.cell [] = get_or-take count told s.cell [] (omega (arith, within, length-take count d.kinds)) in
       rw same (h.each k x l p is);
 }
 
@@ -66,6 +91,31 @@ told_fewer d contents told count h = record {
 
 -- ---- entries that go
 
+pub trims_at : (s told : Premises) (contents : List (List Entry)) (cell : ℕ) (old new : List Entry) → cell < length contents → old ≡ slice_index_or contents cell old → Trims Nothing merge_of told s old new → TrimsAt s contents (slice_set contents cell new) cell
+trims_at s told contents cell old new l at t =
+    let is : old ≡ content_of contents cell = at ∙ get_or_default contents cell old [] l in
+    let now : content_of (slice_set contents cell new) cell ≡ new = get_or-set_same contents cell new [] l in
+    record {
+      same_length = length-set contents cell new;
+      among = rw (now, ← is) t.among;
+      belief = ap (belief_of Nothing merge_of s) now ∙ t.belief ∙ ap (belief_of Nothing merge_of s) is;
+      others = λ c ne. get_or-set_other contents cell c new [] ne;
+    }
+
+pub trim_keeps : (s told : Premises) (contents : List (List Entry)) (cell : ℕ) (old new : List Entry) → cell < length contents → old ≡ slice_index_or contents cell old → Trims Nothing merge_of told s old new →
+    (e : Entry) → Contains (content_of contents cell) e → IsTrue (is_at_most_one_of told e.support) → Contains (content_of (slice_set contents cell new) cell) e
+trim_keeps s told contents cell old new l at t e c is_told =
+    let is : old ≡ content_of contents cell = at ∙ get_or_default contents cell old [] l in
+    rw (get_or-set_same contents cell new [] l) (t.kept e (rw (← is) at c) is_told)
+
+-- what is read at a place that there is
+pub read_there : {X : Type 0} (xs : List X) (i : ℕ) (x d : X) → i < length xs → x ≡ slice_index_or xs i x → x ≡ slice_index_or xs i d
+read_there xs i x d l at = at ∙ get_or_default xs i x d l
+
+-- nothing goes
+pub trims_nothing : (s : Premises) (contents : List (List Entry)) (cell : ℕ) → TrimsAt s contents contents cell
+trims_nothing s contents cell = record { same_length = refl; among = All-contains_itself (content_of contents cell); belief = refl; others = λ c ne. refl }
+
 -- an entry that is believed with the premise of a statement alone rests on nothing or on it
 own_alone : (told : List ℕ) (o : Option ℕ) (support : List ℕ) → ((p : ℕ) → o ≡ Some p → IsTrue (set_of told p)) → is_within (set_of (support_of o)) support ≡ true → is_at_most_one_of (set_of told) support ≡ true
 own_alone told o [] h on = refl
@@ -73,7 +123,7 @@ own_alone told None (q ∷ qs) h on = cc
 own_alone told (Some p) (q ∷ qs) h on = by (p == q) refl on
   where
     by : (b : Bool) → (p == q) ≡ b → ((b || false) && is_within (set_of (p ∷ [])) qs) ≡ true → (set_of told q && is_within (set_of (q ∷ [])) qs) ≡ true
-    by true e on = let same : p ≡ q = eqb-eq p q e in rw (sym same, h p refl) on
+    by true e on = let same : p ≡ q = eqb-true p q e in rw (sym same, h p refl) on
     by false e on = cc
 
 own_member : (o : Option ℕ) → IsTrue (is_member (set_of (support_of o)) o)

@@ -10,4 +10,4 @@ invariant_of-self-2 c =
     let popped : n.instances.items ≡ c.pop.new.self.items ++ x ∷ [] = c.in-Some.ensures.items in
     let read : Unnoted (row_items n.readers.items) (row_items c.unnote.new.rows.items) x.inputs = rw c.inputs.ensures at c.unnote.ensures in
     let written : Unnoted (row_items n.writers.items) (row_items c.unnote-2.new.rows.items) (x.output ∷ []) = rw c.output.ensures at c.unnote-2.ensures in
-    stored_unnoted _ _ _ _ _ x read written (rw popped at c.self.invariant)
+    stored_unnoted _ _ _ _ _ _ x read written (rw popped at c.self.invariant)
