@@ -4,6 +4,7 @@ use Rattle.std.proofs.lemmas.List.{length-map}
 use Rattle.std.proofs.lemmas.List.Elements.{All-weaker}
 use Rattle.std.proofs.lemmas.Option.{slice_get_within}
 use Rattle.prop_procedures.specs.Stored.{Stored}
+use Rattle.prop_cells.proofs.Adding.{beliefs_of_kinds}
 use Rattle.prop_cells.specs.Problems.{Premises}
 use Rattle.prop_cells.specs.Instances.{constraint_of}
 use Rattle.prop_cells.specs.Data.{Data, IsWellMade, beliefs, problem_of}
@@ -26,7 +27,7 @@ pub under_way_within : (library : List Stored) (s : Premises) (d : Data) (a : Wa
     potential (problem_of library d) (beliefs s d.contents) a.line ≤ most_steps (problem_of library d)
 under_way_within library s d a made line under_way =
     let n = length-map d.instances (constraint_of library) in
-    most_is_most (problem_of library d) (beliefs s d.contents) a.line (made.of_kinds s)
+    most_is_most (problem_of library d) (beliefs s d.contents) a.line (beliefs_of_kinds d made s)
     (record {
       once = line.once;
       below = All-weaker (λ j. j < length d.instances) (λ j. j < length (map (constraint_of library) d.instances)) (λ j h. omega (arith, h, n)) a.line under_way.line_below;

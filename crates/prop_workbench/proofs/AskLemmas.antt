@@ -24,6 +24,7 @@ use Rattle.prop_cells.specs.Problems.{Problem}
 use Rattle.prop_cells.specs.Reach.{Explains}
 use Rattle.prop_cells.specs.Data.{Data, IsKept, IsWellMade, beliefs, problem_of}
 use Rattle.prop_procedures.specs.Fitting.{kind_at}
+use Rattle.prop_cells.proofs.Adding.{beliefs_of_kinds}
 use Rattle.prop_cells.proofs.Founding.{believed_entailed}
 use Rattle.prop_scheduler.specs.Turns.{IsSettled}
 use Rattle.prop_language.specs.Commands as commands
@@ -130,7 +131,7 @@ pub unsettled_value : (library : List Stored) (names : CellNames) (words : Vocab
 unsettled_value library names words definitions premises d limit list cell name v found named kept made is_v =
     let l : cell < length d.kinds = of_named (λ k. k < length d.kinds) names name cell named found in
     record {
-      of_kind = rw is_v ((made.of_kinds (worldview_in premises list)).of_kind cell (kind_at d.kinds cell) (slice_get-get_or d.kinds cell span_kind l));
+      of_kind = rw is_v ((beliefs_of_kinds d made (worldview_in premises list)).of_kind cell (kind_at d.kinds cell) (slice_get-get_or d.kinds cell span_kind l));
       entailed = rw is_v (believed_entailed library d (worldview_in premises list) kept cell);
       stated = λ k x m believed here. rw (is_v, ← here) ((made.stated k x m).below (worldview_in premises list) believed);
     }
