@@ -146,7 +146,7 @@ module _ (d : Data) (contents : List (List Entry)) (told : List (List ℕ)) (s :
           let alone = rw same.1 at h.below u (own_member x.premise) in
           let here = rw same.1 at under in
           let less : Below (beliefs u d.contents cell) (beliefs u contents cell) =
-              belief_below info_laws u (content_of d.contents cell) (beliefs u contents cell) (λ e c on. below_belief info_laws u (content_of contents cell) e (kept e c (own_alone (slice_index_or told cell []) x.premise e.support here on)) on) in
+          belief_below info_laws u (content_of d.contents cell) (beliefs u contents cell) (λ e c on. below_belief info_laws u (content_of contents cell) e (kept e c (own_alone (slice_index_or told cell []) x.premise e.support here on)) on) in
           let more : Below (beliefs u contents cell) (beliefs t contents cell) = belief_of-more info_laws (content_of contents cell) u t (member_has t x.premise m) in
           rw same.1 (info_laws.transitive _ _ _ alone (info_laws.transitive _ _ _ less more)))
       | inr other ↦ rw (trims.others x.cell other.1) (h.below t m)

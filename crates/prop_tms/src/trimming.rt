@@ -64,7 +64,8 @@ pub(crate) fn trim<V: Partial>(
     let mut place = 0;
     while place < entries.len() {
         if entries[place].support.is_at_most_one_of(told)
-            || is_needed(entries, place, worldview, value) {
+            || is_needed(entries, place, worldview, value)
+        {
             place += 1;
         } else {
             drop(entries.remove(place));

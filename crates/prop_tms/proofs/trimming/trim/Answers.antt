@@ -56,9 +56,10 @@ loop-place-preserved g c =
     let both : (is_at_most_one_of told x.support ≡ false) × (belief_of g.V.Partial.bottom g.V.Partial.join w (remove es k) ≡ belief_of g.V.Partial.bottom g.V.Partial.join w es) =
     elim c.if-is_at_most_one_of.branch [
       | then-is_at_most_one_of t ↦ cc (t.value-is, c.if-is_needed.false)
-      | else-is_at_most_one_of t ↦
-          (sym c.is_at_most_one_of.ensures ∙ t.if-is_at_most_one_of.false,
-          (rw t.deref-else-is_at_most_one_of.ensures.value at t.is_needed.ensures.needless) (sym t.value-is ∙ c.if-is_needed.false))
+      | else-is_at_most_one_of t ↦ (
+        sym c.is_at_most_one_of.ensures ∙ t.if-is_at_most_one_of.false,
+        (rw t.deref-else-is_at_most_one_of.ensures.value at t.is_needed.ensures.needless) (sym t.value-is ∙ c.if-is_needed.false),
+      )
     ] in
     let items = c.remove.ensures.items in
     rw items (record {
