@@ -6,7 +6,7 @@ use Rattle.std.proofs.lemmas.List.Elements.{All-cons, All-weaker}
 use Rattle.std.proofs.lemmas.List.Folds.{list_any_at}
 use Rattle.std.proofs.lemmas.List.Sums.{sum_by-cons, sum_by-append}
 use Rattle.prop_procedures.specs.Stored.{Stored}
-use Rattle.prop_cells.specs.Instances.{Instance, numbers_from, readers_of, constraint_of}
+use Rattle.prop_cells.specs.Instances.{Instance, numbers_from, readers_of, writers_of, constraint_of}
 use Rattle.prop_cells.specs.Data.{AreReaders}
 
 contains_head : (n : ℕ) (ns : List ℕ) → Contains (n ∷ ns) n
@@ -50,6 +50,13 @@ readers_are instances cell = record {
   covers = λ j x at in_x. rw (← zero-add j) (numbers_cover (λ y. list_any (λ input. input == cell) y.inputs) 0 instances j x at (reads x.inputs cell in_x));
   below = All-weaker (λ j. j < 0 + length instances) (λ j. j < length instances) (λ j h. omega (arith, h)) (readers_of instances cell) (numbers_below (λ y. list_any (λ input. input == cell) y.inputs) 0 instances);
 }
+
+pub writers_cover : (instances : List Instance) (cell j : ℕ) (x : Instance) → slice_get instances j ≡ Some x → x.output ≡ cell → Contains (writers_of instances cell) j
+writers_cover instances cell j x at same = rw (← zero-add j) (numbers_cover (λ y. y.output == cell) 0 instances j x at (eq-eqb x.output cell same))
+
+pub writers_below : (instances : List Instance) (cell : ℕ) → All (λ j. j < length instances) (writers_of instances cell)
+writers_below instances cell =
+    All-weaker (λ j. j < 0 + length instances) (λ j. j < length instances) (λ j h. omega (arith, h)) (writers_of instances cell) (numbers_below (λ y. y.output == cell) 0 instances)
 
 -- ---- there are no more readers than input places with the cell
 
