@@ -1,12 +1,15 @@
 //! Another worldview for a network under way.
 ghost use Rattle.std.specs.Prelude.{◌≡◌, ◌<◌, ◌≤◌, ℕ, All, Contains, length};
+ghost use Rattle.prop_premises.specs.Sets.{set_of};
 ghost use Rattle.prop_procedures.specs.Kept.{stored_of};
 ghost use Rattle.prop_cells.specs.Data.{IsKept};
 ghost use Rattle.prop_cells.specs.Problems.{Premises};
 ghost use Rattle.prop_scheduler.specs.Turns.{IsUnderWay};
+ghost use Rattle.prop_scheduler.specs.Shifts.{AreShifted};
 
 use crate::agenda::Agenda;
 use prop_cells::Network;
+use prop_premises::Worldview;
 use prop_procedures::Rule;
 
 /// Every instance waits, so the network is under way in whatever worldview. It takes no memory.
@@ -19,4 +22,26 @@ pub fn wake_all<R: Rule + Drop>(network: &Network<R>, agenda: &mut Agenda)
     ensures room { agenda.new.room ≡ agenda.old.room }
 {
     agenda.alert_first(network.instances());
+}
+
+/// Of each cell that the second worldview believes something else of than the first the readers and the writers wait, so a network that was under
+/// way in the first is so in the second. It takes no memory.
+pub fn alert_shifted<R: Rule + Drop>(
+    network: &Network<R>,
+    agenda: &mut Agenda,
+    before: &Worldview,
+    after: &Worldview,
+)
+    requires under_way { IsUnderWay (stored_of R.value_of network.now.library) (set_of before.now) network.now.cells agenda.old.line }
+    requires room { length network.now.cells.instances ≤ agenda.old.room }
+    ensures under_way { IsUnderWay (stored_of R.value_of network.now.library) (set_of after.now) network.now.cells agenda.new.line }
+    ensures shifted { AreShifted (set_of before.now) (set_of after.now) network.now.cells (length network.now.cells.kinds) agenda.old.line agenda.new.line }
+    ensures room { agenda.new.room ≡ agenda.old.room }
+{
+    for cell in 0..network.cells() {
+        if network.shifted(cell, before, after) {
+            agenda.alert_all(network.readers(cell));
+            agenda.alert_all(network.writers(cell));
+        }
+    }
 }
