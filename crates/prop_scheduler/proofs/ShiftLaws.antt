@@ -1,11 +1,11 @@
 -- What is kept as the readers and the writers of shifted cells are alerted.
-use Rattle.std.proofs.Common.{◌≡◌, ◌≢◌, ◌<◌, ◌⊎◌, ℕ, ◌+◌, List, Some, All, Contains, length, map, slice_get, refl, sym, subst, arith, inl, inr}
+use Rattle.std.proofs.Common.{◌≡◌, ◌≢◌, ◌<◌, ◌⊎◌, ℕ, ◌+◌, List, Some, All, Contains, length, slice_get, refl, sym, subst, arith, inl, inr}
 use Rattle.std.proofs.lemmas.Bool.Decides.{eqb_tells}
 use Rattle.std.proofs.lemmas.List.Elements.{All-contains, All-weaker}
 use Rattle.prop_lattice.specs.declared.info.Info.{Info}
 use Rattle.prop_lattice.specs.Order.{Below}
 use Rattle.prop_procedures.specs.Stored.{Stored}
-use Rattle.prop_cells.specs.Problems.{Premises, Assignment, Constraint, Meets, value_at}
+use Rattle.prop_cells.specs.Problems.{Premises, Constraint, Meets, value_at}
 use Rattle.prop_cells.specs.Instances.{Instance, IsWithin, constraint_of, readers_of, writers_of}
 use Rattle.prop_cells.specs.Data.{Data, beliefs}
 use Rattle.prop_cells.proofs.Fixpoint.{All-from_contains, map_agree, meets_same}
@@ -42,15 +42,15 @@ shifted_more s t d n old new mid after h shifted read written =
           elim (eqb_tells cell n) as (λ _. (beliefs s d.contents cell ≡ beliefs t d.contents cell) ⊎ (All (Contains after) (readers_of d.instances cell) × All (Contains after) (writers_of d.instances cell))) [
             | inl e ↦ inr (rw e.1 (All-weaker (Contains mid) (Contains after) written.kept (readers_of d.instances n) read.alerted, written.alerted))
             | inr e ↦ elim (h.waits cell (let ne = e.1 in omega (arith, l, ne))) as (λ _. (beliefs s d.contents cell ≡ beliefs t d.contents cell) ⊎ (All (Contains after) (readers_of d.instances cell) × All (Contains after) (writers_of d.instances cell))) [
-                | inl same ↦ inl same
-                | inr all ↦ inr (All-weaker (Contains new) (Contains after) on (readers_of d.instances cell) all.0, All-weaker (Contains new) (Contains after) on (writers_of d.instances cell) all.1)
-              ]
+              | inl same ↦ inl same
+              | inr all ↦ inr (All-weaker (Contains new) (Contains after) on (readers_of d.instances cell) all.0, All-weaker (Contains new) (Contains after) on (writers_of d.instances cell) all.1)
+            ]
           ];
       only = λ j w. elim (written.only j w) as (λ _. Contains old j ⊎ IsTouched s t d j) [
         | inl w' ↦ elim (read.only j w') as (λ _. Contains old j ⊎ IsTouched s t d j) [
-            | inl w'' ↦ h.only j w''
-            | inr reads ↦ inr (record { cell = n; shifted = shifted; touches = inl reads })
-          ]
+          | inl w'' ↦ h.only j w''
+          | inr reads ↦ inr (record { cell = n; shifted = shifted; touches = inl reads })
+        ]
         | inr writes ↦ inr (record { cell = n; shifted = shifted; touches = inr writes })
       ];
     }
@@ -61,9 +61,9 @@ shifted_below s t d n old new h below =
     All-from_contains (λ j. j < length d.instances) new (λ j w. elim (h.only j w) as (λ _. j < length d.instances) [
       | inl was ↦ All-contains (λ i. i < length d.instances) old j below was
       | inr touched ↦ elim touched.touches as (λ _. j < length d.instances) [
-          | inl reads ↦ All-contains (λ i. i < length d.instances) (readers_of d.instances touched.cell) j (readers_are d.instances touched.cell).below reads
-          | inr writes ↦ All-contains (λ i. i < length d.instances) (writers_of d.instances touched.cell) j (writers_below d.instances touched.cell) writes
-        ]
+        | inl reads ↦ All-contains (λ i. i < length d.instances) (readers_of d.instances touched.cell) j (readers_are d.instances touched.cell).below reads
+        | inr writes ↦ All-contains (λ i. i < length d.instances) (writers_of d.instances touched.cell) j (writers_below d.instances touched.cell) writes
+      ]
     ])
 
 module _ (library : List Stored) (s t : Premises) (d : Data) (old new : List ℕ) (within : All (IsWithin (length d.kinds)) d.instances) (u : IsUnderWay library s d old) (h : AreShifted s t d (length d.kinds) old new) where

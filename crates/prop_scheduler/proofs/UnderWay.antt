@@ -1,11 +1,13 @@
 -- What a network between runs keeps, as cells, instances and statements are added.
-use Rattle.std.proofs.Common.{◌≡◌, ◌∙◌, ◌<◌, ◌≤◌, ◌⊎◌, ℕ, append-nil, Bool, true, false, List, [], ◌∷◌, ◌++◌, Some, All, Contains, map, length, slice_get, refl, sym, ap, arith, inl, inr}
+use Rattle.std.proofs.Common.{◌≡◌, ◌≢◌, ◌∙◌, suc, subst, ◌<◌, ◌≤◌, ◌⊎◌, ℕ, append-nil, Bool, true, false, List, [], ◌∷◌, ◌++◌, Some, All, Contains, map, length, slice_get, refl, sym, ap, arith, inl, inr}
 use Rattle.std.proofs.lemmas.List.Elements.{All-contains}
 use Rattle.std.proofs.lemmas.List.{append_assoc, get_or_append_left, map-append, length-map}
 use Rattle.std.proofs.lemmas.Bool.{cases_lt}
+use Rattle.std.proofs.lemmas.Bool.Decides.{eqb_tells}
 use Rattle.std.proofs.lemmas.Option.{slice_get_within, slice_get-get_or, get_or_from_slice_get}
 use Rattle.prop_lattice.specs.declared.info.Info.{Info}
 use Rattle.prop_lattice.specs.declared.info.Info.TheVariants.{Nothing}
+use Rattle.prop_lattice.specs.Order.{Below}
 use Rattle.prop_lattice.specs.OrderLaws.{info_laws}
 use Rattle.prop_lattice.specs.declared.refusal.Refusal.{Refusal}
 use Rattle.std.specs.Prelude.{⊤, Result, Ok, Err, OnOk, OnErr}
@@ -20,7 +22,8 @@ use Rattle.prop_cells.specs.Instances.{Instance, constraint_of, readers_of}
 use Rattle.prop_cells.specs.Data.{Data, Entry, IsKept, States, beliefs, support_of}
 use Rattle.prop_cells.proofs.Adding.{adds_merges, adds_same}
 use Rattle.prop_cells.proofs.Making.{beliefs-push}
-use Rattle.prop_cells.proofs.Fixpoint.{others_meet-step}
+use Rattle.prop_cells.specs.Sides.{sides_at, StatesAll}
+use Rattle.prop_cells.proofs.Fixpoint.{others_meet-step, merges_grow, below_same, meets_same, map_agree, All-from_contains}
 use Rattle.prop_cells.proofs.Reading.{readers_are}
 use Rattle.prop_scheduler.specs.Agendas.{AllAlerted}
 use Rattle.prop_scheduler.specs.Turns.{IsUnderWay}
@@ -129,6 +132,55 @@ under_way_grown library s d new line line' row x u kept states all is_row =
     under_way_states library s d new line line' x true u kept states (λ f. let t : true ≡ false = f in cc) (λ k c. alerted.kept k c)
     (all_after_alerts (λ k. k < length d.instances) (readers_of d.instances x.cell) line line' are.below u.line_below alerted)
     (λ g j y at_j reads. All-contains (Contains line') (readers_of d.instances x.cell) j alerted.alerted (are.covers j y at_j reads))
+
+-- ---- more statements at one cell: its readers wait, where what is believed of it changed
+
+-- the statements of sides change what is believed of their cell alone, and it grows
+record AreGrownAt (s : Premises) (d new : Data) (cell : ℕ) : Type 0 where
+  pub grown : (k : ℕ) → Below (beliefs s d.contents k) (beliefs s new.contents k)
+  pub others : (k : ℕ) → k ≢ cell → beliefs s new.contents k ≡ beliefs s d.contents k
+
+grown_sides : (s : Premises) (d new : Data) (first cell : ℕ) (infos : List Info) → StatesAll d new (sides_at first cell infos) → AreGrownAt s d new cell
+grown_sides s d new first cell [] same = record {
+  grown = λ k. below_same _ _ _ (ap (λ (n : Data). beliefs s n.contents k) (sym same)) (info_laws.reflexive (beliefs s d.contents k));
+  others = λ k ne. ap (λ (n : Data). beliefs s n.contents k) same;
+}
+grown_sides s d new first cell (info ∷ infos) (next, states, rest) =
+    let merge = states_merge s d next (record { premise = Some first; cell = cell; info = info }) states in
+    let later = grown_sides s next new (suc first) cell infos rest in
+    record {
+      grown = λ k. info_laws.transitive _ _ _ (merges_grow (beliefs s d.contents) (beliefs s next.contents) cell merge.0 merge.1 k) (later.grown k);
+      others = λ k ne. later.others k ne ∙ merge.1.others k ne;
+    }
+
+pub under_way_sides : (library : List Stored) (s : Premises) (d new : Data) (line line' : List ℕ) (first cell : ℕ) (infos : List Info) → IsUnderWay library s d line → IsKept library new →
+    new.instances ≡ d.instances → StatesAll d new (sides_at first cell infos) → ((k : ℕ) → Contains line k → Contains line' k) → All (λ k. k < length d.instances) line' →
+    (Below (beliefs s new.contents cell) (beliefs s d.contents cell) ⊎ All (Contains line') (readers_of d.instances cell)) → IsUnderWay library s new line'
+under_way_sides library s d new line line' first cell infos u kept same states keep below waits =
+    let of = constraint_of library in
+    let a = beliefs s d.contents in
+    let b = beliefs s new.contents in
+    let at_cell = grown_sides s d new first cell infos states in
+    let agree : (j : ℕ) (x : Instance) → slice_get d.instances j ≡ Some x → (Contains line' j → ⊥) → (k : ℕ) → Contains x.inputs k → a k ≡ b k = λ j x at idle k reads.
+    elim (eqb_tells k cell) as (λ _. a k ≡ b k) [
+      | inl e ↦ rw e.1 (elim waits as (λ _. a cell ≡ b cell) [
+        | inl less ↦ info_laws.antisymmetric (a cell) (b cell) (at_cell.grown cell) less
+        | inr all ↦ absurd (idle (All-contains (Contains line') (readers_of d.instances cell) j all ((readers_are d.instances cell).covers j x at (subst (λ (c : ℕ). Contains x.inputs c) e.1 reads))))
+      ])
+      | inr e ↦ sym (at_cell.others k e.1)
+    ] in
+    let met : (j : ℕ) (x : Instance) → slice_get d.instances j ≡ Some x → (Contains line' j → ⊥) → Meets a (of x) → Meets b (of x) = λ j x at idle m.
+    meets_same a b (of x) (map_agree a b x.inputs (All-from_contains (λ k. a k ≡ b k) x.inputs (agree j x at idle))) (info_laws.transitive _ _ _ m.below (at_cell.grown x.output)) in
+    record {
+      kept = kept;
+      line_below = rw same below;
+      met = rw same (record {
+        met = λ j c at idle.
+            let x = from_map of d.instances j c at in
+            let is : c ≡ of x.0 = x.2 in
+            subst (λ (q : Constraint). Meets b q) (sym is) (met j x.0 x.1 idle (subst (λ (q : Constraint). Meets a q) is (u.met.met j c at (λ w. idle (keep j w)))));
+      });
+    }
 
 -- ---- another worldview
 

@@ -1,0 +1,56 @@
+use Rattle.std.proofs.Common.{◌≡◌, ◌<◌, Contains, length, ap, arith, inl, inr}
+use Rattle.std.proofs.lemmas.List.Elements.{All-weaker}
+use Rattle.prop_lattice.specs.Order.{Below}
+use Rattle.prop_premises.specs.Sets.{set_of}
+use Rattle.prop_procedures.specs.Kept.{stored_of}
+use Rattle.prop_cells.specs.Instances.{readers_of, writers_of}
+use Rattle.prop_cells.specs.Data.{IsKept, beliefs}
+use Rattle.prop_cells.proofs.Reading.{readers_are, writers_below}
+use Rattle.prop_scheduler.specs.Agendas.{AllAlerted}
+use Rattle.prop_scheduler.proofs.Steps.{all_after_alerts}
+use Rattle.prop_scheduler.proofs.UnderWay.{under_way_sides}
+use Rattle.prop_scheduler.proofs.sides.state_sides.Goals as goal
+
+pub alert_all-requires : goal.alert_all-requires
+alert_all-requires g c =
+    let xs = c.state_sides.new.self.cells.instances in
+    let same = ap (λ d. length d.instances) c.in_ok-state_sides.ensures.rest in
+    let room = c.requires.room in
+    rw c.readers.ensures (All-weaker (λ j. j < length xs) (λ j. j < c.args.agenda.now.room) (λ j h. omega (arith, h, same, room)) (readers_of xs c.args.cell) (readers_are xs c.args.cell).below)
+
+pub alert_all-requires-then-not-implies : goal.alert_all-requires-then-not-implies
+alert_all-requires-then-not-implies g c =
+    let xs = c.state_sides.new.self.cells.instances in
+    let same = ap (λ d. length d.instances) c.in_ok-state_sides.ensures.rest in
+    let room = c.requires.room in
+    let then = c.alert_all.ensures.room in
+    rw c.writers.ensures (All-weaker (λ j. j < length xs) (λ j. j < c.alert_all.new.self.room) (λ j h. omega (arith, h, same, room, then)) (writers_of xs c.args.cell) (writers_below xs c.args.cell))
+
+pub returns-then-not-implies-clause-under_way : goal.returns-then-not-implies-clause-under_way
+returns-then-not-implies-clause-under_way g c =
+    let library = stored_of g.R.Rule.value_of c.args.network.now.library in
+    let old = c.args.network.now.cells in
+    let new = c.state_sides.new.self.cells in
+    let line = c.args.agenda.now.line in
+    let mid = c.alert_all.new.self.line in
+    let after = c.alert_all-then-not-implies.new.self.line in
+    let same : new.instances ≡ old.instances = ap (λ d. d.instances) c.in_ok-state_sides.ensures.rest in
+    let kept : IsKept library new = rw c.state_sides.ensures.same at c.state_sides.ensures.kept in
+    let read : AllAlerted line mid (readers_of old.instances c.args.cell) = rw (c.readers.ensures, same) at c.alert_all.ensures.alerted in
+    let written : AllAlerted mid after (writers_of old.instances c.args.cell) = rw (c.writers.ensures, same) at c.alert_all-then-not-implies.ensures.alerted in
+    let first_below = all_after_alerts (λ k. k < length old.instances) (readers_of old.instances c.args.cell) line mid (readers_are old.instances c.args.cell).below c.requires.under_way.line_below read in
+    let below = all_after_alerts (λ k. k < length old.instances) (writers_of old.instances c.args.cell) mid after (writers_below old.instances c.args.cell) first_below written in
+    rw c.state_sides.ensures.same (under_way_sides library (set_of c.args.worldview.now) old new line after c.args.first c.args.cell c.args.infos.now c.requires.under_way kept same c.in_ok-state_sides.ensures.ok
+    (λ k w. written.kept k (read.kept k w)) below (inr (All-weaker (Contains mid) (Contains after) written.kept (readers_of old.instances c.args.cell) read.alerted)))
+
+pub returns-else-not-implies-clause-under_way : goal.returns-else-not-implies-clause-under_way
+returns-else-not-implies-clause-under_way g c =
+    let library = stored_of g.R.Rule.value_of c.args.network.now.library in
+    let s = set_of c.args.worldview.now in
+    let old = c.args.network.now.cells in
+    let new = c.state_sides.new.self.cells in
+    let same : new.instances ≡ old.instances = ap (λ d. d.instances) c.in_ok-state_sides.ensures.rest in
+    let kept : IsKept library new = rw c.state_sides.ensures.same at c.state_sides.ensures.kept in
+    let less : Below (beliefs s new.contents c.args.cell) (beliefs s old.contents c.args.cell) = rw (c.belief-after.ensures, c.belief-before.ensures) at (c.implies.ensures.0 c.if-not-implies.false) in
+    rw c.state_sides.ensures.same (under_way_sides library s old new c.args.agenda.now.line c.args.agenda.now.line c.args.first c.args.cell c.args.infos.now c.requires.under_way kept same c.in_ok-state_sides.ensures.ok
+    (λ k w. w) c.requires.under_way.line_below (inl less))
