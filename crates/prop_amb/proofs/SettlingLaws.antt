@@ -172,9 +172,9 @@ module _ {O : Type 0} (picks : O → ℕ → ℕ → O → Type 0) (library : Li
 
   pub after_move : (s : Stand) (d : Data) (waiting : List ℕ) (order : O) (steps budget : ℕ) (tried : Tried) (new : Stand) (after : List ℕ) → OnTry picks library old start line first s d waiting order steps budget tried →
       (tried ≡ Quiet → ⊥) → new.premises ≡ s.premises → new.listed ≡ s.listed → IsSearch (problem_of library d) new → IsStand new → IsUnderWay library (set_of new.worldview) d after →
-      IsMove library (users_of s) (choices_in s) d s.list new.list after → OnWay picks library old start line first new d after order (steps + 1)
+      IsMove library (users_of s) (choices_in s) d s.list new.list waiting after → OnWay picks library old start line first new d after order (steps + 1)
   after_move s d waiting order steps budget tried new after t restless same_premises same_listed learned stand under_way move =
-      let move_old : IsMove library (users_of old) choices d s.list new.list after = subst (λ (o : List Origin). IsMove library (believed_in o) (choices_of o) d s.list new.list after) t.premises move in
+      let move_old : IsMove library (users_of old) choices d s.list new.list waiting after = subst (λ (o : List Origin). IsMove library (believed_in o) (choices_of o) d s.list new.list waiting after) t.premises move in
       let less : place_of choices s.list < place_of choices new.list = earlier_place choices s.list new.list (in_old s t.premises t.stand) move_old.is_list move_old.later in
       record {
         premises = same_premises ∙ t.premises;

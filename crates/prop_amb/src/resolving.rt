@@ -12,8 +12,9 @@ use crate::joining::joined;
 use crate::lists::advanced;
 use crate::reasons::advance_reasons;
 use crate::search::Search;
-use prop_premises::{Premise, PremiseSet};
+use prop_premises::{Premise, PremiseSet, Worldview};
 use std::alloc::AllocError;
+use std::mem::replace;
 
 /// What a believed nogood shows.
 #[derive(Drop)]
@@ -73,11 +74,12 @@ impl Search {
     }
 
     /// The choice at a place goes to its next side, and the reason is kept against the side that it leaves. All later choices go to
-    /// their first side, and no reason is kept of them. After want of memory nothing has changed.
-    pub fn advance(&mut self, place: usize, reason: PremiseSet) -> Result<(), AllocError>
+    /// their first side, and no reason is kept of them. Answers the worldview of before. After want of memory nothing has changed.
+    pub fn advance(&mut self, place: usize, reason: PremiseSet) -> Result<Worldview, AllocError>
         requires { MayAdvance self.old place }
         ensures premises { self.new.premises ≡ self.old.premises }
         ensures listed { self.new.listed ≡ self.old.listed }
+        ensures before { IfOk result (λ w. w ≡ self.old.worldview) }
         ensures list { OnOk result (self.new.list ≡ advanced self.old.list place) }
         ensures reasons { OnOk result (self.new.reasons ≡ reasons_advanced self.old.reasons place reason) }
         ensures err { OnErr result (self.new ≡ self.old) }
@@ -87,7 +89,6 @@ impl Search {
         let worldview = self.premises.worldview(&list)?;
         advance_reasons(&mut self.reasons, place, reason)?;
         self.list = list;
-        self.worldview = worldview;
-        Ok(())
+        Ok(replace(&mut self.worldview, worldview))
     }
 }

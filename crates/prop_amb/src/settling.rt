@@ -18,7 +18,7 @@ use crate::search::Search;
 use prop_cells::Network;
 use prop_premises::PremiseSet;
 use prop_procedures::Rule;
-use prop_scheduler::{Agenda, Order, Run, run, wake_all};
+use prop_scheduler::{Agenda, Order, Run, alert_shifted, run};
 use std::alloc::{AllocError, Global};
 
 /// What came of one list of choices.
@@ -84,7 +84,7 @@ fn attempt<R: Rule + Drop, O: Order>(
     }
 }
 
-/// What follows where a list was tried: an end, or the choices go on to a later list and every instance waits.
+/// What follows where a list was tried: an end, or the choices go on to a later list, and of the cells that this shifts the readers and writers wait.
 /// Where one more step is not allowed, that is an end too.
 fn decide<R: Rule + Drop>(
     search: &mut Search,
@@ -109,7 +109,7 @@ fn decide<R: Rule + Drop>(
     ensures settled { IfOk result (λ o. o ≡ Some Outcome.Settled → tried ≡ Tried.Quiet) }
     ensures contradiction { IfOk result (λ o. IfSome o (λ end. IfContradiction end (λ n. IsRuledOut (problem_of (stored_of R.value_of network.now.library) network.now.cells) (users_of search.old) (choices_in search.old) search.old.listed (set_of n)))) }
     ensures unsettled { IfOk result (λ o. o ≡ Some Outcome.Unsettled → (tried ≡ Tried.Spent) ⊎ ((may_move ≡ false) × IsHeld (problem_of (stored_of R.value_of network.now.library) network.now.cells) search.old)) }
-    ensures moves { IfOk result (λ o. o ≡ None → (may_move ≡ true) × IsMove (stored_of R.value_of network.now.library) (users_of search.old) (choices_in search.old) network.now.cells search.old.list search.new.list agenda.new.line) }
+    ensures moves { IfOk result (λ o. o ≡ None → (may_move ≡ true) × IsMove (stored_of R.value_of network.now.library) (users_of search.old) (choices_in search.old) network.now.cells search.old.list search.new.list agenda.old.line agenda.new.line) }
 {
     search.well_made();
     let nogood = match tried {
@@ -123,9 +123,9 @@ fn decide<R: Rule + Drop>(
             if !may_move {
                 return Ok(Some(Outcome::Unsettled));
             }
-            search.advance(place, reason)?;
+            let before = search.advance(place, reason)?;
             search.well_made();
-            wake_all(network, agenda);
+            alert_shifted(network, agenda, &before, search.worldview());
             Ok(None)
         }
     }

@@ -26,9 +26,9 @@ invariant_of-self-2 c =
     let may : MayAdvance (the_view c.self.inside) c.args.place = rw (← c.self.view_is) at c.requires in
     let list_is : c.in_ok-list.list.items ≡ advanced c.self.inside.list.items c.args.place = rw c.deref.ensures.value at c.in_ok-list.ensures in
     let reasons_are : c.advance_reasons.new.reasons ≡ reasons_advanced c.self.inside.reasons.items c.args.place c.args.reason = rw c.deref_mut.ensures.value at c.in_ok-advance_reasons.ensures.ok in
-    stand_moved (the_view c.self.inside) c.args.place c.args.reason c.in_ok-worldview.worldview c.in_ok-list.list.items c.advance_reasons.new.reasons c.self.inside.reasons.len c.self.invariant may list_is reasons_are
+    stand_moved (the_view c.self.inside) c.args.place c.args.reason c.replace.new.dest c.in_ok-list.list.items c.advance_reasons.new.reasons c.self.inside.reasons.len c.self.invariant may list_is reasons_are
     (omega (arith, c.advance_reasons.auto.reasons, c.deref_mut.ensures.len))
-    (rw c.deref-2.ensures.value at c.in_ok-worldview.ensures)
+    (rw c.replace.ensures.after (rw c.deref-2.ensures.value at c.in_ok-worldview.ensures))
 
 pub returns-clause-search : goal.returns-clause-search
 returns-clause-search c problem reason h =
@@ -37,6 +37,6 @@ returns-clause-search c problem reason h =
     let reasons_are : c.advance_reasons.new.reasons ≡ reasons_advanced c.self.inside.reasons.items c.args.place c.args.reason = rw c.deref_mut.ensures.value at c.in_ok-advance_reasons.ensures.ok in
     let reason_was : IsReason problem (the_view c.self.inside) c.args.place (set_of c.args.reason) = rw (← c.self.view_is) at reason in
     let search_was : IsSearch problem (the_view c.self.inside) = rw (← c.self.view_is) at h in
-    search_moved_to (the_view c.self.inside) c.args.place c.args.reason c.in_ok-worldview.worldview c.in_ok-list.list.items c.advance_reasons.new.reasons c.self.inside.reasons.len c.self.invariant may list_is reasons_are
+    search_moved_to (the_view c.self.inside) c.args.place c.args.reason c.replace.new.dest c.in_ok-list.list.items c.advance_reasons.new.reasons c.self.inside.reasons.len c.self.invariant may list_is reasons_are
     (omega (arith, c.advance_reasons.auto.reasons, c.deref_mut.ensures.len))
     problem reason_was search_was

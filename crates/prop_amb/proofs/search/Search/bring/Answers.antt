@@ -13,10 +13,10 @@ worldview-requires c =
 pub invariant_of-self : goal.invariant_of-self
 invariant_of-self c =
     let same = ap choices_of c.bring.ensures.only ∙ choices_of-with_belief_at c.self.inside.premises c.args.premise true in
-    stand_believing _ c.bring.new.self c.in-Ok.worldview c.self.invariant
+    stand_believing _ c.bring.new.self c.replace.new.dest c.self.invariant
     (rw c.bring.ensures.only (numbered_belief c.self.inside.premises c.args.premise true c.self.invariant.numbered))
     same
-    (rw c.deref.ensures.value at c.in-Ok.ensures)
+    (rw c.replace.ensures.after (rw c.deref.ensures.value at c.in-Ok.ensures))
 
 pub kick-requires : goal.kick-requires
 kick-requires c =
@@ -33,7 +33,7 @@ invariant_of-self-in-Err c = rw (as_before c) c.self.invariant
 pub returns-in-Ok-clause-search : goal.returns-in-Ok-clause-search
 returns-in-Ok-clause-search c problem h =
     let same = ap choices_of c.bring.ensures.only ∙ choices_of-with_belief_at c.self.inside.premises c.args.premise true in
-    search_believing problem _ c.bring.new.self c.in-Ok.worldview same (λ p b. c.bring.ensures.beliefs p ∙ or_true_left (believed_in c.self.inside.premises p) _ b) (rw (← c.self.view_is) at h)
+    search_believing problem _ c.bring.new.self c.replace.new.dest same (λ p b. c.bring.ensures.beliefs p ∙ or_true_left (believed_in c.self.inside.premises p) _ b) (rw (← c.self.view_is) at h)
 
 pub returns-in-Err-clause-err : goal.returns-in-Err-clause-err
 returns-in-Err-clause-err c = rw (as_before c) c.self.view_is

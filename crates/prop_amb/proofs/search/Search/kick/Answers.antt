@@ -15,10 +15,10 @@ pub invariant_of-self : goal.invariant_of-self
 invariant_of-self c =
     let same = ap choices_of c.kick.ensures.only ∙ choices_of-with_belief_at c.self.inside.premises c.args.premise false in
     rw (reasons_forgotten c.self.inside.reasons.items c.forget.new.reasons c.self.inside.reasons.len c.self.inside.reasons.ok.0 (c.forget.ensures ∙ ap no_reasons c.deref_mut.ensures.value), c.in_ok-list.ensures, c.deref.ensures.value)
-    (stand_restarted _ c.kick.new.self c.in-Ok.worldview c.self.invariant
+    (stand_restarted _ c.kick.new.self c.replace.new.dest c.self.invariant
     (rw c.kick.ensures.only (numbered_belief c.self.inside.premises c.args.premise false c.self.invariant.numbered))
     same
-    (rw (c.deref-2.ensures.value, c.in_ok-list.ensures, c.deref.ensures.value) at c.in-Ok.ensures))
+    (rw c.replace.ensures.after (rw (c.deref-2.ensures.value, c.in_ok-list.ensures, c.deref.ensures.value) at c.in-Ok.ensures)))
 
 pub bring-requires : goal.bring-requires
 bring-requires c =
@@ -36,7 +36,7 @@ pub returns-in-Ok-clause-search : goal.returns-in-Ok-clause-search
 returns-in-Ok-clause-search c problem h =
     let same = ap choices_of c.kick.ensures.only ∙ choices_of-with_belief_at c.self.inside.premises c.args.premise false in
     rw (reasons_forgotten c.self.inside.reasons.items c.forget.new.reasons c.self.inside.reasons.len c.self.inside.reasons.ok.0 (c.forget.ensures ∙ ap no_reasons c.deref_mut.ensures.value), c.in_ok-list.ensures, c.deref.ensures.value)
-    (search_restarted problem _ c.kick.new.self c.in-Ok.worldview same (rw (← c.self.view_is) at h))
+    (search_restarted problem _ c.kick.new.self c.replace.new.dest same (rw (← c.self.view_is) at h))
 
 pub returns-in-Err-clause-err : goal.returns-in-Err-clause-err
 returns-in-Err-clause-err c = rw (as_before c) c.self.view_is
