@@ -32,6 +32,8 @@ use Rattle.prop_amb.proofs.KeepingLaws.{search_extends}
 use Rattle.prop_amb.proofs.RefutedLaws.{covered_choice}
 use Rattle.prop_workbench.specs.Machine.{State}
 use Rattle.prop_workbench.specs.Refusing.{choosing_limit}
+use Rattle.prop_workbench.proofs.PremiseLemmas.{under_way_agree}
+use Rattle.prop_workbench.proofs.StandingLemmas.{set_before}
 use Rattle.prop_workbench.specs.Sessions.{AreKnown, IsAtWork}
 
 -- ---- the limits
@@ -108,7 +110,13 @@ extends_all library d new xs e = rw e (record {
   constraints = λ k y l. Contains-get_or (map (constraint_of library) d.instances) k y l;
 })
 
--- a search with one more choice, whose sides are stated, is at work where all instances wait
+-- no entry rests on a side of a choice that was just declared
+pub declared_under_way : (library : List Stored) (old new : Stand) (name : List ℕ) (sides : ℕ) (d : Data) (agenda : Waiting) → IsAtWork library old d agenda → new ≡ declared old name sides → IsUnderWay library (set_of new.worldview) d agenda.line
+declared_under_way library old new name sides d agenda work made =
+    let n = length old.premises in
+    rw (ap (λ (s : Stand). s.worldview) made) (under_way_agree library d n agenda.line (set_of old.worldview) (set_of (old.worldview ++ n ∷ [])) work.known (λ p l. set_before old.worldview n p l) work.under_way)
+
+-- a search with one more choice, whose sides are stated, is at work
 pub chosen_at_work : (library : List Stored) (old new : Stand) (name : List ℕ) (sides cell : ℕ) (choice : Choice) (infos : List Info) (d after : Data) (before waiting : Waiting) → IsAtWork library old d before →
     new ≡ declared old name sides → choice.first ≡ length old.premises → length infos ≡ sides → IsStand new → ((problem : Problem) → IsFresh problem choice → IsSearch problem old → IsSearch problem new) →
     after ≡ record d { statements = d.statements ++ sides_at choice.first cell infos; contents = after.contents } → IsUnderWay library (set_of new.worldview) after waiting.line → waiting.room ≡ before.room → IsAtWork library new after waiting

@@ -87,7 +87,7 @@ stated_at_work library stand d new before after x work e known under_way room =
 
 -- ---- a new name
 
-set_before : (w : List ℕ) (n p : ℕ) → p < n → set_of (w ++ n ∷ []) p ≡ set_of w p
+pub set_before : (w : List ℕ) (n p : ℕ) → p < n → set_of (w ++ n ∷ []) p ≡ set_of w p
 set_before [] n p l = let other : (n == p) ≡ false = grind (arith, nat_tests) in ap (λ b. b || false) other
 set_before (q ∷ w) n p l = ap (λ b. (q == p) || b) (set_before w n p l)
 

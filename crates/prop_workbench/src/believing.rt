@@ -3,7 +3,7 @@
 use crate::session::Session;
 use prop_lattice::Refusal;
 use prop_procedures::Rule;
-use prop_scheduler::{Order, wake_all};
+use prop_scheduler::{Order, alert_shifted};
 use std::alloc::AllocError;
 
 impl<R: Rule + Drop, O: Order + Drop> Session<R, O> {
@@ -13,7 +13,8 @@ impl<R: Rule + Drop, O: Order + Drop> Session<R, O> {
     ghost use Rattle.prop_workbench.specs.Sessions.{state_of, library_of, IsInOrder, Keeps};
     ghost use Rattle.prop_workbench.specs.Steps.{Obeys};
 
-    /// The premise with a name is no longer believed. Where that is a change, every choice stands on its first side again, and every instance waits.
+    /// The premise with a name is no longer believed. Where that is a change, every choice stands on its first side again, and of the cells that this
+    /// shifts the readers and writers wait.
     pub(crate) fn kick(&mut self, name: &str) -> Result<(), Refusal>
         requires sound { IsInOrder R.value_of self.old }
         ensures keeps { Keeps R.value_of self.old self.new }
@@ -21,17 +22,22 @@ impl<R: Rule + Drop, O: Order + Drop> Session<R, O> {
     {
         let premise = self.search.premises().find(name)?;
         match self.search.kick(premise) {
-            Ok(true) => {
+            Ok(Some(before)) => {
                 self.search.well_made();
-                wake_all(&self.network, &mut self.agenda);
+                alert_shifted(
+                    &self.network,
+                    &mut self.agenda,
+                    &before,
+                    self.search.worldview(),
+                );
                 Ok(())
             }
-            Ok(false) => Ok(()),
+            Ok(None) => Ok(()),
             Err(AllocError) => Err(Refusal::Memory),
         }
     }
 
-    /// The premise with a name is believed from now on. Where that is a change, every instance waits.
+    /// The premise with a name is believed from now on. Where that is a change, of the cells that it shifts the readers and writers wait.
     pub(crate) fn bring(&mut self, name: &str) -> Result<(), Refusal>
         requires sound { IsInOrder R.value_of self.old }
         ensures keeps { Keeps R.value_of self.old self.new }
@@ -39,12 +45,17 @@ impl<R: Rule + Drop, O: Order + Drop> Session<R, O> {
     {
         let premise = self.search.premises().find(name)?;
         match self.search.bring(premise) {
-            Ok(true) => {
+            Ok(Some(before)) => {
                 self.search.well_made();
-                wake_all(&self.network, &mut self.agenda);
+                alert_shifted(
+                    &self.network,
+                    &mut self.agenda,
+                    &before,
+                    self.search.worldview(),
+                );
                 Ok(())
             }
-            Ok(false) => Ok(()),
+            Ok(None) => Ok(()),
             Err(AllocError) => Err(Refusal::Memory),
         }
     }

@@ -13,7 +13,7 @@ use crate::stating::meaning;
 use prop_compound::Value;
 use prop_lattice::{Info, Kind, Limit, Refusal};
 use prop_procedures::Rule;
-use prop_scheduler::{Order, wake_all};
+use prop_scheduler::{Order, state_sides};
 use prop_values::Meant;
 use prop_vocabulary::Vocabulary;
 use std::alloc::Global;
@@ -245,12 +245,16 @@ impl<R: Rule + Drop, O: Order + Drop> Session<R, O> {
             Ok(choice) => choice,
             Err(refusal) => return Err(refusal),
         };
-        match self.network.state_sides(choice.first, cell, infos) {
-            Ok(()) => {
-                wake_all(&self.network, &mut self.agenda);
-                self.search.well_made();
-                Ok(())
-            }
+        self.search.well_made();
+        match state_sides(
+            &mut self.network,
+            &mut self.agenda,
+            self.search.worldview(),
+            choice.first,
+            cell,
+            infos,
+        ) {
+            Ok(()) => Ok(()),
             Err(refusal) => {
                 self.search.undeclare(choice);
                 Err(refusal)

@@ -1,9 +1,8 @@
 use Rattle.std.proofs.Common.{◌≡◌, ◌∙◌, length, refl, sym, ap}
-use Rattle.prop_premises.specs.Sets.{set_of}
 use Rattle.prop_procedures.specs.Kept.{stored_of}
 use Rattle.prop_amb.specs.Moving.{declared, declare_refusal}
 use Rattle.prop_workbench.specs.Sessions.{state_of}
-use Rattle.prop_workbench.proofs.ChosenLemmas.{declared_fits, only_memory, chosen_at_work, chosen_covers}
+use Rattle.prop_workbench.proofs.ChosenLemmas.{declared_fits, declared_under_way, only_memory, chosen_at_work, chosen_covers}
 use Rattle.prop_workbench.proofs.StandingLemmas.{same_at_work, same_covers}
 use Rattle.prop_workbench.proofs.session.Session.choose_between.Goals as goal
 
@@ -30,18 +29,24 @@ returns-in-Err-clause-err g c =
 
 -- ---- the choice is made
 
+pub state_sides-requires-clause-under_way : goal.state_sides-requires-clause-under_way
+state_sides-requires-clause-under_way g c =
+    let s = c.args.self.now in
+    let library = stored_of g.R.Rule.value_of s.network.library in
+    rw c.worldview.ensures (declared_under_way library s.search c.declare.new.self c.args.choice.now (length c.args.infos.now) s.network.cells s.agenda c.requires.sound.at_work c.in-Ok.ensures.ok)
+
 pub returns-in-Ok-state_sides-clause-keeps : goal.returns-in-Ok-state_sides-clause-keeps
 returns-in-Ok-state_sides-clause-keeps g c =
     let s = c.args.self.now in
     let library = stored_of g.R.Rule.value_of s.network.library in
     let sound = c.requires.sound in
     let rest = c.in-Ok-state_sides.ensures.rest in
-    let kinds : c.state_sides.new.self.cells.kinds ≡ s.network.cells.kinds = ap (λ d. d.kinds) rest in
+    let kinds : c.state_sides.new.network.cells.kinds ≡ s.network.cells.kinds = ap (λ d. d.kinds) rest in
     record {
       library = c.state_sides.ensures.same;
       sound = record {
-        at_work = rw c.state_sides.ensures.same (chosen_at_work library s.search c.declare.new.self c.args.choice.now (length c.args.infos.now) c.args.cell c.in-Ok.choice c.args.infos.now s.network.cells c.state_sides.new.self.cells s.agenda c.wake_all.new.agenda sound.at_work
-            c.in-Ok.ensures.ok c.in-Ok.ensures.choice.0 refl c.well_made.ensures c.in-Ok.ensures.search rest (rw c.state_sides.ensures.same at (c.wake_all.ensures.under_way (set_of c.declare.new.self.worldview))) c.wake_all.ensures.room);
+        at_work = rw c.state_sides.ensures.same (chosen_at_work library s.search c.declare.new.self c.args.choice.now (length c.args.infos.now) c.args.cell c.in-Ok.choice c.args.infos.now s.network.cells c.state_sides.new.network.cells s.agenda c.state_sides.new.agenda sound.at_work
+            c.in-Ok.ensures.ok c.in-Ok.ensures.choice.0 refl c.well_made.ensures c.in-Ok.ensures.search rest (rw (c.state_sides.ensures.same, c.worldview.ensures) at c.state_sides.ensures.under_way) c.state_sides.ensures.room);
         sized = rw kinds sound.sized;
         locals = sound.locals;
         named = rw kinds sound.named;
@@ -63,7 +68,7 @@ returns-in-Err-state_sides-clause-keeps g c =
     record {
       library = c.state_sides.ensures.same;
       sound = record {
-        at_work = rw (c.state_sides.ensures.same, cells) (same_at_work library s.search c.undeclare.new.self s.network.cells s.agenda same sound.at_work);
+        at_work = rw (c.state_sides.ensures.same, cells, c.in-Err-state_sides.ensures.err_line) (same_at_work library s.search c.undeclare.new.self s.network.cells s.agenda same sound.at_work);
         sized = rw cells sound.sized;
         locals = sound.locals;
         named = rw cells sound.named;
