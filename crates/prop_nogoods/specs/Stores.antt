@@ -1,6 +1,7 @@
--- Lists of nogoods, none of which is part of another.
-use Rattle.std.specs.Prelude.{◌≡◌, ℕ, Bool, false, IsTrue, List, AllPairs, Contains, ◌⊎◌}
+-- Lists of nogoods, none of which is part of another or smaller than one before it.
+use Rattle.std.specs.Prelude.{◌≡◌, ℕ, Bool, false, IsTrue, List, length, AllPairs, Contains, ◌⊎◌}
 use Rattle.std.specs.List.{list_any}
+use Rattle.std.specs.List.Sorted.{IsNonDecreasingBy}
 use Rattle.prop_premises.specs.Sets.{Members, set_of, is_within}
 
 -- some listed set is part of this one
@@ -10,6 +11,10 @@ has_part listed n = list_any (λ line. is_within n line) listed
 -- no listed set is part of another
 abbrev pub AreMinimal : List (List ℕ) → Type 0
 AreMinimal listed = AllPairs (λ a b. (is_within (set_of b) a ≡ false) × (is_within (set_of a) b ≡ false)) listed
+
+-- no listed set is smaller than one before it
+abbrev pub AreBySize : List (List ℕ) → Type 0
+AreBySize listed = IsNonDecreasingBy length listed
 
 -- a set was added: it has a listed part, each set that had one keeps one, and nothing else is listed
 pub record AddsSet (old new : List (List ℕ)) (n : List ℕ) : Type 0 where
