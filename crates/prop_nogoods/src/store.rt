@@ -26,7 +26,8 @@ impl Model for Store {
 
 /// Whether a listed set is part of this one. It looks at those that are no larger.
 fn has_part(listed: &[Listed], nogood: &Listed) -> bool
-    requires { AreBySize listed.now }
+    requires by_size { AreBySize listed.now }
+    requires in_order { All IsStrictlyIncreasing listed.now }
     ensures { result ≡ has_part listed.now (set_of nogood.now) }
 {
     listed
