@@ -1,6 +1,6 @@
 -- A set joins listed ones, none of which is part of it, and those that it is part of go.
 use Rattle.std.proofs.Common.{◌≡◌, ◌∙◌, ◌<◌, ◌≤◌, ◌⊎◌, ℕ, zero, suc, Bool, true, false, not, cond, List, [], ◌∷◌, insert, length, get_or, refl, sym, arith, inl, inr, All, Contains, filter, IsTrue, ◌||◌, Option, None, Some}
-use Rattle.std.proofs.lemmas.List.Elements.{All-contains, All-filter, All-contains_itself, All-get_or, All-push, filter_passes, Contains-get_or, Contains-push, Contains-append_left, Contains-push_cases}
+use Rattle.std.proofs.lemmas.List.Elements.{All-cons, All-contains, All-filter, All-contains_itself, All-get_or, All-push, filter_passes, Contains-get_or, Contains-push, Contains-append_left, Contains-push_cases}
 use Rattle.std.specs.List.{find}
 use Rattle.std.specs.List.Sorted.{IsStrictlyIncreasing}
 use Rattle.std.specs.Option.{option_map}
