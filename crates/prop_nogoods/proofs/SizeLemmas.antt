@@ -1,17 +1,17 @@
 -- Lists of sets in order of size, and that a set is no larger than one that it is part of.
-use Rattle.std.proofs.Common.{◌≡◌, subst, Decides, ◌∙◌, ◌<◌, ◌≤◌, ◌-◌, ◌+◌, ℕ, zero, suc, Bool, true, false, List, [], ◌∷◌, ◌++◌, ◌||◌, ◌==◌, ◌⊎◌, length, get_or, get_or-drop, length-drop, take, drop, refl, sym, ap, arith, inl, inr, All, AllPairs, insert, IsTrue, leb}
+use Rattle.std.proofs.Common.{◌≡◌, subst, Decides, ◌∙◌, ◌<◌, ◌≤◌, ◌-◌, ◌+◌, ℕ, zero, suc, Bool, true, false, List, [], ◌∷◌, ◌++◌, ◌||◌, ◌==◌, ◌⊎◌, not, nat_lt, filter, length, get_or, get_or-drop, length-drop, take, drop, refl, sym, ap, arith, inl, inr, All, AllPairs, insert, leb}
 use Rattle.std.specs.Cmp.{IsEquivalence}
 use Rattle.std.specs.List.{list_any, prefix_len}
-use Rattle.std.specs.List.Sorted.{IsStrictlyIncreasing, IsNonDecreasingBy, IsPartitionPoint}
+use Rattle.std.specs.List.Sorted.{IsStrictlyIncreasing, IsPartitionPoint}
 use Rattle.std.proofs.lemmas.Bool.{leb-true}
-use Rattle.std.proofs.lemmas.Bool.Decides.{Decides-eqb, eqb_tells, leb_tells}
+use Rattle.std.proofs.lemmas.Bool.Decides.{eqb_tells, leb_tells}
 use Rattle.std.proofs.lemmas.List.{take-append-drop}
 use Rattle.std.proofs.lemmas.List.Edits.{get_or-insert_at, get_or-insert_below, get_or-insert_above, length-insert}
 use Rattle.std.proofs.lemmas.List.Folds.{list_any-append, list_any_none}
 use Rattle.std.proofs.lemmas.List.Kept.{AllPairs-from_increasing}
-use Rattle.std.proofs.lemmas.List.Sums.{prefix_len_stops, prefix_len-le-length}
+use Rattle.std.proofs.lemmas.List.Sums.{prefix_len_stops}
 use Rattle.std.proofs.lemmas.Map.Made.{length-le_from_is_member, IsDistinct-from_AllPairs}
-use Rattle.prop_premises.specs.Sets.{Members, set_of, is_within}
+use Rattle.prop_premises.specs.Sets.{set_of, is_within}
 use Rattle.prop_premises.proofs.WithinLemmas.{within_has}
 use Rattle.prop_nogoods.specs.Stores.{has_part, AreBySize}
 
@@ -140,3 +140,35 @@ module _ {X : Type 0} (xs : List X) (i : ℕ) (y : X) (inside : i ≤ length xs)
 
       both : {u v w z : X} → (u ≡ w) × (v ≡ z) → R w z → R u v
       both {u} {v} {w} {z} e r = subst (λ x. R x v) (sym e.0) (subst (λ x. R w x) (sym e.1) r)
+
+-- the sets before the place are those that are no larger, and those behind it the larger ones
+module _ (n : List ℕ) where
+  abbrev pub is_larger : List ℕ → Bool
+  is_larger line = nat_lt (length n) (length line)
+
+  larger : (line : List ℕ) → length n < length line → is_larger line ≡ true
+  larger line l = elim (leb_tells (suc (length n)) (length line)) [ inl e ↦ e.0 | inr e ↦ absurd (omega (arith, l, e.1)) ]
+
+  no_larger : (line : List ℕ) → length line ≤ length n → is_larger line ≡ false
+  no_larger line l = elim (leb_tells (suc (length n)) (length line)) [ inl e ↦ absurd (omega (arith, l, e.1)) | inr e ↦ e.0 ]
+
+  first_place : (x : List ℕ) (xs : List (List ℕ)) → IsPlace (x ∷ xs) n 0 → IsPlace xs n 0
+  first_place x xs place = (λ k d l m. absurd (omega (arith, m)), λ k d l m. place.1 (suc k) d (omega arith) (omega (arith, m)))
+
+  next_place : (x : List ℕ) (xs : List (List ℕ)) (i : ℕ) → IsPlace (x ∷ xs) n (suc i) → IsPlace xs n i
+  next_place x xs i place = (λ k d l m. place.0 (suc k) d (omega arith) (omega (arith, m)), λ k d l m. place.1 (suc k) d (omega (arith, l)) (omega (arith, m)))
+
+  before_place : (listed : List (List ℕ)) (i : ℕ) → IsPlace listed n i → take i listed ≡ filter (λ line. not (is_larger line)) listed
+  before_place [] zero place = refl
+  before_place [] (suc i) place = refl
+  before_place (x ∷ xs) zero place = rw (larger x (place.1 0 x (omega arith) (omega arith))) (before_place xs 0 (first_place x xs place))
+  before_place (x ∷ xs) (suc i) place = rw (no_larger x (place.0 0 x (omega arith) (omega arith))) (ap (λ ys. x ∷ ys) (before_place xs i (next_place x xs i place)))
+
+  behind_place : (listed : List (List ℕ)) (i : ℕ) → IsPlace listed n i → drop i listed ≡ filter is_larger listed
+  behind_place [] zero place = refl
+  behind_place [] (suc i) place = refl
+  behind_place (x ∷ xs) zero place = rw (larger x (place.1 0 x (omega arith) (omega arith))) (ap (λ ys. x ∷ ys) (behind_place xs 0 (first_place x xs place)))
+  behind_place (x ∷ xs) (suc i) place = rw (no_larger x (place.0 0 x (omega arith) (omega arith))) (behind_place xs i (next_place x xs i place))
+
+  pub insert_behind : (listed : List (List ℕ)) (i : ℕ) → IsPlace listed n i → insert listed i n ≡ filter (λ line. not (is_larger line)) listed ++ n ∷ filter is_larger listed
+  insert_behind listed i place = ap (λ ys. ys ++ n ∷ drop i listed) (before_place listed i place) ∙ ap (λ ys. filter (λ line. not (is_larger line)) listed ++ n ∷ ys) (behind_place listed i place)

@@ -1,5 +1,5 @@
 -- Lists of nogoods, none of which is part of another or smaller than one before it.
-use Rattle.std.specs.Prelude.{◌≡◌, ℕ, Bool, false, IsTrue, List, length, AllPairs, Contains, ◌⊎◌}
+use Rattle.std.specs.Prelude.{◌≡◌, ℕ, Bool, false, not, nat_lt, IsTrue, List, ◌∷◌, ◌++◌, length, filter, AllPairs, Contains, ◌⊎◌}
 use Rattle.std.specs.List.{list_any}
 use Rattle.std.specs.List.Sorted.{IsNonDecreasingBy}
 use Rattle.prop_premises.specs.Sets.{Members, set_of, is_within}
@@ -15,6 +15,14 @@ AreMinimal listed = AllPairs (λ a b. (is_within (set_of b) a ≡ false) × (is_
 -- no listed set is smaller than one before it
 abbrev pub AreBySize : List (List ℕ) → Type 0
 AreBySize listed = IsNonDecreasingBy length listed
+
+-- the listed sets without those that this one is part of
+abbrev pub without_larger : List (List ℕ) → List ℕ → List (List ℕ)
+without_larger listed n = filter (λ line. not (is_within (set_of line) n)) listed
+
+-- the set joins the listed ones in place of those that it is part of, behind all that are no larger
+abbrev pub with_set : List (List ℕ) → List ℕ → List (List ℕ)
+with_set listed n = filter (λ line. not (nat_lt (length n) (length line))) (without_larger listed n) ++ n ∷ filter (λ line. nat_lt (length n) (length line)) (without_larger listed n)
 
 -- a set was added: it has a listed part, each set that had one keeps one, and nothing else is listed
 pub record AddsSet (old new : List (List ℕ)) (n : List ℕ) : Type 0 where

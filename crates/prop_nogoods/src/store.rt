@@ -2,7 +2,7 @@
 ghost use Rattle.std.specs.Prelude.{◌≡◌, ◌↔◌, ◌≤◌, ◌<◌, ◌+◌, List, ℕ, [], length, filter, not, false, All, None, Ok, Contains, IsTrue, IfOk, IfSome, OnOk, OnErr, vec_capacity, vec_len};
 ghost use Rattle.std.specs.List.Sorted.{IsStrictlyIncreasing, IsPartitionPoint};
 ghost use Rattle.prop_premises.specs.Sets.{set_of, is_within};
-ghost use Rattle.prop_nogoods.specs.Stores.{has_part, AreMinimal, AreBySize, AddsSet};
+ghost use Rattle.prop_nogoods.specs.Stores.{has_part, without_larger, with_set, AreMinimal, AreBySize, AddsSet};
 
 use crate::listed::Listed;
 use crate::nogoods::Nogoods;
@@ -38,7 +38,7 @@ fn has_part(listed: &[Listed], nogood: &Listed) -> bool
 
 /// Drops the listed sets that this one is part of.
 fn drop_larger(listed: &mut Vec<Listed>, nogood: &Listed)
-    ensures left { listed.new.items ≡ filter (λ line. not (is_within (set_of line) nogood.now)) listed.old.items }
+    ensures left { listed.new.items ≡ without_larger listed.old.items nogood.now }
     ensures capacity { vec_capacity listed.new ≡ vec_capacity listed.old }
     ensures len { vec_len listed.new ≤ vec_len listed.old }
 {
@@ -94,12 +94,13 @@ impl Store {
         let _ = &self.nogoods;
     }
 
-    /// Adds a nogood, and answers whether it says more than those listed; the listed ones that it is part of go.
+    /// Adds a nogood behind those that are no larger, and answers whether it says more than those listed; the listed ones that it is part of go.
     ///
     /// Where a part of it is listed it takes no memory, and nothing changes. After want of memory nothing has changed.
     pub fn add(&mut self, nogood: PremiseSet) -> Result<bool, AllocError>
         ensures adds { OnOk result (AddsSet self.old self.new nogood) }
         ensures new { IfOk result (λ is_new. is_new ≡ not (has_part self.old (set_of nogood))) }
+        ensures joins { IfOk result (λ is_new. IsTrue is_new → self.new ≡ with_set self.old nogood) }
         ensures known { IsTrue (has_part self.old (set_of nogood)) → (result ≡ Ok false) × (self.new ≡ self.old) }
         ensures minimal { AreMinimal self.new }
         ensures in_order { All IsStrictlyIncreasing self.new }
