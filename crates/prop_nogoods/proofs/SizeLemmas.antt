@@ -1,12 +1,10 @@
--- Lists of sets in order of size, and that a set is no larger than one that it is part of.
-use Rattle.std.proofs.Common.{◌≡◌, subst, Decides, ◌∙◌, ◌<◌, ◌≤◌, ◌-◌, ◌+◌, ℕ, zero, suc, Bool, true, false, List, [], ◌∷◌, ◌++◌, ◌||◌, ◌==◌, ◌⊎◌, not, nat_lt, filter, length, get_or, get_or-drop, length-drop, take, drop, refl, sym, ap, arith, inl, inr, All, AllPairs, insert, leb}
+-- A set is no larger than one that it is part of, so that in a list in order of size the parts of a set stand in front.
+use Rattle.std.proofs.Common.{◌≡◌, ◌∙◌, ◌<◌, ◌≤◌, ◌+◌, ◌||◌, ◌==◌, ℕ, Bool, true, false, Decides, leb, List, length, get_or, get_or-drop, length-drop, take, drop, All, refl, sym, subst, ap, arith, inl, inr}
 use Rattle.std.specs.Cmp.{IsEquivalence}
 use Rattle.std.specs.List.{list_any, prefix_len}
-use Rattle.std.specs.List.Sorted.{IsStrictlyIncreasing, IsPartitionPoint}
-use Rattle.std.proofs.lemmas.Bool.{leb-true}
+use Rattle.std.specs.List.Sorted.{IsStrictlyIncreasing}
 use Rattle.std.proofs.lemmas.Bool.Decides.{eqb_tells, leb_tells}
 use Rattle.std.proofs.lemmas.List.{take-append-drop}
-use Rattle.std.proofs.lemmas.List.Edits.{get_or-insert_at, get_or-insert_below, get_or-insert_above, length-insert}
 use Rattle.std.proofs.lemmas.List.Folds.{list_any-append, list_any_none}
 use Rattle.std.proofs.lemmas.List.Kept.{AllPairs-from_increasing}
 use Rattle.std.proofs.lemmas.List.Sums.{prefix_len_stops}
@@ -59,7 +57,7 @@ larger_no_part a b up l = by (is_within (set_of b) a) refl
 abbrev pub is_small : List ℕ → List ℕ → Bool
 is_small n line = leb (length line) (length n)
 
-not_small : (n line : List ℕ) → is_small n line ≡ false → length n < length line
+pub not_small : (n line : List ℕ) → is_small n line ≡ false → length n < length line
 not_small n line h = elim (leb_tells (length line) (length n)) [ inl e ↦ cc (e.0, h) | inr e ↦ e.1 ]
 
 module _ (listed : List (List ℕ)) (n : List ℕ) (up : AreBySize listed) (all : All IsStrictlyIncreasing listed) where
@@ -89,86 +87,3 @@ module _ (listed : List (List ℕ)) (n : List ℕ) (up : AreBySize listed) (all 
       or_none : (a b : Bool) → b ≡ false → a ≡ (a || b)
       or_none true b h = refl
       or_none false b h = sym h
-
--- where a set is listed behind those that are no larger
-abbrev pub IsPlace : List (List ℕ) → List ℕ → ℕ → Type 0
-IsPlace listed n i = IsPartitionPoint (λ line. length line ≤ length n) (λ line. length n < length line) listed i
-
-pub place_from : (listed : List (List ℕ)) (n : List ℕ) (i : ℕ) → IsPartitionPoint (λ line. is_small n line ≡ true) (λ line. is_small n line ≡ false) listed i → IsPlace listed n i
-place_from listed n i h = (λ k d l m. leb-true (length (get_or listed k d)) (length n) (h.0 k d l m), λ k d l m. not_small n (get_or listed k d) (h.1 k d l m))
-
-module _ {X : Type 0} (xs : List X) (i : ℕ) (y : X) (inside : i ≤ length xs) where
-  placed : (k : ℕ) (d : X) → ((k < i) × (get_or (insert xs i y) k d ≡ get_or xs k d)) ⊎ (((k ≡ i) × (get_or (insert xs i y) k d ≡ y)) ⊎ ((i < k) × (get_or (insert xs i y) k d ≡ get_or xs (k - 1) d)))
-  placed k d = elim (eqb_tells k i) [
-    | inl e ↦ inr (inl (e.1, rw e.1 (get_or-insert_at xs i y d inside)))
-    | inr e ↦ elim (leb_tells k i) [
-      | inl l ↦ let below : k < i = omega (arith, l.1, e.1) in inl (below, get_or-insert_below xs i y d k below inside)
-      | inr l ↦ let back : k ≡ k - 1 + 1 = omega (arith, l.1) in inr (inr (l.1, ap (λ j. get_or (insert xs i y) j d) back ∙ get_or-insert_above xs i y d (k - 1) (omega (arith, l.1)) inside))
-    ]
-  ]
-
-  -- what holds of each pair in order holds with one more between those of which it holds
-  pub pairs_insert : (R : X → X → Type 0) → AllPairs R xs → ((k : ℕ) (d : X) → k < length xs → R (get_or xs k d) y) → ((k : ℕ) (d : X) → k < length xs → R y (get_or xs k d)) → AllPairs R (insert xs i y)
-  pairs_insert R apart before behind a b d l m = elim (placed a d) [
-    | inl p ↦ elim (placed b d) [
-      | inl q ↦ both (p.1, q.1) (apart a b d l (omega (arith, q.0, inside)))
-      | inr t ↦ elim t [
-        | inl q ↦ both (p.1, q.1) (before a d (omega (arith, p.0, inside)))
-        | inr q ↦ both (p.1, q.1) (apart a (b - 1) d (omega (arith, p.0, q.0)) (omega (arith, long, m, q.0)))
-      ]
-    ]
-    | inr s ↦ elim s [
-      | inl p ↦ elim (placed b d) [
-        | inl q ↦ absurd (omega (arith, p.0, q.0, l))
-        | inr t ↦ elim t [
-          | inl q ↦ absurd (omega (arith, p.0, q.0, l))
-          | inr q ↦ both (p.1, q.1) (behind (b - 1) d (omega (arith, long, m, q.0)))
-        ]
-      ]
-      | inr p ↦ elim (placed b d) [
-        | inl q ↦ absurd (omega (arith, p.0, q.0, l))
-        | inr t ↦ elim t [
-          | inl q ↦ absurd (omega (arith, p.0, q.0, l))
-          | inr q ↦ both (p.1, q.1) (apart (a - 1) (b - 1) d (omega (arith, p.0, l)) (omega (arith, long, m, q.0)))
-        ]
-      ]
-    ]
-  ]
-    where
-      long : length (insert xs i y) ≡ length xs + 1
-      long = length-insert xs i y inside
-
-      both : {u v w z : X} → (u ≡ w) × (v ≡ z) → R w z → R u v
-      both {u} {v} {w} {z} e r = subst (λ x. R x v) (sym e.0) (subst (λ x. R w x) (sym e.1) r)
-
--- the sets before the place are those that are no larger, and those behind it the larger ones
-module _ (n : List ℕ) where
-  abbrev pub is_larger : List ℕ → Bool
-  is_larger line = nat_lt (length n) (length line)
-
-  larger : (line : List ℕ) → length n < length line → is_larger line ≡ true
-  larger line l = elim (leb_tells (suc (length n)) (length line)) [ inl e ↦ e.0 | inr e ↦ absurd (omega (arith, l, e.1)) ]
-
-  no_larger : (line : List ℕ) → length line ≤ length n → is_larger line ≡ false
-  no_larger line l = elim (leb_tells (suc (length n)) (length line)) [ inl e ↦ absurd (omega (arith, l, e.1)) | inr e ↦ e.0 ]
-
-  first_place : (x : List ℕ) (xs : List (List ℕ)) → IsPlace (x ∷ xs) n 0 → IsPlace xs n 0
-  first_place x xs place = (λ k d l m. absurd (omega (arith, m)), λ k d l m. place.1 (suc k) d (omega arith) (omega (arith, m)))
-
-  next_place : (x : List ℕ) (xs : List (List ℕ)) (i : ℕ) → IsPlace (x ∷ xs) n (suc i) → IsPlace xs n i
-  next_place x xs i place = (λ k d l m. place.0 (suc k) d (omega arith) (omega (arith, m)), λ k d l m. place.1 (suc k) d (omega (arith, l)) (omega (arith, m)))
-
-  before_place : (listed : List (List ℕ)) (i : ℕ) → IsPlace listed n i → take i listed ≡ filter (λ line. not (is_larger line)) listed
-  before_place [] zero place = refl
-  before_place [] (suc i) place = refl
-  before_place (x ∷ xs) zero place = rw (larger x (place.1 0 x (omega arith) (omega arith))) (before_place xs 0 (first_place x xs place))
-  before_place (x ∷ xs) (suc i) place = rw (no_larger x (place.0 0 x (omega arith) (omega arith))) (ap (λ ys. x ∷ ys) (before_place xs i (next_place x xs i place)))
-
-  behind_place : (listed : List (List ℕ)) (i : ℕ) → IsPlace listed n i → drop i listed ≡ filter is_larger listed
-  behind_place [] zero place = refl
-  behind_place [] (suc i) place = refl
-  behind_place (x ∷ xs) zero place = rw (larger x (place.1 0 x (omega arith) (omega arith))) (ap (λ ys. x ∷ ys) (behind_place xs 0 (first_place x xs place)))
-  behind_place (x ∷ xs) (suc i) place = rw (no_larger x (place.0 0 x (omega arith) (omega arith))) (behind_place xs i (next_place x xs i place))
-
-  pub insert_behind : (listed : List (List ℕ)) (i : ℕ) → IsPlace listed n i → insert listed i n ≡ filter (λ line. not (is_larger line)) listed ++ n ∷ filter is_larger listed
-  insert_behind listed i place = ap (λ ys. ys ++ n ∷ drop i listed) (before_place listed i place) ∙ ap (λ ys. filter (λ line. not (is_larger line)) listed ++ n ∷ ys) (behind_place listed i place)
