@@ -80,7 +80,8 @@ module _ (listed : List (List ℕ)) (n : List ℕ) (up : AreBySize listed) (all 
   -- a part of n comes before the first that is larger than n
   pub has_part-small : list_any (λ line. is_within (set_of n) line) (take first_larger listed) ≡ has_part listed (set_of n)
   has_part-small =
-      or_none (has_part (take first_larger listed) (set_of n)) (has_part (drop first_larger listed) (set_of n)) (list_any_none (λ line. is_within (set_of n) line) (drop first_larger listed) none_from)
+      or_none (has_part (take first_larger listed) (set_of n)) (has_part (drop first_larger listed) (set_of n))
+      (list_any_none (λ line. is_within (set_of n) line) (drop first_larger listed) none_from)
       ∙ sym (list_any-append (λ line. is_within (set_of n) line) (take first_larger listed) (drop first_larger listed))
       ∙ ap (λ xs. has_part xs (set_of n)) (take-append-drop first_larger listed)
     where

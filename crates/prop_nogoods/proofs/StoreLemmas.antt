@@ -8,7 +8,7 @@ use Rattle.std.proofs.lemmas.List.Kept.{AllPairs-filter, IsNonDecreasingBy-filte
 use Rattle.std.proofs.lemmas.List.Sorted.{All-permutation, Contains-permutation, IsPermutation-insert, IsNonDecreasingBy-insert}
 use Rattle.prop_premises.specs.Sets.{Members, set_of, is_within}
 use Rattle.prop_premises.proofs.WithinLemmas.{within_has}
-use Rattle.prop_nogoods.specs.Stores.{has_part, without_larger, with_set, AreMinimal, AreBySize, AddsSet}
+use Rattle.prop_nogoods.specs.Stores.{has_part, staying, with_set, AreMinimal, AreBySize, AddsSet}
 use Rattle.prop_nogoods.proofs.PlaceLemmas.{IsPlace, pairs_insert, insert_behind}
 use Rattle.prop_nogoods.proofs.StoreLaws.{PartOf, part-listed, has_part-from}
 
@@ -36,23 +36,25 @@ abbrev pub is_kept : List ℕ → List ℕ → Bool
 is_kept n line = not (is_within (set_of line) n)
 
 module _ (old : List (List ℕ)) (n : List ℕ) where
-  left_only : (line : List ℕ) → Contains (without_larger old n) line → Contains old line
-  left_only line c = All-contains (Contains old) (without_larger old n) line (All-filter (is_kept n) (Contains old) old (All-contains_itself old)) c
+  left_only : (line : List ℕ) → Contains (staying old n) line → Contains old line
+  left_only line c = All-contains (Contains old) (staying old n) line (All-filter (is_kept n) (Contains old) old (All-contains_itself old)) c
 
   -- the sets that stay, with this one at a place among them
   abbrev pub joined : ℕ → List (List ℕ)
-  joined i = insert (without_larger old n) i n
+  joined i = insert (staying old n) i n
 
   is_joined : (i : ℕ) → Contains (joined i) n
-  is_joined i = Contains-permutation (n ∷ without_larger old n) (joined i) n (IsPermutation-insert (without_larger old n) i n) (contains_here n (without_larger old n))
+  is_joined i = Contains-permutation (n ∷ staying old n) (joined i) n (IsPermutation-insert (staying old n) i n) (contains_here n (staying old n))
 
-  stays_joined : (i : ℕ) (line : List ℕ) → Contains (without_larger old n) line → Contains (joined i) line
-  stays_joined i line c = Contains-permutation (n ∷ without_larger old n) (joined i) line (IsPermutation-insert (without_larger old n) i n) (contains_there n line (without_larger old n) c)
+  stays_joined : (i : ℕ) (line : List ℕ) → Contains (staying old n) line → Contains (joined i) line
+  stays_joined i line c =
+      Contains-permutation (n ∷ staying old n) (joined i) line (IsPermutation-insert (staying old n) i n) (contains_there n line (staying old n) c)
 
   joined_only : (i : ℕ) (line : List ℕ) → Contains (joined i) line → Contains old line ⊎ (line ≡ n)
   joined_only i line c = All-contains (λ x. Contains old x ⊎ (x ≡ n)) (joined i) line
-      (All-permutation (λ x. Contains old x ⊎ (x ≡ n)) (n ∷ without_larger old n) (joined i) (IsPermutation-insert (without_larger old n) i n)
-      (All-cons (λ x. Contains old x ⊎ (x ≡ n)) n (without_larger old n) (inr refl) (λ k d l. inl (left_only (get_or (without_larger old n) k d) (Contains-get_or (without_larger old n) k d l))))) c
+      (All-permutation (λ x. Contains old x ⊎ (x ≡ n)) (n ∷ staying old n) (joined i) (IsPermutation-insert (staying old n) i n)
+      (All-cons (λ x. Contains old x ⊎ (x ≡ n)) n (staying old n) (inr refl)
+      (λ k d l. inl (left_only (get_or (staying old n) k d) (Contains-get_or (staying old n) k d l))))) c
 
   kept : (i : ℕ) (m : Members) → IsTrue (has_part old m) → IsTrue (has_part (joined i) m)
   kept i m h = by (is_within (set_of its.line) n) refl
@@ -86,36 +88,38 @@ module _ (old : List (List ℕ)) (n : List ℕ) where
   never true h = absurd (h refl)
   never false h = refl
 
-  pub minimal_joined : (i : ℕ) → i ≤ length (without_larger old n) → has_part old (set_of n) ≡ false → AreMinimal old → AreMinimal (joined i)
+  pub minimal_joined : (i : ℕ) → i ≤ length (staying old n) → has_part old (set_of n) ≡ false → AreMinimal old → AreMinimal (joined i)
   minimal_joined i inside none apart =
-      pairs_insert (without_larger old n) i n inside (λ a b. (is_within (set_of b) a ≡ false) × (is_within (set_of a) b ≡ false))
+      pairs_insert (staying old n) i n inside (λ a b. (is_within (set_of b) a ≡ false) × (is_within (set_of a) b ≡ false))
       (AllPairs-filter (λ a b. (is_within (set_of b) a ≡ false) × (is_within (set_of a) b ≡ false)) (is_kept n) old apart)
       (λ k d l. (no_part k d l, no_larger k d l))
       (λ k d l. (no_larger k d l, no_part k d l))
     where
-      no_part : (k : ℕ) (d : List ℕ) → k < length (without_larger old n) → is_within (set_of n) (get_or (without_larger old n) k d) ≡ false
-      no_part k d l = never (is_within (set_of n) (get_or (without_larger old n) k d)) (λ t.
-          let line = get_or (without_larger old n) k d in
-          let listed = has_part-from old (set_of n) line (left_only line (Contains-get_or (without_larger old n) k d l)) (λ p s. within_has (set_of n) line p t s) in
+      no_part : (k : ℕ) (d : List ℕ) → k < length (staying old n) → is_within (set_of n) (get_or (staying old n) k d) ≡ false
+      no_part k d l = never (is_within (set_of n) (get_or (staying old n) k d)) (λ t.
+          let line = get_or (staying old n) k d in
+          let listed = has_part-from old (set_of n) line
+          (left_only line (Contains-get_or (staying old n) k d l)) (λ p s. within_has (set_of n) line p t s) in
           cc (none, listed))
 
-      no_larger : (k : ℕ) (d : List ℕ) → k < length (without_larger old n) → is_within (set_of (get_or (without_larger old n) k d)) n ≡ false
-      no_larger k d l = not_true (is_within (set_of (get_or (without_larger old n) k d)) n) (All-get_or (λ x. (is_kept n) x ≡ true) (without_larger old n) k d l (filter_passes (is_kept n) old))
+      no_larger : (k : ℕ) (d : List ℕ) → k < length (staying old n) → is_within (set_of (get_or (staying old n) k d)) n ≡ false
+      no_larger k d l =
+          not_true (is_within (set_of (get_or (staying old n) k d)) n) (All-get_or (λ x. (is_kept n) x ≡ true) (staying old n) k d l (filter_passes (is_kept n) old))
 
   pub in_order_joined : (i : ℕ) → IsStrictlyIncreasing n → All IsStrictlyIncreasing old → All IsStrictlyIncreasing (joined i)
-  in_order_joined i h all = All-permutation IsStrictlyIncreasing (n ∷ without_larger old n) (joined i) (IsPermutation-insert (without_larger old n) i n)
-      (All-cons IsStrictlyIncreasing n (without_larger old n) h (All-filter (is_kept n) IsStrictlyIncreasing old all))
+  in_order_joined i h all = All-permutation IsStrictlyIncreasing (n ∷ staying old n) (joined i) (IsPermutation-insert (staying old n) i n)
+      (All-cons IsStrictlyIncreasing n (staying old n) h (All-filter (is_kept n) IsStrictlyIncreasing old all))
 
-  pub by_size_kept : AreBySize old → AreBySize (without_larger old n)
+  pub by_size_kept : AreBySize old → AreBySize (staying old n)
   by_size_kept up = IsNonDecreasingBy-filter length (is_kept n) old up
 
-  pub by_size_joined : (i : ℕ) → i ≤ length (without_larger old n) → IsPlace (without_larger old n) n i → AreBySize old → AreBySize (joined i)
+  pub by_size_joined : (i : ℕ) → i ≤ length (staying old n) → IsPlace (staying old n) n i → AreBySize old → AreBySize (joined i)
   by_size_joined i inside place up =
-      IsNonDecreasingBy-insert length (without_larger old n) i n (by_size_kept up) inside (λ k d l. place.0 k d (omega arith) l)
+      IsNonDecreasingBy-insert length (staying old n) i n (by_size_kept up) inside (λ k d l. place.0 k d (omega arith) l)
       (λ k d l m. let above = place.1 k d l m in omega (arith, above))
 
-  pub joined_behind : (i : ℕ) → IsPlace (without_larger old n) n i → joined i ≡ with_set old n
-  joined_behind i place = insert_behind n (without_larger old n) i place
+  pub joined_behind : (i : ℕ) → IsPlace (staying old n) n i → joined i ≡ with_set old n
+  joined_behind i place = insert_behind n (staying old n) i place
 
 -- where a search finds no set in a worldview, no listed set is part of it
 pub none_found : {A : Type 0} (listed : List (List ℕ)) (w : Members) (r : Option A) (v : A → List ℕ) → option_map v r ≡ find (λ line. is_within w line) listed → r ≡ None → has_part listed w ≡ false

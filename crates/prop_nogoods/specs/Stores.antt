@@ -16,13 +16,21 @@ AreMinimal listed = AllPairs (λ a b. (is_within (set_of b) a ≡ false) × (is_
 abbrev pub AreBySize : List (List ℕ) → Type 0
 AreBySize listed = IsNonDecreasingBy length listed
 
--- the listed sets without those that this one is part of
-abbrev pub without_larger : List (List ℕ) → List ℕ → List (List ℕ)
-without_larger listed n = filter (λ line. not (is_within (set_of line) n)) listed
+-- the listed sets that stay where this one joins them: it is part of none of those
+abbrev pub staying : List (List ℕ) → List ℕ → List (List ℕ)
+staying listed n = filter (λ line. not (is_within (set_of line) n)) listed
 
--- the set joins the listed ones in place of those that it is part of, behind all that are no larger
+-- the listed sets that are no larger than this one
+abbrev pub no_larger : List (List ℕ) → List ℕ → List (List ℕ)
+no_larger listed n = filter (λ line. not (nat_lt (length n) (length line))) listed
+
+-- the listed sets that are larger than this one
+abbrev pub larger : List (List ℕ) → List ℕ → List (List ℕ)
+larger listed n = filter (λ line. nat_lt (length n) (length line)) listed
+
+-- the set joins those that stay, behind all that are no larger
 abbrev pub with_set : List (List ℕ) → List ℕ → List (List ℕ)
-with_set listed n = filter (λ line. not (nat_lt (length n) (length line))) (without_larger listed n) ++ n ∷ filter (λ line. nat_lt (length n) (length line)) (without_larger listed n)
+with_set listed n = no_larger (staying listed n) n ++ n ∷ larger (staying listed n) n
 
 -- a set was added: it has a listed part, each set that had one keeps one, and nothing else is listed
 pub record AddsSet (old new : List (List ℕ)) (n : List ℕ) : Type 0 where

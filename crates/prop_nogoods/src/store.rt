@@ -1,8 +1,8 @@
 //! A store of nogoods, none of which is part of another.
-ghost use Rattle.std.specs.Prelude.{◌≡◌, ◌↔◌, ◌≤◌, ◌<◌, ◌+◌, List, ℕ, [], length, filter, not, false, All, None, Ok, Contains, IsTrue, IfOk, IfSome, OnOk, OnErr, vec_capacity, vec_len};
+ghost use Rattle.std.specs.Prelude.{◌≡◌, ◌↔◌, ◌≤◌, ◌<◌, ◌+◌, List, ℕ, [], length, not, false, All, None, Ok, Contains, IsTrue, IfOk, IfSome, OnOk, OnErr, vec_capacity, vec_len};
 ghost use Rattle.std.specs.List.Sorted.{IsStrictlyIncreasing, IsPartitionPoint};
 ghost use Rattle.prop_premises.specs.Sets.{set_of, is_within};
-ghost use Rattle.prop_nogoods.specs.Stores.{has_part, without_larger, with_set, AreMinimal, AreBySize, AddsSet};
+ghost use Rattle.prop_nogoods.specs.Stores.{has_part, staying, with_set, AreMinimal, AreBySize, AddsSet};
 
 use crate::listed::Listed;
 use crate::nogoods::Nogoods;
@@ -10,7 +10,9 @@ use prop_premises::{PremiseSet, Worldview};
 use std::alloc::{AllocError, Global};
 use std::marker::Model;
 
-/// Sets of premises that can't all be believed, none of which is part of another, the smallest first, and those of one size in the order in which they were added.
+/// Sets of premises that can't all be believed, none of which is part of another.
+///
+/// The smallest come first, and those of one size in the order in which they were added.
 #[derive(Drop)]
 pub struct Store {
     nogoods: Vec<Listed>,
@@ -38,7 +40,7 @@ fn has_part(listed: &[Listed], nogood: &Listed) -> bool
 
 /// Drops the listed sets that this one is part of.
 fn drop_larger(listed: &mut Vec<Listed>, nogood: &Listed)
-    ensures left { listed.new.items ≡ without_larger listed.old.items nogood.now }
+    ensures left { listed.new.items ≡ staying listed.old.items nogood.now }
     ensures capacity { vec_capacity listed.new ≡ vec_capacity listed.old }
     ensures len { vec_len listed.new ≤ vec_len listed.old }
 {

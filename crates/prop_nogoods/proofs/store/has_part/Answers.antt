@@ -10,5 +10,6 @@ returns c =
     let listed = c.args.listed.now in
     let n = c.args.nogood.now in
     any_from_yields_List (λ line. is_within (set_of n) line) _ _ c.any.result c.any.ensures.ran
-    (YieldsList-from_take_while _ (is_small n) (YieldsList-from_slice listed (cc)) c.take_while.ensures.closure c.take_while.ensures.done (λ x b q k. search rules)) (λ x b q k. search rules)
+    (YieldsList-from_take_while _ (is_small n) (YieldsList-from_slice listed (cc)) c.take_while.ensures.closure c.take_while.ensures.done (λ x b q k. search rules))
+    (λ x b q k. search rules)
     ∙ has_part-small listed n c.requires.by_size c.requires.in_order

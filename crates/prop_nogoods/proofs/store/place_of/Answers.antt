@@ -9,4 +9,5 @@ returns-clause-between c =
     let listed = c.args.listed.now in
     let n = c.args.nogood.now in
     place_from listed n c.partition_point.result
-    (IsPartitionPoint-from_clause (is_small n) listed c.partition_point.result c.partition_point.ensures.partitioned (IsPartitionedBy-leb length listed (length n) c.requires) (λ a r f k. search rules))
+    (IsPartitionPoint-from_clause (is_small n) listed c.partition_point.result c.partition_point.ensures.partitioned
+    (IsPartitionedBy-leb length listed (length n) c.requires) (λ a r f k. search rules))
