@@ -1,5 +1,5 @@
 -- A set joins listed ones, none of which is part of it, and those that it is part of go.
-use Rattle.std.proofs.Common.{◌≡◌, ◌∙◌, ◌<◌, ◌≤◌, ◌⊎◌, ℕ, zero, suc, Bool, true, false, not, cond, List, [], ◌∷◌, insert, length, get_or, refl, sym, arith, inl, inr, All, Contains, filter, IsTrue, ◌||◌, Option, None, Some}
+use Rattle.std.proofs.Common.{◌≡◌, ◌∙◌, ◌<◌, ◌≤◌, ◌⊎◌, ℕ, zero, suc, Bool, true, false, not, cond, List, [], ◌∷◌, insert, length, get_or, refl, sym, arith, inl, inr, All, Contains, filter, IsTrue, ◌||◌, Option, None, Some, IfSome, subst}
 use Rattle.std.proofs.lemmas.List.Elements.{All-cons, All-contains, All-filter, All-contains_itself, All-get_or, filter_passes, Contains-get_or}
 use Rattle.std.specs.List.{find}
 use Rattle.std.specs.List.Sorted.{IsStrictlyIncreasing}
@@ -132,3 +132,22 @@ none_found listed w r v h none = none_in listed (sym h ∙ rw none refl)
         by : (b : Bool) → cond b (Some x) (find (λ line. is_within w line) xs) ≡ None → (find (λ line. is_within w line) xs ≡ None → has_part xs w ≡ false) → (b || has_part xs w) ≡ false
         by true e k = cc
         by false e k = k e
+
+-- where a search finds a set in a worldview, no listed set in it is smaller
+module _ (test : List ℕ → Bool) where
+  smallest_in : (xs : List (List ℕ)) (y : List ℕ) → find test xs ≡ Some y → AreBySize xs → All (λ line. IsTrue (test line) → length y ≤ length line) xs
+  smallest_in [] y e up = cc
+  smallest_in (x ∷ xs) y e up = by (test x) refl e (λ f. smallest_in xs y f behind)
+    where
+      behind : AreBySize xs
+      behind i j d l m = up (suc i) (suc j) d (omega (arith, l)) (omega (arith, m))
+
+      by : (b : Bool) → test x ≡ b → cond b (Some x) (find test xs) ≡ Some y → (find test xs ≡ Some y → All (λ line. IsTrue (test line) → length y ≤ length line) xs)
+          → All (λ line. IsTrue (test line) → length y ≤ length line) (x ∷ xs)
+      by true t e rest = let is : x ≡ y = cc e in λ k d l h. subst (λ z. length z ≤ length (get_or (x ∷ xs) k d)) is (up 0 k d (omega arith) l)
+      by false t e rest = All-cons (λ line. IsTrue (test line) → length y ≤ length line) x xs (λ h. cc (t, h)) (rest e)
+
+  pub smallest_found : {A : Type 0} (listed : List (List ℕ)) (r : Option A) (v : A → List ℕ) → option_map v r ≡ find test listed → AreBySize listed
+      → IfSome r (λ y. All (λ line. IsTrue (test line) → length (v y) ≤ length line) listed)
+  smallest_found listed None v e up = tt
+  smallest_found listed (Some y) v e up = smallest_in listed (v y) (sym e) up

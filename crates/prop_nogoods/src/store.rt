@@ -121,10 +121,11 @@ impl Store {
         Ok(true)
     }
 
-    /// A nogood of which every premise is believed, none where there is no such nogood. It takes no memory.
+    /// A nogood of which every premise is believed, of the smallest size that there is, none where there is no such nogood. It takes no memory.
     pub fn blocks(&self, worldview: &Worldview) -> Option<&PremiseSet>
         ensures listed { IfSome result (λ s. Contains self.now s.now) }
         ensures believed { IfSome result (λ s. IsTrue (is_within (set_of worldview.now) s.now)) }
+        ensures smallest { IfSome result (λ s. All (λ line. IsTrue (is_within (set_of worldview.now) line) → length s.now ≤ length line) self.now) }
         ensures none { result ≡ None → has_part self.now (set_of worldview.now) ≡ false }
     {
         self.iter().find(|nogood| worldview.believes(nogood))
