@@ -16,7 +16,7 @@ AreMinimal listed = AllPairs (λ a b. (is_within (set_of b) a ≡ false) × (is_
 abbrev pub AreBySize : List (List ℕ) → Type 0
 AreBySize listed = IsNonDecreasingBy length listed
 
--- the listed sets that stay where this one joins them: it is part of none of those
+-- the listed sets that this one is not part of: they stay when it joins
 abbrev pub staying : List (List ℕ) → List ℕ → List (List ℕ)
 staying listed n = filter (λ line. not (is_within (set_of line) n)) listed
 
@@ -28,7 +28,7 @@ no_larger listed n = filter (λ line. not (nat_lt (length n) (length line))) lis
 abbrev pub larger : List (List ℕ) → List ℕ → List (List ℕ)
 larger listed n = filter (λ line. nat_lt (length n) (length line)) listed
 
--- the set joins those that stay, behind all that are no larger
+-- the sets listed once this one joins: it stands behind those that are no larger
 abbrev pub with_set : List (List ℕ) → List ℕ → List (List ℕ)
 with_set listed n = no_larger (staying listed n) n ++ n ∷ larger (staying listed n) n
 
