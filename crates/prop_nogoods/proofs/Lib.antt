@@ -1,2 +1,4 @@
+pub mod PlaceLemmas
+pub mod SizeLemmas
 pub mod StoreLaws
 pub mod StoreLemmas

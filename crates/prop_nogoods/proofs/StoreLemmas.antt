@@ -1,14 +1,15 @@
 -- A set joins listed ones, none of which is part of it, and those that it is part of go.
-use Rattle.std.proofs.Common.{◌≡◌, ◌∙◌, ◌<◌, ℕ, zero, suc, Bool, true, false, not, cond, List, [], ◌∷◌, ◌++◌, length, get_or, refl, sym, arith, inl, inr, All, Contains, filter, IsTrue, ◌||◌, Option, None, Some}
-use Rattle.std.proofs.lemmas.List.Elements.{All-contains, All-filter, All-contains_itself, All-get_or, All-push, filter_passes, Contains-get_or, Contains-push, Contains-append_left, Contains-push_cases}
+use Rattle.std.proofs.Common.{◌≡◌, ◌∙◌, ◌<◌, ◌≤◌, ◌⊎◌, ℕ, zero, suc, Bool, true, false, not, cond, List, [], ◌∷◌, insert, length, get_or, refl, sym, arith, inl, inr, All, Contains, filter, IsTrue, ◌||◌, Option, None, Some, IfSome, subst}
+use Rattle.std.proofs.lemmas.List.Elements.{All-cons, All-contains, All-filter, All-contains_itself, All-get_or, filter_passes, Contains-get_or}
 use Rattle.std.specs.List.{find}
 use Rattle.std.specs.List.Sorted.{IsStrictlyIncreasing}
 use Rattle.std.specs.Option.{option_map}
-use Rattle.std.proofs.lemmas.List.Quantifiers.{all_pairs_push}
-use Rattle.std.proofs.lemmas.List.Kept.{AllPairs-filter}
+use Rattle.std.proofs.lemmas.List.Kept.{AllPairs-filter, IsNonDecreasingBy-filter}
+use Rattle.std.proofs.lemmas.List.Sorted.{All-permutation, Contains-permutation, IsPermutation-insert, IsNonDecreasingBy-insert}
 use Rattle.prop_premises.specs.Sets.{Members, set_of, is_within}
 use Rattle.prop_premises.proofs.WithinLemmas.{within_has}
-use Rattle.prop_nogoods.specs.Stores.{has_part, AreMinimal, AddsSet}
+use Rattle.prop_nogoods.specs.Stores.{has_part, staying, with_set, AreMinimal, AreBySize, AddsSet}
+use Rattle.prop_nogoods.proofs.PlaceLemmas.{IsPlace, pairs_insert, insert_behind}
 use Rattle.prop_nogoods.proofs.StoreLaws.{PartOf, part-listed, has_part-from}
 
 contains_here : {X : Type 0} (x : X) (xs : List X) → Contains (x ∷ xs) x
@@ -34,29 +35,42 @@ stays_in test xs x c t = rw c.2 at (stays test xs c.0 x c.1 (rw c.2 t))
 abbrev pub is_kept : List ℕ → List ℕ → Bool
 is_kept n line = not (is_within (set_of line) n)
 
--- the listed sets that the set is not part of
-abbrev pub kept_of : List (List ℕ) → List ℕ → List (List ℕ)
-kept_of old n = filter (is_kept n) old
-
 module _ (old : List (List ℕ)) (n : List ℕ) where
-  left_only : (line : List ℕ) → Contains (kept_of old n) line → Contains old line
-  left_only line c = All-contains (Contains old) (kept_of old n) line (All-filter (is_kept n) (Contains old) old (All-contains_itself old)) c
+  left_only : (line : List ℕ) → Contains (staying old n) line → Contains old line
+  left_only line c = All-contains (Contains old) (staying old n) line (All-filter (is_kept n) (Contains old) old (All-contains_itself old)) c
 
-  kept : (m : Members) → IsTrue (has_part old m) → IsTrue (has_part (kept_of old n ++ n ∷ []) m)
-  kept m h = by (is_within (set_of its.line) n) refl
+  -- the sets that stay, with this one at a place among them
+  abbrev pub joined : ℕ → List (List ℕ)
+  joined i = insert (staying old n) i n
+
+  is_joined : (i : ℕ) → Contains (joined i) n
+  is_joined i = Contains-permutation (n ∷ staying old n) (joined i) n (IsPermutation-insert (staying old n) i n) (contains_here n (staying old n))
+
+  stays_joined : (i : ℕ) (line : List ℕ) → Contains (staying old n) line → Contains (joined i) line
+  stays_joined i line c =
+      Contains-permutation (n ∷ staying old n) (joined i) line (IsPermutation-insert (staying old n) i n) (contains_there n line (staying old n) c)
+
+  joined_only : (i : ℕ) (line : List ℕ) → Contains (joined i) line → Contains old line ⊎ (line ≡ n)
+  joined_only i line c = All-contains (λ x. Contains old x ⊎ (x ≡ n)) (joined i) line
+      (All-permutation (λ x. Contains old x ⊎ (x ≡ n)) (n ∷ staying old n) (joined i) (IsPermutation-insert (staying old n) i n)
+      (All-cons (λ x. Contains old x ⊎ (x ≡ n)) n (staying old n) (inr refl)
+      (λ k d l. inl (left_only (get_or (staying old n) k d) (Contains-get_or (staying old n) k d l))))) c
+
+  kept : (i : ℕ) (m : Members) → IsTrue (has_part old m) → IsTrue (has_part (joined i) m)
+  kept i m h = by (is_within (set_of its.line) n) refl
     where
       its : PartOf old m
       its = part-listed old m h
 
-      by : (b : Bool) → is_within (set_of its.line) n ≡ b → IsTrue (has_part (kept_of old n ++ n ∷ []) m)
-      by true e = has_part-from (kept_of old n ++ n ∷ []) m n (Contains-push (kept_of old n) n) (λ p t. its.is_part p (within_has (set_of its.line) n p e t))
-      by false e = has_part-from (kept_of old n ++ n ∷ []) m its.line (Contains-append_left (kept_of old n) (n ∷ []) its.line (stays_in (is_kept n) old its.line its.listed_in (rw e refl))) its.is_part
+      by : (b : Bool) → is_within (set_of its.line) n ≡ b → IsTrue (has_part (joined i) m)
+      by true e = has_part-from (joined i) m n (is_joined i) (λ p t. its.is_part p (within_has (set_of its.line) n p e t))
+      by false e = has_part-from (joined i) m its.line (stays_joined i its.line (stays_in (is_kept n) old its.line its.listed_in (rw e refl))) its.is_part
 
-  pub adds_joined : AddsSet old (kept_of old n ++ n ∷ []) n
-  adds_joined = record {
-    has = has_part-from (kept_of old n ++ n ∷ []) (set_of n) n (Contains-push (kept_of old n) n) (λ p t. t);
-    kept = kept;
-    only = λ line c. elim (Contains-push_cases (kept_of old n) n line c) [ inl there ↦ inl (left_only line there) | inr is ↦ inr (sym is) ];
+  pub adds_joined : (i : ℕ) → AddsSet old (joined i) n
+  adds_joined i = record {
+    has = has_part-from (joined i) (set_of n) n (is_joined i) (λ p t. t);
+    kept = kept i;
+    only = joined_only i;
   }
 
   pub adds_known : IsTrue (has_part old (set_of n)) → AddsSet old old n
@@ -74,19 +88,38 @@ module _ (old : List (List ℕ)) (n : List ℕ) where
   never true h = absurd (h refl)
   never false h = refl
 
-  pub minimal_joined : has_part old (set_of n) ≡ false → AreMinimal old → AreMinimal (kept_of old n ++ n ∷ [])
-  minimal_joined none apart =
-      all_pairs_push (λ a b. (is_within (set_of b) a ≡ false) × (is_within (set_of a) b ≡ false)) (kept_of old n) n
+  pub minimal_joined : (i : ℕ) → i ≤ length (staying old n) → has_part old (set_of n) ≡ false → AreMinimal old → AreMinimal (joined i)
+  minimal_joined i inside none apart =
+      pairs_insert (staying old n) i n inside (λ a b. (is_within (set_of b) a ≡ false) × (is_within (set_of a) b ≡ false))
       (AllPairs-filter (λ a b. (is_within (set_of b) a ≡ false) × (is_within (set_of a) b ≡ false)) (is_kept n) old apart)
-      (λ k d l. (
-        never (is_within (set_of n) (get_or (kept_of old n) k d)) (λ t.
-            let listed = has_part-from old (set_of n) (get_or (kept_of old n) k d) (left_only (get_or (kept_of old n) k d) (Contains-get_or (kept_of old n) k d l)) (λ p s. within_has (set_of n) (get_or (kept_of old n) k d) p t s) in
-            cc (none, listed)),
-        not_true (is_within (set_of (get_or (kept_of old n) k d)) n) (All-get_or (λ x. (is_kept n) x ≡ true) (kept_of old n) k d l (filter_passes (is_kept n) old)),
-      ))
+      (λ k d l. (no_part k d l, no_larger k d l))
+      (λ k d l. (no_larger k d l, no_part k d l))
+    where
+      no_part : (k : ℕ) (d : List ℕ) → k < length (staying old n) → is_within (set_of n) (get_or (staying old n) k d) ≡ false
+      no_part k d l = never (is_within (set_of n) (get_or (staying old n) k d)) (λ t.
+          let line = get_or (staying old n) k d in
+          let listed = has_part-from old (set_of n) line
+          (left_only line (Contains-get_or (staying old n) k d l)) (λ p s. within_has (set_of n) line p t s) in
+          cc (none, listed))
 
-  pub in_order_joined : IsStrictlyIncreasing n → All IsStrictlyIncreasing old → All IsStrictlyIncreasing (kept_of old n ++ n ∷ [])
-  in_order_joined h all = All-push IsStrictlyIncreasing (kept_of old n) n (All-filter (is_kept n) IsStrictlyIncreasing old all) h
+      no_larger : (k : ℕ) (d : List ℕ) → k < length (staying old n) → is_within (set_of (get_or (staying old n) k d)) n ≡ false
+      no_larger k d l =
+          not_true (is_within (set_of (get_or (staying old n) k d)) n) (All-get_or (λ x. (is_kept n) x ≡ true) (staying old n) k d l (filter_passes (is_kept n) old))
+
+  pub in_order_joined : (i : ℕ) → IsStrictlyIncreasing n → All IsStrictlyIncreasing old → All IsStrictlyIncreasing (joined i)
+  in_order_joined i h all = All-permutation IsStrictlyIncreasing (n ∷ staying old n) (joined i) (IsPermutation-insert (staying old n) i n)
+      (All-cons IsStrictlyIncreasing n (staying old n) h (All-filter (is_kept n) IsStrictlyIncreasing old all))
+
+  pub by_size_kept : AreBySize old → AreBySize (staying old n)
+  by_size_kept up = IsNonDecreasingBy-filter length (is_kept n) old up
+
+  pub by_size_joined : (i : ℕ) → i ≤ length (staying old n) → IsPlace (staying old n) n i → AreBySize old → AreBySize (joined i)
+  by_size_joined i inside place up =
+      IsNonDecreasingBy-insert length (staying old n) i n (by_size_kept up) inside (λ k d l. place.0 k d (omega arith) l)
+      (λ k d l m. let above = place.1 k d l m in omega (arith, above))
+
+  pub joined_behind : (i : ℕ) → IsPlace (staying old n) n i → joined i ≡ with_set old n
+  joined_behind i place = insert_behind n (staying old n) i place
 
 -- where a search finds no set in a worldview, no listed set is part of it
 pub none_found : {A : Type 0} (listed : List (List ℕ)) (w : Members) (r : Option A) (v : A → List ℕ) → option_map v r ≡ find (λ line. is_within w line) listed → r ≡ None → has_part listed w ≡ false
@@ -99,3 +132,22 @@ none_found listed w r v h none = none_in listed (sym h ∙ rw none refl)
         by : (b : Bool) → cond b (Some x) (find (λ line. is_within w line) xs) ≡ None → (find (λ line. is_within w line) xs ≡ None → has_part xs w ≡ false) → (b || has_part xs w) ≡ false
         by true e k = cc
         by false e k = k e
+
+-- where a search finds a set in a worldview, no listed set in it is smaller
+module _ (test : List ℕ → Bool) where
+  smallest_in : (xs : List (List ℕ)) (y : List ℕ) → find test xs ≡ Some y → AreBySize xs → All (λ line. IsTrue (test line) → length y ≤ length line) xs
+  smallest_in [] y e up = cc
+  smallest_in (x ∷ xs) y e up = by (test x) refl e (λ f. smallest_in xs y f behind)
+    where
+      behind : AreBySize xs
+      behind i j d l m = up (suc i) (suc j) d (omega (arith, l)) (omega (arith, m))
+
+      by : (b : Bool) → test x ≡ b → cond b (Some x) (find test xs) ≡ Some y → (find test xs ≡ Some y → All (λ line. IsTrue (test line) → length y ≤ length line) xs)
+          → All (λ line. IsTrue (test line) → length y ≤ length line) (x ∷ xs)
+      by true t e rest = let is : x ≡ y = cc e in λ k d l h. subst (λ z. length z ≤ length (get_or (x ∷ xs) k d)) is (up 0 k d (omega arith) l)
+      by false t e rest = All-cons (λ line. IsTrue (test line) → length y ≤ length line) x xs (λ h. cc (t, h)) (rest e)
+
+  pub smallest_found : {A : Type 0} (listed : List (List ℕ)) (r : Option A) (v : A → List ℕ) → option_map v r ≡ find test listed → AreBySize listed
+      → IfSome r (λ y. All (λ line. IsTrue (test line) → length (v y) ≤ length line) listed)
+  smallest_found listed None v e up = tt
+  smallest_found listed (Some y) v e up = smallest_in listed (v y) (sym e) up

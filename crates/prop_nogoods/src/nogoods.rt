@@ -1,13 +1,14 @@
 //! Iteration over the nogoods of a store.
 ghost use Rattle.std.specs.Iterator.{YieldsFirstRef, item_count};
 
+use crate::listed::Listed;
 use prop_premises::PremiseSet;
 use std::marker::Model;
 
-/// The nogoods of a store that are still to come, in the order in which they were added.
+/// The nogoods of a store that are still to come, the smallest first, and those of one size in the order in which they were added.
 #[derive(Drop)]
 pub struct Nogoods<'a> {
-    rest: &'a [PremiseSet],
+    rest: &'a [Listed],
 }
 
 impl<'a> Model for Nogoods<'a> {
@@ -21,7 +22,7 @@ impl<'a> Model for Nogoods<'a> {
 impl<'a> Nogoods<'a> {
     ghost use Rattle.std.specs.Prelude.{◌≡◌};
 
-    pub(crate) fn new(rest: &'a [PremiseSet]) -> Nogoods<'a>
+    pub(crate) fn new(rest: &'a [Listed]) -> Nogoods<'a>
         ensures { result ≡ rest.now }
     {
         Nogoods { rest }
@@ -38,6 +39,6 @@ impl<'a> Iterator for Nogoods<'a> {
     fn next(&mut self) -> Option<&'a PremiseSet> {
         let (first, rest) = self.rest.split_first()?;
         self.rest = rest;
-        Some(first)
+        Some(first.premises())
     }
 }

@@ -1,18 +1,21 @@
 //! A store of nogoods, none of which is part of another.
-ghost use Rattle.std.specs.Prelude.{◌≡◌, ◌↔◌, ◌≤◌, ◌+◌, List, ℕ, [], length, filter, not, false, All, None, Ok, Contains, IsTrue, IfOk, IfSome, OnOk, OnErr, vec_capacity, vec_len};
-ghost use Rattle.std.specs.List.Sorted.{IsStrictlyIncreasing};
+ghost use Rattle.std.specs.Prelude.{◌≡◌, ◌↔◌, ◌≤◌, ◌<◌, ◌+◌, List, ℕ, [], length, not, false, All, None, Ok, Contains, IsTrue, IfOk, IfSome, OnOk, OnErr, vec_capacity, vec_len};
+ghost use Rattle.std.specs.List.Sorted.{IsStrictlyIncreasing, IsPartitionPoint};
 ghost use Rattle.prop_premises.specs.Sets.{set_of, is_within};
-ghost use Rattle.prop_nogoods.specs.Stores.{has_part, AreMinimal, AddsSet};
+ghost use Rattle.prop_nogoods.specs.Stores.{has_part, staying, with_set, AreMinimal, AreBySize, AddsSet};
 
+use crate::listed::Listed;
 use crate::nogoods::Nogoods;
 use prop_premises::{PremiseSet, Worldview};
 use std::alloc::{AllocError, Global};
 use std::marker::Model;
 
-/// Sets of premises that can't all be believed, none of which is part of another, in the order in which they were added.
+/// Sets of premises that can't all be believed, none of which is part of another.
+///
+/// The smallest come first, and those of one size in the order in which they were added.
 #[derive(Drop)]
 pub struct Store {
-    nogoods: Vec<PremiseSet>,
+    nogoods: Vec<Listed>,
 }
 
 impl Model for Store {
@@ -20,23 +23,37 @@ impl Model for Store {
 
     ghost view = { λ s. s.nogoods.items };
 
-    ghost invariant = { λ s. AreMinimal s.nogoods.items × All IsStrictlyIncreasing s.nogoods.items };
+    ghost invariant = { λ s. AreMinimal s.nogoods.items × All IsStrictlyIncreasing s.nogoods.items × AreBySize s.nogoods.items };
 }
 
-/// Whether a listed set is part of this one.
-fn has_part(listed: &[PremiseSet], nogood: &PremiseSet) -> bool
+/// Whether a listed set is part of this one. It looks at those that are no larger.
+fn has_part(listed: &[Listed], nogood: &Listed) -> bool
+    requires by_size { AreBySize listed.now }
+    requires in_order { All IsStrictlyIncreasing listed.now }
     ensures { result ≡ has_part listed.now (set_of nogood.now) }
 {
-    listed.iter().any(|part| part.is_subset(nogood))
+    listed
+        .iter()
+        .take_while(|part| part.size() <= nogood.size())
+        .any(|part| part.is_part_of(nogood))
 }
 
 /// Drops the listed sets that this one is part of.
-fn drop_larger(listed: &mut Vec<PremiseSet>, nogood: &PremiseSet)
-    ensures left { listed.new.items ≡ filter (λ line. not (is_within (set_of line) nogood.now)) listed.old.items }
+fn drop_larger(listed: &mut Vec<Listed>, nogood: &Listed)
+    ensures left { listed.new.items ≡ staying listed.old.items nogood.now }
     ensures capacity { vec_capacity listed.new ≡ vec_capacity listed.old }
     ensures len { vec_len listed.new ≤ vec_len listed.old }
 {
-    listed.retain(|larger| !nogood.is_subset(larger));
+    listed.retain(|larger| !nogood.is_part_of(larger));
+}
+
+/// The place behind the listed sets that are no larger than this one.
+fn place_of(listed: &[Listed], nogood: &Listed) -> usize
+    requires { AreBySize listed.now }
+    ensures bound { result ≤ length listed.now }
+    ensures between { IsPartitionPoint (λ line. length line ≤ length nogood.now) (λ line. length nogood.now < length line) listed.now result }
+{
+    listed.partition_point(|other| other.size() <= nogood.size())
 }
 
 impl Store {
@@ -62,50 +79,55 @@ impl Store {
         self.nogoods.is_empty()
     }
 
-    /// The nogoods in the order in which they were added.
+    /// The nogoods, the smallest first, and those of one size in the order in which they were added.
     pub fn iter(&self) -> Nogoods<'_>
-        ensures { result ≡ self.now }
+        ensures all { result ≡ self.now }
+        ensures by_size { AreBySize self.now }
     {
         Nogoods::new(&self.nogoods)
     }
 
-    /// No nogood of a store is part of another, and the premises of each are in order of number.
+    /// No nogood of a store is part of another or smaller than one before it, and the premises of each are in order of number.
     pub fn minimal(&self)
         ensures minimal { AreMinimal self.now }
         ensures in_order { All IsStrictlyIncreasing self.now }
+        ensures by_size { AreBySize self.now }
     {
         let _ = &self.nogoods;
     }
 
-    /// Adds a nogood, and answers whether it says more than those listed; the listed ones that it is part of go.
+    /// Adds a nogood behind those that are no larger, and answers whether it says more than those listed; the listed ones that it is part of go.
     ///
     /// Where a part of it is listed it takes no memory, and nothing changes. After want of memory nothing has changed.
     pub fn add(&mut self, nogood: PremiseSet) -> Result<bool, AllocError>
         ensures adds { OnOk result (AddsSet self.old self.new nogood) }
         ensures new { IfOk result (λ is_new. is_new ≡ not (has_part self.old (set_of nogood))) }
+        ensures joins { IfOk result (λ is_new. IsTrue is_new → self.new ≡ with_set self.old nogood) }
         ensures known { IsTrue (has_part self.old (set_of nogood)) → (result ≡ Ok false) × (self.new ≡ self.old) }
         ensures minimal { AreMinimal self.new }
         ensures in_order { All IsStrictlyIncreasing self.new }
+        ensures by_size { AreBySize self.new }
         ensures len { length self.new ≤ length self.old + 1 }
         ensures err { OnErr result (self.new ≡ self.old) }
     {
+        let nogood = Listed::new(nogood);
         if has_part(&self.nogoods, &nogood) {
             return Ok(false);
         }
         self.nogoods.reserve(1)?;
         drop_larger(&mut self.nogoods, &nogood);
-        self.nogoods.push(nogood)?;
+        let place = place_of(&self.nogoods, &nogood);
+        self.nogoods.insert(place, nogood)?;
         Ok(true)
     }
 
-    /// A nogood of which every premise is believed, none where there is no such nogood. It takes no memory.
+    /// A nogood of which every premise is believed, of the smallest size that there is, none where there is no such nogood. It takes no memory.
     pub fn blocks(&self, worldview: &Worldview) -> Option<&PremiseSet>
         ensures listed { IfSome result (λ s. Contains self.now s.now) }
         ensures believed { IfSome result (λ s. IsTrue (is_within (set_of worldview.now) s.now)) }
+        ensures smallest { IfSome result (λ s. All (λ line. IsTrue (is_within (set_of worldview.now) line) → length s.now ≤ length line) self.now) }
         ensures none { result ≡ None → has_part self.now (set_of worldview.now) ≡ false }
     {
-        self.nogoods
-            .iter()
-            .find(|nogood| worldview.believes(nogood))
+        self.iter().find(|nogood| worldview.believes(nogood))
     }
 }

@@ -1,35 +1,50 @@
-use Rattle.std.proofs.Common.{◌≡◌, refl, false, ◌++◌, ◌∷◌, []}
+use Rattle.std.proofs.Common.{◌≡◌, ◌≤◌, refl, false, length}
+use Rattle.std.specs.List.Sorted.{IsStrictlyIncreasing}
 use Rattle.prop_premises.specs.Sets.{set_of}
-use Rattle.prop_nogoods.specs.Stores.{has_part}
-use Rattle.prop_nogoods.proofs.StoreLemmas.{kept_of, adds_joined, minimal_joined, in_order_joined}
+use Rattle.prop_nogoods.specs.Stores.{has_part, staying}
+use Rattle.prop_nogoods.proofs.PlaceLemmas.{IsPlace}
+use Rattle.prop_nogoods.proofs.StoreLemmas.{joined, joined_behind, adds_joined, minimal_joined, in_order_joined, by_size_kept, by_size_joined}
 use Rattle.prop_nogoods.proofs.store.Store.add.Goals as goal
 
-pub invariant_of-self-2 : goal.invariant_of-self-2
-invariant_of-self-2 c =
-    let old = c.self.inside.nogoods.items in
-    let n = c.args.nogood in
-    let now : c.push.new.self.items ≡ kept_of old n ++ n ∷ [] = rw (c.in_ok-push.ensures.items, c.drop_larger.ensures.left, c.in_ok-reserve.ensures.items) refl in
-    let none : has_part old (set_of n) ≡ false = cc (c.has_part.ensures, c.if-has_part.false, c.deref.ensures.value) in
-    rw now (minimal_joined old n none c.self.invariant.0, in_order_joined old n (rw c.nogood.view_is at c.nogood.invariant) c.self.invariant.1)
+pub place_of-place-requires : goal.place_of-place-requires
+place_of-place-requires c =
+    let left : c.deref-2.result.now ≡ staying c.self.inside.nogoods.items c.args.nogood =
+    rw (c.deref-2.ensures.value, c.drop_larger.ensures.left, c.in_ok-reserve.ensures.items, c.new-nogood.ensures) refl in
+    rw left (by_size_kept c.self.inside.nogoods.items c.args.nogood c.self.invariant.2)
+
+left : (c : goal.In_ok-insert) → c.deref-2.result.now ≡ staying c.self.inside.nogoods.items c.args.nogood
+left c = rw (c.deref-2.ensures.value, c.drop_larger.ensures.left, c.in_ok-reserve.ensures.items, c.new-nogood.ensures) refl
+
+now : (c : goal.In_ok-insert) → c.insert.new.self.items ≡ joined c.self.inside.nogoods.items c.args.nogood c.place_of-place.result
+now c = rw (c.in_ok-insert.ensures.items, c.drop_larger.ensures.left, c.in_ok-reserve.ensures.items, c.new-nogood.ensures) refl
+
+inside : (c : goal.In_ok-insert) → c.place_of-place.result ≤ length (staying c.self.inside.nogoods.items c.args.nogood)
+inside c = rw (left c) at c.place_of-place.ensures.bound
 
 pub returns-clause-adds : goal.returns-clause-adds
-returns-clause-adds c =
-    let old = c.self.inside.nogoods.items in
-    let n = c.args.nogood in
-    let now : c.push.new.self.items ≡ kept_of old n ++ n ∷ [] = rw (c.in_ok-push.ensures.items, c.drop_larger.ensures.left, c.in_ok-reserve.ensures.items) refl in
-    rw (now, ← c.self.view_is) (adds_joined old n)
+returns-clause-adds c = rw (now c, ← c.self.view_is) (adds_joined c.self.inside.nogoods.items c.args.nogood c.place_of-place.result)
 
 pub returns-clause-minimal : goal.returns-clause-minimal
 returns-clause-minimal c =
     let old = c.self.inside.nogoods.items in
-    let n = c.args.nogood in
-    let now : c.push.new.self.items ≡ kept_of old n ++ n ∷ [] = rw (c.in_ok-push.ensures.items, c.drop_larger.ensures.left, c.in_ok-reserve.ensures.items) refl in
-    let none : has_part old (set_of n) ≡ false = cc (c.has_part.ensures, c.if-has_part.false, c.deref.ensures.value) in
-    rw now (minimal_joined old n none c.self.invariant.0)
+    let none : has_part old (set_of c.args.nogood) ≡ false = cc (c.has_part.ensures, c.if-has_part.false, c.deref.ensures.value, c.new-nogood.ensures) in
+    rw (now c) (minimal_joined old c.args.nogood c.place_of-place.result (inside c) none c.self.invariant.0)
 
 pub returns-clause-in_order : goal.returns-clause-in_order
 returns-clause-in_order c =
-    let old = c.self.inside.nogoods.items in
-    let n = c.args.nogood in
-    let now : c.push.new.self.items ≡ kept_of old n ++ n ∷ [] = rw (c.in_ok-push.ensures.items, c.drop_larger.ensures.left, c.in_ok-reserve.ensures.items) refl in
-    rw now (in_order_joined old n (rw c.nogood.view_is at c.nogood.invariant) c.self.invariant.1)
+    let in_order : IsStrictlyIncreasing c.args.nogood = rw (c.nogood.view_is, c.new-nogood.ensures) at c.nogood.invariant.1 in
+    rw (now c) (in_order_joined c.self.inside.nogoods.items c.args.nogood c.place_of-place.result in_order c.self.invariant.1)
+
+place : (c : goal.In_ok-insert) → IsPlace (staying c.self.inside.nogoods.items c.args.nogood) c.args.nogood c.place_of-place.result
+place c = rw (left c, c.new-nogood.ensures) at c.place_of-place.ensures.between
+
+pub returns-clause-by_size : goal.returns-clause-by_size
+returns-clause-by_size c =
+    rw (now c) (by_size_joined c.self.inside.nogoods.items c.args.nogood c.place_of-place.result (inside c) (place c) c.self.invariant.2)
+
+pub invariant_of-self-2 : goal.invariant_of-self-2
+invariant_of-self-2 c = (returns-clause-minimal c, returns-clause-in_order c, returns-clause-by_size c)
+
+pub returns-clause-joins : goal.returns-clause-joins
+returns-clause-joins c is_new =
+    rw (now c, ← c.self.view_is) (joined_behind c.self.inside.nogoods.items c.args.nogood c.place_of-place.result (place c))

@@ -1,11 +1,20 @@
-use Rattle.std.proofs.Common.{rules}
-use Rattle.std.proofs.lemmas.Iterator.{YieldsList-from_slice}
+use Rattle.std.proofs.Common.{◌≡◌, rules}
+use Rattle.std.specs.List.{find}
+use Rattle.std.specs.Option.{option_map}
+use Rattle.std.proofs.lemmas.Iterator.Consumers.{YieldsList-from_first}
 use Rattle.std.proofs.lemmas.Iterator.Search.{find_from_yields_List}
 use Rattle.prop_premises.specs.Sets.{set_of, is_within}
-use Rattle.prop_nogoods.proofs.StoreLemmas.{none_found}
+use Rattle.prop_nogoods.proofs.StoreLemmas.{none_found, smallest_found}
 use Rattle.prop_nogoods.proofs.store.Store.blocks.Goals as goal
 
+found : (c : goal.After-find) → option_map (λ x. x.now) c.find.result ≡ find (λ line. is_within (set_of c.args.worldview.now) line) c.args.self.now
+found c =
+    find_from_yields_List (λ line. is_within (set_of c.args.worldview.now) line) _ _ c.find.result c.find.ensures.ran
+    (YieldsList-from_first (λ x. x.now) (λ n. n) c.args.self.now (cc)) (λ x b q k. search rules)
+
+pub returns-clause-smallest : goal.returns-clause-smallest
+returns-clause-smallest c =
+    smallest_found (λ line. is_within (set_of c.args.worldview.now) line) c.args.self.now c.find.result (λ x. x.now) (found c) c.iter.ensures.by_size
+
 pub returns-clause-none : goal.returns-clause-none
-returns-clause-none c none =
-    none_found c.args.self.now (set_of c.args.worldview.now) c.find.result (λ x. x.now)
-    (find_from_yields_List (λ line. is_within (set_of c.args.worldview.now) line) _ _ c.find.result c.find.ensures.ran (YieldsList-from_slice c.args.self.now (cc)) (λ x b q k. search rules)) none
+returns-clause-none c none = none_found c.args.self.now (set_of c.args.worldview.now) c.find.result (λ x. x.now) (found c) none
