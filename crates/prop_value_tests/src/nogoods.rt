@@ -32,7 +32,7 @@ fn keeps_the_smallest(rt: HostRuntime) -> Result<(), Fail> {
         assert!(rt; added == Ok(is_new));
         assert_eq!(rt; store.len(), len);
     }
-    let listed: [&[Premise]; 2] = [&[B, C], &[A]];
+    let listed: [&[Premise]; 2] = [&[A], &[B, C]];
     for (nogood, premises) in store.iter().zip(listed) {
         assert!(rt; has_just(nogood, premises));
     }
