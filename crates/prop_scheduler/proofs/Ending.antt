@@ -23,7 +23,7 @@ no_turns picks library s start line order _ _ _ _ (more n place d new waiting af
     absurd (omega (arith, idle.1, slice_get_within waiting place turn.called turn.waits))
 
 -- a network under way, whose line has no instance twice, can take no more than the most steps
-pub under_way_within : (library : List Stored) (s : Premises) (d : Data) (a : Waiting) → IsWellMade d → IsLine a → IsUnderWay library s d a.line →
+pub under_way_within : (library : List Stored) (s : Premises) (d : Data) (a : Waiting) → IsWellMade d → IsLine a.line a.room → IsUnderWay library s d a.line →
     potential (problem_of library d) (beliefs s d.contents) a.line ≤ most_steps (problem_of library d)
 under_way_within library s d a made line under_way =
     let n = length-map d.instances (constraint_of library) in

@@ -174,7 +174,7 @@ filled line flags capacity capacity' m a room = record {
 
 -- ---- what callers see
 
-pub is_line : (line : List ℕ) (flags : List Bool) (capacity : ℕ) → IsFlagged line flags capacity → IsLine (record { line = line; room = length flags })
+pub is_line : (line : List ℕ) (flags : List Bool) (capacity : ℕ) → IsFlagged line flags capacity → IsLine line (length flags)
 is_line line flags capacity a = record {
   once = λ j. let f = a.flagged j in let o = one_if (get_or flags j false) in omega (arith, f, o);
   below = λ k d l. flag_within flags (get_or line k d) (listed line flags capacity k (get_or line k d) a l (get_or_default line k d (get_or line k d) l));

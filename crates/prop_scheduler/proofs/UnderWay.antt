@@ -48,7 +48,7 @@ under_way_one_cell library library' s d new line k (Err refusal) same kept e f u
 -- ---- more cells, parameters and instances, which wait
 
 -- cells of which nothing is known change no belief
-beliefs_fresh : (t : Premises) (contents : List (List Entry)) (fresh : List Kinded) → beliefs t (contents ++ map (λ k. []) fresh) ≡ beliefs t contents
+pub beliefs_fresh : (t : Premises) (contents : List (List Entry)) (fresh : List Kinded) → beliefs t (contents ++ map (λ k. []) fresh) ≡ beliefs t contents
 beliefs_fresh t contents [] = ap (beliefs t) (append-nil contents)
 beliefs_fresh t contents (k ∷ fresh) =
     ap (beliefs t) (sym (append_assoc contents ([] ∷ []) (map (λ k. []) fresh))) ∙ beliefs_fresh t (contents ++ [] ∷ []) fresh ∙ beliefs-push t contents
@@ -82,7 +82,7 @@ under_way_made library s d new line line' fresh params xs u kept e before waits 
 -- ---- one more statement: the readers of its cell wait, where what is believed of the cell changed
 
 -- whatever its premise, something was merged into its cell
-states_merge : (s : Premises) (d new : Data) (x : Statement) → States d new x → (v : Info) × MergesAt (beliefs s d.contents) (beliefs s new.contents) x.cell v
+pub states_merge : (s : Premises) (d new : Data) (x : Statement) → States d new x → (v : Info) × MergesAt (beliefs s d.contents) (beliefs s new.contents) x.cell v
 states_merge s d new x states = by (is_within s (support_of x.premise)) refl
   where
     e : Entry
@@ -136,11 +136,11 @@ under_way_grown library s d new line line' row x u kept states all is_row =
 -- ---- more statements at one cell: its readers wait, where what is believed of it changed
 
 -- the statements of sides change what is believed of their cell alone, and it grows
-record AreGrownAt (s : Premises) (d new : Data) (cell : ℕ) : Type 0 where
+pub record AreGrownAt (s : Premises) (d new : Data) (cell : ℕ) : Type 0 where
   pub grown : (k : ℕ) → Below (beliefs s d.contents k) (beliefs s new.contents k)
   pub others : (k : ℕ) → k ≢ cell → beliefs s new.contents k ≡ beliefs s d.contents k
 
-grown_sides : (s : Premises) (d new : Data) (first cell : ℕ) (infos : List Info) → StatesAll d new (sides_at first cell infos) → AreGrownAt s d new cell
+pub grown_sides : (s : Premises) (d new : Data) (first cell : ℕ) (infos : List Info) → StatesAll d new (sides_at first cell infos) → AreGrownAt s d new cell
 grown_sides s d new first cell [] same = record {
   grown = λ k. below_same _ _ _ (ap (λ (n : Data). beliefs s n.contents k) (sym same)) (info_laws.reflexive (beliefs s d.contents k));
   others = λ k ne. ap (λ (n : Data). beliefs s n.contents k) same;

@@ -9,7 +9,7 @@ use Rattle.prop_scheduler.specs.Potential.{input_places, potential, most_steps}
 -- where no instance waits twice and the assignment is of the kinds of the cells, the potential is no more than the most steps
 abbrev pub MostIsMost : Type 0
 MostIsMost =
-    (problem : Problem) (a : Assignment) (line : List ℕ) → AreOfKinds problem.cells a → IsLine (record { line = line; room = length problem.constraints }) → potential problem a line ≤ most_steps problem
+    (problem : Problem) (a : Assignment) (line : List ℕ) → AreOfKinds problem.cells a → IsLine line (length problem.constraints) → potential problem a line ≤ most_steps problem
 
 -- a kind of sets of 64 elements at most, or of symbols
 pub record IsSmall (k : Kinded) : Type 0 where

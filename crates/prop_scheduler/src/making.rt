@@ -9,6 +9,7 @@ ghost use Rattle.prop_cells.specs.Back.{GoesBackTo};
 ghost use Rattle.prop_cells.specs.Refusing.{cell_refusal};
 ghost use Rattle.prop_scheduler.specs.Making.{room_refusal, cell_placed, param_number, made_of, with_fresh_cells, with_flat, MayBeMade, MayMake};
 ghost use Rattle.prop_scheduler.specs.Turns.{IsUnderWay};
+ghost use Rattle.prop_scheduler.specs.Watching.{IsWatched};
 
 use crate::agenda::Agenda;
 use prop_cells::Network;
@@ -17,17 +18,44 @@ use prop_procedures::{Flat, Kinded, Param, Placed, Rule};
 use std::alloc::{AllocError, Global};
 
 /// Makes a cell of this kind. Refused as by `Network::new_cell`, it makes nothing.
-pub fn new_cell<R: Rule + Drop>(network: &mut Network<R>, kind: Kinded) -> Result<(), Refusal>
+pub fn new_cell<R: Rule + Drop>(
+    network: &mut Network<R>,
+    agenda: &mut Agenda,
+    kind: Kinded,
+) -> Result<(), Refusal>
     requires kept { IsKept (stored_of R.value_of network.old.library) network.old.cells }
     ensures same { network.new.library ≡ network.old.library }
-    ensures under_way { (s : Premises) (line : List ℕ) → IsUnderWay (stored_of R.value_of network.old.library) s network.old.cells line → IsUnderWay (stored_of R.value_of network.new.library) s network.new.cells line }
+    ensures under_way { (s : Premises) → IsUnderWay (stored_of R.value_of network.old.library) s network.old.cells agenda.old.line → IsUnderWay (stored_of R.value_of network.new.library) s network.new.cells agenda.new.line }
+    ensures watched { (s : Premises) → IsWatched s network.old.cells agenda.old.watched → IsWatched s network.new.cells agenda.new.watched }
+    ensures room { agenda.new.room ≡ agenda.old.room }
+    ensures cells { length network.old.cells.kinds ≤ agenda.old.cells → length network.new.cells.kinds ≤ agenda.new.cells }
     ensures fits { OnOk result (cell_refusal network.old.cells ≡ None) }
     ensures ok { OnOk result (network.new.cells ≡ with_fresh_cells network.old.cells (kind ∷ [])) }
     ensures err { IfErr result (λ e. (cell_refusal network.old.cells ≡ Some e) ⊎ (e ≡ Refusal.Memory)) }
     ensures err_same { OnErr result (network.new.cells ≡ network.old.cells) }
 {
+    room_for_cell(network, agenda)?;
     let Kinded { kind, size } = kind;
     network.new_cell(kind, size)
+}
+
+/// Makes room to watch one more cell, where there can be one more. Refused with 90, it changes nothing.
+fn room_for_cell<R: Rule + Drop>(network: &Network<R>, agenda: &mut Agenda) -> Result<(), Refusal>
+    ensures line { agenda.new.line ≡ agenda.old.line }
+    ensures room { agenda.new.room ≡ agenda.old.room }
+    ensures watched { agenda.new.watched ≡ agenda.old.watched }
+    ensures more { agenda.old.cells ≤ agenda.new.cells }
+    ensures cells { OnOk result (length network.now.cells.kinds < most Cells → length network.now.cells.kinds + 1 ≤ agenda.new.cells) }
+    ensures err { IfErr result (λ e. e ≡ Refusal.Memory) }
+{
+    let count = network.cells();
+    if count >= Limit::Cells.most() {
+        return Ok(());
+    }
+    match agenda.room_to_watch(count + 1) {
+        Ok(()) => Ok(()),
+        Err(AllocError) => Err(Refusal::Memory),
+    }
 }
 
 /// The numbers that the fresh cells, the parameters and the instances of a use begin with.
@@ -239,6 +267,8 @@ fn alert_between(agenda: &mut Agenda, first: usize, end: usize)
     ensures alerted { (i : ℕ) → first ≤ i → i < end → Contains agenda.new.line i }
     ensures below { (n : ℕ) → end ≤ n → All (λ i. i < n) agenda.old.line → All (λ i. i < n) agenda.new.line }
     ensures room { agenda.new.room ≡ agenda.old.room }
+    ensures watched { agenda.new.watched ≡ agenda.old.watched }
+    ensures cells { agenda.new.cells ≡ agenda.old.cells }
 {
     for instance in first..end {
         agenda.alert(instance);
@@ -253,21 +283,25 @@ fn make_room<R: Rule + Drop>(
 ) -> Result<(), Refusal>
     ensures line { agenda.new.line ≡ agenda.old.line }
     ensures more { agenda.old.room ≤ agenda.new.room }
+    ensures watched { agenda.new.watched ≡ agenda.old.watched }
+    ensures more_cells { agenda.old.cells ≤ agenda.new.cells }
+    ensures cells { OnOk result (length network.now.cells.kinds + length flat.now.fresh.items ≤ agenda.new.cells) }
     ensures room { OnOk result (length network.now.cells.instances + length flat.now.instances.items ≤ agenda.new.room) }
     ensures fits { OnOk result (room_refusal (length network.now.cells.kinds + length flat.now.fresh.items) (length network.now.cells.instances + length flat.now.instances.items) ≡ None) }
     ensures err { IfErr result (λ e. (room_refusal (length network.now.cells.kinds + length flat.now.fresh.items) (length network.now.cells.instances + length flat.now.instances.items) ≡ Some e) ⊎ (e ≡ Refusal.Memory)) }
 {
-    if network.cells().saturating_add(flat.fresh.len()) > Limit::Cells.most() {
+    let cells = network.cells().saturating_add(flat.fresh.len());
+    if cells > Limit::Cells.most() {
         return Err(Refusal::LimitReached(Limit::Cells));
     }
     let count = network.instances().saturating_add(flat.instances.len());
     if count > Limit::Instances.most() {
         return Err(Refusal::LimitReached(Limit::Instances));
     }
-    match agenda.room(count) {
-        Ok(()) => Ok(()),
-        Err(AllocError) => Err(Refusal::Memory),
+    if agenda.room_to_watch(cells).is_err() || agenda.room(count).is_err() {
+        return Err(Refusal::Memory);
     }
+    Ok(())
 }
 
 /// Makes what a use on these cells stands for, and its instances wait. Refused, it makes nothing: with 16 for more cells or instances
@@ -283,7 +317,9 @@ pub fn make<R: Rule + Drop>(
     requires may { length network.old.cells.kinds + length flat.fresh.items ≤ most Cells → MayMake (stored_of R.value_of network.old.library) network.old.cells cells.now flat }
     ensures same { network.new.library ≡ network.old.library }
     ensures under_way { (s : Premises) → IsUnderWay (stored_of R.value_of network.old.library) s network.old.cells agenda.old.line → IsUnderWay (stored_of R.value_of network.new.library) s network.new.cells agenda.new.line }
+    ensures watched { (s : Premises) → IsWatched s network.old.cells agenda.old.watched → IsWatched s network.new.cells agenda.new.watched }
     ensures room { length network.old.cells.instances ≤ agenda.old.room → length network.new.cells.instances ≤ agenda.new.room }
+    ensures cells { length network.old.cells.kinds ≤ agenda.old.cells → length network.new.cells.kinds ≤ agenda.new.cells }
     ensures fits { OnOk result (room_refusal (length network.old.cells.kinds + length flat.fresh.items) (length network.old.cells.instances + length flat.instances.items) ≡ None) }
     ensures ok { OnOk result (network.new.cells ≡ with_flat (stored_of R.value_of network.old.library) network.old.cells cells.now flat) }
     ensures err { IfErr result (λ e. (room_refusal (length network.old.cells.kinds + length flat.fresh.items) (length network.old.cells.instances + length flat.instances.items) ≡ Some e) ⊎ (e ≡ Refusal.Memory)) }

@@ -6,6 +6,7 @@ ghost use Rattle.prop_procedures.specs.Kept.{stored_of};
 ghost use Rattle.prop_cells.specs.Refusing.{sides_refusal, may_be_stated};
 ghost use Rattle.prop_cells.specs.Sides.{sides_at, StatesAll, AreUnderBelow};
 ghost use Rattle.prop_scheduler.specs.Turns.{IsUnderWay};
+ghost use Rattle.prop_scheduler.specs.Watching.{IsWatched};
 
 use crate::agenda::Agenda;
 use prop_cells::Network;
@@ -14,7 +15,7 @@ use prop_premises::{Premise, Worldview};
 use prop_procedures::Rule;
 
 /// Makes a statement for each side of a choice at a cell, under premises with numbers in a row from `first` on, on which no statement rests yet; where
-/// what is believed of the cell changes, its readers and writers wait. Refused as by `Network::state_sides`, it changes nothing.
+/// what is believed of the cell changes, it is watched, and its readers and writers wait. Refused as by `Network::state_sides`, it changes nothing.
 pub fn state_sides<R: Rule + Drop>(
     network: &mut Network<R>,
     agenda: &mut Agenda,
@@ -26,12 +27,16 @@ pub fn state_sides<R: Rule + Drop>(
     requires cell { cell < length network.old.cells.kinds }
     requires under_way { IsUnderWay (stored_of R.value_of network.old.library) (set_of worldview.now) network.old.cells agenda.old.line }
     requires room { length network.old.cells.instances ≤ agenda.old.room }
+    requires watched { IsWatched (set_of worldview.now) network.old.cells agenda.old.watched }
+    requires cells { length network.old.cells.kinds ≤ agenda.old.cells }
     requires may { All (λ info. IsTrue (may_be_stated (kind_at network.old.cells.kinds cell).kind (kind_at network.old.cells.kinds cell).size info)) infos.now }
     requires unnamed { AreUnderBelow first network.old.cells.statements }
     requires numbers { first + length infos.now ≤ 2 ^ 16 }
     ensures same { network.new.library ≡ network.old.library }
     ensures under_way { IsUnderWay (stored_of R.value_of network.new.library) (set_of worldview.now) network.new.cells agenda.new.line }
     ensures room { agenda.new.room ≡ agenda.old.room }
+    ensures watched { IsWatched (set_of worldview.now) network.new.cells agenda.new.watched }
+    ensures cells { agenda.new.cells ≡ agenda.old.cells }
     ensures fits { OnOk result (sides_refusal network.old.cells (length infos.now) ≡ None) }
     ensures ok { OnOk result (StatesAll network.old.cells network.new.cells (sides_at first cell infos.now)) }
     ensures rest { OnOk result (network.new.cells ≡ record network.old.cells { statements = network.old.cells.statements ++ sides_at first cell infos.now; contents = network.new.cells.contents }) }
@@ -45,6 +50,7 @@ pub fn state_sides<R: Rule + Drop>(
     if !before.implies(after) {
         agenda.alert_all(network.readers(cell));
         agenda.alert_all(network.writers(cell));
+        agenda.watch(cell);
     }
     Ok(())
 }

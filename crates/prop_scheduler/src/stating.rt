@@ -5,6 +5,7 @@ ghost use Rattle.prop_procedures.specs.Kept.{stored_of};
 ghost use Rattle.prop_cells.specs.Data.{States};
 ghost use Rattle.prop_cells.specs.Refusing.{state_refusal};
 ghost use Rattle.prop_scheduler.specs.Turns.{IsUnderWay};
+ghost use Rattle.prop_scheduler.specs.Watching.{IsWatched};
 
 use crate::agenda::Agenda;
 use prop_cells::Network;
@@ -12,7 +13,7 @@ use prop_lattice::{Info, Partial, Refusal};
 use prop_premises::{Premise, Worldview};
 use prop_procedures::Rule;
 
-/// Makes a statement; where what is believed of its cell changes, the cell's readers wait. Refused as by `Network::state_under`, it changes nothing.
+/// Makes a statement; where what is believed of its cell changes, the cell is watched and its readers wait. Refused as by `Network::state_under`, it changes nothing.
 pub fn state<R: Rule + Drop>(
     network: &mut Network<R>,
     agenda: &mut Agenda,
@@ -24,9 +25,13 @@ pub fn state<R: Rule + Drop>(
     requires cell { cell < length network.old.cells.kinds }
     requires under_way { IsUnderWay (stored_of R.value_of network.old.library) (set_of worldview.now) network.old.cells agenda.old.line }
     requires room { length network.old.cells.instances ≤ agenda.old.room }
+    requires watched { IsWatched (set_of worldview.now) network.old.cells agenda.old.watched }
+    requires cells { length network.old.cells.kinds ≤ agenda.old.cells }
     ensures same { network.new.library ≡ network.old.library }
     ensures under_way { IsUnderWay (stored_of R.value_of network.new.library) (set_of worldview.now) network.new.cells agenda.new.line }
     ensures room { agenda.new.room ≡ agenda.old.room }
+    ensures watched { IsWatched (set_of worldview.now) network.new.cells agenda.new.watched }
+    ensures cells { agenda.new.cells ≡ agenda.old.cells }
     ensures fits { OnOk result (state_refusal network.old.cells cell info ≡ None) }
     ensures ok { OnOk result (States network.old.cells network.new.cells (record { premise = premise; cell = cell; info = info })) }
     ensures err { IfErr result (λ e. (state_refusal network.old.cells cell info ≡ Some e) ⊎ (e ≡ Refusal.Memory)) }
@@ -38,6 +43,7 @@ pub fn state<R: Rule + Drop>(
     let after = network.belief(cell, worldview);
     if !before.implies(after) {
         agenda.alert_all(network.readers(cell));
+        agenda.watch(cell);
     }
     Ok(())
 }

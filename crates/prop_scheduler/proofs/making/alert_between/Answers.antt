@@ -13,6 +13,8 @@ loop-instance-preserved c =
     let here = c.loop-instance-test.true in
     record {
       room = c.alert.ensures.room ∙ h.room;
+      watched = c.alert.ensures.watched ∙ h.watched;
+      cells = c.alert.ensures.cells ∙ h.cells;
       before = λ i waits. alerted_kept mid new j i a (h.before i waits);
       alerted = λ i from below. elim (eqb_tells i j) as (λ _. Contains new i) [
         | inl same ↦ rw same.1 (alerted_here mid new j a)

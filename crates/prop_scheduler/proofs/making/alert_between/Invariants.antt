@@ -4,6 +4,8 @@ use Rattle.prop_scheduler.proofs.making.alert_between.Given as goal
 abbrev pub invariant-loop-instance : goal.invariant-loop-instance
 invariant-loop-instance l = record {
   room : l.agenda.room ≡ l.initial.agenda.room;
+  watched : l.agenda.watched ≡ l.initial.agenda.watched;
+  cells : l.agenda.cells ≡ l.initial.agenda.cells;
   before : (i : ℕ) → Contains l.initial.agenda.line i → Contains l.agenda.line i;
   alerted : (i : ℕ) → l.first ≤ i → i < l.instance → Contains l.agenda.line i;
   below : (n : ℕ) → l.end ≤ n → All (λ i. i < n) l.initial.agenda.line → All (λ i. i < n) l.agenda.line;

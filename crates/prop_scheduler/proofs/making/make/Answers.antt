@@ -1,9 +1,10 @@
-use Rattle.std.proofs.Common.{◌≡◌, ◌<◌, ◌++◌, map, length, ap, arith}
+use Rattle.std.proofs.Common.{◌≡◌, ◌<◌, ◌≤◌, ◌++◌, map, length, ap, arith}
 use Rattle.std.proofs.lemmas.List.{length-append}
 use Rattle.std.proofs.lemmas.List.Elements.{All-weaker}
 use Rattle.prop_procedures.specs.Kept.{stored_of}
 use Rattle.prop_scheduler.specs.Making.{made_of}
 use Rattle.prop_scheduler.proofs.UnderWay.{under_way_made}
+use Rattle.prop_scheduler.proofs.WatchLaws.{watched_fresh}
 use Rattle.prop_scheduler.proofs.making.make.Goals as goal
 
 pub returns-clause-under_way : goal.returns-clause-under_way
@@ -24,3 +25,12 @@ returns-clause-under_way g c = λ s u.
     (λ i from below. c.alert_between.ensures.alerted i (omega (arith, from, first)) (omega (arith, below, count, all)))
     (c.alert_between.ensures.below (length (d.instances ++ made)) (omega (arith, count, all))
     (rw c.in_default.ensures.line (All-weaker (λ j. j < length d.instances) (λ j. j < length (d.instances ++ made)) (λ j l. omega (arith, l, more)) c.args.agenda.now.line u.line_below))))
+
+pub returns-clause-watched : goal.returns-clause-watched
+returns-clause-watched g c = λ s w.
+    let d = c.args.network.now.cells in
+    let new = c.make_all.new.network.cells in
+    let is = c.in_ok-make_all.ensures.ok in
+    let kinds : new.kinds ≡ d.kinds ++ c.args.flat.fresh.items = ap (λ x. x.kinds) is in
+    let more : length d.kinds ≤ length new.kinds = rw kinds (let n = length-append d.kinds c.args.flat.fresh.items in omega (arith, n)) in
+    rw (c.alert_between.ensures.watched, c.in_default.ensures.watched) (watched_fresh s d new c.args.agenda.now.watched c.args.flat.fresh.items (ap (λ x. x.contents) is) more w)

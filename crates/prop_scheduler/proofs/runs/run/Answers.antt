@@ -1,10 +1,10 @@
-use Rattle.std.proofs.Common.{◌≡◌, ◌∙◌, ◌+◌, refl, ap, subst, arith, ℕ, List, length, Result, Ok, Err, OnErr, inl, inr}
+use Rattle.std.proofs.Common.{◌≡◌, ◌∙◌, ◌+◌, refl, sym, ap, subst, arith, ℕ, List, length, Result, Ok, Err, OnErr, inl, inr}
 use Rattle.std.proofs.lemmas.List.{nil_from_length}
 use Rattle.prop_premises.specs.Sets.{set_of}
 use Rattle.prop_procedures.specs.Stored.{Stored}
 use Rattle.prop_procedures.specs.Kept.{stored_of}
 use Rattle.prop_cells.specs.Problems.{Premises}
-use Rattle.prop_cells.specs.Data.{Data, IsClash, IsWellMade, problem_of}
+use Rattle.prop_cells.specs.Data.{Data, IsWellMade, problem_of}
 use Rattle.prop_cells.proofs.Founding.{clash_conflicts}
 use Rattle.prop_scheduler.specs.Turns.{Interrupted, Turn}
 use Rattle.prop_scheduler.specs.Turns.Turns.{none, more}
@@ -39,15 +39,15 @@ returns-in-Some-clause-rest g c =
 
 pub returns-in-Some-clause-under_way : goal.returns-in-Some-clause-under_way
 returns-in-Some-clause-under_way g c =
-    c.requires.under_way
+    rw c.first_clash.ensures.line c.requires.under_way
 
 pub returns-in-Some-clause-room : goal.returns-in-Some-clause-room
 returns-in-Some-clause-room g c =
-    refl
+    c.first_clash.ensures.room
 
 pub returns-in-Some-clause-turns : goal.returns-in-Some-clause-turns
 returns-in-Some-clause-turns g c =
-    none
+    rw c.first_clash.ensures.line none
 
 pub returns-in-Some-clause-err : goal.returns-in-Some-clause-err
 returns-in-Some-clause-err g c =
@@ -63,11 +63,11 @@ returns-in-Some-clause-rests g c =
 
 pub returns-in-Some-clause-clash : goal.returns-in-Some-clause-clash
 returns-in-Some-clause-clash g c =
-    rw c.in-Some.is at c.in_ok-support.ensures.clash
+    record { cell = c.in-Some.cell; clash = rw c.in-Some.is at c.first_clash.ensures.seen; lean = c.in_ok-why-in-Some.ensures.lean }
 
 pub returns-in-Some-clause-conflict : goal.returns-in-Some-clause-conflict
 returns-in-Some-clause-conflict g c =
-    rw c.in-Some.is at c.in_ok-support.ensures.conflict
+    clash_conflicts (stored_of g.R.Rule.value_of c.args.network.now.library) c.args.network.now.cells (set_of c.args.worldview.now) _ c.requires.under_way.kept (record { cell = c.in-Some.cell; clash = rw c.in-Some.is at c.first_clash.ensures.seen; lean = c.in_ok-why-in-Some.ensures.lean })
 
 pub returns-in-Some-clause-spent : goal.returns-in-Some-clause-spent
 returns-in-Some-clause-spent g c =
@@ -87,11 +87,11 @@ returns-in-Some-clause-steps g c =
 
 pub returns-in-Some-clause-at_rest : goal.returns-in-Some-clause-at_rest
 returns-in-Some-clause-at_rest g c =
-    λ empty free. let clash : IsClash (set_of c.args.worldview.now) c.args.network.now.cells _ = rw c.in-Some.is at c.in_ok-support.ensures.clash in absurd (free clash.cell clash.clash)
+    λ empty free. absurd (free c.in-Some.cell (rw c.in-Some.is at c.first_clash.ensures.seen))
 
 pub returns-in-Some-clause-falls : goal.returns-in-Some-clause-falls
 returns-in-Some-clause-falls g c =
-    omega arith
+    rw c.first_clash.ensures.line (omega arith)
 
 pub returns-in-Some-clause-earned : goal.returns-in-Some-clause-earned
 returns-in-Some-clause-earned g c =
@@ -101,38 +101,40 @@ pub returns-in-Some-clause-bounded : goal.returns-in-Some-clause-bounded
 returns-in-Some-clause-bounded g c =
     omega arith
 
-pub returns-in_err-support-clause-same : goal.returns-in_err-support-clause-same
-returns-in_err-support-clause-same g c =
+pub returns-in_err-why-in-Some-clause-same : goal.returns-in_err-why-in-Some-clause-same
+returns-in_err-why-in-Some-clause-same g c =
     refl
 
-pub returns-in_err-support-clause-rest : goal.returns-in_err-support-clause-rest
-returns-in_err-support-clause-rest g c =
+pub returns-in_err-why-in-Some-clause-rest : goal.returns-in_err-why-in-Some-clause-rest
+returns-in_err-why-in-Some-clause-rest g c =
     refl
 
-pub returns-in_err-support-clause-under_way : goal.returns-in_err-support-clause-under_way
-returns-in_err-support-clause-under_way g c =
-    c.requires.under_way
+pub returns-in_err-why-in-Some-clause-under_way : goal.returns-in_err-why-in-Some-clause-under_way
+returns-in_err-why-in-Some-clause-under_way g c =
+    rw c.first_clash.ensures.line c.requires.under_way
 
-pub returns-in_err-support-clause-room : goal.returns-in_err-support-clause-room
-returns-in_err-support-clause-room g c =
-    refl
+pub returns-in_err-why-in-Some-clause-room : goal.returns-in_err-why-in-Some-clause-room
+returns-in_err-why-in-Some-clause-room g c =
+    c.first_clash.ensures.room
 
-pub returns-in_err-support-clause-err : goal.returns-in_err-support-clause-err
-returns-in_err-support-clause-err g c =
+pub returns-in_err-why-in-Some-clause-err : goal.returns-in_err-why-in-Some-clause-err
+returns-in_err-why-in-Some-clause-err g c =
     let stopped : Interrupted g.O.Order.picks (stored_of g.R.Rule.value_of c.args.network.now.library) (set_of c.args.worldview.now) c.args.network.now.cells c.args.agenda.now.line c.args.order.now c.args.network.now.cells c.args.agenda.now.line c.args.order.now = record { steps = 0; last = c.args.order.now; turns = none; picked = inl refl } in
-    on_err _ stopped
+    rw c.first_clash.ensures.line (on_err _ stopped)
 
 pub loop-steps-init : goal.loop-steps-init
 loop-steps-init g c = record {
   same = refl;
   rest = refl;
-  under_way = c.requires.under_way;
-  room = refl;
-  free = c.in_ok-support.ensures.free c.in-None.is;
-  turns = none;
-  waiting = c.waiting-waiting.ensures.waiting;
+  under_way = rw c.first_clash.ensures.line c.requires.under_way;
+  room = c.first_clash.ensures.room;
+  cells = c.first_clash.ensures.cells;
+  watched = c.first_clash.ensures.watched;
+  free = c.first_clash.ensures.free c.in-None.is;
+  turns = rw c.first_clash.ensures.line none;
+  waiting = c.waiting-waiting.ensures.waiting ∙ ap length (sym c.first_clash.ensures.line);
   steps = omega arith;
-  falls = omega arith;
+  falls = rw c.first_clash.ensures.line (omega arith);
 }
 
 pub turn-requires-clause-under_way : goal.turn-requires-clause-under_way
@@ -147,12 +149,12 @@ pub turn-requires-clause-free : goal.turn-requires-clause-free
 turn-requires-clause-free g c =
     c.loop-steps.invariant.free
 
-pub explanation-requires-clause-cell : goal.explanation-requires-clause-cell
-explanation-requires-clause-cell g c =
+pub explanation-requires-in-Some-clash-clause-cell : goal.explanation-requires-in-Some-clash-clause-cell
+explanation-requires-in-Some-clash-clause-cell g c =
     rw c.in-Some-clash.is at c.in_ok-clash.ensures.cell
 
-pub explanation-requires-clause-kept : goal.explanation-requires-clause-kept
-explanation-requires-clause-kept g c =
+pub explanation-requires-in-Some-clash-clause-kept : goal.explanation-requires-in-Some-clash-clause-kept
+explanation-requires-in-Some-clash-clause-kept g c =
     c.turn.ensures.under_way.kept
 
 pub returns-in-Some-clash-clause-same : goal.returns-in-Some-clash-clause-same
@@ -260,6 +262,8 @@ loop-steps-preserved g c =
       rest = turn_rest library (set_of c.args.worldview.now) c.pick-place.result c.args.network.now.cells c.loop-steps.network.cells c.turn.new.network.cells c.loop-steps.agenda.line c.turn.new.agenda.line turn c.loop-steps.invariant.rest;
       under_way = c.turn.ensures.under_way;
       room = c.turn.ensures.room ∙ c.loop-steps.invariant.room;
+      cells = c.turn.ensures.cells ∙ c.loop-steps.invariant.cells;
+      watched = c.turn.ensures.watched;
       free = c.in_ok-clash.ensures.free c.in-None-clash.is;
       waiting = c.waiting-waiting-in-loop-steps.ensures.waiting;
       turns = more c.loop-steps.steps c.pick-place.result c.loop-steps.network.cells _ c.loop-steps.agenda.line _ c.loop-steps.order _ c.loop-steps.invariant.turns (rw c.loop-steps.invariant.waiting at c.pick-place.ensures.picks) turn;

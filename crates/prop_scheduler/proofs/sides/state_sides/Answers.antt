@@ -8,7 +8,9 @@ use Rattle.prop_cells.specs.Data.{IsKept, beliefs}
 use Rattle.prop_cells.proofs.Reading.{readers_are, writers_below}
 use Rattle.prop_scheduler.specs.Agendas.{AllAlerted}
 use Rattle.prop_scheduler.proofs.Steps.{all_after_alerts}
-use Rattle.prop_scheduler.proofs.UnderWay.{under_way_sides}
+use Rattle.prop_lattice.specs.OrderLaws.{info_laws}
+use Rattle.prop_scheduler.proofs.UnderWay.{under_way_sides, grown_sides}
+use Rattle.prop_scheduler.proofs.WatchLaws.{watched_at, watched_same, same_but}
 use Rattle.prop_scheduler.proofs.sides.state_sides.Goals as goal
 
 pub alert_all-requires : goal.alert_all-requires
@@ -40,7 +42,7 @@ returns-then-not-implies-clause-under_way g c =
     let written : AllAlerted mid after (writers_of old.instances c.args.cell) = rw (c.writers.ensures, same) at c.alert_all-then-not-implies.ensures.alerted in
     let first_below = all_after_alerts (λ k. k < length old.instances) (readers_of old.instances c.args.cell) line mid (readers_are old.instances c.args.cell).below c.requires.under_way.line_below read in
     let below = all_after_alerts (λ k. k < length old.instances) (writers_of old.instances c.args.cell) mid after (writers_below old.instances c.args.cell) first_below written in
-    rw c.state_sides.ensures.same (under_way_sides library (set_of c.args.worldview.now) old new line after c.args.first c.args.cell c.args.infos.now c.requires.under_way kept same c.in_ok-state_sides.ensures.ok
+    rw (c.watch.ensures.line, c.state_sides.ensures.same) (under_way_sides library (set_of c.args.worldview.now) old new line after c.args.first c.args.cell c.args.infos.now c.requires.under_way kept same c.in_ok-state_sides.ensures.ok
     (λ k w. written.kept k (read.kept k w)) below (inr (All-weaker (Contains mid) (Contains after) written.kept (readers_of old.instances c.args.cell) read.alerted)))
 
 pub returns-else-not-implies-clause-under_way : goal.returns-else-not-implies-clause-under_way
@@ -54,3 +56,23 @@ returns-else-not-implies-clause-under_way g c =
     let less : Below (beliefs s new.contents c.args.cell) (beliefs s old.contents c.args.cell) = rw (c.belief-after.ensures, c.belief-before.ensures) at (c.implies.ensures.0 c.if-not-implies.false) in
     rw c.state_sides.ensures.same (under_way_sides library s old new c.args.agenda.now.line c.args.agenda.now.line c.args.first c.args.cell c.args.infos.now c.requires.under_way kept same c.in_ok-state_sides.ensures.ok
     (λ k w. w) c.requires.under_way.line_below (inl less))
+
+pub returns-then-not-implies-clause-watched : goal.returns-then-not-implies-clause-watched
+returns-then-not-implies-clause-watched g c =
+    let s = set_of c.args.worldview.now in
+    let old = c.args.network.now.cells in
+    let new = c.state_sides.new.self.cells in
+    let grown = grown_sides s old new c.args.first c.args.cell c.args.infos.now c.in_ok-state_sides.ensures.ok in
+    watched_at s old new c.args.agenda.now.watched c.watch.new.self.watched c.args.cell (ap (λ d. length d.kinds) c.in_ok-state_sides.ensures.rest) c.requires.cell grown.others
+    (rw (c.alert_all-then-not-implies.ensures.watched, c.alert_all.ensures.watched) at c.watch.ensures.watched) c.requires.watched
+
+pub returns-else-not-implies-clause-watched : goal.returns-else-not-implies-clause-watched
+returns-else-not-implies-clause-watched g c =
+    let s = set_of c.args.worldview.now in
+    let old = c.args.network.now.cells in
+    let new = c.state_sides.new.self.cells in
+    let kinds = ap (λ d. length d.kinds) c.in_ok-state_sides.ensures.rest in
+    let grown = grown_sides s old new c.args.first c.args.cell c.args.infos.now c.in_ok-state_sides.ensures.ok in
+    let less : Below (beliefs s new.contents c.args.cell) (beliefs s old.contents c.args.cell) = rw (c.belief-after.ensures, c.belief-before.ensures) at (c.implies.ensures.0 c.if-not-implies.false) in
+    let here = info_laws.antisymmetric (beliefs s new.contents c.args.cell) (beliefs s old.contents c.args.cell) less (grown.grown c.args.cell) in
+    watched_same s old new c.args.agenda.now.watched (omega (arith, kinds)) (same_but s old new c.args.cell here grown.others) c.requires.watched
