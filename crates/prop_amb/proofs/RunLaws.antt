@@ -16,7 +16,7 @@ same_problem stored a b old new same rest = λ i. problem_of (stored (same i)) (
 pub falls_in : (old new : Problem) (a b : Assignment) (before after : List ℕ) (calls : ℕ) → new ≡ old → potential new b after + calls ≤ potential old a before → potential old b after + calls ≤ potential old a before
 falls_in old new a b before after calls same h = subst (λ p. potential p b after + calls ≤ potential old a before) same h
 
-pub few_calls : (library : List Stored) (s : Premises) (d : Data) (waiting : Waiting) (b : Assignment) (after : List ℕ) (calls : ℕ) → IsWellMade d → IsLine waiting → IsUnderWay library s d waiting.line →
+pub few_calls : (library : List Stored) (s : Premises) (d : Data) (waiting : Waiting) (b : Assignment) (after : List ℕ) (calls : ℕ) → IsWellMade d → IsLine waiting.line waiting.room → IsUnderWay library s d waiting.line →
     potential (problem_of library d) b after + calls ≤ potential (problem_of library d) (beliefs s d.contents) waiting.line → calls ≤ most_steps (problem_of library d)
 few_calls library s d waiting b after calls made line under_way falls =
     let most = under_way_within library s d waiting made line under_way in

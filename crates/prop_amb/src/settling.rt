@@ -6,6 +6,7 @@ ghost use Rattle.prop_procedures.specs.Kept.{AllMean, stored_of};
 ghost use Rattle.prop_cells.specs.Data.{problem_of, beliefs, IsFree};
 ghost use Rattle.prop_scheduler.specs.Turns.{IsUnderWay, IsSettled, Turns};
 ghost use Rattle.prop_scheduler.specs.Potential.{potential, most_steps};
+ghost use Rattle.prop_scheduler.specs.Watching.{IsWatched};
 ghost use Rattle.prop_nogoods.specs.Stores.{has_part};
 ghost use Rattle.prop_amb.specs.Refuted.{IsListRefuted, AllBeforeRefuted, IsFirstConsistent, IsRuledOut};
 ghost use Rattle.prop_amb.specs.Search.{users_of, choices_in, IsStand, IsSearch, AllBeforeBlocked, Moves};
@@ -45,10 +46,14 @@ fn attempt<R: Rule + Drop, O: Order>(
     requires means { AllMean R.value_of network.old.library.procedures.items }
     requires under_way { IsUnderWay (stored_of R.value_of network.old.library) (set_of search.old.worldview) network.old.cells agenda.old.line }
     requires room { length network.old.cells.instances ≤ agenda.old.room }
+    requires watched { IsWatched (set_of search.old.worldview) network.old.cells agenda.old.watched }
+    requires cells { length network.old.cells.kinds ≤ agenda.old.cells }
     requires search { IsSearch (problem_of (stored_of R.value_of network.old.library) network.old.cells) search.old }
     ensures same { network.new.library ≡ network.old.library }
     ensures rest { network.new.cells ≡ record network.old.cells { contents = network.new.cells.contents } }
     ensures room { agenda.new.room ≡ agenda.old.room }
+    ensures watched { IsWatched (set_of search.old.worldview) network.new.cells agenda.new.watched }
+    ensures cells { agenda.new.cells ≡ agenda.old.cells }
     ensures only { search.new ≡ record search.old { listed = search.new.listed } }
     ensures listed { (m : Members) → IsTrue (has_part search.old.listed m) → IsTrue (has_part search.new.listed m) }
     ensures search { IsSearch (problem_of (stored_of R.value_of network.old.library) network.old.cells) search.new }
@@ -94,6 +99,8 @@ fn decide<R: Rule + Drop>(
     may_move: bool,
 ) -> Result<Option<Outcome>, AllocError>
     requires room { length network.now.cells.instances ≤ agenda.old.room }
+    requires watched { IsWatched (set_of search.old.worldview) network.now.cells agenda.old.watched }
+    requires cells { length network.now.cells.kinds ≤ agenda.old.cells }
     requires search { IsSearch (problem_of (stored_of R.value_of network.now.library) network.now.cells) search.old }
     requires under_way { IsUnderWay (stored_of R.value_of network.now.library) (set_of search.old.worldview) network.now.cells agenda.old.line }
     requires met { IfRefuted tried (IsMet (problem_of (stored_of R.value_of network.now.library) network.now.cells) search.old) }
@@ -103,6 +110,8 @@ fn decide<R: Rule + Drop>(
     ensures stand { IsStand search.new }
     ensures under_way { IsUnderWay (stored_of R.value_of network.now.library) (set_of search.new.worldview) network.now.cells agenda.new.line }
     ensures room { agenda.new.room ≡ agenda.old.room }
+    ensures watched { IsWatched (set_of search.new.worldview) network.now.cells agenda.new.watched }
+    ensures cells { agenda.new.cells ≡ agenda.old.cells }
     ensures same { IfOk result (λ o. IfSome o (λ end. search.new ≡ search.old)) }
     ensures same_line { IfOk result (λ o. IfSome o (λ end. agenda.new.line ≡ agenda.old.line)) }
     ensures quiet { tried ≡ Tried.Quiet → result ≡ Ok (Some Outcome.Settled) }
@@ -146,10 +155,14 @@ pub fn settle<R: Rule + Drop, O: Order>(
     requires means { AllMean R.value_of network.old.library.procedures.items }
     requires under_way { IsUnderWay (stored_of R.value_of network.old.library) (set_of search.old.worldview) network.old.cells agenda.old.line }
     requires room { length network.old.cells.instances ≤ agenda.old.room }
+    requires watched { IsWatched (set_of search.old.worldview) network.old.cells agenda.old.watched }
+    requires cells { length network.old.cells.kinds ≤ agenda.old.cells }
     requires search { IsSearch (problem_of (stored_of R.value_of network.old.library) network.old.cells) search.old }
     ensures same { network.new.library ≡ network.old.library }
     ensures rest { network.new.cells ≡ record network.old.cells { contents = network.new.cells.contents } }
     ensures room { agenda.new.room ≡ agenda.old.room }
+    ensures watched { IsWatched (set_of search.new.worldview) network.new.cells agenda.new.watched }
+    ensures cells { agenda.new.cells ≡ agenda.old.cells }
     ensures premises { search.new.premises ≡ search.old.premises }
     ensures listed { (m : Members) → IsTrue (has_part search.old.listed m) → IsTrue (has_part search.new.listed m) }
     ensures search { IsSearch (problem_of (stored_of R.value_of network.old.library) network.old.cells) search.new }

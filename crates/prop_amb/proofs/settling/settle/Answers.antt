@@ -1,8 +1,8 @@
-use Rattle.std.proofs.Common.{◌≡◌, ◌∙◌, ◌+◌, ◌-◌, ◌⊎◌, false, nat_lt, Option, Some, None, Result, Ok, refl, sym, ap, subst, inl, inr, arith}
+use Rattle.std.proofs.Common.{◌≡◌, ◌∙◌, ◌+◌, ◌-◌, ◌⊎◌, false, nat_lt, length, Option, Some, None, Result, Ok, refl, sym, ap, subst, inl, inr, arith}
 use Rattle.std.proofs.lemmas.Bool.{ltb-false, ltb-true}
 use Rattle.prop_premises.specs.Sets.{set_of}
 use Rattle.prop_procedures.specs.Kept.{stored_of}
-use Rattle.prop_cells.specs.Data.{problem_of}
+use Rattle.prop_cells.specs.Data.{Data, problem_of}
 use Rattle.prop_scheduler.specs.Turns.{IsUnderWay}
 use Rattle.prop_amb.specs.Search.{IsSearch}
 use Rattle.prop_amb.specs.Settling.{IsHeld}
@@ -25,6 +25,8 @@ pub loop-tried-init : goal.loop-tried-init
 loop-tried-init g c = record {
   same = refl;
   room = refl;
+  cells = refl;
+  watched = c.requires.watched;
   within = omega arith;
   way = at_start g.O.Order.picks (stored_of g.R.Rule.value_of c.args.network.now.library) c.args.search.now c.args.network.now.cells c.args.agenda.now.line c.args.order.now c.well_made.ensures c.requires.search c.requires.under_way;
 }
@@ -39,6 +41,11 @@ pub attempt-requires-clause-room : goal.attempt-requires-clause-room
 attempt-requires-clause-room g c =
     let count = count_in c.args.network.now.cells c.loop-tried.network.cells c.loop-tried.invariant.way.rest in
     omega (arith, count, c.loop-tried.invariant.room, c.requires.room)
+
+pub attempt-requires-clause-cells : goal.attempt-requires-clause-cells
+attempt-requires-clause-cells g c =
+    let count = ap (λ (d : Data). length d.kinds) c.loop-tried.invariant.way.rest in
+    omega (arith, count, c.loop-tried.invariant.cells, c.requires.cells)
 
 pub attempt-requires-clause-search : goal.attempt-requires-clause-search
 attempt-requires-clause-search g c =
@@ -55,6 +62,9 @@ returns-in_err-tried-clause-rest g c =
 pub returns-in_err-tried-clause-room : goal.returns-in_err-tried-clause-room
 returns-in_err-tried-clause-room g c =
     c.attempt.ensures.room ∙ c.loop-tried.invariant.room
+
+pub returns-in_err-tried-clause-cells : goal.returns-in_err-tried-clause-cells
+returns-in_err-tried-clause-cells g c = c.attempt.ensures.cells ∙ c.loop-tried.invariant.cells
 
 pub returns-in_err-tried-clause-premises : goal.returns-in_err-tried-clause-premises
 returns-in_err-tried-clause-premises g c =
@@ -88,6 +98,12 @@ decide-requires-clause-room g c =
     let count' = count_in c.loop-tried.network.cells c.attempt.new.network.cells c.attempt.ensures.rest in
     omega (arith, count, count', c.loop-tried.invariant.room, c.attempt.ensures.room, c.requires.room)
 
+pub decide-requires-clause-cells : goal.decide-requires-clause-cells
+decide-requires-clause-cells g c =
+    let count = ap (λ (d : Data). length d.kinds) c.loop-tried.invariant.way.rest in
+    let count' = ap (λ (d : Data). length d.kinds) c.attempt.ensures.rest in
+    omega (arith, count, count', c.loop-tried.invariant.cells, c.attempt.ensures.cells, c.requires.cells)
+
 pub decide-requires-clause-search : goal.decide-requires-clause-search
 decide-requires-clause-search g c =
     search_from (stored_of g.R.Rule.value_of) c.loop-tried.network.library c.attempt.new.network.library c.loop-tried.network.cells c.attempt.new.network.cells c.attempt.new.search c.attempt.ensures.same c.attempt.ensures.rest c.attempt.ensures.search
@@ -103,6 +119,9 @@ returns-in_err-outcome-clause-rest g c =
 pub returns-in_err-outcome-clause-room : goal.returns-in_err-outcome-clause-room
 returns-in_err-outcome-clause-room g c =
     c.decide.ensures.room ∙ c.attempt.ensures.room ∙ c.loop-tried.invariant.room
+
+pub returns-in_err-outcome-clause-cells : goal.returns-in_err-outcome-clause-cells
+returns-in_err-outcome-clause-cells g c = c.decide.ensures.cells ∙ c.attempt.ensures.cells ∙ c.loop-tried.invariant.cells
 
 pub returns-in_err-outcome-clause-premises : goal.returns-in_err-outcome-clause-premises
 returns-in_err-outcome-clause-premises g c =
@@ -175,6 +194,8 @@ returns-in-Some g c =
       same = both;
       rest = t.rest;
       room = c.decide.ensures.room ∙ c.attempt.ensures.room ∙ c.loop-tried.invariant.room;
+      cells = c.decide.ensures.cells ∙ c.attempt.ensures.cells ∙ c.loop-tried.invariant.cells;
+      watched = c.decide.ensures.watched;
       premises = t.premises;
       listed = t.listed;
       search = t.search;
@@ -239,6 +260,8 @@ loop-tried-preserved g c =
     record {
       same = both;
       room = c.decide.ensures.room ∙ c.attempt.ensures.room ∙ c.loop-tried.invariant.room;
+      cells = c.decide.ensures.cells ∙ c.attempt.ensures.cells ∙ c.loop-tried.invariant.cells;
+      watched = c.decide.ensures.watched;
       within = omega (arith, more);
       way = after_move g.O.Order.picks (stored_of g.R.Rule.value_of c.args.network.now.library) c.args.search.now c.args.network.now.cells c.args.agenda.now.line c.args.order.now c.attempt.new.search c.attempt.new.network.cells c.attempt.new.agenda.line c.attempt.new.order (c.loop-tried.steps + c.in_ok-tried.calls) c.args.budget c.in_ok-tried.tried c.decide.new.search c.decide.new.agenda.line x
           (λ q. no_end (c.decide.ensures.quiet q) c.in_ok-outcome.was c.in-None.is)
