@@ -11,6 +11,7 @@ ghost use Rattle.prop_explain.specs.Trying.{Tries};
 ghost use Rattle.prop_cells.specs.Data.{problem_of, beliefs, IsKept};
 ghost use Rattle.prop_scheduler.specs.Turns.{IsUnderWay, IsSettled, Turns};
 ghost use Rattle.prop_scheduler.specs.Potential.{most_steps};
+ghost use Rattle.prop_scheduler.specs.Watching.{IsWatched};
 
 use prop_cells::Network;
 use prop_lattice::{Info, Partial};
@@ -52,7 +53,7 @@ enum Tried {
 /// What is believed of a cell of a network at rest, with premises of which none can be left out, and how many instances were called for that.
 /// The premises of the explanation are tried in order of number: one is left out where the others are enough.
 ///
-/// Afterwards every instance waits, after want of memory too.
+/// Afterwards every instance waits and every cell is watched, after want of memory too.
 pub fn reduce<R: Rule + Drop, O: Order>(
     alloc: Global,
     network: &mut Network<R>,
@@ -65,14 +66,18 @@ pub fn reduce<R: Rule + Drop, O: Order>(
     requires means { AllMean R.value_of network.old.library.procedures.items }
     requires kept { IsKept (stored_of R.value_of network.old.library) network.old.cells }
     requires line { All (λ j. j < length network.old.cells.instances) agenda.old.line }
+    requires watched { All (λ c. c < length network.old.cells.kinds) agenda.old.watched }
     requires room { length network.old.cells.instances ≤ agenda.old.room }
+    requires cells { length network.old.cells.kinds ≤ agenda.old.cells }
     requires cell { cell < length network.old.cells.kinds }
     requires settled { IsSettled (stored_of R.value_of network.old.library) (set_of worldview.now) network.old.cells }
     ensures same { network.new.library ≡ network.old.library }
     ensures rest { network.new.cells ≡ record network.old.cells { contents = network.new.cells.contents } }
     ensures under_way { (s : Premises) → IsUnderWay (stored_of R.value_of network.new.library) s network.new.cells agenda.new.line }
     ensures all { (j : ℕ) → j < length network.new.cells.instances → Contains agenda.new.line j }
+    ensures watched { (s : Premises) → IsWatched s network.new.cells agenda.new.watched }
     ensures room { agenda.new.room ≡ agenda.old.room }
+    ensures cells { agenda.new.cells ≡ agenda.old.cells }
     ensures explains { IfOk result (λ r. OfCore r.0 (λ v s. (v ≡ beliefs (set_of worldview.now) network.old.cells.contents cell) × Explains (problem_of (stored_of R.value_of network.old.library) network.old.cells) (set_of worldview.now) cell v (set_of s))) }
     ensures least { IfOk result (λ r. IfLeast r.0 (λ v s. IsIrreducible (problem_of (stored_of R.value_of network.old.library) network.old.cells) (set_of s) cell v)) }
     ensures spent { IfOk result (λ r. IfNotReduced r.0 (λ v s. r.1 ≡ budget)) }
@@ -100,14 +105,18 @@ fn explained_least<R: Rule + Drop, O: Order>(
     requires means { AllMean R.value_of network.old.library.procedures.items }
     requires kept { IsKept (stored_of R.value_of network.old.library) network.old.cells }
     requires line { All (λ j. j < length network.old.cells.instances) agenda.old.line }
+    requires watched { All (λ c. c < length network.old.cells.kinds) agenda.old.watched }
     requires room { length network.old.cells.instances ≤ agenda.old.room }
+    requires cells { length network.old.cells.kinds ≤ agenda.old.cells }
     requires cell { cell < length network.old.cells.kinds }
     requires settled { IsSettled (stored_of R.value_of network.old.library) (set_of worldview.now) network.old.cells }
     ensures same { network.new.library ≡ network.old.library }
     ensures rest { network.new.cells ≡ record network.old.cells { contents = network.new.cells.contents } }
     ensures kept { IsKept (stored_of R.value_of network.old.library) network.new.cells }
     ensures line { All (λ j. j < length network.new.cells.instances) agenda.new.line }
+    ensures watched { All (λ c. c < length network.new.cells.kinds) agenda.new.watched }
     ensures room { agenda.new.room ≡ agenda.old.room }
+    ensures cells { agenda.new.cells ≡ agenda.old.cells }
     ensures explains { IfOk result (λ r. OfCore r.0 (λ v s. (v ≡ beliefs (set_of worldview.now) network.old.cells.contents cell) × Explains (problem_of (stored_of R.value_of network.old.library) network.old.cells) (set_of worldview.now) cell v (set_of s))) }
     ensures least { IfOk result (λ r. IfLeast r.0 (λ v s. IsIrreducible (problem_of (stored_of R.value_of network.old.library) network.old.cells) (set_of s) cell v)) }
     ensures spent { IfOk result (λ r. IfNotReduced r.0 (λ v s. r.1 ≡ budget)) }
@@ -140,7 +149,9 @@ fn left_of<R: Rule + Drop, O: Order>(
     requires means { AllMean R.value_of network.old.library.procedures.items }
     requires kept { IsKept (stored_of R.value_of network.old.library) network.old.cells }
     requires line { All (λ j. j < length network.old.cells.instances) agenda.old.line }
+    requires watched { All (λ c. c < length network.old.cells.kinds) agenda.old.watched }
     requires room { length network.old.cells.instances ≤ agenda.old.room }
+    requires cells { length network.old.cells.kinds ≤ agenda.old.cells }
     requires cell { cell < length network.old.cells.kinds }
     requires entails { Entails (problem_of (stored_of R.value_of network.old.library) network.old.cells) (set_of why.now.support) cell why.now.value }
     requires consistent { IsConsistent (problem_of (stored_of R.value_of network.old.library) network.old.cells) (set_of why.now.support) }
@@ -148,7 +159,9 @@ fn left_of<R: Rule + Drop, O: Order>(
     ensures rest { network.new.cells ≡ record network.old.cells { contents = network.new.cells.contents } }
     ensures kept { IsKept (stored_of R.value_of network.old.library) network.new.cells }
     ensures line { All (λ j. j < length network.new.cells.instances) agenda.new.line }
+    ensures watched { All (λ c. c < length network.new.cells.kinds) agenda.new.watched }
     ensures room { agenda.new.room ≡ agenda.old.room }
+    ensures cells { agenda.new.cells ≡ agenda.old.cells }
     ensures part { IfOk result (λ r. IsPart (set_of r.0) (set_of why.now.support)) }
     ensures entails { IfOk result (λ r. Entails (problem_of (stored_of R.value_of network.old.library) network.old.cells) (set_of r.0) cell why.now.value) }
     ensures least { IfOk result (λ r. r.1 ≡ End.AllTried → IsIrreducible (problem_of (stored_of R.value_of network.old.library) network.old.cells) (set_of r.0) cell why.now.value) }
@@ -196,14 +209,18 @@ fn attempt<R: Rule + Drop, O: Order>(
     requires means { AllMean R.value_of network.old.library.procedures.items }
     requires kept { IsKept (stored_of R.value_of network.old.library) network.old.cells }
     requires line { All (λ j. j < length network.old.cells.instances) agenda.old.line }
+    requires watched { All (λ c. c < length network.old.cells.kinds) agenda.old.watched }
     requires room { length network.old.cells.instances ≤ agenda.old.room }
+    requires cells { length network.old.cells.kinds ≤ agenda.old.cells }
     requires cell { cell < length network.old.cells.kinds }
     requires consistent { IsConsistent (problem_of (stored_of R.value_of network.old.library) network.old.cells) (set_of set.now) }
     ensures same { network.new.library ≡ network.old.library }
     ensures rest { network.new.cells ≡ record network.old.cells { contents = network.new.cells.contents } }
     ensures kept { IsKept (stored_of R.value_of network.old.library) network.new.cells }
     ensures line { All (λ j. j < length network.new.cells.instances) agenda.new.line }
+    ensures watched { All (λ c. c < length network.new.cells.kinds) agenda.new.watched }
     ensures room { agenda.new.room ≡ agenda.old.room }
+    ensures cells { agenda.new.cells ≡ agenda.old.cells }
     ensures enough { IfOk result (λ r. r.0 ≡ Tried.Enough → Entails (problem_of (stored_of R.value_of network.old.library) network.old.cells) (set_of set.now) cell value) }
     ensures too_few { IfOk result (λ r. r.0 ≡ Tried.TooFew → ¬ (Entails (problem_of (stored_of R.value_of network.old.library) network.old.cells) (set_of set.now) cell value)) }
     ensures falls { IfOk result (λ r. r.1 ≤ most_steps (problem_of (stored_of R.value_of network.old.library) network.old.cells)) }

@@ -15,6 +15,8 @@ invariant-loop-premise g l = record {
   kept : IsKept (stored_of g.R.Rule.value_of l.fn.network.library) l.network.cells;
   line : All (λ j. j < length l.network.cells.instances) l.agenda.line;
   room : l.agenda.room ≡ l.fn.agenda.room;
+  watched : All (λ c. c < length l.network.cells.kinds) l.agenda.watched;
+  cells : l.agenda.cells ≡ l.fn.agenda.cells;
   tried : AreTried (problem_of (stored_of g.R.Rule.value_of l.fn.network.library) l.fn.network.cells) l.cell l.why.value l.yielded (set_of l.support);
   part : IsPart (set_of l.support) (set_of l.why.support);
   steps : l.steps ≤ l.budget;
