@@ -32,7 +32,8 @@ use Rattle.prop_amb.proofs.KeepingLaws.{search_extends}
 use Rattle.prop_amb.proofs.RefutedLaws.{covered_choice}
 use Rattle.prop_workbench.specs.Machine.{State}
 use Rattle.prop_workbench.specs.Refusing.{choosing_limit}
-use Rattle.prop_workbench.proofs.PremiseLemmas.{under_way_agree}
+use Rattle.prop_scheduler.specs.Watching.{IsWatched}
+use Rattle.prop_workbench.proofs.PremiseLemmas.{under_way_agree, watched_agree}
 use Rattle.prop_workbench.proofs.StandingLemmas.{set_before}
 use Rattle.prop_workbench.specs.Sessions.{AreKnown, IsAtWork}
 
@@ -116,11 +117,17 @@ declared_under_way library old new name sides d agenda work made =
     let n = length old.premises in
     rw (ap (λ (s : Stand). s.worldview) made) (under_way_agree library d n agenda.line (set_of old.worldview) (set_of (old.worldview ++ n ∷ [])) work.known (λ p l. set_before old.worldview n p l) work.under_way)
 
+pub declared_watched : (library : List Stored) (old new : Stand) (name : List ℕ) (sides : ℕ) (d : Data) (agenda : Waiting) → IsAtWork library old d agenda → new ≡ declared old name sides → IsWatched (set_of new.worldview) d agenda.watched
+declared_watched library old new name sides d agenda work made =
+    let n = length old.premises in
+    rw (ap (λ (s : Stand). s.worldview) made) (watched_agree library d n agenda.watched (set_of old.worldview) (set_of (old.worldview ++ n ∷ [])) work.under_way.kept work.known (λ p l. set_before old.worldview n p l) work.watched)
+
 -- a search with one more choice, whose sides are stated, is at work
 pub chosen_at_work : (library : List Stored) (old new : Stand) (name : List ℕ) (sides cell : ℕ) (choice : Choice) (infos : List Info) (d after : Data) (before waiting : Waiting) → IsAtWork library old d before →
     new ≡ declared old name sides → choice.first ≡ length old.premises → length infos ≡ sides → IsStand new → ((problem : Problem) → IsFresh problem choice → IsSearch problem old → IsSearch problem new) →
-    after ≡ record d { statements = d.statements ++ sides_at choice.first cell infos; contents = after.contents } → IsUnderWay library (set_of new.worldview) after waiting.line → waiting.room ≡ before.room → IsAtWork library new after waiting
-chosen_at_work library old new name sides cell choice infos d after before waiting work made first count stand search rest under_way room =
+    after ≡ record d { statements = d.statements ++ sides_at choice.first cell infos; contents = after.contents } → IsUnderWay library (set_of new.worldview) after waiting.line → waiting.room ≡ before.room → IsWatched (set_of new.worldview) after waiting.watched →
+    waiting.cells ≡ before.cells → IsAtWork library new after waiting
+chosen_at_work library old new name sides cell choice infos d after before waiting work made first count stand search rest under_way room watch space =
     let number : length new.premises ≡ length old.premises + sides = ap (λ (s : Stand). length s.premises) made ∙ length-with_choice old.premises name sides in
     record {
       under_way = under_way;
@@ -128,6 +135,8 @@ chosen_at_work library old new name sides cell choice infos d after before waiti
       search = search_extends (problem_of library d) (problem_of library after) new (extends_all library d after _ rest) (search (problem_of library d) (fresh_choice (problem_of library d) (length old.premises) choice first work.known) work.search);
       known = rw (ap (λ (x : Data). x.statements) rest) (known_sides (length old.premises) (length new.premises) choice.first cell d.statements infos (omega (arith, number)) (omega (arith, number, first, count)) work.known);
       roomy = rw (room, ap (λ (x : Data). x.instances) rest) work.roomy;
+      watched = watch;
+      cells = rw (space, ap (λ (x : Data). x.kinds) rest) work.cells;
     }
 
 -- one more choice takes nothing from what covers

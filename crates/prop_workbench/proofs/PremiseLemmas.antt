@@ -1,5 +1,5 @@
 -- Which premises are known, and what changes where one is new, believed or no longer believed.
-use Rattle.std.proofs.Common.{◌≡◌, ◌∙◌, ℕ, ◌<◌, ◌||◌, Bool, true, false, IsTrue, List, [], ◌∷◌, ◌++◌, Some, None, All, Contains, length, take, get_or, ◌≤◌, ◌==◌, refl, ap, arith}
+use Rattle.std.proofs.Common.{◌≡◌, ◌∙◌, ℕ, ◌<◌, ◌||◌, Bool, true, false, IsTrue, List, [], ◌∷◌, ◌++◌, Some, None, All, Contains, length, take, get_or, ◌≤◌, ◌==◌, refl, sym, ap, arith}
 use Rattle.std.proofs.lemmas.Bool.{eq-eqb}
 use Rattle.std.proofs.lemmas.List.Folds.{list_any_at}
 use Rattle.std.proofs.lemmas.List.Quantifiers.{position-Some}
@@ -17,6 +17,7 @@ use Rattle.prop_cells.specs.Reach.{Reaches, IsRelatedAt}
 use Rattle.prop_cells.specs.Reach.Reaches.{stated, passed}
 use Rattle.prop_cells.specs.Data.{Data, Entry, IsKept, IsFounded, beliefs, content_of, problem_of}
 use Rattle.prop_scheduler.specs.Turns.{IsUnderWay}
+use Rattle.prop_scheduler.specs.Watching.{IsWatched}
 use Rattle.prop_scheduler.proofs.UnderWay.{under_way_believed}
 use Rattle.prop_workbench.specs.Sessions.{AreKnown}
 
@@ -73,12 +74,18 @@ agree_beliefs library d n s t kept known agree = λ i cell. merge_of_all Nothing
 pub under_way_agree : (library : List Stored) (d : Data) (n : ℕ) (line : List ℕ) (s t : Premises) → AreKnown n d.statements → ((p : ℕ) → p < n → t p ≡ s p) → IsUnderWay library s d line → IsUnderWay library t d line
 under_way_agree library d n line s t known agree u = under_way_believed library s t d line (agree_beliefs library d n s t u.kept known agree) u
 
+pub watched_agree : (library : List Stored) (d : Data) (n : ℕ) (watched : List ℕ) (s t : Premises) → IsKept library d → AreKnown n d.statements → ((p : ℕ) → p < n → t p ≡ s p) → IsWatched s d watched → IsWatched t d watched
+watched_agree library d n watched s t kept known agree w = record {
+  below = w.below;
+  holds = λ cell clash. w.holds cell (sym (λ i. agree_beliefs library d n s t kept known agree i cell) ∙ clash);
+}
+
 -- ---- a new name, and without it
 
 pub with_new_name : (os : List Origin) (name : List ℕ) → premise_number os name ≡ None → with_name os name ≡ os ++ User name true ∷ []
 with_new_name os name none = rw none refl
 
-take_front : {X : Type 0} (xs ys : List X) → take (length xs) (xs ++ ys) ≡ xs
+pub take_front : {X : Type 0} (xs ys : List X) → take (length xs) (xs ++ ys) ≡ xs
 take_front [] ys = refl
 take_front (x ∷ xs) ys = ap (λ zs. x ∷ zs) (take_front xs ys)
 

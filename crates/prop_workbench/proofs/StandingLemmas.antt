@@ -18,7 +18,8 @@ use Rattle.prop_amb.specs.Search.{Stand, IsStand, IsSearch, choices_in}
 use Rattle.prop_amb.specs.Moving.{interned}
 use Rattle.prop_amb.proofs.KeepingLaws.{search_extends}
 use Rattle.prop_workbench.specs.Sessions.{IsAtWork}
-use Rattle.prop_workbench.proofs.PremiseLemmas.{known_more, under_way_agree}
+use Rattle.prop_scheduler.specs.Watching.{IsWatched}
+use Rattle.prop_workbench.proofs.PremiseLemmas.{known_more, under_way_agree, watched_agree}
 
 -- ---- a belief
 
@@ -34,15 +35,17 @@ length-with_belief_at [] p b = refl
 length-with_belief_at (o ∷ os) zero b = refl
 length-with_belief_at (o ∷ os) (suc p) b = ap suc (length-with_belief_at os p b)
 
--- a search in which one premise is believed, or not, is at work where all instances wait
+-- a search in which one premise is believed, or not, is at work where it is under way
 pub believing_at_work : (library : List Stored) (old new : Stand) (p : ℕ) (b : Bool) (d : Data) (before after : Waiting) → IsAtWork library old d before → new.premises ≡ with_belief_at old.premises p b → IsStand new →
-    (IsSearch (problem_of library d) old → IsSearch (problem_of library d) new) → IsUnderWay library (set_of new.worldview) d after.line → after.room ≡ before.room → IsAtWork library new d after
-believing_at_work library old new p b d before after work changed stand search under_way room = record {
+    (IsSearch (problem_of library d) old → IsSearch (problem_of library d) new) → IsUnderWay library (set_of new.worldview) d after.line → after.room ≡ before.room → IsWatched (set_of new.worldview) d after.watched → after.cells ≡ before.cells → IsAtWork library new d after
+believing_at_work library old new p b d before after work changed stand search under_way room watch space = record {
   under_way = under_way;
   well_made = stand;
   search = search work.search;
   known = rw (changed, length-with_belief_at old.premises p b) work.known;
   roomy = rw room work.roomy;
+  watched = watch;
+  cells = rw space work.cells;
 }
 
 pub believing_covers : (old new : Stand) (p : ℕ) (b : Bool) → new.premises ≡ with_belief_at old.premises p b → new.listed ≡ old.listed → (m : Members) → IsCovered (choices_in old) old.listed m → IsCovered (choices_in new) new.listed m
@@ -74,8 +77,8 @@ stated_kinds d new x e = ap (λ (y : Data). y.kinds) e
 -- a statement under a premise that there is, or under none
 pub stated_at_work : (library : List Stored) (stand : Stand) (d new : Data) (before after : Waiting) (x : Statement) → IsAtWork library stand d before →
     new ≡ record d { statements = d.statements ++ x ∷ []; contents = new.contents } → ((p : ℕ) → x.premise ≡ Some p → p < length stand.premises) → IsUnderWay library (set_of stand.worldview) new after.line → after.room ≡ before.room →
-    IsAtWork library stand new after
-stated_at_work library stand d new before after x work e known under_way room =
+    IsWatched (set_of stand.worldview) new after.watched → after.cells ≡ before.cells → IsAtWork library stand new after
+stated_at_work library stand d new before after x work e known under_way room watch space =
     let n = length stand.premises in
     record {
       under_way = under_way;
@@ -83,6 +86,8 @@ stated_at_work library stand d new before after x work e known under_way room =
       search = search_extends (problem_of library d) (problem_of library new) stand (extends_stated library d new x e) work.search;
       known = rw (ap (λ (y : Data). y.statements) e) (known_more n n d.statements x (omega arith) work.known known);
       roomy = rw (room, ap (λ (y : Data). y.instances) e) work.roomy;
+      watched = watch;
+      cells = rw (space, ap (λ (y : Data). y.kinds) e) work.cells;
     }
 
 -- ---- a new name
@@ -118,6 +123,8 @@ named_at_work library old new name d agenda work none made stand search =
       search = search work.search;
       known = All-weaker (λ y. (p : ℕ) → y.premise ≡ Some p → p < n) (λ y. (p : ℕ) → y.premise ≡ Some p → p < length new.premises) (λ y h p e. let l = h p e in omega (arith, l, more)) d.statements work.known;
       roomy = work.roomy;
+      watched = rw (ap (λ (t : Stand). t.worldview) is) (watched_agree library d n agenda.watched (set_of old.worldview) (set_of (old.worldview ++ n ∷ [])) work.under_way.kept work.known (λ p l. set_before old.worldview n p l) work.watched);
+      cells = work.cells;
     }
 
 pub named_covers : (old new : Stand) (name : List ℕ) → new ≡ interned old name → premise_number old.premises name ≡ None → (m : Members) → IsCovered (choices_in old) old.listed m → IsCovered (choices_in new) new.listed m

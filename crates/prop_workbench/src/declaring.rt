@@ -124,7 +124,7 @@ impl<R: Rule + Drop, O: Order + Drop> Session<R, O> {
             Ok(()) => {}
             Err(AllocError) => return Err(Refusal::Memory),
         }
-        match new_cell(&mut self.network, kind) {
+        match new_cell(&mut self.network, &mut self.agenda, kind) {
             Ok(()) => Ok(()),
             Err(refusal) => {
                 self.names.pop();

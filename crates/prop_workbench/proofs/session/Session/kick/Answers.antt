@@ -26,7 +26,7 @@ returns-in-Ok-Some-clause-keeps g c =
     record {
       library = refl;
       sound = record {
-        at_work = believing_at_work library s.search new p false s.network.cells s.agenda c.alert_shifted.new.agenda sound.at_work changed c.well_made.ensures (c.kick.ensures.search (problem_of library s.network.cells)) (rw c.worldview.ensures at c.alert_shifted.ensures.under_way) c.alert_shifted.ensures.room;
+        at_work = believing_at_work library s.search new p false s.network.cells s.agenda c.alert_shifted.new.agenda sound.at_work changed c.well_made.ensures (c.kick.ensures.search (problem_of library s.network.cells)) (rw c.worldview.ensures at c.alert_shifted.ensures.under_way) c.alert_shifted.ensures.room (rw c.worldview.ensures at c.alert_shifted.ensures.watched) c.alert_shifted.ensures.cells;
         sized = sound.sized;
         locals = sound.locals;
         named = sound.named;

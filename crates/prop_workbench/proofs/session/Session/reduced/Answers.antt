@@ -23,6 +23,12 @@ reduce-ended-requires-clause-line g c = c.requires.sound.at_work.under_way.line_
 pub reduce-ended-requires-clause-room : goal.reduce-ended-requires-clause-room
 reduce-ended-requires-clause-room g c = c.requires.sound.at_work.roomy
 
+pub reduce-ended-requires-clause-watched : goal.reduce-ended-requires-clause-watched
+reduce-ended-requires-clause-watched g c = c.requires.sound.at_work.watched.below
+
+pub reduce-ended-requires-clause-cells : goal.reduce-ended-requires-clause-cells
+reduce-ended-requires-clause-cells g c = c.requires.sound.at_work.cells
+
 pub reduce-ended-requires-clause-cell : goal.reduce-ended-requires-clause-cell
 reduce-ended-requires-clause-cell g c =
     let s = c.args.self.now in
@@ -58,6 +64,8 @@ returns-in-Ok-clause-keeps g c =
           search = rw (same_problem library library' s.network.cells t.network.cells (λ i. stored_of g.R.Rule.value_of (e.same i)) e.rest) sound.at_work.search;
           known = rw e.rest sound.at_work.known;
           roomy = rw (e.room, e.rest) sound.at_work.roomy;
+          watched = e.watched (set_of s.search.worldview);
+          cells = rw (e.cells, e.rest) sound.at_work.cells;
         };
         sized = rw e.rest sound.sized;
         locals = sound.locals;
@@ -119,6 +127,8 @@ returns-in-Err-clause-keeps g c =
           search = rw (same_problem library library' s.network.cells t.network.cells (λ i. stored_of g.R.Rule.value_of (e.same i)) e.rest) sound.at_work.search;
           known = rw e.rest sound.at_work.known;
           roomy = rw (e.room, e.rest) sound.at_work.roomy;
+          watched = e.watched (set_of s.search.worldview);
+          cells = rw (e.cells, e.rest) sound.at_work.cells;
         };
         sized = rw e.rest sound.sized;
         locals = sound.locals;

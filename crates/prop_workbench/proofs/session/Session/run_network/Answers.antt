@@ -20,6 +20,8 @@ returns-clause-keeps g c =
           search = rw (same_problem library library' s.network.cells t.network.cells (λ i. stored_of g.R.Rule.value_of (e.same i)) rest) e.search;
           known = rw (e.premises, rest) c.requires.sound.at_work.known;
           roomy = rw (e.room, rest) c.requires.sound.at_work.roomy;
+          watched = e.watched;
+          cells = rw (e.cells, rest) c.requires.sound.at_work.cells;
         };
         sized = rw rest c.requires.sound.sized;
         locals = c.requires.sound.locals;

@@ -28,6 +28,12 @@ state-requires-clause-under_way g c =
     let library = stored_of g.R.Rule.value_of s.network.library in
     rw c.worldview.ensures (named_at_work library s.search c.intern.new.self c.args.name.now s.network.cells s.agenda c.requires.sound.at_work c.requires.new c.in-Ok.ensures.ok c.well_made.ensures (c.intern.ensures.search (problem_of library s.network.cells))).under_way
 
+pub state-requires-clause-watched : goal.state-requires-clause-watched
+state-requires-clause-watched g c =
+    let s = c.args.self.now in
+    let library = stored_of g.R.Rule.value_of s.network.library in
+    rw c.worldview.ensures (named_at_work library s.search c.intern.new.self c.args.name.now s.network.cells s.agenda c.requires.sound.at_work c.requires.new c.in-Ok.ensures.ok c.well_made.ensures (c.intern.ensures.search (problem_of library s.network.cells))).watched
+
 pub returns-in-Ok-state-clause-keeps : goal.returns-in-Ok-state-clause-keeps
 returns-in-Ok-state-clause-keeps g c =
     let s = c.args.self.now in
@@ -45,7 +51,7 @@ returns-in-Ok-state-clause-keeps g c =
       library = c.state.ensures.same;
       sound = record {
         at_work = rw c.state.ensures.same (stated_at_work library new s.network.cells c.state.new.network.cells s.agenda c.state.new.agenda statement named rest
-            (new_number s.search new name c.in-Ok.premise c.requires.new made c.in-Ok.ensures.number) under_way c.state.ensures.room);
+            (new_number s.search new name c.in-Ok.premise c.requires.new made c.in-Ok.ensures.number) under_way c.state.ensures.room (rw c.worldview.ensures at c.state.ensures.watched) c.state.ensures.cells);
         sized = rw kinds sound.sized;
         locals = sound.locals;
         named = rw kinds sound.named;

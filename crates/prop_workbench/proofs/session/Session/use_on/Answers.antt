@@ -43,6 +43,8 @@ returns-in-Ok-clause-keeps g c = record {
               (search_added library d made s.search (record { fresh = c.in-Ok.flat.fresh.items; made = _; kinds = refl; statements = refl; instances = refl }) was.at_work.search));
           known = made_or_not (λ (x : Data). AreKnown (length s.search.premises) x.statements) d new made c.make.result c.make.ensures.ok c.make.ensures.err_same was.at_work.known was.at_work.known;
           roomy = c.make.ensures.room was.at_work.roomy;
+          watched = c.make.ensures.watched (set_of s.search.worldview) was.at_work.watched;
+          cells = c.make.ensures.cells was.at_work.cells;
         };
         sized = made_or_not (λ (x : Data). All (IsSized s.words) x.kinds) d new made c.make.result c.make.ensures.ok c.make.ensures.err_same was.sized
             (sized_made library s.words s.definitions d c.args.name.now cells (given_by s.words (by_of c.args.by)) c.in-Ok.flat c.in-Ok.ensures.ok was.sized was.locals);
