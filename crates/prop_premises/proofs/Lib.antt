@@ -1,6 +1,8 @@
 pub mod SetLemmas
 pub mod MergeLemmas
 pub mod FlagLemmas
+pub mod BitLemmas
+pub mod WordLemmas
 pub mod OriginLemmas
 pub mod WithinLemmas
 pub mod ChoiceLemmas

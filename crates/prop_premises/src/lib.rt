@@ -4,10 +4,10 @@
 pub mod choice;
 mod named;
 pub mod numbers;
-mod order;
 pub mod premise_set;
 pub mod premises;
 mod table;
+mod words;
 pub mod worldview;
 
 pub use choice::Choice;

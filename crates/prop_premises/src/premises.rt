@@ -9,6 +9,7 @@ use crate::choice::Choice;
 use crate::named::Kind;
 use crate::premise_set::Premise;
 use crate::table::Table;
+use crate::words::Words;
 use crate::worldview::Worldview;
 use prop_lattice::{Limit, Refusal};
 use std::alloc::{AllocError, Global};
@@ -34,17 +35,17 @@ impl Model for Premises {
     ghost invariant = { λ p. p.choices.items ≡ choices_of p.table };
 }
 
-/// Sets the flag of each hypothetical premise that the list of sides takes.
-fn set_sides(flags: &mut [bool], choices: &[Choice], sides: &[u8])
+/// Adds each hypothetical premise that the list of sides takes.
+fn add_sides(beliefs: &mut Words, choices: &[Choice], sides: &[u8]) -> Result<(), AllocError>
     requires list { IsChoiceList choices.now sides.now }
-    requires room { (p : ℕ) → IsTrue (is_hypothetical choices.now p) → p < length flags.old }
-    ensures len { length flags.new ≡ length flags.old }
-    ensures set { IsSame (λ p. get_or flags.new p false) (union (λ p. get_or flags.old p false) (hypotheticals_of choices.now sides.now)) }
+    requires room { (p : ℕ) → IsTrue (is_hypothetical choices.now p) → p < 4_096 }
+    ensures { OnOk result (IsSame (set_of beliefs.new) (union (set_of beliefs.old) (hypotheticals_of choices.now sides.now))) }
 {
     for place in 0..choices.len() {
-        let side = usize::from(sides[place]) - 1;
-        flags[usize::from(choices[place].first) + side] = true;
+        let side = Premise::from(sides[place]) - 1;
+        beliefs.insert(choices[place].first + side)?;
     }
+    Ok(())
 }
 
 impl Premises {
@@ -243,22 +244,24 @@ impl Premises {
         requires { IsChoiceList (choices_of self.now) sides.now }
         ensures { IfOk result (λ w. IsSame (set_of w) (worldview (believed_in self.now) (choices_of self.now) sides.now)) }
     {
-        let mut flags = self.flags()?;
+        let mut beliefs = self.believed()?;
         self.numbered();
-        set_sides(&mut flags, &self.choices, sides);
-        Ok(Worldview::from_flags(flags))
+        add_sides(&mut beliefs, &self.choices, sides)?;
+        Ok(Worldview::from_words(beliefs))
     }
 
-    /// Whether each premise is believed.
-    fn flags(&self) -> Result<Vec<bool>, AllocError>
-        ensures len { IfOk result (λ v. length v.items ≡ length self.now) }
-        ensures flags { IfOk result (λ v. IsSame (λ p. get_or v.items p false) (believed_in self.now)) }
+    /// The believed premises of the user's.
+    fn believed(&self) -> Result<Words, AllocError>
+        ensures { IfOk result (λ w. IsSame (set_of w) (believed_in self.now)) }
     {
-        let mut flags = Vec::with_capacity(self.table.alloc(), self.table.len())?;
-        for premise in 0..self.table.len() {
-            flags.push(self.is_in(premise as Premise))?;
+        let mut beliefs = Words::empty(self.table.alloc());
+        for number in 0..self.table.len() {
+            let premise = number as Premise;
+            if self.is_in(premise) {
+                beliefs.insert(premise)?;
+            }
         }
-        Ok(flags)
+        Ok(beliefs)
     }
 
     /// Drops the names from number `count` on, where a name starts. It takes no memory.

@@ -1,0 +1,24 @@
+use Rattle.std.proofs.Common.{◌≡◌, ◌∙◌, ◌||◌, ap, Result, Ok, Err, IfOk}
+use Rattle.prop_premises.specs.Words.{has_bit}
+use Rattle.prop_premises.proofs.WordLemmas.{set_of-both, set_of-both_swapped}
+use Rattle.prop_premises.proofs.words.Words.union.Goals as goal
+
+if_ok : {T E : Type 0} {P : T → Type 0} {Q : T → Type 0} (r : Result T E) → ((x : T) → P x → Q x) → IfOk r P → IfOk r Q
+if_ok (Ok x) f h = f x h
+if_ok (Err e) f h = tt
+
+pub returns-then-len : goal.returns-then-len
+returns-then-len c =
+    let words = c.self.inside.words.items in
+    let others = c.other.inside.words.items in
+    rw (← c.self.view_is, ← c.other.view_is) (if_ok c.united.result (λ w h p. h p
+    ∙ ap (λ ws. has_bit ws p || has_bit c.deref-then-len.result.now p) c.deref.ensures ∙ ap (λ ws. has_bit others p || has_bit ws p) c.deref-then-len.ensures
+    ∙ set_of-both_swapped words others p) c.united.ensures)
+
+pub returns-else-len : goal.returns-else-len
+returns-else-len c =
+    let words = c.self.inside.words.items in
+    let others = c.other.inside.words.items in
+    rw (← c.self.view_is, ← c.other.view_is) (if_ok c.united-else-len.result (λ w h p. h p
+    ∙ ap (λ ws. has_bit ws p || has_bit c.deref-else-len-2.result.now p) c.deref-else-len.ensures ∙ ap (λ ws. has_bit words p || has_bit ws p) c.deref-else-len-2.ensures
+    ∙ set_of-both words others p) c.united-else-len.ensures)

@@ -1,0 +1,21 @@
+use Rattle.std.proofs.Common.{◌≡◌, ◌∙◌, ℕ, ◌||◌, sym, ap, arith, length, get_or, bit_or, subst}
+use Rattle.prop_premises.specs.Words.{has_bit, IsForm, numbers_of}
+use Rattle.prop_premises.specs.Sets.{set_of}
+use Rattle.prop_premises.proofs.WordLemmas.{refilled, has_bit-unite, IsForm-unite, set_of-numbers_of}
+use Rattle.prop_premises.proofs.words.united.Goals as goal
+
+pub unite-requires : goal.unite-requires
+unite-requires c = omega (arith, c.requires.order, ap length c.deref_mut.ensures.value, ap length c.in_ok-words.ensures.ok)
+
+pub invariant_of-result : goal.invariant_of-result
+invariant_of-result c =
+    let lent = c.deref_mut.ensures.value ∙ c.in_ok-words.ensures.ok in
+    let bits = has_bit-unite c.args.long.now c.args.short.now c.unite.new.words (λ k. c.unite.ensures.bits k ∙ ap (λ ws. bit_or (get_or ws k 0) (get_or c.args.short.now k 0)) lent) in
+    rw (refilled c.in_ok-words.words.items c.unite.new.words (c.unite.ensures.len ∙ ap length c.deref_mut.ensures.value))
+    (IsForm-unite c.args.long.now c.args.short.now c.unite.new.words c.requires.form (c.unite.ensures.len ∙ ap length lent) bits)
+
+pub returns : goal.returns
+returns c p =
+    let lent = c.deref_mut.ensures.value ∙ c.in_ok-words.ensures.ok in
+    rw (refilled c.in_ok-words.words.items c.unite.new.words (c.unite.ensures.len ∙ ap length c.deref_mut.ensures.value))
+    (set_of-numbers_of c.unite.new.words p ∙ has_bit-unite c.args.long.now c.args.short.now c.unite.new.words (λ k. c.unite.ensures.bits k ∙ ap (λ ws. bit_or (get_or ws k 0) (get_or c.args.short.now k 0)) lent) p)

@@ -1,0 +1,247 @@
+//! Sets of numbers as words of bits.
+ghost use Rattle.std.specs.Prelude.{◌≡◌, ◌↔◌, ◌<◌, ◌≤◌, ◌+◌, ◌*◌, ◌/◌, ◌%◌, ◌^◌, ℕ, List, [], ◌∷◌, ◌++◌, Bool, true, false, not, ◌&&◌, ◌==◌, length, nat_lt, filter, bit_or, slice_index, IsTrue, IsOk, IfOk, OnOk, OnErr};
+ghost use Rattle.std.specs.List.Sorted.{IsStrictlyIncreasing};
+ghost use Rattle.prop_premises.specs.Sets.{set_of, union, without, is_within, is_below, is_at_most_one_of, IsSame, IsBelow};
+ghost use Rattle.prop_premises.specs.Words.{has_bit, HasFrom, IsTrimmed, IsForm};
+
+use crate::numbers::Numbers;
+use smallvec::SmallVec;
+use std::alloc::{AllocError, Global};
+use std::marker::Model;
+
+/// How many bits a word has.
+const BITS: usize = 64;
+
+/// A set of numbers below 2^16: number `p` is in it where bit `p % 64` of word `p / 64` is set. The last word has a bit, so that a set has one form.
+/// A set of numbers below 128 takes no memory.
+#[derive(Drop)]
+pub(crate) struct Words {
+    words: SmallVec<u64, 2>,
+}
+
+impl Model for Words {
+    ghost use Rattle.std.specs.Prelude.{List, ℕ};
+    ghost use Rattle.prop_premises.specs.Words.{numbers_of, IsForm};
+
+    ghost Value = { List ℕ };
+
+    ghost view = { λ w. numbers_of w.words.items };
+
+    ghost invariant = { λ w. IsForm w.words.items };
+}
+
+/// The place of the word that has the number's bit.
+fn place_of(number: u16) -> usize
+    ensures { result ≡ number / 64 }
+{
+    usize::from(number) / BITS
+}
+
+/// The word with the number's bit alone.
+fn bit_of(number: u16) -> u64
+    ensures { result ≡ 2 ^ (number % 64) }
+{
+    1 << (number % 64)
+}
+
+/// The word at a place, one without bits past the last.
+fn word_at(words: &[u64], place: usize) -> u64
+    ensures { result ≡ slice_index words.now place }
+{
+    words.get(place).copied().unwrap_or(0)
+}
+
+/// How many words there are up to the last that has a bit.
+fn trimmed_len(words: &[u64]) -> usize
+    ensures within { result ≤ length words.now }
+    ensures last { (n : ℕ) → result ≡ n + 1 → HasFrom words.now n }
+    ensures rest { (k : ℕ) → result ≤ k → slice_index words.now k ≡ 0 }
+{
+    let mut len = words.len();
+    while len > 0 && words[len - 1] == 0 {
+        len -= 1;
+    }
+    len
+}
+
+/// Drops the last words as far as they have no bit.
+fn trim(words: &mut SmallVec<u64, 2>)
+    ensures bits { (p : ℕ) → has_bit words.new.items p ≡ has_bit words.old.items p }
+    ensures trimmed { IsTrimmed words.new.items }
+    ensures len { length words.new.items ≤ length words.old.items }
+{
+    let len = trimmed_len(words);
+    words.truncate(len);
+}
+
+/// Clears the number's bit.
+fn clear(words: &mut [u64], number: u16)
+    ensures len { length words.new ≡ length words.old }
+    ensures bits { (p : ℕ) → has_bit words.new p ≡ (has_bit words.old p && not (number == p)) }
+{
+    let place = place_of(number);
+    if place < words.len() {
+        words[place] &= !bit_of(number);
+    }
+}
+
+/// Sets the bits of further words, of which there are no more than of these.
+fn unite(words: &mut [u64], more: &[u64])
+    requires { length more.now ≤ length words.old }
+    ensures len { length words.new ≡ length words.old }
+    ensures bits { (k : ℕ) → slice_index words.new k ≡ bit_or (slice_index words.old k) (slice_index more.now k) }
+{
+    for place in 0..more.len() {
+        words[place] |= more[place];
+    }
+}
+
+/// Whether each bit of the words is set in the others.
+fn is_part(words: &[u64], others: &[u64]) -> bool
+    ensures part { result ≡ true → (p : ℕ) → IsTrue (has_bit words.now p) → IsTrue (has_bit others.now p) }
+    ensures apart { result ≡ false → (p : ℕ) × IsTrue (has_bit words.now p) × (has_bit others.now p ≡ false) }
+{
+    for place in 0..words.len() {
+        if words[place] & !word_at(others, place) != 0 {
+            return false;
+        }
+    }
+    true
+}
+
+/// One above the number of the last bit that is set, 0 where none is.
+fn end_of(words: &[u64]) -> usize
+    requires { IsForm words.now }
+    ensures above { (p : ℕ) → IsTrue (has_bit words.now p) → p < result }
+    ensures last { (p : ℕ) → result ≡ p + 1 → IsTrue (has_bit words.now p) }
+{
+    match words.last() {
+        Some(word) => BITS * words.len() - word.leading_zeros() as usize,
+        None => 0,
+    }
+}
+
+/// The numbers of both, of which the second have no more words.
+fn united(alloc: Global, long: &[u64], short: &[u64]) -> Result<Words, AllocError>
+    requires form { IsForm long.now }
+    requires order { length short.now ≤ length long.now }
+    ensures { IfOk result (λ w. IsSame (set_of w) (union (has_bit long.now) (has_bit short.now))) }
+{
+    let mut words = SmallVec::from_slice(alloc, long)?;
+    unite(&mut words, short);
+    Ok(Words { words })
+}
+
+impl Words {
+    /// The set of no numbers. It takes no memory.
+    pub(crate) fn empty(alloc: Global) -> Words
+        ensures { result ≡ [] }
+    {
+        Words {
+            words: SmallVec::new(alloc),
+        }
+    }
+
+    /// Whether the number is in the set. It takes no memory.
+    pub(crate) fn has(&self, number: u16) -> bool
+        ensures { result ≡ set_of self.now number }
+    {
+        word_at(&self.words, place_of(number)) & bit_of(number) != 0
+    }
+
+    /// Whether the set has no number. It takes no memory.
+    pub(crate) fn is_empty(&self) -> bool
+        ensures { IsTrue result ↔ (self.now ≡ []) }
+    {
+        self.words.is_empty()
+    }
+
+    /// Whether each number of the set is in the other. It takes no memory.
+    pub(crate) fn is_part_of(&self, other: &Words) -> bool
+        ensures { result ≡ is_within (set_of other.now) self.now }
+    {
+        is_part(&self.words, &other.words)
+    }
+
+    /// Whether the set has no number, or a single one that is in the other set. It takes no memory.
+    pub(crate) fn is_at_most_one_of(&self, other: &Words) -> bool
+        ensures { result ≡ is_at_most_one_of (set_of other.now) self.now }
+    {
+        let mut numbers = self.iter();
+        match numbers.next() {
+            Some(first) => other.has(first) && numbers.next().is_none(),
+            None => true,
+        }
+    }
+
+    /// Whether each number of the set is below the bound. It takes no memory.
+    pub(crate) fn is_below(&self, bound: usize) -> bool
+        ensures { result ≡ is_below bound self.now }
+    {
+        end_of(&self.words) <= bound
+    }
+
+    /// One more number is in the set. After want of memory nothing has changed.
+    pub(crate) fn insert(&mut self, number: u16) -> Result<(), AllocError>
+        ensures has { OnOk result (IsSame (set_of self.new) (union (set_of self.old) (set_of (number ∷ [])))) }
+        ensures last { OnOk result (IsBelow number (set_of self.old) → self.new ≡ self.old ++ number ∷ []) }
+        ensures err { OnErr result (self.new ≡ self.old) }
+    {
+        let place = place_of(number);
+        let len = self.words.len().max(place + 1);
+        self.words.resize(len, 0)?;
+        self.words[place] |= bit_of(number);
+        Ok(())
+    }
+
+    /// Only the numbers below the bound stay. It takes no memory.
+    pub(crate) fn keep_below(&mut self, bound: u16)
+        ensures { self.new ≡ filter (λ p. nat_lt p bound) self.old }
+    {
+        let place = place_of(bound);
+        if place < self.words.len() {
+            self.words.truncate(place + 1);
+            self.words[place] &= bit_of(bound) - 1;
+            trim(&mut self.words);
+        }
+    }
+
+    /// The numbers of both sets.
+    pub(crate) fn union(&self, other: &Words) -> Result<Words, AllocError>
+        ensures { IfOk result (λ w. IsSame (set_of w) (union (set_of self.now) (set_of other.now))) }
+    {
+        let alloc = *self.words.allocator();
+        if self.words.len() < other.words.len() {
+            united(alloc, &other.words, &self.words)
+        } else {
+            united(alloc, &self.words, &other.words)
+        }
+    }
+
+    /// The set, but for one number.
+    pub(crate) fn without(&self, number: u16) -> Result<Words, AllocError>
+        ensures { IfOk result (λ w. IsSame (set_of w) (without (set_of self.now) number)) }
+    {
+        let mut words = SmallVec::from_slice(*self.words.allocator(), &self.words)?;
+        clear(&mut words, number);
+        trim(&mut words);
+        Ok(Words { words })
+    }
+
+    /// The same set again.
+    pub(crate) fn copy(&self) -> Result<Words, AllocError>
+        ensures same { IfOk result (λ w. w ≡ self.now) }
+        ensures none { self.now ≡ [] → IsOk result }
+    {
+        let words = SmallVec::from_slice(*self.words.allocator(), &self.words)?;
+        Ok(Words { words })
+    }
+
+    /// The numbers in order.
+    pub(crate) fn iter(&self) -> Numbers<'_>
+        ensures all { result ≡ self.now }
+        ensures ordered { IsStrictlyIncreasing self.now }
+    {
+        Numbers::new(&self.words)
+    }
+}
