@@ -245,7 +245,7 @@ impl Premises {
         ensures { IfOk result (λ w. IsSame (set_of w) (worldview (believed_in self.now) (choices_of self.now) sides.now)) }
     {
         let mut beliefs = self.believed()?;
-        self.numbered();
+        self.table.numbered();
         add_sides(&mut beliefs, &self.choices, sides)?;
         Ok(Worldview::from_words(beliefs))
     }

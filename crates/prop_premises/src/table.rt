@@ -186,6 +186,7 @@ impl Table {
     pub(crate) fn numbered(&self)
         ensures numbered { IsNumbered self.now }
         ensures below { (p : ℕ) → IsTrue (is_hypothetical (choices_of self.now) p) → p < length self.now }
+        ensures bound { length self.now ≤ 4_096 }
     {
         let _names = &self.names;
     }

@@ -1,5 +1,5 @@
 //! Sets of numbers as words of bits.
-ghost use Rattle.std.specs.Prelude.{◌≡◌, ◌↔◌, ◌<◌, ◌≤◌, ◌+◌, ◌*◌, ◌/◌, ◌%◌, ◌^◌, ℕ, List, [], ◌∷◌, ◌++◌, Bool, true, false, not, ◌&&◌, ◌==◌, length, nat_lt, filter, bit_or, slice_index, IsTrue, IsOk, IfOk, OnOk, OnErr};
+ghost use Rattle.std.specs.Prelude.{◌≡◌, ◌↔◌, ◌<◌, ◌≤◌, ◌+◌, ◌*◌, ◌/◌, ◌%◌, ◌^◌, ℕ, List, [], ◌∷◌, ◌++◌, Bool, true, false, not, ◌&&◌, ◌==◌, length, max, nat_lt, filter, bit_or, slice_index, IsTrue, IsOk, IfOk, OnOk, OnErr};
 ghost use Rattle.std.specs.List.Sorted.{IsStrictlyIncreasing};
 ghost use Rattle.prop_premises.specs.Sets.{set_of, union, without, is_within, is_below, is_at_most_one_of, IsSame, IsBelow};
 ghost use Rattle.prop_premises.specs.Words.{has_bit, HasFrom, IsTrimmed, IsForm};
@@ -72,6 +72,19 @@ fn trim(words: &mut SmallVec<u64, 2>)
 {
     let len = trimmed_len(words);
     words.truncate(len);
+}
+
+/// Puts words without bits last until there are so many. After want of memory nothing has changed.
+fn reach(words: &mut SmallVec<u64, 2>, count: usize) -> Result<(), AllocError>
+    ensures len { OnOk result (length words.new.items ≡ max (length words.old.items) count) }
+    ensures bits { OnOk result ((p : ℕ) → has_bit words.new.items p ≡ has_bit words.old.items p) }
+    ensures err { OnErr result (words.new.items ≡ words.old.items) }
+{
+    if words.len() < count {
+        words.resize(count, 0)
+    } else {
+        Ok(())
+    }
 }
 
 /// Clears the number's bit.
@@ -188,8 +201,7 @@ impl Words {
         ensures err { OnErr result (self.new ≡ self.old) }
     {
         let place = place_of(number);
-        let len = self.words.len().max(place + 1);
-        self.words.resize(len, 0)?;
+        reach(&mut self.words, place + 1)?;
         self.words[place] |= bit_of(number);
         Ok(())
     }
