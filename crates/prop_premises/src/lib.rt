@@ -1,6 +1,7 @@
 //! Premises by name, sets of them, and which of them are believed.
 #![tactic(auto)]
 
+mod bits;
 pub mod choice;
 mod named;
 pub mod numbers;

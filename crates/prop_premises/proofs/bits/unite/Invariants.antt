@@ -1,5 +1,5 @@
 use Rattle.std.proofs.Common.{◌≡◌, ◌<◌, ◌≤◌, ℕ, length, slice_index, bit_or}
-use Rattle.prop_premises.proofs.words.unite.Given as goal
+use Rattle.prop_premises.proofs.bits.unite.Given as goal
 
 abbrev pub invariant-loop-place : goal.invariant-loop-place
 invariant-loop-place l = record {

@@ -2,7 +2,7 @@ use Rattle.std.proofs.Common.{◌≡◌, ◌≤◌, ◌+◌, ◌-◌, ◌∙◌,
 use Rattle.std.specs.Int.{w64}
 use Rattle.std.proofs.Math.Facts.{Fits-lt-pow}
 use Rattle.prop_premises.proofs.WordLemmas.{end_is, within_words}
-use Rattle.prop_premises.proofs.words.end_of.Goals as goal
+use Rattle.prop_premises.proofs.bits.end_of.Goals as goal
 
 pub overflow_mul-result : goal.overflow_mul-result
 overflow_mul-result c = omega (arith, c.requires.in_range)

@@ -1,6 +1,6 @@
 use Rattle.std.proofs.Common.{arith}
 use Rattle.prop_premises.proofs.WordLemmas.{has_bit-cleared, has_bit-not_there}
-use Rattle.prop_premises.proofs.words.clear.Goals as goal
+use Rattle.prop_premises.proofs.bits.clear.Goals as goal
 
 pub returns-then-place-words-clause-bits : goal.returns-then-place-words-clause-bits
 returns-then-place-words-clause-bits c p =

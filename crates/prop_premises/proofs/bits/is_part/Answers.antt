@@ -5,7 +5,7 @@ use Rattle.std.proofs.lemmas.Bool.{cases_lt}
 use Rattle.prop_premises.specs.Words.{is_set, has_bit}
 use Rattle.prop_premises.proofs.BitLemmas.{is_set-part, is_set-apart}
 use Rattle.prop_premises.proofs.WordLemmas.{within_words, is_number}
-use Rattle.prop_premises.proofs.words.is_part.Goals as goal
+use Rattle.prop_premises.proofs.bits.is_part.Goals as goal
 
 pub returns-then-words-place-ne0-clause-apart : goal.returns-then-words-place-ne0-clause-apart
 returns-then-words-place-ne0-clause-apart c = λ _.

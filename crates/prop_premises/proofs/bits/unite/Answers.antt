@@ -2,7 +2,7 @@ use Rattle.std.proofs.Common.{◌≤◌, ◌∙◌, sym, ap, arith, get_or, bit_
 use Rattle.std.proofs.lemmas.Bool.{cases_lt}
 use Rattle.std.proofs.lemmas.List.{get_or_past}
 use Rattle.std.specs.Int.Bits.{or_zero_r}
-use Rattle.prop_premises.proofs.words.unite.Goals as goal
+use Rattle.prop_premises.proofs.bits.unite.Goals as goal
 
 pub returns-clause-bits : goal.returns-clause-bits
 returns-clause-bits c k = elim (cases_lt k c.loop-place.place) [

@@ -3,7 +3,7 @@ use Rattle.std.specs.Int.{w64}
 use Rattle.std.proofs.Math.Facts.{Fits-lt-pow}
 use Rattle.prop_premises.specs.Words.{HasFrom}
 use Rattle.prop_premises.proofs.WordLemmas.{HasFrom-word}
-use Rattle.prop_premises.proofs.words.trimmed_len.Goals as goal
+use Rattle.prop_premises.proofs.bits.trimmed_len.Goals as goal
 
 pub returns-else-words-len-eq0-clause-last : goal.returns-else-words-len-eq0-clause-last
 returns-else-words-len-eq0-clause-last c n e =
