@@ -62,7 +62,7 @@ impl PremiseSet {
     pub fn copy(&self) -> Result<PremiseSet, AllocError>
         ensures { IfOk result (λ s. s ≡ self.now) }
     {
-        let numbers = self.numbers.copy()?;
+        let numbers = self.numbers.copy(self.numbers.alloc())?;
         Ok(PremiseSet { numbers })
     }
 

@@ -72,6 +72,10 @@ impl Words {
         }
     }
 
+    pub(crate) fn alloc(&self) -> Global {
+        *self.words.allocator()
+    }
+
     /// Whether the number is in the set. It takes no memory.
     pub(crate) fn has(&self, number: u16) -> bool
         ensures { result ≡ set_of self.now number }
@@ -139,7 +143,7 @@ impl Words {
     pub(crate) fn union(&self, other: &Words) -> Result<Words, AllocError>
         ensures { IfOk result (λ w. IsSame (set_of w) (union (set_of self.now) (set_of other.now))) }
     {
-        let alloc = *self.words.allocator();
+        let alloc = self.alloc();
         if self.words.len() < other.words.len() {
             united(alloc, &other.words, &self.words)
         } else {
@@ -151,18 +155,18 @@ impl Words {
     pub(crate) fn without(&self, number: u16) -> Result<Words, AllocError>
         ensures { IfOk result (λ w. IsSame (set_of w) (without (set_of self.now) number)) }
     {
-        let mut words = SmallVec::from_slice(*self.words.allocator(), &self.words)?;
+        let mut words = SmallVec::from_slice(self.alloc(), &self.words)?;
         clear(&mut words, number);
         trim(&mut words);
         Ok(Words { words })
     }
 
-    /// The same set again.
-    pub(crate) fn copy(&self) -> Result<Words, AllocError>
+    /// The same set again. It takes no memory where the set has no number.
+    pub(crate) fn copy(&self, alloc: Global) -> Result<Words, AllocError>
         ensures same { IfOk result (λ w. w ≡ self.now) }
         ensures none { self.now ≡ [] → IsOk result }
     {
-        let words = SmallVec::from_slice(*self.words.allocator(), &self.words)?;
+        let words = SmallVec::from_slice(alloc, &self.words)?;
         Ok(Words { words })
     }
 

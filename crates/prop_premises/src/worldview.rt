@@ -30,11 +30,11 @@ impl Worldview {
     }
 
     /// The worldview that believes just the premises of the set. It takes no memory where there are none.
-    pub fn of(_alloc: Global, premises: &PremiseSet) -> Result<Worldview, AllocError>
+    pub fn of(alloc: Global, premises: &PremiseSet) -> Result<Worldview, AllocError>
         ensures none { premises.now ≡ [] → IsOk result }
         ensures of { IfOk result (λ w. w ≡ premises.now) }
     {
-        let beliefs = premises.numbers().copy()?;
+        let beliefs = premises.numbers().copy(alloc)?;
         Ok(Worldview { beliefs })
     }
 
