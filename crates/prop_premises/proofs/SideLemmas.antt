@@ -33,14 +33,13 @@ taken_is_hypothetical choices sides k d e h l =
     let own : is_side_of (get_or choices k d) ((get_or choices k d).first + (get_or sides k e - 1)) ≡ true = grind (arith, nat_tests) in
     list_any_at (λ c. is_side_of c ((get_or choices k d).first + (get_or sides k e - 1))) choices k d l own
 
-or_assoc : (a b c : Bool) → ((a || (b || false)) || c) ≡ (a || (b || c))
+or_assoc : (a b c : Bool) → ((a || b) || c) ≡ (a || (b || c))
 or_assoc true b c = refl
-or_assoc false true c = refl
-or_assoc false false c = refl
+or_assoc false b c = refl
 
 -- one more premise of the list is believed
 pub with_side : (was now : Members) (choices : List Choice) (sides : List ℕ) (k : ℕ) (d : Choice) (e n : ℕ) → IsChoiceList choices sides → k < length choices →
-    n ≡ (get_or choices k d).first + (get_or sides k e - 1) → IsSame now (union was (set_of (n ∷ []))) → (p : ℕ) →
+    n ≡ (get_or choices k d).first + (get_or sides k e - 1) → ((p : ℕ) → now p ≡ (was p || (n == p))) → (p : ℕ) →
     (now p || hypotheticals_of (drop (k + 1) choices) (drop (k + 1) sides) p) ≡ (was p || hypotheticals_of (drop k choices) (drop k sides) p)
 with_side was now choices sides k d e n h l at one_more p =
     let t = taken choices sides k d e h l in
@@ -74,7 +73,7 @@ so_far-end s n p h = elim (cases_lt p n) [
 ]
 
 -- one more number, which is in the set or not
-pub so_far-in : (s : Members) (n p : ℕ) → s n ≡ true → ((nat_lt p n && s p) || ((n == p) || false)) ≡ (nat_lt p (n + 1) && s p)
+so_far-in : (s : Members) (n p : ℕ) → s n ≡ true → ((nat_lt p n && s p) || (n == p)) ≡ (nat_lt p (n + 1) && s p)
 so_far-in s n p h = elim (cases_eq n p) [
   | inl same ↦ (
       let own : s p ≡ true = subst (λ q. s q ≡ true) same h in

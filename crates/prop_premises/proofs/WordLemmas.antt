@@ -1,5 +1,5 @@
 -- Sets of numbers as words of bits: what is in them, and in which order.
-use Rattle.std.proofs.Common.{◌≡◌, ◌≢◌, ℕ, zero, suc, ◌+◌, ◌-◌, ◌*◌, ◌/◌, ◌%◌, ◌^◌, ◌<◌, ◌≤◌, Bool, true, false, not, ◌||◌, ◌&&◌, ◌==◌, List, [], ◌∷◌, ◌++◌, length, take, drop, get_or, refl, sym, ap, subst, ◌∙◌, arith, inl, inr, ◌⊎◌, nat_lt, nat_le, nat_eq, filter, max, bit_and, bit_or}
+use Rattle.std.proofs.Common.{◌≡◌, ◌≢◌, ℕ, zero, suc, ◌+◌, ◌-◌, ◌*◌, ◌/◌, ◌%◌, ◌^◌, ◌<◌, ◌≤◌, Bool, true, false, not, ◌||◌, ◌&&◌, ◌==◌, List, [], ◌∷◌, ◌++◌, length, take, drop, replicate, get_or, refl, sym, ap, subst, ◌∙◌, arith, inl, inr, ◌⊎◌, nat_lt, nat_le, nat_eq, filter, max, bit_and, bit_or, Result, Ok, Err, IfOk}
 use Rattle.std.specs.Int.{bit_at, bit_not, w64, trailing_zeros, leading_zeros}
 use Rattle.std.specs.List.{range_with_len, refill, AllByRecursion, AppendsClonesOf}
 use Rattle.std.specs.List.Sorted.{IsStrictlyIncreasing}
@@ -476,12 +476,6 @@ pub kept_written : (words front lent : List ℕ) (place mask n : ℕ) → front 
 kept_written words front lent place mask n is same at bit =
     rw (same, is, at, bit) (refilled (take (n / 64 + 1) words) (kept_below words n) (length-set (take (n / 64 + 1) words) (n / 64) (bit_and (get_or (take (n / 64 + 1) words) (n / 64) 0) (2 ^ (n % 64) - 1))))
 
--- what is written for one more number
-pub added_written : (words lent : List ℕ) (place bit n : ℕ) → lent ≡ words → place ≡ n / 64 → bit ≡ 2 ^ (n % 64) →
-    refill (length words) words (set lent place (bit_or (get_or lent place 0) bit)) ≡ set words (n / 64) (bit_or (get_or words (n / 64) 0) (2 ^ (n % 64)))
-added_written words lent place bit n same at is =
-    rw (same, at, is) (refilled words (set words (n / 64) (bit_or (get_or words (n / 64) 0) (2 ^ (n % 64)))) (length-set words (n / 64) (bit_or (get_or words (n / 64) 0) (2 ^ (n % 64)))))
-
 -- further words without bits
 zeros : (ys : List ℕ) (k : ℕ) → AllByRecursion (λ y. (y ≡ 0) ⊎ (y ≡ 0)) ys → get_or ys k 0 ≡ 0
 zeros [] k h = refl
@@ -498,9 +492,6 @@ has_bit-grown words grown len l h p =
     let whole : take len words ≡ words = grind (arith, common_steps) in
     has_bit-same grown words (λ k. ap (λ ws. get_or ws k 0) h.1 ∙ padded (take len words) h.0 k h.2 ∙ ap (λ ws. get_or ws k 0) whole) p
 
-pub length-added : (words : List ℕ) (n : ℕ) → length (set words (n / 64) (bit_or (get_or words (n / 64) 0) (2 ^ (n % 64)))) ≡ length words
-length-added words n = length-set words (n / 64) (bit_or (get_or words (n / 64) 0) (2 ^ (n % 64)))
-
 pub set_of-added : (a b : List ℕ) (n p : ℕ) → has_bit b p ≡ (has_bit a p || (n == p)) → set_of (numbers_of b) p ≡ (set_of (numbers_of a) p || ((n == p) || false))
 set_of-added a b n p h = set_of-numbers_of b p ∙ h ∙ sym (ap (λ c. c || ((n == p) || false)) (set_of-numbers_of a p) ∙ ap (λ c. has_bit a p || c) (or_none (n == p)))
 
@@ -516,3 +507,16 @@ or_swap false false = refl
 
 pub set_of-both_swapped : (a b : List ℕ) (p : ℕ) → (has_bit b p || has_bit a p) ≡ (set_of (numbers_of a) p || set_of (numbers_of b) p)
 set_of-both_swapped a b p = or_swap (has_bit b p) (has_bit a p) ∙ set_of-both a b p
+
+same_word : (n k w : ℕ) → get_or (replicate n w) k w ≡ w
+same_word zero k w = refl
+same_word (suc n) zero w = refl
+same_word (suc n) (suc k) w = same_word n k w
+
+pub has_bit-blank : (n p : ℕ) → has_bit (replicate n 0) p ≡ false
+unfolding has_bit
+has_bit-blank n p = ap (λ w. is_set w (p % 64)) (same_word n (p / 64) 0) ∙ is_set-zero (p % 64)
+
+pub if_ok : {T E : Type 0} {P : T → Type 0} {Q : T → Type 0} (r : Result T E) → ((x : T) → P x → Q x) → IfOk r P → IfOk r Q
+if_ok (Ok x) f h = f x h
+if_ok (Err e) f h = tt

@@ -1,5 +1,5 @@
 //! Bits of words.
-ghost use Rattle.std.specs.Prelude.{◌≡◌, ◌<◌, ◌≤◌, ◌+◌, ◌/◌, ◌%◌, ◌^◌, ℕ, true, false, not, ◌&&◌, ◌==◌, length, bit_or, slice_index, IsTrue};
+ghost use Rattle.std.specs.Prelude.{◌≡◌, ◌<◌, ◌≤◌, ◌+◌, ◌/◌, ◌%◌, ◌^◌, ℕ, true, false, not, ◌&&◌, ◌||◌, ◌==◌, length, bit_or, slice_index, IsTrue};
 ghost use Rattle.prop_premises.specs.Words.{has_bit, HasFrom, IsForm};
 
 /// How many bits a word has.
@@ -37,6 +37,15 @@ pub(crate) fn trimmed_len(words: &[u64]) -> usize
         len -= 1;
     }
     len
+}
+
+/// Sets the number's bit.
+pub(crate) fn set_bit(words: &mut [u64], number: u16)
+    requires { number / 64 < length words.old }
+    ensures len { length words.new ≡ length words.old }
+    ensures bits { (p : ℕ) → has_bit words.new p ≡ (has_bit words.old p || number == p) }
+{
+    words[place_of(number)] |= bit_of(number);
 }
 
 /// Clears the number's bit.

@@ -1,15 +1,17 @@
 //! The names of premises and choices, and which premises are believed.
-ghost use Rattle.std.specs.Prelude.{◌≡◌, ◌≤◌, ◌<◌, ◌+◌, ◌↔◌, ◌⊎◌, ℕ, List, [], ◌∷◌, ◌++◌, length, take, Some, None, Ok, Err, true, false, unwrap_or, slice_get, option_map, get_or, IsTrue, IfOk, IfErr, OnOk, OnErr, MatchResult};
+ghost use Rattle.std.specs.Prelude.{◌≡◌, ◌≤◌, ◌<◌, ◌+◌, ◌*◌, ◌↔◌, ◌⊎◌, ℕ, List, [], ◌∷◌, ◌++◌, length, take, Some, None, Ok, Err, true, false, unwrap_or, slice_get, option_map, get_or, IsTrue, IfOk, IfErr, OnOk, OnErr, MatchResult};
 ghost use Rattle.prop_lattice.specs.Refusals.{most};
 ghost use Rattle.prop_premises.specs.Sets.{Members, set_of, union, without, IsSame};
+ghost use Rattle.prop_premises.specs.Words.{has_bit};
 ghost use Rattle.prop_premises.specs.Origins.{Origin, name_of, is_user_at, premise_number, is_choice, believed_in, with_belief_at, with_name, with_choice, choices_of, side_at, is_start, IsNumbered};
 ghost use Rattle.prop_premises.specs.ChoiceLists.{hypotheticals_of, is_hypothetical, worldview, IsChoiceList};
 
+use crate::bits::set_bit;
 use crate::choice::Choice;
 use crate::named::Kind;
 use crate::premise_set::Premise;
 use crate::table::Table;
-use crate::words::Words;
+use crate::words::{Words, blank};
 use crate::worldview::Worldview;
 use prop_lattice::{Limit, Refusal};
 use std::alloc::{AllocError, Global};
@@ -35,17 +37,18 @@ impl Model for Premises {
     ghost invariant = { λ p. p.choices.items ≡ choices_of p.table };
 }
 
-/// Adds each hypothetical premise that the list of sides takes.
-fn add_sides(beliefs: &mut Words, choices: &[Choice], sides: &[u8]) -> Result<(), AllocError>
+/// Sets the bit of each hypothetical premise that the list of sides takes.
+fn set_sides(words: &mut [u64], choices: &[Choice], sides: &[u8])
     requires list { IsChoiceList choices.now sides.now }
-    requires room { (p : ℕ) → IsTrue (is_hypothetical choices.now p) → p < 4_096 }
-    ensures { OnOk result (IsSame (set_of beliefs.new) (union (set_of beliefs.old) (hypotheticals_of choices.now sides.now))) }
+    requires bound { length words.old ≤ 1_024 }
+    requires room { (p : ℕ) → IsTrue (is_hypothetical choices.now p) → p < 64 * length words.old }
+    ensures len { length words.new ≡ length words.old }
+    ensures bits { IsSame (has_bit words.new) (union (has_bit words.old) (hypotheticals_of choices.now sides.now)) }
 {
     for place in 0..choices.len() {
         let side = Premise::from(sides[place]) - 1;
-        beliefs.insert(choices[place].first + side)?;
+        set_bit(words, choices[place].first + side);
     }
-    Ok(())
 }
 
 impl Premises {
@@ -244,24 +247,25 @@ impl Premises {
         requires { IsChoiceList (choices_of self.now) sides.now }
         ensures { IfOk result (λ w. IsSame (set_of w) (worldview (believed_in self.now) (choices_of self.now) sides.now)) }
     {
-        let mut beliefs = self.believed()?;
+        let mut words = blank(self.table.alloc(), self.table.len())?;
         self.table.numbered();
-        add_sides(&mut beliefs, &self.choices, sides)?;
-        Ok(Worldview::from_words(beliefs))
+        self.set_believed(&mut words);
+        set_sides(&mut words, &self.choices, sides);
+        Ok(Worldview::from_words(Words::of(words)))
     }
 
-    /// The believed premises of the user's.
-    fn believed(&self) -> Result<Words, AllocError>
-        ensures { IfOk result (λ w. IsSame (set_of w) (believed_in self.now)) }
+    /// Sets the bit of each believed premise of the user's.
+    fn set_believed(&self, words: &mut [u64])
+        requires { length self.now ≤ 64 * length words.old }
+        ensures len { length words.new ≡ length words.old }
+        ensures bits { IsSame (has_bit words.new) (union (has_bit words.old) (believed_in self.now)) }
     {
-        let mut beliefs = Words::empty(self.table.alloc());
         for number in 0..self.table.len() {
             let premise = number as Premise;
             if self.is_in(premise) {
-                beliefs.insert(premise)?;
+                set_bit(words, premise);
             }
         }
-        Ok(beliefs)
     }
 
     /// Drops the names from number `count` on, where a name starts. It takes no memory.

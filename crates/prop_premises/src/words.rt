@@ -4,7 +4,7 @@ ghost use Rattle.std.specs.List.Sorted.{IsStrictlyIncreasing};
 ghost use Rattle.prop_premises.specs.Sets.{set_of, union, without, is_within, is_below, is_at_most_one_of, IsSame, IsBelow};
 ghost use Rattle.prop_premises.specs.Words.{has_bit, HasFrom, IsTrimmed, IsForm};
 
-use crate::bits::{bit_of, clear, end_of, is_part, place_of, trimmed_len, unite, word_at};
+use crate::bits::{bit_of, clear, end_of, is_part, place_of, set_bit, trimmed_len, unite, word_at};
 use crate::numbers::Numbers;
 use smallvec::SmallVec;
 use std::alloc::{AllocError, Global};
@@ -26,6 +26,16 @@ impl Model for Words {
     ghost view = { λ w. numbers_of w.words.items };
 
     ghost invariant = { λ w. IsForm w.words.items };
+}
+
+/// Words without bits, as many as the numbers below this one have.
+pub(crate) fn blank(alloc: Global, count: usize) -> Result<SmallVec<u64, 2>, AllocError>
+    requires { count ≤ 65_536 }
+    ensures room { IfOk result (λ w. count ≤ 64 * length w.items) }
+    ensures bound { IfOk result (λ w. length w.items ≤ 1_024) }
+    ensures bits { IfOk result (λ w. (p : ℕ) → has_bit w.items p ≡ false) }
+{
+    SmallVec::from_elem(alloc, 0, count.div_ceil(64))
 }
 
 /// Drops the last words as far as they have no bit.
@@ -70,6 +80,15 @@ impl Words {
         Words {
             words: SmallVec::new(alloc),
         }
+    }
+
+    /// The set of the numbers whose bits are set.
+    pub(crate) fn of(mut words: SmallVec<u64, 2>) -> Words
+        requires { length words.items ≤ 1_024 }
+        ensures { IsSame (set_of result) (has_bit words.items) }
+    {
+        trim(&mut words);
+        Words { words }
     }
 
     pub(crate) fn alloc(&self) -> Global {
@@ -121,9 +140,8 @@ impl Words {
         ensures last { OnOk result (IsBelow number (set_of self.old) → self.new ≡ self.old ++ number ∷ []) }
         ensures err { OnErr result (self.new ≡ self.old) }
     {
-        let place = place_of(number);
-        reach(&mut self.words, place + 1)?;
-        self.words[place] |= bit_of(number);
+        reach(&mut self.words, place_of(number) + 1)?;
+        set_bit(&mut self.words, number);
         Ok(())
     }
 
@@ -157,8 +175,7 @@ impl Words {
     {
         let mut words = SmallVec::from_slice(self.alloc(), &self.words)?;
         clear(&mut words, number);
-        trim(&mut words);
-        Ok(Words { words })
+        Ok(Words::of(words))
     }
 
     /// The same set again. It takes no memory where the set has no number.

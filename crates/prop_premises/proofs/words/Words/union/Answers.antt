@@ -1,11 +1,7 @@
-use Rattle.std.proofs.Common.{◌≡◌, ◌∙◌, ◌||◌, ap, Result, Ok, Err, IfOk}
+use Rattle.std.proofs.Common.{◌≡◌, ◌∙◌, ◌||◌, ap}
 use Rattle.prop_premises.specs.Words.{has_bit}
-use Rattle.prop_premises.proofs.WordLemmas.{set_of-both, set_of-both_swapped}
+use Rattle.prop_premises.proofs.WordLemmas.{if_ok, set_of-both, set_of-both_swapped}
 use Rattle.prop_premises.proofs.words.Words.union.Goals as goal
-
-if_ok : {T E : Type 0} {P : T → Type 0} {Q : T → Type 0} (r : Result T E) → ((x : T) → P x → Q x) → IfOk r P → IfOk r Q
-if_ok (Ok x) f h = f x h
-if_ok (Err e) f h = tt
 
 pub returns-then-len : goal.returns-then-len
 returns-then-len c =

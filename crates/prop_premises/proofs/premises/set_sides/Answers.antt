@@ -1,8 +1,8 @@
 use Rattle.std.proofs.Common.{◌≡◌, ◌+◌, ◌-◌, ◌<◌, ◌∙◌, sym, arith, length, get_or}
-use Rattle.prop_premises.specs.Sets.{set_of}
+use Rattle.prop_premises.specs.Words.{has_bit}
 use Rattle.prop_premises.specs.declared.choice.Choice.{Choice}
 use Rattle.prop_premises.proofs.SideLemmas.{taken, taken_is_hypothetical, with_side, no_side_left}
-use Rattle.prop_premises.proofs.premises.add_sides.Goals as goal
+use Rattle.prop_premises.proofs.premises.set_sides.Goals as goal
 
 none : Choice
 none = record { first = 0; sides = 0 }
@@ -19,13 +19,22 @@ pub overflow_add-choices : goal.overflow_add-choices
 unfolding none
 overflow_add-choices c =
     let room = c.requires.room _ (taken_is_hypothetical c.args.choices.now c.args.sides.now c.loop-place.place none 0 c.requires.list c.loop-place-test.true) in
-    omega (arith, room, c.from-side.ensures)
+    omega (arith, room, c.requires.bound, c.from-side.ensures)
+
+pub set_bit-requires : goal.set_bit-requires
+unfolding none
+set_bit-requires c =
+    let room = c.requires.room _ (taken_is_hypothetical c.args.choices.now c.args.sides.now c.loop-place.place none 0 c.requires.list c.loop-place-test.true) in
+    omega (arith, room, c.loop-place.invariant.len, c.from-side.ensures)
 
 pub loop-place-preserved : goal.loop-place-preserved
 unfolding none
-loop-place-preserved c p =
+loop-place-preserved c =
     let k = c.loop-place.place in
-    let side = c.from-side.result in
-    let number : (get_or c.args.choices.now k none).first + (side - 1) ≡ (get_or c.args.choices.now k none).first + (get_or c.args.sides.now k 0 - 1) = omega (arith, c.from-side.ensures) in
-    with_side (set_of c.loop-place.beliefs) (set_of c.insert.new.self) c.args.choices.now c.args.sides.now k none 0 ((get_or c.args.choices.now k none).first + (side - 1)) c.requires.list c.loop-place-test.true number c.in_ok-insert.ensures.has p
-    ∙ c.loop-place.invariant p
+    let number = (get_or c.args.choices.now k none).first + (c.from-side.result - 1) in
+    let at : number ≡ (get_or c.args.choices.now k none).first + (get_or c.args.sides.now k 0 - 1) = omega (arith, c.from-side.ensures) in
+    record {
+      len = c.set_bit.ensures.len ∙ c.loop-place.invariant.len;
+      bits = λ p. with_side (has_bit c.loop-place.words) (has_bit c.set_bit.new.words) c.args.choices.now c.args.sides.now k none 0 number c.requires.list c.loop-place-test.true at c.set_bit.ensures.bits p
+      ∙ c.loop-place.invariant.bits p;
+    }
