@@ -61,36 +61,9 @@ no_side_left s choices sides k p l = ap (λ cs. s p || hypotheticals_of cs (drop
 
 -- ---- premises that are told one by one
 
-and_false : (b : Bool) → (b && false) ≡ false
-and_false true = refl
-and_false false = refl
-
 -- no number is left out past the last
 pub so_far-end : (s : Members) (n p : ℕ) → (n ≤ p → s p ≡ false) → (nat_lt p n && s p) ≡ s p
 so_far-end s n p h = elim (cases_lt p n) [
   | inl below ↦ (let in_it : nat_lt p n ≡ true = grind (arith, nat_tests) in rw in_it refl)
   | inr above ↦ (let out : nat_lt p n ≡ false = grind (arith, nat_tests) in rw out (sym (h above)))
-]
-
--- one more number, which is in the set or not
-so_far-in : (s : Members) (n p : ℕ) → s n ≡ true → ((nat_lt p n && s p) || (n == p)) ≡ (nat_lt p (n + 1) && s p)
-so_far-in s n p h = elim (cases_eq n p) [
-  | inl same ↦ (
-      let own : s p ≡ true = subst (λ q. s q ≡ true) same h in
-      let in_it : nat_lt p (n + 1) ≡ true = grind (arith, nat_tests) in
-      let out : nat_lt p n ≡ false = grind (arith, nat_tests) in
-      let here : (n == p) ≡ true = grind (arith, nat_tests) in
-      rw (own, in_it, out, here) refl)
-  | inr other ↦ (
-      let next : nat_lt p (n + 1) ≡ nat_lt p n = grind (arith, nat_tests) in
-      let apart : (n == p) ≡ false = grind (arith, nat_tests) in
-      rw (next, apart) (or_none (nat_lt p n && s p)))
-]
-
-pub so_far-out : (s : Members) (n p : ℕ) → s n ≡ false → (nat_lt p n && s p) ≡ (nat_lt p (n + 1) && s p)
-so_far-out s n p h = elim (cases_eq n p) [
-  | inl same ↦ (
-      let own : s p ≡ false = subst (λ q. s q ≡ false) same h in
-      rw own (and_false (nat_lt p n) ∙ sym (and_false (nat_lt p (n + 1)))))
-  | inr other ↦ (let next : nat_lt p (n + 1) ≡ nat_lt p n = grind (arith, nat_tests) in rw next refl)
 ]
