@@ -13,3 +13,4 @@ pub mod EntryLemmas
 pub mod SideLemmas
 pub mod ChangeLemmas
 pub mod WorldviewLemmas
+pub mod BelievedLemmas

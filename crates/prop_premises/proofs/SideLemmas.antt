@@ -58,12 +58,3 @@ or_none false = refl
 -- no side is left to be taken
 pub no_side_left : (s : Members) (choices : List Choice) (sides : List ℕ) (k p : ℕ) → length choices ≤ k → (s p || hypotheticals_of (drop k choices) (drop k sides) p) ≡ s p
 no_side_left s choices sides k p l = ap (λ cs. s p || hypotheticals_of cs (drop k sides) p) (drop_of_length-le choices l) ∙ or_none (s p)
-
--- ---- premises that are told one by one
-
--- no number is left out past the last
-pub so_far-end : (s : Members) (n p : ℕ) → (n ≤ p → s p ≡ false) → (nat_lt p n && s p) ≡ s p
-so_far-end s n p h = elim (cases_lt p n) [
-  | inl below ↦ (let in_it : nat_lt p n ≡ true = grind (arith, nat_tests) in rw in_it refl)
-  | inr above ↦ (let out : nat_lt p n ≡ false = grind (arith, nat_tests) in rw out (sym (h above)))
-]

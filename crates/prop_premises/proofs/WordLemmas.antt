@@ -520,3 +520,9 @@ has_bit-blank n p = ap (λ w. is_set w (p % 64)) (same_word n (p / 64) 0) ∙ is
 pub if_ok : {T E : Type 0} {P : T → Type 0} {Q : T → Type 0} (r : Result T E) → ((x : T) → P x → Q x) → IfOk r P → IfOk r Q
 if_ok (Ok x) f h = f x h
 if_ok (Err e) f h = tt
+
+-- words that are cut after the last that has a bit
+pub IsTrimmed-cut : (words cut : List ℕ) (len : ℕ) → cut ≡ take len words → len ≤ length words → ((k : ℕ) → len ≤ k → get_or words k 0 ≡ 0) → ((n : ℕ) → len ≡ n + 1 → HasFrom words n) → IsTrimmed cut
+IsTrimmed-cut words cut len is within rest last n e =
+    let some = last n (omega (arith, e, within, ap length is, length-take len words)) in
+    (some.0, some.1, ap (λ ws. has_bit ws some.0) is ∙ has_bit-trimmed words len rest some.0 ∙ some.2)

@@ -3,7 +3,7 @@ ghost use Rattle.std.specs.Prelude.{◌≡◌, ◌<◌, ◌≤◌, ◌+◌, ◌/
 ghost use Rattle.prop_premises.specs.Words.{has_bit, HasFrom, IsForm};
 
 /// How many bits a word has.
-const BITS: usize = 64;
+pub(crate) const BITS: usize = 64;
 
 /// The place of the word that has the number's bit.
 pub(crate) fn place_of(number: u16) -> usize

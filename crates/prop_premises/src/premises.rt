@@ -249,23 +249,9 @@ impl Premises {
     {
         let mut words = blank(self.table.alloc(), self.table.len())?;
         self.table.numbered();
-        self.set_believed(&mut words);
+        self.table.set_believed(&mut words);
         set_sides(&mut words, &self.choices, sides);
         Ok(Worldview::from_words(Words::of(words)))
-    }
-
-    /// Sets the bit of each believed premise of the user's.
-    fn set_believed(&self, words: &mut [u64])
-        requires { length self.now ≤ 64 * length words.old }
-        ensures len { length words.new ≡ length words.old }
-        ensures bits { IsSame (has_bit words.new) (union (has_bit words.old) (believed_in self.now)) }
-    {
-        for number in 0..self.table.len() {
-            let premise = number as Premise;
-            if self.is_in(premise) {
-                set_bit(words, premise);
-            }
-        }
     }
 
     /// Drops the names from number `count` on, where a name starts. It takes no memory.

@@ -4,7 +4,7 @@ ghost use Rattle.std.specs.List.Sorted.{IsStrictlyIncreasing};
 ghost use Rattle.prop_premises.specs.Sets.{set_of, union, without, is_within, is_below, is_at_most_one_of, IsSame, IsBelow};
 ghost use Rattle.prop_premises.specs.Words.{has_bit, HasFrom, IsTrimmed, IsForm};
 
-use crate::bits::{bit_of, clear, end_of, is_part, place_of, set_bit, trimmed_len, unite, word_at};
+use crate::bits::{BITS, bit_of, clear, end_of, is_part, place_of, set_bit, trimmed_len, unite, word_at};
 use crate::numbers::Numbers;
 use smallvec::SmallVec;
 use std::alloc::{AllocError, Global};
@@ -35,7 +35,7 @@ pub(crate) fn blank(alloc: Global, count: usize) -> Result<SmallVec<u64, 2>, All
     ensures bound { IfOk result (λ w. length w.items ≤ 1_024) }
     ensures bits { IfOk result (λ w. (p : ℕ) → has_bit w.items p ≡ false) }
 {
-    SmallVec::from_elem(alloc, 0, count.div_ceil(64))
+    SmallVec::from_elem(alloc, 0, count.div_ceil(BITS))
 }
 
 /// Drops the last words as far as they have no bit.
