@@ -1,6 +1,6 @@
 -- Sets of numbers as words of bits: what is in them, and in which order.
 use Rattle.std.proofs.Common.{◌≡◌, ◌≢◌, ℕ, zero, suc, ◌+◌, ◌-◌, ◌*◌, ◌/◌, ◌%◌, ◌^◌, ◌<◌, ◌≤◌, Bool, true, false, not, ◌||◌, ◌&&◌, ◌==◌, List, [], ◌∷◌, ◌++◌, length, take, drop, replicate, get_or, refl, sym, ap, subst, ◌∙◌, arith, inl, inr, ◌⊎◌, nat_lt, nat_le, nat_eq, filter, max, bit_and, bit_or, Result, Ok, Err, IfOk}
-use Rattle.std.specs.Int.{bit_at, bit_not, w64, trailing_zeros, leading_zeros}
+use Rattle.std.specs.Int.{bit_not, w64, trailing_zeros, leading_zeros}
 use Rattle.std.specs.List.{range_with_len, refill, AllByRecursion, AppendsClonesOf}
 use Rattle.std.specs.List.Sorted.{IsStrictlyIncreasing}
 use Rattle.std.proofs.Math.ListN.{set, length-set}
@@ -451,8 +451,8 @@ or_last false c e = e
 pub IsForm-unite : (a b both : List ℕ) → IsForm a → length both ≡ length a → ((p : ℕ) → has_bit both p ≡ (has_bit a p || has_bit b p)) → IsForm both
 IsForm-unite a b both form len bits = record {
   trimmed = λ n e. (
-    let some = form.trimmed n (omega (arith, len, e)) in
-    (some.0, some.1, bits some.0 ∙ or_first (has_bit a some.0) (has_bit b some.0) some.2));
+      let some = form.trimmed n (omega (arith, len, e)) in
+      (some.0, some.1, bits some.0 ∙ or_first (has_bit a some.0) (has_bit b some.0) some.2));
   in_range = omega (arith, len, form.in_range);
 }
 

@@ -4,7 +4,9 @@ ghost use Rattle.std.specs.List.Sorted.{IsStrictlyIncreasing};
 ghost use Rattle.prop_premises.specs.Sets.{set_of, union, without, is_within, is_below, is_at_most_one_of, IsSame, IsBelow};
 ghost use Rattle.prop_premises.specs.Words.{has_bit, HasFrom, IsTrimmed, IsForm};
 
-use crate::bits::{BITS, bit_of, clear, end_of, is_part, place_of, set_bit, trimmed_len, unite, word_at};
+use crate::bits::{
+    BITS, bit_of, clear, end_of, is_part, place_of, set_bit, trimmed_len, unite, word_at,
+};
 use crate::numbers::Numbers;
 use smallvec::SmallVec;
 use std::alloc::{AllocError, Global};

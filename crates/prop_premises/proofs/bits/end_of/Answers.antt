@@ -1,6 +1,4 @@
-use Rattle.std.proofs.Common.{◌≡◌, ◌≤◌, ◌+◌, ◌-◌, ◌∙◌, arith, length, get_or, IsTrue}
-use Rattle.std.specs.Int.{w64}
-use Rattle.std.proofs.Math.Facts.{Fits-lt-pow}
+use Rattle.std.proofs.Common.{◌-◌, arith, length}
 use Rattle.prop_premises.proofs.WordLemmas.{end_is, within_words}
 use Rattle.prop_premises.proofs.bits.end_of.Goals as goal
 

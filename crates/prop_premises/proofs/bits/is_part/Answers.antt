@@ -1,4 +1,4 @@
-use Rattle.std.proofs.Common.{◌≡◌, ◌*◌, ◌+◌, ◌/◌, ◌%◌, ◌≤◌, ◌∙◌, refl, sym, ap, arith, inl, inr, length, get_or}
+use Rattle.std.proofs.Common.{◌≡◌, ◌*◌, ◌+◌, ◌/◌, ◌%◌, ◌∙◌, sym, ap, arith, inl, inr, get_or}
 use Rattle.std.specs.Int.{w64}
 use Rattle.std.proofs.Math.Facts.{Fits-lt-pow}
 use Rattle.std.proofs.lemmas.Bool.{cases_lt}
@@ -10,9 +10,11 @@ use Rattle.prop_premises.proofs.bits.is_part.Goals as goal
 pub returns-then-words-place-ne0-clause-apart : goal.returns-then-words-place-ne0-clause-apart
 returns-then-words-place-ne0-clause-apart c = λ _.
     let place = c.loop-place.place in
-    let out = is_set-apart (get_or c.args.words.now place 0) c.word_at.result (Fits-lt-pow {w = w64} (c.type_inv.words place)) (omega arith) c.if-words-place-ne0.true in
-    (64 * place + out.0, is_number c.args.words.now place out.0 out.1 ∙ out.2,
-    is_number c.args.others.now place out.0 out.1 ∙ ap (λ w. is_set w out.0) (sym c.word_at.ensures) ∙ out.3)
+    let out = is_set-apart (get_or c.args.words.now place 0) c.word_at.result (Fits-lt-pow {w = w64} (c.type_inv.words place)) (omega arith) c.if-words-place-ne0.true in (
+      64 * place + out.0,
+      is_number c.args.words.now place out.0 out.1 ∙ out.2,
+      is_number c.args.others.now place out.0 out.1 ∙ ap (λ w. is_set w out.0) (sym c.word_at.ensures) ∙ out.3,
+    )
 
 pub loop-place-preserved : goal.loop-place-preserved
 loop-place-preserved c k i l m h = elim (cases_lt k c.loop-place.place) [

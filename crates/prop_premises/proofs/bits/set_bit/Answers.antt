@@ -1,4 +1,3 @@
-use Rattle.std.proofs.Common.{arith}
 use Rattle.prop_premises.proofs.WordLemmas.{has_bit-added}
 use Rattle.prop_premises.proofs.bits.set_bit.Goals as goal
 

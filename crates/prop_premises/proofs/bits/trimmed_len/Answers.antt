@@ -1,4 +1,4 @@
-use Rattle.std.proofs.Common.{◌≡◌, ◌-◌, sym, ap, arith, subst, get_or}
+use Rattle.std.proofs.Common.{◌≡◌, ◌-◌, arith, subst}
 use Rattle.std.specs.Int.{w64}
 use Rattle.std.proofs.Math.Facts.{Fits-lt-pow}
 use Rattle.prop_premises.specs.Words.{HasFrom}

@@ -1,4 +1,4 @@
-use Rattle.std.proofs.Common.{◌≤◌, ◌∙◌, sym, ap, arith, get_or, bit_or, inl, inr, length}
+use Rattle.std.proofs.Common.{◌∙◌, sym, ap, arith, get_or, bit_or, inl, inr}
 use Rattle.std.proofs.lemmas.Bool.{cases_lt}
 use Rattle.std.proofs.lemmas.List.{get_or_past}
 use Rattle.std.specs.Int.Bits.{or_zero_r}

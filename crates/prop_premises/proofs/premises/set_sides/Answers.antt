@@ -1,7 +1,7 @@
-use Rattle.std.proofs.Common.{◌≡◌, ◌+◌, ◌-◌, ◌<◌, ◌∙◌, sym, arith, length, get_or}
+use Rattle.std.proofs.Common.{◌≡◌, ◌+◌, ◌-◌, ◌∙◌, arith, get_or}
 use Rattle.prop_premises.specs.Words.{has_bit}
 use Rattle.prop_premises.specs.declared.choice.Choice.{Choice}
-use Rattle.prop_premises.proofs.SideLemmas.{taken, taken_is_hypothetical, with_side, no_side_left}
+use Rattle.prop_premises.proofs.SideLemmas.{taken, taken_is_hypothetical, with_side}
 use Rattle.prop_premises.proofs.premises.set_sides.Goals as goal
 
 none : Choice
@@ -36,5 +36,5 @@ loop-place-preserved c =
     record {
       len = c.set_bit.ensures.len ∙ c.loop-place.invariant.len;
       bits = λ p. with_side (has_bit c.loop-place.words) (has_bit c.set_bit.new.words) c.args.choices.now c.args.sides.now k none 0 number c.requires.list c.loop-place-test.true at c.set_bit.ensures.bits p
-      ∙ c.loop-place.invariant.bits p;
+          ∙ c.loop-place.invariant.bits p;
     }

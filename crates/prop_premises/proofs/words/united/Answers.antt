@@ -1,6 +1,4 @@
-use Rattle.std.proofs.Common.{◌≡◌, ◌∙◌, ℕ, ◌||◌, sym, ap, arith, length, get_or, bit_or, subst}
-use Rattle.prop_premises.specs.Words.{has_bit, IsForm, numbers_of}
-use Rattle.prop_premises.specs.Sets.{set_of}
+use Rattle.std.proofs.Common.{◌∙◌, ap, arith, length, get_or, bit_or}
 use Rattle.prop_premises.proofs.WordLemmas.{refilled, has_bit-unite, IsForm-unite, set_of-numbers_of}
 use Rattle.prop_premises.proofs.words.united.Goals as goal
 

@@ -1,4 +1,4 @@
-use Rattle.std.proofs.Common.{◌≡◌, ◌+◌, ◌∙◌, ◌∷◌, rules, refl, sym, ap, arith, length}
+use Rattle.std.proofs.Common.{◌+◌, ◌∙◌, ◌∷◌, rules, refl, sym, ap, arith, length}
 use Rattle.prop_premises.specs.Words.{numbers_from}
 use Rattle.prop_premises.proofs.WordLemmas.{numbers_from-none, numbers_from-skip, numbers_from-first}
 use Rattle.prop_premises.proofs.numbers.NumbersIterator.next.Goals as goal
@@ -15,8 +15,8 @@ loop-self-preserved c =
     let words = c.in_ok-first.ensures.cases.0 in
     record {
       same = sym (numbers_from-skip left.base (left.base + 64) (c.in_ok-first.first.now ∷ c.in_ok-first.rest.now) refl)
-      ∙ ap (λ w. numbers_from left.base (w ∷ c.in_ok-first.first.now ∷ c.in_ok-first.rest.now)) (sym c.loop-self-test.true)
-      ∙ ap (λ ws. numbers_from left.base (left.word ∷ ws)) (sym words) ∙ c.loop-self.invariant.same;
+          ∙ ap (λ w. numbers_from left.base (w ∷ c.in_ok-first.first.now ∷ c.in_ok-first.rest.now)) (sym c.loop-self-test.true)
+          ∙ ap (λ ws. numbers_from left.base (left.word ∷ ws)) (sym words) ∙ c.loop-self.invariant.same;
       room = omega (arith, c.loop-self.invariant.room, ap length words);
     }
 

@@ -1,4 +1,4 @@
-use Rattle.std.proofs.Common.{◌≡◌, ◌∙◌, ◌+◌, ◌||◌, ◌&&◌, ◌==◌, ℕ, Bool, true, false, refl, sym, ap, arith, length, take}
+use Rattle.std.proofs.Common.{◌∙◌, ◌+◌, ◌||◌, ◌==◌, refl, sym, ap, arith, length, take}
 use Rattle.prop_premises.specs.Words.{has_bit}
 use Rattle.prop_premises.specs.Origins.{believed_in}
 use Rattle.prop_premises.specs.Named.{origins_of, is_believed_kind}
@@ -17,13 +17,13 @@ loop-place-preserved c =
     record {
       len = c.if-is_believed.auto.words ∙ c.loop-place.invariant.len;
       bits = λ p. (
-        let next = believed_in-next c.self.inside.names.entries c.loop-place.place (c.loop-place.place + 1) named p refl c.self.invariant.1 c.index-named.ensures in
-        elim c.if-is_believed.branch [
-          | then-is_believed w ↦ ap (λ ws. has_bit ws p) w.words-is ∙ w.set_bit.ensures.bits p ∙ ap (λ b. b || (named.first == p)) (c.loop-place.invariant.bits p)
-              ∙ told_of (has_bit c.args.words.now p) (believed_in (origins_of (take c.loop-place.place c.self.inside.names.entries)) p) (is_believed_kind named.kind) (named.first == p) (sym c.is_believed.ensures ∙ w.if-is_believed.true)
-              ∙ ap (λ b. has_bit c.args.words.now p || b) (sym next)
-          | else-is_believed w ↦ ap (λ ws. has_bit ws p) w.words-is ∙ c.loop-place.invariant.bits p
-              ∙ not_told (has_bit c.args.words.now p) (believed_in (origins_of (take c.loop-place.place c.self.inside.names.entries)) p) (is_believed_kind named.kind) (named.first == p) (sym c.is_believed.ensures ∙ w.if-is_believed.false)
-              ∙ ap (λ b. has_bit c.args.words.now p || b) (sym next)
-        ]);
+          let next = believed_in-next c.self.inside.names.entries c.loop-place.place (c.loop-place.place + 1) named p refl c.self.invariant.1 c.index-named.ensures in
+          elim c.if-is_believed.branch [
+            | then-is_believed w ↦ ap (λ ws. has_bit ws p) w.words-is ∙ w.set_bit.ensures.bits p ∙ ap (λ b. b || (named.first == p)) (c.loop-place.invariant.bits p)
+                ∙ told_of (has_bit c.args.words.now p) (believed_in (origins_of (take c.loop-place.place c.self.inside.names.entries)) p) (is_believed_kind named.kind) (named.first == p) (sym c.is_believed.ensures ∙ w.if-is_believed.true)
+                ∙ ap (λ b. has_bit c.args.words.now p || b) (sym next)
+            | else-is_believed w ↦ ap (λ ws. has_bit ws p) w.words-is ∙ c.loop-place.invariant.bits p
+                ∙ not_told (has_bit c.args.words.now p) (believed_in (origins_of (take c.loop-place.place c.self.inside.names.entries)) p) (is_believed_kind named.kind) (named.first == p) (sym c.is_believed.ensures ∙ w.if-is_believed.false)
+                ∙ ap (λ b. has_bit c.args.words.now p || b) (sym next)
+          ]);
     }

@@ -1,4 +1,4 @@
-use Rattle.std.proofs.Common.{◌≡◌, ◌≤◌, ◌<◌, ◌-◌, ◌+◌, ◌∙◌, ℕ, Bool, true, false, nat_lt, nat_le, List, sym, ap, arith, rules}
+use Rattle.std.proofs.Common.{◌≡◌, ◌<◌, ◌-◌, ◌+◌, ◌∙◌, ℕ, true, nat_lt, nat_le, List, sym, ap, arith}
 use Rattle.std.proofs.lemmas.Bool.Decides.{nat_tests}
 use Rattle.prop_premises.specs.Sets.{is_below}
 use Rattle.prop_premises.specs.Words.{has_bit, numbers_of}
@@ -9,8 +9,8 @@ below_end : (words : List ℕ) (end bound : ℕ) → ((p : ℕ) → has_bit word
 below_end words end bound above last =
     is_within-bits words (λ p. nat_lt p bound) (nat_le end bound) (λ t p h. (let l = above p h in grind (arith, nat_tests)))
     (λ f. (
-      let some : bound < end = grind (arith, nat_tests) in
-      (end - 1, last (end - 1) (omega (arith, some)), grind (arith, nat_tests))))
+    let some : bound < end = grind (arith, nat_tests) in
+    (end - 1, last (end - 1) (omega (arith, some)), grind (arith, nat_tests))))
 
 pub returns : goal.returns
 returns c =

@@ -1,4 +1,3 @@
-use Rattle.std.specs.List.Sorted.{IsStrictlyIncreasing}
 use Rattle.prop_premises.proofs.WordLemmas.{increasing-numbers_from}
 use Rattle.prop_premises.proofs.words.Words.iter.Goals as goal
 

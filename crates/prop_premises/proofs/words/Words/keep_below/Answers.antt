@@ -1,6 +1,6 @@
-use Rattle.std.proofs.Common.{◌≡◌, ◌+◌, ◌/◌, ◌∙◌, ℕ, sym, ap, arith, length, nat_lt, filter}
-use Rattle.prop_premises.specs.Words.{has_bit, numbers_of, IsForm}
-use Rattle.prop_premises.proofs.WordLemmas.{kept_below, kept_written, length-kept_below, has_bit-below, has_bit-all_below, numbers_of-filter, same_numbers}
+use Rattle.std.proofs.Common.{◌∙◌, ap, arith, length, nat_lt}
+use Rattle.prop_premises.specs.Words.{has_bit}
+use Rattle.prop_premises.proofs.WordLemmas.{kept_written, length-kept_below, has_bit-below, has_bit-all_below, numbers_of-filter}
 use Rattle.prop_premises.proofs.words.Words.keep_below.Goals as goal
 
 pub invariant_of-self : goal.invariant_of-self

@@ -1,4 +1,4 @@
-use Rattle.std.proofs.Common.{◌≡◌, ◌∙◌, ◌||◌, ap}
+use Rattle.std.proofs.Common.{◌∙◌, ◌||◌, ap}
 use Rattle.prop_premises.specs.Words.{has_bit}
 use Rattle.prop_premises.proofs.WordLemmas.{if_ok, set_of-both, set_of-both_swapped}
 use Rattle.prop_premises.proofs.words.Words.union.Goals as goal
