@@ -21,6 +21,8 @@ impl Model for PremiseSet {
     ghost Value = { List ℕ };
 
     ghost view = { λ s. s.numbers };
+
+    ghost invariant = { λ s. IsStrictlyIncreasing s.numbers };
 }
 
 impl PremiseSet {

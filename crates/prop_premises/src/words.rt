@@ -67,7 +67,8 @@ fn reach(words: &mut SmallVec<u64, 2>, count: usize) -> Result<(), AllocError>
 fn united(alloc: Global, long: &[u64], short: &[u64]) -> Result<Words, AllocError>
     requires form { IsForm long.now }
     requires order { length short.now ≤ length long.now }
-    ensures { IfOk result (λ w. IsSame (set_of w) (union (has_bit long.now) (has_bit short.now))) }
+    ensures has { IfOk result (λ w. IsSame (set_of w) (union (has_bit long.now) (has_bit short.now))) }
+    ensures ordered { IfOk result IsStrictlyIncreasing }
 {
     let mut words = SmallVec::from_slice(alloc, long)?;
     unite(&mut words, short);
@@ -87,7 +88,8 @@ impl Words {
     /// The set of the numbers whose bits are set.
     pub(crate) fn of(mut words: SmallVec<u64, 2>) -> Words
         requires { length words.items ≤ 1_024 }
-        ensures { IsSame (set_of result) (has_bit words.items) }
+        ensures has { IsSame (set_of result) (has_bit words.items) }
+        ensures ordered { IsStrictlyIncreasing result }
     {
         trim(&mut words);
         Words { words }
@@ -161,7 +163,8 @@ impl Words {
 
     /// The numbers of both sets.
     pub(crate) fn union(&self, other: &Words) -> Result<Words, AllocError>
-        ensures { IfOk result (λ w. IsSame (set_of w) (union (set_of self.now) (set_of other.now))) }
+        ensures has { IfOk result (λ w. IsSame (set_of w) (union (set_of self.now) (set_of other.now))) }
+        ensures ordered { IfOk result IsStrictlyIncreasing }
     {
         let alloc = self.alloc();
         if self.words.len() < other.words.len() {
@@ -173,7 +176,8 @@ impl Words {
 
     /// The set, but for one number.
     pub(crate) fn without(&self, number: u16) -> Result<Words, AllocError>
-        ensures { IfOk result (λ w. IsSame (set_of w) (without (set_of self.now) number)) }
+        ensures has { IfOk result (λ w. IsSame (set_of w) (without (set_of self.now) number)) }
+        ensures ordered { IfOk result IsStrictlyIncreasing }
     {
         let mut words = SmallVec::from_slice(self.alloc(), &self.words)?;
         clear(&mut words, number);
