@@ -1,5 +1,5 @@
 //! Sets of premises.
-ghost use Rattle.std.specs.Prelude.{◌≡◌, ◌↔◌, List, ℕ, [], ◌∷◌, IsTrue, IsOk, IfOk};
+ghost use Rattle.std.specs.Prelude.{◌≡◌, ◌↔◌, List, ℕ, [], ◌∷◌, IsTrue, IfOk};
 ghost use Rattle.std.specs.List.Sorted.{IsStrictlyIncreasing};
 ghost use Rattle.prop_premises.specs.Sets.{set_of, union, without, is_below, is_within, is_alike, is_at_most_one_of, IsSame};
 
@@ -11,7 +11,7 @@ use std::marker::Model;
 /// A premise, by its number. Premises are numbered from 0 on, in the order in which their names first appeared.
 pub type Premise = u16;
 
-/// A set of premises.
+/// A set of premises. No call takes memory for sets of which all numbers are below 128.
 #[derive(Drop)]
 pub struct PremiseSet {
     numbers: Words,

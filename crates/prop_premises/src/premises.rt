@@ -1,5 +1,5 @@
 //! The names of premises and choices, and which premises are believed.
-ghost use Rattle.std.specs.Prelude.{◌≡◌, ◌≤◌, ◌<◌, ◌+◌, ◌*◌, ◌↔◌, ◌⊎◌, ℕ, List, [], ◌∷◌, ◌++◌, length, take, Some, None, Ok, Err, true, false, unwrap_or, slice_get, option_map, get_or, IsTrue, IfOk, IfErr, OnOk, OnErr, MatchResult};
+ghost use Rattle.std.specs.Prelude.{◌≡◌, ◌≤◌, ◌<◌, ◌+◌, ◌*◌, ◌↔◌, ◌⊎◌, ℕ, List, [], ◌∷◌, ◌++◌, length, take, Some, None, Ok, Err, true, false, unwrap_or, slice_get, option_map, IsTrue, IfOk, IfErr, OnOk, OnErr, MatchResult};
 ghost use Rattle.prop_lattice.specs.Refusals.{most};
 ghost use Rattle.prop_premises.specs.Sets.{Members, set_of, union, without, IsSame};
 ghost use Rattle.prop_premises.specs.Words.{has_bit};

@@ -1,8 +1,8 @@
 //! Sets of numbers as words of bits.
-ghost use Rattle.std.specs.Prelude.{◌≡◌, ◌↔◌, ◌<◌, ◌≤◌, ◌+◌, ◌*◌, ◌/◌, ◌%◌, ◌^◌, ℕ, List, [], ◌∷◌, ◌++◌, Bool, true, false, not, ◌&&◌, ◌==◌, length, max, nat_lt, filter, bit_or, slice_index, IsTrue, IsOk, IfOk, OnOk, OnErr};
+ghost use Rattle.std.specs.Prelude.{◌≡◌, ◌↔◌, ◌≤◌, ◌+◌, ◌*◌, ℕ, List, [], ◌∷◌, ◌++◌, false, length, max, nat_lt, filter, IsTrue, IsOk, IfOk, OnOk, OnErr};
 ghost use Rattle.std.specs.List.Sorted.{IsStrictlyIncreasing};
 ghost use Rattle.prop_premises.specs.Sets.{set_of, union, without, is_within, is_below, is_at_most_one_of, IsSame, IsBelow};
-ghost use Rattle.prop_premises.specs.Words.{has_bit, HasFrom, IsTrimmed, IsForm};
+ghost use Rattle.prop_premises.specs.Words.{has_bit, IsTrimmed, IsForm};
 
 use crate::bits::{
     BITS, bit_of, clear, end_of, is_part, place_of, set_bit, trimmed_len, unite, word_at,
@@ -13,7 +13,7 @@ use std::alloc::{AllocError, Global};
 use std::marker::Model;
 
 /// A set of numbers below 2^16: number `p` is in it where bit `p % 64` of word `p / 64` is set. The last word has a bit, so that a set has one form.
-/// A set of numbers below 128 takes no memory.
+/// Two words stand in the value itself, so no call takes memory for sets of numbers below 128.
 #[derive(Drop)]
 pub(crate) struct Words {
     words: SmallVec<u64, 2>,
