@@ -31,7 +31,8 @@ with_user (o ∷ os) name b (suc p) =
     let next : (length (o ∷ os) == suc p) ≡ (length os == p) = grind (arith, nat_tests) in
     with_user os name b p ∙ ap (λ c. believed_in os p || (b && c)) (sym next)
 
-with_kind : (os : List Origin) (name : List ℕ) (k : Kind) (p : ℕ) → believed_in (os ++ origins_of_kind name k) p ≡ (believed_in os p || (is_believed_kind k && (length os == p)))
+with_kind : (os : List Origin) (name : List ℕ) (k : Kind) (p : ℕ) → believed_in (os ++ origins_of_kind name k) p ≡ (believed_in os p ||
+    (is_believed_kind k && (length os == p)))
 with_kind os name (kind.User b) p = with_user os name b p
 with_kind os name (kind.Choice sides) p = believed_in-with_choice os name sides p ∙ sym (or_false (believed_in os p))
 
@@ -70,18 +71,22 @@ module _ {A : Type 0} where
 
   first_of : (es : List (String A × Named)) (k : ℕ) (named : Named) (c : Cut es k named) → AreNumberedFrom 0 es → named.first ≡ length (origins_of c.front)
   first_of es k named c h =
-      sym (ap (λ n. n.first) c.is) ∙ (numbered-second 0 c.front (c.entry ∷ c.rest) (length (origins_of c.front)) (omega arith) (subst (AreNumberedFrom 0) c.whole h)).0
+      sym (ap (λ n. n.first) c.is) ∙ (numbered-second 0 c.front (c.entry ∷ c.rest) (length (origins_of c.front)) (omega arith) (subst
+      (AreNumberedFrom 0) c.whole h)).0
 
   -- the number of a believed premise is one of the table's
-  pub first_within : (es : List (String A × Named)) (k : ℕ) (named : Named) → AreNumberedFrom 0 es → slice_get (map (λ e. e.1) es) k ≡ Some named → is_believed_kind named.kind ≡ true → named.first < length (origins_of es)
+  pub first_within : (es : List (String A × Named)) (k : ℕ) (named : Named) → AreNumberedFrom 0 es → slice_get (map (λ e. e.1) es) k ≡ Some named →
+      is_believed_kind named.kind ≡ true → named.first < length (origins_of es)
   first_within es k named h at b =
       let c = cut_at es k named at in
       let some = believed_width c.entry.1.kind (ap (λ n. is_believed_kind n.kind) c.is ∙ b) in
-      let count = ap (λ l. length (origins_of l)) c.whole ∙ ap length (origins_of-append c.front (c.entry ∷ c.rest)) ∙ length-append (origins_of c.front) (origins_of (c.entry ∷ c.rest)) in
+      let count = ap (λ l. length (origins_of l)) c.whole ∙ ap length (origins_of-append c.front (c.entry ∷ c.rest))
+      ∙ length-append (origins_of c.front) (origins_of (c.entry ∷ c.rest)) in
       omega (arith, first_of es k named c h, some, count, length-cons c.entry c.rest)
 
   -- what is believed with one name more
-  pub believed_in-next : (es : List (String A × Named)) (k m : ℕ) (named : Named) (p : ℕ) → m ≡ k + 1 → AreNumberedFrom 0 es → slice_get (map (λ e. e.1) es) k ≡ Some named →
+  pub believed_in-next : (es : List (String A × Named)) (k m : ℕ) (named : Named) (p : ℕ) → m ≡ k + 1 → AreNumberedFrom 0 es →
+      slice_get (map (λ e. e.1) es) k ≡ Some named →
       believed_in (origins_of (take m es)) p ≡ (believed_in (origins_of (take k es)) p || (is_believed_kind named.kind && (named.first == p)))
   believed_in-next es k m named p next h at =
       let c = cut_at es k named at in
@@ -89,7 +94,8 @@ module _ {A : Type 0} where
       let name = string_bytes c.entry.0 in
       ap (λ j. believed_in (origins_of (take j es)) p) after
       ∙ ap (λ l. believed_in (origins_of l) p) c.upto
-      ∙ ap (λ os. believed_in os p) (origins_of-append c.front (c.entry ∷ []) ∙ ap (λ l. origins_of c.front ++ l) (append-nil (origins_of_kind name c.entry.1.kind)))
+      ∙ ap (λ os. believed_in os p) (origins_of-append c.front (c.entry ∷ [])
+      ∙ ap (λ l. origins_of c.front ++ l) (append-nil (origins_of_kind name c.entry.1.kind)))
       ∙ with_kind (origins_of c.front) name c.entry.1.kind p
       ∙ ap (λ n. believed_in (origins_of c.front) p || (is_believed_kind n.kind && (length (origins_of c.front) == p))) c.is
       ∙ ap (λ n. believed_in (origins_of c.front) p || (is_believed_kind named.kind && (n == p))) (sym (first_of es k named c h))

@@ -92,7 +92,8 @@ is_set-cleared word k i l m = elim (cases_eq i k) [
 ]
 
 -- the lowest bit of a word that has one
-pub lowest : (word : ℕ) → word ≢ 0 → word < 2 ^ 64 → (trailing_zeros w64 word < 64) × (is_set word (trailing_zeros w64 word) ≡ true) × ((i : ℕ) → i < trailing_zeros w64 word → is_set word i ≡ false)
+pub lowest : (word : ℕ) → word ≢ 0 → word < 2 ^ 64 → (trailing_zeros w64 word < 64) × (is_set word (trailing_zeros w64 word) ≡ true) × ((i : ℕ) →
+    i < trailing_zeros w64 word → is_set word i ≡ false)
 unfolding is_set
 lowest word some fits =
     let first = bit_at-trailing_zeros w64 word (omega (arith, some)) fits in
@@ -142,12 +143,14 @@ is_set-part word other i fits l none h =
     (ap (λ b. is_set word i && b) (sym (is_set-not other i fits l)) ∙ sym (is_set-and word (bit_not w64 other) i) ∙ ap (λ w. is_set w i) none ∙ is_set-zero i)
     h
 
-pub is_set-apart : (word other : ℕ) → word < 2 ^ 64 → other < 2 ^ 64 → bit_and word (bit_not w64 other) ≢ 0 → (i : ℕ) × (i < 64) × (is_set word i ≡ true) × (is_set other i ≡ false)
+pub is_set-apart : (word other : ℕ) → word < 2 ^ 64 → other < 2 ^ 64 → bit_and word (bit_not w64 other) ≢ 0 →
+    (i : ℕ) × (i < 64) × (is_set word i ≡ true) × (is_set other i ≡ false)
 is_set-apart word other fits other_fits some =
     let first = lowest (bit_and word (bit_not w64 other)) some (omega (arith, fits, and_le_l word (bit_not w64 other))) in
     at (trailing_zeros w64 (bit_and word (bit_not w64 other))) first.0 first.1
   where
     at : (i : ℕ) → i < 64 → is_set (bit_and word (bit_not w64 other)) i ≡ true → (i : ℕ) × (i < 64) × (is_set word i ≡ true) × (is_set other i ≡ false)
     at i l h =
-        let both = only_first (is_set word i) (is_set other i) (ap (λ b. is_set word i && b) (sym (is_set-not other i other_fits l)) ∙ sym (is_set-and word (bit_not w64 other) i) ∙ h) in
+        let both = only_first (is_set word i) (is_set other i) (ap (λ b. is_set word i && b) (sym (is_set-not other i other_fits l))
+        ∙ sym (is_set-and word (bit_not w64 other) i) ∙ h) in
         (i, l, both.0, both.1)

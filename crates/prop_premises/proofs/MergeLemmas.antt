@@ -81,7 +81,8 @@ heads x y xs ys h k s =
       ]
     ]
 
-tails : (x : ℕ) (xs ys : List ℕ) → AllByRecursion (λ z. x < z) xs → AllByRecursion (λ z. x < z) ys → IsSame (set_of (x ∷ xs)) (set_of (x ∷ ys)) → IsSame (set_of xs) (set_of ys)
+tails : (x : ℕ) (xs ys : List ℕ) → AllByRecursion (λ z. x < z) xs → AllByRecursion (λ z. x < z) ys → IsSame (set_of (x ∷ xs)) (set_of (x ∷ ys)) →
+    IsSame (set_of xs) (set_of ys)
 tails x xs ys h k s p = by (x == p) refl
   where
     by : (b : Bool) → (x == p) ≡ b → set_of xs p ≡ set_of ys p

@@ -14,7 +14,8 @@ pub record Taken (choices : List Choice) (sides : List ℕ) (k : ℕ) (d : Choic
   pub least : 1 ≤ get_or sides k e
   pub most : get_or sides k e ≤ (get_or choices k d).sides
 
-pub taken : (choices : List Choice) (sides : List ℕ) (k : ℕ) (d : Choice) (e : ℕ) → IsChoiceList choices sides → k < length choices → Taken choices sides k d e
+pub taken : (choices : List Choice) (sides : List ℕ) (k : ℕ) (d : Choice) (e : ℕ) → IsChoiceList choices sides → k < length choices →
+    Taken choices sides k d e
 taken [] sides k d e h l = absurd (omega (arith, l))
 taken (c ∷ cs) [] k d e h l = absurd h
 taken (c ∷ cs) (s ∷ ss) zero d e h l = record { within = omega arith; least = h.0.0; most = h.0.1 }
@@ -37,7 +38,8 @@ or_assoc true b c = refl
 or_assoc false b c = refl
 
 -- one more premise of the list is believed
-pub with_side : (was now : Members) (choices : List Choice) (sides : List ℕ) (k : ℕ) (d : Choice) (e n : ℕ) → IsChoiceList choices sides → k < length choices →
+pub with_side : (was now : Members) (choices : List Choice) (sides : List ℕ) (k : ℕ) (d : Choice) (e n : ℕ) → IsChoiceList choices sides →
+    k < length choices →
     n ≡ (get_or choices k d).first + (get_or sides k e - 1) → ((p : ℕ) → now p ≡ (was p || (n == p))) → (p : ℕ) →
     (now p || hypotheticals_of (drop (k + 1) choices) (drop (k + 1) sides) p) ≡ (was p || hypotheticals_of (drop k choices) (drop k sides) p)
 with_side was now choices sides k d e n h l at one_more p =
@@ -55,5 +57,6 @@ or_none true = refl
 or_none false = refl
 
 -- no side is left to be taken
-pub no_side_left : (s : Members) (choices : List Choice) (sides : List ℕ) (k p : ℕ) → length choices ≤ k → (s p || hypotheticals_of (drop k choices) (drop k sides) p) ≡ s p
+pub no_side_left : (s : Members) (choices : List Choice) (sides : List ℕ) (k p : ℕ) → length choices ≤ k →
+    (s p || hypotheticals_of (drop k choices) (drop k sides) p) ≡ s p
 no_side_left s choices sides k p l = ap (λ cs. s p || hypotheticals_of cs (drop k sides) p) (drop_of_length-le choices l) ∙ or_none (s p)

@@ -33,7 +33,8 @@ increasing-range n m k l =
 -- the numbers are in order
 pub increasing-numbers_from : (n : ℕ) (words : List ℕ) → IsStrictlyIncreasing (numbers_from n words)
 unfolding numbers_from
-increasing-numbers_from n words = IsStrictlyIncreasing-filter (λ p. has_bit words (p - n)) (range_with_len n (64 * length words)) (increasing-range n (64 * length words))
+increasing-numbers_from n words = IsStrictlyIncreasing-filter (λ p. has_bit words (p - n)) (range_with_len n (64 * length words))
+    (increasing-range n (64 * length words))
 
 -- no bit is past the last word
 pub has_bit-past : (words : List ℕ) (p : ℕ) → 64 * length words ≤ p → has_bit words p ≡ false
@@ -91,7 +92,8 @@ unfolding has_bit
 has_bit-same a b h p = ap (λ w. is_set w (p % 64)) (h (p / 64))
 
 -- the bits of both
-pub has_bit-unite : (a b both : List ℕ) → ((k : ℕ) → get_or both k 0 ≡ bit_or (get_or a k 0) (get_or b k 0)) → (p : ℕ) → has_bit both p ≡ (has_bit a p || has_bit b p)
+pub has_bit-unite : (a b both : List ℕ) → ((k : ℕ) → get_or both k 0 ≡ bit_or (get_or a k 0) (get_or b k 0)) → (p : ℕ) →
+    has_bit both p ≡ (has_bit a p || has_bit b p)
 unfolding has_bit
 has_bit-unite a b both h p = ap (λ w. is_set w (p % 64)) (h (p / 64)) ∙ is_set-or (get_or a (p / 64) 0) (get_or b (p / 64) 0) (p % 64)
 
@@ -131,7 +133,8 @@ has_bit-added words n p l = elim (cases_eq (p / 64) (n / 64)) [
       ∙ is_set-or (get_or words (n / 64) 0) (2 ^ (n % 64)) (p % 64)
       ∙ ap (λ b. b || is_set (2 ^ (n % 64)) (p % 64)) (at_word words (n / 64) p here)
       ∙ ap (λ b. has_bit words p || b) (is_set-pow (n % 64) (p % 64) ∙ same_place n p here))
-  | inr there ↦ has_bit-kept words (n / 64) (bit_or (get_or words (n / 64) 0) (2 ^ (n % 64))) p there ∙ or_off (has_bit words p) (n == p) (other_place n p there)
+  | inr there ↦ has_bit-kept words (n / 64) (bit_or (get_or words (n / 64) 0) (2 ^ (n % 64))) p there
+      ∙ or_off (has_bit words p) (n == p) (other_place n p there)
 ]
 
 -- one number less
@@ -142,8 +145,10 @@ has_bit-cleared words n p l = elim (cases_eq (p / 64) (n / 64)) [
       has_bit-set words (n / 64) (bit_and (get_or words (n / 64) 0) (bit_not w64 (2 ^ (n % 64)))) p l here
       ∙ is_set-and (get_or words (n / 64) 0) (bit_not w64 (2 ^ (n % 64))) (p % 64)
       ∙ ap (λ b. b && is_set (bit_not w64 (2 ^ (n % 64))) (p % 64)) (at_word words (n / 64) p here)
-      ∙ ap (λ b. has_bit words p && b) (is_set-not (2 ^ (n % 64)) (p % 64) (pow_fits (n % 64) (omega arith)) (omega arith) ∙ ap not (is_set-pow (n % 64) (p % 64) ∙ same_place n p here)))
-  | inr there ↦ has_bit-kept words (n / 64) (bit_and (get_or words (n / 64) 0) (bit_not w64 (2 ^ (n % 64)))) p there ∙ and_on (has_bit words p) (not (n == p)) (ap not (other_place n p there))
+      ∙ ap (λ b. has_bit words p && b) (is_set-not (2 ^ (n % 64)) (p % 64) (pow_fits (n % 64) (omega arith)) (omega arith)
+      ∙ ap not (is_set-pow (n % 64) (p % 64) ∙ same_place n p here)))
+  | inr there ↦ has_bit-kept words (n / 64) (bit_and (get_or words (n / 64) 0) (bit_not w64 (2 ^ (n % 64)))) p there
+      ∙ and_on (has_bit words p) (not (n == p)) (ap not (other_place n p there))
 ]
 
 -- a number past all words
@@ -229,12 +234,14 @@ from_below n p b l = let out : nat_le n p ≡ false = grind (arith, nat_tests) i
 from_above : (n p : ℕ) (b : Bool) → n ≤ p → (nat_le n p && b) ≡ b
 from_above n p b l = let in_it : nat_le n p ≡ true = grind (arith, nat_tests) in rw in_it refl
 
-numbers_from-is : (n : ℕ) (words ns : List ℕ) → IsStrictlyIncreasing ns → ((p : ℕ) → (nat_le n p && has_bit words (p - n)) ≡ set_of ns p) → numbers_from n words ≡ ns
+numbers_from-is : (n : ℕ) (words ns : List ℕ) → IsStrictlyIncreasing ns → ((p : ℕ) → (nat_le n p && has_bit words (p - n)) ≡ set_of ns p) →
+    numbers_from n words ≡ ns
 numbers_from-is n words ns up h = same_increasing (numbers_from n words) ns (increasing-numbers_from n words) up (λ p. set_of-numbers_from n words p ∙ h p)
 
 -- a word without bits is passed by
 pub numbers_from-skip : (n m : ℕ) (words : List ℕ) → m ≡ n + 64 → numbers_from n (0 ∷ words) ≡ numbers_from m words
-numbers_from-skip n m words e = numbers_from-is n (0 ∷ words) (numbers_from m words) (increasing-numbers_from m words) (λ p. by p (cases_lt p n) (cases_lt p m) ∙ sym (set_of-numbers_from m words p))
+numbers_from-skip n m words e = numbers_from-is n (0 ∷ words) (numbers_from m words) (increasing-numbers_from m words) (λ p. by p (cases_lt p n)
+    (cases_lt p m) ∙ sym (set_of-numbers_from m words p))
   where
     by : (p : ℕ) → (p < n) ⊎ (n ≤ p) → (p < m) ⊎ (m ≤ p) → (nat_le n p && has_bit (0 ∷ words) (p - n)) ≡ (nat_le m p && has_bit words (p - m))
     by p (inl before) at = from_below n p (has_bit (0 ∷ words) (p - n)) before ∙ sym (from_below m p (has_bit words (p - m)) (omega (arith, before, e)))
@@ -271,7 +278,11 @@ or_drop b false false e h = sym e
 pub numbers_from-first : (n word t : ℕ) (words : List ℕ) → t ≡ trailing_zeros w64 word → word ≢ 0 → word < 2 ^ 64 →
     numbers_from n (word ∷ words) ≡ (n + t) ∷ numbers_from n (bit_and word (bit_not w64 (1 * 2 ^ t % 2 ^ 64)) ∷ words)
 numbers_from-first n word t words is some fits =
-    numbers_from-is n (word ∷ words) ((n + t) ∷ after) (increasing_from_rising ((n + t) ∷ after) (all_above (n + t) after higher, rising_from_increasing after (increasing-numbers_from n (cleared ∷ words)))) same
+    numbers_from-is n (word ∷ words) ((n + t) ∷ after) (increasing_from_rising ((n + t) ∷ after) (
+      all_above
+          (n + t) after higher,
+      rising_from_increasing after (increasing-numbers_from n (cleared ∷ words)),
+    )) same
   where
     cleared : ℕ
     cleared = bit_and word (bit_not w64 (1 * 2 ^ t % 2 ^ 64))
@@ -298,7 +309,12 @@ numbers_from-first n word t words is some fits =
         by (inl before) at k = cc (k, from_below n p (has_bit (cleared ∷ words) (p - n)) before)
         by (inr past) (inr later) k = omega (arith, later, within)
         by (inr past) (inl here) k =
-            omega (arith, past, left (p - n) here (sym (has_bit-first cleared words (p - n) here) ∙ sym (from_above n p (has_bit (cleared ∷ words) (p - n)) past) ∙ k))
+            omega (
+              arith,
+              past,
+              left (p - n) here (sym (has_bit-first cleared words (p - n) here)
+                  ∙ sym (from_above n p (has_bit (cleared ∷ words) (p - n)) past) ∙ k),
+            )
 
     lowest_here : (i : ℕ) → (t == i) ≡ true → is_set word i ≡ true
     lowest_here i e =
@@ -308,7 +324,8 @@ numbers_from-first n word t words is some fits =
     same : (p : ℕ) → (nat_le n p && has_bit (word ∷ words) (p - n)) ≡ ((n + t == p) || set_of after p)
     same p = by (cases_lt p n) (cases_lt (p - n) 64) ∙ ap (λ b. (n + t == p) || b) (sym (set_of-numbers_from n (cleared ∷ words) p))
       where
-        by : (p < n) ⊎ (n ≤ p) → (p - n < 64) ⊎ (64 ≤ p - n) → (nat_le n p && has_bit (word ∷ words) (p - n)) ≡ ((n + t == p) || (nat_le n p && has_bit (cleared ∷ words) (p - n)))
+        by : (p < n) ⊎ (n ≤ p) → (p - n < 64) ⊎ (64 ≤ p - n) → (nat_le n p && has_bit (word ∷ words) (p - n)) ≡ ((n + t == p) ||
+            (nat_le n p && has_bit (cleared ∷ words) (p - n)))
         by (inl before) at =
             let apart : (n + t == p) ≡ false = grind (arith, nat_tests) in
             from_below n p (has_bit (word ∷ words) (p - n)) before ∙ sym (rw apart (from_below n p (has_bit (cleared ∷ words) (p - n)) before))
@@ -319,7 +336,8 @@ numbers_from-first n word t words is some fits =
             let number : (n + t == p) ≡ (t == p - n) = grind (arith, nat_tests) in
             from_above n p (has_bit (word ∷ words) (p - n)) past ∙ has_bit-first word words (p - n) here
             ∙ or_drop (is_set cleared (p - n)) (is_set word (p - n)) (t == p - n) (is_set-cleared word t (p - n) within here) (lowest_here (p - n))
-            ∙ sym (ap (λ b. b || (nat_le n p && has_bit (cleared ∷ words) (p - n))) number ∙ ap (λ b. (t == p - n) || b) (from_above n p (has_bit (cleared ∷ words) (p - n)) past ∙ has_bit-first cleared words (p - n) here))
+            ∙ sym (ap (λ b. b || (nat_le n p && has_bit (cleared ∷ words) (p - n))) number
+            ∙ ap (λ b. (t == p - n) || b) (from_above n p (has_bit (cleared ∷ words) (p - n)) past ∙ has_bit-first cleared words (p - n) here))
 
 -- ---- the numbers below a bound
 
@@ -368,7 +386,12 @@ has_bit-below words n p l = by (cases_lt (n / 64) (p / 64)) (cases_eq (p / 64) (
 
 pub length-kept_below : (words : List ℕ) (n : ℕ) → length (kept_below words n) ≤ length words
 length-kept_below words n =
-    omega (arith, length-take (n / 64 + 1) words, length-set (take (n / 64 + 1) words) (n / 64) (bit_and (get_or (take (n / 64 + 1) words) (n / 64) 0) (2 ^ (n % 64) - 1)))
+    omega (
+      arith,
+      length-take (n / 64 + 1) words,
+      length-set (take (n / 64 + 1) words) (n / 64) (bit_and (get_or (take (n / 64 + 1) words)
+          (n / 64) 0) (2 ^ (n % 64) - 1)),
+    )
 
 -- all numbers of so few words are below it
 pub has_bit-all_below : (words : List ℕ) (n p : ℕ) → length words ≤ n / 64 → has_bit words p ≡ (has_bit words p && nat_lt p n)
@@ -397,7 +420,8 @@ last_word words n trimmed len none =
     let place : some.0 / 64 ≡ n = omega (arith, some.1, len, within_words words some.0 some.2) in
     cc (some.2, sym (at_word words n some.0 place) ∙ ap (λ w. is_set w (some.0 % 64)) none ∙ is_set-zero (some.0 % 64))
 
-pub end_is : (words : List ℕ) (n word : ℕ) → IsTrimmed words → length words ≡ n + 1 → word ≡ get_or words n 0 → word < 2 ^ 64 → IsEnd words (64 * length words - leading_zeros w64 word)
+pub end_is : (words : List ℕ) (n word : ℕ) → IsTrimmed words → length words ≡ n + 1 → word ≡ get_or words n 0 → word < 2 ^ 64 →
+    IsEnd words (64 * length words - leading_zeros w64 word)
 end_is words n word trimmed len is fits = record { above = above; last = last }
   where
     some : word ≢ 0
@@ -430,13 +454,16 @@ increasing-push ns n up below = increasing_from_rising (ns ++ n ∷ []) (rising_
 pub numbers_of-push : (a b : List ℕ) (n : ℕ) → ((p : ℕ) → has_bit b p ≡ (has_bit a p || (n == p))) → IsBelow n (set_of (numbers_of a)) → numbers_of b ≡ numbers_of a ++ n ∷ []
 numbers_of-push a b n h below =
     numbers_of-is b (numbers_of a ++ n ∷ []) (increasing-push (numbers_of a) n (increasing-numbers_from 0 a) below)
-    (λ p. h p ∙ ap (λ c. c || (n == p)) (sym (set_of-numbers_of a p)) ∙ sym (list_any-append (λ q. q == p) (numbers_of a) (n ∷ []) ∙ ap (λ c. set_of (numbers_of a) p || c) (or_none (n == p))))
+    (λ p. h p ∙ ap (λ c. c || (n == p)) (sym (set_of-numbers_of a p)) ∙ sym (list_any-append (λ q. q == p) (numbers_of a) (n ∷ [])
+    ∙ ap (λ c. set_of (numbers_of a) p || c) (or_none (n == p))))
 
 -- ---- numbers in a set
 
 -- whether all numbers are in a set, by the bits
-pub is_within-bits : (words : List ℕ) (s : Members) (b : Bool) → (b ≡ true → (p : ℕ) → has_bit words p ≡ true → s p ≡ true) → (b ≡ false → (p : ℕ) × (has_bit words p ≡ true) × (s p ≡ false)) → b ≡ is_within s (numbers_of words)
-is_within-bits words s b h k = is_within-told s (numbers_of words) b (λ t p i. h t p (sym (set_of-numbers_of words p) ∙ i)) (λ f. (let out = k f in (out.0, set_of-numbers_of words out.0 ∙ out.1, out.2)))
+pub is_within-bits : (words : List ℕ) (s : Members) (b : Bool) → (b ≡ true → (p : ℕ) → has_bit words p ≡ true → s p ≡ true) → (b ≡ false →
+    (p : ℕ) × (has_bit words p ≡ true) × (s p ≡ false)) → b ≡ is_within s (numbers_of words)
+is_within-bits words s b h k = is_within-told s (numbers_of words) b (λ t p i. h t p (sym (set_of-numbers_of words p)
+    ∙ i)) (λ f. (let out = k f in (out.0, set_of-numbers_of words out.0 ∙ out.1, out.2)))
 
 -- ---- the forms of sets that are made
 
@@ -456,7 +483,8 @@ IsForm-unite a b both form len bits = record {
   in_range = omega (arith, len, form.in_range);
 }
 
-pub IsForm-added : (a b : List ℕ) (n : ℕ) → IsForm a → n < 65_536 → length b ≡ max (length a) (n / 64 + 1) → ((p : ℕ) → has_bit b p ≡ (has_bit a p || (n == p))) → IsForm b
+pub IsForm-added : (a b : List ℕ) (n : ℕ) → IsForm a → n < 65_536 → length b ≡ max (length a) (n / 64 + 1) → ((p : ℕ) →
+    has_bit b p ≡ (has_bit a p || (n == p))) → IsForm b
 IsForm-added a b n form low len bits = record {
   trimmed = λ m e. by m e (cases_lt (n / 64) m);
   in_range = omega (arith, len, form.in_range, low);
@@ -474,7 +502,8 @@ IsForm-added a b n form low len bits = record {
 pub kept_written : (words front lent : List ℕ) (place mask n : ℕ) → front ≡ take (place + 1) words → lent ≡ front → place ≡ n / 64 → mask ≡ 2 ^ (n % 64) →
     refill (length front) front (set lent place (bit_and (get_or lent place 0) (mask - 1))) ≡ kept_below words n
 kept_written words front lent place mask n is same at bit =
-    rw (same, is, at, bit) (refilled (take (n / 64 + 1) words) (kept_below words n) (length-set (take (n / 64 + 1) words) (n / 64) (bit_and (get_or (take (n / 64 + 1) words) (n / 64) 0) (2 ^ (n % 64) - 1))))
+    rw (same, is, at, bit) (refilled (take (n / 64 + 1) words) (kept_below words n) (length-set (take (n / 64 + 1) words) (n / 64) (bit_and (get_or
+    (take (n / 64 + 1) words) (n / 64) 0) (2 ^ (n % 64) - 1))))
 
 -- further words without bits
 zeros : (ys : List ℕ) (k : ℕ) → AllByRecursion (λ y. (y ≡ 0) ⊎ (y ≡ 0)) ys → get_or ys k 0 ≡ 0
@@ -487,13 +516,16 @@ padded [] ys k h = zeros ys k h
 padded (w ∷ ws) ys zero h = refl
 padded (w ∷ ws) ys (suc k) h = padded ws ys k h
 
-pub has_bit-grown : (words grown : List ℕ) (len : ℕ) → length words ≤ len → AppendsClonesOf (λ x y. y ≡ x) (take len words) grown 0 → (p : ℕ) → has_bit grown p ≡ has_bit words p
+pub has_bit-grown : (words grown : List ℕ) (len : ℕ) → length words ≤ len → AppendsClonesOf (λ x y. y ≡ x) (take len words) grown 0 → (p : ℕ) →
+    has_bit grown p ≡ has_bit words p
 has_bit-grown words grown len l h p =
     let whole : take len words ≡ words = grind (arith, common_steps) in
     has_bit-same grown words (λ k. ap (λ ws. get_or ws k 0) h.1 ∙ padded (take len words) h.0 k h.2 ∙ ap (λ ws. get_or ws k 0) whole) p
 
-pub set_of-added : (a b : List ℕ) (n p : ℕ) → has_bit b p ≡ (has_bit a p || (n == p)) → set_of (numbers_of b) p ≡ (set_of (numbers_of a) p || ((n == p) || false))
-set_of-added a b n p h = set_of-numbers_of b p ∙ h ∙ sym (ap (λ c. c || ((n == p) || false)) (set_of-numbers_of a p) ∙ ap (λ c. has_bit a p || c) (or_none (n == p)))
+pub set_of-added : (a b : List ℕ) (n p : ℕ) → has_bit b p ≡ (has_bit a p || (n == p)) →
+    set_of (numbers_of b) p ≡ (set_of (numbers_of a) p || ((n == p) || false))
+set_of-added a b n p h = set_of-numbers_of b p ∙ h ∙ sym (ap (λ c. c || ((n == p) || false)) (set_of-numbers_of a p)
+    ∙ ap (λ c. has_bit a p || c) (or_none (n == p)))
 
 -- the numbers of two sets, by the bits of both
 pub set_of-both : (a b : List ℕ) (p : ℕ) → (has_bit a p || has_bit b p) ≡ (set_of (numbers_of a) p || set_of (numbers_of b) p)
@@ -522,7 +554,8 @@ if_ok (Ok x) f h = f x h
 if_ok (Err e) f h = tt
 
 -- words that are cut after the last that has a bit
-pub IsTrimmed-cut : (words cut : List ℕ) (len : ℕ) → cut ≡ take len words → len ≤ length words → ((k : ℕ) → len ≤ k → get_or words k 0 ≡ 0) → ((n : ℕ) → len ≡ n + 1 → HasFrom words n) → IsTrimmed cut
+pub IsTrimmed-cut : (words cut : List ℕ) (len : ℕ) → cut ≡ take len words → len ≤ length words → ((k : ℕ) → len ≤ k → get_or words k 0 ≡ 0) →
+    ((n : ℕ) → len ≡ n + 1 → HasFrom words n) → IsTrimmed cut
 IsTrimmed-cut words cut len is within rest last n e =
     let some = last n (omega (arith, e, within, ap length is, length-take len words)) in
     (some.0, some.1, ap (λ ws. has_bit ws some.0) is ∙ has_bit-trimmed words len rest some.0 ∙ some.2)

@@ -4,7 +4,9 @@ use Rattle.prop_premises.proofs.bits.clear.Goals as goal
 
 pub returns-then-place-words-clause-bits : goal.returns-then-place-words-clause-bits
 returns-then-place-words-clause-bits c p =
-    rw (c.place_of-place.ensures, c.bit_of.ensures) (has_bit-cleared c.args.words.now c.args.number p (omega (arith, c.if-place-words.true, c.place_of-place.ensures)))
+    rw (c.place_of-place.ensures, c.bit_of.ensures) (has_bit-cleared c.args.words.now c.args.number p (omega
+    (arith, c.if-place-words.true, c.place_of-place.ensures)))
 
 pub returns-else-place-words-clause-bits : goal.returns-else-place-words-clause-bits
-returns-else-place-words-clause-bits c p = has_bit-not_there c.args.words.now c.args.number p (omega (arith, c.if-place-words.false, c.place_of-place.ensures))
+returns-else-place-words-clause-bits c p = has_bit-not_there c.args.words.now c.args.number p (omega
+    (arith, c.if-place-words.false, c.place_of-place.ensures))

@@ -10,7 +10,8 @@ use Rattle.prop_premises.proofs.bits.is_part.Goals as goal
 pub returns-then-words-place-ne0-clause-apart : goal.returns-then-words-place-ne0-clause-apart
 returns-then-words-place-ne0-clause-apart c = λ _.
     let place = c.loop-place.place in
-    let out = is_set-apart (get_or c.args.words.now place 0) c.word_at.result (Fits-lt-pow {w = w64} (c.type_inv.words place)) (omega arith) c.if-words-place-ne0.true in (
+    let out = is_set-apart (get_or c.args.words.now place 0) c.word_at.result (Fits-lt-pow {w = w64} (c.type_inv.words place))
+    (omega arith) c.if-words-place-ne0.true in (
       64 * place + out.0,
       is_number c.args.words.now place out.0 out.1 ∙ out.2,
       is_number c.args.others.now place out.0 out.1 ∙ ap (λ w. is_set w out.0) (sym c.word_at.ensures) ∙ out.3,

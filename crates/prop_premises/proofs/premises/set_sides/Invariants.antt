@@ -6,5 +6,6 @@ use Rattle.prop_premises.proofs.premises.set_sides.Given as goal
 abbrev pub invariant-loop-place : goal.invariant-loop-place
 invariant-loop-place l = record {
   len : length l.words ≡ length l.fn.words;
-  bits : (p : ℕ) → (has_bit l.words p || hypotheticals_of (drop l.place l.choices) (drop l.place l.sides) p) ≡ (has_bit l.fn.words p || hypotheticals_of l.choices l.sides p);
+  bits : (p : ℕ) → (has_bit l.words p || hypotheticals_of (drop l.place l.choices) (drop l.place l.sides) p) ≡
+      (has_bit l.fn.words p || hypotheticals_of l.choices l.sides p);
 }

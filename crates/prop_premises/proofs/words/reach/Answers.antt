@@ -8,4 +8,5 @@ on_ok (Err e) f h = tt
 
 pub returns-then-len-count-clause-bits : goal.returns-then-len-count-clause-bits
 returns-then-len-count-clause-bits c =
-    on_ok c.resize.result (λ h. has_bit-grown c.args.words.now.items c.resize.new.self.items c.args.count (omega (arith, c.if-len-count.true, c.len.ensures.value)) h) c.resize.ensures.ok
+    on_ok c.resize.result (λ h. has_bit-grown c.args.words.now.items c.resize.new.self.items c.args.count (omega
+    (arith, c.if-len-count.true, c.len.ensures.value)) h) c.resize.ensures.ok

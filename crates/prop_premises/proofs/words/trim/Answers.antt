@@ -5,7 +5,8 @@ use Rattle.prop_premises.proofs.words.trim.Goals as goal
 
 pub returns-clause-bits : goal.returns-clause-bits
 returns-clause-bits c p =
-    ap (λ ws. has_bit ws p) c.truncate.ensures.items ∙ has_bit-trimmed c.args.words.now.items c.trimmed_len-len.result (rw c.deref.ensures at c.trimmed_len-len.ensures.rest) p
+    ap (λ ws. has_bit ws p) c.truncate.ensures.items ∙ has_bit-trimmed c.args.words.now.items c.trimmed_len-len.result
+    (rw c.deref.ensures at c.trimmed_len-len.ensures.rest) p
 
 pub returns-clause-trimmed : goal.returns-clause-trimmed
 returns-clause-trimmed c =

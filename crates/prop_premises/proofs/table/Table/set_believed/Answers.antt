@@ -8,7 +8,8 @@ use Rattle.prop_premises.proofs.table.Table.set_believed.Goals.{then-is_believed
 
 pub set_bit-requires : goal.set_bit-requires
 set_bit-requires c =
-    let within = first_within c.self.inside.names.entries c.loop-place.place c.index-named.result.now c.self.invariant.1 c.index-named.ensures (sym c.is_believed.ensures ∙ c.if-is_believed.true) in
+    let within = first_within c.self.inside.names.entries c.loop-place.place c.index-named.result.now c.self.invariant.1 c.index-named.ensures
+    (sym c.is_believed.ensures ∙ c.if-is_believed.true) in
     omega (arith, within, c.requires, c.loop-place.invariant.len, ap length c.self.view_is)
 
 pub loop-place-preserved : goal.loop-place-preserved
@@ -17,13 +18,17 @@ loop-place-preserved c =
     record {
       len = c.if-is_believed.auto.words ∙ c.loop-place.invariant.len;
       bits = λ p. (
-          let next = believed_in-next c.self.inside.names.entries c.loop-place.place (c.loop-place.place + 1) named p refl c.self.invariant.1 c.index-named.ensures in
+          let next = believed_in-next c.self.inside.names.entries c.loop-place.place
+          (c.loop-place.place + 1) named p refl c.self.invariant.1 c.index-named.ensures in
           elim c.if-is_believed.branch [
-            | then-is_believed w ↦ ap (λ ws. has_bit ws p) w.words-is ∙ w.set_bit.ensures.bits p ∙ ap (λ b. b || (named.first == p)) (c.loop-place.invariant.bits p)
-                ∙ told_of (has_bit c.args.words.now p) (believed_in (origins_of (take c.loop-place.place c.self.inside.names.entries)) p) (is_believed_kind named.kind) (named.first == p) (sym c.is_believed.ensures ∙ w.if-is_believed.true)
+            | then-is_believed w ↦ ap (λ ws. has_bit ws p) w.words-is ∙ w.set_bit.ensures.bits p
+                ∙ ap (λ b. b || (named.first == p)) (c.loop-place.invariant.bits p)
+                ∙ told_of (has_bit c.args.words.now p) (believed_in (origins_of (take c.loop-place.place c.self.inside.names.entries)) p)
+                (is_believed_kind named.kind) (named.first == p) (sym c.is_believed.ensures ∙ w.if-is_believed.true)
                 ∙ ap (λ b. has_bit c.args.words.now p || b) (sym next)
             | else-is_believed w ↦ ap (λ ws. has_bit ws p) w.words-is ∙ c.loop-place.invariant.bits p
-                ∙ not_told (has_bit c.args.words.now p) (believed_in (origins_of (take c.loop-place.place c.self.inside.names.entries)) p) (is_believed_kind named.kind) (named.first == p) (sym c.is_believed.ensures ∙ w.if-is_believed.false)
+                ∙ not_told (has_bit c.args.words.now p) (believed_in (origins_of (take c.loop-place.place c.self.inside.names.entries)) p)
+                (is_believed_kind named.kind) (named.first == p) (sym c.is_believed.ensures ∙ w.if-is_believed.false)
                 ∙ ap (λ b. has_bit c.args.words.now p || b) (sym next)
           ]);
     }

@@ -5,7 +5,8 @@ use Rattle.prop_premises.specs.Words.{has_bit, numbers_of}
 use Rattle.prop_premises.proofs.WordLemmas.{is_within-bits}
 use Rattle.prop_premises.proofs.words.Words.is_below.Goals as goal
 
-below_end : (words : List ℕ) (end bound : ℕ) → ((p : ℕ) → has_bit words p ≡ true → p < end) → ((p : ℕ) → end ≡ p + 1 → has_bit words p ≡ true) → nat_le end bound ≡ is_below bound (numbers_of words)
+below_end : (words : List ℕ) (end bound : ℕ) → ((p : ℕ) → has_bit words p ≡ true → p < end) → ((p : ℕ) → end ≡ p + 1 → has_bit words p ≡ true) →
+    nat_le end bound ≡ is_below bound (numbers_of words)
 below_end words end bound above last =
     is_within-bits words (λ p. nat_lt p bound) (nat_le end bound) (λ t p h. (let l = above p h in grind (arith, nat_tests)))
     (λ f. (

@@ -17,7 +17,8 @@ returns-then-place-len c =
     let words = c.self.inside.words.items in
     let written = kept_written words c.truncate.new.self.items c.deref_mut.result.now c.place_of-place.result c.bit_of.result c.args.bound c.truncate.ensures.items c.deref_mut.ensures.value c.place_of-place.ensures c.bit_of.ensures in
     rw (← c.self.view_is) (numbers_of-filter words c.trim.new.words.items (λ p. nat_lt p c.args.bound)
-    (λ p. c.trim.ensures.bits p ∙ ap (λ ws. has_bit ws p) written ∙ has_bit-below words c.args.bound p (omega (arith, c.if-place-len.true, c.len.ensures.value, c.place_of-place.ensures))))
+    (λ p. c.trim.ensures.bits p ∙ ap (λ ws. has_bit ws p) written ∙ has_bit-below words c.args.bound p (omega
+    (arith, c.if-place-len.true, c.len.ensures.value, c.place_of-place.ensures))))
 
 pub returns-else-place-len : goal.returns-else-place-len
 returns-else-place-len c =

@@ -16,5 +16,6 @@ returns-else-len-clause-has c =
     let words = c.self.inside.words.items in
     let others = c.other.inside.words.items in
     rw (← c.self.view_is, ← c.other.view_is) (if_ok c.united-else-len.result (λ w h p. h p
-    ∙ ap (λ ws. has_bit ws p || has_bit c.deref-else-len-2.result.now p) c.deref-else-len.ensures ∙ ap (λ ws. has_bit words p || has_bit ws p) c.deref-else-len-2.ensures
+    ∙ ap (λ ws. has_bit ws p || has_bit c.deref-else-len-2.result.now p) c.deref-else-len.ensures
+    ∙ ap (λ ws. has_bit words p || has_bit ws p) c.deref-else-len-2.ensures
     ∙ set_of-both words others p) c.united-else-len.ensures.has)

@@ -9,4 +9,5 @@ returns-clause-has c p =
     let written = refilled c.in_ok-words.words.items c.clear.new.words (c.clear.ensures.len ∙ ap length c.deref_mut.ensures.value) in
     rw (← c.self.view_is)
     (c.of.ensures.has p ∙ ap (λ ws. has_bit ws p) written ∙ c.clear.ensures.bits p
-    ∙ ap (λ ws. has_bit ws p && not (c.args.number == p)) words ∙ ap (λ b. b && not (c.args.number == p)) (sym (set_of-numbers_of c.self.inside.words.items p)))
+    ∙ ap (λ ws. has_bit ws p && not (c.args.number == p)) words ∙ ap (λ b. b && not (c.args.number == p)) (sym
+    (set_of-numbers_of c.self.inside.words.items p)))
