@@ -17,7 +17,7 @@ use Rattle.prop_premises.specs.Words.{is_set, has_bit, numbers_from, numbers_of,
 use Rattle.prop_premises.proofs.BitLemmas.{tested, is_set-or, is_set-and, is_set-not, is_set-pow, is_set-zero, is_set-ones, is_set-cleared, pow_fits, lowest, Highest, highest}
 use Rattle.prop_premises.proofs.WithinLemmas.{is_within-told}
 use Rattle.prop_premises.proofs.SetLemmas.{set_of-filter}
-use Rattle.prop_premises.proofs.MergeLemmas.{same_increasing, all_above, rising_push, rising_from_increasing, increasing_from_rising}
+use Rattle.prop_premises.proofs.MergeLemmas.{Rising, same_increasing, all_above, rising_push, rising_from_increasing, increasing_from_rising}
 
 set_of-range : (n m p : ℕ) → set_of (range_with_len n m) p ≡ (nat_le n p && nat_lt p (n + m))
 set_of-range n zero p = grind (arith, nat_tests)
@@ -240,8 +240,8 @@ numbers_from-is n words ns up h = same_increasing (numbers_from n words) ns (inc
 
 -- a word without bits is passed by
 pub numbers_from-skip : (n m : ℕ) (words : List ℕ) → m ≡ n + 64 → numbers_from n (0 ∷ words) ≡ numbers_from m words
-numbers_from-skip n m words e = numbers_from-is n (0 ∷ words) (numbers_from m words) (increasing-numbers_from m words) (λ p. by p (cases_lt p n)
-    (cases_lt p m) ∙ sym (set_of-numbers_from m words p))
+numbers_from-skip n m words e =
+    numbers_from-is n (0 ∷ words) (numbers_from m words) (increasing-numbers_from m words) (λ p. by p (cases_lt p n) (cases_lt p m) ∙ sym (set_of-numbers_from m words p))
   where
     by : (p : ℕ) → (p < n) ⊎ (n ≤ p) → (p < m) ⊎ (m ≤ p) → (nat_le n p && has_bit (0 ∷ words) (p - n)) ≡ (nat_le m p && has_bit words (p - m))
     by p (inl before) at = from_below n p (has_bit (0 ∷ words) (p - n)) before ∙ sym (from_below m p (has_bit words (p - m)) (omega (arith, before, e)))
@@ -278,11 +278,7 @@ or_drop b false false e h = sym e
 pub numbers_from-first : (n word t : ℕ) (words : List ℕ) → t ≡ trailing_zeros w64 word → word ≢ 0 → word < 2 ^ 64 →
     numbers_from n (word ∷ words) ≡ (n + t) ∷ numbers_from n (bit_and word (bit_not w64 (1 * 2 ^ t % 2 ^ 64)) ∷ words)
 numbers_from-first n word t words is some fits =
-    numbers_from-is n (word ∷ words) ((n + t) ∷ after) (increasing_from_rising ((n + t) ∷ after) (
-      all_above
-          (n + t) after higher,
-      rising_from_increasing after (increasing-numbers_from n (cleared ∷ words)),
-    )) same
+    numbers_from-is n (word ∷ words) ((n + t) ∷ after) (increasing_from_rising ((n + t) ∷ after) rising) same
   where
     cleared : ℕ
     cleared = bit_and word (bit_not w64 (1 * 2 ^ t % 2 ^ 64))
@@ -320,6 +316,9 @@ numbers_from-first n word t words is some fits =
     lowest_here i e =
         let at : trailing_zeros w64 word ≡ i = sym is ∙ same_number t i e in
         subst (λ k. is_set word k ≡ true) at found.1
+
+    rising : Rising ((n + t) ∷ after)
+    rising = (all_above (n + t) after higher, rising_from_increasing after (increasing-numbers_from n (cleared ∷ words)))
 
     same : (p : ℕ) → (nat_le n p && has_bit (word ∷ words) (p - n)) ≡ ((n + t == p) || set_of after p)
     same p = by (cases_lt p n) (cases_lt (p - n) 64) ∙ ap (λ b. (n + t == p) || b) (sym (set_of-numbers_from n (cleared ∷ words) p))
@@ -386,12 +385,9 @@ has_bit-below words n p l = by (cases_lt (n / 64) (p / 64)) (cases_eq (p / 64) (
 
 pub length-kept_below : (words : List ℕ) (n : ℕ) → length (kept_below words n) ≤ length words
 length-kept_below words n =
-    omega (
-      arith,
-      length-take (n / 64 + 1) words,
-      length-set (take (n / 64 + 1) words) (n / 64) (bit_and (get_or (take (n / 64 + 1) words)
-          (n / 64) 0) (2 ^ (n % 64) - 1)),
-    )
+    let front = take (n / 64 + 1) words in
+    let word = bit_and (get_or front (n / 64) 0) (2 ^ (n % 64) - 1) in
+    omega (arith, length-take (n / 64 + 1) words, length-set front (n / 64) word)
 
 -- all numbers of so few words are below it
 pub has_bit-all_below : (words : List ℕ) (n p : ℕ) → length words ≤ n / 64 → has_bit words p ≡ (has_bit words p && nat_lt p n)
