@@ -7,7 +7,7 @@ use Rattle.std.proofs.Math.ListN.{set, length-set}
 use Rattle.std.proofs.lemmas.Bool.{cases_eq, cases_lt}
 use Rattle.std.proofs.lemmas.Bool.Decides.{nat_tests, eqb_tells}
 use Rattle.std.proofs.lemmas.Grind.{get_or-set_at, common_steps}
-use Rattle.std.proofs.lemmas.List.{get_or_past, get_or-set_other, get_or-take, length-take}
+use Rattle.std.proofs.lemmas.List.{get_or_past, get_or-set_other, get_or-take, length-take, take-append-le, take_all}
 use Rattle.std.proofs.lemmas.List.Folds.{list_any-append}
 use Rattle.std.proofs.lemmas.List.FromFn.{length-range_with_len, get_or-range_with_len}
 use Rattle.std.proofs.lemmas.List.Kept.{IsStrictlyIncreasing-filter}
@@ -162,15 +162,9 @@ has_bit-not_there words n p l = elim (cases_lt (p / 64) (length words)) [
       rw none refl)
 ]
 
-take_front : (xs more : List ℕ) (n : ℕ) → n ≡ length xs → take n (xs ++ more) ≡ xs
-take_front [] more zero e = refl
-take_front [] more (suc n) e = absurd (omega (arith, e))
-take_front (x ∷ xs) more zero e = absurd (omega (arith, e))
-take_front (x ∷ xs) more (suc n) e = ap (λ l. x ∷ l) (take_front xs more n (omega (arith, e)))
-
 -- words that are written in place
 pub refilled : (words written : List ℕ) → length written ≡ length words → refill (length words) words written ≡ written
-refilled words written e = take_front written (drop (length written) words) (length words) (sym e)
+refilled words written e = take-append-le (length words) written (drop (length written) words) (omega (arith, e)) ∙ take_all (length words) written (omega (arith, e))
 
 -- the words up to a length, past which there are no bits
 pub has_bit-trimmed : (words : List ℕ) (len : ℕ) → ((k : ℕ) → len ≤ k → get_or words k 0 ≡ 0) → (p : ℕ) → has_bit (take len words) p ≡ has_bit words p
