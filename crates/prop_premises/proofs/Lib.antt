@@ -1,6 +1,8 @@
 pub mod SetLemmas
 pub mod MergeLemmas
 pub mod FlagLemmas
+pub mod BitLemmas
+pub mod WordLemmas
 pub mod OriginLemmas
 pub mod WithinLemmas
 pub mod ChoiceLemmas
@@ -11,3 +13,4 @@ pub mod EntryLemmas
 pub mod SideLemmas
 pub mod ChangeLemmas
 pub mod WorldviewLemmas
+pub mod BelievedLemmas

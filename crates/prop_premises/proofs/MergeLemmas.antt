@@ -1,23 +1,11 @@
--- Two lists of numbers in order, merged into one.
-use Rattle.std.proofs.Common.{◌≡◌, ℕ, zero, suc, ◌+◌, ◌-◌, ◌<◌, ◌≤◌, Bool, true, false, ◌||◌, ◌==◌, cond, List, [], ◌∷◌, ◌++◌, length, drop, refl, ap, arith, inl, inr, ◌⊎◌, nat_lt, take, append-nil, append_assoc}
+-- Lists of numbers in which each is below all later ones.
+use Rattle.std.proofs.Common.{◌≡◌, ℕ, zero, suc, ◌+◌, ◌<◌, ◌≤◌, Bool, true, false, ◌||◌, ◌==◌, List, [], ◌∷◌, ◌++◌, refl, sym, ap, ◌∙◌, arith, inl, inr, ◌⊎◌, subst}
 use Rattle.std.specs.List.{AllByRecursion}
 use Rattle.std.specs.List.Sorted.{IsStrictlyIncreasing}
-use Rattle.std.proofs.lemmas.Grind.{common_steps}
-use Rattle.std.proofs.lemmas.Bool.Decides.{nat_tests}
-use Rattle.std.proofs.lemmas.List.{drop_all}
+use Rattle.std.proofs.lemmas.Bool.Decides.{eqb_tells}
 use Rattle.std.proofs.lemmas.List.Kept.{AllPairs-from_increasing}
 use Rattle.std.proofs.lemmas.List.Elements.{recursion_from_All, All-from_recursion}
-use Rattle.prop_premises.specs.Sets.{set_of, union, IsSame}
-
--- a number, and what its list gives with the rest of the other list
-abbrev pub put_in : ℕ → (List ℕ → List ℕ) → List ℕ → List ℕ
-put_in x rest [] = x ∷ rest []
-put_in x rest (y ∷ ys) = cond (nat_lt x y) (x ∷ rest (y ∷ ys)) (cond (x == y) (x ∷ rest ys) (y ∷ put_in x rest ys))
-
--- the numbers of both lists in order
-abbrev pub merged_of : List ℕ → List ℕ → List ℕ
-merged_of [] b = b
-merged_of (x ∷ xs) b = put_in x (merged_of xs) b
+use Rattle.prop_premises.specs.Sets.{set_of, IsSame, IsBelow}
 
 -- each number is below all later ones
 abbrev pub Rising : List ℕ → Type 0
@@ -37,93 +25,94 @@ increasing_from_rising (x ∷ xs) h zero l = All-from_recursion (λ y. x < y) xs
 increasing_from_rising (x ∷ xs) h (suc k) l =
     let e : suc k + 1 ≡ suc (k + 1) = omega arith in rw e (increasing_from_rising xs h.1 k (omega arith))
 
-all_above : (x y : ℕ) (ys : List ℕ) → x < y → AllByRecursion (λ z. y < z) ys → AllByRecursion (λ z. x < z) ys
-all_above x y [] l h = tt
-all_above x y (z ∷ zs) l h = (omega (arith, h.0), all_above x y zs l h.1)
+or_cases : (b c : Bool) → (b || c) ≡ true → (b ≡ true) ⊎ (c ≡ true)
+or_cases true c h = inl refl
+or_cases false c h = inr h
 
-either : (P : List ℕ → Type 0) (b : Bool) (u v : List ℕ) → P u → P v → P (cond b u v)
-either P true u v p q = p
-either P false u v p q = q
+or_none : (b c : Bool) → (b || c) ≡ false → b ≡ false
+or_none true c h = h
+or_none false c h = refl
 
-all-put_in : (P : ℕ → Type 0) (x : ℕ) (rest : List ℕ → List ℕ) (b : List ℕ) → P x → ((c : List ℕ) → AllByRecursion P c → AllByRecursion P (rest c)) →
-    AllByRecursion P b → AllByRecursion P (put_in x rest b)
-all-put_in P x rest [] px more h = (px, more [] tt)
-all-put_in P x rest (y ∷ ys) px more h =
-    either (AllByRecursion P) (nat_lt x y) (x ∷ rest (y ∷ ys)) (cond (x == y) (x ∷ rest ys) (y ∷ put_in x rest ys)) (px, more (y ∷ ys) h)
-    (either (AllByRecursion P) (x == y) (x ∷ rest ys) (y ∷ put_in x rest ys) (px, more ys h.1) (h.0, all-put_in P x rest ys px more h.1))
+or_rest : (b c : Bool) → b ≡ false → (b || c) ≡ c
+or_rest true c h = cc
+or_rest false c h = refl
 
-all-merged_of : (P : ℕ → Type 0) (a b : List ℕ) → AllByRecursion P a → AllByRecursion P b → AllByRecursion P (merged_of a b)
-all-merged_of P [] b h k = k
-all-merged_of P (x ∷ xs) b h k = all-put_in P x (merged_of xs) b h.0 (λ c. all-merged_of P xs c h.1) k
+same : (n p : ℕ) → (n == p) ≡ true → n ≡ p
+same n p h = elim (eqb_tells n p) [ inl e ↦ e.1 | inr e ↦ cc (e.0, h) ]
 
-rising-put_in : (x : ℕ) (rest : List ℕ → List ℕ) (b : List ℕ) → ((w : ℕ) (c : List ℕ) → w ≤ x → AllByRecursion (λ z. w < z) c → AllByRecursion (λ z. w < z) (rest c)) →
-    ((c : List ℕ) → Rising c → Rising (rest c)) → Rising b → Rising (put_in x rest b)
-rising-put_in x rest [] above up h = (above x [] (omega arith) tt, up [] tt)
-rising-put_in x rest (y ∷ ys) above up h = by (nat_lt x y) refl (x == y) refl (rising-put_in x rest ys above up h.1)
+same_test : (p : ℕ) → (p == p) ≡ true
+same_test p = elim (eqb_tells p p) [ inl e ↦ e.0 | inr e ↦ absurd (e.1 refl) ]
+
+or_first : (b c : Bool) → b ≡ true → (b || c) ≡ true
+or_first true c e = refl
+or_first false c e = cc
+
+or_last : (b c : Bool) → c ≡ true → (b || c) ≡ true
+or_last true c e = refl
+or_last false c e = e
+
+-- what is in a list is above what is below its numbers
+above : (x p : ℕ) (xs : List ℕ) → AllByRecursion (λ y. x < y) xs → set_of xs p ≡ true → x < p
+above x p [] h t = cc
+above x p (y ∷ ys) h t = elim (or_cases (y == p) (set_of ys p) t) [
+  | inl e ↦ omega (arith, same y p e, h.0)
+  | inr e ↦ above x p ys h.1 e
+]
+
+not_in : (x p : ℕ) (xs : List ℕ) → AllByRecursion (λ y. x < y) xs → p ≤ x → set_of xs p ≡ false
+not_in x p xs h l = by (set_of xs p) refl
   where
-    by : (s : Bool) → nat_lt x y ≡ s → (t : Bool) → (x == y) ≡ t → Rising (put_in x rest ys) →
-        Rising (cond s (x ∷ rest (y ∷ ys)) (cond t (x ∷ rest ys) (y ∷ put_in x rest ys)))
-    by true e t f ih =
-        let l : x < y = grind (arith, nat_tests) in
-        (above x (y ∷ ys) (omega arith) (l, all_above x y ys l h.0), up (y ∷ ys) h)
-    by false e true f ih =
-        let same : x ≡ y = grind (arith, nat_tests) in
-        (above x ys (omega arith) (rw same h.0), up ys h.1)
-    by false e false f ih =
-        let l : y < x = grind (arith, nat_tests) in
-        (all-put_in (λ z. y < z) x rest ys l (λ c. above y c (omega arith)) h.0, ih)
+    by : (b : Bool) → set_of xs p ≡ b → set_of xs p ≡ false
+    by true e = absurd (omega (arith, l, above x p xs h e))
+    by false e = e
 
-pub rising-merged_of : (a b : List ℕ) → Rising a → Rising b → Rising (merged_of a b)
-rising-merged_of [] b h k = k
-rising-merged_of (x ∷ xs) b h k =
-    rising-put_in x (merged_of xs) b (λ w c le. all-merged_of (λ z. w < z) xs c (lower w x xs le h.0)) (λ c. rising-merged_of xs c h.1) k
+-- each number is below all that are in the list
+pub all_above : (x : ℕ) (xs : List ℕ) → ((p : ℕ) → set_of xs p ≡ true → x < p) → AllByRecursion (λ y. x < y) xs
+all_above x [] h = tt
+all_above x (y ∷ ys) h = (h y (or_first (y == y) (set_of ys y) (same_test y)), all_above x ys (λ p t. h p (or_last (y == p) (set_of ys p) t)))
+
+heads : (x y : ℕ) (xs ys : List ℕ) → AllByRecursion (λ z. x < z) xs → AllByRecursion (λ z. y < z) ys → IsSame (set_of (x ∷ xs)) (set_of (y ∷ ys)) → x ≡ y
+heads x y xs ys h k s =
+    elim (or_cases (y == x) (set_of ys x) (sym (s x) ∙ or_first (x == x) (set_of xs x) (same_test x))) as (λ _. x ≡ y) [
+      | inl e ↦ sym (same y x e)
+      | inr e ↦ elim (or_cases (x == y) (set_of xs y) (s y ∙ or_first (y == y) (set_of ys y) (same_test y))) as (λ _. x ≡ y) [
+        | inl f ↦ same x y f
+        | inr f ↦ absurd (omega (arith, above y x ys k e, above x y xs h f))
+      ]
+    ]
+
+tails : (x : ℕ) (xs ys : List ℕ) → AllByRecursion (λ z. x < z) xs → AllByRecursion (λ z. x < z) ys → IsSame (set_of (x ∷ xs)) (set_of (x ∷ ys)) →
+    IsSame (set_of xs) (set_of ys)
+tails x xs ys h k s p = by (x == p) refl
   where
-    lower : (w x : ℕ) (xs : List ℕ) → w ≤ x → AllByRecursion (λ z. x < z) xs → AllByRecursion (λ z. w < z) xs
-    lower w x [] le h = tt
-    lower w x (z ∷ zs) le h = (omega (arith, h.0), lower w x zs le h.1)
+    by : (b : Bool) → (x == p) ≡ b → set_of xs p ≡ set_of ys p
+    by true e =
+        let at : x ≡ p = same x p e in
+        not_in x p xs h (omega (arith, at)) ∙ sym (not_in x p ys k (omega (arith, at)))
+    by false e = sym (or_rest (x == p) (set_of xs p) e) ∙ s p ∙ or_rest (x == p) (set_of ys p) e
 
-or_assoc : (a b c : Bool) → (a || (b || c)) ≡ ((a || b) || c)
-or_assoc true b c = refl
-or_assoc false b c = refl
+-- two lists in order with the same numbers are one
+pub same_rising : (xs ys : List ℕ) → Rising xs → Rising ys → IsSame (set_of xs) (set_of ys) → xs ≡ ys
+same_rising [] [] h k s = refl
+same_rising [] (y ∷ ys) h k s = absurd (cc (s y, or_first (y == y) (set_of ys y) (same_test y)))
+same_rising (x ∷ xs) [] h k s = absurd (cc (s x, or_first (x == x) (set_of xs x) (same_test x)))
+same_rising (x ∷ xs) (y ∷ ys) h k s =
+    let e : y ≡ x = sym (heads x y xs ys h.0 k.0 s) in
+    let above_too : AllByRecursion (λ z. x < z) ys = subst (λ n. AllByRecursion (λ z. n < z) ys) e k.0 in
+    let same_sets : IsSame (set_of (x ∷ xs)) (set_of (x ∷ ys)) = subst (λ n. IsSame (set_of (x ∷ xs)) (set_of (n ∷ ys))) e s in
+    ap (λ l. x ∷ l) (same_rising xs ys h.1 k.1 (tails x xs ys h.0 above_too same_sets)) ∙ ap (λ n. n ∷ ys) (sym e)
 
-or_twice : (a s t : Bool) → (a || (s || t)) ≡ ((a || s) || (a || t))
-or_twice true s t = refl
-or_twice false s t = refl
+pub same_increasing : (xs ys : List ℕ) → IsStrictlyIncreasing xs → IsStrictlyIncreasing ys → IsSame (set_of xs) (set_of ys) → xs ≡ ys
+same_increasing xs ys h k s = same_rising xs ys (rising_from_increasing xs h) (rising_from_increasing ys k) s
 
-or_between : (c a t : Bool) → (c || (a || t)) ≡ (a || (c || t))
-or_between true true t = refl
-or_between true false t = refl
-or_between false a t = refl
+all_push : (x n : ℕ) (xs : List ℕ) → AllByRecursion (λ y. x < y) xs → x < n → AllByRecursion (λ y. x < y) (xs ++ n ∷ [])
+all_push x n [] h l = (l, tt)
+all_push x n (y ∷ ys) h l = (h.0, all_push x n ys h.1 l)
 
-set_of-put_in : (x : ℕ) (s : Bool) (rest : List ℕ → List ℕ) (p : ℕ) (b : List ℕ) → ((c : List ℕ) → set_of (rest c) p ≡ (s || set_of c p)) →
-    set_of (put_in x rest b) p ≡ (((x == p) || s) || set_of b p)
-set_of-put_in x s rest p [] h = rw (h []) (or_assoc (x == p) s false)
-set_of-put_in x s rest p (y ∷ ys) h = by (nat_lt x y) (x == y) refl (set_of-put_in x s rest p ys h)
-  where
-    by : (l t : Bool) → (x == y) ≡ t → set_of (put_in x rest ys) p ≡ (((x == p) || s) || set_of ys p) →
-        set_of (cond l (x ∷ rest (y ∷ ys)) (cond t (x ∷ rest ys) (y ∷ put_in x rest ys))) p ≡ (((x == p) || s) || ((y == p) || set_of ys p))
-    by true t f ih = rw (h (y ∷ ys)) (or_assoc (x == p) s ((y == p) || set_of ys p))
-    by false true f ih =
-        let same : x ≡ y = grind (arith, nat_tests) in
-        rw (h ys, ← same) (or_twice (x == p) s (set_of ys p))
-    by false false f ih = rw ih (or_between (y == p) ((x == p) || s) (set_of ys p))
-
-pub set_of-merged_of : (a b : List ℕ) → IsSame (set_of (merged_of a b)) (union (set_of a) (set_of b))
-set_of-merged_of [] b p = refl
-set_of-merged_of (x ∷ xs) b p = set_of-put_in x (set_of xs p) (merged_of xs) p b (λ c. set_of-merged_of xs c p)
-
-pub merged_of-nil : (a : List ℕ) → merged_of a [] ≡ a
-merged_of-nil [] = refl
-merged_of-nil (x ∷ xs) = ap (λ l. x ∷ l) (merged_of-nil xs)
-
-ends : (a b : List ℕ) (i j : ℕ) → (length a ≤ i) ⊎ (length b ≤ j) → merged_of (drop i a) (drop j b) ≡ drop i a ++ drop j b
-ends a b i j (inl h) = rw (drop_all i a h) refl
-ends a b i j (inr h) = rw (drop_all j b h, append-nil (drop i a)) (merged_of-nil (drop i a))
-
--- one list has ended, and the rest of each goes to the end
-pub merged_at_end : (done a b : List ℕ) (i j : ℕ) → (length a ≤ i) ⊎ (length b ≤ j) → done ++ merged_of (drop i a) (drop j b) ≡ merged_of a b →
-    (done ++ take (length a - i) (drop i a)) ++ take (length b - j) (drop j b) ≡ merged_of a b
-merged_at_end done a b i j at h =
-    let first : take (length a - i) (drop i a) ≡ drop i a = grind (arith, common_steps) in
-    let second : take (length b - j) (drop j b) ≡ drop j b = grind (arith, common_steps) in
-    rw (first, second, append_assoc done (drop i a) (drop j b), ← ends a b i j at) h
+-- one more number, above all others
+pub rising_push : (xs : List ℕ) (n : ℕ) → Rising xs → IsBelow n (set_of xs) → Rising (xs ++ n ∷ [])
+rising_push [] n h below = (tt, tt)
+rising_push (x ∷ xs) n h below = (
+  all_push x n xs h.0 (below x (or_first (x == x) (set_of xs x) (same_test x))),
+  rising_push xs n h.1 (λ p t. below p (or_last (x == p) (set_of xs p) t)),
+)

@@ -12,6 +12,11 @@ abbrev pub width : Kind → ℕ
 width (kind.User believed) = 1
 width (kind.Choice sides) = sides
 
+-- it is a believed premise of the user's
+abbrev pub is_believed_kind : Kind → Bool
+is_believed_kind (kind.User believed) = believed
+is_believed_kind (kind.Choice sides) = false
+
 -- the premises that have a name
 abbrev pub origins_of_kind : List ℕ → Kind → List Origin
 origins_of_kind name (kind.User believed) = User name believed ∷ []

@@ -1,13 +1,14 @@
 //! Premises by name, sets of them, and which of them are believed.
 #![tactic(auto)]
 
+mod bits;
 pub mod choice;
 mod named;
 pub mod numbers;
-mod order;
 pub mod premise_set;
 pub mod premises;
 mod table;
+mod words;
 pub mod worldview;
 
 pub use choice::Choice;

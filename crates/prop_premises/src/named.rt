@@ -2,7 +2,7 @@
 
 ghost use Rattle.std.specs.Prelude.{◌≡◌};
 ghost use Rattle.prop_premises.specs.Origins.{is_believed, side_of};
-ghost use Rattle.prop_premises.specs.Named.{width, told};
+ghost use Rattle.prop_premises.specs.Named.{width, is_believed_kind, told};
 
 use crate::premise_set::Premise;
 
@@ -23,6 +23,16 @@ impl Kind {
         match self {
             Kind::User(_) => 1,
             Kind::Choice(sides) => usize::from(sides),
+        }
+    }
+
+    /// Whether it is a believed premise of the user's.
+    pub(crate) fn is_believed(self) -> bool
+        ensures { result ≡ is_believed_kind self }
+    {
+        match self {
+            Kind::User(believed) => believed,
+            Kind::Choice(_) => false,
         }
     }
 }

@@ -7,24 +7,46 @@ use std::marker::Model;
 /// The premises of a set that are still to come, in order of number.
 #[derive(Drop)]
 pub struct Numbers<'a> {
-    rest: &'a [Premise],
+    /// The number of the first bit of `word`.
+    base: Premise,
+    /// What is still to come of the word that was begun.
+    word: u64,
+    /// The words after it.
+    rest: &'a [u64],
 }
 
 impl<'a> Model for Numbers<'a> {
-    ghost use Rattle.std.specs.Prelude.{List, ℕ};
+    ghost use Rattle.std.specs.Prelude.{List, ℕ, ◌∷◌, ◌+◌, ◌*◌, ◌≤◌, length};
+    ghost use Rattle.prop_premises.specs.Words.{numbers_from};
 
     ghost Value = { List ℕ };
 
-    ghost view = { λ n. n.rest.now };
+    ghost view = { λ n. numbers_from n.base (n.word ∷ n.rest.now) };
+
+    ghost invariant = { λ n. n.base + 64 * (1 + length n.rest.now) ≤ 65_536 };
 }
 
 impl<'a> Numbers<'a> {
-    ghost use Rattle.std.specs.Prelude.{◌≡◌};
+    ghost use Rattle.std.specs.Prelude.{◌≡◌, ◌≤◌, length};
+    ghost use Rattle.prop_premises.specs.Words.{numbers_of};
 
-    pub(crate) fn new(rest: &'a [Premise]) -> Numbers<'a>
-        ensures { result ≡ rest.now }
+    /// The numbers of the bits of the words.
+    pub(crate) fn new(words: &'a [u64]) -> Numbers<'a>
+        requires { length words.now ≤ 1_024 }
+        ensures { result ≡ numbers_of words.now }
     {
-        Numbers { rest }
+        match words.split_first() {
+            Some((first, rest)) => Numbers {
+                base: 0,
+                word: *first,
+                rest,
+            },
+            None => Numbers {
+                base: 0,
+                word: 0,
+                rest: words,
+            },
+        }
     }
 }
 
@@ -36,8 +58,14 @@ impl<'a> Iterator for Numbers<'a> {
     ghost remaining = { item_count (λ n. n) };
 
     fn next(&mut self) -> Option<Premise> {
-        let (first, rest) = self.rest.split_first()?;
-        self.rest = rest;
-        Some(*first)
+        while self.word == 0 {
+            let (first, rest) = self.rest.split_first()?;
+            self.base += 64;
+            self.word = *first;
+            self.rest = rest;
+        }
+        let bit = self.word.trailing_zeros();
+        self.word &= !(1 << bit);
+        Some(self.base + bit as Premise)
     }
 }

@@ -1,28 +1,28 @@
 //! Sets of premises.
-ghost use Rattle.std.specs.Prelude.{◌≡◌, ◌↔◌, ◌<◌, List, ℕ, [], ◌∷◌, All, IsTrue, IfOk};
+ghost use Rattle.std.specs.Prelude.{◌≡◌, ◌↔◌, List, ℕ, [], ◌∷◌, IsTrue, IfOk};
 ghost use Rattle.std.specs.List.Sorted.{IsStrictlyIncreasing};
 ghost use Rattle.prop_premises.specs.Sets.{set_of, union, without, is_below, is_within, is_alike, is_at_most_one_of, IsSame};
 
 use crate::numbers::Numbers;
-use crate::order::{all_but, merged};
+use crate::words::Words;
 use std::alloc::{AllocError, Global};
 use std::marker::Model;
 
 /// A premise, by its number. Premises are numbered from 0 on, in the order in which their names first appeared.
 pub type Premise = u16;
 
-/// A set of premises.
+/// A set of premises. No call takes memory for sets of which all numbers are below 128.
 #[derive(Drop)]
 pub struct PremiseSet {
-    numbers: Vec<Premise>,
+    numbers: Words,
 }
 
 impl Model for PremiseSet {
     ghost Value = { List ℕ };
 
-    ghost view = { λ s. s.numbers.items };
+    ghost view = { λ s. s.numbers };
 
-    ghost invariant = { λ s. IsStrictlyIncreasing s.numbers.items };
+    ghost invariant = { λ s. IsStrictlyIncreasing s.numbers };
 }
 
 impl PremiseSet {
@@ -31,7 +31,7 @@ impl PremiseSet {
         ensures { result ≡ [] }
     {
         PremiseSet {
-            numbers: Vec::new(alloc),
+            numbers: Words::empty(alloc),
         }
     }
 
@@ -39,8 +39,8 @@ impl PremiseSet {
     pub fn single(alloc: Global, premise: Premise) -> Result<PremiseSet, AllocError>
         ensures { IfOk result (λ s. s ≡ premise ∷ []) }
     {
-        let mut numbers = Vec::new(alloc);
-        numbers.push(premise)?;
+        let mut numbers = Words::empty(alloc);
+        numbers.insert(premise)?;
         Ok(PremiseSet { numbers })
     }
 
@@ -48,8 +48,7 @@ impl PremiseSet {
     pub fn union(&self, other: &PremiseSet) -> Result<PremiseSet, AllocError>
         ensures { IfOk result (λ s. IsSame (set_of s) (union (set_of self.now) (set_of other.now))) }
     {
-        let alloc = *self.numbers.allocator();
-        let numbers = merged(alloc, &self.numbers, &other.numbers)?;
+        let numbers = self.numbers.union(&other.numbers)?;
         Ok(PremiseSet { numbers })
     }
 
@@ -57,8 +56,7 @@ impl PremiseSet {
     pub fn without(&self, premise: Premise) -> Result<PremiseSet, AllocError>
         ensures { IfOk result (λ s. IsSame (set_of s) (without (set_of self.now) premise)) }
     {
-        let alloc = *self.numbers.allocator();
-        let numbers = all_but(alloc, &self.numbers, premise)?;
+        let numbers = self.numbers.without(premise)?;
         Ok(PremiseSet { numbers })
     }
 
@@ -66,16 +64,15 @@ impl PremiseSet {
     pub fn copy(&self) -> Result<PremiseSet, AllocError>
         ensures { IfOk result (λ s. s ≡ self.now) }
     {
-        Ok(PremiseSet {
-            numbers: self.numbers.clone()?,
-        })
+        let numbers = self.numbers.copy(self.numbers.alloc())?;
+        Ok(PremiseSet { numbers })
     }
 
     /// Whether each premise of this set is in the other. It takes no memory.
     pub fn is_subset(&self, other: &PremiseSet) -> bool
         ensures { result ≡ is_within (set_of other.now) self.now }
     {
-        self.numbers.iter().all(|p| other.contains(*p))
+        self.numbers.is_part_of(&other.numbers)
     }
 
     /// Whether the same premises are in both sets. It takes no memory.
@@ -89,27 +86,24 @@ impl PremiseSet {
     pub fn is_at_most_one_of(&self, other: &PremiseSet) -> bool
         ensures { result ≡ is_at_most_one_of (set_of other.now) self.now }
     {
-        self.numbers.len() <= 1 && self.is_subset(other)
+        self.numbers.is_at_most_one_of(&other.numbers)
     }
 
     /// Whether the premise is in the set. It takes no memory.
     pub fn contains(&self, premise: Premise) -> bool
         ensures { result ≡ set_of self.now premise }
     {
-        self.numbers.binary_search(&premise).is_ok()
+        self.numbers.has(premise)
     }
 
     /// Whether each premise of the set has a number below the bound. It takes no memory.
     pub fn is_below(&self, bound: usize) -> bool
         ensures { result ≡ is_below bound self.now }
     {
-        match self.numbers.last() {
-            Some(last) => usize::from(*last) < bound,
-            None => true,
-        }
+        self.numbers.is_below(bound)
     }
 
-    pub(crate) fn numbers(&self) -> &[Premise]
+    pub(crate) fn numbers(&self) -> &Words
         ensures { result.now ≡ self.now }
     {
         &self.numbers
@@ -127,6 +121,6 @@ impl PremiseSet {
         ensures all { result ≡ self.now }
         ensures ordered { IsStrictlyIncreasing self.now }
     {
-        Numbers::new(&self.numbers)
+        self.numbers.iter()
     }
 }

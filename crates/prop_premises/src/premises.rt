@@ -1,14 +1,17 @@
 //! The names of premises and choices, and which premises are believed.
-ghost use Rattle.std.specs.Prelude.{◌≡◌, ◌≤◌, ◌<◌, ◌+◌, ◌↔◌, ◌⊎◌, ℕ, List, [], ◌∷◌, ◌++◌, length, take, Some, None, Ok, Err, true, false, unwrap_or, slice_get, option_map, get_or, IsTrue, IfOk, IfErr, OnOk, OnErr, MatchResult};
+ghost use Rattle.std.specs.Prelude.{◌≡◌, ◌≤◌, ◌<◌, ◌+◌, ◌*◌, ◌↔◌, ◌⊎◌, ℕ, List, [], ◌∷◌, ◌++◌, length, take, Some, None, Ok, Err, true, false, unwrap_or, slice_get, option_map, IsTrue, IfOk, IfErr, OnOk, OnErr, MatchResult};
 ghost use Rattle.prop_lattice.specs.Refusals.{most};
 ghost use Rattle.prop_premises.specs.Sets.{Members, set_of, union, without, IsSame};
+ghost use Rattle.prop_premises.specs.Words.{has_bit};
 ghost use Rattle.prop_premises.specs.Origins.{Origin, name_of, is_user_at, premise_number, is_choice, believed_in, with_belief_at, with_name, with_choice, choices_of, side_at, is_start, IsNumbered};
 ghost use Rattle.prop_premises.specs.ChoiceLists.{hypotheticals_of, is_hypothetical, worldview, IsChoiceList};
 
+use crate::bits::set_bit;
 use crate::choice::Choice;
 use crate::named::Kind;
 use crate::premise_set::Premise;
 use crate::table::Table;
+use crate::words::{Words, blank};
 use crate::worldview::Worldview;
 use prop_lattice::{Limit, Refusal};
 use std::alloc::{AllocError, Global};
@@ -34,16 +37,17 @@ impl Model for Premises {
     ghost invariant = { λ p. p.choices.items ≡ choices_of p.table };
 }
 
-/// Sets the flag of each hypothetical premise that the list of sides takes.
-fn set_sides(flags: &mut [bool], choices: &[Choice], sides: &[u8])
+/// Sets the bit of each hypothetical premise that the list of sides takes.
+fn set_sides(words: &mut [u64], choices: &[Choice], sides: &[u8])
     requires list { IsChoiceList choices.now sides.now }
-    requires room { (p : ℕ) → IsTrue (is_hypothetical choices.now p) → p < length flags.old }
-    ensures len { length flags.new ≡ length flags.old }
-    ensures set { IsSame (λ p. get_or flags.new p false) (union (λ p. get_or flags.old p false) (hypotheticals_of choices.now sides.now)) }
+    requires bound { length words.old ≤ 1_024 }
+    requires room { (p : ℕ) → IsTrue (is_hypothetical choices.now p) → p < 64 * length words.old }
+    ensures len { length words.new ≡ length words.old }
+    ensures bits { IsSame (has_bit words.new) (union (has_bit words.old) (hypotheticals_of choices.now sides.now)) }
 {
     for place in 0..choices.len() {
-        let side = usize::from(sides[place]) - 1;
-        flags[usize::from(choices[place].first) + side] = true;
+        let side = Premise::from(sides[place]) - 1;
+        set_bit(words, choices[place].first + side);
     }
 }
 
@@ -243,22 +247,11 @@ impl Premises {
         requires { IsChoiceList (choices_of self.now) sides.now }
         ensures { IfOk result (λ w. IsSame (set_of w) (worldview (believed_in self.now) (choices_of self.now) sides.now)) }
     {
-        let mut flags = self.flags()?;
-        self.numbered();
-        set_sides(&mut flags, &self.choices, sides);
-        Ok(Worldview::from_flags(flags))
-    }
-
-    /// Whether each premise is believed.
-    fn flags(&self) -> Result<Vec<bool>, AllocError>
-        ensures len { IfOk result (λ v. length v.items ≡ length self.now) }
-        ensures flags { IfOk result (λ v. IsSame (λ p. get_or v.items p false) (believed_in self.now)) }
-    {
-        let mut flags = Vec::with_capacity(self.table.alloc(), self.table.len())?;
-        for premise in 0..self.table.len() {
-            flags.push(self.is_in(premise as Premise))?;
-        }
-        Ok(flags)
+        let mut words = blank(self.table.alloc(), self.table.len())?;
+        self.table.numbered();
+        self.table.set_believed(&mut words);
+        set_sides(&mut words, &self.choices, sides);
+        Ok(Worldview::from_words(Words::of(words)))
     }
 
     /// Drops the names from number `count` on, where a name starts. It takes no memory.

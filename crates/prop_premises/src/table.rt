@@ -1,11 +1,14 @@
 //! The names of premises and choices, each with its numbers.
-ghost use Rattle.std.specs.Prelude.{◌≡◌, ◌≤◌, ◌<◌, ◌+◌, ◌++◌, ℕ, List, [], Some, length, take, replicate, None, true, false, is_some, slice_get, option_map, IsTrue, IsOk, IfSome, OnOk, OnErr};
+ghost use Rattle.std.specs.Prelude.{◌≡◌, ◌≤◌, ◌<◌, ◌+◌, ◌*◌, ◌++◌, ℕ, List, [], Some, length, take, replicate, None, true, false, is_some, slice_get, option_map, IsTrue, IsOk, IfSome, OnOk, OnErr};
 ghost use Rattle.std.specs.HashMap.{IsUnique};
 ghost use Rattle.std.specs.String.{string_eq};
+ghost use Rattle.prop_premises.specs.Sets.{union, IsSame};
+ghost use Rattle.prop_premises.specs.Words.{has_bit};
 ghost use Rattle.prop_premises.specs.Origins.{Origin, premise_number, is_choice, is_user_at, with_belief_at, is_start, name_of, IsNumbered, choices_of, believed_in};
 ghost use Rattle.prop_premises.specs.ChoiceLists.{is_hypothetical};
 ghost use Rattle.prop_premises.specs.Named.{origins_of, origins_of_kind, places_from, width, told, number_of, is_choices, IsKind, AreNumberedFrom};
 
+use crate::bits::set_bit;
 use crate::named::{Kind, Named, Source};
 use crate::premise_set::Premise;
 use indexmap::IndexMap;
@@ -171,6 +174,20 @@ impl Table {
         };
     }
 
+    /// Sets the bit of each believed premise of the user's.
+    pub(crate) fn set_believed(&self, words: &mut [u64])
+        requires { length self.now ≤ 64 * length words.old }
+        ensures len { length words.new ≡ length words.old }
+        ensures bits { IsSame (has_bit words.new) (union (has_bit words.old) (believed_in self.now)) }
+    {
+        for place in 0..self.names.len() {
+            let named = self.names[place];
+            if named.kind.is_believed() {
+                set_bit(words, named.first);
+            }
+        }
+    }
+
     /// Drops the numbers from `count` on. It takes no memory.
     pub(crate) fn back(&mut self, count: usize)
         requires { IsTrue (is_start self.old count) }
@@ -186,6 +203,7 @@ impl Table {
     pub(crate) fn numbered(&self)
         ensures numbered { IsNumbered self.now }
         ensures below { (p : ℕ) → IsTrue (is_hypothetical (choices_of self.now) p) → p < length self.now }
+        ensures bound { length self.now ≤ 4_096 }
     {
         let _names = &self.names;
     }

@@ -1,29 +1,22 @@
 //! What is believed.
-ghost use Rattle.std.specs.Prelude.{◌≡◌, List, [], ◌∷◌, ◌++◌, ℕ, false, nat_lt, filter, slice_index_or, IsOk, IfOk, OnOk, OnErr};
+ghost use Rattle.std.specs.Prelude.{◌≡◌, List, [], ◌∷◌, ◌++◌, ℕ, nat_lt, filter, IsOk, IfOk, OnOk, OnErr};
 ghost use Rattle.prop_premises.specs.Sets.{set_of, is_within, IsBelow};
-ghost use Rattle.prop_premises.specs.Flags.{numbers_from};
 
 use crate::premise_set::{Premise, PremiseSet};
+use crate::words::Words;
 use std::alloc::{AllocError, Global};
 use std::marker::Model;
 
 /// A set of premises that are believed together.
 #[derive(Drop)]
 pub struct Worldview {
-    beliefs: Vec<bool>,
+    beliefs: Words,
 }
 
 impl Model for Worldview {
     ghost Value = { List ℕ };
 
-    ghost view = { λ w. numbers_from 0 w.beliefs.items };
-}
-
-/// The flag at a place, unset where there is none.
-fn flag_at(flags: &[bool], place: usize) -> bool
-    ensures { result ≡ slice_index_or flags.now place false }
-{
-    flags.get(place).copied().unwrap_or(false)
+    ghost view = { λ w. w.beliefs };
 }
 
 impl Worldview {
@@ -32,7 +25,7 @@ impl Worldview {
         ensures { result ≡ [] }
     {
         Worldview {
-            beliefs: Vec::new(alloc),
+            beliefs: Words::empty(alloc),
         }
     }
 
@@ -41,17 +34,13 @@ impl Worldview {
         ensures none { premises.now ≡ [] → IsOk result }
         ensures of { IfOk result (λ w. w ≡ premises.now) }
     {
-        let mut beliefs = Vec::new(alloc);
-        for premise in premises.iter() {
-            beliefs.resize(usize::from(premise), false)?;
-            beliefs.push(true)?;
-        }
+        let beliefs = premises.numbers().copy(alloc)?;
         Ok(Worldview { beliefs })
     }
 
-    /// The worldview that believes each premise whose flag is set.
-    pub(crate) fn from_flags(beliefs: Vec<bool>) -> Worldview
-        ensures { result ≡ numbers_from 0 beliefs.items }
+    /// The worldview that believes just these premises.
+    pub(crate) fn from_words(beliefs: Words) -> Worldview
+        ensures { result ≡ beliefs }
     {
         Worldview { beliefs }
     }
@@ -62,30 +51,27 @@ impl Worldview {
         ensures ok { OnOk result (self.new ≡ self.old ++ premise ∷ []) }
         ensures err { OnErr result (self.new ≡ self.old) }
     {
-        let count = usize::from(premise);
-        self.beliefs.resize(count, false)?;
-        self.beliefs.push(true)?;
-        Ok(())
+        self.beliefs.insert(premise)
     }
 
     /// Only the premises with a number below this one stay believed. It takes no memory.
     pub fn back(&mut self, premise: Premise)
         ensures { self.new ≡ filter (λ p. nat_lt p premise) self.old }
     {
-        self.beliefs.truncate(usize::from(premise));
+        self.beliefs.keep_below(premise);
     }
 
     /// Whether the premise is believed. It takes no memory.
     pub fn has(&self, premise: Premise) -> bool
         ensures { result ≡ set_of self.now premise }
     {
-        flag_at(&self.beliefs, usize::from(premise))
+        self.beliefs.has(premise)
     }
 
     /// Whether each premise of the set is believed. It takes no memory.
     pub fn believes(&self, premises: &PremiseSet) -> bool
         ensures { result ≡ is_within (set_of self.now) premises.now }
     {
-        premises.numbers().iter().all(|premise| self.has(*premise))
+        premises.numbers().is_part_of(&self.beliefs)
     }
 }

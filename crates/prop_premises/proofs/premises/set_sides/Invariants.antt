@@ -1,9 +1,11 @@
-use Rattle.std.proofs.Common.{◌≡◌, ◌||◌, ℕ, false, length, drop, get_or}
+use Rattle.std.proofs.Common.{◌≡◌, ◌||◌, ℕ, length, drop}
+use Rattle.prop_premises.specs.Words.{has_bit}
 use Rattle.prop_premises.specs.ChoiceLists.{hypotheticals_of}
 use Rattle.prop_premises.proofs.premises.set_sides.Given as goal
 
 abbrev pub invariant-loop-place : goal.invariant-loop-place
 invariant-loop-place l = record {
-  len : length l.flags ≡ length l.fn.flags;
-  set : (p : ℕ) → (get_or l.flags p false || hypotheticals_of (drop l.place l.choices) (drop l.place l.sides) p) ≡ (get_or l.fn.flags p false || hypotheticals_of l.choices l.sides p);
+  len : length l.words ≡ length l.fn.words;
+  bits : (p : ℕ) → (has_bit l.words p || hypotheticals_of (drop l.place l.choices) (drop l.place l.sides) p) ≡
+      (has_bit l.fn.words p || hypotheticals_of l.choices l.sides p);
 }

@@ -1,0 +1,8 @@
+use Rattle.std.proofs.Common.{◌∙◌, ap}
+use Rattle.prop_premises.specs.Words.{has_bit}
+use Rattle.prop_premises.proofs.WordLemmas.{if_ok, has_bit-blank}
+use Rattle.prop_premises.proofs.words.blank.Goals as goal
+
+pub returns-clause-bits : goal.returns-clause-bits
+returns-clause-bits c = if_ok c.from_elem.result (λ w h p. ap (λ ws. has_bit ws p) (h (λ y e. e))
+    ∙ has_bit-blank c.div_ceil.result p) c.from_elem.ensures.items_if_clones_equal
