@@ -2,5 +2,6 @@ pub mod MergedLemmas
 pub mod KeptLemmas
 pub mod BeliefLemmas
 pub mod LeanLemmas
+pub mod GainLemmas
 pub mod BeliefUses
 pub mod TrimLemmas

@@ -1,5 +1,5 @@
 -- What values with supports say in each worldview.
-use Rattle.std.specs.Prelude.{◌≡◌, ◌≢◌, ℕ, ◌<◌, false, IsTrue, slice_get, Some, List, [], ◌∷◌, length, filter, All, AllPairs, Any, Contains, remove, ◌⊎◌, if◌then◌else◌}
+use Rattle.std.specs.Prelude.{◌≡◌, ◌≢◌, ℕ, ◌<◌, ◌≤◌, false, IsTrue, slice_get, Some, List, [], ◌∷◌, length, filter, All, AllPairs, Any, Contains, remove, ◌⊎◌, if◌then◌else◌}
 use Rattle.std.specs.List.{list_any}
 use Rattle.prop_premises.specs.Sets.{Members, set_of, is_within, is_alike, is_at_most_one_of, IsSame}
 use Rattle.prop_tms.specs.declared.supported.Supported.{Supported}
@@ -57,6 +57,10 @@ pub record IsLean {V : Type 0} (bottom : V) (join : V → V → V) (entries : Li
   pub merged : merge_of_all bottom join chosen ≡ v
   pub needed : (k : ℕ) → k < length chosen → merge_of_all bottom join (remove chosen k) ≢ v
   pub joined : IsSame (set_of support) (λ p. list_any (λ e. set_of e.support p) chosen)
+
+-- The support has no more premises than any believed entry that alone says the value.
+abbrev pub IsShort : {V : Type 0} → List (Supported V) → Members → V → List ℕ → Type 0
+IsShort {V} entries w v support = (x : Supported V) → Contains entries x → IsTrue (is_within w x.support) → x.value ≡ v → length support ≤ length x.support
 
 -- ---- entries that a belief can do without
 

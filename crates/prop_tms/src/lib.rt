@@ -2,6 +2,7 @@
 #![tactic(auto)]
 
 mod gain;
+mod gains;
 mod strongest;
 pub mod supported;
 pub mod tms;

@@ -1,10 +1,12 @@
-//! What the believed entries say together, and premises that are enough for it.
-ghost use Rattle.std.specs.Prelude.{◌≡◌, ℕ, [], map, All, Contains, IsTrue, IsOk, IfOk};
-ghost use Rattle.prop_premises.specs.Sets.{set_of, is_within};
-ghost use Rattle.prop_tms.specs.Beliefs.{belief_of, merge_of_all, IsLean};
-ghost use Rattle.prop_tms.specs.Gains.{AreGains, gained_of};
+//! What the believed entries say together, and few premises that are enough for it.
+ghost use Rattle.std.specs.Prelude.{◌≡◌, ◌≤◌, [], length, All, Contains, IsTrue, IsOk, IfOk, IfSome, IsSomeAnd};
+ghost use Rattle.prop_premises.specs.Sets.{Members, set_of, is_within};
+ghost use Rattle.prop_tms.specs.Beliefs.{belief_of, merge_of_all, IsLean, IsShort};
+ghost use Rattle.prop_tms.specs.Gains.{AreGains, AreRanked, gained_of};
+ghost use Rattle.prop_tms.specs.declared.supported.Supported.{Supported};
 
 use crate::gain::Gain;
+use crate::gains::{count, gains};
 use crate::supported::Supported;
 use prop_lattice::Partial;
 use prop_premises::{PremiseSet, Worldview};
@@ -23,41 +25,33 @@ pub(crate) fn belief<V: Partial>(entries: &[Supported<V>], worldview: &Worldview
     merged
 }
 
-/// The believed entries that say more than those before them.
-fn gains<'a, V: Partial>(
-    alloc: Global,
-    entries: &'a [Supported<V>],
-    worldview: &Worldview,
-) -> Result<Vec<Gain<'a, V>>, AllocError>
-    ensures nothing { belief_of V.bottom V.join (set_of worldview.now) entries.now ≡ V.bottom → IfOk result (λ v. v.items ≡ []) × IsOk result }
-    ensures gains { IfOk result (λ v. AreGains V.join V.bottom v.items) }
-    ensures among { IfOk result (λ v. All (Contains entries.now) (gained_of v.items)) }
-    ensures believed { IfOk result (λ v. All (λ e. IsTrue (is_within (set_of worldview.now) e.support)) (gained_of v.items)) }
-    ensures merged { IfOk result (λ v. merge_of_all V.bottom V.join (gained_of v.items) ≡ belief_of V.bottom V.join (set_of worldview.now) entries.now) }
+/// The first entry of the row that alone says as much as the value.
+fn alone<'a, V: Partial>(gains: &[Gain<'a, V>], value: V) -> Option<&'a Supported<V>>
+    requires { AreRanked (gained_of gains.now) }
+    ensures among { IfSome result (λ e. Contains (gained_of gains.now) e.now) }
+    ensures says { IfSome result (λ e. V.below value e.now.value) }
+    ensures few { (x : Supported V) → Contains (gained_of gains.now) x → V.below value x.value → IsSomeAnd result (λ e. length e.now.support ≤ length x.support) }
 {
-    let mut gains = Vec::new(alloc);
-    let mut before = V::nothing();
-    for entry in entries {
-        if worldview.believes(&entry.support) && !before.implies(entry.value) {
-            gains.push(Gain { before, entry })?;
-            before = before.merge(entry.value);
+    for gain in gains {
+        if gain.entry.value.implies(value) {
+            return Some(gain.entry);
         }
     }
-    Ok(gains)
+    None
 }
 
-/// What the believed entries say together, with the support of entries of which none can be left out.
-pub(crate) fn strongest<V: Partial>(
+/// The premises of entries of the row that say as much as all, none of which can be left out. Those that stand first stay.
+fn thinned<V: Partial>(
     alloc: Global,
-    entries: &[Supported<V>],
-    worldview: &Worldview,
-) -> Result<Supported<V>, AllocError>
-    ensures nothing { belief_of V.bottom V.join (set_of worldview.now) entries.now ≡ V.bottom → IsOk result }
-    ensures value { IfOk result (λ e. e.value ≡ belief_of V.bottom V.join (set_of worldview.now) entries.now) }
-    ensures lean { IfOk result (λ e. IsLean V.bottom V.join entries.now (set_of worldview.now) e.value e.support) }
+    mut gains: Vec<Gain<'_, V>>,
+    value: V,
+) -> Result<PremiseSet, AllocError>
+    requires gains { AreGains V.join V.bottom gains.items }
+    requires value { value ≡ merge_of_all V.bottom V.join (gained_of gains.items) }
+    ensures nothing { gains.entry.items ≡ [] → IsOk result }
+    ensures none { gains.entry.items ≡ [] → IfOk result (λ s. s ≡ []) }
+    ensures lean { IfOk result (λ s. (w : Members) → All (λ e. IsTrue (is_within w e.support)) (gained_of gains.entry.items) → IsLean V.bottom V.join (gained_of gains.entry.items) w value s) }
 {
-    let mut gains = gains(alloc, entries, worldview)?;
-    let value = belief(entries, worldview);
     let mut after = V::nothing();
     let mut support = PremiseSet::empty(alloc);
     while let Some(gain) = gains.pop() {
@@ -66,5 +60,29 @@ pub(crate) fn strongest<V: Partial>(
             support = gain.entry.support.union(&support)?;
         }
     }
+    Ok(support)
+}
+
+/// What the believed entries say together, with the support of entries of which none can be left out. Entries of few premises come
+/// first, and no believed entry that says as much alone has fewer premises.
+pub(crate) fn strongest<V: Partial>(
+    alloc: Global,
+    entries: &[Supported<V>],
+    worldview: &Worldview,
+) -> Result<Supported<V>, AllocError>
+    ensures nothing { belief_of V.bottom V.join (set_of worldview.now) entries.now ≡ V.bottom → IsOk result }
+    ensures value { IfOk result (λ e. e.value ≡ belief_of V.bottom V.join (set_of worldview.now) entries.now) }
+    ensures lean { IfOk result (λ e. IsLean V.bottom V.join entries.now (set_of worldview.now) e.value e.support) }
+    ensures short { IfOk result (λ e. IsShort entries.now (set_of worldview.now) e.value e.support) }
+{
+    let value = belief(entries, worldview);
+    let gains = gains(alloc, entries, worldview)?;
+    let alone = alone(&gains, value);
+    let together = thinned(alloc, gains, value)?;
+    let premises = count(&together);
+    let support = match alone {
+        Some(entry) if count(&entry.support) < premises => entry.support.copy()?,
+        _ => together,
+    };
     Ok(Supported { value, support })
 }

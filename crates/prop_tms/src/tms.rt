@@ -1,7 +1,7 @@
 //! The entries of one value.
 ghost use Rattle.std.specs.Prelude.{◌≡◌, ◌↔◌, ◌≤◌, ◌+◌, Any, not, List, [], length, filter, vec_capacity, vec_len, IsTrue, Ok, IsOk, IfOk, OnOk, OnErr};
 ghost use Rattle.prop_premises.specs.Sets.{Members, set_of, is_within, is_below, is_at_most_one_of, IsBelow};
-ghost use Rattle.prop_tms.specs.Beliefs.{belief_of, IsLeastBelief, Subsumes, NoneSubsumed, NoneAlike, IsNeedless, Adds, IsLean, Trims, AreNeeded, joined_with};
+ghost use Rattle.prop_tms.specs.Beliefs.{belief_of, IsLeastBelief, Subsumes, NoneSubsumed, NoneAlike, IsNeedless, Adds, IsLean, IsShort, Trims, AreNeeded, joined_with};
 ghost use Rattle.prop_tms.specs.Kept.{IsLeftWithout, IsGrownBy};
 ghost use Rattle.prop_tms.specs.declared.supported.Supported.{Supported};
 
@@ -130,13 +130,14 @@ impl<V: Partial> Tms<V> {
     }
 
     /// What the believed entries say together, with the support of believed entries that say so, none of which can be left
-    /// out. Where they say nothing it takes no memory.
+    /// out. It has no more premises than any believed entry that alone says as much. Where they say nothing it takes no memory.
     pub fn strongest(&self, worldview: &Worldview) -> Result<Supported<V>, AllocError>
         ensures value { IfOk result (λ e. e.value ≡ belief_of V.bottom V.join (set_of worldview.now) self.now) }
         ensures nothing { belief_of V.bottom V.join (set_of worldview.now) self.now ≡ V.bottom → IsOk result }
         ensures lean { IfOk result (λ e. IsLean V.bottom V.join self.now (set_of worldview.now) e.value e.support) }
         ensures believed { IfOk result (λ e. IsTrue (is_within (set_of worldview.now) e.support)) }
         ensures enough { IfOk result (λ e. belief_of V.bottom V.join (set_of e.support) self.now ≡ e.value) }
+        ensures short { IfOk result (λ e. IsShort self.now (set_of worldview.now) e.value e.support) }
     {
         strongest(*self.entries.allocator(), &self.entries, worldview)
     }

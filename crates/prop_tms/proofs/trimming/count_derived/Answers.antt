@@ -1,4 +1,4 @@
-use Rattle.std.proofs.Common.{◌≡◌, ◌+◌, length, take, filter, not, arith}
+use Rattle.std.proofs.Common.{take, not, arith}
 use Rattle.std.proofs.lemmas.List.{length-take}
 use Rattle.std.proofs.lemmas.List.Filters.{length-filter_both}
 use Rattle.prop_premises.specs.Sets.{set_of, is_at_most_one_of}

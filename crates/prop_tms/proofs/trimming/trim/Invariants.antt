@@ -1,4 +1,4 @@
-use Rattle.std.proofs.Common.{◌≡◌, ◌≤◌, ◌-◌, ◌<◌, length}
+use Rattle.std.proofs.Common.{◌≡◌, ◌≤◌, ◌-◌, length}
 use Rattle.prop_premises.specs.Sets.{set_of}
 use Rattle.prop_tms.specs.Beliefs.{belief_of, NoneSubsumed, NoneAlike, Trims}
 use Rattle.prop_tms.proofs.TrimLemmas.{AreJudged}

@@ -1,0 +1,82 @@
+use Rattle.std.proofs.Common.{◌++◌, ◌∷◌, [], ◌≡◌, ◌∙◌, sym, List, All, Contains, IsTrue, arith}
+use Rattle.std.proofs.lemmas.List.{nil_from_length}
+use Rattle.std.proofs.lemmas.List.Elements.{All-contains, All-contains_itself}
+use Rattle.prop_premises.specs.Sets.{is_within}
+use Rattle.prop_tms.specs.Beliefs.{merge_of_all}
+use Rattle.prop_tms.specs.Gains.{AreGains, gained_of}
+use Rattle.prop_tms.proofs.LeanLemmas.{IsThinned, IsThinned-init, IsLean-thinned, IsThinned-skip, IsThinned-keep, AreGains-front, AreGains-last, gained_of-push, All-front, All-last}
+use Rattle.prop_tms.proofs.strongest.thinned.Goals as goal
+
+none_left : {X : Type 0} (xs : List X) (x : X) → xs ++ x ∷ [] ≡ [] → ⊥
+none_left [] x e = absurd (cc)
+none_left (y ∷ ys) x e = absurd (cc)
+
+pub loop-gain-init : goal.loop-gain-init
+loop-gain-init g c = record {
+  gains = c.requires.gains;
+  none = λ n. n;
+  empty = λ n. c.empty-support.ensures;
+  among = All-contains_itself (gained_of c.args.gains.items);
+  thinned = λ w believed.
+      rw (c.nothing-after.ensures, c.empty-support.ensures) (IsThinned-init g.met.V.Partial.laws (gained_of c.args.gains.items) w c.args.value (gained_of c.args.gains.items) (sym c.requires.value));
+}
+
+pub loop-gain-preserved-then-not-implies : goal.loop-gain-preserved-then-not-implies
+loop-gain-preserved-then-not-implies g c =
+    let laws = g.met.V.Partial.laws in
+    let bottom = g.V.Partial.bottom in
+    let join = g.V.Partial.join in
+    let all = gained_of c.args.gains.items in
+    let left = c.pop.new.self.items in
+    let gain = c.in-Some.gain in
+    let e = gain.entry.now in
+    let kept = c.loop-gain.invariant in
+    let items = c.in-Some.ensures.items in
+    let gains : AreGains join bottom (left ++ gain ∷ []) = rw items at kept.gains in
+    let among : All (Contains all) (gained_of left ++ e ∷ []) = rw (items, gained_of-push left gain) at kept.among in
+    let before = AreGains-last laws left gain gains in
+    let needed : ¬ (g.V.Partial.below c.args.value (join (merge_of_all bottom join (gained_of left)) c.loop-gain.after)) = λ h. cc (c.implies.ensures.1 (rw (c.merge.ensures, before) h), c.if-not-implies.true) in
+    record {
+      gains = AreGains-front laws bottom left gain gains;
+      none = λ n. absurd (none_left left gain (sym items ∙ kept.none n));
+      empty = λ n. absurd (none_left left gain (sym items ∙ kept.none n));
+      among = All-front (Contains all) (gained_of left) e among;
+      thinned = λ w believed.
+          let here = All-last (Contains all) (gained_of left) e among in
+          let thinned : IsThinned bottom join all w c.args.value (gained_of left ++ e ∷ []) c.loop-gain.after c.loop-gain.support = rw (items, gained_of-push left gain) at (kept.thinned w believed) in
+          rw c.merge-after.ensures (IsThinned-keep laws all w c.args.value (gained_of left) e c.loop-gain.after c.loop-gain.support c.in_ok-support.support thinned needed
+          here (All-contains (λ x. IsTrue (is_within w x.support)) all e believed here) c.in_ok-support.ensures);
+    }
+
+pub loop-gain-preserved : goal.loop-gain-preserved
+loop-gain-preserved g c =
+    let laws = g.met.V.Partial.laws in
+    let bottom = g.V.Partial.bottom in
+    let join = g.V.Partial.join in
+    let all = gained_of c.args.gains.items in
+    let left = c.pop.new.self.items in
+    let gain = c.in-Some.gain in
+    let e = gain.entry.now in
+    let kept = c.loop-gain.invariant in
+    let items = c.in-Some.ensures.items in
+    let gains : AreGains join bottom (left ++ gain ∷ []) = rw items at kept.gains in
+    let among : All (Contains all) (gained_of left ++ e ∷ []) = rw (items, gained_of-push left gain) at kept.among in
+    let before = AreGains-last laws left gain gains in
+    let reached = rw (c.merge.ensures, before) at (c.implies.ensures.0 c.if-not-implies.false) in
+    record {
+      gains = AreGains-front laws bottom left gain gains;
+      none = λ n. absurd (none_left left gain (sym items ∙ kept.none n));
+      empty = kept.empty;
+      among = All-front (Contains all) (gained_of left) e among;
+      thinned = λ w believed.
+          let thinned : IsThinned bottom join all w c.args.value (gained_of left ++ e ∷ []) c.loop-gain.after c.loop-gain.support = rw (items, gained_of-push left gain) at (kept.thinned w believed) in
+          IsThinned-skip laws all w c.args.value (gained_of left) e c.loop-gain.after c.loop-gain.support thinned reached;
+    }
+
+pub returns-clause-lean : goal.returns-clause-lean
+returns-clause-lean g c w believed =
+    let nothing : c.loop-gain.gains.items ≡ [] = nil_from_length c.loop-gain.gains.items (omega (arith, c.in_default.ensures.cases, c.loop-gain.gains.ok.0)) in
+    IsLean-thinned g.met.V.Partial.laws (gained_of c.args.gains.items) w c.args.value c.loop-gain.after c.loop-gain.support (rw nothing at (c.loop-gain.invariant.thinned w believed))
+
+pub returns-in_err-support-clause-nothing : goal.returns-in_err-support-clause-nothing
+returns-in_err-support-clause-nothing g c = λ n. absurd (none_left c.pop.new.self.items c.in-Some.gain (sym c.in-Some.ensures.items ∙ c.loop-gain.invariant.none n))

@@ -1,0 +1,18 @@
+use Rattle.std.proofs.Common.{◌≡◌, [], All, Contains, IsTrue, vec_len}
+use Rattle.prop_premises.specs.Sets.{Members, is_within}
+use Rattle.prop_tms.specs.Gains.{AreGains, gained_of}
+use Rattle.prop_tms.proofs.LeanLemmas.{IsThinned}
+use Rattle.prop_tms.proofs.strongest.thinned.Given as goal
+
+abbrev pub invariant-loop-gain : goal.invariant-loop-gain
+invariant-loop-gain g l = record {
+  gains : AreGains g.V.Partial.join g.V.Partial.bottom l.gains.items;
+  none : l.fn.gains.items ≡ [] → l.gains.items ≡ [];
+  empty : l.fn.gains.items ≡ [] → l.support ≡ [];
+  among : All (Contains (gained_of l.fn.gains.items)) (gained_of l.gains.items);
+  thinned : (w : Members) → All (λ e. IsTrue (is_within w e.support)) (gained_of l.fn.gains.items) →
+      IsThinned g.V.Partial.bottom g.V.Partial.join (gained_of l.fn.gains.items) w l.value (gained_of l.gains.items) l.after l.support;
+}
+
+abbrev pub decreases-loop-gain : goal.decreases-loop-gain
+decreases-loop-gain g l = vec_len l.gains
