@@ -1,8 +1,8 @@
 -- Lists from which some elements were dropped.
-use Rattle.std.proofs.Common.{◌≡◌, ◌<◌, ◌∙◌, ℕ, zero, suc, Bool, true, false, cond, List, [], ◌∷◌, ◌++◌, length, filter, ap, get_or, refl, arith, inl, inr, ◌⊎◌, Contains, All, AllPairs, Any, IsTrue, ◌↔◌}
+use Rattle.std.proofs.Common.{◌≡◌, ◌<◌, ◌∙◌, ℕ, zero, suc, Bool, true, false, cond, List, [], ◌∷◌, ◌++◌, length, filter, ap, sym, get_or, refl, arith, inl, inr, ◌⊎◌, Contains, All, AllPairs, Any, IsTrue, ◌↔◌}
 use Rattle.std.specs.Bool.{MatchBool}
 use Rattle.std.specs.List.{items_where_true, HoldsAt, AllWithin}
-use Rattle.std.proofs.lemmas.List.{get_or_default, append-nil}
+use Rattle.std.proofs.lemmas.List.{get_or_default}
 use Rattle.std.specs.List.Retain.{IsFiltered, ReturnsInTurn}
 use Rattle.std.proofs.lemmas.List.Elements.{filter-append, All-nil, All-cons, All-head, All-tail, All-contains, All-contains_itself}
 use Rattle.std.proofs.lemmas.List.Kept.{AllPairs-cons}
@@ -89,8 +89,10 @@ module _ {X : Type 0} (D : X → Type 0) where
   pub grown_filter : (t : X → Bool) (x : X) → t x ≡ false → ((y : X) → D y → t y ≡ false) → (xs ys : List X) → IsGrownBy D xs ys x → filter t ys ≡ filter t xs
   grown_filter t x own h xs ys (inl same) = ap (filter t) same
   grown_filter t x own h xs ys (inr k) =
-      let last : filter t (x ∷ []) ≡ [] = rw own refl in
-      ap (filter t) k.2 ∙ filter-append t k.0 (x ∷ []) ∙ ap (λ zs. filter t k.0 ++ zs) last ∙ append-nil (filter t k.0) ∙ left_filter t h xs k.0 k.1
+      let front = k.0 in
+      let rear = k.1 in
+      let here : filter t (x ∷ rear) ≡ filter t rear = rw own refl in
+      ap (filter t) k.3 ∙ filter-append t front (x ∷ rear) ∙ ap (λ zs. filter t front ++ zs) here ∙ sym (filter-append t front rear) ∙ left_filter t h xs (front ++ rear) k.2
 
 -- what `any` tells
 pub known_from_any : {X : Type 0} (P : X → Type 0) (xs : List X) (r : Bool) → MatchBool r ((k : ℕ) × (k < length xs) × HoldsAt P xs k) (AllWithin (λ x. ¬ (P x)) xs 0 (length xs)) → IsTrue r ↔ Any P xs

@@ -94,7 +94,7 @@ pub(crate) fn room_for<V: Partial>(values: &mut Vec<Valued<V>>, value: V) -> Res
     ensures apart { AreApart values.new.items }
     ensures place { IfOk result (λ at. (at < length values.new.items) × ((d : Valued V) → (get_or values.new.items at d).value ≡ value)) }
     ensures room { IfOk result (λ at. (d : Valued V) → vec_len (get_or values.new.items at d).supports < vec_capacity (get_or values.new.items at d).supports) }
-    ensures err { OnErr result (values.new ≡ values.old) }
+    ensures err { OnErr result (values.new.items ≡ values.old.items) }
 {
     if let Some(place) = values.iter().position(|valued| is_same(valued.value, value)) {
         values[place].supports.reserve(1)?;
@@ -127,6 +127,13 @@ pub(crate) fn drop_subsumed<V: Partial>(values: &mut [Valued<V>], entry: &Suppor
     }
 }
 
+/// Whether the value has no support.
+fn is_bare<V: Partial>(valued: &Valued<V>) -> bool
+    ensures { IsTrue result ↔ (valued.now.supports.items ≡ []) }
+{
+    valued.supports.is_empty()
+}
+
 /// Drops the values with no support.
 pub(crate) fn drop_bare<V: Partial>(values: &mut Vec<Valued<V>>)
     requires { AreApart values.old.items }
@@ -134,7 +141,7 @@ pub(crate) fn drop_bare<V: Partial>(values: &mut Vec<Valued<V>>)
     ensures apart { AreApart values.new.items }
     ensures bare { NoneBare values.new.items }
 {
-    values.retain(|valued| !valued.supports.is_empty());
+    values.retain(|valued| !is_bare(valued));
 }
 
 /// Drops the supports with a premise that has a number of `count` or more.

@@ -1,31 +1,35 @@
-use Rattle.std.proofs.Common.{◌≡◌, ◌<◌, ◌∙◌, true, false, take, sym, refl, length, arith}
+use Rattle.std.proofs.Common.{◌≡◌, ◌<◌, ◌∙◌, List, ℕ, Bool, true, false, take, sym, refl, length, arith}
+use Rattle.std.specs.List.{list_any}
 use Rattle.std.proofs.Math.Seq.{take-length}
 use Rattle.prop_premises.specs.Sets.{is_alike}
-use Rattle.prop_tms.proofs.BeliefLemmas.{said-more}
-use Rattle.prop_tms.proofs.tms.joined.Goals as goal
-use Rattle.prop_tms.proofs.tms.joined.Goals.{then-is_same, else-is_same}
+use Rattle.prop_tms.proofs.ValueLemmas.{said_more}
+use Rattle.prop_tms.proofs.values.joined.Goals as goal
+use Rattle.prop_tms.proofs.values.joined.Goals.{then-has_same, else-has_same}
 
-pub loop-entry-init : goal.loop-entry-init
-loop-entry-init g c = c.nothing-said.ensures
+pub loop-valued-init : goal.loop-valued-init
+loop-valued-init g c = c.nothing-said.ensures
 
-pub loop-entry-preserved : goal.loop-entry-preserved
-loop-entry-preserved g c =
-    let es = c.args.entries.now in
-    let i = c.loop-entry.entry-index in
-    let e = c.entry-item.result in
-    let l : i < length es = omega arith in
-    elim c.if-is_same.branch [
-      | then-is_same t ↦
-          (let on : is_alike e.support c.args.support.now ≡ true = sym c.is_same.ensures ∙ t.if-is_same.true in
-          rw (t.said-is, t.merge-said.ensures, said-more g.met.V.Partial.laws (λ x. is_alike x.support c.args.support.now) es i e true l c.entry-item.is on, ← c.loop-entry.invariant) refl)
-      | else-is_same t ↦
-          (let off : is_alike e.support c.args.support.now ≡ false = sym c.is_same.ensures ∙ t.if-is_same.false in
-          rw (t.said-is, said-more g.met.V.Partial.laws (λ x. is_alike x.support c.args.support.now) es i e false l c.entry-item.is off, ← c.loop-entry.invariant) refl)
+pub loop-valued-preserved : goal.loop-valued-preserved
+loop-valued-preserved g c =
+    let laws = g.met.V.Partial.laws in
+    let xs = c.args.values.now in
+    let i = c.loop-valued.valued-index in
+    let x = c.valued-item.result in
+    let u : List ℕ → Bool = λ s. is_alike s c.args.support.now in
+    let l = c.loop-valued-test.true in
+    let has = rw c.deref.ensures.value at c.has_same.ensures in
+    elim c.if-has_same.branch [
+      | then-has_same t ↦
+          (let on : list_any u x.supports.items ≡ true = sym has ∙ t.if-has_same.true in
+          rw (t.said-is, t.merge-said.ensures, said_more laws u xs i x true l c.valued-item.is on, ← c.loop-valued.invariant) refl)
+      | else-has_same t ↦
+          (let off : list_any u x.supports.items ≡ false = sym has ∙ t.if-has_same.false in
+          rw (t.said-is, said_more laws u xs i x false l c.valued-item.is off, ← c.loop-valued.invariant) refl)
     ]
 
 pub returns : goal.returns
 returns g c =
-    let es = c.args.entries.now in
-    let all : take c.loop-entry.entry-index es ≡ es = (let e : c.loop-entry.entry-index ≡ length es = omega (arith, c.loop-entry.auto.entry-index-end, c.loop-entry-test.false) in rw e (take-length es)) in
-    let said = rw all at c.loop-entry.invariant in
+    let xs = c.args.values.now in
+    let all : take c.loop-valued.valued-index xs ≡ xs = (let e : c.loop-valued.valued-index ≡ length xs = omega (arith, c.loop-valued.auto.valued-index-end, c.loop-valued-test.false) in rw e (take-length xs)) in
+    let said = rw all at c.loop-valued.invariant in
     rw (c.merge.ensures, said) refl
