@@ -1,9 +1,10 @@
 -- Values with their supports, and the entries that they stand for.
 use Rattle.std.proofs.Common.{◌≡◌, ◌≢◌, ◌∙◌, ◌+◌, ◌<◌, ◌≤◌, ◌&&◌, ◌||◌, not, ℕ, zero, suc, Bool, true, false, cond, if◌then◌else◌, List, [], ◌∷◌, ◌++◌, length, map, filter, take, drop, get_or, set, refl, sym, ap, subst, arith, inl, inr, ◌⊎◌, Contains, All, AllPairs, Any, IsTrue, ◌↔◌, append_assoc, append-nil}
 use Rattle.std.specs.List.{list_any, remove}
-use Rattle.std.proofs.lemmas.List.{get_or_default, length-append, map-append, take_more}
+use Rattle.std.proofs.lemmas.List.{get_or_default, length-append, length-set, map-append, take_more}
 use Rattle.std.proofs.lemmas.List.Elements.{All-nil, All-cons, All-head, All-tail, filter-append}
 use Rattle.std.proofs.lemmas.List.Kept.{AllPairs-cons}
+use Rattle.std.proofs.lemmas.List.Quantifiers.{all_pairs_push}
 use Rattle.std.proofs.Math.Seq.{take-suc-set}
 use Rattle.prop_lattice.specs.Laws.{IsInformationOrder}
 use Rattle.prop_premises.specs.Sets.{Members, set_of, is_within, is_alike}
@@ -303,3 +304,51 @@ pub left_wider : {V : Type 0} (below : V → V → Type 0) (e : Supported V) (x 
 left_wider below e x y says value supports =
     let one : entries_of_one y ≡ with_value x.value (filter (λ s. not (is_within (set_of s) e.support)) x.supports.items) = (λ j. with_value (value j) (supports j)) in
     rw one (left_one below e x.value x.supports.items says)
+
+-- a new value stands apart
+pub apart_more : {V : Type 0} (xs : List (Valued V)) (x : Valued V) (v : V) → x.value ≡ v → All (λ y. y.value ≢ v) xs → AreApart xs → AreApart (xs ++ x ∷ [])
+apart_more {V} xs x v is new apart =
+    let longer : values_of (xs ++ x ∷ []) ≡ values_of xs ++ v ∷ [] = map-append (λ (y : Valued V). y.value) xs (x ∷ []) ∙ ap (λ w. values_of xs ++ w ∷ []) is in
+    subst (AllPairs (λ a b. a ≢ b)) (sym longer) (all_pairs_push (λ a b. a ≢ b) (values_of xs) v apart (all_values xs new))
+  where
+    all_values : (ys : List (Valued V)) → All (λ y. y.value ≢ v) ys → All (λ w. w ≢ v) (values_of ys)
+    all_values [] h = All-nil (λ w. w ≢ v)
+    all_values (y ∷ ys) h = All-cons (λ w. w ≢ v) y.value (values_of ys) (All-head (λ z. z.value ≢ v) y ys h) (all_values ys (All-tail (λ z. z.value ≢ v) y ys h))
+
+-- and stands for nothing before it has a support
+pub entries_of-new : {V : Type 0} (xs : List (Valued V)) (x : Valued V) → x.supports.items ≡ [] → entries_of (xs ++ x ∷ []) ≡ entries_of xs
+entries_of-new xs x none = entries_of-push xs x ∙ ap (λ ss. entries_of xs ++ with_value x.value ss) none ∙ append-nil (entries_of xs)
+
+pub none_bare-set : {V : Type 0} (xs : List (Valued V)) (i : ℕ) (y d : Valued V) → i < length xs → y.supports.items ≡ (get_or xs i d).supports.items → NoneBare xs → NoneBare (set xs i y)
+none_bare-set xs i y d l same some k z m = elim (get_or_set xs i k y z l) as (λ _. (get_or (set xs i y) k z).supports.items ≢ []) [
+  | inl at ↦
+      (let here : y.supports.items ≢ [] = λ n. some i d l (sym same ∙ n) in
+      subst (λ (w : Valued _). w.supports.items ≢ []) (sym at.1) here)
+  | inr other ↦
+      (let n = length-set xs i y in
+      let short : k < length xs = omega (arith, m, n) in
+      subst (λ (w : Valued _). w.supports.items ≢ []) (sym other) (some k z short))
+]
+
+-- ---- entries that pass a test
+
+pub filter_length : {X : Type 0} (t : X → Bool) (xs : List X) → length (filter t xs) ≤ length xs
+filter_length t [] = omega arith
+filter_length {X} t (x ∷ xs) = by (t x) (filter_length t xs)
+  where
+    by : (b : Bool) → length (filter t xs) ≤ length xs → length (cond b (x ∷ filter t xs) (filter t xs)) ≤ length (x ∷ xs)
+    by true ih = omega (arith, ih)
+    by false ih = omega (arith, ih)
+
+with_value-length : {V : Type 0} (v : V) (ss : List (List ℕ)) → length (with_value v ss) ≡ length ss
+with_value-length v [] = refl
+with_value-length v (s ∷ ss) = ap suc (with_value-length v ss)
+
+-- one value more
+pub filtered_more : {V : Type 0} (u : List ℕ → Bool) (xs : List (Valued V)) (i : ℕ) (x : Valued V) → i < length xs → x ≡ get_or xs i x →
+    length (filter (λ e. u e.support) (entries_of (take (i + 1) xs))) ≡ length (filter (λ e. u e.support) (entries_of (take i xs))) + length (filter u x.supports.items)
+filtered_more u xs i x l is =
+    let front = entries_of (take i xs) in
+    ap (λ es. length (filter (λ e. u e.support) es)) (entries_of-more xs i x l is) ∙ ap length (filter-append (λ e. u e.support) front (entries_of_one x)) ∙
+    length-append (filter (λ e. u e.support) front) (filter (λ e. u e.support) (entries_of_one x)) ∙
+    ap (λ n. length (filter (λ e. u e.support) front) + n) (ap length (filter_one u x.value x.supports.items) ∙ with_value-length x.value (filter u x.supports.items))

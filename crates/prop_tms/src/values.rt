@@ -1,11 +1,12 @@
 //! Values, each once, with the supports that say so.
-ghost use Rattle.std.specs.Prelude.{◌≡◌, ◌≢◌, ◌↔◌, ◌<◌, ◌≤◌, ◌+◌, ◌^◌, ℕ, [], ◌∷◌, ◌++◌, Any, All, not, length, filter, map, get_or, vec_capacity, vec_len, IsTrue, OnOk, OnErr, IfOk};
+ghost use Rattle.std.specs.Prelude.{◌≡◌, ◌≢◌, ◌↔◌, ◌<◌, ◌≤◌, ◌+◌, ◌^◌, ℕ, [], ◌∷◌, ◌++◌, Any, All, not, length, filter, map, get_or, vec_capacity, vec_len, IsTrue, OnOk, OnErr, IfOk, IfSome, IfNone};
 ghost use Rattle.std.specs.List.{list_any};
 ghost use Rattle.prop_premises.specs.Sets.{set_of, is_within, is_alike, is_below};
 ghost use Rattle.prop_tms.specs.Beliefs.{Subsumes, IsNeedless, joined_with};
 ghost use Rattle.prop_tms.specs.Kept.{IsLeftWithout};
 ghost use Rattle.prop_tms.specs.Values.{entries_of, entries_of_one, values_of, AreApart, NoneBare, HasRoomOf};
 ghost use Rattle.prop_tms.specs.declared.supported.Supported.{Supported};
+ghost use Rattle.prop_tms.specs.declared.values.Valued.{Valued};
 
 use crate::supported::Supported;
 use prop_lattice::Partial;
@@ -86,6 +87,16 @@ fn is_same<V: Partial>(a: V, b: V) -> bool
     a.implies(b) && b.implies(a)
 }
 
+/// The place of the value; nothing where it isn't there.
+fn find<V: Partial>(values: &[Valued<V>], value: V) -> Option<usize>
+    ensures at { IfSome result (λ at. (at < length values.now) × ((d : Valued V) → (get_or values.now at d).value ≡ value)) }
+    ensures new { IfNone result (All (λ x. x.value ≢ value) values.now) }
+{
+    values
+        .iter()
+        .position(|valued| is_same(valued.value, value))
+}
+
 /// The place of the value, with room for one support more. A new value stands last, with no support yet. After want of memory nothing
 /// has changed.
 pub(crate) fn room_for<V: Partial>(values: &mut Vec<Valued<V>>, value: V) -> Result<usize, AllocError>
@@ -94,9 +105,9 @@ pub(crate) fn room_for<V: Partial>(values: &mut Vec<Valued<V>>, value: V) -> Res
     ensures apart { AreApart values.new.items }
     ensures place { IfOk result (λ at. (at < length values.new.items) × ((d : Valued V) → (get_or values.new.items at d).value ≡ value)) }
     ensures room { IfOk result (λ at. (d : Valued V) → vec_len (get_or values.new.items at d).supports < vec_capacity (get_or values.new.items at d).supports) }
-    ensures err { OnErr result (values.new.items ≡ values.old.items) }
+    ensures err { OnErr result (NoneBare values.old.items → NoneBare values.new.items) }
 {
-    if let Some(place) = values.iter().position(|valued| is_same(valued.value, value)) {
+    if let Some(place) = find(values, value) {
         values[place].supports.reserve(1)?;
         return Ok(place);
     }
