@@ -1,7 +1,7 @@
 -- Values with their supports, and the entries that they stand for.
-use Rattle.std.proofs.Common.{◌≡◌, ◌≢◌, ◌∙◌, ◌+◌, ◌<◌, ◌≤◌, ◌&&◌, ◌||◌, not, ℕ, zero, suc, Bool, true, false, cond, if◌then◌else◌, List, [], ◌∷◌, ◌++◌, length, map, filter, take, drop, get_or, set, refl, sym, ap, subst, arith, inl, inr, ◌⊎◌, Contains, All, AllPairs, Any, IsTrue, ◌↔◌, append_assoc, append-nil}
+use Rattle.std.proofs.Common.{◌≡◌, ◌≢◌, ◌∙◌, ◌+◌, ◌<◌, ◌≤◌, ◌&&◌, ◌||◌, not, ℕ, zero, suc, Bool, true, false, cond, if◌then◌else◌, List, [], ◌∷◌, ◌++◌, length, map, filter, take, drop, get_or, set, slice_get, Some, refl, sym, ap, subst, arith, inl, inr, ◌⊎◌, Contains, All, AllPairs, Any, IsTrue, ◌↔◌, append_assoc, append-nil}
 use Rattle.std.specs.List.{list_any, remove}
-use Rattle.std.proofs.lemmas.List.{get_or_default, length-append, length-set, map-append, take_more}
+use Rattle.std.proofs.lemmas.List.{get_or_default, length-append, length-set, map-append, take_more, take-set}
 use Rattle.std.proofs.lemmas.List.Elements.{All-nil, All-cons, All-head, All-tail, filter-append}
 use Rattle.std.proofs.lemmas.List.Kept.{AllPairs-cons}
 use Rattle.std.proofs.lemmas.List.Quantifiers.{all_pairs_push}
@@ -10,11 +10,11 @@ use Rattle.prop_lattice.specs.Laws.{IsInformationOrder}
 use Rattle.prop_premises.specs.Sets.{Members, set_of, is_within, is_alike}
 use Rattle.prop_tms.specs.Beliefs.{merge_of_all, believed_of, belief_of, Subsumes}
 use Rattle.prop_tms.specs.Kept.{IsLeftWithout}
-use Rattle.prop_tms.specs.Values.{entries_of, entries_of_one, values_of, AreApart, NoneBare, HasRoomOf}
+use Rattle.prop_tms.specs.Values.{entries_of, entries_of_one, values_of, place_of, AreApart, NoneBare, HasRoomOf}
 use Rattle.prop_tms.specs.declared.supported.Supported.{Supported}
 use Rattle.prop_tms.specs.declared.values.Valued.{Valued}
 use Rattle.prop_tms.proofs.KeptLemmas.{contains_here, contains_there, contains_cases}
-use Rattle.prop_tms.proofs.MergedLemmas.{merge_of_all-append, join-above, join-bottom, bottom-join}
+use Rattle.prop_tms.proofs.MergedLemmas.{first_below, second_below, join_below, merge_of_all-append, join-above, join-bottom, bottom-join}
 
 -- the entries of a value with these supports
 abbrev pub with_value : {V : Type 0} → V → List (List ℕ) → List (Supported V)
@@ -352,3 +352,134 @@ filtered_more u xs i x l is =
     ap (λ es. length (filter (λ e. u e.support) es)) (entries_of-more xs i x l is) ∙ ap length (filter-append (λ e. u e.support) front (entries_of_one x)) ∙
     length-append (filter (λ e. u e.support) front) (filter (λ e. u e.support) (entries_of_one x)) ∙
     ap (λ n. length (filter (λ e. u e.support) front) + n) (ap length (filter_one u x.value x.supports.items) ∙ with_value-length x.value (filter u x.supports.items))
+
+-- ---- one support less
+
+remove_after : {X : Type 0} (front rest : List X) (k n : ℕ) → n ≡ length front + k → remove (front ++ rest) n ≡ front ++ remove rest k
+remove_after [] rest k n e = let same : n ≡ k = omega (arith, e) in ap (remove rest) same
+remove_after (x ∷ front) rest k zero e = absurd (omega (arith, e))
+remove_after (x ∷ front) rest k (suc n) e = ap (λ es. x ∷ es) (remove_after front rest k n (omega (arith, e)))
+
+remove_within : {X : Type 0} (one rear : List X) (k : ℕ) → k < length one → remove (one ++ rear) k ≡ remove one k ++ rear
+remove_within [] rear k l = absurd (omega (arith, l))
+remove_within (x ∷ one) rear zero l = refl
+remove_within (x ∷ one) rear (suc k) l = ap (λ es. x ∷ es) (remove_within one rear k (omega (arith, l)))
+
+remove_value : {V : Type 0} (v : V) (ss : List (List ℕ)) (k : ℕ) → remove (with_value v ss) k ≡ with_value v (remove ss k)
+remove_value v [] zero = refl
+remove_value v [] (suc k) = refl
+remove_value v (s ∷ ss) zero = refl
+remove_value v (s ∷ ss) (suc k) = ap (λ es. record { value = v; support = s } ∷ es) (remove_value v ss k)
+
+pub removed_parts : {V : Type 0} (xs : List (Valued V)) (i place : ℕ) (x : Valued V) → i < length xs → x ≡ get_or xs i x → place < length x.supports.items →
+    remove (entries_of xs) (place_of xs i place) ≡ entries_of (take i xs) ++ (with_value x.value (remove x.supports.items place) ++ entries_of (drop (suc i) xs))
+removed_parts xs i place x l is m =
+    let front = entries_of (take i xs) in
+    let rear = entries_of (drop (suc i) xs) in
+    let parts : entries_of xs ≡ front ++ (entries_of_one x ++ rear) = entries_of-parts xs i x l ∙ ap (λ y. front ++ (entries_of_one y ++ rear)) (sym is) in
+    let n = with_value-length x.value x.supports.items in
+    let short : place < length (with_value x.value x.supports.items) = omega (arith, n, m) in
+    ap (λ es. remove es (place_of xs i place)) parts ∙ remove_after front (entries_of_one x ++ rear) place (place_of xs i place) refl ∙
+    ap (λ es. front ++ es) (remove_within (entries_of_one x) rear place short ∙ ap (λ es. es ++ rear) (remove_value x.value x.supports.items place))
+
+pub removed : {V : Type 0} (xs : List (Valued V)) (i place : ℕ) (x y : Valued V) → i < length xs → x ≡ get_or xs i x → place < length x.supports.items → y.value ≡ x.value → y.supports.items ≡ remove x.supports.items place →
+    entries_of (set xs i y) ≡ remove (entries_of xs) (place_of xs i place)
+removed xs i place x y l is m value supports =
+    let one : entries_of_one y ≡ with_value x.value (remove x.supports.items place) = (λ j. with_value (value j) (supports j)) in
+    entries_of-set xs i y l ∙ ap (λ es. entries_of (take i xs) ++ (es ++ entries_of (drop (suc i) xs))) one ∙ sym (removed_parts xs i place x l is m)
+
+get_after : {X : Type 0} (front rest : List X) (k n : ℕ) → n ≡ length front + k → slice_get (front ++ rest) n ≡ slice_get rest k
+get_after [] rest k n e = let same : n ≡ k = omega (arith, e) in ap (slice_get rest) same
+get_after (x ∷ front) rest k zero e = absurd (omega (arith, e))
+get_after (x ∷ front) rest k (suc n) e = get_after front rest k n (omega (arith, e))
+
+get_within : {V : Type 0} (v : V) (ss : List (List ℕ)) (rear : List (Supported V)) (k : ℕ) (s : List ℕ) → k < length ss → s ≡ get_or ss k s → slice_get (with_value v ss ++ rear) k ≡ Some (record { value = v; support = s })
+get_within v [] rear k s l is = absurd (omega (arith, l))
+get_within v (t ∷ ss) rear zero s l is = (λ j. Some (record { value = v; support = sym is j }))
+get_within v (t ∷ ss) rear (suc k) s l is = get_within v ss rear k s (omega (arith, l)) is
+
+pub entry_at : {V : Type 0} (xs : List (Valued V)) (i place : ℕ) (x : Valued V) (s : List ℕ) → i < length xs → x ≡ get_or xs i x → place < length x.supports.items → s ≡ get_or x.supports.items place s →
+    slice_get (entries_of xs) (place_of xs i place) ≡ Some (record { value = x.value; support = s })
+entry_at xs i place x s l is m at =
+    let front = entries_of (take i xs) in
+    let rear = entries_of (drop (suc i) xs) in
+    let parts : entries_of xs ≡ front ++ (entries_of_one x ++ rear) = entries_of-parts xs i x l ∙ ap (λ y. front ++ (entries_of_one y ++ rear)) (sym is) in
+    ap (λ es. slice_get es (place_of xs i place)) parts ∙ get_after front (entries_of_one x ++ rear) place (place_of xs i place) refl ∙ get_within x.value x.supports.items rear place s m at
+
+pub place_within : {V : Type 0} (xs : List (Valued V)) (i place : ℕ) (x : Valued V) → i < length xs → x ≡ get_or xs i x → place < length x.supports.items → place_of xs i place < length (entries_of xs)
+place_within xs i place x l is m =
+    let more = count_more xs i x l is in
+    let all = entries_of-take xs (i + 1) in
+    omega (arith, more, all, m)
+
+-- the places of a value end where those of the next begin
+pub place_next : {V : Type 0} (xs : List (Valued V)) (i place : ℕ) (x : Valued V) → i < length xs → x ≡ get_or xs i x → place ≡ length x.supports.items → place_of xs i place ≡ place_of xs (i + 1) 0
+place_next xs i place x l is e = let more = count_more xs i x l is in omega (arith, more, e)
+
+pub place_set : {V : Type 0} (xs : List (Valued V)) (i place : ℕ) (y : Valued V) → place_of (set xs i y) i place ≡ place_of xs i place
+place_set xs i place y = ap (λ zs. length (entries_of zs) + place) (take-set xs i y)
+
+any_both : {X : Type 0} (u : X → Bool) (xs ys : List X) → list_any u (xs ++ ys) ≡ (list_any u xs || list_any u ys)
+any_both u [] ys = refl
+any_both {X} u (x ∷ xs) ys = by (u x) (any_both u xs ys)
+  where
+    by : (b : Bool) → list_any u (xs ++ ys) ≡ (list_any u xs || list_any u ys) → (b || list_any u (xs ++ ys)) ≡ ((b || list_any u xs) || list_any u ys)
+    by true ih = refl
+    by false ih = ih
+
+pub length_values : {V : Type 0} (xs ys : List (Valued V)) → values_of xs ≡ values_of ys → length xs ≡ length ys
+length_values xs ys h = sym (length_map xs) ∙ ap length h ∙ length_map ys
+  where
+    length_map : {V : Type 0} (zs : List (Valued V)) → length (values_of zs) ≡ length zs
+    length_map [] = refl
+    length_map (z ∷ zs) = ap suc (length_map zs)
+
+module _ {V : Type 0} {below : V → V → Type 0} {bottom top : V} {join : V → V → V} (laws : IsInformationOrder below bottom top join) where
+  join_between : (a b v : V) → join (join a b) v ≡ join a (join v b)
+  join_between a b v =
+      let left = join (join a b) v in
+      let right = join a (join v b) in
+      let a_left = laws.transitive a (join a b) left (first_below laws a b) (first_below laws (join a b) v) in
+      let b_left = laws.transitive b (join a b) left (second_below laws a b) (first_below laws (join a b) v) in
+      let v_left = second_below laws (join a b) v in
+      let a_right = first_below laws a (join v b) in
+      let v_right = laws.transitive v (join v b) right (first_below laws v b) (second_below laws a (join v b)) in
+      let b_right = laws.transitive b (join v b) right (second_below laws v b) (second_below laws a (join v b)) in
+      laws.antisymmetric left right (join_below laws (join a b) v right (join_below laws a b right a_right b_right) v_right) (join_below laws a (join v b) left a_left (join_below laws v b left v_left b_left))
+
+  -- what is said without one support of a value
+  pub said_without : (w : Members) (xs : List (Valued V)) (i place : ℕ) (x : Valued V) (b : Bool) → i < length xs → x ≡ get_or xs i x → place < length x.supports.items →
+      (list_any (is_within w) (take place x.supports.items) || list_any (is_within w) (drop (suc place) x.supports.items)) ≡ b →
+      belief_of bottom join w (remove (entries_of xs) (place_of xs i place)) ≡
+      (if b then join (join (belief_of bottom join w (entries_of (take i xs))) (belief_of bottom join w (entries_of (drop (suc i) xs)))) x.value
+        else join (belief_of bottom join w (entries_of (take i xs))) (belief_of bottom join w (entries_of (drop (suc i) xs))))
+  said_without w xs i place x b l is m others =
+      let front = entries_of (take i xs) in
+      let rear = entries_of (drop (suc i) xs) in
+      let ss = x.supports.items in
+      let some : list_any (is_within w) (remove ss place) ≡ b = any_both (is_within w) (take place ss) (drop (suc place) ss) ∙ others in
+      ap (belief_of bottom join w) (removed_parts xs i place x l is m) ∙ said_both laws (is_within w) front (with_value x.value (remove ss place) ++ rear) ∙
+      ap (λ y. join (belief_of bottom join w front) y) (said_both laws (is_within w) (with_value x.value (remove ss place)) rear ∙
+      ap (λ y. join y (belief_of bottom join w rear)) (said_one laws (is_within w) x.value (remove ss place) ∙ ap (λ c. if c then x.value else bottom) some)) ∙
+      by (belief_of bottom join w front) (belief_of bottom join w rear) b
+    where
+      by : (f r : V) (c : Bool) → join f (join (if c then x.value else bottom) r) ≡ (if c then join (join f r) x.value else join f r)
+      by f r true = sym (join_between f r x.value)
+      by f r false = ap (λ y. join f y) (bottom-join laws r)
+
+pub or_first : (a b : Bool) → a ≡ true → (a || b) ≡ true
+or_first true b h = refl
+or_first false b h = cc
+
+pub or_second : (a b c : Bool) → a ≡ false → b ≡ c → (a || b) ≡ c
+or_second true b c h k = cc
+or_second false b c h k = k
+
+pub place_end : {V : Type 0} (xs : List (Valued V)) (i : ℕ) → length xs ≤ i → length (entries_of xs) ≤ place_of xs i 0
+place_end [] i le = omega arith
+place_end (x ∷ xs) zero le = absurd (omega (arith, le))
+place_end (x ∷ xs) (suc i) le =
+    let rest = place_end xs i (omega (arith, le)) in
+    let all = length-append (entries_of_one x) (entries_of xs) in
+    let front = length-append (entries_of_one x) (entries_of (take i xs)) in
+    omega (arith, rest, all, front)
