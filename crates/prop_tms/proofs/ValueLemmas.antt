@@ -1,10 +1,11 @@
 -- Values with their supports, and the entries that they stand for.
-use Rattle.std.proofs.Common.{◌≡◌, ◌≢◌, ◌∙◌, ◌+◌, ◌<◌, ◌≤◌, ◌&&◌, ◌||◌, not, ℕ, zero, suc, Bool, true, false, cond, if◌then◌else◌, List, [], ◌∷◌, ◌++◌, length, map, filter, take, drop, get_or, set, slice_get, Some, refl, sym, ap, subst, arith, inl, inr, ◌⊎◌, Contains, All, AllPairs, Any, IsTrue, ◌↔◌, append_assoc, append-nil}
+use Rattle.std.proofs.Common.{◌≡◌, ◌≢◌, ◌∙◌, ◌+◌, ◌<◌, ◌≤◌, ◌&&◌, ◌||◌, not, ℕ, zero, suc, Bool, true, false, cond, if◌then◌else◌, List, [], ◌∷◌, ◌++◌, length, map, filter, take, drop, get_or, set, slice_get, Some, vec_capacity, vec_len, refl, sym, ap, subst, arith, inl, inr, ◌⊎◌, Contains, All, AllPairs, Any, IsTrue, ◌↔◌, append_assoc, append-nil}
 use Rattle.std.specs.List.{list_any, remove}
 use Rattle.std.proofs.lemmas.List.{get_or_default, length-append, length-set, map-append, take_more, take-set}
 use Rattle.std.proofs.lemmas.List.Elements.{All-nil, All-cons, All-head, All-tail, filter-append}
 use Rattle.std.proofs.lemmas.List.Kept.{AllPairs-cons}
 use Rattle.std.proofs.lemmas.List.Quantifiers.{all_pairs_push}
+use Rattle.std.proofs.Math.ListN.{get_or-map}
 use Rattle.std.proofs.Math.Seq.{take-suc-set}
 use Rattle.prop_lattice.specs.Laws.{IsInformationOrder}
 use Rattle.prop_premises.specs.Sets.{Members, set_of, is_within, is_alike}
@@ -483,3 +484,54 @@ place_end (x ∷ xs) (suc i) le =
     let all = length-append (entries_of_one x) (entries_of xs) in
     let front = length-append (entries_of_one x) (entries_of (take i xs)) in
     omega (arith, rest, all, front)
+
+-- ---- one support more
+
+pub entries_of-grown : {V : Type 0} (xs : List (Valued V)) (i : ℕ) (x y : Valued V) (s : List ℕ) → i < length xs → x ≡ get_or xs i x → y.value ≡ x.value → y.supports.items ≡ x.supports.items ++ s ∷ [] →
+    (front : List (Supported V)) × (rear : List (Supported V)) × (entries_of xs ≡ front ++ rear) × (entries_of (set xs i y) ≡ front ++ record { value = x.value; support = s } ∷ rear)
+entries_of-grown xs i x y s l is value supports =
+    let v = x.value in
+    let ss = x.supports.items in
+    let a = entries_of (take i xs) in
+    let c = entries_of (drop (suc i) xs) in
+    let before : entries_of xs ≡ a ++ (with_value v ss ++ c) = entries_of-parts xs i x l ∙ ap (λ z. a ++ (entries_of_one z ++ c)) (sym is) in
+    let one : entries_of_one y ≡ with_value v (ss ++ s ∷ []) = (λ j. with_value (value j) (supports j)) in
+    let longer : with_value v (ss ++ s ∷ []) ++ c ≡ with_value v ss ++ record { value = v; support = s } ∷ c =
+    ap (λ es. es ++ c) (map-append (λ t. record { value = v; support = t }) ss (s ∷ [])) ∙ append_assoc (with_value v ss) (record { value = v; support = s } ∷ []) c in
+    (a ++ with_value v ss, c, before ∙ sym (append_assoc a (with_value v ss) c),
+        entries_of-set xs i y l ∙ ap (λ es. a ++ (es ++ c)) one ∙ ap (λ es. a ++ es) longer ∙ sym (append_assoc a (with_value v ss) (record { value = v; support = s } ∷ c)))
+
+-- what stands where a whole list was written
+pub written : {X : Type 0} (n : ℕ) (ys zs : List X) → n ≡ length ys → take n (ys ++ zs) ≡ ys
+written zero [] zs e = refl
+written zero (y ∷ ys) zs e = absurd (omega (arith, e))
+written (suc n) [] zs e = absurd (omega (arith, e))
+written (suc n) (y ∷ ys) zs e = ap (λ xs. y ∷ xs) (written n ys zs (omega (arith, e)))
+
+pub written_values : {V : Type 0} (n : ℕ) (old new : List (Valued V)) → n ≡ length old → values_of new ≡ values_of old → take n (new ++ drop (length new) old) ≡ new
+written_values n old new e same = let l = length_values new old same in written n new (drop (length new) old) (omega (arith, e, l))
+
+-- the value at a place, where the values stayed
+pub value_at : {V : Type 0} (xs ys : List (Valued V)) (i : ℕ) (d : Valued V) → values_of xs ≡ values_of ys → (get_or xs i d).value ≡ (get_or ys i d).value
+value_at {V} xs ys i d h = sym (get_or-map (λ (x : Valued V). x.value) xs i d) ∙ ap (λ vs. get_or vs i d.value) h ∙ get_or-map (λ (x : Valued V). x.value) ys i d
+
+-- there is room at a place that was made room at
+pub has_room : {V : Type 0} (start mid : List (Valued V)) (i : ℕ) (x : Valued V) → i < length start → x ≡ get_or mid i x → vec_len (get_or start i x).supports < vec_capacity (get_or start i x).supports →
+    HasRoomOf (get_or mid i x) (get_or start i x) → vec_capacity x.supports ≤ vec_len x.supports → ⊥
+has_room start mid i x l is room kept full =
+    let capacity = ap (λ (z : Valued _). vec_capacity z.supports) is in
+    let len = ap (λ (z : Valued _). vec_len z.supports) is in
+    omega (arith, capacity, len, kept.0, kept.1, room, full)
+
+-- an entry joins those that are left
+pub grown_all : {V : Type 0} (D : Supported V → Type 0) (old final : List (Supported V)) (m : Supported V) (start mid : List (Valued V)) (i : ℕ) (x y : Valued V) → entries_of start ≡ old → i < length start →
+    (get_or start i x).value ≡ m.value → IsLeftWithout D (entries_of start) (entries_of mid) → values_of mid ≡ values_of start → x ≡ get_or mid i x → y.value ≡ x.value →
+    y.supports.items ≡ x.supports.items ++ m.support ∷ [] → final ≡ entries_of (set mid i y) →
+    (front : List (Supported V)) × (rear : List (Supported V)) × IsLeftWithout D old (front ++ rear) × (final ≡ front ++ m ∷ rear)
+grown_all D old final m start mid i x y from l there left values is value supports end =
+    let n = length_values mid start values in
+    let short : i < length mid = omega (arith, l, n) in
+    let grown = entries_of-grown mid i x y m.support short is value supports in
+    let its : x.value ≡ m.value = ap (λ (z : Valued _). z.value) is ∙ value_at mid start i x values ∙ there in
+    let kept = subst (λ (es : List (Supported _)). IsLeftWithout D es (entries_of mid)) from left in
+    (grown.0, grown.1, subst (IsLeftWithout D old) grown.2 kept, end ∙ grown.3 ∙ (λ j. grown.0 ++ record { value = its j; support = m.support } ∷ grown.1))
