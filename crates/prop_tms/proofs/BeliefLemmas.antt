@@ -1,16 +1,14 @@
 -- What entries say in each worldview, in any order of information.
-use Rattle.std.proofs.Common.{◌≡◌, ◌∙◌, ◌<◌, ℕ, Bool, true, false, ◌&&◌, List, [], ◌∷◌, ◌++◌, length, get_or, take, ◌+◌, refl, sym, ap, subst, inl, inr, Contains, filter, cond, if◌then◌else◌, append-nil}
+use Rattle.std.proofs.Common.{◌≡◌, ◌∙◌, ℕ, Bool, true, false, ◌&&◌, List, [], ◌∷◌, ◌++◌, get_or, refl, sym, subst, inl, inr, Contains, filter, cond, if◌then◌else◌}
 use Rattle.std.specs.List.{AllByRecursion}
-use Rattle.std.proofs.lemmas.List.{take_more}
-use Rattle.std.proofs.lemmas.List.Elements.{All-contains, All-from_recursion, recursion_from_All, Contains-get_or, Contains-append_left, Contains-push, Contains-push_cases, filter-append}
-use Rattle.std.proofs.lemmas.List.Quantifiers.{all_pairs_push}
+use Rattle.std.proofs.lemmas.List.Elements.{All-contains, All-from_recursion, recursion_from_All, Contains-get_or}
 use Rattle.prop_lattice.specs.Laws.{IsInformationOrder}
 use Rattle.prop_premises.specs.Sets.{Members, set_of, is_within, is_alike}
 use Rattle.prop_premises.proofs.WithinLemmas.{is_within-trans}
 use Rattle.prop_tms.specs.Beliefs.{merge_of_all, believed_of, belief_of, Subsumes, NoneSubsumed, NoneAlike, IsNeedless, Adds, joined_with}
 use Rattle.prop_tms.specs.Kept.{IsLeftWithout}
 use Rattle.prop_tms.specs.declared.supported.Supported.{Supported}
-use Rattle.prop_tms.proofs.MergedLemmas.{first_below, second_below, join_below, merged_below, below_merged, merge_of_all-push, join-above, join-assoc}
+use Rattle.prop_tms.proofs.MergedLemmas.{first_below, second_below, join_below, merged_below, below_merged, join-above, join-assoc}
 use Rattle.prop_tms.proofs.KeptLemmas.{insert_cases, insert_here, insert_there, left_only, left_kept, left_none, left_pairs, pairs_insert}
 
 filtered : {X : Type 0} (t : X → Bool) (P : X → Type 0) (xs : List X) → AllByRecursion (λ x. t x ≡ true → P x) xs → AllByRecursion P (filter t xs)
@@ -171,9 +169,9 @@ module _ {V : Type 0} {below : V → V → Type 0} {bottom top : V} {join : V �
       let m = joined_with bottom join old e in
       pairs_insert (λ a b. is_alike a.support b.support ≡ false) front rear m (left_pairs (Subsumes below m) (λ a b. is_alike a.support b.support ≡ false) old rest left alone)
       (λ k d l.
-          let other = by (get_or rest k d) (left_only (Subsumes below m) old rest (get_or rest k d) left (Contains-get_or rest k d l)) (left_none (Subsumes below m) old rest left k d l)
-          (is_alike (get_or rest k d).support e.support) refl in
-          (other, alike_back (get_or rest k d).support e.support other))
+      let other = by (get_or rest k d) (left_only (Subsumes below m) old rest (get_or rest k d) left (Contains-get_or rest k d l)) (left_none (Subsumes below m) old rest left k d l)
+      (is_alike (get_or rest k d).support e.support) refl in
+      (other, alike_back (get_or rest k d).support e.support other))
     where
       by : (x : Supported V) → Contains old x → ¬ (Subsumes below (joined_with bottom join old e) x) → (b : Bool) → is_alike x.support e.support ≡ b → is_alike x.support e.support ≡ false
       by x c apart true alike =
@@ -208,6 +206,6 @@ module _ {V : Type 0} {below : V → V → Type 0} {bottom top : V} {join : V �
       pairs_insert (λ a b. ¬ (Subsumes below a b) × ¬ (Subsumes below b a)) front rear e
       (left_pairs (Subsumes below e) (λ a b. ¬ (Subsumes below a b) × ¬ (Subsumes below b a)) old rest left apart)
       (λ k d l.
-          let over : ¬ (Subsumes below (get_or rest k d) e) = λ s. let c = left_only (Subsumes below e) old rest (get_or rest k d) left (Contains-get_or rest k d l) in needed (inr (c.0, get_or rest k d, c.1, c.2, s)) in
-          let under : ¬ (Subsumes below e (get_or rest k d)) = λ s. left_none (Subsumes below e) old rest left k d l s in
-          ((over, under), (under, over)))
+      let over : ¬ (Subsumes below (get_or rest k d) e) = λ s. let c = left_only (Subsumes below e) old rest (get_or rest k d) left (Contains-get_or rest k d l) in needed (inr (c.0, get_or rest k d, c.1, c.2, s)) in
+      let under : ¬ (Subsumes below e (get_or rest k d)) = λ s. left_none (Subsumes below e) old rest left k d l s in
+      ((over, under), (under, over)))

@@ -1,5 +1,5 @@
 -- Values with their supports, and the entries that they stand for.
-use Rattle.std.proofs.Common.{◌≡◌, ◌≢◌, ◌∙◌, ◌+◌, ◌<◌, ◌≤◌, ◌&&◌, ◌||◌, not, ℕ, zero, suc, Bool, true, false, cond, if◌then◌else◌, List, [], ◌∷◌, ◌++◌, length, map, filter, take, drop, get_or, set, slice_get, Some, vec_capacity, vec_len, refl, sym, ap, subst, arith, inl, inr, ◌⊎◌, Contains, All, AllPairs, Any, IsTrue, ◌↔◌, append_assoc, append-nil}
+use Rattle.std.proofs.Common.{◌≡◌, ◌≢◌, ◌∙◌, ◌+◌, ◌<◌, ◌≤◌, ◌||◌, not, ℕ, zero, suc, Bool, true, false, cond, if◌then◌else◌, List, [], ◌∷◌, ◌++◌, length, map, filter, take, drop, get_or, set, slice_get, Some, vec_capacity, vec_len, refl, sym, ap, subst, arith, inl, inr, ◌⊎◌, All, AllPairs, Any, ◌↔◌, append_assoc, append-nil}
 use Rattle.std.specs.List.{list_any, remove}
 use Rattle.std.proofs.lemmas.List.{get_or_default, length-append, length-set, map-append, take_more, take-set}
 use Rattle.std.proofs.lemmas.List.Elements.{All-nil, All-cons, All-head, All-tail, filter-append}
@@ -8,13 +8,13 @@ use Rattle.std.proofs.lemmas.List.Quantifiers.{all_pairs_push}
 use Rattle.std.proofs.Math.ListN.{get_or-map}
 use Rattle.std.proofs.Math.Seq.{take-suc-set}
 use Rattle.prop_lattice.specs.Laws.{IsInformationOrder}
-use Rattle.prop_premises.specs.Sets.{Members, set_of, is_within, is_alike}
-use Rattle.prop_tms.specs.Beliefs.{merge_of_all, believed_of, belief_of, Subsumes}
+use Rattle.prop_premises.specs.Sets.{Members, set_of, is_within}
+use Rattle.prop_tms.specs.Beliefs.{merge_of_all, belief_of, Subsumes}
 use Rattle.prop_tms.specs.Kept.{IsLeftWithout}
 use Rattle.prop_tms.specs.Values.{entries_of, entries_of_one, values_of, place_of, AreApart, NoneBare, HasRoomOf}
 use Rattle.prop_tms.specs.declared.supported.Supported.{Supported}
 use Rattle.prop_tms.specs.declared.values.Valued.{Valued}
-use Rattle.prop_tms.proofs.KeptLemmas.{contains_here, contains_there, contains_cases}
+use Rattle.prop_tms.proofs.KeptLemmas.{contains_cases}
 use Rattle.prop_tms.proofs.MergedLemmas.{first_below, second_below, join_below, merge_of_all-append, join-above, join-bottom, bottom-join}
 
 -- the entries of a value with these supports
@@ -453,7 +453,7 @@ module _ {V : Type 0} {below : V → V → Type 0} {bottom top : V} {join : V �
       (list_any (is_within w) (take place x.supports.items) || list_any (is_within w) (drop (suc place) x.supports.items)) ≡ b →
       belief_of bottom join w (remove (entries_of xs) (place_of xs i place)) ≡
       (if b then join (join (belief_of bottom join w (entries_of (take i xs))) (belief_of bottom join w (entries_of (drop (suc i) xs)))) x.value
-        else join (belief_of bottom join w (entries_of (take i xs))) (belief_of bottom join w (entries_of (drop (suc i) xs))))
+      else join (belief_of bottom join w (entries_of (take i xs))) (belief_of bottom join w (entries_of (drop (suc i) xs))))
   said_without w xs i place x b l is m others =
       let front = entries_of (take i xs) in
       let rear = entries_of (drop (suc i) xs) in
@@ -497,9 +497,12 @@ entries_of-grown xs i x y s l is value supports =
     let before : entries_of xs ≡ a ++ (with_value v ss ++ c) = entries_of-parts xs i x l ∙ ap (λ z. a ++ (entries_of_one z ++ c)) (sym is) in
     let one : entries_of_one y ≡ with_value v (ss ++ s ∷ []) = (λ j. with_value (value j) (supports j)) in
     let longer : with_value v (ss ++ s ∷ []) ++ c ≡ with_value v ss ++ record { value = v; support = s } ∷ c =
-    ap (λ es. es ++ c) (map-append (λ t. record { value = v; support = t }) ss (s ∷ [])) ∙ append_assoc (with_value v ss) (record { value = v; support = s } ∷ []) c in
-    (a ++ with_value v ss, c, before ∙ sym (append_assoc a (with_value v ss) c),
-        entries_of-set xs i y l ∙ ap (λ es. a ++ (es ++ c)) one ∙ ap (λ es. a ++ es) longer ∙ sym (append_assoc a (with_value v ss) (record { value = v; support = s } ∷ c)))
+    ap (λ es. es ++ c) (map-append (λ t. record { value = v; support = t }) ss (s ∷ [])) ∙ append_assoc (with_value v ss) (record { value = v; support = s } ∷ []) c in (
+      a ++ with_value v ss,
+      c,
+      before ∙ sym (append_assoc a (with_value v ss) c),
+      entries_of-set xs i y l ∙ ap (λ es. a ++ (es ++ c)) one ∙ ap (λ es. a ++ es) longer ∙ sym (append_assoc a (with_value v ss) (record { value = v; support = s } ∷ c)),
+    )
 
 -- what stands where a whole list was written
 pub written : {X : Type 0} (n : ℕ) (ys zs : List X) → n ≡ length ys → take n (ys ++ zs) ≡ ys

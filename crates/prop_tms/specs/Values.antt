@@ -1,5 +1,5 @@
 -- Values, each once, with the supports that say so.
-use Rattle.std.specs.Prelude.{◌≡◌, ◌≢◌, ℕ, ◌+◌, ◌^◌, ◌<◌, ◌≤◌, List, [], ◌∷◌, ◌++◌, length, map, take, get_or, All, AllPairs, vec_capacity, vec_len}
+use Rattle.std.specs.Prelude.{◌≡◌, ◌≢◌, ℕ, ◌+◌, ◌^◌, ◌<◌, ◌≤◌, List, [], ◌∷◌, ◌++◌, length, map, take, All, AllPairs, vec_capacity, vec_len}
 use Rattle.prop_tms.specs.Beliefs.{NoneSubsumed, NoneAlike}
 use Rattle.prop_tms.specs.declared.supported.Supported.{Supported}
 use Rattle.prop_tms.specs.declared.values.Valued.{Valued}

@@ -43,9 +43,15 @@ fn alone<'a, V: Partial>(gains: &[Gain<'a, V>], value: V) -> Option<Entry<'a, V>
     ensures few { (x : Supported V) → Contains (gained_of gains.now) x → V.below value x.value → IsSomeAnd result (λ e. length e.support.now ≤ length x.support) }
 {
     for gain in gains {
-        let Entry { value: said, support } = gain.entry;
+        let Entry {
+            value: said,
+            support,
+        } = gain.entry;
         if said.implies(value) {
-            return Some(Entry { value: said, support });
+            return Some(Entry {
+                value: said,
+                support,
+            });
         }
     }
     None

@@ -9,7 +9,9 @@ ghost use Rattle.prop_tms.specs.declared.supported.Supported.{Supported};
 use crate::strongest::{belief, strongest};
 use crate::supported::Supported;
 use crate::trimming::{count_derived, trim};
-use crate::values::{Valued, count, drop_bare, drop_from, drop_subsumed, is_needless, joined, room_for};
+use crate::values::{
+    Valued, count, drop_bare, drop_from, drop_subsumed, is_needless, joined, room_for,
+};
 use prop_lattice::Partial;
 use prop_premises::{PremiseSet, Worldview};
 use std::alloc::{AllocError, Global};

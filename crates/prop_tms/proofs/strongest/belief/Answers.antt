@@ -1,4 +1,4 @@
-use Rattle.std.proofs.Common.{◌≡◌, ◌<◌, ◌∙◌, Bool, ℕ, List, true, false, sym, refl}
+use Rattle.std.proofs.Common.{◌≡◌, ◌∙◌, Bool, ℕ, List, true, false, sym, refl}
 use Rattle.std.specs.List.{list_any}
 use Rattle.prop_premises.specs.Sets.{set_of, is_within}
 use Rattle.prop_tms.proofs.ValueLemmas.{said_more}

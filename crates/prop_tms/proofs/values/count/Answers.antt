@@ -1,6 +1,4 @@
-use Rattle.std.proofs.Common.{◌≡◌, ◌+◌, ◌<◌, length, take, sym, arith}
-use Rattle.std.proofs.Math.Seq.{take-length}
-use Rattle.prop_tms.specs.Values.{entries_of}
+use Rattle.std.proofs.Common.{◌+◌, arith}
 use Rattle.prop_tms.proofs.ValueLemmas.{count_more, entries_of-take}
 use Rattle.prop_tms.proofs.values.count.Goals as goal
 

@@ -1,5 +1,4 @@
-use Rattle.std.proofs.Common.{◌≡◌, ◌≢◌, rules}
-use Rattle.prop_tms.specs.Kept.{IsLeftWithout}
+use Rattle.std.proofs.Common.{◌≢◌, rules}
 use Rattle.prop_tms.proofs.KeptLemmas.{left_from_retain, left_none}
 use Rattle.prop_tms.proofs.ValueLemmas.{IsBare, entries_of-left, values_left}
 use Rattle.prop_tms.proofs.values.drop_bare.Goals as goal

@@ -1,4 +1,4 @@
-use Rattle.std.proofs.Common.{◌≡◌, ◌<◌, ◌∙◌, true, false, sym, refl, ap, get_or, length, arith}
+use Rattle.std.proofs.Common.{◌≡◌, ◌<◌, ◌∙◌, sym, refl, ap, get_or, length, arith}
 use Rattle.std.proofs.lemmas.List.{set-get_or}
 use Rattle.prop_tms.specs.Beliefs.{Subsumes}
 use Rattle.prop_tms.specs.declared.values.Valued.{Valued}

@@ -1,7 +1,4 @@
-use Rattle.std.proofs.Common.{◌≡◌, ◌≢◌, ◌∙◌, ◌<◌, sym, refl, ap, subst, get_or, set, length, arith, AllPairs, Result, Ok, Err, OnErr}
-use Rattle.std.proofs.lemmas.List.{length-set}
-use Rattle.prop_tms.specs.Values.{AreApart, entries_of}
-use Rattle.prop_tms.specs.declared.values.Valued.{Valued}
+use Rattle.std.proofs.Common.{◌≢◌, ◌∙◌, ◌<◌, sym, refl, ap, subst, length, AllPairs, Result, Ok, Err, OnErr}
 use Rattle.prop_tms.proofs.ValueLemmas.{apart_more, entries_of-new, entries_of-same, none_bare-set, values_of-set}
 use Rattle.prop_tms.proofs.values.room_for.Goals as goal
 

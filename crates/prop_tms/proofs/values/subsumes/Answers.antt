@@ -1,4 +1,4 @@
-use Rattle.std.proofs.Common.{◌≡◌, ◌∙◌, sym, true}
+use Rattle.std.proofs.Common.{◌∙◌, sym}
 use Rattle.prop_tms.proofs.ValueLemmas.{any_subsumes, subsumes_any}
 use Rattle.prop_tms.proofs.values.subsumes.Goals as goal
 

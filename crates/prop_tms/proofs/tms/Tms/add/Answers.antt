@@ -1,7 +1,7 @@
-use Rattle.std.proofs.Common.{◌≡◌, ◌≢◌, ◌⊎◌, ◌∙◌, ◌+◌, ◌<◌, ◌≤◌, ◌++◌, ◌∷◌, List, AllPairs, refl, sym, ap, subst, inl, inr, length, set, take, drop, get_or, vec_len, vec_capacity, arith}
+use Rattle.std.proofs.Common.{◌≡◌, ◌≢◌, ◌∙◌, ◌+◌, ◌<◌, ◌≤◌, ◌++◌, ◌∷◌, List, AllPairs, refl, sym, ap, subst, inr, length, get_or, arith}
 use Rattle.prop_tms.specs.Beliefs.{Adds, IsNeedless, NoneAlike, NoneSubsumed, Subsumes, joined_with}
 use Rattle.prop_tms.specs.Kept.{IsLeftWithout}
-use Rattle.prop_tms.specs.Values.{AreApart, entries_of}
+use Rattle.prop_tms.specs.Values.{entries_of}
 use Rattle.prop_tms.specs.declared.supported.Supported.{Supported}
 use Rattle.prop_tms.specs.declared.values.Valued.{Valued}
 use Rattle.prop_tms.proofs.BeliefLemmas.{adds_joined, adds_needless, needed_joined, none_alike-joined, none_subsumed-joined}
@@ -140,9 +140,9 @@ invariant_of-self-2 g c = record {
   apart = c.drop_bare.ensures.apart;
   bare = c.drop_bare.ensures.bare;
   counted = (
-    let counted = rw c.deref-2.ensures.value at c.count.ensures in
-    omega (arith, longer g c, c.if-count.false, counted, c.self.invariant.counted)
-  );
+      let counted = rw c.deref-2.ensures.value at c.count.ensures in
+      omega (arith, longer g c, c.if-count.false, counted, c.self.invariant.counted)
+      );
 }
 
 pub returns-clause-adds : goal.returns-clause-adds
