@@ -1,5 +1,5 @@
 //! The entries of one value.
-ghost use Rattle.std.specs.Prelude.{◌≡◌, ◌↔◌, ◌≤◌, ◌+◌, Any, not, List, [], length, filter, vec_capacity, vec_len, IsTrue, Ok, IsOk, IfOk, OnOk, OnErr};
+ghost use Rattle.std.specs.Prelude.{◌≡◌, ◌↔◌, ◌≤◌, ◌+◌, not, List, [], length, filter, IsTrue, Ok, IsOk, IfOk, OnOk, OnErr};
 ghost use Rattle.prop_premises.specs.Sets.{Members, set_of, is_within, is_below, is_at_most_one_of, IsBelow};
 ghost use Rattle.prop_tms.specs.Beliefs.{belief_of, IsLeastBelief, Subsumes, NoneSubsumed, NoneAlike, IsNeedless, Adds, IsLean, IsShort, Trims, AreNeeded, joined_with};
 ghost use Rattle.prop_tms.specs.Kept.{IsGrownBy};
@@ -57,7 +57,7 @@ impl<V: Partial> Tms<V> {
     }
 
     /// Adds a value that is known where the support is believed; it joins what an entry with the same support says. What says nothing
-    /// new takes no memory; after want of memory nothing has changed.
+    /// new takes no memory; after want of memory nothing has changed. More entries than a `usize` counts are want of memory too.
     pub fn add(&mut self, value: V, support: PremiseSet) -> Result<Change, AllocError>
         ensures adds { OnOk result (Adds V.bottom V.join self.old self.new (record { value = value; support = support })) }
         ensures same { IfOk result (λ change. (change ≡ Change.Same) ↔ IsNeedless V.below V.bottom self.old (record { value = value; support = support })) }

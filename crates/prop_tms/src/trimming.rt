@@ -1,9 +1,9 @@
 //! Entries that a belief can do without.
-ghost use Rattle.std.specs.Prelude.{◌≡◌, ◌≢◌, ◌<◌, ◌≤◌, ◌+◌, ◌^◌, ℕ, IsTrue, false, not, List, All, Contains, length, filter, take, get_or, slice_get, Some};
+ghost use Rattle.std.specs.Prelude.{◌≡◌, ◌≢◌, ◌<◌, ◌+◌, ◌^◌, IsTrue, false, not, length, filter, get_or};
 ghost use Rattle.std.specs.List.{remove};
 ghost use Rattle.prop_premises.specs.Sets.{set_of, is_at_most_one_of};
 ghost use Rattle.prop_tms.specs.Beliefs.{belief_of, Trims, AreNeeded};
-ghost use Rattle.prop_tms.specs.Values.{entries_of, values_of, place_of, AreKept};
+ghost use Rattle.prop_tms.specs.Values.{entries_of, place_of, AreKept};
 ghost use Rattle.prop_tms.specs.declared.values.Valued.{Valued};
 
 use crate::strongest::{belief, believes_any};

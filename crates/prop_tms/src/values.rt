@@ -1,5 +1,5 @@
 //! Values, each once, with the supports that say so.
-ghost use Rattle.std.specs.Prelude.{◌≡◌, ◌≢◌, ◌↔◌, ◌<◌, ◌≤◌, ◌+◌, ◌^◌, ℕ, [], ◌∷◌, ◌++◌, Any, All, not, length, filter, map, get_or, vec_capacity, vec_len, IsTrue, OnOk, OnErr, IfOk, IfSome, IfNone};
+ghost use Rattle.std.specs.Prelude.{◌≡◌, ◌≢◌, ◌↔◌, ◌<◌, ◌≤◌, ◌+◌, ◌^◌, ℕ, [], Any, All, not, length, filter, get_or, vec_capacity, vec_len, IsTrue, OnErr, IfOk, IfSome, IfNone};
 ghost use Rattle.std.specs.List.{list_any};
 ghost use Rattle.prop_premises.specs.Sets.{set_of, is_within, is_alike, is_below};
 ghost use Rattle.prop_tms.specs.Beliefs.{Subsumes, IsNeedless, joined_with};
