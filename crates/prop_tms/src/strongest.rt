@@ -57,7 +57,8 @@ fn alone<'a, V: Partial>(gains: &[Gain<'a, V>], value: V) -> Option<Entry<'a, V>
     None
 }
 
-/// The premises of entries of the row that say as much as all, none of which can be left out. Those that stand first stay.
+/// The premises of entries of the row that say this together, as all of them do, and of which none can be left out. From the last back,
+/// an entry goes where those before it and those kept say as much.
 fn thinned<V: Partial>(
     alloc: Global,
     mut gains: Vec<Gain<'_, V>>,
