@@ -1,17 +1,15 @@
 -- What entries say in each worldview, in any order of information.
-use Rattle.std.proofs.Common.{◌≡◌, ◌∙◌, ◌<◌, ℕ, Bool, true, false, ◌&&◌, List, [], ◌∷◌, ◌++◌, length, get_or, take, ◌+◌, refl, sym, ap, subst, inl, inr, Contains, filter, cond, if◌then◌else◌, append-nil}
+use Rattle.std.proofs.Common.{◌≡◌, ◌∙◌, ℕ, Bool, true, false, ◌&&◌, List, [], ◌∷◌, ◌++◌, get_or, refl, sym, subst, inl, inr, Contains, filter, cond, if◌then◌else◌}
 use Rattle.std.specs.List.{AllByRecursion}
-use Rattle.std.proofs.lemmas.List.{take_more}
-use Rattle.std.proofs.lemmas.List.Elements.{All-contains, All-from_recursion, recursion_from_All, Contains-get_or, Contains-append_left, Contains-push, Contains-push_cases, filter-append}
-use Rattle.std.proofs.lemmas.List.Quantifiers.{all_pairs_push}
+use Rattle.std.proofs.lemmas.List.Elements.{All-contains, All-from_recursion, recursion_from_All, Contains-get_or}
 use Rattle.prop_lattice.specs.Laws.{IsInformationOrder}
 use Rattle.prop_premises.specs.Sets.{Members, set_of, is_within, is_alike}
 use Rattle.prop_premises.proofs.WithinLemmas.{is_within-trans}
 use Rattle.prop_tms.specs.Beliefs.{merge_of_all, believed_of, belief_of, Subsumes, NoneSubsumed, NoneAlike, IsNeedless, Adds, joined_with}
 use Rattle.prop_tms.specs.Kept.{IsLeftWithout}
 use Rattle.prop_tms.specs.declared.supported.Supported.{Supported}
-use Rattle.prop_tms.proofs.MergedLemmas.{first_below, second_below, join_below, merged_below, below_merged, merge_of_all-push, join-above, join-assoc}
-use Rattle.prop_tms.proofs.KeptLemmas.{left_only, left_kept, left_none, left_pairs}
+use Rattle.prop_tms.proofs.MergedLemmas.{first_below, second_below, join_below, merged_below, below_merged, join-above, join-assoc}
+use Rattle.prop_tms.proofs.KeptLemmas.{insert_cases, insert_here, insert_there, left_only, left_kept, left_none, left_pairs, pairs_insert}
 
 filtered : {X : Type 0} (t : X → Bool) (P : X → Type 0) (xs : List X) → AllByRecursion (λ x. t x ≡ true → P x) xs → AllByRecursion P (filter t xs)
 filtered t P [] h = tt
@@ -38,6 +36,15 @@ and_second : (b c : Bool) → (b && c) ≡ true → c ≡ true
 and_second true c h = h
 and_second false c h = cc
 
+alike_back : (ps qs : List ℕ) → is_alike ps qs ≡ false → is_alike qs ps ≡ false
+alike_back ps qs h = by (is_within (set_of qs) ps) (is_within (set_of ps) qs) h
+  where
+    by : (b c : Bool) → (b && c) ≡ false → (c && b) ≡ false
+    by true true h = h
+    by true false h = refl
+    by false true h = refl
+    by false false h = refl
+
 module _ {V : Type 0} {below : V → V → Type 0} {bottom top : V} {join : V → V → V} (laws : IsInformationOrder below bottom top join) where
   -- a belief is the least value above those of the believed entries
   pub belief_below : (w : Members) (es : List (Supported V)) (z : V) → ((x : Supported V) → Contains es x → is_within w x.support ≡ true → below x.value z) → below (belief_of bottom join w es) z
@@ -60,15 +67,15 @@ module _ {V : Type 0} {below : V → V → Type 0} {bottom top : V} {join : V �
   believed_too w a b s h = is_within-trans w a.support b.support h s.support
 
   -- an entry joins those that are left, and those that it subsumes are gone
-  belief-joined : (w : Members) (old rest : List (Supported V)) (e : Supported V) → IsLeftWithout (Subsumes below e) old rest → (b : Bool) → is_within w e.support ≡ b →
-      belief_of bottom join w (rest ++ e ∷ []) ≡ (if b then join (belief_of bottom join w old) e.value else belief_of bottom join w old)
-  belief-joined w old rest e left b at = laws.antisymmetric now then_ less more
+  belief-joined : (w : Members) (old front rear : List (Supported V)) (e : Supported V) → IsLeftWithout (Subsumes below e) old (front ++ rear) → (b : Bool) → is_within w e.support ≡ b →
+      belief_of bottom join w (front ++ e ∷ rear) ≡ (if b then join (belief_of bottom join w old) e.value else belief_of bottom join w old)
+  belief-joined w old front rear e left b at = laws.antisymmetric now then_ less more
     where
       before : V
       before = belief_of bottom join w old
 
       now : V
-      now = belief_of bottom join w (rest ++ e ∷ [])
+      now = belief_of bottom join w (front ++ e ∷ rear)
 
       then_ : V
       then_ = if b then join before e.value else before
@@ -82,17 +89,17 @@ module _ {V : Type 0} {below : V → V → Type 0} {bottom top : V} {join : V �
       joins false h = cc
 
       less : below now then_
-      less = belief_below w (rest ++ e ∷ []) then_ (λ x c sure. elim (Contains-push_cases rest e x c) [
-        | inl there ↦ laws.transitive x.value before then_ (below_belief w old x (left_only (Subsumes below e) old rest x left there) sure) (stays b)
+      less = belief_below w (front ++ e ∷ rear) then_ (λ x c sure. elim (insert_cases front rear e x c) [
+        | inl there ↦ laws.transitive x.value before then_ (below_belief w old x (left_only (Subsumes below e) old (front ++ rear) x left there) sure) (stays b)
         | inr is ↦ rw (← is) (joins b (sym at ∙ (rw (← is) at sure)))
       ])
 
       here : is_within w e.support ≡ true → below e.value now
-      here sure = below_belief w (rest ++ e ∷ []) e (Contains-push rest e) sure
+      here sure = below_belief w (front ++ e ∷ rear) e (insert_here front rear e) sure
 
       kept : below before now
-      kept = belief_below w old now (λ x c sure. elim (left_kept (Subsumes below e) old rest x left c) [
-        | inl there ↦ below_belief w (rest ++ e ∷ []) x (Contains-append_left rest (e ∷ []) x there) sure
+      kept = belief_below w old now (λ x c sure. elim (left_kept (Subsumes below e) old (front ++ rear) x left c) [
+        | inl there ↦ below_belief w (front ++ e ∷ rear) x (insert_there front rear e x there) sure
         | inr gone ↦ laws.transitive x.value e.value now gone.value (here (believed_too w e x gone sure))
       ])
 
@@ -130,10 +137,10 @@ module _ {V : Type 0} {below : V → V → Type 0} {bottom top : V} {join : V �
       (unfiltered (λ y. is_alike y.support e.support) (λ y. below y.value z) es (below_merged laws (filter (λ y. is_alike y.support e.support) es))))
 
   -- an entry joins those that are left, with what those on its premises said
-  pub adds_joined : (old rest : List (Supported V)) (e : Supported V) → IsLeftWithout (Subsumes below (joined_with bottom join old e)) old rest → Adds bottom join old (rest ++ joined_with bottom join old e ∷ []) e
-  adds_joined old rest e left = record {
-    beliefs = λ w. belief-joined w old rest m left (is_within w e.support) refl ∙ by w (is_within w e.support) (λ on. alike_below w old e on);
-    only = λ x c. elim (Contains-push_cases rest m x c) [ inl there ↦ inl (left_only (Subsumes below m) old rest x left there) | inr is ↦ inr (sym is) ];
+  pub adds_joined : (old front rear : List (Supported V)) (e : Supported V) → IsLeftWithout (Subsumes below (joined_with bottom join old e)) old (front ++ rear) → Adds bottom join old (front ++ joined_with bottom join old e ∷ rear) e
+  adds_joined old front rear e left = record {
+    beliefs = λ w. belief-joined w old front rear m left (is_within w e.support) refl ∙ by w (is_within w e.support) (λ on. alike_below w old e on);
+    only = λ x c. elim (insert_cases front rear m x c) [ inl there ↦ inl (left_only (Subsumes below m) old (front ++ rear) x left there) | inr is ↦ inr (sym is) ];
   }
     where
       m : Supported V
@@ -155,19 +162,24 @@ module _ {V : Type 0} {below : V → V → Type 0} {bottom top : V} {join : V �
       needed (inr (some.0, x, some.2, some.3, record { value = laws.transitive e.value _ x.value (first_below laws e.value (alike_said old e)) some.4.value; support = some.4.support }))
 
   -- what is left rests on other premises
-  pub none_alike-joined : (old rest : List (Supported V)) (e : Supported V) → IsLeftWithout (Subsumes below (joined_with bottom join old e)) old rest → NoneAlike old → NoneAlike (rest ++ joined_with bottom join old e ∷ [])
-  none_alike-joined old rest e left alone =
-      all_pairs_push (λ a b. is_alike a.support b.support ≡ false) rest (joined_with bottom join old e) (left_pairs (Subsumes below (joined_with bottom join old e)) (λ a b. is_alike a.support b.support ≡ false) old rest left alone)
-      (λ k d l. by (get_or rest k d) (left_only (Subsumes below (joined_with bottom join old e)) old rest (get_or rest k d) left (Contains-get_or rest k d l)) (left_none (Subsumes below (joined_with bottom join old e)) old rest left k d l)
-      (is_alike (get_or rest k d).support e.support) refl)
+  pub none_alike-joined : (old front rear : List (Supported V)) (e : Supported V) → IsLeftWithout (Subsumes below (joined_with bottom join old e)) old (front ++ rear) → NoneAlike old →
+      NoneAlike (front ++ joined_with bottom join old e ∷ rear)
+  none_alike-joined old front rear e left alone =
+      let rest = front ++ rear in
+      let m = joined_with bottom join old e in
+      pairs_insert (λ a b. is_alike a.support b.support ≡ false) front rear m (left_pairs (Subsumes below m) (λ a b. is_alike a.support b.support ≡ false) old rest left alone)
+      (λ k d l.
+      let other = by (get_or rest k d) (left_only (Subsumes below m) old rest (get_or rest k d) left (Contains-get_or rest k d l)) (left_none (Subsumes below m) old rest left k d l)
+      (is_alike (get_or rest k d).support e.support) refl in
+      (other, alike_back (get_or rest k d).support e.support other))
     where
-      by : (x : Supported V) → Contains old x → ¬ (Subsumes below (joined_with bottom join old e) x) → (b : Bool) → is_alike x.support e.support ≡ b → b ≡ false
+      by : (x : Supported V) → Contains old x → ¬ (Subsumes below (joined_with bottom join old e) x) → (b : Bool) → is_alike x.support e.support ≡ b → is_alike x.support e.support ≡ false
       by x c apart true alike =
           absurd (apart (record {
             value = laws.transitive x.value (alike_said old e) _ (below_alike old e x c alike) (second_below laws e.value (alike_said old e));
             support = and_second (is_within (set_of e.support) x.support) (is_within (set_of x.support) e.support) alike;
           }))
-      by x c apart false alike = refl
+      by x c apart false alike = alike
 
   needless_below : (w : Members) (es : List (Supported V)) (e : Supported V) → IsNeedless below bottom es e → is_within w e.support ≡ true → below e.value (belief_of bottom join w es)
   needless_below w es e (inl none) sure = rw none (laws.from_bottom (belief_of bottom join w es))
@@ -187,33 +199,13 @@ module _ {V : Type 0} {below : V → V → Type 0} {bottom top : V} {join : V �
       by w false h = refl
 
   -- what is left, and an entry that was needed, do not subsume one another
-  pub none_subsumed-joined : (old rest : List (Supported V)) (e : Supported V) → IsLeftWithout (Subsumes below e) old rest → ¬ (IsNeedless below bottom old e) → NoneSubsumed below old → NoneSubsumed below (rest ++ e ∷ [])
-  none_subsumed-joined old rest e left needed apart =
-      all_pairs_push (λ a b. ¬ (Subsumes below a b) × ¬ (Subsumes below b a)) rest e
+  pub none_subsumed-joined : (old front rear : List (Supported V)) (e : Supported V) → IsLeftWithout (Subsumes below e) old (front ++ rear) → ¬ (IsNeedless below bottom old e) → NoneSubsumed below old →
+      NoneSubsumed below (front ++ e ∷ rear)
+  none_subsumed-joined old front rear e left needed apart =
+      let rest = front ++ rear in
+      pairs_insert (λ a b. ¬ (Subsumes below a b) × ¬ (Subsumes below b a)) front rear e
       (left_pairs (Subsumes below e) (λ a b. ¬ (Subsumes below a b) × ¬ (Subsumes below b a)) old rest left apart)
-      (λ k d l. (
-        (λ s. let c = left_only (Subsumes below e) old rest (get_or rest k d) left (Contains-get_or rest k d l) in needed (inr (c.0, get_or rest k d, c.1, c.2, s))),
-        (λ s. left_none (Subsumes below e) old rest left k d l s),
-      ))
-
-  -- ---- one more entry
-
-  -- of what those say that pass a test
-  said-push : (t : Supported V → Bool) (es : List (Supported V)) (e : Supported V) (b : Bool) → t e ≡ b →
-      merge_of_all bottom join (filter t (es ++ e ∷ [])) ≡ (if b then join (merge_of_all bottom join (filter t es)) e.value else merge_of_all bottom join (filter t es))
-  said-push t es e b at = ap (merge_of_all bottom join) (filter-append t es (e ∷ [])) ∙ by b at
-    where
-      by : (b : Bool) → t e ≡ b →
-          merge_of_all bottom join (filter t es ++ cond (t e) (e ∷ []) []) ≡ (if b then join (merge_of_all bottom join (filter t es)) e.value else merge_of_all bottom join (filter t es))
-      by true h = rw h (merge_of_all-push laws (filter t es) e)
-      by false h = rw (h, append-nil (filter t es)) refl
-
-  pub said-more : (t : Supported V → Bool) (es : List (Supported V)) (i : ℕ) (e : Supported V) (b : Bool) → i < length es → e ≡ get_or es i e → t e ≡ b →
-      merge_of_all bottom join (filter t (take (i + 1) es)) ≡ (if b then join (merge_of_all bottom join (filter t (take i es))) e.value else merge_of_all bottom join (filter t (take i es)))
-  said-more t es i e b l is at =
-      let bigger : take (i + 1) es ≡ take i es ++ e ∷ [] = rw (take_more es i e l, ← is) refl in
-      rw bigger (said-push t (take i es) e b at)
-
-  pub belief-more : (w : Members) (es : List (Supported V)) (i : ℕ) (e : Supported V) (b : Bool) → i < length es → e ≡ get_or es i e → is_within w e.support ≡ b →
-      belief_of bottom join w (take (i + 1) es) ≡ (if b then join (belief_of bottom join w (take i es)) e.value else belief_of bottom join w (take i es))
-  belief-more w es i e b l is at = said-more (λ x. is_within w x.support) es i e b l is at
+      (λ k d l.
+      let over : ¬ (Subsumes below (get_or rest k d) e) = λ s. let c = left_only (Subsumes below e) old rest (get_or rest k d) left (Contains-get_or rest k d l) in needed (inr (c.0, get_or rest k d, c.1, c.2, s)) in
+      let under : ¬ (Subsumes below e (get_or rest k d)) = λ s. left_none (Subsumes below e) old rest left k d l s in
+      ((over, under), (under, over)))

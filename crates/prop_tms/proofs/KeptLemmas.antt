@@ -1,10 +1,10 @@
 -- Lists from which some elements were dropped.
-use Rattle.std.proofs.Common.{◌≡◌, ◌<◌, ◌∙◌, ℕ, zero, suc, Bool, true, false, cond, List, [], ◌∷◌, ◌++◌, length, filter, ap, get_or, refl, arith, inl, inr, ◌⊎◌, Contains, All, AllPairs, Any, IsTrue, ◌↔◌}
+use Rattle.std.proofs.Common.{◌≡◌, ◌<◌, ◌+◌, ◌∙◌, ℕ, zero, suc, Bool, true, false, cond, List, [], ◌∷◌, ◌++◌, length, filter, ap, sym, subst, get_or, refl, arith, inl, inr, ◌⊎◌, Contains, All, AllPairs, Any, IsTrue, ◌↔◌}
 use Rattle.std.specs.Bool.{MatchBool}
 use Rattle.std.specs.List.{items_where_true, HoldsAt, AllWithin}
-use Rattle.std.proofs.lemmas.List.{get_or_default, append-nil}
+use Rattle.std.proofs.lemmas.List.{get_or_default}
 use Rattle.std.specs.List.Retain.{IsFiltered, ReturnsInTurn}
-use Rattle.std.proofs.lemmas.List.Elements.{filter-append, All-nil, All-cons, All-head, All-tail, All-contains, All-contains_itself}
+use Rattle.std.proofs.lemmas.List.Elements.{filter-append, Contains-append_cases, Contains-append_left, Contains-append_right, Contains-get_or, All-nil, All-cons, All-head, All-tail, All-contains, All-contains_itself}
 use Rattle.std.proofs.lemmas.List.Kept.{AllPairs-cons}
 use Rattle.prop_tms.specs.Kept.{IsLeftWithout, IsGrownBy}
 
@@ -20,6 +20,38 @@ contains_cases x y xs h = by h.0 h.1 h.2
     by : (k : ℕ) → k < length (x ∷ xs) → get_or (x ∷ xs) k y ≡ y → (x ≡ y) ⊎ Contains xs y
     by zero l e = inl e
     by (suc k) l e = inr (k, omega (arith, l), e)
+
+-- ---- one element more
+
+pub insert_here : {X : Type 0} (front rear : List X) (x : X) → Contains (front ++ x ∷ rear) x
+insert_here front rear x = Contains-append_right front (x ∷ rear) x (contains_here x rear)
+
+pub insert_there : {X : Type 0} (front rear : List X) (x y : X) → Contains (front ++ rear) y → Contains (front ++ x ∷ rear) y
+insert_there front rear x y c = elim (Contains-append_cases front rear y c) [
+  | inl before ↦ Contains-append_left front (x ∷ rear) y before
+  | inr after ↦ Contains-append_right front (x ∷ rear) y (contains_there x y rear after)
+]
+
+pub insert_cases : {X : Type 0} (front rear : List X) (x y : X) → Contains (front ++ x ∷ rear) y → Contains (front ++ rear) y ⊎ (x ≡ y)
+insert_cases front rear x y c = elim (Contains-append_cases front (x ∷ rear) y c) [
+  | inl before ↦ inl (Contains-append_left front rear y before)
+  | inr after ↦ elim (contains_cases x y rear after) [ inl here ↦ inr here | inr there ↦ inl (Contains-append_right front rear y there) ]
+]
+
+pub insert_length : {X : Type 0} (front rear : List X) (x : X) → length (front ++ x ∷ rear) ≡ length (front ++ rear) + 1
+insert_length [] rear x = omega arith
+insert_length (y ∷ front) rear x = let rest = insert_length front rear x in omega (arith, rest)
+
+pub pairs_insert : {X : Type 0} (R : X → X → Type 0) (front rear : List X) (x : X) → AllPairs R (front ++ rear) → All (λ y. R y x × R x y) (front ++ rear) → AllPairs R (front ++ x ∷ rear)
+pairs_insert R [] rear x pairs with_x = AllPairs-cons R x rear (λ k d l. (with_x k d l).1) pairs
+pairs_insert {X} R (y ∷ front) rear x pairs with_x =
+    let first : All (R y) (front ++ rear) = λ j d l. pairs 0 (suc j) d (omega arith) (omega (arith, l)) in
+    AllPairs-cons R y (front ++ x ∷ rear) (λ k d l. by (get_or (front ++ x ∷ rear) k d) first (insert_cases front rear x (get_or (front ++ x ∷ rear) k d) (Contains-get_or (front ++ x ∷ rear) k d l)))
+    (pairs_insert R front rear x (λ i j d lt l. pairs (suc i) (suc j) d (omega (arith, lt)) (omega (arith, l))) (All-tail (λ z. R z x × R x z) y (front ++ rear) with_x))
+  where
+    by : (z : X) → All (R y) (front ++ rear) → Contains (front ++ rear) z ⊎ (x ≡ z) → R y z
+    by z first (inl there) = All-contains (R y) (front ++ rear) z first there
+    by z first (inr same) = subst (R y) same (All-head (λ w. R w x × R x w) y (front ++ rear) with_x).0
 
 module _ {X : Type 0} (D : X → Type 0) where
   in_turn : {F : Type 0} (R : F → X → Bool → F → Type 0) (f : F) → ((x : X) (b : Bool) (f' : F) → R f x b f' → (b ≡ false → D x) × (b ≡ true → ¬ (D x)) × (f' ≡ f)) →
@@ -89,8 +121,10 @@ module _ {X : Type 0} (D : X → Type 0) where
   pub grown_filter : (t : X → Bool) (x : X) → t x ≡ false → ((y : X) → D y → t y ≡ false) → (xs ys : List X) → IsGrownBy D xs ys x → filter t ys ≡ filter t xs
   grown_filter t x own h xs ys (inl same) = ap (filter t) same
   grown_filter t x own h xs ys (inr k) =
-      let last : filter t (x ∷ []) ≡ [] = rw own refl in
-      ap (filter t) k.2 ∙ filter-append t k.0 (x ∷ []) ∙ ap (λ zs. filter t k.0 ++ zs) last ∙ append-nil (filter t k.0) ∙ left_filter t h xs k.0 k.1
+      let front = k.0 in
+      let rear = k.1 in
+      let here : filter t (x ∷ rear) ≡ filter t rear = rw own refl in
+      ap (filter t) k.3 ∙ filter-append t front (x ∷ rear) ∙ ap (λ zs. filter t front ++ zs) here ∙ sym (filter-append t front rear) ∙ left_filter t h xs (front ++ rear) k.2
 
 -- what `any` tells
 pub known_from_any : {X : Type 0} (P : X → Type 0) (xs : List X) (r : Bool) → MatchBool r ((k : ℕ) × (k < length xs) × HoldsAt P xs k) (AllWithin (λ x. ¬ (P x)) xs 0 (length xs)) → IsTrue r ↔ Any P xs

@@ -6,7 +6,7 @@ use Rattle.std.proofs.lemmas.List.Elements.{All-nil, All-cons, All-contains, Con
 use Rattle.prop_lattice.specs.Laws.{IsInformationOrder}
 use Rattle.prop_premises.specs.Sets.{Members, set_of, union, is_within, IsSame}
 use Rattle.prop_tms.specs.Beliefs.{merge_of_all, IsLean}
-use Rattle.prop_tms.specs.Gains.{AreGains, gained_of}
+use Rattle.prop_tms.specs.Gains.{AreGains, entry_of, gained_of}
 use Rattle.prop_tms.specs.declared.supported.Supported.{Supported}
 use Rattle.prop_tms.specs.declared.gain.Gain.{Gain}
 use Rattle.prop_tms.proofs.MergedLemmas.{merged_below, below_merged, merge_of_all-append, join-bottom, bottom-join, join-assoc, all_first, all_second, all_both}
@@ -112,25 +112,25 @@ module _ {V : Type 0} {below : V → V → Type 0} {bottom top : V} {join : V �
   AreGains-push : (before : V) (gains : List (Gain V)) (g : Gain V) → AreGains join before gains → g.before ≡ join before (merge_of_all bottom join (gained_of gains)) → AreGains join before (gains ++ g ∷ [])
   AreGains-push before [] g h e = (e ∙ join-bottom laws before, tt)
   AreGains-push before (x ∷ gains) g h e =
-      (h.0, AreGains-push (join before x.entry.now.value) gains g h.1 (e ∙ join-assoc laws before x.entry.now.value (merge_of_all bottom join (gained_of gains))))
+      (h.0, AreGains-push (join before x.entry.value) gains g h.1 (e ∙ join-assoc laws before x.entry.value (merge_of_all bottom join (gained_of gains))))
 
   pub AreGains-next : (gains : List (Gain V)) (g : Gain V) → AreGains join bottom gains → g.before ≡ merge_of_all bottom join (gained_of gains) → AreGains join bottom (gains ++ g ∷ [])
   AreGains-next gains g h e = AreGains-push bottom gains g h (e ∙ sym (bottom-join laws (merge_of_all bottom join (gained_of gains))))
 
   pub AreGains-front : (before : V) (gains : List (Gain V)) (g : Gain V) → AreGains join before (gains ++ g ∷ []) → AreGains join before gains
   AreGains-front before [] g h = tt
-  AreGains-front before (x ∷ gains) g h = (h.0, AreGains-front (join before x.entry.now.value) gains g h.1)
+  AreGains-front before (x ∷ gains) g h = (h.0, AreGains-front (join before x.entry.value) gains g h.1)
 
   before_last : (before : V) (gains : List (Gain V)) (g : Gain V) → AreGains join before (gains ++ g ∷ []) → g.before ≡ join before (merge_of_all bottom join (gained_of gains))
   before_last before [] g h = h.0 ∙ sym (join-bottom laws before)
   before_last before (x ∷ gains) g h =
-      before_last (join before x.entry.now.value) gains g h.1 ∙ sym (join-assoc laws before x.entry.now.value (merge_of_all bottom join (gained_of gains)))
+      before_last (join before x.entry.value) gains g h.1 ∙ sym (join-assoc laws before x.entry.value (merge_of_all bottom join (gained_of gains)))
 
   pub AreGains-last : (gains : List (Gain V)) (g : Gain V) → AreGains join bottom (gains ++ g ∷ []) → g.before ≡ merge_of_all bottom join (gained_of gains)
   AreGains-last gains g h = before_last bottom gains g h ∙ bottom-join laws (merge_of_all bottom join (gained_of gains))
 
-pub gained_of-push : {V : Type 0} (gains : List (Gain V)) (g : Gain V) → gained_of (gains ++ g ∷ []) ≡ gained_of gains ++ g.entry.now ∷ []
-gained_of-push gains g = map-append (λ (x : Gain _). x.entry.now) gains (g ∷ [])
+pub gained_of-push : {V : Type 0} (gains : List (Gain V)) (g : Gain V) → gained_of (gains ++ g ∷ []) ≡ gained_of gains ++ entry_of g.entry ∷ []
+gained_of-push gains g = map-append (λ (x : Gain _). entry_of x.entry) gains (g ∷ [])
 
 pub All-front : {X : Type 0} (P : X → Type 0) (xs : List X) (x : X) → All P (xs ++ x ∷ []) → All P xs
 All-front P xs x h = All-from_recursion P xs (all_first P xs (x ∷ []) (recursion_from_All P (xs ++ x ∷ []) h))

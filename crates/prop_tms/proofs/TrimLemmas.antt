@@ -6,8 +6,10 @@ use Rattle.std.proofs.lemmas.Bool.{cases_lt}
 use Rattle.std.proofs.lemmas.Option.{slice_get_within}
 use Rattle.std.proofs.lemmas.List.Kept.{AllPairs-cons}
 use Rattle.prop_lattice.specs.Laws.{IsInformationOrder}
-use Rattle.prop_premises.specs.Sets.{Members, is_within, is_at_most_one_of}
-use Rattle.prop_tms.specs.Beliefs.{merge_of_all, believed_of, belief_of, Trims, AreNeeded}
+use Rattle.prop_premises.specs.Sets.{Members, is_within, is_alike, is_at_most_one_of}
+use Rattle.prop_tms.specs.Beliefs.{merge_of_all, believed_of, belief_of, Subsumes, NoneSubsumed, NoneAlike, Trims, AreNeeded}
+use Rattle.prop_tms.specs.Values.{entries_of, values_of, place_of, AreApart, NoneBare, AreKept}
+use Rattle.prop_tms.specs.declared.values.Valued.{Valued}
 use Rattle.prop_tms.specs.declared.supported.Supported.{Supported}
 use Rattle.prop_tms.proofs.KeptLemmas.{contains_here, contains_there, contains_cases}
 use Rattle.prop_tms.proofs.MergedLemmas.{merge_of_all-append}
@@ -160,6 +162,73 @@ remove_length [] k l = absurd (omega (arith, l))
 remove_length (x ∷ xs) zero l = omega arith
 remove_length (x ∷ xs) (suc k) l = let n = remove_length xs k (omega (arith, l)) in omega (arith, n)
 
-pub not_not : (b : Bool) → b ≡ not (not b)
-not_not true = refl
-not_not false = refl
+-- ---- values one after the other
+
+-- entries went, and those before the place were looked at
+pub record IsTrimmed {V : Type 0} (below : V → V → Type 0) (bottom : V) (join : V → V → V) (told w : Members) (old now : List (Valued V)) (place : ℕ) : Type 0 where
+  pub trims : Trims bottom join told w (entries_of old) (entries_of now)
+  pub judged : (k : ℕ) (e : Supported V) → k < place → slice_get (entries_of now) k ≡ Some e →
+      IsTrue (is_at_most_one_of told e.support) ⊎ (belief_of bottom join w (remove (entries_of now) k) ≢ belief_of bottom join w (entries_of now))
+  pub subsumed : NoneSubsumed below (entries_of now)
+  pub alike : NoneAlike (entries_of now)
+  pub values : values_of now ≡ values_of old
+  pub counted : length (entries_of now) ≤ length (entries_of old)
+
+module _ {V : Type 0} {below : V → V → Type 0} {bottom top : V} {join : V → V → V} (laws : IsInformationOrder below bottom top join) (told w : Members) (old : List (Valued V)) where
+  pub trimmed_none : AreKept below old → IsTrimmed below bottom join told w old old 0
+  trimmed_none kept = record {
+    trims = trims_none laws w told (entries_of old);
+    judged = λ k e l. absurd (omega (arith, l));
+    subsumed = kept.subsumed;
+    alike = kept.alike;
+    values = refl;
+    counted = omega arith;
+  }
+
+  pub trimmed_next : (xs : List (Valued V)) (i place : ℕ) (e : Supported V) → IsTrimmed below bottom join told w old xs (place_of xs i place) → slice_get (entries_of xs) (place_of xs i place) ≡ Some e →
+      IsTrue (is_at_most_one_of told e.support) ⊎ (belief_of bottom join w (remove (entries_of xs) (place_of xs i place)) ≢ belief_of bottom join w (entries_of xs)) →
+      IsTrimmed below bottom join told w old xs (place_of xs i (place + 1))
+  trimmed_next xs i place e t at last =
+      let k = place_of xs i place in
+      let judged = judged_next laws w told k (entries_of xs) e t.judged at last in
+      record {
+        trims = t.trims;
+        judged = λ j x l. judged j x (omega (arith, l));
+        subsumed = t.subsumed;
+        alike = t.alike;
+        values = t.values;
+        counted = t.counted;
+      }
+
+  pub trimmed_more : (xs ys : List (Valued V)) (i place : ℕ) (e : Supported V) → entries_of ys ≡ remove (entries_of xs) (place_of xs i place) → values_of ys ≡ values_of xs → place_of ys i place ≡ place_of xs i place →
+      place_of xs i place < length (entries_of xs) → slice_get (entries_of xs) (place_of xs i place) ≡ Some e → is_at_most_one_of told e.support ≡ false →
+      belief_of bottom join w (remove (entries_of xs) (place_of xs i place)) ≡ belief_of bottom join w (entries_of xs) →
+      IsTrimmed below bottom join told w old xs (place_of xs i place) → IsTrimmed below bottom join told w old ys (place_of ys i place)
+  trimmed_more xs ys i place e less values here l at other same t =
+      let k = place_of xs i place in
+      let es = entries_of xs in
+      let judged = judged_removed laws w told k es t.judged same in
+      record {
+        trims = subst (Trims bottom join told w (entries_of old)) (sym less) (trims_more laws w told (entries_of old) es k e t.trims at other same);
+        judged = subst (λ (zs : List (Supported V)). AreJudged laws w told (place_of ys i place) zs) (sym less) (λ j x m. judged j x (omega (arith, m, here)));
+        subsumed = subst (NoneSubsumed below) (sym less) (remove_pairs (λ a b. ¬ (Subsumes below a b) × ¬ (Subsumes below b a)) es k t.subsumed);
+        alike = subst NoneAlike (sym less) (remove_pairs (λ a b. is_alike a.support b.support ≡ false) es k t.alike);
+        values = values ∙ t.values;
+        counted = (let n = ap length less in let m = remove_length es k l in omega (arith, n, m, t.counted));
+      }
+
+  pub trimmed_at : (xs : List (Valued V)) (k n : ℕ) → k ≡ n → IsTrimmed below bottom join told w old xs k → IsTrimmed below bottom join told w old xs n
+  trimmed_at xs k n e t = subst (IsTrimmed below bottom join told w old xs) e t
+
+  pub trimmed_all : (xs : List (Valued V)) (k : ℕ) → length (entries_of xs) ≤ k → IsTrimmed below bottom join told w old xs k → AreNeeded bottom join told w (entries_of xs)
+  trimmed_all xs k le t = all_judged laws w told k (entries_of xs) le t.judged
+
+  -- the values with no support are gone too
+  pub trimmed_kept : (xs ys : List (Valued V)) (k : ℕ) → AreKept below old → IsTrimmed below bottom join told w old xs k → entries_of ys ≡ entries_of xs → AreApart ys → NoneBare ys → AreKept below ys
+  trimmed_kept xs ys k kept t same apart bare = record {
+    subsumed = subst (NoneSubsumed below) (sym same) t.subsumed;
+    alike = subst NoneAlike (sym same) t.alike;
+    apart = apart;
+    bare = bare;
+    counted = (let n = ap length same in omega (arith, n, t.counted, kept.counted));
+  }

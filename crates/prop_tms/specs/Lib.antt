@@ -1,3 +1,4 @@
 pub mod Beliefs
 pub mod Gains
 pub mod Kept
+pub mod Values

@@ -7,6 +7,7 @@ mod strongest;
 pub mod supported;
 pub mod tms;
 mod trimming;
+mod values;
 
 pub use supported::Supported;
 pub use tms::{Change, Tms};

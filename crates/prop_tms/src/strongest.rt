@@ -1,46 +1,64 @@
 //! What the believed entries say together, and few premises that are enough for it.
 ghost use Rattle.std.specs.Prelude.{◌≡◌, ◌≤◌, [], length, All, Contains, IsTrue, IsOk, IfOk, IfSome, IsSomeAnd};
+ghost use Rattle.std.specs.List.{list_any};
 ghost use Rattle.prop_premises.specs.Sets.{Members, set_of, is_within};
 ghost use Rattle.prop_tms.specs.Beliefs.{belief_of, merge_of_all, IsLean, IsShort};
-ghost use Rattle.prop_tms.specs.Gains.{AreGains, AreRanked, gained_of};
+ghost use Rattle.prop_tms.specs.Gains.{AreGains, AreRanked, entry_of, gained_of};
+ghost use Rattle.prop_tms.specs.Values.{entries_of};
 ghost use Rattle.prop_tms.specs.declared.supported.Supported.{Supported};
 
-use crate::gain::Gain;
+use crate::gain::{Entry, Gain};
 use crate::gains::{count, gains};
 use crate::supported::Supported;
+use crate::values::Valued;
 use prop_lattice::Partial;
 use prop_premises::{PremiseSet, Worldview};
 use std::alloc::{AllocError, Global};
 
+/// Whether some of the supports is believed.
+pub(crate) fn believes_any(worldview: &Worldview, supports: &[PremiseSet]) -> bool
+    ensures { result ≡ list_any (λ s. is_within (set_of worldview.now) s) supports.now }
+{
+    supports.iter().any(|support| worldview.believes(support))
+}
+
 /// What the believed entries say together.
-pub(crate) fn belief<V: Partial>(entries: &[Supported<V>], worldview: &Worldview) -> V
-    ensures { result ≡ belief_of V.bottom V.join (set_of worldview.now) entries.now }
+pub(crate) fn belief<V: Partial>(values: &[Valued<V>], worldview: &Worldview) -> V
+    ensures { result ≡ belief_of V.bottom V.join (set_of worldview.now) (entries_of values.now) }
 {
     let mut merged = V::nothing();
-    for entry in entries {
-        if worldview.believes(&entry.support) {
-            merged = merged.merge(entry.value);
+    for valued in values {
+        if believes_any(worldview, &valued.supports) {
+            merged = merged.merge(valued.value);
         }
     }
     merged
 }
 
 /// The first entry of the row that alone says as much as the value.
-fn alone<'a, V: Partial>(gains: &[Gain<'a, V>], value: V) -> Option<&'a Supported<V>>
+fn alone<'a, V: Partial>(gains: &[Gain<'a, V>], value: V) -> Option<Entry<'a, V>>
     requires { AreRanked (gained_of gains.now) }
-    ensures among { IfSome result (λ e. Contains (gained_of gains.now) e.now) }
-    ensures says { IfSome result (λ e. V.below value e.now.value) }
-    ensures few { (x : Supported V) → Contains (gained_of gains.now) x → V.below value x.value → IsSomeAnd result (λ e. length e.now.support ≤ length x.support) }
+    ensures among { IfSome result (λ e. Contains (gained_of gains.now) (entry_of e)) }
+    ensures says { IfSome result (λ e. V.below value e.value) }
+    ensures few { (x : Supported V) → Contains (gained_of gains.now) x → V.below value x.value → IsSomeAnd result (λ e. length e.support.now ≤ length x.support) }
 {
     for gain in gains {
-        if gain.entry.value.implies(value) {
-            return Some(gain.entry);
+        let Entry {
+            value: said,
+            support,
+        } = gain.entry;
+        if said.implies(value) {
+            return Some(Entry {
+                value: said,
+                support,
+            });
         }
     }
     None
 }
 
-/// The premises of entries of the row that say as much as all, none of which can be left out. Those that stand first stay.
+/// The premises of entries of the row that say this together, as all of them do, and of which none can be left out. From the last back,
+/// an entry goes where those before it and those kept say as much.
 fn thinned<V: Partial>(
     alloc: Global,
     mut gains: Vec<Gain<'_, V>>,
@@ -67,21 +85,21 @@ fn thinned<V: Partial>(
 /// first, and no believed entry that says as much alone has fewer premises.
 pub(crate) fn strongest<V: Partial>(
     alloc: Global,
-    entries: &[Supported<V>],
+    values: &[Valued<V>],
     worldview: &Worldview,
 ) -> Result<Supported<V>, AllocError>
-    ensures nothing { belief_of V.bottom V.join (set_of worldview.now) entries.now ≡ V.bottom → IsOk result }
-    ensures value { IfOk result (λ e. e.value ≡ belief_of V.bottom V.join (set_of worldview.now) entries.now) }
-    ensures lean { IfOk result (λ e. IsLean V.bottom V.join entries.now (set_of worldview.now) e.value e.support) }
-    ensures short { IfOk result (λ e. IsShort entries.now (set_of worldview.now) e.value e.support) }
+    ensures nothing { belief_of V.bottom V.join (set_of worldview.now) (entries_of values.now) ≡ V.bottom → IsOk result }
+    ensures value { IfOk result (λ e. e.value ≡ belief_of V.bottom V.join (set_of worldview.now) (entries_of values.now)) }
+    ensures lean { IfOk result (λ e. IsLean V.bottom V.join (entries_of values.now) (set_of worldview.now) e.value e.support) }
+    ensures short { IfOk result (λ e. IsShort (entries_of values.now) (set_of worldview.now) e.value e.support) }
 {
-    let value = belief(entries, worldview);
-    let gains = gains(alloc, entries, worldview)?;
+    let value = belief(values, worldview);
+    let gains = gains(alloc, values, worldview)?;
     let alone = alone(&gains, value);
     let together = thinned(alloc, gains, value)?;
     let premises = count(&together);
     let support = match alone {
-        Some(entry) if count(&entry.support) < premises => entry.support.copy()?,
+        Some(entry) if count(entry.support) < premises => entry.support.copy()?,
         _ => together,
     };
     Ok(Supported { value, support })

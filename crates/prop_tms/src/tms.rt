@@ -1,13 +1,17 @@
 //! The entries of one value.
-ghost use Rattle.std.specs.Prelude.{◌≡◌, ◌↔◌, ◌≤◌, ◌+◌, Any, not, List, [], length, filter, vec_capacity, vec_len, IsTrue, Ok, IsOk, IfOk, OnOk, OnErr};
+ghost use Rattle.std.specs.Prelude.{◌≡◌, ◌↔◌, ◌≤◌, ◌+◌, not, List, [], length, filter, IsTrue, Ok, IsOk, IfOk, OnOk, OnErr};
 ghost use Rattle.prop_premises.specs.Sets.{Members, set_of, is_within, is_below, is_at_most_one_of, IsBelow};
 ghost use Rattle.prop_tms.specs.Beliefs.{belief_of, IsLeastBelief, Subsumes, NoneSubsumed, NoneAlike, IsNeedless, Adds, IsLean, IsShort, Trims, AreNeeded, joined_with};
-ghost use Rattle.prop_tms.specs.Kept.{IsLeftWithout, IsGrownBy};
+ghost use Rattle.prop_tms.specs.Kept.{IsGrownBy};
+ghost use Rattle.prop_tms.specs.Values.{entries_of, AreKept};
 ghost use Rattle.prop_tms.specs.declared.supported.Supported.{Supported};
 
 use crate::strongest::{belief, strongest};
 use crate::supported::Supported;
 use crate::trimming::{count_derived, trim};
+use crate::values::{
+    Valued, count, drop_bare, drop_from, drop_subsumed, is_needless, joined, room_for,
+};
 use prop_lattice::Partial;
 use prop_premises::{PremiseSet, Worldview};
 use std::alloc::{AllocError, Global};
@@ -20,62 +24,19 @@ pub enum Change {
     Grown,
 }
 
-/// What is known of one thing: values, each with the premises that it rests on. None subsumes another, and no two rest on the same
-/// premises.
+/// What is known of one thing: entries, each a value with the premises that it rests on. None subsumes another, and no two rest on the
+/// same premises. Each value is kept once, with the supports of its entries.
 #[derive(Drop)]
 pub struct Tms<V: Partial> {
-    entries: Vec<Supported<V>>,
+    values: Vec<Valued<V>>,
 }
 
 impl<V: Partial> Model for Tms<V> {
     ghost Value = { List (Supported V) };
 
-    ghost view = { λ t. t.entries.items };
+    ghost view = { λ t. entries_of t.values.items };
 
-    ghost invariant = { λ t. NoneSubsumed V.below t.entries.items × NoneAlike t.entries.items };
-}
-
-/// Whether the first entry knows all that the second does, on no other premises.
-fn is_subsumed<V: Partial>(by: &Supported<V>, entry: &Supported<V>) -> bool
-    ensures { IsTrue result ↔ Subsumes V.below by.now entry.now }
-{
-    by.value.implies(entry.value) && by.support.is_subset(&entry.support)
-}
-
-/// Whether some entry subsumes this one.
-fn is_known<V: Partial>(entries: &[Supported<V>], entry: &Supported<V>) -> bool
-    ensures { IsTrue result ↔ Any (λ x. Subsumes V.below x entry.now) entries.now }
-{
-    entries.iter().any(|x| is_subsumed(x, entry))
-}
-
-/// Whether the entry says nothing new.
-fn is_needless<V: Partial>(entries: &[Supported<V>], entry: &Supported<V>) -> bool
-    ensures { IsTrue result ↔ IsNeedless V.below V.bottom entries.now entry.now }
-{
-    V::nothing().implies(entry.value) || is_known(entries, entry)
-}
-
-/// The value of an entry with this value and support, with what the entries that rest on the same premises say.
-fn joined<V: Partial>(entries: &[Supported<V>], value: V, support: &PremiseSet) -> V
-    ensures { result ≡ (joined_with V.bottom V.join entries.now (record { value = value; support = support.now })).value }
-{
-    let mut said = V::nothing();
-    for entry in entries {
-        if entry.support.is_same(support) {
-            said = said.merge(entry.value);
-        }
-    }
-    value.merge(said)
-}
-
-/// Drops the entries that this one subsumes.
-fn drop_subsumed<V: Partial>(entries: &mut Vec<Supported<V>>, entry: &Supported<V>)
-    ensures kept { IsLeftWithout (Subsumes V.below entry.now) entries.old.items entries.new.items }
-    ensures capacity { vec_capacity entries.new ≡ vec_capacity entries.old }
-    ensures len { vec_len entries.new ≤ vec_len entries.old }
-{
-    entries.retain(|x| !is_subsumed(entry, x));
+    ghost invariant = { λ t. AreKept V.below t.values.items };
 }
 
 impl<V: Partial> Tms<V> {
@@ -84,7 +45,7 @@ impl<V: Partial> Tms<V> {
         ensures { result ≡ [] }
     {
         Tms {
-            entries: Vec::new(alloc),
+            values: Vec::new(alloc),
         }
     }
 
@@ -92,11 +53,11 @@ impl<V: Partial> Tms<V> {
     pub fn len(&self) -> usize
         ensures { result ≡ length self.now }
     {
-        self.entries.len()
+        count(&self.values)
     }
 
     /// Adds a value that is known where the support is believed; it joins what an entry with the same support says. What says nothing
-    /// new takes no memory; after want of memory nothing has changed.
+    /// new takes no memory; after want of memory nothing has changed. More entries than a `usize` counts are want of memory too.
     pub fn add(&mut self, value: V, support: PremiseSet) -> Result<Change, AllocError>
         ensures adds { OnOk result (Adds V.bottom V.join self.old self.new (record { value = value; support = support })) }
         ensures same { IfOk result (λ change. (change ≡ Change.Same) ↔ IsNeedless V.below V.bottom self.old (record { value = value; support = support })) }
@@ -109,15 +70,19 @@ impl<V: Partial> Tms<V> {
         ensures err { OnErr result (self.new ≡ self.old) }
     {
         let entry = Supported { value, support };
-        if is_needless(&self.entries, &entry) {
+        if is_needless(&self.values, &entry) {
             return Ok(Change::Same);
         }
-        self.entries.reserve(1)?;
-        let value = joined(&self.entries, entry.value, &entry.support);
+        if count(&self.values) == usize::MAX {
+            return Err(AllocError);
+        }
+        let value = joined(&self.values, entry.value, &entry.support);
         let support = entry.support;
         let entry = Supported { value, support };
-        drop_subsumed(&mut self.entries, &entry);
-        self.entries.push(entry)?;
+        let place = room_for(&mut self.values, value)?;
+        drop_subsumed(&mut self.values, &entry);
+        self.values[place].supports.push(entry.support)?;
+        drop_bare(&mut self.values);
         Ok(Change::Grown)
     }
 
@@ -126,7 +91,7 @@ impl<V: Partial> Tms<V> {
         ensures value { result ≡ belief_of V.bottom V.join (set_of worldview.now) self.now }
         ensures least { IsLeastBelief V.below (set_of worldview.now) self.now result }
     {
-        belief(&self.entries, worldview)
+        belief(&self.values, worldview)
     }
 
     /// What the believed entries say together, with the support of believed entries that say so, none of which can be left
@@ -139,14 +104,14 @@ impl<V: Partial> Tms<V> {
         ensures enough { IfOk result (λ e. belief_of V.bottom V.join (set_of e.support) self.now ≡ e.value) }
         ensures short { IfOk result (λ e. IsShort self.now (set_of worldview.now) e.value e.support) }
     {
-        strongest(*self.entries.allocator(), &self.entries, worldview)
+        strongest(*self.values.allocator(), &self.values, worldview)
     }
 
     /// How many entries rest on something else than one told premise. It takes no memory.
     pub fn derived(&self, told: &PremiseSet) -> usize
         ensures { result ≡ length (filter (λ e. not (is_at_most_one_of (set_of told.now) e.support)) self.now) }
     {
-        count_derived(&self.entries, told)
+        count_derived(&self.values, told)
     }
 
     /// Drops entries that the worldview does without, but for those that rest on nothing or on one told premise alone. It takes no memory.
@@ -154,7 +119,7 @@ impl<V: Partial> Tms<V> {
         ensures trims { Trims V.bottom V.join (set_of told.now) (set_of worldview.now) self.old self.new }
         ensures needed { AreNeeded V.bottom V.join (set_of told.now) (set_of worldview.now) self.new }
     {
-        trim(&mut self.entries, told, worldview);
+        trim(&mut self.values, told, worldview);
     }
 
     /// Drops the entries whose support holds a premise with a number of `count` or more. It takes no memory.
@@ -162,6 +127,7 @@ impl<V: Partial> Tms<V> {
         ensures beliefs { (w : Members) → IsBelow count w → belief_of V.bottom V.join w self.new ≡ belief_of V.bottom V.join w self.old }
         ensures left { self.new ≡ filter (λ e. is_below count e.support) self.old }
     {
-        self.entries.retain(|e| e.support.is_below(count));
+        drop_from(&mut self.values, count);
+        drop_bare(&mut self.values);
     }
 }

@@ -1,74 +1,104 @@
 //! Entries that a belief can do without.
-ghost use Rattle.std.specs.Prelude.{◌≡◌, ◌≢◌, ◌<◌, IsTrue, false, not, List, All, Contains, length, filter, slice_index_or};
+ghost use Rattle.std.specs.Prelude.{◌≡◌, ◌≢◌, ◌<◌, ◌+◌, ◌^◌, IsTrue, false, not, length, filter, get_or};
 ghost use Rattle.std.specs.List.{remove};
 ghost use Rattle.prop_premises.specs.Sets.{set_of, is_at_most_one_of};
-ghost use Rattle.prop_tms.specs.Beliefs.{belief_of, NoneSubsumed, NoneAlike, Trims, AreNeeded};
+ghost use Rattle.prop_tms.specs.Beliefs.{belief_of, Trims, AreNeeded};
+ghost use Rattle.prop_tms.specs.Values.{entries_of, place_of, AreKept};
+ghost use Rattle.prop_tms.specs.declared.values.Valued.{Valued};
 
-use crate::strongest::belief;
-use crate::supported::Supported;
+use crate::strongest::{belief, believes_any};
+use crate::values::{Valued, drop_bare};
 use prop_lattice::Partial;
 use prop_premises::{PremiseSet, Worldview};
 
+/// How many of the supports have something else than one told premise.
+fn derived_in(supports: &[PremiseSet], told: &PremiseSet) -> usize
+    ensures { result ≡ length (filter (λ s. not (is_at_most_one_of (set_of told.now) s)) supports.now) }
+{
+    supports
+        .iter()
+        .filter(|support| !support.is_at_most_one_of(told))
+        .count()
+}
+
 /// How many entries rest on something else than one told premise.
-pub(crate) fn count_derived<V: Partial>(entries: &[Supported<V>], told: &PremiseSet) -> usize
-    ensures { result ≡ length (filter (λ e. not (is_at_most_one_of (set_of told.now) e.support)) entries.now) }
+pub(crate) fn count_derived<V: Partial>(values: &[Valued<V>], told: &PremiseSet) -> usize
+    requires { length (entries_of values.now) < 2 ^ 64 }
+    ensures { result ≡ length (filter (λ e. not (is_at_most_one_of (set_of told.now) e.support)) (entries_of values.now)) }
 {
     let mut count = 0;
-    for entry in entries {
-        if !entry.support.is_at_most_one_of(told) {
-            count += 1;
-        }
+    for valued in values {
+        count += derived_in(&valued.supports, told);
     }
     count
 }
 
-/// What the entries but the one at a place say together where they are believed.
-fn belief_without<V: Partial>(entries: &[Supported<V>], place: usize, worldview: &Worldview) -> V
-    requires { place < length entries.now }
-    ensures { result ≡ belief_of V.bottom V.join (set_of worldview.now) (remove entries.now place) }
+/// What the entries say together where they are believed, but for the one of a value's support with this place.
+fn belief_without<V: Partial>(
+    values: &[Valued<V>],
+    at: usize,
+    place: usize,
+    worldview: &Worldview,
+) -> V
+    requires at { at < length values.now }
+    requires place { (d : Valued V) → place < length (get_or values.now at d).supports.items }
+    ensures { result ≡ belief_of V.bottom V.join (set_of worldview.now) (remove (entries_of values.now) (place_of values.now at place)) }
 {
-    let before = belief(&entries[..place], worldview);
-    before.merge(belief(&entries[place + 1..], worldview))
+    let before = belief(&values[..at], worldview);
+    let others = before.merge(belief(&values[at + 1..], worldview));
+    let valued = &values[at];
+    if believes_any(worldview, &valued.supports[..place])
+        || believes_any(worldview, &valued.supports[place + 1..])
+    {
+        others.merge(valued.value)
+    } else {
+        others
+    }
 }
 
-/// Whether less is believed without the entry at a place than this, which they say together.
+/// Whether less is believed without an entry than this, which they say together.
 fn is_needed<V: Partial>(
-    entries: &[Supported<V>],
+    values: &[Valued<V>],
+    at: usize,
     place: usize,
     worldview: &Worldview,
     value: V,
 ) -> bool
-    requires place { place < length entries.now }
-    requires value { value ≡ belief_of V.bottom V.join (set_of worldview.now) entries.now }
-    ensures needed { IsTrue result → belief_of V.bottom V.join (set_of worldview.now) (remove entries.now place) ≢ belief_of V.bottom V.join (set_of worldview.now) entries.now }
-    ensures needless { result ≡ false → belief_of V.bottom V.join (set_of worldview.now) (remove entries.now place) ≡ belief_of V.bottom V.join (set_of worldview.now) entries.now }
+    requires at { at < length values.now }
+    requires place { (d : Valued V) → place < length (get_or values.now at d).supports.items }
+    requires value { value ≡ belief_of V.bottom V.join (set_of worldview.now) (entries_of values.now) }
+    ensures needed { IsTrue result → belief_of V.bottom V.join (set_of worldview.now) (remove (entries_of values.now) (place_of values.now at place)) ≢ belief_of V.bottom V.join (set_of worldview.now) (entries_of values.now) }
+    ensures needless { result ≡ false → belief_of V.bottom V.join (set_of worldview.now) (remove (entries_of values.now) (place_of values.now at place)) ≡ belief_of V.bottom V.join (set_of worldview.now) (entries_of values.now) }
 {
-    worldview.believes(&entries[place].support)
-        && !belief_without(entries, place, worldview).implies(value)
+    worldview.believes(&values[at].supports[place])
+        && !belief_without(values, at, place, worldview).implies(value)
 }
 
 /// Drops entries that the worldview does without, from the first on, but for those that rest on nothing or on one told premise alone.
 pub(crate) fn trim<V: Partial>(
-    entries: &mut Vec<Supported<V>>,
+    values: &mut Vec<Valued<V>>,
     told: &PremiseSet,
     worldview: &Worldview,
 )
-    requires apart { NoneSubsumed V.below entries.old.items }
-    requires alone { NoneAlike entries.old.items }
-    ensures trims { Trims V.bottom V.join (set_of told.now) (set_of worldview.now) entries.old.items entries.new.items }
-    ensures needed { AreNeeded V.bottom V.join (set_of told.now) (set_of worldview.now) entries.new.items }
-    ensures apart { NoneSubsumed V.below entries.new.items }
-    ensures alone { NoneAlike entries.new.items }
+    requires { AreKept V.below values.old.items }
+    ensures trims { Trims V.bottom V.join (set_of told.now) (set_of worldview.now) (entries_of values.old.items) (entries_of values.new.items) }
+    ensures needed { AreNeeded V.bottom V.join (set_of told.now) (set_of worldview.now) (entries_of values.new.items) }
+    ensures kept { AreKept V.below values.new.items }
 {
-    let value = belief(entries, worldview);
-    let mut place = 0;
-    while place < entries.len() {
-        if entries[place].support.is_at_most_one_of(told)
-            || is_needed(entries, place, worldview, value)
-        {
-            place += 1;
-        } else {
-            drop(entries.remove(place));
+    let value = belief(values, worldview);
+    let mut at = 0;
+    while at < values.len() {
+        let mut place = 0;
+        while place < values[at].supports.len() {
+            if values[at].supports[place].is_at_most_one_of(told)
+                || is_needed(values, at, place, worldview, value)
+            {
+                place += 1;
+            } else {
+                drop(values[at].supports.remove(place));
+            }
         }
+        at += 1;
     }
+    drop_bare(values);
 }

@@ -1,7 +1,8 @@
 use Rattle.std.proofs.Common.{◌≡◌, ◌≢◌, ◌∙◌, true, [], sym, inl, inr, arith, Contains}
 use Rattle.std.proofs.lemmas.List.Elements.{All-contains}
 use Rattle.prop_premises.specs.Sets.{set_of, is_within}
-use Rattle.prop_tms.specs.Gains.{gained_of}
+use Rattle.prop_tms.specs.Gains.{entry_of, gained_of}
+use Rattle.prop_tms.specs.Values.{entries_of}
 use Rattle.prop_tms.proofs.GainLemmas.{merged_said, lean_alone, lean_among, none_gained}
 use Rattle.prop_tms.proofs.strongest.strongest.Goals as goal
 use Rattle.prop_tms.proofs.strongest.strongest.Goals.{in-Some+in_ok-support-in-Some, in_default, in_default-via-in-Some+else-count-premises, in_default-via-in_default}
@@ -9,19 +10,19 @@ use Rattle.prop_tms.proofs.strongest.strongest.Goals.{in-Some+in_ok-support-in-S
 pub thinned-requires-clause-value : goal.thinned-requires-clause-value
 thinned-requires-clause-value g c =
     c.belief-value.ensures ∙
-    merged_said g.met.V.Partial.laws (set_of c.args.worldview.now) c.args.entries.now (gained_of c.in_ok-gains.gains.items) c.in_ok-gains.ensures.among c.in_ok-gains.ensures.believed c.in_ok-gains.ensures.said
+    merged_said g.met.V.Partial.laws (set_of c.args.worldview.now) (entries_of c.args.values.now) (gained_of c.in_ok-gains.gains.items) c.in_ok-gains.ensures.among c.in_ok-gains.ensures.believed c.in_ok-gains.ensures.said
 
 pub returns-clause-lean : goal.returns-clause-lean
 returns-clause-lean g c =
     let laws = g.met.V.Partial.laws in
     let w = set_of c.args.worldview.now in
-    let es = c.args.entries.now in
+    let es = (entries_of c.args.values.now) in
     let v = c.belief-value.result in
     let gains = c.in_ok-gains.gains.items in
     let found = c.in_ok-gains.ensures in
     elim c.match-alone.branch [
       | in-Some+in_ok-support-in-Some t ↦
-          (let e = t.in-Some.entry.now in
+          (let e = (entry_of t.in-Some.entry) in
           let gained : Contains (gained_of gains) e = rw c.deref.ensures.value at t.in-Some.ensures.among in
           let some : v ≢ g.V.Partial.bottom = λ is. none_gained gains e ((found.nothing (sym c.belief-value.ensures ∙ is)).0) gained in
           lean_alone laws w es e v c.match-alone.support (All-contains (Contains es) (gained_of gains) e found.among gained) (All-contains (λ x. is_within w x.support ≡ true) (gained_of gains) e found.believed gained)
@@ -37,7 +38,7 @@ returns-clause-short g c x here on is =
       | inl none ↦
           (let nothing : gains ≡ [] = (found.nothing (sym c.belief-value.ensures ∙ sym is ∙ none)).0 in
           elim c.match-alone.branch [
-            | in-Some+in_ok-support-in-Some t ↦ absurd (none_gained gains t.in-Some.entry.now nothing (rw c.deref.ensures.value at t.in-Some.ensures.among))
+            | in-Some+in_ok-support-in-Some t ↦ absurd (none_gained gains (entry_of t.in-Some.entry) nothing (rw c.deref.ensures.value at t.in-Some.ensures.among))
             | in_default t ↦ rw (t.support-is, c.in_ok-together.ensures.none nothing) (omega arith)
           ])
       | inr gained ↦ elim c.match-alone.branch [

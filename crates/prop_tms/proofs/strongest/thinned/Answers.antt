@@ -3,7 +3,7 @@ use Rattle.std.proofs.lemmas.List.{nil_from_length}
 use Rattle.std.proofs.lemmas.List.Elements.{All-contains, All-contains_itself}
 use Rattle.prop_premises.specs.Sets.{is_within}
 use Rattle.prop_tms.specs.Beliefs.{merge_of_all}
-use Rattle.prop_tms.specs.Gains.{AreGains, gained_of}
+use Rattle.prop_tms.specs.Gains.{AreGains, entry_of, gained_of}
 use Rattle.prop_tms.proofs.LeanLemmas.{IsThinned, IsThinned-init, IsLean-thinned, IsThinned-skip, IsThinned-keep, AreGains-front, AreGains-last, gained_of-push, All-front, All-last}
 use Rattle.prop_tms.proofs.strongest.thinned.Goals as goal
 
@@ -29,7 +29,7 @@ loop-gain-preserved-then-not-implies g c =
     let all = gained_of c.args.gains.items in
     let left = c.pop.new.self.items in
     let gain = c.in-Some.gain in
-    let e = gain.entry.now in
+    let e = entry_of gain.entry in
     let kept = c.loop-gain.invariant in
     let items = c.in-Some.ensures.items in
     let gains : AreGains join bottom (left ++ gain ∷ []) = rw items at kept.gains in
@@ -56,7 +56,7 @@ loop-gain-preserved g c =
     let all = gained_of c.args.gains.items in
     let left = c.pop.new.self.items in
     let gain = c.in-Some.gain in
-    let e = gain.entry.now in
+    let e = entry_of gain.entry in
     let kept = c.loop-gain.invariant in
     let items = c.in-Some.ensures.items in
     let gains : AreGains join bottom (left ++ gain ∷ []) = rw items at kept.gains in

@@ -1,15 +1,23 @@
-use Rattle.std.proofs.Common.{take, not, arith}
-use Rattle.std.proofs.lemmas.List.{length-take}
-use Rattle.std.proofs.lemmas.List.Filters.{length-filter_both}
+use Rattle.std.proofs.Common.{◌+◌, List, ℕ, Bool, take, not, arith}
 use Rattle.prop_premises.specs.Sets.{set_of, is_at_most_one_of}
-use Rattle.prop_tms.proofs.TrimLemmas.{not_not}
+use Rattle.prop_tms.proofs.ValueLemmas.{entries_of-take, filter_length, filtered_more}
+use Rattle.prop_tms.specs.Values.{entries_of}
 use Rattle.prop_tms.proofs.trimming.count_derived.Goals as goal
 
 pub overflow_add-count : goal.overflow_add-count
 overflow_add-count g c =
-    let es = c.args.entries.now in
-    let i = c.loop-entry.entry-index in
-    let told = set_of c.args.told.now in
-    let both = length-filter_both (λ e. not (is_at_most_one_of told e.support)) (λ e. is_at_most_one_of told e.support) (λ e. not_not (is_at_most_one_of told e.support)) (take i es) in
-    let front = length-take i es in
-    omega (arith, both, front, c.loop-entry.invariant, c.loop-entry-test.true, c.loop-entry.auto.entry-index-end)
+    let xs = c.args.values.now in
+    let i = c.loop-valued.valued-index in
+    let u : List ℕ → Bool = λ s. not (is_at_most_one_of (set_of c.args.told.now) s) in
+    let more = filtered_more u xs i c.valued-item.result c.loop-valued-test.true c.valued-item.is in
+    let less = filter_length (λ e. u e.support) (entries_of (take (i + 1) xs)) in
+    let all = entries_of-take xs (i + 1) in
+    let one = rw c.deref.ensures.value at c.derived_in-count.ensures in
+    omega (arith, more, less, all, one, c.loop-valued.invariant, c.requires)
+
+pub loop-valued-preserved : goal.loop-valued-preserved
+loop-valued-preserved g c =
+    let u : List ℕ → Bool = λ s. not (is_at_most_one_of (set_of c.args.told.now) s) in
+    let more = filtered_more u c.args.values.now c.loop-valued.valued-index c.valued-item.result c.loop-valued-test.true c.valued-item.is in
+    let one = rw c.deref.ensures.value at c.derived_in-count.ensures in
+    omega (arith, more, one, c.loop-valued.invariant)

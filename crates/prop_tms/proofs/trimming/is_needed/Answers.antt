@@ -1,25 +1,22 @@
-use Rattle.std.proofs.Common.{◌≡◌, ◌∙◌, slice_get, Some, ap, sym}
-use Rattle.std.proofs.lemmas.Option.{slice_get-get_or}
-use Rattle.prop_premises.specs.Sets.{set_of, is_within}
-use Rattle.prop_tms.proofs.TrimLemmas.{is_needed, is_needless, unbelieved_removed}
+use Rattle.std.proofs.Common.{◌∙◌, ◌<◌, length, sym, subst}
+use Rattle.prop_tms.specs.declared.values.Valued.{Valued}
+use Rattle.prop_premises.specs.Sets.{set_of}
+use Rattle.prop_tms.specs.Values.{entries_of, place_of}
+use Rattle.prop_tms.proofs.TrimLemmas.{is_needless, unbelieved_removed}
+use Rattle.prop_tms.proofs.ValueLemmas.{entry_at}
 use Rattle.prop_tms.proofs.trimming.is_needed.Goals as goal
-
-pub returns-then-believes-clause-needed : goal.returns-then-believes-clause-needed
-returns-then-believes-clause-needed g c =
-    is_needed g.met.V.Partial.laws (set_of c.args.worldview.now) c.args.entries.now c.args.place c.implies.result (rw (c.requires.value, c.belief_without.ensures) at c.implies.ensures.1)
 
 pub returns-then-believes-clause-needless : goal.returns-then-believes-clause-needless
 returns-then-believes-clause-needless g c =
-    is_needless g.met.V.Partial.laws (set_of c.args.worldview.now) c.args.entries.now c.args.place c.implies.result (rw (c.requires.value, c.belief_without.ensures) at c.implies.ensures.0)
+    is_needless g.met.V.Partial.laws (set_of c.args.worldview.now) (entries_of c.args.values.now) (place_of c.args.values.now c.args.at c.args.place) c.implies.result (rw (c.requires.value, c.belief_without.ensures) at c.implies.ensures.0)
 
 pub returns-else-believes-clause-needless : goal.returns-else-believes-clause-needless
-returns-else-believes-clause-needless g c =
+returns-else-believes-clause-needless g c off =
     let w = set_of c.args.worldview.now in
-    let es = c.args.entries.now in
-    let e = c.index-entries-place.result in
-    let is = c.index-entries-place.is in
-    let at : slice_get es c.args.place ≡ Some e = slice_get-get_or es c.args.place e c.requires.place ∙ ap Some (sym is) in
-    λ off. unbelieved_removed g.met.V.Partial.laws w es c.args.place e at ((λ i. is_within w (is i).support) ∙ sym c.believes.ensures ∙ off)
-
-pub returns-else-believes-clause-needed : goal.returns-else-believes-clause-needed
-returns-else-believes-clause-needed g c = λ t. cc (c.if-believes.false, t)
+    let xs = c.args.values.now in
+    let x = c.index-values-at.result in
+    let s = c.index.result.now in
+    let is = c.index-values-at.is in
+    let l : c.args.place < length x.supports.items = subst (λ (y : Valued _). c.args.place < length y.supports.items) (sym is) (c.requires.place x) in
+    let at = entry_at xs c.args.at c.args.place x s c.requires.at is l (rw (← is) at c.index.ensures) in
+    unbelieved_removed g.met.V.Partial.laws w (entries_of xs) (place_of xs c.args.at c.args.place) _ at (sym c.believes.ensures ∙ off)

@@ -1,20 +1,29 @@
-use Rattle.std.proofs.Common.{◌≡◌, ◌≢◌, ◌⊎◌, ◌∙◌, ◌<◌, ◌≤◌, IsTrue, false, slice_get, Some, length, sym, ap, inl, inr, arith}
+use Rattle.std.proofs.Common.{◌≡◌, ◌≢◌, ◌⊎◌, ◌∙◌, ◌<◌, ◌≤◌, ℕ, List, IsTrue, false, vec_len, length, set, get_or, refl, sym, ap, inl, inr, arith, subst}
 use Rattle.std.specs.List.{remove}
-use Rattle.std.proofs.lemmas.Option.{slice_get-get_or}
-use Rattle.prop_premises.specs.Sets.{set_of, is_alike, is_at_most_one_of}
-use Rattle.prop_tms.specs.Beliefs.{belief_of, Subsumes}
-use Rattle.prop_tms.proofs.TrimLemmas.{all_judged, judged_next, judged_removed, remove_length, remove_pairs, trims_more, trims_none}
+use Rattle.std.proofs.lemmas.List.{get_or-set_same, get_or_default, length-set}
+use Rattle.prop_premises.specs.Sets.{set_of, is_at_most_one_of}
+use Rattle.prop_tms.specs.Beliefs.{belief_of, AreNeeded}
+use Rattle.prop_tms.specs.Values.{entries_of, place_of}
+use Rattle.prop_tms.specs.declared.values.Valued.{Valued}
+use Rattle.prop_tms.proofs.TrimLemmas.{remove_length, trimmed_all, trimmed_at, trimmed_more, trimmed_next, trimmed_none}
+use Rattle.prop_tms.proofs.ValueLemmas.{entry_at, place_end, place_next, place_set, place_within, removed, values_of-set}
 use Rattle.prop_tms.proofs.trimming.trim.Goals as goal
 use Rattle.prop_tms.proofs.trimming.trim.Goals.{then-is_at_most_one_of, else-is_at_most_one_of}
 
-pub loop-place-init : goal.loop-place-init
-loop-place-init g c = record {
-  place = omega arith;
+-- a value's place, by its two readings
+within : {V : Type 0} (xs : List (Valued V)) (i place n : ℕ) (y x : Valued V) → i < length xs → y ≡ get_or xs i y → x ≡ get_or xs i x → place < n → n ≡ vec_len y.supports → place < length x.supports.items
+within xs i place n y x l at is m len =
+    let same = ap (λ (z : Valued _). length z.supports.items) (at ∙ get_or_default xs i y x l ∙ sym is) in
+    omega (arith, m, len, y.supports.ok.0, same)
+
+shorter : (ss rest : List (List ℕ)) (place : ℕ) → place < length ss → rest ≡ remove ss place → place ≤ length rest
+shorter ss rest place l is = let n = remove_length ss place l in let m = ap length is in omega (arith, l, n, m)
+
+pub loop-at-init : goal.loop-at-init
+loop-at-init g c = record {
+  at = omega arith;
   value = rw c.deref.ensures.value at c.belief-value.ensures;
-  trims = trims_none g.met.V.Partial.laws (set_of c.args.worldview.now) (set_of c.args.told.now) c.args.entries.now.items;
-  judged = λ k e l. absurd (omega (arith, l));
-  apart = c.requires.apart;
-  alone = c.requires.alone;
+  trimmed = trimmed_none g.met.V.Partial.laws (set_of c.args.told.now) (set_of c.args.worldview.now) c.args.values.now.items c.requires;
 }
 
 pub loop-place-preserved-then-is_needed : goal.loop-place-preserved-then-is_needed
@@ -22,38 +31,70 @@ loop-place-preserved-then-is_needed g c =
     let laws = g.met.V.Partial.laws in
     let w = set_of c.args.worldview.now in
     let told = set_of c.args.told.now in
-    let es = c.loop-place.entries.items in
-    let k = c.loop-place.place in
-    let x = c.index.result.now in
+    let xs = c.loop-place.values.items in
+    let i = c.loop-at.at in
+    let place = c.loop-place.place in
+    let x = c.index-in-loop-place.result.now in
+    let is = c.index-in-loop-place.ensures in
+    let s = c.index-in-loop-place-2.result.now in
     let kept = c.loop-place.invariant in
-    let l : k < length es = omega (arith, c.len.ensures, c.loop-place-test.true, c.loop-place.entries.ok) in
-    let at : slice_get es k ≡ Some x = slice_get-get_or es k x l ∙ ap Some (sym c.index.ensures) in
-    let last : IsTrue (is_at_most_one_of told x.support) ⊎ (belief_of g.V.Partial.bottom g.V.Partial.join w (remove es k) ≢ belief_of g.V.Partial.bottom g.V.Partial.join w es) =
+    let l : place < length x.supports.items = within xs i place c.len-in-loop-place.result c.index.result.now x kept.at c.index.ensures is c.loop-place-test.true c.len-in-loop-place.ensures in
+    let at = entry_at xs i place x s kept.at is l c.index-in-loop-place-2.ensures in
+    let last : IsTrue (is_at_most_one_of told s) ⊎ (belief_of g.V.Partial.bottom g.V.Partial.join w (remove (entries_of xs) (place_of xs i place)) ≢ belief_of g.V.Partial.bottom g.V.Partial.join w (entries_of xs)) =
     elim c.if-is_at_most_one_of.branch [
       | then-is_at_most_one_of t ↦ inl (sym c.is_at_most_one_of.ensures ∙ t.if-is_at_most_one_of.true)
       | else-is_at_most_one_of t ↦ inr ((rw t.deref-else-is_at_most_one_of.ensures.value at t.is_needed.ensures.needed) (sym t.value-is ∙ c.if-is_needed.true))
     ] in
     record {
-      place = omega (arith, l);
+      at = kept.at;
+      place = λ d. (let same = ap (λ (y : Valued _). length y.supports.items) (is ∙ get_or_default xs i x d kept.at) in omega (arith, l, same));
       value = kept.value;
-      trims = kept.trims;
-      judged = judged_next laws w told k es x kept.judged at last;
-      apart = kept.apart;
-      alone = kept.alone;
+      trimmed = trimmed_next laws told w c.args.values.now.items xs i place _ kept.trimmed at last;
     }
+
+pub loop-place-smaller-then-is_needed : goal.loop-place-smaller-then-is_needed
+loop-place-smaller-then-is_needed g c =
+    let xs = c.loop-place.values.items in
+    let x = c.index-in-loop-place.result.now in
+    let is = c.index-in-loop-place.ensures in
+    let l = within xs c.loop-at.at c.loop-place.place c.len-in-loop-place.result c.index.result.now x c.loop-place.invariant.at c.index.ensures is c.loop-place-test.true c.len-in-loop-place.ensures in
+    let m = place_within xs c.loop-at.at c.loop-place.place x c.loop-place.invariant.at is l in
+    omega (arith, m)
+
+pub loop-place-smaller : goal.loop-place-smaller
+loop-place-smaller g c =
+    let xs = c.loop-place.values.items in
+    let i = c.loop-at.at in
+    let place = c.loop-place.place in
+    let x = c.index_mut.result.now in
+    let is = c.index_mut.ensures.value in
+    let at = c.loop-place.invariant.at in
+    let y : Valued _ = record { value = x.value; supports = c.remove.new.self } in
+    let l = within xs i place c.len-in-loop-place.result c.index.result.now x at c.index.ensures is c.loop-place-test.true c.len-in-loop-place.ensures in
+    let m = place_within xs i place x at is l in
+    let less = ap length (removed xs i place x y at is l refl c.remove.ensures.items) in
+    let one = remove_length (entries_of xs) (place_of xs i place) m in
+    let here = place_set xs i place y in
+    omega (arith, m, less, one, here)
 
 pub loop-place-preserved : goal.loop-place-preserved
 loop-place-preserved g c =
     let laws = g.met.V.Partial.laws in
     let w = set_of c.args.worldview.now in
     let told = set_of c.args.told.now in
-    let es = c.loop-place.entries.items in
-    let k = c.loop-place.place in
-    let x = c.index.result.now in
+    let xs = c.loop-place.values.items in
+    let i = c.loop-at.at in
+    let place = c.loop-place.place in
+    let x = c.index_mut.result.now in
+    let is = c.index_mut.ensures.value in
     let kept = c.loop-place.invariant in
-    let l : k < length es = omega (arith, c.len.ensures, c.loop-place-test.true, c.loop-place.entries.ok) in
-    let at : slice_get es k ≡ Some x = slice_get-get_or es k x l ∙ ap Some (sym c.index.ensures) in
-    let both : (is_at_most_one_of told x.support ≡ false) × (belief_of g.V.Partial.bottom g.V.Partial.join w (remove es k) ≡ belief_of g.V.Partial.bottom g.V.Partial.join w es) =
+    let y : Valued _ = record { value = x.value; supports = c.remove.new.self } in
+    let s = c.index-in-loop-place-2.result.now in
+    let l = within xs i place c.len-in-loop-place.result c.index.result.now x kept.at c.index.ensures is c.loop-place-test.true c.len-in-loop-place.ensures in
+    let read : c.index-in-loop-place.result.now ≡ x = c.index-in-loop-place.ensures ∙ get_or_default xs i c.index-in-loop-place.result.now x kept.at ∙ sym is in
+    let at = entry_at xs i place x s kept.at is l (subst (λ (z : Valued _). s ≡ get_or z.supports.items place s) read c.index-in-loop-place-2.ensures) in
+    let less = removed xs i place x y kept.at is l refl c.remove.ensures.items in
+    let both : (is_at_most_one_of told s ≡ false) × (belief_of g.V.Partial.bottom g.V.Partial.join w (remove (entries_of xs) (place_of xs i place)) ≡ belief_of g.V.Partial.bottom g.V.Partial.join w (entries_of xs)) =
     elim c.if-is_at_most_one_of.branch [
       | then-is_at_most_one_of t ↦ cc (t.value-is, c.if-is_needed.false)
       | else-is_at_most_one_of t ↦ (
@@ -61,17 +102,32 @@ loop-place-preserved g c =
         (rw t.deref-else-is_at_most_one_of.ensures.value at t.is_needed.ensures.needless) (sym t.value-is ∙ c.if-is_needed.false),
       )
     ] in
-    let items = c.remove.ensures.items in
-    rw items (record {
-      place = (let n = remove_length es k l in omega (arith, l, n));
-      value = kept.value ∙ sym both.1;
-      trims = trims_more laws w told c.args.entries.now.items es k x kept.trims at both.0 both.1;
-      judged = judged_removed laws w told k es kept.judged both.1;
-      apart = remove_pairs (λ a b. ¬ (Subsumes g.V.Partial.below a b) × ¬ (Subsumes g.V.Partial.below b a)) es k kept.apart;
-      alone = remove_pairs (λ a b. is_alike a.support b.support ≡ false) es k kept.alone;
-    })
+    let n = length-set xs i y in
+    record {
+      at = omega (arith, kept.at, n);
+      place = λ d. subst (λ (z : Valued _). place ≤ length z.supports.items) (sym (get_or-set_same xs i y d kept.at)) (shorter x.supports.items y.supports.items place l c.remove.ensures.items);
+      value = kept.value ∙ sym both.1 ∙ sym (ap (belief_of g.V.Partial.bottom g.V.Partial.join w) less);
+      trimmed = trimmed_more laws told w c.args.values.now.items xs (set xs i y) i place _ less (values_of-set xs i y x kept.at (ap (λ (z : Valued _). z.value) is)) (place_set xs i place y) (place_within xs i place x kept.at is l) at both.0 both.1 kept.trimmed;
+    }
+
+pub loop-at-preserved : goal.loop-at-preserved
+loop-at-preserved g c =
+    let xs = c.loop-place.values.items in
+    let i = c.loop-at.at in
+    let y = c.index.result.now in
+    let kept = c.loop-place.invariant in
+    let same = ap (λ (z : Valued _). length z.supports.items) c.index.ensures in
+    let le = kept.place y in
+    let end : c.loop-place.place ≡ length y.supports.items = omega (arith, le, same, c.loop-place-test.false, c.len-in-loop-place.ensures, y.supports.ok.0) in
+    record {
+      at = omega (arith, kept.at);
+      value = kept.value;
+      trimmed = trimmed_at g.met.V.Partial.laws (set_of c.args.told.now) (set_of c.args.worldview.now) c.args.values.now.items xs _ _ (place_next xs i c.loop-place.place y kept.at c.index.ensures end) kept.trimmed;
+    }
 
 pub returns-clause-needed : goal.returns-clause-needed
 returns-clause-needed g c =
-    let done : length c.loop-place.entries.items ≤ c.loop-place.place = omega (arith, c.len.ensures, c.loop-place-test.false, c.loop-place.entries.ok) in
-    all_judged g.met.V.Partial.laws (set_of c.args.worldview.now) (set_of c.args.told.now) c.loop-place.place c.loop-place.entries.items done c.loop-place.invariant.judged
+    let xs = c.loop-at.values.items in
+    let le : length xs ≤ c.loop-at.at = omega (arith, c.len.ensures, c.loop-at-test.false, c.loop-at.values.ok.0) in
+    let all = trimmed_all g.met.V.Partial.laws (set_of c.args.told.now) (set_of c.args.worldview.now) c.args.values.now.items xs (place_of xs c.loop-at.at 0) (place_end xs c.loop-at.at le) c.loop-at.invariant.trimmed in
+    subst (AreNeeded g.V.Partial.bottom g.V.Partial.join (set_of c.args.told.now) (set_of c.args.worldview.now)) (sym c.drop_bare.ensures.same) all

@@ -1,18 +1,28 @@
-use Rattle.std.proofs.Common.{◌≡◌, ◌≤◌, ◌-◌, length}
+use Rattle.std.proofs.Common.{◌≡◌, ◌≤◌, ◌<◌, ◌-◌, length, get_or}
 use Rattle.prop_premises.specs.Sets.{set_of}
-use Rattle.prop_tms.specs.Beliefs.{belief_of, NoneSubsumed, NoneAlike, Trims}
-use Rattle.prop_tms.proofs.TrimLemmas.{AreJudged}
+use Rattle.prop_tms.specs.Beliefs.{belief_of}
+use Rattle.prop_tms.specs.Values.{entries_of, place_of}
+use Rattle.prop_tms.specs.declared.values.Valued.{Valued}
+use Rattle.prop_tms.proofs.TrimLemmas.{IsTrimmed}
 use Rattle.prop_tms.proofs.trimming.trim.Given as goal
+
+abbrev pub invariant-loop-at : goal.invariant-loop-at
+invariant-loop-at g l = record {
+  at : l.at ≤ length l.values.items;
+  value : l.value ≡ belief_of g.V.Partial.bottom g.V.Partial.join (set_of l.worldview) (entries_of l.values.items);
+  trimmed : IsTrimmed g.V.Partial.below g.V.Partial.bottom g.V.Partial.join (set_of l.told) (set_of l.worldview) l.fn.values.items l.values.items (place_of l.values.items l.at 0);
+}
+
+abbrev pub decreases-loop-at : goal.decreases-loop-at
+decreases-loop-at g l = length l.values.items - l.at
 
 abbrev pub invariant-loop-place : goal.invariant-loop-place
 invariant-loop-place g l = record {
-  place : l.place ≤ length l.entries.items;
-  value : l.value ≡ belief_of g.V.Partial.bottom g.V.Partial.join (set_of l.worldview) l.entries.items;
-  trims : Trims g.V.Partial.bottom g.V.Partial.join (set_of l.told) (set_of l.worldview) l.fn.entries.items l.entries.items;
-  judged : AreJudged g.met.V.Partial.laws (set_of l.worldview) (set_of l.told) l.place l.entries.items;
-  apart : NoneSubsumed g.V.Partial.below l.entries.items;
-  alone : NoneAlike l.entries.items;
+  at : l.at < length l.values.items;
+  place : (d : Valued _) → l.place ≤ length (get_or l.values.items l.at d).supports.items;
+  value : l.value ≡ belief_of g.V.Partial.bottom g.V.Partial.join (set_of l.worldview) (entries_of l.values.items);
+  trimmed : IsTrimmed g.V.Partial.below g.V.Partial.bottom g.V.Partial.join (set_of l.told) (set_of l.worldview) l.fn.values.items l.values.items (place_of l.values.items l.at l.place);
 }
 
 abbrev pub decreases-loop-place : goal.decreases-loop-place
-decreases-loop-place g l = length l.entries.items - l.place
+decreases-loop-place g l = length (entries_of l.values.items) - place_of l.values.items l.at l.place

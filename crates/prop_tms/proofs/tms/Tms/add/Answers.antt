@@ -1,8 +1,16 @@
-use Rattle.std.proofs.Common.{refl, inl, inr}
-use Rattle.prop_tms.specs.Beliefs.{IsNeedless, joined_with}
+use Rattle.std.proofs.Common.{◌≡◌, ◌≢◌, ◌∙◌, ◌+◌, ◌<◌, ◌≤◌, ◌++◌, ◌∷◌, List, AllPairs, refl, sym, ap, subst, inr, length, get_or, arith}
+use Rattle.prop_tms.specs.Beliefs.{Adds, IsNeedless, NoneAlike, NoneSubsumed, Subsumes, joined_with}
+use Rattle.prop_tms.specs.Kept.{IsLeftWithout}
+use Rattle.prop_tms.specs.Values.{entries_of}
 use Rattle.prop_tms.specs.declared.supported.Supported.{Supported}
+use Rattle.prop_tms.specs.declared.values.Valued.{Valued}
 use Rattle.prop_tms.proofs.BeliefLemmas.{adds_joined, adds_needless, needed_joined, none_alike-joined, none_subsumed-joined}
+use Rattle.prop_tms.proofs.KeptLemmas.{insert_length}
+use Rattle.prop_tms.proofs.ValueLemmas.{grown_all, has_room, left_length, length_values, values_of-set, written_values}
+use Rattle.prop_tms.proofs.tms.Tms.add.Given.{Over}
 use Rattle.prop_tms.proofs.tms.Tms.add.Goals as goal
+
+-- ---- what says nothing new
 
 pub returns-then-is_needless-clause-adds : goal.returns-then-is_needless-clause-adds
 returns-then-is_needless-clause-adds g c =
@@ -16,72 +24,148 @@ returns-then-is_needless-clause-same g c =
     let needless : IsNeedless g.V.Partial.below g.V.Partial.bottom c.args.self.now e = rw (← c.self.view_is) (rw c.deref.ensures.value at (c.is_needless.ensures.0 c.if-is_needless.true)) in
     (λ t. needless, λ n. refl)
 
-pub returns-in_err-reserve-clause-needless : goal.returns-in_err-reserve-clause-needless
-returns-in_err-reserve-clause-needless g c =
+-- ---- where memory is refused
+
+pub returns-then-count-clause-needless : goal.returns-then-count-clause-needless
+returns-then-count-clause-needless g c =
     let e : Supported _ = record { value = c.args.value; support = c.args.support } in
-    let needed : ¬ (IsNeedless g.V.Partial.below g.V.Partial.bottom c.self.inside.entries.items e) = λ n. cc (c.if-is_needless.false, c.is_needless.ensures.1 (rw c.deref.ensures.value n)) in
+    let needed : ¬ (IsNeedless g.V.Partial.below g.V.Partial.bottom (entries_of c.self.inside.values.items) e) = λ n. cc (c.if-is_needless.false, c.is_needless.ensures.1 (rw c.deref.ensures.value n)) in
     λ n. absurd (needed (rw c.self.view_is n))
 
-pub returns-clause-needless : goal.returns-clause-needless
-returns-clause-needless g c =
+pub returns-in_err-place-clause-needless : goal.returns-in_err-place-clause-needless
+returns-in_err-place-clause-needless g c =
     let e : Supported _ = record { value = c.args.value; support = c.args.support } in
-    let needed : ¬ (IsNeedless g.V.Partial.below g.V.Partial.bottom c.self.inside.entries.items e) = λ n. cc (c.if-is_needless.false, c.is_needless.ensures.1 (rw c.deref.ensures.value n)) in
+    let needed : ¬ (IsNeedless g.V.Partial.below g.V.Partial.bottom (entries_of c.self.inside.values.items) e) = λ n. cc (c.if-is_needless.false, c.is_needless.ensures.1 (rw c.deref.ensures.value n)) in
     λ n. absurd (needed (rw c.self.view_is n))
+
+-- there is room for the support
+no_refusal : (g : Over) (c : goal.After-from_residual-in_err-push g) → ⊥
+no_refusal g c =
+    let start = c.room_for.new.values.items in
+    let mid = c.drop_subsumed.new.values in
+    let i = c.in_ok-place.place in
+    let x = c.index_mut.result.now in
+    let values = rw c.deref_mut.ensures.value at c.drop_subsumed.ensures.values in
+    let is : x ≡ get_or mid i x = rw (written_values _ start mid c.room_for.new.values.ok.0 values) at c.index_mut.ensures.value in
+    let l = c.in_ok-place.ensures.place.0 in
+    let kept = rw c.deref_mut.ensures.value at c.drop_subsumed.ensures.room in
+    has_room start mid i x l is (c.in_ok-place.ensures.room x) (kept i x l) c.in_err-push.ensures.full
+
+pub invariant_of-self-in_err-push : goal.invariant_of-self-in_err-push
+invariant_of-self-in_err-push g c = absurd (no_refusal g c)
+
+pub returns-in_err-push-clause-needless : goal.returns-in_err-push-clause-needless
+returns-in_err-push-clause-needless g c = absurd (no_refusal g c)
+
+pub returns-in_err-push-clause-apart : goal.returns-in_err-push-clause-apart
+returns-in_err-push-clause-apart g c = absurd (no_refusal g c)
+
+pub returns-in_err-push-clause-alone : goal.returns-in_err-push-clause-alone
+returns-in_err-push-clause-alone g c = absurd (no_refusal g c)
+
+pub returns-in_err-push-clause-len : goal.returns-in_err-push-clause-len
+returns-in_err-push-clause-len g c = absurd (no_refusal g c)
+
+pub returns-in_err-push-clause-err : goal.returns-in_err-push-clause-err
+returns-in_err-push-clause-err g c = absurd (no_refusal g c)
+
+-- ---- the entry, with what those on its premises say
+
+pub drop_bare-requires : goal.drop_bare-requires
+drop_bare-requires g c =
+    let start = c.room_for.new.values.items in
+    let mid = c.drop_subsumed.new.values in
+    let values = rw c.deref_mut.ensures.value at c.drop_subsumed.ensures.values in
+    let whole = written_values _ start mid c.room_for.new.values.ok.0 values in
+    let i = c.in_ok-place.place in
+    let x = c.index_mut.result.now in
+    let is : x ≡ get_or mid i x = rw whole at c.index_mut.ensures.value in
+    let n = length_values mid start values in
+    let l : i < length mid = omega (arith, c.in_ok-place.ensures.place.0, n) in
+    rw whole (subst (AllPairs (λ a b. a ≢ b)) (sym (values_of-set mid i _ x l (ap (λ (z : Valued _). z.value) is) ∙ values)) c.in_ok-place.ensures.apart)
+
+-- where it stands
+grown : (g : Over) (c : goal.After-drop_bare g) →
+    let old = entries_of c.self.inside.values.items in
+    let m = joined_with g.V.Partial.bottom g.V.Partial.join old (record { value = c.args.value; support = c.args.support }) in
+    (front : List (Supported _)) × (rear : List (Supported _)) × IsLeftWithout (Subsumes g.V.Partial.below m) old (front ++ rear) × (entries_of c.drop_bare.new.values.items ≡ front ++ m ∷ rear)
+grown g c =
+    let old = entries_of c.self.inside.values.items in
+    let m = joined_with g.V.Partial.bottom g.V.Partial.join old (record { value = c.args.value; support = c.args.support }) in
+    let start = c.room_for.new.values.items in
+    let mid = c.drop_subsumed.new.values in
+    let i = c.in_ok-place.place in
+    let x = c.index_mut.result.now in
+    let y : Valued _ = record { value = x.value; supports = c.push.new.self } in
+    let said : c.joined-value.result ≡ m.value = rw c.deref-3.ensures.value at c.joined-value.ensures in
+    let values = rw c.deref_mut.ensures.value at c.drop_subsumed.ensures.values in
+    let whole = written_values _ start mid c.room_for.new.values.ok.0 values in
+    let is : x ≡ get_or mid i x = rw whole at c.index_mut.ensures.value in
+    let left : IsLeftWithout (Subsumes g.V.Partial.below m) (entries_of start) (entries_of mid) = rw (c.deref_mut.ensures.value, said) at c.drop_subsumed.ensures.kept in
+    grown_all (Subsumes g.V.Partial.below m) old (entries_of c.drop_bare.new.values.items) m start mid i x y c.in_ok-place.ensures.same c.in_ok-place.ensures.place.0 (c.in_ok-place.ensures.place.1 x ∙ said) left values is refl c.in_ok-push.ensures.items
+    (rw whole at c.drop_bare.ensures.same)
+
+needed : (g : Over) (c : goal.After-drop_bare g) → ¬ (IsNeedless g.V.Partial.below g.V.Partial.bottom (entries_of c.self.inside.values.items) (record { value = c.args.value; support = c.args.support }))
+needed g c = λ n. cc (c.if-is_needless.false, c.is_needless.ensures.1 (rw c.deref.ensures.value n))
+
+subsumed : (g : Over) (c : goal.After-drop_bare g) → NoneSubsumed g.V.Partial.below (entries_of c.drop_bare.new.values.items)
+subsumed g c =
+    let laws = g.met.V.Partial.laws in
+    let old = entries_of c.self.inside.values.items in
+    let e : Supported _ = record { value = c.args.value; support = c.args.support } in
+    let m = joined_with g.V.Partial.bottom g.V.Partial.join old e in
+    let stands = grown g c in
+    subst (NoneSubsumed g.V.Partial.below) (sym stands.3) (none_subsumed-joined laws old stands.0 stands.1 m stands.2 (needed_joined laws old e (needed g c)) c.self.invariant.subsumed)
+
+alike : (g : Over) (c : goal.After-drop_bare g) → NoneAlike (entries_of c.drop_bare.new.values.items)
+alike g c =
+    let e : Supported _ = record { value = c.args.value; support = c.args.support } in
+    let stands = grown g c in
+    subst NoneAlike (sym stands.3) (none_alike-joined g.met.V.Partial.laws (entries_of c.self.inside.values.items) stands.0 stands.1 e stands.2 c.self.invariant.alike)
+
+longer : (g : Over) (c : goal.After-drop_bare g) → length (entries_of c.drop_bare.new.values.items) ≤ length (entries_of c.self.inside.values.items) + 1
+longer g c =
+    let old = entries_of c.self.inside.values.items in
+    let m = joined_with g.V.Partial.bottom g.V.Partial.join old (record { value = c.args.value; support = c.args.support }) in
+    let stands = grown g c in
+    let more = insert_length stands.0 stands.1 m in
+    let less = left_length (Subsumes g.V.Partial.below m) old (stands.0 ++ stands.1) stands.2 in
+    let same = ap length stands.3 in
+    omega (arith, more, less, same)
 
 pub invariant_of-self-2 : goal.invariant_of-self-2
-invariant_of-self-2 g c =
-    let laws = g.met.V.Partial.laws in
-    let old = c.self.inside.entries.items in
-    let e : Supported _ = record { value = c.args.value; support = c.args.support } in
-    let said = rw (c.deref-2.ensures.value, c.in_ok-reserve.ensures.items) at c.joined-value.ensures in
-    let left = rw (c.in_ok-reserve.ensures.items, said) at c.drop_subsumed.ensures.kept in
-    let needed : ¬ (IsNeedless g.V.Partial.below g.V.Partial.bottom old e) = λ n. cc (c.if-is_needless.false, c.is_needless.ensures.1 (rw c.deref.ensures.value n)) in
-    rw (c.in_ok-push.ensures.items, said)
-    (none_subsumed-joined laws old c.drop_subsumed.new.entries.items (joined_with g.V.Partial.bottom g.V.Partial.join old e) left (needed_joined laws old e needed) c.self.invariant.0, none_alike-joined laws old c.drop_subsumed.new.entries.items e left c.self.invariant.1)
+invariant_of-self-2 g c = record {
+  subsumed = subsumed g c;
+  alike = alike g c;
+  apart = c.drop_bare.ensures.apart;
+  bare = c.drop_bare.ensures.bare;
+  counted = (
+      let counted = rw c.deref-2.ensures.value at c.count.ensures in
+      omega (arith, longer g c, c.if-count.false, counted, c.self.invariant.counted)
+      );
+}
 
 pub returns-clause-adds : goal.returns-clause-adds
 returns-clause-adds g c =
-    let old = c.self.inside.entries.items in
+    let old = entries_of c.self.inside.values.items in
     let e : Supported _ = record { value = c.args.value; support = c.args.support } in
-    let said = rw (c.deref-2.ensures.value, c.in_ok-reserve.ensures.items) at c.joined-value.ensures in
-    let left = rw (c.in_ok-reserve.ensures.items, said) at c.drop_subsumed.ensures.kept in
-    rw (c.in_ok-push.ensures.items, said, ← c.self.view_is) (adds_joined g.met.V.Partial.laws old c.drop_subsumed.new.entries.items e left)
+    let stands = grown g c in
+    rw (← c.self.view_is) (subst (λ (new : List (Supported _)). Adds g.V.Partial.bottom g.V.Partial.join old new e) (sym stands.3) (adds_joined g.met.V.Partial.laws old stands.0 stands.1 e stands.2))
 
 pub returns-clause-same : goal.returns-clause-same
-returns-clause-same g c =
-    let e : Supported _ = record { value = c.args.value; support = c.args.support } in
-    let needed : ¬ (IsNeedless g.V.Partial.below g.V.Partial.bottom c.self.inside.entries.items e) = λ n. cc (c.if-is_needless.false, c.is_needless.ensures.1 (rw c.deref.ensures.value n)) in
-    (λ t. cc, λ n. absurd (needed (rw c.self.view_is n)))
+returns-clause-same g c = (λ t. cc, λ n. absurd (needed g c (rw c.self.view_is n)))
 
-pub returns-then-is_needless-clause-apart : goal.returns-then-is_needless-clause-apart
-returns-then-is_needless-clause-apart g c = rw (← c.self.view_is) c.self.invariant.0
-
-pub returns-then-is_needless-clause-stay : goal.returns-then-is_needless-clause-stay
-returns-then-is_needless-clause-stay g c = inl refl
-
-pub returns-clause-stay : goal.returns-clause-stay
-returns-clause-stay g c =
-    let said = rw (c.deref-2.ensures.value, c.in_ok-reserve.ensures.items) at c.joined-value.ensures in
-    let left = rw (c.in_ok-reserve.ensures.items, said) at c.drop_subsumed.ensures.kept in
-    inr (c.drop_subsumed.new.entries.items, rw (← c.self.view_is) left, rw (← c.self.view_is) (rw said at c.in_ok-push.ensures.items))
-
-pub returns-then-is_needless-clause-alone : goal.returns-then-is_needless-clause-alone
-returns-then-is_needless-clause-alone g c = rw (← c.self.view_is) c.self.invariant.1
+pub returns-clause-needless : goal.returns-clause-needless
+returns-clause-needless g c = λ n. absurd (needed g c (rw c.self.view_is n))
 
 pub returns-clause-apart : goal.returns-clause-apart
-returns-clause-apart g c =
-    let laws = g.met.V.Partial.laws in
-    let old = c.self.inside.entries.items in
-    let e : Supported _ = record { value = c.args.value; support = c.args.support } in
-    let said = rw (c.deref-2.ensures.value, c.in_ok-reserve.ensures.items) at c.joined-value.ensures in
-    let left = rw (c.in_ok-reserve.ensures.items, said) at c.drop_subsumed.ensures.kept in
-    let needed : ¬ (IsNeedless g.V.Partial.below g.V.Partial.bottom old e) = λ n. cc (c.if-is_needless.false, c.is_needless.ensures.1 (rw c.deref.ensures.value n)) in
-    rw (c.in_ok-push.ensures.items, said) (none_subsumed-joined laws old c.drop_subsumed.new.entries.items (joined_with g.V.Partial.bottom g.V.Partial.join old e) left (needed_joined laws old e needed) c.self.invariant.0)
+returns-clause-apart g c = subsumed g c
 
 pub returns-clause-alone : goal.returns-clause-alone
-returns-clause-alone g c =
-    let old = c.self.inside.entries.items in
-    let e : Supported _ = record { value = c.args.value; support = c.args.support } in
-    let said = rw (c.deref-2.ensures.value, c.in_ok-reserve.ensures.items) at c.joined-value.ensures in
-    let left = rw (c.in_ok-reserve.ensures.items, said) at c.drop_subsumed.ensures.kept in
-    rw (c.in_ok-push.ensures.items, said) (none_alike-joined g.met.V.Partial.laws old c.drop_subsumed.new.entries.items e left c.self.invariant.1)
+returns-clause-alone g c = alike g c
+
+pub returns-clause-stay : goal.returns-clause-stay
+returns-clause-stay g c = rw (← c.self.view_is) (inr (grown g c))
+
+pub returns-clause-len : goal.returns-clause-len
+returns-clause-len g c = rw (← c.self.view_is) (longer g c)

@@ -1,0 +1,41 @@
+-- Values, each once, with the supports that say so.
+use Rattle.std.specs.Prelude.{◌≡◌, ◌≢◌, ℕ, ◌+◌, ◌^◌, ◌<◌, ◌≤◌, List, [], ◌∷◌, ◌++◌, length, map, take, All, AllPairs, vec_capacity, vec_len}
+use Rattle.prop_tms.specs.Beliefs.{NoneSubsumed, NoneAlike}
+use Rattle.prop_tms.specs.declared.supported.Supported.{Supported}
+use Rattle.prop_tms.specs.declared.values.Valued.{Valued}
+
+-- the entries of one value
+abbrev pub entries_of_one : {V : Type 0} → Valued V → List (Supported V)
+entries_of_one x = map (λ s. record { value = x.value; support = s }) x.supports.items
+
+-- the entries of all values, those of each in row
+abbrev pub entries_of : {V : Type 0} → List (Valued V) → List (Supported V)
+entries_of [] = []
+entries_of (x ∷ xs) = entries_of_one x ++ entries_of xs
+
+abbrev pub values_of : {V : Type 0} → List (Valued V) → List V
+values_of xs = map (λ x. x.value) xs
+
+-- no value stands twice
+abbrev pub AreApart : {V : Type 0} → List (Valued V) → Type 0
+AreApart xs = AllPairs (λ a b. a ≢ b) (values_of xs)
+
+-- each has a support
+abbrev pub NoneBare : {V : Type 0} → List (Valued V) → Type 0
+NoneBare xs = All (λ x. x.supports.items ≢ []) xs
+
+-- The entries of a Tms: none subsumes another, no two rest on the same premises, each value stands once, and they can be counted.
+pub record AreKept {V : Type 0} (below : V → V → Type 0) (xs : List (Valued V)) : Type 0 where
+  pub subsumed : NoneSubsumed below (entries_of xs)
+  pub alike : NoneAlike (entries_of xs)
+  pub apart : AreApart xs
+  pub bare : NoneBare xs
+  pub counted : length (entries_of xs) < 2 ^ 64
+
+-- where the support of a value stands among all entries
+abbrev pub place_of : {V : Type 0} → List (Valued V) → ℕ → ℕ → ℕ
+place_of xs at place = length (entries_of (take at xs)) + place
+
+-- there is room for as many supports as before
+abbrev pub HasRoomOf : {V : Type 0} → Valued V → Valued V → Type 0
+HasRoomOf new old = (vec_capacity new.supports ≡ vec_capacity old.supports) × (vec_len new.supports ≤ vec_len old.supports)

@@ -1,0 +1,176 @@
+//! Values, each once, with the supports that say so.
+ghost use Rattle.std.specs.Prelude.{◌≡◌, ◌≢◌, ◌↔◌, ◌<◌, ◌≤◌, ◌+◌, ◌^◌, ℕ, [], Any, All, not, length, filter, get_or, vec_capacity, vec_len, IsTrue, OnErr, IfOk, IfSome, IfNone};
+ghost use Rattle.std.specs.List.{list_any};
+ghost use Rattle.prop_premises.specs.Sets.{set_of, is_within, is_alike, is_below};
+ghost use Rattle.prop_tms.specs.Beliefs.{Subsumes, IsNeedless, joined_with};
+ghost use Rattle.prop_tms.specs.Kept.{IsLeftWithout};
+ghost use Rattle.prop_tms.specs.Values.{entries_of, entries_of_one, values_of, AreApart, NoneBare, HasRoomOf};
+ghost use Rattle.prop_tms.specs.declared.supported.Supported.{Supported};
+ghost use Rattle.prop_tms.specs.declared.values.Valued.{Valued};
+
+use crate::supported::Supported;
+use prop_lattice::Partial;
+use prop_premises::PremiseSet;
+use std::alloc::AllocError;
+
+/// A value, and the supports that say so: it is known where all premises of one of them are believed.
+#[derive(Drop)]
+pub struct Valued<V: Drop> {
+    pub value: V,
+    pub supports: Vec<PremiseSet>,
+}
+
+/// How many supports there are.
+pub(crate) fn count<V: Partial>(values: &[Valued<V>]) -> usize
+    requires { length (entries_of values.now) < 2 ^ 64 }
+    ensures { result ≡ length (entries_of values.now) }
+{
+    let mut count = 0;
+    for valued in values {
+        count += valued.supports.len();
+    }
+    count
+}
+
+/// Whether some of the supports is part of this one.
+fn has_part(supports: &[PremiseSet], support: &PremiseSet) -> bool
+    ensures { result ≡ list_any (λ s. is_within (set_of support.now) s) supports.now }
+{
+    supports.iter().any(|part| part.is_subset(support))
+}
+
+/// Whether some entry of the value subsumes this one.
+fn subsumes<V: Partial>(valued: &Valued<V>, entry: &Supported<V>) -> bool
+    ensures { IsTrue result ↔ Any (λ x. Subsumes V.below x entry.now) (entries_of_one valued.now) }
+{
+    valued.value.implies(entry.value) && has_part(&valued.supports, &entry.support)
+}
+
+/// Whether some entry subsumes this one.
+fn is_known<V: Partial>(values: &[Valued<V>], entry: &Supported<V>) -> bool
+    ensures { IsTrue result ↔ Any (λ x. Subsumes V.below x entry.now) (entries_of values.now) }
+{
+    values.iter().any(|valued| subsumes(valued, entry))
+}
+
+/// Whether the entry says nothing new.
+pub(crate) fn is_needless<V: Partial>(values: &[Valued<V>], entry: &Supported<V>) -> bool
+    ensures { IsTrue result ↔ IsNeedless V.below V.bottom (entries_of values.now) entry.now }
+{
+    V::nothing().implies(entry.value) || is_known(values, entry)
+}
+
+/// Whether some of the supports has the same premises as this one.
+fn has_same(supports: &[PremiseSet], support: &PremiseSet) -> bool
+    ensures { result ≡ list_any (λ s. is_alike s support.now) supports.now }
+{
+    supports.iter().any(|other| other.is_same(support))
+}
+
+/// The value of an entry with this value and support, with what the entries that rest on the same premises say.
+pub(crate) fn joined<V: Partial>(values: &[Valued<V>], value: V, support: &PremiseSet) -> V
+    ensures { result ≡ (joined_with V.bottom V.join (entries_of values.now) (record { value = value; support = support.now })).value }
+{
+    let mut said = V::nothing();
+    for valued in values {
+        if has_same(&valued.supports, support) {
+            said = said.merge(valued.value);
+        }
+    }
+    value.merge(said)
+}
+
+/// Whether both are the same value.
+fn is_same<V: Partial>(a: V, b: V) -> bool
+    ensures { IsTrue result ↔ (a ≡ b) }
+{
+    a.implies(b) && b.implies(a)
+}
+
+/// The place of the value; nothing where it isn't there.
+fn find<V: Partial>(values: &[Valued<V>], value: V) -> Option<usize>
+    ensures at { IfSome result (λ at. (at < length values.now) × ((d : Valued V) → (get_or values.now at d).value ≡ value)) }
+    ensures new { IfNone result (All (λ x. x.value ≢ value) values.now) }
+{
+    values
+        .iter()
+        .position(|valued| is_same(valued.value, value))
+}
+
+/// The place of the value, with room for one support more. A new value stands last, with no support yet. After want of memory nothing
+/// has changed.
+pub(crate) fn room_for<V: Partial>(
+    values: &mut Vec<Valued<V>>,
+    value: V,
+) -> Result<usize, AllocError>
+    requires apart { AreApart values.old.items }
+    ensures same { entries_of values.new.items ≡ entries_of values.old.items }
+    ensures apart { AreApart values.new.items }
+    ensures place { IfOk result (λ at. (at < length values.new.items) × ((d : Valued V) → (get_or values.new.items at d).value ≡ value)) }
+    ensures room { IfOk result (λ at. (d : Valued V) → vec_len (get_or values.new.items at d).supports < vec_capacity (get_or values.new.items at d).supports) }
+    ensures err { OnErr result (NoneBare values.old.items → NoneBare values.new.items) }
+{
+    if let Some(place) = find(values, value) {
+        values[place].supports.reserve(1)?;
+        return Ok(place);
+    }
+    let supports = Vec::with_capacity(*values.allocator(), 1)?;
+    values.push(Valued { value, supports })?;
+    Ok(values.len() - 1)
+}
+
+/// Drops the supports that this one is part of.
+fn drop_wider(supports: &mut Vec<PremiseSet>, support: &PremiseSet)
+    ensures kept { supports.new.items ≡ filter (λ s. not (is_within (set_of s) support.now)) supports.old.items }
+    ensures capacity { vec_capacity supports.new ≡ vec_capacity supports.old }
+    ensures len { vec_len supports.new ≤ vec_len supports.old }
+{
+    supports.retain(|wider| !support.is_subset(wider));
+}
+
+/// Drops the entries that this one subsumes. A value may be left with no support.
+pub(crate) fn drop_subsumed<V: Partial>(values: &mut [Valued<V>], entry: &Supported<V>)
+    ensures kept { IsLeftWithout (Subsumes V.below entry.now) (entries_of values.old) (entries_of values.new) }
+    ensures values { values_of values.new ≡ values_of values.old }
+    ensures room { (k : ℕ) (d : Valued V) → k < length values.old → HasRoomOf (get_or values.new k d) (get_or values.old k d) }
+{
+    for valued in values {
+        if entry.value.implies(valued.value) {
+            drop_wider(&mut valued.supports, &entry.support);
+        }
+    }
+}
+
+/// Whether the value has no support.
+fn is_bare<V: Partial>(valued: &Valued<V>) -> bool
+    ensures { IsTrue result ↔ (valued.now.supports.items ≡ []) }
+{
+    valued.supports.is_empty()
+}
+
+/// Drops the values with no support.
+pub(crate) fn drop_bare<V: Partial>(values: &mut Vec<Valued<V>>)
+    requires { AreApart values.old.items }
+    ensures same { entries_of values.new.items ≡ entries_of values.old.items }
+    ensures apart { AreApart values.new.items }
+    ensures bare { NoneBare values.new.items }
+{
+    values.retain(|valued| !is_bare(valued));
+}
+
+/// Drops the supports with a premise that has a number of `count` or more.
+fn drop_wanting(supports: &mut Vec<PremiseSet>, count: usize)
+    ensures { supports.new.items ≡ filter (λ s. is_below count s) supports.old.items }
+{
+    supports.retain(|support| support.is_below(count));
+}
+
+/// Drops the entries whose support holds a premise with a number of `count` or more. A value may be left with no support.
+pub(crate) fn drop_from<V: Partial>(values: &mut [Valued<V>], count: usize)
+    ensures left { entries_of values.new ≡ filter (λ e. is_below count e.support) (entries_of values.old) }
+    ensures values { values_of values.new ≡ values_of values.old }
+{
+    for valued in values {
+        drop_wanting(&mut valued.supports, count);
+    }
+}
