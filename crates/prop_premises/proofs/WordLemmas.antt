@@ -11,6 +11,7 @@ use Rattle.std.proofs.lemmas.List.{get_or_past, get_or-set_other, get_or-take, l
 use Rattle.std.proofs.lemmas.List.Folds.{list_any-append}
 use Rattle.std.proofs.lemmas.List.FromFn.{length-range_with_len, get_or-range_with_len}
 use Rattle.std.proofs.lemmas.List.Kept.{IsStrictlyIncreasing-filter}
+use Rattle.std.proofs.lemmas.List.Sums.{length-filter, count_by-le-length}
 use Rattle.std.proofs.lemmas.Nat.Bits.{bit_at-zero}
 use Rattle.prop_premises.specs.Sets.{Members, set_of, is_within, IsBelow}
 use Rattle.prop_premises.specs.Words.{is_set, has_bit, numbers_from, numbers_of, HaveSameBits, HasFrom, IsTrimmed, IsForm}
@@ -35,6 +36,17 @@ pub increasing-numbers_from : (n : ℕ) (words : List ℕ) → IsStrictlyIncreas
 unfolding numbers_from
 increasing-numbers_from n words = IsStrictlyIncreasing-filter (λ p. has_bit words (p - n)) (range_with_len n (64 * length words))
     (increasing-range n (64 * length words))
+
+-- there are at most as many as there are bits
+pub few_numbers : (words : List ℕ) → length words ≤ 1024 → length (numbers_of words) ≤ 65536
+unfolding numbers_from
+few_numbers words few =
+    let passes = λ (p : ℕ). has_bit words (p - 0) in
+    let range = range_with_len 0 (64 * length words) in
+    let all = count_by-le-length passes range in
+    let kept = length-filter passes range in
+    let count = length-range_with_len 0 (64 * length words) in
+    omega (arith, all, kept, count, few)
 
 -- no bit is past the last word
 pub has_bit-past : (words : List ℕ) (p : ℕ) → 64 * length words ≤ p → has_bit words p ≡ false

@@ -1,5 +1,5 @@
 //! Sets of premises.
-ghost use Rattle.std.specs.Prelude.{◌≡◌, ◌↔◌, List, ℕ, [], ◌∷◌, IsTrue, IfOk};
+ghost use Rattle.std.specs.Prelude.{◌≡◌, ◌↔◌, ◌≤◌, List, ℕ, [], ◌∷◌, length, IsTrue, IfOk};
 ghost use Rattle.std.specs.List.Sorted.{IsStrictlyIncreasing};
 ghost use Rattle.prop_premises.specs.Sets.{set_of, union, without, is_below, is_within, is_alike, is_at_most_one_of, IsSame};
 
@@ -120,6 +120,7 @@ impl PremiseSet {
     pub fn iter(&self) -> Numbers<'_>
         ensures all { result ≡ self.now }
         ensures ordered { IsStrictlyIncreasing self.now }
+        ensures few { length self.now ≤ 65_536 }
     {
         self.numbers.iter()
     }

@@ -197,6 +197,7 @@ impl Words {
     pub(crate) fn iter(&self) -> Numbers<'_>
         ensures all { result ≡ self.now }
         ensures ordered { IsStrictlyIncreasing self.now }
+        ensures few { length self.now ≤ 65_536 }
     {
         Numbers::new(&self.words)
     }
