@@ -23,7 +23,7 @@ StatesAll old new (x ∷ xs) = (next : Data) × States old next x × StatesAll n
 abbrev pub AreUnderBelow : ℕ → List Statement → Type 0
 AreUnderBelow first statements = All (λ x. (p : ℕ) → x.premise ≡ Some p → p < first) statements
 
--- the entry, with what those on its premises say, stands last at the cell, without those that it subsumes; or the cell stays
+-- the entry, with what those on its premises say, stands at the cell, without those that it subsumes; or the cell stays
 abbrev pub StandsAt : List (List Entry) → List (List Entry) → ℕ → Entry → Type 0
 StandsAt old new cell e =
     IsGrownBy (Subsumes Below (joined_with Nothing merge_of (content_of old cell) e)) (content_of old cell) (content_of new cell) (joined_with Nothing merge_of (content_of old cell) e)

@@ -188,8 +188,11 @@ fn left_of<R: Rule + Drop, O: Order>(
         steps += calls;
         match tried {
             Tried::Enough => support = less,
-            Tried::TooFew => {}
-            Tried::Spent => return Ok((support, End::Spent, steps)),
+            Tried::TooFew => drop(less),
+            Tried::Spent => {
+                drop(less);
+                return Ok((support, End::Spent, steps));
+            }
         }
     }
     Ok((support, End::AllTried, steps))
@@ -237,6 +240,7 @@ fn attempt<R: Rule + Drop, O: Order>(
         Run::Clash(_) => Tried::TooFew,
         Run::Spent => Tried::Spent,
     };
+    drop(worldview);
     Ok((tried, calls))
 }
 
