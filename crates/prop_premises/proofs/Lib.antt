@@ -3,6 +3,7 @@ pub mod MergeLemmas
 pub mod FlagLemmas
 pub mod BitLemmas
 pub mod WordLemmas
+pub mod PlaceLemmas
 pub mod OriginLemmas
 pub mod WithinLemmas
 pub mod ChoiceLemmas

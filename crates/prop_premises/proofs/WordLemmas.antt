@@ -1,5 +1,5 @@
 -- Sets of numbers as words of bits: what is in them, and in which order.
-use Rattle.std.proofs.Common.{◌≡◌, ◌≢◌, ℕ, zero, suc, ◌+◌, ◌-◌, ◌*◌, ◌/◌, ◌%◌, ◌^◌, ◌<◌, ◌≤◌, Bool, true, false, not, ◌||◌, ◌&&◌, ◌==◌, List, [], ◌∷◌, ◌++◌, length, take, drop, replicate, get_or, refl, sym, ap, subst, ◌∙◌, arith, inl, inr, ◌⊎◌, nat_lt, nat_le, nat_eq, filter, max, bit_and, bit_or, Result, Ok, Err, IfOk}
+use Rattle.std.proofs.Common.{◌≡◌, ◌≢◌, ℕ, zero, suc, ◌+◌, ◌-◌, ◌*◌, ◌/◌, ◌%◌, ◌^◌, ◌<◌, ◌≤◌, Bool, true, false, not, ◌||◌, ◌&&◌, ◌==◌, List, [], ◌∷◌, ◌++◌, length, take, drop, replicate, get_or, refl, sym, ap, subst, ◌∙◌, arith, inl, inr, ◌⊎◌, nat_lt, nat_le, nat_eq, filter, bit_and, bit_or, Result, Ok, Err, IfOk}
 use Rattle.std.specs.Int.{bit_not, w64, trailing_zeros, leading_zeros}
 use Rattle.std.specs.List.{range_with_len, refill, AllByRecursion, AppendsClonesOf}
 use Rattle.std.specs.List.Sorted.{IsStrictlyIncreasing}
@@ -14,7 +14,7 @@ use Rattle.std.proofs.lemmas.List.Kept.{IsStrictlyIncreasing-filter}
 use Rattle.std.proofs.lemmas.List.Sums.{length-filter, count_by-le-length}
 use Rattle.std.proofs.lemmas.Nat.Bits.{bit_at-zero}
 use Rattle.prop_premises.specs.Sets.{Members, set_of, is_within, IsBelow}
-use Rattle.prop_premises.specs.Words.{is_set, has_bit, numbers_from, numbers_of, HaveSameBits, HasFrom, IsTrimmed, IsForm}
+use Rattle.prop_premises.specs.Words.{is_set, has_bit, numbers_from, numbers_of, HaveSameBits, HasFrom, IsTrimmed}
 use Rattle.prop_premises.proofs.BitLemmas.{tested, is_set-or, is_set-and, is_set-not, is_set-pow, is_set-zero, is_set-ones, is_set-cleared, pow_fits, lowest, Highest, highest}
 use Rattle.prop_premises.proofs.WithinLemmas.{is_within-told}
 use Rattle.prop_premises.proofs.SetLemmas.{set_of-filter}
@@ -38,14 +38,14 @@ increasing-numbers_from n words = IsStrictlyIncreasing-filter (λ p. has_bit wor
     (increasing-range n (64 * length words))
 
 -- there are at most as many as there are bits
-pub few_numbers : (words : List ℕ) → length words ≤ 1024 → length (numbers_of words) ≤ 65536
+pub few_numbers : (n : ℕ) (words : List ℕ) → length words ≤ 1024 → length (numbers_from n words) ≤ 65536
 unfolding numbers_from
-few_numbers words few =
-    let passes = λ (p : ℕ). has_bit words (p - 0) in
-    let range = range_with_len 0 (64 * length words) in
+few_numbers n words few =
+    let passes = λ (p : ℕ). has_bit words (p - n) in
+    let range = range_with_len n (64 * length words) in
     let all = count_by-le-length passes range in
     let kept = length-filter passes range in
-    let count = length-range_with_len 0 (64 * length words) in
+    let count = length-range_with_len n (64 * length words) in
     omega (arith, all, kept, count, few)
 
 -- no bit is past the last word
@@ -89,9 +89,9 @@ pub numbers_from-nil : (n : ℕ) → numbers_from n [] ≡ []
 unfolding numbers_from
 numbers_from-nil n = refl
 
-pub numbers_of-none : (words : List ℕ) → length words ≡ 0 → numbers_of words ≡ []
-numbers_of-none [] e = numbers_from-nil 0
-numbers_of-none (w ∷ ws) e = absurd (omega (arith, e))
+pub numbers_from-nothing : (n : ℕ) (words : List ℕ) → length words ≡ 0 → numbers_from n words ≡ []
+numbers_from-nothing n [] e = numbers_from-nil n
+numbers_from-nothing n (w ∷ ws) e = absurd (omega (arith, e))
 
 -- ---- what changes of words do
 
@@ -234,10 +234,10 @@ has_bit-later word words q l =
     let bit : q % 64 ≡ (q - 64) % 64 = omega (arith, l) in
     rw (place, bit) refl
 
-from_below : (n p : ℕ) (b : Bool) → p < n → (nat_le n p && b) ≡ false
+pub from_below : (n p : ℕ) (b : Bool) → p < n → (nat_le n p && b) ≡ false
 from_below n p b l = let out : nat_le n p ≡ false = grind (arith, nat_tests) in rw out refl
 
-from_above : (n p : ℕ) (b : Bool) → n ≤ p → (nat_le n p && b) ≡ b
+pub from_above : (n p : ℕ) (b : Bool) → n ≤ p → (nat_le n p && b) ≡ b
 from_above n p b l = let in_it : nat_le n p ≡ true = grind (arith, nat_tests) in rw in_it refl
 
 numbers_from-is : (n : ℕ) (words ns : List ℕ) → IsStrictlyIncreasing ns → ((p : ℕ) → (nat_le n p && has_bit words (p - n)) ≡ set_of ns p) →
@@ -449,7 +449,7 @@ or_none : (b : Bool) → (b || false) ≡ b
 or_none true = refl
 or_none false = refl
 
-increasing-push : (ns : List ℕ) (n : ℕ) → IsStrictlyIncreasing ns → IsBelow n (set_of ns) → IsStrictlyIncreasing (ns ++ n ∷ [])
+pub increasing-push : (ns : List ℕ) (n : ℕ) → IsStrictlyIncreasing ns → IsBelow n (set_of ns) → IsStrictlyIncreasing (ns ++ n ∷ [])
 increasing-push ns n up below = increasing_from_rising (ns ++ n ∷ []) (rising_push ns n (rising_from_increasing ns up) below)
 
 -- one more number, above all others
@@ -476,29 +476,6 @@ or_first false c e = cc
 or_last : (b c : Bool) → c ≡ true → (b || c) ≡ true
 or_last true c e = refl
 or_last false c e = e
-
-pub IsForm-unite : (a b both : List ℕ) → IsForm a → length both ≡ length a → ((p : ℕ) → has_bit both p ≡ (has_bit a p || has_bit b p)) → IsForm both
-IsForm-unite a b both form len bits = record {
-  trimmed = λ n e. (
-      let some = form.trimmed n (omega (arith, len, e)) in
-      (some.0, some.1, bits some.0 ∙ or_first (has_bit a some.0) (has_bit b some.0) some.2));
-  in_range = omega (arith, len, form.in_range);
-}
-
-pub IsForm-added : (a b : List ℕ) (n : ℕ) → IsForm a → n < 65_536 → length b ≡ max (length a) (n / 64 + 1) → ((p : ℕ) →
-    has_bit b p ≡ (has_bit a p || (n == p))) → IsForm b
-IsForm-added a b n form low len bits = record {
-  trimmed = λ m e. by m e (cases_lt (n / 64) m);
-  in_range = omega (arith, len, form.in_range, low);
-}
-  where
-    by : (m : ℕ) → length b ≡ m + 1 → (n / 64 < m) ⊎ (m ≤ n / 64) → HasFrom b m
-    by m e (inl longer) =
-        let some = form.trimmed m (omega (arith, len, e, longer)) in
-        (some.0, some.1, bits some.0 ∙ or_first (has_bit a some.0) (n == some.0) some.2)
-    by m e (inr own) =
-        let same : (n == n) ≡ true = grind (arith, nat_tests) in
-        (n, omega (arith, own), bits n ∙ or_last (has_bit a n) (n == n) same)
 
 -- what is written below a bound
 pub kept_written : (words front lent : List ℕ) (place mask n : ℕ) → front ≡ take (place + 1) words → lent ≡ front → place ≡ n / 64 → mask ≡ 2 ^ (n % 64) →

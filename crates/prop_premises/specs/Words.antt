@@ -28,11 +28,11 @@ HaveSameBits a b = (k : ℕ) → slice_index a k ≡ slice_index b k
 abbrev pub HasFrom : List ℕ → ℕ → Type 0
 HasFrom words n = (p : ℕ) × (64 * n ≤ p) × IsTrue (has_bit words p)
 
--- the last word has a bit, so that a set has one form
+-- the last word has a bit
 abbrev pub IsTrimmed : List ℕ → Type 0
 IsTrimmed words = (n : ℕ) → length words ≡ n + 1 → HasFrom words n
 
--- The form of a set of numbers below 2^16.
-pub record IsForm (words : List ℕ) : Type 0 where
+-- The form of a set of numbers below 2^16, where the first bit is that of 64 * first.
+pub record IsForm (first : ℕ) (words : List ℕ) : Type 0 where
   pub trimmed : IsTrimmed words
-  pub in_range : length words ≤ 1_024
+  pub in_range : first + length words ≤ 1_024

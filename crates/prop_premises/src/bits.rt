@@ -1,6 +1,7 @@
 //! Bits of words.
-ghost use Rattle.std.specs.Prelude.{◌≡◌, ◌<◌, ◌≤◌, ◌+◌, ◌/◌, ◌%◌, ◌^◌, ℕ, true, false, not, ◌&&◌, ◌||◌, ◌==◌, length, bit_or, slice_index, IsTrue};
-ghost use Rattle.prop_premises.specs.Words.{has_bit, HasFrom, IsForm};
+ghost use Rattle.std.specs.Prelude.{◌≡◌, ◌<◌, ◌≤◌, ◌+◌, ◌-◌, ◌*◌, ◌/◌, ◌%◌, ◌^◌, ℕ, true, false, not, ◌&&◌, ◌||◌, ◌==◌, length, slice_index, IsTrue};
+ghost use Rattle.prop_premises.specs.Sets.{set_of};
+ghost use Rattle.prop_premises.specs.Words.{has_bit, numbers_from, HasFrom, IsTrimmed};
 
 /// How many bits a word has.
 pub(crate) const BITS: usize = 64;
@@ -39,6 +40,18 @@ pub(crate) fn trimmed_len(words: &[u64]) -> usize
     len
 }
 
+/// How many words without bits stand before the first that has one; all where none has.
+pub(crate) fn leading(words: &[u64]) -> usize
+    ensures within { result ≤ length words.now }
+    ensures blank { (k : ℕ) → k < result → slice_index words.now k ≡ 0 }
+{
+    let mut count = 0;
+    while count < words.len() && words[count] == 0 {
+        count += 1;
+    }
+    count
+}
+
 /// Sets the number's bit.
 pub(crate) fn set_bit(words: &mut [u64], number: u16)
     requires { number / 64 < length words.old }
@@ -59,24 +72,37 @@ pub(crate) fn clear(words: &mut [u64], number: u16)
     }
 }
 
-/// Sets the bits of further words, of which there are no more than of these.
-pub(crate) fn unite(words: &mut [u64], more: &[u64])
-    requires { length more.now ≤ length words.old }
+/// Sets the bits of further words, from the word at a place on.
+pub(crate) fn unite(words: &mut [u64], at: usize, more: &[u64])
+    requires { at + length more.now ≤ length words.old }
     ensures len { length words.new ≡ length words.old }
-    ensures bits { (k : ℕ) → slice_index words.new k ≡ bit_or (slice_index words.old k) (slice_index more.now k) }
+    ensures bits { (p : ℕ) → has_bit words.new p ≡ (has_bit words.old p || set_of (numbers_from (64 * at) more.now) p) }
 {
     for place in 0..more.len() {
-        words[place] |= more[place];
+        words[at + place] |= more[place];
     }
 }
 
-/// Whether each bit of the words is set in the others.
-pub(crate) fn is_part(words: &[u64], others: &[u64]) -> bool
-    ensures part { result ≡ true → (p : ℕ) → IsTrue (has_bit words.now p) → IsTrue (has_bit others.now p) }
-    ensures apart { result ≡ false → (p : ℕ) × IsTrue (has_bit words.now p) × (has_bit others.now p ≡ false) }
+/// The word with a number, where the first of the words has this one.
+fn word_from(first: usize, words: &[u64], number: usize) -> u64
+    ensures before { number < first → result ≡ 0 }
+    ensures from { first ≤ number → result ≡ slice_index words.now (number - first) }
+{
+    if number < first {
+        0
+    } else {
+        word_at(words, number - first)
+    }
+}
+
+/// Whether each number of the words is one of the others, where their first words have these numbers.
+pub(crate) fn is_part(first: usize, words: &[u64], others_first: usize, others: &[u64]) -> bool
+    requires { first + length words.now ≤ 1_024 }
+    ensures part { result ≡ true → (p : ℕ) → IsTrue (set_of (numbers_from (64 * first) words.now) p) → IsTrue (set_of (numbers_from (64 * others_first) others.now) p) }
+    ensures apart { result ≡ false → (p : ℕ) × IsTrue (set_of (numbers_from (64 * first) words.now) p) × (set_of (numbers_from (64 * others_first) others.now) p ≡ false) }
 {
     for place in 0..words.len() {
-        if words[place] & !word_at(others, place) != 0 {
+        if words[place] & !word_from(others_first, others, first + place) != 0 {
             return false;
         }
     }
@@ -85,7 +111,9 @@ pub(crate) fn is_part(words: &[u64], others: &[u64]) -> bool
 
 /// One above the number of the last bit that is set, 0 where none is.
 pub(crate) fn end_of(words: &[u64]) -> usize
-    requires { IsForm words.now }
+    requires trimmed { IsTrimmed words.now }
+    requires in_range { length words.now ≤ 1_024 }
+    ensures bound { result ≤ 65_536 }
     ensures above { (p : ℕ) → IsTrue (has_bit words.now p) → p < result }
     ensures last { (p : ℕ) → result ≡ p + 1 → IsTrue (has_bit words.now p) }
 {

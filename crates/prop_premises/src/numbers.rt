@@ -1,6 +1,7 @@
 //! Iteration over a set of premises.
 ghost use Rattle.std.specs.Iterator.{YieldsFirst, item_count};
 
+use crate::bits::BITS;
 use crate::premise_set::Premise;
 use std::marker::Model;
 
@@ -27,18 +28,18 @@ impl<'a> Model for Numbers<'a> {
 }
 
 impl<'a> Numbers<'a> {
-    ghost use Rattle.std.specs.Prelude.{◌≡◌, ◌≤◌, length};
-    ghost use Rattle.prop_premises.specs.Words.{numbers_of};
+    ghost use Rattle.std.specs.Prelude.{◌≡◌, ◌≤◌, ◌+◌, ◌*◌, length};
+    ghost use Rattle.prop_premises.specs.Words.{numbers_from};
 
-    /// The numbers of the bits of the words.
-    pub(crate) fn new(words: &'a [u64]) -> Numbers<'a>
-        requires { length words.now ≤ 1_024 }
-        ensures { result ≡ numbers_of words.now }
+    /// The numbers of the bits of the words, of which the first has this number.
+    pub(crate) fn new(first: usize, words: &'a [u64]) -> Numbers<'a>
+        requires { first + length words.now ≤ 1_024 }
+        ensures { result ≡ numbers_from (64 * first) words.now }
     {
         match words.split_first() {
-            Some((first, rest)) => Numbers {
-                base: 0,
-                word: *first,
+            Some((word, rest)) => Numbers {
+                base: (BITS * first) as Premise,
+                word: *word,
                 rest,
             },
             None => Numbers {

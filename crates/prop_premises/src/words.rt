@@ -1,33 +1,37 @@
 //! Sets of numbers as words of bits.
-ghost use Rattle.std.specs.Prelude.{◌≡◌, ◌↔◌, ◌≤◌, ◌+◌, ◌*◌, ℕ, List, [], ◌∷◌, ◌++◌, false, length, max, nat_lt, filter, IsTrue, IsOk, IfOk, OnOk, OnErr};
+ghost use Rattle.std.specs.Prelude.{◌≡◌, ◌↔◌, ◌<◌, ◌≤◌, ◌+◌, ◌*◌, ◌&&◌, ℕ, List, [], ◌∷◌, ◌++◌, false, length, max, nat_lt, filter, IsTrue, IsOk, IfOk, OnOk, OnErr};
 ghost use Rattle.std.specs.List.Sorted.{IsStrictlyIncreasing};
 ghost use Rattle.prop_premises.specs.Sets.{set_of, union, without, is_within, is_below, is_at_most_one_of, IsSame, IsBelow};
-ghost use Rattle.prop_premises.specs.Words.{has_bit, IsTrimmed, IsForm};
+ghost use Rattle.prop_premises.specs.Words.{has_bit, numbers_from, IsTrimmed, IsForm};
 
 use crate::bits::{
-    BITS, bit_of, clear, end_of, is_part, place_of, set_bit, trimmed_len, unite, word_at,
+    BITS, bit_of, clear, end_of, is_part, leading, place_of, set_bit, trimmed_len, unite, word_at,
 };
 use crate::numbers::Numbers;
 use smallvec::SmallVec;
 use std::alloc::{AllocError, Global};
 use std::marker::Model;
 
-/// A set of numbers below 2^16: number `p` is in it where bit `p % 64` of word `p / 64` is set. The last word has a bit, so that a set has one form.
-/// Two words stand in the value itself, so no call takes memory for sets of numbers below 128.
+/// A set of numbers below 2^16: number `p` is in it where bit `p % 64` of the word with number `p / 64` is set.
+/// Words before the first and after the last that has a bit need not stand here, so that a set costs what lies between its least and its
+/// largest number. Two words stand in the value itself, so no call takes memory for sets of numbers below 128.
 #[derive(Drop)]
 pub(crate) struct Words {
+    /// The number of the first word that stands here.
+    first: usize,
+    /// The words from that one on. The last has a bit.
     words: SmallVec<u64, 2>,
 }
 
 impl Model for Words {
-    ghost use Rattle.std.specs.Prelude.{List, ℕ};
-    ghost use Rattle.prop_premises.specs.Words.{numbers_of, IsForm};
+    ghost use Rattle.std.specs.Prelude.{List, ℕ, ◌*◌};
+    ghost use Rattle.prop_premises.specs.Words.{numbers_from, IsForm};
 
     ghost Value = { List ℕ };
 
-    ghost view = { λ w. numbers_of w.words.items };
+    ghost view = { λ w. numbers_from (64 * w.first) w.words.items };
 
-    ghost invariant = { λ w. IsForm w.words.items };
+    ghost invariant = { λ w. IsForm w.first w.words.items };
 }
 
 /// Words without bits, as many as the numbers below this one have.
@@ -51,7 +55,7 @@ fn trim(words: &mut SmallVec<u64, 2>)
 }
 
 /// Puts words without bits last until there are so many. After want of memory nothing has changed.
-fn reach(words: &mut SmallVec<u64, 2>, count: usize) -> Result<(), AllocError>
+fn grow(words: &mut SmallVec<u64, 2>, count: usize) -> Result<(), AllocError>
     ensures len { OnOk result (length words.new.items ≡ max (length words.old.items) count) }
     ensures bits { OnOk result ((p : ℕ) → has_bit words.new.items p ≡ has_bit words.old.items p) }
     ensures err { OnErr result (words.new.items ≡ words.old.items) }
@@ -63,16 +67,100 @@ fn reach(words: &mut SmallVec<u64, 2>, count: usize) -> Result<(), AllocError>
     }
 }
 
-/// The numbers of both, of which the second have no more words.
-fn united(alloc: Global, long: &[u64], short: &[u64]) -> Result<Words, AllocError>
-    requires form { IsForm long.now }
-    requires order { length short.now ≤ length long.now }
-    ensures has { IfOk result (λ w. IsSame (set_of w) (union (has_bit long.now) (has_bit short.now))) }
+/// The words with so many without bits before them.
+fn led(alloc: Global, words: &[u64], count: usize) -> Result<SmallVec<u64, 2>, AllocError>
+    requires { count + length words.now ≤ 1_024 }
+    ensures len { IfOk result (λ w. length w.items ≡ count + length words.now) }
+    ensures bits { IfOk result (λ w. (p : ℕ) → has_bit w.items p ≡ set_of (numbers_from (64 * count) words.now) p) }
+{
+    let mut longer = SmallVec::from_elem(alloc, 0, count + words.len())?;
+    unite(&mut longer, count, words);
+    Ok(longer)
+}
+
+/// The number of the first word: where there are no words, the number of one that is to come.
+fn start(first: usize, words: &[u64], number: usize) -> usize
+    requires { number < 1_024 }
+    ensures none { length words.now ≡ 0 → result ≡ number }
+    ensures room { first + length words.now ≤ 1_024 → result + length words.now ≤ 1_024 }
+    ensures numbers { numbers_from (64 * result) words.now ≡ numbers_from (64 * first) words.now }
+{
+    if words.is_empty() { number } else { first }
+}
+
+/// Words from the first to the one with this number, or to the last where that is later, and the number of the first. After want of memory nothing has changed.
+fn reach(first: usize, words: &mut SmallVec<u64, 2>, number: usize) -> Result<usize, AllocError>
+    requires room { first + length words.old.items ≤ 1_024 }
+    requires number { number < 1_024 }
+    ensures first { IfOk result (λ f. f ≤ number) }
+    ensures len { IfOk result (λ f. f + length words.new.items ≡ max (first + length words.old.items) (number + 1)) }
+    ensures numbers { IfOk result (λ f. numbers_from (64 * f) words.new.items ≡ numbers_from (64 * first) words.old.items) }
+    ensures err { OnErr result (words.new.items ≡ words.old.items) }
+{
+    if first <= number {
+        grow(words, number - first + 1)?;
+        return Ok(first);
+    }
+    *words = led(*words.allocator(), words, first - number)?;
+    Ok(number)
+}
+
+/// The numbers of both, with the words from the first of either to the last of either.
+fn united(
+    alloc: Global,
+    first: usize,
+    words: &[u64],
+    others_first: usize,
+    others: &[u64],
+) -> Result<Words, AllocError>
+    requires form { IsForm first words.now }
+    requires some { 0 < length words.now }
+    requires others_form { IsForm others_first others.now }
+    requires others { 0 < length others.now }
+    ensures has { IfOk result (λ w. IsSame (set_of w) (union (set_of (numbers_from (64 * first) words.now)) (set_of (numbers_from (64 * others_first) others.now)))) }
     ensures ordered { IfOk result IsStrictlyIncreasing }
 {
-    let mut words = SmallVec::from_slice(alloc, long)?;
-    unite(&mut words, short);
-    Ok(Words { words })
+    let least = first.min(others_first);
+    let end = (first + words.len()).max(others_first + others.len());
+    let mut both = SmallVec::from_elem(alloc, 0, end - least)?;
+    unite(&mut both, first - least, words);
+    unite(&mut both, others_first - least, others);
+    Ok(Words {
+        first: least,
+        words: both,
+    })
+}
+
+/// The numbers of the words, of which none without a bit stands first or last.
+fn tight(first: usize, mut words: SmallVec<u64, 2>) -> Result<Words, AllocError>
+    requires { first + length words.items ≤ 1_024 }
+    ensures same { IfOk result (λ w. w ≡ numbers_from (64 * first) words.items) }
+    ensures ordered { IfOk result IsStrictlyIncreasing }
+{
+    trim(&mut words);
+    let blanks = leading(&words);
+    if blanks == 0 {
+        return Ok(Words { first, words });
+    }
+    let kept = SmallVec::from_slice(*words.allocator(), &words[blanks..])?;
+    Ok(Words {
+        first: first + blanks,
+        words: kept,
+    })
+}
+
+/// Only the numbers below the bound stay. It takes no memory.
+fn cut(words: &mut SmallVec<u64, 2>, bound: u16)
+    ensures bits { (p : ℕ) → has_bit words.new.items p ≡ (has_bit words.old.items p && nat_lt p bound) }
+    ensures trimmed { IsTrimmed words.old.items → IsTrimmed words.new.items }
+    ensures len { length words.new.items ≤ length words.old.items }
+{
+    let place = place_of(bound);
+    if place < words.len() {
+        words.truncate(place + 1);
+        words[place] &= bit_of(bound) - 1;
+        trim(words);
+    }
 }
 
 impl Words {
@@ -81,6 +169,7 @@ impl Words {
         ensures { result ≡ [] }
     {
         Words {
+            first: 0,
             words: SmallVec::new(alloc),
         }
     }
@@ -92,7 +181,7 @@ impl Words {
         ensures ordered { IsStrictlyIncreasing result }
     {
         trim(&mut words);
-        Words { words }
+        Words { first: 0, words }
     }
 
     pub(crate) fn alloc(&self) -> Global {
@@ -103,7 +192,8 @@ impl Words {
     pub(crate) fn has(&self, number: u16) -> bool
         ensures { result ≡ set_of self.now number }
     {
-        word_at(&self.words, place_of(number)) & bit_of(number) != 0
+        let place = place_of(number);
+        place >= self.first && word_at(&self.words, place - self.first) & bit_of(number) != 0
     }
 
     /// Whether the set has no number. It takes no memory.
@@ -117,7 +207,7 @@ impl Words {
     pub(crate) fn is_part_of(&self, other: &Words) -> bool
         ensures { result ≡ is_within (set_of other.now) self.now }
     {
-        is_part(&self.words, &other.words)
+        is_part(self.first, &self.words, other.first, &other.words)
     }
 
     /// Whether the set has no number, or a single one that is in the other set. It takes no memory.
@@ -135,7 +225,7 @@ impl Words {
     pub(crate) fn is_below(&self, bound: usize) -> bool
         ensures { result ≡ is_below bound self.now }
     {
-        end_of(&self.words) <= bound
+        self.words.is_empty() || BITS * self.first + end_of(&self.words) <= bound
     }
 
     /// One more number is in the set. After want of memory nothing has changed.
@@ -144,8 +234,10 @@ impl Words {
         ensures last { OnOk result (IsBelow number (set_of self.old) → self.new ≡ self.old ++ number ∷ []) }
         ensures err { OnErr result (self.new ≡ self.old) }
     {
-        reach(&mut self.words, place_of(number) + 1)?;
-        set_bit(&mut self.words, number);
+        let place = place_of(number);
+        let first = start(self.first, &self.words, place);
+        self.first = reach(first, &mut self.words, place)?;
+        set_bit(&mut self.words, number - (BITS * self.first) as u16);
         Ok(())
     }
 
@@ -153,11 +245,11 @@ impl Words {
     pub(crate) fn keep_below(&mut self, bound: u16)
         ensures { self.new ≡ filter (λ p. nat_lt p bound) self.old }
     {
-        let place = place_of(bound);
-        if place < self.words.len() {
-            self.words.truncate(place + 1);
-            self.words[place] &= bit_of(bound) - 1;
-            trim(&mut self.words);
+        let start = BITS * self.first;
+        if usize::from(bound) <= start {
+            self.words.truncate(0);
+        } else {
+            cut(&mut self.words, bound - start as u16);
         }
     }
 
@@ -166,12 +258,19 @@ impl Words {
         ensures has { IfOk result (λ w. IsSame (set_of w) (union (set_of self.now) (set_of other.now))) }
         ensures ordered { IfOk result IsStrictlyIncreasing }
     {
-        let alloc = self.alloc();
-        if self.words.len() < other.words.len() {
-            united(alloc, &other.words, &self.words)
-        } else {
-            united(alloc, &self.words, &other.words)
+        if other.words.is_empty() {
+            return self.copy(self.alloc());
         }
+        if self.words.is_empty() {
+            return other.copy(self.alloc());
+        }
+        united(
+            self.alloc(),
+            self.first,
+            &self.words,
+            other.first,
+            &other.words,
+        )
     }
 
     /// The set, but for one number.
@@ -179,18 +278,23 @@ impl Words {
         ensures has { IfOk result (λ w. IsSame (set_of w) (without (set_of self.now) number)) }
         ensures ordered { IfOk result IsStrictlyIncreasing }
     {
+        let start = BITS * self.first;
         let mut words = SmallVec::from_slice(self.alloc(), &self.words)?;
-        clear(&mut words, number);
-        Ok(Words::of(words))
+        if usize::from(number) >= start {
+            clear(&mut words, number - start as u16);
+        }
+        tight(self.first, words)
     }
 
     /// The same set again. It takes no memory where the set has no number.
     pub(crate) fn copy(&self, alloc: Global) -> Result<Words, AllocError>
         ensures same { IfOk result (λ w. w ≡ self.now) }
+        ensures ordered { IfOk result IsStrictlyIncreasing }
         ensures none { self.now ≡ [] → IsOk result }
     {
+        let first = self.first;
         let words = SmallVec::from_slice(alloc, &self.words)?;
-        Ok(Words { words })
+        Ok(Words { first, words })
     }
 
     /// The numbers in order.
@@ -199,6 +303,6 @@ impl Words {
         ensures ordered { IsStrictlyIncreasing self.now }
         ensures few { length self.now ≤ 65_536 }
     {
-        Numbers::new(&self.words)
+        Numbers::new(self.first, &self.words)
     }
 }

@@ -1,12 +1,14 @@
-use Rattle.std.proofs.Common.{arith, Result, Ok, Err, OnOk}
-use Rattle.prop_premises.proofs.WordLemmas.{has_bit-grown}
+use Rattle.std.proofs.Common.{◌∙◌, ◌*◌, ◌-◌, ap, arith}
+use Rattle.prop_premises.specs.Sets.{set_of}
+use Rattle.prop_premises.specs.Words.{numbers_from}
+use Rattle.prop_premises.proofs.PlaceLemmas.{same_bits_from, led_from}
 use Rattle.prop_premises.proofs.words.reach.Goals as goal
 
-on_ok : {T E P Q : Type 0} (r : Result T E) → (P → Q) → OnOk r P → OnOk r Q
-on_ok (Ok x) f h = f h
-on_ok (Err e) f h = tt
+pub returns-then-first-number-clause-numbers : goal.returns-then-first-number-clause-numbers
+returns-then-first-number-clause-numbers c =
+    same_bits_from (64 * c.args.first) c.grow.new.words.items c.args.words.now.items c.in_ok-grow.ensures.bits
 
-pub returns-then-len-count-clause-bits : goal.returns-then-len-count-clause-bits
-returns-then-len-count-clause-bits c =
-    on_ok c.resize.result (λ h. has_bit-grown c.args.words.now.items c.resize.new.self.items c.args.count (omega
-    (arith, c.if-len-count.true, c.len.ensures.value)) h) c.resize.ensures.ok
+pub returns-clause-numbers : goal.returns-clause-numbers
+returns-clause-numbers c =
+    led_from c.args.number (c.args.first - c.args.number) c.args.first c.in_ok-words.field-0.items c.args.words.now.items (omega (arith, c.if-first-number.false))
+    (λ p. c.in_ok-words.ensures.bits p ∙ ap (λ ws. set_of (numbers_from (64 * (c.args.first - c.args.number)) ws) p) c.deref.ensures)

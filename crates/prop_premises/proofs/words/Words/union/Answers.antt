@@ -1,21 +1,22 @@
-use Rattle.std.proofs.Common.{◌∙◌, ◌||◌, ap}
-use Rattle.prop_premises.specs.Words.{has_bit}
-use Rattle.prop_premises.proofs.WordLemmas.{if_ok, set_of-both, set_of-both_swapped}
+use Rattle.std.proofs.Common.{◌≡◌, ◌∙◌, ◌*◌, ◌||◌, ◌==◌, ℕ, List, length, true, sym, ap, arith}
+use Rattle.std.proofs.lemmas.Bool.Decides.{nat_tests}
+use Rattle.prop_premises.specs.Sets.{set_of}
+use Rattle.prop_premises.proofs.PlaceLemmas.{or_none}
+use Rattle.prop_premises.proofs.WordLemmas.{if_ok, numbers_from-nothing}
 use Rattle.prop_premises.proofs.words.Words.union.Goals as goal
 
-pub returns-then-len-clause-has : goal.returns-then-len-clause-has
-returns-then-len-clause-has c =
-    let words = c.self.inside.words.items in
-    let others = c.other.inside.words.items in
-    rw (← c.self.view_is, ← c.other.view_is) (if_ok c.united.result (λ w h p. h p
-    ∙ ap (λ ws. has_bit ws p || has_bit c.deref-then-len.result.now p) c.deref.ensures ∙ ap (λ ws. has_bit others p || has_bit ws p) c.deref-then-len.ensures
-    ∙ set_of-both_swapped words others p) c.united.ensures.has)
+empty : (words : List ℕ) → (length words == 0) ≡ true → length words ≡ 0
+empty words h = grind (arith, nat_tests)
 
-pub returns-else-len-clause-has : goal.returns-else-len-clause-has
-returns-else-len-clause-has c =
+pub returns-then-is_empty-clause-has : goal.returns-then-is_empty-clause-has
+returns-then-is_empty-clause-has c =
+    let words = c.other.inside.words.items in
+    let none = sym c.other.view_is ∙ numbers_from-nothing (64 * c.other.inside.first) words (empty words (sym c.is_empty.ensures ∙ c.if-is_empty.true)) in
+    if_ok c.copy.result (λ w same p. ap (λ ns. set_of ns p) same ∙ sym (ap (λ ns. set_of c.args.self.now p || set_of ns p) none ∙ or_none (set_of c.args.self.now p))) c.copy.ensures.same
+
+pub returns-then-is_empty-2-clause-has : goal.returns-then-is_empty-2-clause-has
+returns-then-is_empty-2-clause-has c =
     let words = c.self.inside.words.items in
-    let others = c.other.inside.words.items in
-    rw (← c.self.view_is, ← c.other.view_is) (if_ok c.united-else-len.result (λ w h p. h p
-    ∙ ap (λ ws. has_bit ws p || has_bit c.deref-else-len-2.result.now p) c.deref-else-len.ensures
-    ∙ ap (λ ws. has_bit words p || has_bit ws p) c.deref-else-len-2.ensures
-    ∙ set_of-both words others p) c.united-else-len.ensures.has)
+    let none = sym c.self.view_is ∙ numbers_from-nothing (64 * c.self.inside.first) words (empty words (sym c.is_empty-2.ensures ∙ c.if-is_empty-2.true)) in
+    if_ok c.copy-then-is_empty-2.result (λ w same p. ap (λ ns. set_of ns p) same ∙ sym (ap (λ ns. set_of ns p || set_of c.args.other.now p) none))
+    c.copy-then-is_empty-2.ensures.same
