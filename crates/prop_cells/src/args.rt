@@ -11,7 +11,7 @@ pub(crate) const MOST_FEW: usize = 8;
 /// Informations in a row: few of them stand in the value itself, and more in a vector.
 #[derive(Drop)]
 pub(crate) struct Args {
-    few: [Info; 8],
+    few: [Info; MOST_FEW],
     count: usize,
     many: Vec<Info>,
 }
@@ -29,7 +29,7 @@ impl Model for Args {
 
 impl Args {
     /// The first so many of these.
-    pub(crate) fn of_few(alloc: Global, few: [Info; 8], count: usize) -> Args
+    pub(crate) fn of_few(alloc: Global, few: [Info; MOST_FEW], count: usize) -> Args
         requires { count ≤ 8 }
         ensures { result ≡ take count few }
     {
@@ -44,7 +44,7 @@ impl Args {
         ensures { result ≡ many.items }
     {
         Args {
-            few: [Info::Nothing; 8],
+            few: [Info::Nothing; MOST_FEW],
             count: 0,
             many,
         }

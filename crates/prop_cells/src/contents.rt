@@ -61,12 +61,12 @@ pub(crate) fn has_contradiction(infos: &[Info]) -> bool
 }
 
 /// What is believed of these cells, of which there are few, at the front of a row.
-fn gather_few(contents: &[Tms<Info>], cells: &[usize], worldview: &Worldview) -> [Info; 8]
+fn gather_few(contents: &[Tms<Info>], cells: &[usize], worldview: &Worldview) -> [Info; MOST_FEW]
     requires few { length cells.now ≤ 8 }
     requires cells { All (λ c. c < length contents.now) cells.now }
     ensures { take (length cells.now) result ≡ map (beliefs (set_of worldview.now) contents.now) cells.now }
 {
-    let mut args = [Info::Nothing; 8];
+    let mut args = [Info::Nothing; MOST_FEW];
     for (i, cell) in cells.iter().enumerate() {
         args[i] = belief_of(contents, *cell, worldview);
     }
