@@ -1,13 +1,14 @@
 //! The entries of cells, in one worldview.
-ghost use Rattle.std.specs.Prelude.{◌≡◌, ◌≢◌, ◌<◌, ◌≤◌, ◌⊎◌, ℕ, List, [], length, filter, not, map, All, Contains, IsTrue, IsOk, IfOk, IfSome, OnOk, OnErr, None};
+ghost use Rattle.std.specs.Prelude.{◌≡◌, ◌≢◌, ◌<◌, ◌≤◌, ◌⊎◌, ℕ, List, [], length, filter, not, map, take, All, Contains, IsTrue, IsOk, IfOk, IfSome, OnOk, OnErr, None};
 ghost use Rattle.std.specs.List.{list_any};
 ghost use Rattle.prop_lattice.specs.Order.{merge_of};
 ghost use Rattle.prop_tms.specs.Beliefs.{AreNeeded};
-ghost use Rattle.prop_premises.specs.Sets.{set_of, is_at_most_one_of};
+ghost use Rattle.prop_premises.specs.Sets.{set_of, union, is_within, is_at_most_one_of, IsSame};
 ghost use Rattle.prop_cells.specs.Problems.{is_contradiction};
 ghost use Rattle.prop_cells.specs.Data.{beliefs, support_of, IsSupport, IsLeanAt, AddsAt, TrimsAt, Entry, content_of};
 ghost use Rattle.prop_cells.specs.Sides.{StandsAt, entries_below};
 
+use crate::args::{Args, MOST_FEW};
 use prop_lattice::{Info, Partial};
 use prop_premises::{Premise, PremiseSet, Worldview};
 use prop_tms::{Supported, Tms};
@@ -59,8 +60,21 @@ pub(crate) fn has_contradiction(infos: &[Info]) -> bool
     )
 }
 
-/// What is believed of these cells.
-pub(crate) fn gather(
+/// What is believed of these cells, of which there are few, at the front of a row.
+fn gather_few(contents: &[Tms<Info>], cells: &[usize], worldview: &Worldview) -> [Info; MOST_FEW]
+    requires few { length cells.now ≤ 8 }
+    requires cells { All (λ c. c < length contents.now) cells.now }
+    ensures { take (length cells.now) result ≡ map (beliefs (set_of worldview.now) contents.now) cells.now }
+{
+    let mut args = [Info::Nothing; MOST_FEW];
+    for (i, cell) in cells.iter().enumerate() {
+        args[i] = belief_of(contents, *cell, worldview);
+    }
+    args
+}
+
+/// What is believed of these cells, in a vector.
+fn gather_many(
     alloc: Global,
     contents: &[Tms<Info>],
     cells: &[usize],
@@ -76,6 +90,39 @@ pub(crate) fn gather(
     Ok(args)
 }
 
+/// What is believed of these cells. Up to 8 of them take no memory.
+pub(crate) fn gather(
+    alloc: Global,
+    contents: &[Tms<Info>],
+    cells: &[usize],
+    worldview: &Worldview,
+) -> Result<Args, AllocError>
+    requires { All (λ c. c < length contents.now) cells.now }
+    ensures few { length cells.now ≤ 8 → IsOk result }
+    ensures args { IfOk result (λ v. v ≡ map (beliefs (set_of worldview.now) contents.now) cells.now) }
+{
+    if cells.len() <= MOST_FEW {
+        let few = gather_few(contents, cells, worldview);
+        return Ok(Args::of_few(alloc, few, cells.len()));
+    }
+    let many = gather_many(alloc, contents, cells, worldview)?;
+    Ok(Args::of_many(many))
+}
+
+/// The premises of both sets. Where one of them has all it takes no memory.
+fn united(a: PremiseSet, b: PremiseSet) -> Result<PremiseSet, AllocError>
+    ensures both { IfOk result (λ s. IsSame (set_of s) (union (set_of a) (set_of b))) }
+    ensures part { IsTrue (is_within (set_of a) b) ⊎ IsTrue (is_within (set_of b) a) → IsOk result }
+{
+    if b.is_subset(&a) {
+        Ok(a)
+    } else if a.is_subset(&b) {
+        Ok(b)
+    } else {
+        a.union(&b)
+    }
+}
+
 /// The premises of a lean support for each of these cells.
 pub(crate) fn supports(
     alloc: Global,
@@ -89,7 +136,7 @@ pub(crate) fn supports(
     let mut support = PremiseSet::empty(alloc);
     for c in cells {
         let entry = strongest_of(contents, *c, worldview)?;
-        support = support.union(&entry.support)?;
+        support = united(support, entry.support)?;
     }
     Ok(support)
 }
