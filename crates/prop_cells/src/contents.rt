@@ -1,5 +1,5 @@
 //! The entries of cells, in one worldview.
-ghost use Rattle.std.specs.Prelude.{◌≡◌, ◌≢◌, ◌<◌, ◌≤◌, ◌⊎◌, ℕ, List, [], length, filter, not, map, take, All, Contains, IsTrue, IsOk, IfOk, IfSome, OnOk, OnErr, None};
+ghost use Rattle.std.specs.Prelude.{◌≡◌, ◌≢◌, ◌<◌, ◌≤◌, ◌⊎◌, ℕ, List, [], length, filter, not, map, All, Contains, IsTrue, IsOk, IfOk, IfSome, OnOk, OnErr, None, false};
 ghost use Rattle.std.specs.List.{list_any};
 ghost use Rattle.prop_lattice.specs.Order.{merge_of};
 ghost use Rattle.prop_tms.specs.Beliefs.{AreNeeded};
@@ -8,10 +8,10 @@ ghost use Rattle.prop_cells.specs.Problems.{is_contradiction};
 ghost use Rattle.prop_cells.specs.Data.{beliefs, support_of, IsSupport, IsLeanAt, AddsAt, TrimsAt, Entry, content_of};
 ghost use Rattle.prop_cells.specs.Sides.{StandsAt, entries_below};
 
-use crate::args::{Args, MOST_FEW};
 use prop_lattice::{Info, Partial};
 use prop_premises::{Premise, PremiseSet, Worldview};
 use prop_tms::{Supported, Tms};
+use smallvec::SmallVec;
 use std::alloc::{AllocError, Global};
 
 /// What is believed of a cell.
@@ -20,6 +20,20 @@ pub(crate) fn belief_of(contents: &[Tms<Info>], cell: usize, worldview: &Worldvi
     ensures { result ≡ beliefs (set_of worldview.now) contents.now cell }
 {
     contents[cell].believed_value(worldview)
+}
+
+/// Whether what is believed of a cell differs between two worldviews. It takes no memory.
+pub(crate) fn is_shifted(
+    contents: &[Tms<Info>],
+    cell: usize,
+    before: &Worldview,
+    after: &Worldview,
+) -> bool
+    requires { cell < length contents.now }
+    ensures shifted { IsTrue result → beliefs (set_of before.now) contents.now cell ≢ beliefs (set_of after.now) contents.now cell }
+    ensures stays { result ≡ false → beliefs (set_of before.now) contents.now cell ≡ beliefs (set_of after.now) contents.now cell }
+{
+    contents[cell].shifted(before, after)
 }
 
 /// What is believed of a cell, with a lean support.
@@ -60,53 +74,21 @@ pub(crate) fn has_contradiction(infos: &[Info]) -> bool
     )
 }
 
-/// What is believed of these cells, of which there are few, at the front of a row.
-fn gather_few(contents: &[Tms<Info>], cells: &[usize], worldview: &Worldview) -> [Info; MOST_FEW]
-    requires few { length cells.now ≤ 8 }
-    requires cells { All (λ c. c < length contents.now) cells.now }
-    ensures { take (length cells.now) result ≡ map (beliefs (set_of worldview.now) contents.now) cells.now }
-{
-    let mut args = [Info::Nothing; MOST_FEW];
-    for (i, cell) in cells.iter().enumerate() {
-        args[i] = belief_of(contents, *cell, worldview);
-    }
-    args
-}
-
-/// What is believed of these cells, in a vector.
-fn gather_many(
-    alloc: Global,
-    contents: &[Tms<Info>],
-    cells: &[usize],
-    worldview: &Worldview,
-) -> Result<Vec<Info>, AllocError>
-    requires { All (λ c. c < length contents.now) cells.now }
-    ensures { IfOk result (λ v. v.items ≡ map (beliefs (set_of worldview.now) contents.now) cells.now) }
-{
-    let mut args = Vec::new(alloc);
-    for c in cells {
-        args.push(belief_of(contents, *c, worldview))?;
-    }
-    Ok(args)
-}
-
-/// What is believed of these cells. Up to 8 of them take no memory.
+/// What is believed of these cells. Up to 4 of them take no memory.
 pub(crate) fn gather(
     alloc: Global,
     contents: &[Tms<Info>],
     cells: &[usize],
     worldview: &Worldview,
-) -> Result<Args, AllocError>
+) -> Result<SmallVec<Info, 4>, AllocError>
     requires { All (λ c. c < length contents.now) cells.now }
-    ensures few { length cells.now ≤ 8 → IsOk result }
-    ensures args { IfOk result (λ v. v ≡ map (beliefs (set_of worldview.now) contents.now) cells.now) }
+    ensures { IfOk result (λ v. v.items ≡ map (beliefs (set_of worldview.now) contents.now) cells.now) }
 {
-    if cells.len() <= MOST_FEW {
-        let few = gather_few(contents, cells, worldview);
-        return Ok(Args::of_few(alloc, few, cells.len()));
+    let mut args = SmallVec::new(alloc);
+    for c in cells {
+        args.push(belief_of(contents, *c, worldview))?;
     }
-    let many = gather_many(alloc, contents, cells, worldview)?;
-    Ok(Args::of_many(many))
+    Ok(args)
 }
 
 /// The premises of both sets. Where one of them has all it takes no memory.
