@@ -7,6 +7,7 @@ ghost use Rattle.prop_premises.specs.Words.{has_bit, numbers_from, HasFrom, IsTr
 pub(crate) const BITS: usize = 64;
 
 /// The place of the word that has the number's bit.
+#[inline]
 pub(crate) fn place_of(number: u16) -> usize
     ensures { result ≡ number / 64 }
 {
@@ -14,6 +15,7 @@ pub(crate) fn place_of(number: u16) -> usize
 }
 
 /// The word with the number's bit alone.
+#[inline]
 pub(crate) fn bit_of(number: u16) -> u64
     ensures { result ≡ 2 ^ (number % 64) }
 {
@@ -21,6 +23,7 @@ pub(crate) fn bit_of(number: u16) -> u64
 }
 
 /// The word at a place, one without bits past the last.
+#[inline]
 pub(crate) fn word_at(words: &[u64], place: usize) -> u64
     ensures { result ≡ slice_index words.now place }
 {
@@ -84,6 +87,7 @@ pub(crate) fn unite(words: &mut [u64], at: usize, more: &[u64])
 }
 
 /// The word with a number, where the first of the words has this one.
+#[inline]
 fn word_from(first: usize, words: &[u64], number: usize) -> u64
     ensures before { number < first → result ≡ 0 }
     ensures from { first ≤ number → result ≡ slice_index words.now (number - first) }
@@ -96,6 +100,7 @@ fn word_from(first: usize, words: &[u64], number: usize) -> u64
 }
 
 /// Whether each number of the words is one of the others, where their first words have these numbers.
+#[inline]
 pub(crate) fn is_part(first: usize, words: &[u64], others_first: usize, others: &[u64]) -> bool
     requires { first + length words.now ≤ 1_024 }
     ensures part { result ≡ true → (p : ℕ) → IsTrue (set_of (numbers_from (64 * first) words.now) p) → IsTrue (set_of (numbers_from (64 * others_first) others.now) p) }

@@ -69,6 +69,7 @@ impl PremiseSet {
     }
 
     /// Whether each premise of this set is in the other. It takes no memory.
+    #[inline]
     pub fn is_subset(&self, other: &PremiseSet) -> bool
         ensures { result ≡ is_within (set_of other.now) self.now }
     {
@@ -90,6 +91,7 @@ impl PremiseSet {
     }
 
     /// Whether the premise is in the set. It takes no memory.
+    #[inline]
     pub fn contains(&self, premise: Premise) -> bool
         ensures { result ≡ set_of self.now premise }
     {
@@ -110,6 +112,7 @@ impl PremiseSet {
     }
 
     /// Whether the set has no premise. It takes no memory.
+    #[inline]
     pub fn is_empty(&self) -> bool
         ensures { IsTrue result ↔ (self.now ≡ []) }
     {

@@ -189,6 +189,7 @@ impl Words {
     }
 
     /// Whether the number is in the set. It takes no memory.
+    #[inline]
     pub(crate) fn has(&self, number: u16) -> bool
         ensures { result ≡ set_of self.now number }
     {
@@ -197,6 +198,7 @@ impl Words {
     }
 
     /// Whether the set has no number. It takes no memory.
+    #[inline]
     pub(crate) fn is_empty(&self) -> bool
         ensures { IsTrue result ↔ (self.now ≡ []) }
     {
@@ -204,6 +206,7 @@ impl Words {
     }
 
     /// Whether each number of the set is in the other. It takes no memory.
+    #[inline]
     pub(crate) fn is_part_of(&self, other: &Words) -> bool
         ensures { result ≡ is_within (set_of other.now) self.now }
     {

@@ -62,6 +62,7 @@ impl Worldview {
     }
 
     /// Whether the premise is believed. It takes no memory.
+    #[inline]
     pub fn has(&self, premise: Premise) -> bool
         ensures { result ≡ set_of self.now premise }
     {
@@ -69,6 +70,7 @@ impl Worldview {
     }
 
     /// Whether each premise of the set is believed. It takes no memory.
+    #[inline]
     pub fn believes(&self, premises: &PremiseSet) -> bool
         ensures { result ≡ is_within (set_of self.now) premises.now }
     {

@@ -1,5 +1,6 @@
 -- Values, each once, with the supports that say so.
-use Rattle.std.specs.Prelude.{◌≡◌, ◌≢◌, ℕ, ◌+◌, ◌^◌, ◌<◌, ◌≤◌, List, [], ◌∷◌, ◌++◌, length, map, take, All, AllPairs, vec_capacity, vec_len}
+use Rattle.std.specs.Prelude.{◌≡◌, ◌≢◌, ℕ, ◌+◌, ◌^◌, ◌<◌, ◌≤◌, Bool, not, ◌&&◌, ◌||◌, List, [], ◌∷◌, ◌++◌, length, map, take, All, AllPairs, vec_capacity, vec_len}
+use Rattle.prop_premises.specs.Sets.{Members, is_within}
 use Rattle.prop_tms.specs.Beliefs.{NoneSubsumed, NoneAlike}
 use Rattle.prop_tms.specs.declared.supported.Supported.{Supported}
 use Rattle.prop_tms.specs.declared.values.Valued.{Valued}
@@ -39,3 +40,7 @@ place_of xs at place = length (entries_of (take at xs)) + place
 -- there is room for as many supports as before
 abbrev pub HasRoomOf : {V : Type 0} → Valued V → Valued V → Type 0
 HasRoomOf new old = (vec_capacity new.supports ≡ vec_capacity old.supports) × (vec_len new.supports ≤ vec_len old.supports)
+
+-- whether these premises are all in just one of two sets
+abbrev pub is_in_one : Members → Members → List ℕ → Bool
+is_in_one w z s = (is_within w s && not (is_within z s)) || (is_within z s && not (is_within w s))
