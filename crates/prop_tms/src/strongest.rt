@@ -1,5 +1,5 @@
 //! What the believed entries say together, and few premises that are enough for it.
-ghost use Rattle.std.specs.Prelude.{◌≡◌, ◌≤◌, [], length, All, Contains, IsTrue, IsOk, IfOk, IfSome, IsSomeAnd};
+ghost use Rattle.std.specs.Prelude.{◌≡◌, ◌≢◌, ◌≤◌, [], ◌∷◌, length, All, Contains, IsTrue, IsOk, IfOk, IfSome, IsSomeAnd};
 ghost use Rattle.std.specs.List.{list_any};
 ghost use Rattle.prop_premises.specs.Sets.{Members, set_of, is_within};
 ghost use Rattle.prop_tms.specs.Beliefs.{belief_of, merge_of_all, IsLean, IsShort};
@@ -81,9 +81,28 @@ fn thinned<V: Partial>(
     Ok(support)
 }
 
+/// The entry, where there is no other, it is believed and it says something.
+fn sole<'a, V: Partial>(values: &'a [Valued<V>], worldview: &Worldview) -> Option<Entry<'a, V>>
+    ensures only { IfSome result (λ e. entries_of values.now ≡ entry_of e ∷ []) }
+    ensures believed { IfSome result (λ e. IsTrue (is_within (set_of worldview.now) e.support.now)) }
+    ensures says { IfSome result (λ e. e.value ≢ V.bottom) }
+{
+    let [valued] = values else {
+        return None;
+    };
+    let [support] = &valued.supports[..] else {
+        return None;
+    };
+    let value = valued.value;
+    if V::nothing().implies(value) || !worldview.believes(support) {
+        return None;
+    }
+    Some(Entry { value, support })
+}
+
 /// What the believed entries say together, with the support of entries of which none can be left out. Entries of few premises come
 /// first, and no believed entry that says as much alone has fewer premises.
-pub(crate) fn strongest<V: Partial>(
+fn strongest_of_many<V: Partial>(
     alloc: Global,
     values: &[Valued<V>],
     worldview: &Worldview,
@@ -103,4 +122,26 @@ pub(crate) fn strongest<V: Partial>(
         _ => together,
     };
     Ok(Supported { value, support })
+}
+
+/// What the believed entries say together, with the support of entries of which none can be left out. No believed entry that says as
+/// much alone has fewer premises. Where one entry is all that there is, only its support is copied.
+pub(crate) fn strongest<V: Partial>(
+    alloc: Global,
+    values: &[Valued<V>],
+    worldview: &Worldview,
+) -> Result<Supported<V>, AllocError>
+    ensures nothing { belief_of V.bottom V.join (set_of worldview.now) (entries_of values.now) ≡ V.bottom → IsOk result }
+    ensures value { IfOk result (λ e. e.value ≡ belief_of V.bottom V.join (set_of worldview.now) (entries_of values.now)) }
+    ensures lean { IfOk result (λ e. IsLean V.bottom V.join (entries_of values.now) (set_of worldview.now) e.value e.support) }
+    ensures short { IfOk result (λ e. IsShort (entries_of values.now) (set_of worldview.now) e.value e.support) }
+{
+    match sole(values, worldview) {
+        Some(entry) => {
+            let value = entry.value;
+            let support = entry.support.copy()?;
+            Ok(Supported { value, support })
+        }
+        None => strongest_of_many(alloc, values, worldview),
+    }
 }
