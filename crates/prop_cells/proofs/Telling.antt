@@ -1,10 +1,9 @@
 -- The premises under which something was told of each cell.
-use Rattle.std.proofs.Common.{◌≡◌, ◌≢◌, ◌∙◌, ℕ, ◌<◌, ◌≤◌, ◌==◌, ◌&&◌, ◌||◌, Bool, true, false, IsTrue, Contains, List, [], ◌∷◌, ◌++◌, length, take, get_or, slice_index_or, slice_set, refl, sym, ap, arith, inl, inr, Option, Some, None, All}
+use Rattle.std.proofs.Common.{◌≡◌, ◌≢◌, ◌∙◌, ℕ, ◌<◌, ◌==◌, ◌&&◌, ◌||◌, Bool, true, false, IsTrue, Contains, List, [], ◌∷◌, ◌++◌, length, take, get_or, slice_index_or, slice_set, refl, sym, ap, arith, inl, inr, Option, Some, None, All}
 use Rattle.std.proofs.lemmas.Bool.{eqb-true}
 use Rattle.std.proofs.lemmas.Bool.Decides.{eqb_tells}
 use Rattle.std.proofs.lemmas.List.{get_or_default, get_or-set_other, get_or-set_same, get_or-take, length-append, length-set, length-take}
 use Rattle.std.proofs.lemmas.List.Elements.{All-weaker, All-push, All-contains, All-contains_itself, All-take}
-use Rattle.prop_lattice.specs.declared.info.Info.{Info}
 use Rattle.prop_lattice.specs.declared.info.Info.TheVariants.{Nothing}
 use Rattle.prop_lattice.specs.Order.{Below, merge_of}
 use Rattle.prop_lattice.specs.OrderLaws.{info_laws}
