@@ -1,7 +1,7 @@
 -- One list after the other: an attempt on the way, a move to a later list, and the end.
 use Rattle.std.proofs.Common.{◌≡◌, ◌∙◌, ℕ, ◌+◌, ◌-◌, ◌*◌, ◌<◌, ◌≤◌, ◌⊎◌, List, length, refl, sym, ap, subst, inl, inr, arith}
-use Rattle.std.proofs.Math.Nat.{mul-le-mul_right, add-mul}
-use Rattle.prop_premises.specs.Sets.{set_of}
+use Rattle.std.proofs.Math.Nat.{mul-le-mul_right, mul-le-mul_left, add-mul}
+use Rattle.prop_premises.specs.Sets.{Members, set_of}
 use Rattle.prop_premises.specs.declared.choice.Choice.{Choice}
 use Rattle.prop_premises.specs.Origins.{Origin, believed_in, choices_of}
 use Rattle.prop_premises.specs.ChoiceLists.{IsChoiceList, worldview, place_of, lists_count}
@@ -13,8 +13,9 @@ use Rattle.prop_scheduler.specs.Potential.{potential, most_steps}
 use Rattle.prop_amb.specs.Refuted.{IsListRefuted, IsFirstConsistent, IsRuledOut}
 use Rattle.prop_amb.specs.Search.{Stand, IsStand, IsSearch, users_of, choices_in, Moves}
 use Rattle.prop_amb.specs.Settling.{IfContradiction, IsHeld}
-use Rattle.prop_amb.specs.Going.{Goes, IsMove}
-use Rattle.prop_amb.specs.Going.Goes.{none, moved}
+use Rattle.prop_amb.specs.Going.{Goes, Passes, IsMove}
+use Rattle.prop_amb.specs.Going.Passes.{none, next as one_more}
+use Rattle.prop_amb.specs.Going.Goes.{none as not_gone, moved}
 use Rattle.prop_amb.specs.declared.outcome.Outcome.{Outcome}
 use Rattle.prop_amb.specs.declared.settling.Tried.{Tried}
 use Rattle.prop_amb.specs.declared.settling.Tried.TheVariants.{Quiet, Spent}
@@ -40,10 +41,20 @@ one_list_more further most steps few =
     let e = add-mul (further + 1) 1 (most + 1) in
     omega (arith, e, few)
 
-moved_few : (further more most steps : ℕ) → steps < (further + 1) * (most + 1) → further < more → steps + 1 ≤ more * (most + 1)
-moved_few further more most steps few lt =
-    let le = mul-le-mul_right {m = further + 1} {n = more} (most + 1) (omega (arith, lt)) in
-    omega (arith, few, le)
+moved_few : (further more most steps moves : ℕ) → steps < (further + 1) * (most + 1) → 1 ≤ moves → further + moves ≤ more → steps + moves ≤ more * (most + 1)
+moved_few further more most steps moves few some le =
+    let all = mul-le-mul_right {m = (further + 1) + (moves - 1)} {n = more} (most + 1) (omega (arith, le, some)) in
+    let parts = add-mul (further + 1) (moves - 1) (most + 1) in
+    let rest = mul-le-mul_left {m = 1} {n = most + 1} (moves - 1) (omega arith) in
+    omega (arith, few, all, parts, rest, some)
+
+-- moves go on in the order of the lists
+pub passed_place : {problem : Problem} {believed : Members} (choices : List Choice) (old new : List ℕ) (n : ℕ) → IsChoiceList choices old → Passes problem believed choices old n new → (IsChoiceList choices new) × (place_of choices old + n ≤ place_of choices new)
+passed_place choices old _ _ is_list none = (is_list, omega arith)
+passed_place choices old _ _ is_list (one_more n list later rest refuted after later_is) =
+    let before = passed_place choices old list n is_list rest in
+    let less = earlier_place choices list later before.0 later_is after in
+    (later_is, omega (arith, before.1, less))
 
 -- cells whose contents alone differ pose one problem
 pub same_in : (library : List Stored) (start d : Data) → d ≡ record start { contents = d.contents } → problem_of library d ≡ problem_of library start
@@ -101,7 +112,7 @@ module _ {O : Type 0} (picks : O → ℕ → ℕ → O → Type 0) (library : Li
     stand = stand;
     rest = refl;
     under_way = under_way;
-    gone = none;
+    gone = not_gone;
     further = 0;
     place = omega arith;
     few = omega arith;
@@ -170,12 +181,12 @@ module _ {O : Type 0} (picks : O → ℕ → ℕ → O → Type 0) (library : Li
   in_old : (s : Stand) → s.premises ≡ old.premises → IsStand s → IsChoiceList choices s.list
   in_old s same stand = subst (λ (o : List Origin). IsChoiceList (choices_of o) s.list) same stand.is_list
 
-  pub after_move : (s : Stand) (d : Data) (waiting : List ℕ) (order : O) (steps budget : ℕ) (tried : Tried) (new : Stand) (after : List ℕ) → OnTry picks library old start line first s d waiting order steps budget tried →
+  pub after_move : (s : Stand) (d : Data) (waiting : List ℕ) (order : O) (steps budget : ℕ) (tried : Tried) (new : Stand) (after : List ℕ) (moves : ℕ) → OnTry picks library old start line first s d waiting order steps budget tried →
       (tried ≡ Quiet → ⊥) → new.premises ≡ s.premises → new.listed ≡ s.listed → IsSearch (problem_of library d) new → IsStand new → IsUnderWay library (set_of new.worldview) d after →
-      IsMove library (users_of s) (choices_in s) d s.list new.list waiting after → OnWay picks library old start line first new d after order (steps + 1)
-  after_move s d waiting order steps budget tried new after t restless same_premises same_listed learned stand under_way move =
-      let move_old : IsMove library (users_of old) choices d s.list new.list waiting after = subst (λ (o : List Origin). IsMove library (believed_in o) (choices_of o) d s.list new.list waiting after) t.premises move in
-      let less : place_of choices s.list < place_of choices new.list = earlier_place choices s.list new.list (in_old s t.premises t.stand) move_old.is_list move_old.later in
+      1 ≤ moves → IsMove library (users_of s) (choices_in s) d moves s.list new.list waiting after → OnWay picks library old start line first new d after order (steps + moves)
+  after_move s d waiting order steps budget tried new after moves t restless same_premises same_listed learned stand under_way some move =
+      let move_old : IsMove library (users_of old) choices d moves s.list new.list waiting after = subst (λ (o : List Origin). IsMove library (believed_in o) (choices_of o) d moves s.list new.list waiting after) t.premises move in
+      let less : place_of choices s.list + moves ≤ place_of choices new.list = (passed_place choices s.list new.list moves (in_old s t.premises t.stand) move_old.passes).1 in
       record {
         premises = same_premises ∙ t.premises;
         listed = λ m x. rw same_listed (t.listed m x);
@@ -183,11 +194,11 @@ module _ {O : Type 0} (picks : O → ℕ → ℕ → O → Type 0) (library : Li
         stand = stand;
         rest = t.rest;
         under_way = under_way;
-        gone = moved steps s.list new.list d waiting after order t.gone move_old;
+        gone = moved steps moves s.list new.list d waiting after order t.gone move_old;
         further = place_of choices new.list - place_of choices old.list;
         place = omega (arith, t.place, less);
-        few = moved_few t.further (place_of choices new.list - place_of choices old.list) (most_steps problem) steps t.few (omega (arith, t.place, less));
-        since = inr (omega (arith, t.place, less), λ r. restless (t.at_rest r).0);
+        few = moved_few t.further (place_of choices new.list - place_of choices old.list) (most_steps problem) steps moves t.few some (omega (arith, t.place, less));
+        since = inr (omega (arith, t.place, less, some), λ r. restless (t.at_rest r).0);
       }
 
   -- ---- the end

@@ -10,7 +10,8 @@ ghost use Rattle.prop_scheduler.specs.Watching.{IsWatched};
 ghost use Rattle.prop_nogoods.specs.Stores.{has_part};
 ghost use Rattle.prop_amb.specs.Refuted.{IsListRefuted, AllBeforeRefuted, IsFirstConsistent, IsRuledOut};
 ghost use Rattle.prop_amb.specs.Search.{users_of, choices_in, IsStand, IsSearch, AllBeforeBlocked, Moves};
-ghost use Rattle.prop_amb.specs.Going.{IsMove, Goes};
+ghost use Rattle.prop_amb.specs.Going.{Passes, IsMove, Goes};
+ghost use Rattle.prop_cells.specs.Problems.{Problem};
 ghost use Rattle.prop_amb.specs.Settling.{IfContradiction, IfRefuted, IsMet, IsHeld};
 
 use crate::outcome::Outcome;
@@ -89,15 +90,59 @@ fn attempt<R: Rule + Drop, O: Order>(
     }
 }
 
-/// What follows where a list was tried: an end, or the choices go on to a later list, and of the cells that this shifts the readers and writers wait.
-/// Where one more step is not allowed, that is an end too.
+/// The choices go on to a later list, where a noted nogood is believed and a choice may leave its side. Answers whether they did. After want of
+/// memory nothing has changed.
+fn go_on(search: &mut Search) -> Result<bool, AllocError>
+    ensures premises { search.new.premises ≡ search.old.premises }
+    ensures listed { search.new.listed ≡ search.old.listed }
+    ensures stand { IsStand search.new }
+    ensures search { (problem : Problem) → IsSearch problem search.old → IsSearch problem search.new }
+    ensures stays { result ≡ Ok false → search.new ≡ search.old }
+    ensures moves { result ≡ Ok true → (problem : Problem) → IsSearch problem search.old → Passes problem (users_of search.old) (choices_in search.old) search.old.list 1 search.new.list }
+{
+    search.well_made();
+    let Some(blocking) = search.blocked() else {
+        return Ok(false);
+    };
+    let believed = blocking.copy()?;
+    match search.resolve(believed)? {
+        Resolved::RuledOut(_) => Ok(false),
+        Resolved::Against(place, reason) => {
+            drop(search.advance(place, reason)?);
+            search.well_made();
+            Ok(true)
+        }
+    }
+}
+
+/// The choices go on as long as noted nogoods show that they have to, by so many moves at the most. Answers by how many. After want of memory the
+/// moves that were made stay.
+fn pass(search: &mut Search, most: u64) -> Result<u64, AllocError>
+    ensures premises { search.new.premises ≡ search.old.premises }
+    ensures listed { search.new.listed ≡ search.old.listed }
+    ensures stand { IsStand search.new }
+    ensures search { (problem : Problem) → IsSearch problem search.old → IsSearch problem search.new }
+    ensures few { IfOk result (λ n. n ≤ most) }
+    ensures moves { IfOk result (λ n. (problem : Problem) → IsSearch problem search.old → Passes problem (users_of search.old) (choices_in search.old) search.old.list n search.new.list) }
+{
+    search.well_made();
+    let mut moves = 0;
+    while moves < most && go_on(search)? {
+        moves += 1;
+    }
+    Ok(moves)
+}
+
+/// What follows where a list was tried: an end, or the choices go on to a later list, with which no noted nogood is believed if so many moves allow it,
+/// and of the cells that this shifts the readers and writers wait. Answers the end, if it is one, and how many moves were made, one at least where it is none.
+/// Where no move is allowed, that is an end too.
 fn decide<R: Rule + Drop>(
     search: &mut Search,
     network: &Network<R>,
     agenda: &mut Agenda,
     tried: Tried,
-    may_move: bool,
-) -> Result<Option<Outcome>, AllocError>
+    most: u64,
+) -> Result<(Option<Outcome>, u64), AllocError>
     requires room { length network.now.cells.instances ≤ agenda.old.room }
     requires watched { IsWatched (set_of search.old.worldview) network.now.cells agenda.old.watched }
     requires cells { length network.now.cells.kinds ≤ agenda.old.cells }
@@ -112,30 +157,34 @@ fn decide<R: Rule + Drop>(
     ensures room { agenda.new.room ≡ agenda.old.room }
     ensures watched { IsWatched (set_of search.new.worldview) network.now.cells agenda.new.watched }
     ensures cells { agenda.new.cells ≡ agenda.old.cells }
-    ensures same { IfOk result (λ o. IfSome o (λ end. search.new ≡ search.old)) }
-    ensures same_line { IfOk result (λ o. IfSome o (λ end. agenda.new.line ≡ agenda.old.line)) }
-    ensures quiet { tried ≡ Tried.Quiet → result ≡ Ok (Some Outcome.Settled) }
-    ensures settled { IfOk result (λ o. o ≡ Some Outcome.Settled → tried ≡ Tried.Quiet) }
-    ensures contradiction { IfOk result (λ o. IfSome o (λ end. IfContradiction end (λ n. IsRuledOut (problem_of (stored_of R.value_of network.now.library) network.now.cells) (users_of search.old) (choices_in search.old) search.old.listed (set_of n)))) }
-    ensures unsettled { IfOk result (λ o. o ≡ Some Outcome.Unsettled → (tried ≡ Tried.Spent) ⊎ ((may_move ≡ false) × IsHeld (problem_of (stored_of R.value_of network.now.library) network.now.cells) search.old)) }
-    ensures moves { IfOk result (λ o. o ≡ None → (may_move ≡ true) × IsMove (stored_of R.value_of network.now.library) (users_of search.old) (choices_in search.old) network.now.cells search.old.list search.new.list agenda.old.line agenda.new.line) }
+    ensures same { IfOk result (λ r. IfSome r.0 (λ end. search.new ≡ search.old)) }
+    ensures same_line { IfOk result (λ r. IfSome r.0 (λ end. agenda.new.line ≡ agenda.old.line)) }
+    ensures quiet { tried ≡ Tried.Quiet → result ≡ Ok (Some Outcome.Settled, 0) }
+    ensures settled { IfOk result (λ r. r.0 ≡ Some Outcome.Settled → tried ≡ Tried.Quiet) }
+    ensures contradiction { IfOk result (λ r. IfSome r.0 (λ end. IfContradiction end (λ n. IsRuledOut (problem_of (stored_of R.value_of network.now.library) network.now.cells) (users_of search.old) (choices_in search.old) search.old.listed (set_of n)))) }
+    ensures unsettled { IfOk result (λ r. r.0 ≡ Some Outcome.Unsettled → (tried ≡ Tried.Spent) ⊎ ((most ≡ 0) × IsHeld (problem_of (stored_of R.value_of network.now.library) network.now.cells) search.old)) }
+    ensures some { IfOk result (λ r. r.0 ≡ None → 1 ≤ r.1) }
+    ensures few { IfOk result (λ r. r.1 ≤ most) }
+    ensures moves { IfOk result (λ r. r.0 ≡ None → IsMove (stored_of R.value_of network.now.library) (users_of search.old) (choices_in search.old) network.now.cells r.1 search.old.list search.new.list agenda.old.line agenda.new.line) }
 {
     search.well_made();
     let nogood = match tried {
-        Tried::Quiet => return Ok(Some(Outcome::Settled)),
-        Tried::Spent => return Ok(Some(Outcome::Unsettled)),
+        Tried::Quiet => return Ok((Some(Outcome::Settled), 0)),
+        Tried::Spent => return Ok((Some(Outcome::Unsettled), 0)),
         Tried::Refuted(nogood) => nogood,
     };
     match search.resolve(nogood)? {
-        Resolved::RuledOut(premises) => Ok(Some(Outcome::Contradiction(premises))),
+        Resolved::RuledOut(premises) => Ok((Some(Outcome::Contradiction(premises)), 0)),
         Resolved::Against(place, reason) => {
-            if !may_move {
-                return Ok(Some(Outcome::Unsettled));
+            if most == 0 {
+                return Ok((Some(Outcome::Unsettled), 0));
             }
             let before = search.advance(place, reason)?;
             search.well_made();
+            let passed = pass(search, most - 1);
             alert_shifted(network, agenda, &before, search.worldview());
-            Ok(None)
+            drop(before);
+            Ok((None, passed? + 1))
         }
     }
 }
@@ -187,9 +236,10 @@ pub fn settle<R: Rule + Drop, O: Order>(
     loop {
         let (tried, calls) = attempt(alloc, search, network, agenda, order, budget - steps)?;
         steps += calls;
-        match decide(search, network, agenda, tried, steps < budget)? {
+        let (end, moves) = decide(search, network, agenda, tried, budget - steps)?;
+        match end {
             Some(outcome) => return Ok((outcome, steps)),
-            None => steps += 1,
+            None => steps += moves,
         }
     }
 }

@@ -1,43 +1,57 @@
-use Rattle.std.proofs.Common.{inr, length}
+use Rattle.std.proofs.Common.{◌≡◌, ◌∙◌, ◌+◌, inr, length, subst, arith}
 use Rattle.prop_scheduler.specs.Shifts.{AreShifted}
 use Rattle.prop_procedures.specs.Kept.{stored_of}
 use Rattle.prop_cells.specs.Data.{problem_of}
-use Rattle.prop_amb.specs.Settling.{IsMet}
-use Rattle.prop_amb.specs.Resolving.{IsReason}
 use Rattle.prop_premises.specs.Sets.{set_of}
-use Rattle.prop_amb.proofs.DecidingLaws.{held, goes_later}
+use Rattle.prop_amb.specs.Going.{Passes}
+use Rattle.prop_amb.specs.Resolving.{IsReason}
+use Rattle.prop_amb.specs.Search.{users_of, choices_in}
+use Rattle.prop_amb.specs.Settling.{IsMet}
+use Rattle.prop_amb.proofs.DecidingLaws.{held, goes_later, passes_on, passes_in, are_moved}
 use Rattle.prop_amb.proofs.settling.decide.Goals as goal
 
-pub returns-then-not-may_move-clause-unsettled : goal.returns-then-not-may_move-clause-unsettled
-returns-then-not-may_move-clause-unsettled g c =
+pub returns-then-most-eq0-clause-unsettled : goal.returns-then-most-eq0-clause-unsettled
+returns-then-most-eq0-clause-unsettled g c =
     let met = rw c.in-Refuted.is at c.requires.met in
     let may = rw c.in-Against.is at c.in_ok-premises.ensures.may in
-    λ e. inr (c.if-not-may_move.true, held (problem_of (stored_of g.R.Rule.value_of c.args.network.now.library) c.args.network.now.cells) c.args.search.now c.in-Refuted.nogood c.in-Against.place c.well_made.ensures met may)
+    λ e. inr (c.if-most-eq0.true, held (problem_of (stored_of g.R.Rule.value_of c.args.network.now.library) c.args.network.now.cells) c.args.search.now c.in-Refuted.nogood c.in-Against.place c.well_made.ensures met may)
 
-pub returns-in_ok-before-in-Against-clause-search : goal.returns-in_ok-before-in-Against-clause-search
-returns-in_ok-before-in-Against-clause-search g c =
+pub returns-in_err-passed-in-Against-clause-search : goal.returns-in_err-passed-in-Against-clause-search
+returns-in_err-passed-in-Against-clause-search g c =
     let problem = problem_of (stored_of g.R.Rule.value_of c.args.network.now.library) c.args.network.now.cells in
     let met : IsMet problem c.args.search.now c.in-Refuted.nogood = rw c.in-Refuted.is at c.requires.met in
     let reason : IsReason problem c.args.search.now c.in-Against.place (set_of c.in-Against.reason) =
     rw c.in-Against.is at (c.in_ok-premises.ensures.resolved problem c.requires.search met.nogood met.noted) in
-    c.advance.ensures.search problem reason c.requires.search
+    c.pass-passed.ensures.search problem (c.advance.ensures.search problem reason c.requires.search)
 
-pub alert_shifted-requires-clause-under_way : goal.alert_shifted-requires-clause-under_way
-alert_shifted-requires-clause-under_way g c = rw c.in_ok-before-in-Against.ensures.before c.requires.under_way
+pub returns-in_ok-passed-in-Against-clause-search : goal.returns-in_ok-passed-in-Against-clause-search
+returns-in_ok-passed-in-Against-clause-search g c =
+    let problem = problem_of (stored_of g.R.Rule.value_of c.args.network.now.library) c.args.network.now.cells in
+    let met : IsMet problem c.args.search.now c.in-Refuted.nogood = rw c.in-Refuted.is at c.requires.met in
+    let reason : IsReason problem c.args.search.now c.in-Against.place (set_of c.in-Against.reason) =
+    rw c.in-Against.is at (c.in_ok-premises.ensures.resolved problem c.requires.search met.nogood met.noted) in
+    c.pass-passed.ensures.search problem (c.advance.ensures.search problem reason c.requires.search)
 
-pub returns-in_ok-before-in-Against-clause-under_way : goal.returns-in_ok-before-in-Against-clause-under_way
-returns-in_ok-before-in-Against-clause-under_way g c = rw c.worldview.ensures at c.alert_shifted.ensures.under_way
-
-pub returns-in_ok-before-in-Against-clause-moves : goal.returns-in_ok-before-in-Against-clause-moves
-returns-in_ok-before-in-Against-clause-moves g c =
+pub returns-in_ok-passed-in-Against-clause-moves : goal.returns-in_ok-passed-in-Against-clause-moves
+returns-in_ok-passed-in-Against-clause-moves g c = λ _.
     let library = stored_of g.R.Rule.value_of c.args.network.now.library in
     let d = c.args.network.now.cells in
-    let met = rw c.in-Refuted.is at c.requires.met in
+    let problem = problem_of library d in
+    let s = c.args.search.now in
+    let mid = c.advance.new.self in
+    let new = c.pass-passed.new.search in
+    let more = c.in_ok-passed-in-Against.field-0 in
+    let met : IsMet problem s c.in-Refuted.nogood = rw c.in-Refuted.is at c.requires.met in
     let may = rw c.in-Against.is at c.in_ok-premises.ensures.may in
-    let shifted : AreShifted (set_of c.args.search.now.worldview) (set_of c.advance.new.self.worldview) d (length d.kinds) c.args.agenda.now.line c.alert_shifted.new.agenda.line =
+    let reason : IsReason problem s c.in-Against.place (set_of c.in-Against.reason) =
+    rw c.in-Against.is at (c.in_ok-premises.ensures.resolved problem c.requires.search met.nogood met.noted) in
+    let learned = c.advance.ensures.search problem reason c.requires.search in
+    let first : Passes problem (users_of s) (choices_in s) s.list 1 mid.list =
+    goes_later problem s mid c.in-Refuted.nogood c.in-Against.place c.well_made.ensures met may c.in_ok-before-in-Against.ensures.list in
+    let rest : Passes problem (users_of s) (choices_in s) mid.list more new.list =
+    passes_in problem s mid more mid.list new.list c.advance.ensures.premises (c.in_ok-passed-in-Against.ensures.moves problem learned) in
+    let e : 1 + more ≡ more + 1 = omega arith in
+    let shifted : AreShifted (set_of s.worldview) (set_of new.worldview) d (length d.kinds) c.args.agenda.now.line c.alert_shifted.new.agenda.line =
     rw (c.worldview.ensures, c.in_ok-before-in-Against.ensures.before) at c.alert_shifted.ensures.shifted in
-    λ e. (
-      c.if-not-may_move.false,
-      goes_later library d c.args.search.now c.advance.new.self c.in-Refuted.nogood c.in-Against.place c.args.agenda.now.line c.alert_shifted.new.agenda.line c.well_made.ensures c.well_made-in-Against.ensures met may
-          c.advance.ensures.premises c.in_ok-before-in-Against.ensures.list shifted,
-    )
+    are_moved library d s new (more + 1) c.args.agenda.now.line c.alert_shifted.new.agenda.line c.well_made.ensures c.pass-passed.ensures.stand (c.pass-passed.ensures.premises ∙ c.advance.ensures.premises)
+    (subst (λ n. Passes problem (users_of s) (choices_in s) s.list n new.list) e (passes_on first rest)) shifted

@@ -1,5 +1,4 @@
-use Rattle.std.proofs.Common.{◌≡◌, ◌∙◌, ◌+◌, ◌-◌, ◌⊎◌, false, nat_lt, length, Option, Some, None, Result, Ok, refl, sym, ap, subst, inl, inr, arith}
-use Rattle.std.proofs.lemmas.Bool.{ltb-false, ltb-true}
+use Rattle.std.proofs.Common.{◌≡◌, ◌∙◌, ℕ, ◌+◌, ◌-◌, ◌⊎◌, length, Option, Some, None, Result, Ok, Err, refl, sym, ap, subst, inl, inr, arith}
 use Rattle.prop_premises.specs.Sets.{set_of}
 use Rattle.prop_procedures.specs.Kept.{stored_of}
 use Rattle.prop_cells.specs.Data.{Data, problem_of}
@@ -15,11 +14,18 @@ use Rattle.prop_amb.proofs.SearchLaws.{kept_refute}
 use Rattle.prop_amb.proofs.SettlingLaws.{count_in, rest_on, premises_in, worldview_in, search_in, search_from, attempted_in, contradiction_in, held_in, at_start, after_try, after_move, ended, first_consistent, all_moves, spent_earned, held_earned, held_refuted}
 use Rattle.prop_amb.proofs.settling.settle.Goals as goal
 
-settled_at : {E : Type 0} {r : Result (Option Outcome) E} {o : Option Outcome} {outcome : Outcome} → r ≡ Ok (Some Settled) → r ≡ Ok o → o ≡ Some outcome → outcome ≡ Settled
-settled_at e f h = cc
+abbrev end_of : {E : Type 0} → Option Outcome → Result (Option Outcome × ℕ) E → Option Outcome
+end_of o (Ok x) = x.0
+end_of o (Err e) = o
 
-no_end : {E : Type 0} {r : Result (Option Outcome) E} {o : Option Outcome} → r ≡ Ok (Some Settled) → r ≡ Ok o → o ≡ None → ⊥
-no_end e f h = cc
+same_end : {E : Type 0} {r : Result (Option Outcome × ℕ) E} {o : Option Outcome} {n : ℕ} → r ≡ Ok (Some Settled, 0) → r ≡ Ok (o, n) → Some Settled ≡ o
+same_end {o = o} e f = ap (end_of o) (sym e ∙ f)
+
+settled_at : {E : Type 0} {r : Result (Option Outcome × ℕ) E} {o : Option Outcome} {n : ℕ} {outcome : Outcome} → r ≡ Ok (Some Settled, 0) → r ≡ Ok (o, n) → o ≡ Some outcome → outcome ≡ Settled
+settled_at e f h = let same = same_end e f in cc
+
+no_end : {E : Type 0} {r : Result (Option Outcome × ℕ) E} {o : Option Outcome} {n : ℕ} → r ≡ Ok (Some Settled, 0) → r ≡ Ok (o, n) → o ≡ None → ⊥
+no_end e f h = let same = same_end e f in cc
 
 pub loop-tried-init : goal.loop-tried-init
 loop-tried-init g c = record {
@@ -108,49 +114,49 @@ pub decide-requires-clause-search : goal.decide-requires-clause-search
 decide-requires-clause-search g c =
     search_from (stored_of g.R.Rule.value_of) c.loop-tried.network.library c.attempt.new.network.library c.loop-tried.network.cells c.attempt.new.network.cells c.attempt.new.search c.attempt.ensures.same c.attempt.ensures.rest c.attempt.ensures.search
 
-pub returns-in_err-outcome-clause-same : goal.returns-in_err-outcome-clause-same
-returns-in_err-outcome-clause-same g c =
+pub returns-in_err-end-clause-same : goal.returns-in_err-end-clause-same
+returns-in_err-end-clause-same g c =
     c.attempt.ensures.same ∙ c.loop-tried.invariant.same
 
-pub returns-in_err-outcome-clause-rest : goal.returns-in_err-outcome-clause-rest
-returns-in_err-outcome-clause-rest g c =
+pub returns-in_err-end-clause-rest : goal.returns-in_err-end-clause-rest
+returns-in_err-end-clause-rest g c =
     rest_on c.args.network.now.cells c.loop-tried.network.cells c.attempt.new.network.cells c.loop-tried.invariant.way.rest c.attempt.ensures.rest
 
-pub returns-in_err-outcome-clause-room : goal.returns-in_err-outcome-clause-room
-returns-in_err-outcome-clause-room g c =
+pub returns-in_err-end-clause-room : goal.returns-in_err-end-clause-room
+returns-in_err-end-clause-room g c =
     c.decide.ensures.room ∙ c.attempt.ensures.room ∙ c.loop-tried.invariant.room
 
-pub returns-in_err-outcome-clause-cells : goal.returns-in_err-outcome-clause-cells
-returns-in_err-outcome-clause-cells g c = c.decide.ensures.cells ∙ c.attempt.ensures.cells ∙ c.loop-tried.invariant.cells
+pub returns-in_err-end-clause-cells : goal.returns-in_err-end-clause-cells
+returns-in_err-end-clause-cells g c = c.decide.ensures.cells ∙ c.attempt.ensures.cells ∙ c.loop-tried.invariant.cells
 
-pub returns-in_err-outcome-clause-premises : goal.returns-in_err-outcome-clause-premises
-returns-in_err-outcome-clause-premises g c =
+pub returns-in_err-end-clause-premises : goal.returns-in_err-end-clause-premises
+returns-in_err-end-clause-premises g c =
     c.decide.ensures.premises ∙ premises_in c.loop-tried.search c.attempt.new.search c.attempt.ensures.only ∙ c.loop-tried.invariant.way.premises
 
-pub returns-in_err-outcome-clause-listed : goal.returns-in_err-outcome-clause-listed
-returns-in_err-outcome-clause-listed g c =
+pub returns-in_err-end-clause-listed : goal.returns-in_err-end-clause-listed
+returns-in_err-end-clause-listed g c =
     λ m t. rw c.decide.ensures.listed (c.attempt.ensures.listed m (c.loop-tried.invariant.way.listed m t))
 
-pub returns-in_err-outcome-clause-search : goal.returns-in_err-outcome-clause-search
-returns-in_err-outcome-clause-search g c =
+pub returns-in_err-end-clause-search : goal.returns-in_err-end-clause-search
+returns-in_err-end-clause-search g c =
     let both = c.attempt.ensures.same ∙ c.loop-tried.invariant.same in
     let rest : c.attempt.new.network.cells ≡ record c.args.network.now.cells { contents = c.attempt.new.network.cells.contents } = rest_on c.args.network.now.cells c.loop-tried.network.cells c.attempt.new.network.cells c.loop-tried.invariant.way.rest c.attempt.ensures.rest in
     search_in (stored_of g.R.Rule.value_of) c.args.network.now.library c.attempt.new.network.library c.args.network.now.cells c.attempt.new.network.cells c.decide.new.search both rest c.decide.ensures.search
 
-pub returns-in_err-outcome-clause-under_way : goal.returns-in_err-outcome-clause-under_way
-returns-in_err-outcome-clause-under_way g c =
+pub returns-in_err-end-clause-under_way : goal.returns-in_err-end-clause-under_way
+returns-in_err-end-clause-under_way g c =
     let both = c.attempt.ensures.same ∙ c.loop-tried.invariant.same in
     rw both at c.decide.ensures.under_way
 
-pub returns-in_err-outcome-clause-passed : goal.returns-in_err-outcome-clause-passed
-returns-in_err-outcome-clause-passed g c =
+pub returns-in_err-end-clause-passed : goal.returns-in_err-end-clause-passed
+returns-in_err-end-clause-passed g c =
     let both = c.attempt.ensures.same ∙ c.loop-tried.invariant.same in
     let rest : c.attempt.new.network.cells ≡ record c.args.network.now.cells { contents = c.attempt.new.network.cells.contents } = rest_on c.args.network.now.cells c.loop-tried.network.cells c.attempt.new.network.cells c.loop-tried.invariant.way.rest c.attempt.ensures.rest in
     let learned : IsSearch (problem_of (stored_of g.R.Rule.value_of c.args.network.now.library) c.args.network.now.cells) c.decide.new.search = search_in (stored_of g.R.Rule.value_of) c.args.network.now.library c.attempt.new.network.library c.args.network.now.cells c.attempt.new.network.cells c.decide.new.search both rest c.decide.ensures.search in
     kept_block (problem_of (stored_of g.R.Rule.value_of c.args.network.now.library) c.args.network.now.cells) c.decide.new.search c.decide.ensures.stand learned.reasons
 
-pub returns-in_err-outcome-clause-earlier : goal.returns-in_err-outcome-clause-earlier
-returns-in_err-outcome-clause-earlier g c =
+pub returns-in_err-end-clause-earlier : goal.returns-in_err-end-clause-earlier
+returns-in_err-end-clause-earlier g c =
     let both = c.attempt.ensures.same ∙ c.loop-tried.invariant.same in
     let rest : c.attempt.new.network.cells ≡ record c.args.network.now.cells { contents = c.attempt.new.network.cells.contents } = rest_on c.args.network.now.cells c.loop-tried.network.cells c.attempt.new.network.cells c.loop-tried.invariant.way.rest c.attempt.ensures.rest in
     let learned : IsSearch (problem_of (stored_of g.R.Rule.value_of c.args.network.now.library) c.args.network.now.cells) c.decide.new.search = search_in (stored_of g.R.Rule.value_of) c.args.network.now.library c.attempt.new.network.library c.args.network.now.cells c.attempt.new.network.cells c.decide.new.search both rest c.decide.ensures.search in
@@ -182,14 +188,14 @@ returns-in-Some g c =
     after_try g.O.Order.picks (stored_of g.R.Rule.value_of c.args.network.now.library) c.args.search.now c.args.network.now.cells c.args.agenda.now.line c.args.order.now c.loop-tried.search c.loop-tried.network.cells c.loop-tried.agenda.line c.loop-tried.order c.loop-tried.steps c.args.budget c.in_ok-tried.tried c.in_ok-tried.calls c.attempt.new.search c.attempt.new.network.cells c.attempt.new.agenda.line c.attempt.new.order way c.loop-tried.invariant.within
     (attempted_in (stored_of g.R.Rule.value_of) c.args.network.now.library c.loop-tried.network.library g.O.Order.picks c.loop-tried.search c.loop-tried.network.cells c.loop-tried.agenda.line c.loop-tried.order (c.args.budget - c.loop-tried.steps) c.in_ok-tried.tried c.in_ok-tried.calls c.attempt.new.search c.attempt.new.network.cells c.attempt.new.agenda.line c.attempt.new.order same a) in
     let both : c.attempt.new.network.library ≡ c.args.network.now.library = c.attempt.ensures.same ∙ same in
-    let as_was : c.decide.new.search ≡ c.attempt.new.search = rw c.in-Some.is at c.in_ok-outcome.ensures.same in
-    let line_as_was : c.decide.new.agenda.line ≡ c.attempt.new.agenda.line = rw c.in-Some.is at c.in_ok-outcome.ensures.same_line in
+    let as_was : c.decide.new.search ≡ c.attempt.new.search = rw c.in-Some.is at c.in_ok-end.ensures.same in
+    let line_as_was : c.decide.new.agenda.line ≡ c.attempt.new.agenda.line = rw c.in-Some.is at c.in_ok-end.ensures.same_line in
     let t : OnTry g.O.Order.picks (stored_of g.R.Rule.value_of c.args.network.now.library) c.args.search.now c.args.network.now.cells c.args.agenda.now.line c.args.order.now c.decide.new.search c.attempt.new.network.cells c.decide.new.agenda.line c.attempt.new.order (c.loop-tried.steps + c.in_ok-tried.calls) c.args.budget c.in_ok-tried.tried =
     ended g.O.Order.picks (stored_of g.R.Rule.value_of c.args.network.now.library) c.args.search.now c.args.network.now.cells c.args.agenda.now.line c.args.order.now c.attempt.new.search c.attempt.new.network.cells c.attempt.new.agenda.line c.attempt.new.order (c.loop-tried.steps + c.in_ok-tried.calls) c.args.budget c.in_ok-tried.tried c.decide.new.search c.decide.new.agenda.line x as_was line_as_was in
     let library = stored_of g.R.Rule.value_of c.args.network.now.library in
-    let quiet : c.in-Some.outcome ≡ Settled → c.in_ok-tried.tried ≡ Quiet = λ e. c.in_ok-outcome.ensures.settled (c.in-Some.is ∙ ap Some e) in
-    let unsettled : c.in-Some.outcome ≡ Unsettled → (c.in_ok-tried.tried ≡ Spent) ⊎ ((nat_lt (c.loop-tried.steps + c.in_ok-tried.calls) c.args.budget ≡ false) × IsHeld (problem_of (stored_of g.R.Rule.value_of c.attempt.new.network.library) c.attempt.new.network.cells) c.attempt.new.search) =
-    λ e. c.in_ok-outcome.ensures.unsettled (c.in-Some.is ∙ ap Some e) in
+    let quiet : c.in-Some.outcome ≡ Settled → c.in_ok-tried.tried ≡ Quiet = λ e. c.in_ok-end.ensures.settled (c.in-Some.is ∙ ap Some e) in
+    let unsettled : c.in-Some.outcome ≡ Unsettled → (c.in_ok-tried.tried ≡ Spent) ⊎ ((c.args.budget - (c.loop-tried.steps + c.in_ok-tried.calls) ≡ 0) × IsHeld (problem_of (stored_of g.R.Rule.value_of c.attempt.new.network.library) c.attempt.new.network.cells) c.attempt.new.search) =
+    λ e. c.in_ok-end.ensures.unsettled (c.in-Some.is ∙ ap Some e) in
     record {
       same = both;
       rest = t.rest;
@@ -204,30 +210,28 @@ returns-in-Some g c =
       first = λ e. first_consistent g.O.Order.picks (stored_of g.R.Rule.value_of c.args.network.now.library) c.args.search.now c.args.network.now.cells c.args.agenda.now.line c.args.order.now c.decide.new.search c.attempt.new.network.cells c.decide.new.agenda.line c.attempt.new.order (c.loop-tried.steps + c.in_ok-tried.calls) c.args.budget c.in_ok-tried.tried t (quiet e);
       rests = λ e. t.rests (quiet e);
       contradiction = contradiction_in (stored_of g.R.Rule.value_of) c.args.network.now.library c.attempt.new.network.library c.args.network.now.cells c.attempt.new.network.cells c.attempt.new.search c.decide.new.search c.in-Some.outcome both x.rest as_was
-          (rw c.in-Some.is at c.in_ok-outcome.ensures.contradiction);
+          (rw c.in-Some.is at c.in_ok-end.ensures.contradiction);
       passed = kept_block (problem_of (stored_of g.R.Rule.value_of c.args.network.now.library) c.args.network.now.cells) c.decide.new.search t.stand t.search.reasons;
       earlier = kept_refute (problem_of (stored_of g.R.Rule.value_of c.args.network.now.library) c.args.network.now.cells) c.decide.new.search t.stand t.search.reasons;
-      spent = λ e. elim (unsettled e) [ inl q ↦ t.spent q | inr h ↦ (let used = ltb-false (c.loop-tried.steps + c.in_ok-tried.calls) c.args.budget h.0 in omega (arith, used, t.within)) ];
+      spent = λ e. elim (unsettled e) [ inl q ↦ t.spent q | inr h ↦ omega (arith, h.0, t.within) ];
       steps = t.within;
       moves = all_moves g.O.Order.picks (stored_of g.R.Rule.value_of c.args.network.now.library) c.args.search.now c.args.network.now.cells c.args.agenda.now.line c.args.order.now c.decide.new.search c.attempt.new.network.cells c.decide.new.agenda.line c.attempt.new.order (c.loop-tried.steps + c.in_ok-tried.calls) c.args.budget c.in_ok-tried.tried t;
       earned = λ e. elim (unsettled e) [
         | inl q ↦ spent_earned g.O.Order.picks (stored_of g.R.Rule.value_of c.args.network.now.library) c.args.search.now c.args.network.now.cells c.args.agenda.now.line c.args.order.now c.decide.new.search c.attempt.new.network.cells c.decide.new.agenda.line c.attempt.new.order (c.loop-tried.steps + c.in_ok-tried.calls) c.args.budget c.in_ok-tried.tried t q
-        | inr h ↦ held_earned g.O.Order.picks (stored_of g.R.Rule.value_of c.args.network.now.library) c.args.search.now c.args.network.now.cells c.args.agenda.now.line c.args.order.now c.decide.new.search c.attempt.new.network.cells c.decide.new.agenda.line c.attempt.new.order (c.loop-tried.steps + c.in_ok-tried.calls) c.args.budget c.in_ok-tried.tried t (ltb-false (c.loop-tried.steps + c.in_ok-tried.calls) c.args.budget h.0) (held_in (stored_of g.R.Rule.value_of) c.args.network.now.library c.attempt.new.network.library c.attempt.new.network.cells c.attempt.new.search c.decide.new.search both as_was h.1)
+        | inr h ↦ held_earned g.O.Order.picks (stored_of g.R.Rule.value_of c.args.network.now.library) c.args.search.now c.args.network.now.cells c.args.agenda.now.line c.args.order.now c.decide.new.search c.attempt.new.network.cells c.decide.new.agenda.line c.attempt.new.order (c.loop-tried.steps + c.in_ok-tried.calls) c.args.budget c.in_ok-tried.tried t (omega (arith, h.0)) (held_in (stored_of g.R.Rule.value_of) c.args.network.now.library c.attempt.new.network.library c.attempt.new.network.cells c.attempt.new.search c.decide.new.search both as_was h.1)
       ];
       left = λ e. elim (unsettled e) [
         | inl q ↦ inl (t.leaves q)
         | inr h ↦ inr (held_refuted g.O.Order.picks (stored_of g.R.Rule.value_of c.args.network.now.library) c.args.search.now c.args.network.now.cells c.args.agenda.now.line c.args.order.now c.decide.new.search c.attempt.new.network.cells c.decide.new.agenda.line c.attempt.new.order (c.loop-tried.steps + c.in_ok-tried.calls) c.args.budget c.in_ok-tried.tried t (held_in (stored_of g.R.Rule.value_of) c.args.network.now.library c.attempt.new.network.library c.attempt.new.network.cells c.attempt.new.search c.decide.new.search both as_was h.1))
       ];
       falls = t.falls;
-      at_rest = λ idle free unblocked. (let r : (c.in_ok-tried.tried ≡ Quiet) × (c.loop-tried.steps + c.in_ok-tried.calls ≡ 0) = t.at_rest (record { idle = idle; free = free; unblocked = unblocked }) in (settled_at (c.decide.ensures.quiet r.0) c.in_ok-outcome.was c.in-Some.is, r.1));
+      at_rest = λ idle free unblocked. (let r : (c.in_ok-tried.tried ≡ Quiet) × (c.loop-tried.steps + c.in_ok-tried.calls ≡ 0) = t.at_rest (record { idle = idle; free = free; unblocked = unblocked }) in (settled_at (c.decide.ensures.quiet r.0) c.in_ok-end.was c.in-Some.is, r.1));
       gone = t.gone;
     }
 
 pub loop-tried-smaller : goal.loop-tried-smaller
 loop-tried-smaller g c =
-    let moves = c.in_ok-outcome.ensures.moves c.in-None.is in
-    let more = ltb-true (c.loop-tried.steps + c.in_ok-tried.calls) c.args.budget moves.0 in
-    omega (arith, more)
+    omega (arith, c.in_ok-end.ensures.some c.in-None.is, c.in_ok-end.ensures.few)
 
 pub loop-tried-preserved : goal.loop-tried-preserved
 loop-tried-preserved g c =
@@ -255,15 +259,14 @@ loop-tried-preserved g c =
     after_try g.O.Order.picks (stored_of g.R.Rule.value_of c.args.network.now.library) c.args.search.now c.args.network.now.cells c.args.agenda.now.line c.args.order.now c.loop-tried.search c.loop-tried.network.cells c.loop-tried.agenda.line c.loop-tried.order c.loop-tried.steps c.args.budget c.in_ok-tried.tried c.in_ok-tried.calls c.attempt.new.search c.attempt.new.network.cells c.attempt.new.agenda.line c.attempt.new.order way c.loop-tried.invariant.within
     (attempted_in (stored_of g.R.Rule.value_of) c.args.network.now.library c.loop-tried.network.library g.O.Order.picks c.loop-tried.search c.loop-tried.network.cells c.loop-tried.agenda.line c.loop-tried.order (c.args.budget - c.loop-tried.steps) c.in_ok-tried.tried c.in_ok-tried.calls c.attempt.new.search c.attempt.new.network.cells c.attempt.new.agenda.line c.attempt.new.order same a) in
     let both : c.attempt.new.network.library ≡ c.args.network.now.library = c.attempt.ensures.same ∙ same in
-    let moves = c.in_ok-outcome.ensures.moves c.in-None.is in
-    let more = ltb-true (c.loop-tried.steps + c.in_ok-tried.calls) c.args.budget moves.0 in
+    let some = c.in_ok-end.ensures.some c.in-None.is in
     record {
       same = both;
       room = c.decide.ensures.room ∙ c.attempt.ensures.room ∙ c.loop-tried.invariant.room;
       cells = c.decide.ensures.cells ∙ c.attempt.ensures.cells ∙ c.loop-tried.invariant.cells;
       watched = c.decide.ensures.watched;
-      within = omega (arith, more);
-      way = after_move g.O.Order.picks (stored_of g.R.Rule.value_of c.args.network.now.library) c.args.search.now c.args.network.now.cells c.args.agenda.now.line c.args.order.now c.attempt.new.search c.attempt.new.network.cells c.attempt.new.agenda.line c.attempt.new.order (c.loop-tried.steps + c.in_ok-tried.calls) c.args.budget c.in_ok-tried.tried c.decide.new.search c.decide.new.agenda.line x
-          (λ q. no_end (c.decide.ensures.quiet q) c.in_ok-outcome.was c.in-None.is)
-          c.decide.ensures.premises c.decide.ensures.listed (rw both at c.decide.ensures.search) c.decide.ensures.stand (rw both at c.decide.ensures.under_way) (rw both at moves.1);
+      within = omega (arith, some, c.in_ok-end.ensures.few, x.within);
+      way = after_move g.O.Order.picks (stored_of g.R.Rule.value_of c.args.network.now.library) c.args.search.now c.args.network.now.cells c.args.agenda.now.line c.args.order.now c.attempt.new.search c.attempt.new.network.cells c.attempt.new.agenda.line c.attempt.new.order (c.loop-tried.steps + c.in_ok-tried.calls) c.args.budget c.in_ok-tried.tried c.decide.new.search c.decide.new.agenda.line c.in_ok-end.moves x
+          (λ q. no_end (c.decide.ensures.quiet q) c.in_ok-end.was c.in-None.is)
+          c.decide.ensures.premises c.decide.ensures.listed (rw both at c.decide.ensures.search) c.decide.ensures.stand (rw both at c.decide.ensures.under_way) some (rw both at (c.in_ok-end.ensures.moves c.in-None.is));
     }

@@ -1,0 +1,29 @@
+use Rattle.std.proofs.Common.{◌∙◌, ap, Ok, refl, arith}
+use Rattle.prop_amb.specs.Going.Passes.{none}
+use Rattle.prop_amb.proofs.DecidingLaws.{passes_on, passes_in}
+use Rattle.prop_amb.proofs.settling.pass.Goals as goal
+
+pub loop-moves-init : goal.loop-moves-init
+loop-moves-init c = record {
+  premises = refl;
+  listed = refl;
+  stand = c.well_made.ensures;
+  search = λ problem learned. learned;
+  few = omega arith;
+  moves = λ problem learned. none;
+}
+
+pub loop-moves-preserved : goal.loop-moves-preserved
+loop-moves-preserved c =
+    let before = c.loop-moves.invariant in
+    let after = c.in_ok-go_on.ensures in
+    record {
+      premises = after.premises ∙ before.premises;
+      listed = after.listed ∙ before.listed;
+      stand = after.stand;
+      search = λ problem learned. after.search problem (before.search problem learned);
+      few = omega (arith, c.loop-moves-test.true);
+      moves = λ problem learned. passes_on (before.moves problem learned)
+          (passes_in problem c.args.search.now c.loop-moves.search 1 c.loop-moves.search.list c.go_on.new.search.list before.premises
+          (after.moves (ap Ok c.if-branch.true) problem (before.search problem learned)));
+    }
