@@ -1,9 +1,10 @@
 //! Why the program ends before its input does.
 ghost use Rattle.std.specs.Prelude.{◌≡◌};
-ghost use Rattle.propbench.specs.Faults.{status_of};
+ghost use Rattle.propbench.specs.Faults.{status_of, IsMemory};
+ghost use Rattle.propbench.specs.declared.fault.Fault.TheVariants.{Engine as EngineOf};
 
 use prop_workbench::EngineFault;
-use std::alloc::AllocError;
+use std::alloc::{AllocError, AllocFailed};
 use thiserror::Error;
 
 /// Why the program ends before its input does.
@@ -11,10 +12,10 @@ use thiserror::Error;
 pub enum Fault {
     /// Memory was refused before the session began.
     #[error("out of memory")]
-    Memory(#[from(alloc)] AllocError),
+    Memory(AllocError),
     /// The session ended before its input did.
     #[error(transparent)]
-    Engine(#[from] EngineFault),
+    Engine(EngineFault),
 }
 
 impl Fault {
@@ -27,5 +28,30 @@ impl Fault {
             Fault::Engine(EngineFault::Reads) => 3,
             Fault::Memory(AllocError) => 4,
         }
+    }
+}
+
+// By hand, since a derived `From` has no contract.
+impl From<AllocError> for Fault {
+    ghost from_gives = { λ _ fault. IsMemory fault };
+
+    fn from(error: AllocError) -> Fault {
+        Fault::Memory(error)
+    }
+}
+
+impl<T: Drop> From<AllocFailed<T>> for Fault {
+    ghost from_gives = { λ _ fault. IsMemory fault };
+
+    fn from(_failed: AllocFailed<T>) -> Fault {
+        Fault::Memory(AllocError)
+    }
+}
+
+impl From<EngineFault> for Fault {
+    ghost from_gives = { λ e fault. fault ≡ EngineOf e };
+
+    fn from(fault: EngineFault) -> Fault {
+        Fault::Engine(fault)
     }
 }

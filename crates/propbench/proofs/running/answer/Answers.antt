@@ -1,4 +1,7 @@
-use Rattle.std.proofs.Common.{◌≡◌, inl, refl}
+use Rattle.std.proofs.Common.{◌≡◌, ◌∙◌, Err, inl, refl, sym, subst, ap}
+use Rattle.std.proofs.lemmas.Result.{err_from_is_err_and}
+use Rattle.propbench.specs.Faults.{TellsDevices}
+use Rattle.propbench.proofs.Devices.{carried, told}
 use Rattle.prop_workbench.specs.Engine.{learning, machine_of}
 use Rattle.prop_workbench.specs.Sessions.{shown_of, library_of, related_in}
 use Rattle.prop_engine.proofs.Io.{on_err}
@@ -23,3 +26,11 @@ returns-in_err-run_session-clause-err g c =
 
 pub run_session-requires-clause-means : goal.run_session-requires-clause-means
 run_session-requires-clause-means g c = rw c.load_prelude.ensures.same c.requires.means
+
+pub returns-in_err-run_session-clause-devices : goal.returns-in_err-run_session-clause-devices
+returns-in_err-run_session-clause-devices g c =
+    let p = err_from_is_err_and c.from_residual.result c.from_residual.ensures.1 in
+    let same : c.from_residual.result ≡ carried c.run_session.result = p.1 ∙ ap Err p.2 ∙ sym (ap carried (c.in_err-run_session.was)) in
+    subst (λ r. TellsDevices r c.args.reader.now c.run_session.new.reader c.args.writer.now c.run_session.new.writer) (sym same)
+    (told c.run_session.result c.args.reader.now c.run_session.new.reader c.args.writer.now c.run_session.new.writer c.run_session.ensures.read c.run_session.ensures.write
+    c.run_session.ensures.reads c.run_session.ensures.passed_on c.run_session.ensures.at_most c.run_session.ensures.pieces)

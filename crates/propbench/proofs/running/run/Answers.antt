@@ -1,4 +1,7 @@
-use Rattle.std.proofs.Common.{◌∙◌, arith}
+use Rattle.std.proofs.Common.{◌∙◌, arith, sym, subst}
+use Rattle.std.proofs.lemmas.Result.{err_from_is_err_and}
+use Rattle.propbench.specs.Faults.{TellsDevices}
+use Rattle.propbench.proofs.Devices.{told_first}
 use Rattle.prop_engine.proofs.Io.{on_err}
 use Rattle.prop_procedures.specs.Kept.{AllMean-push}
 use Rattle.std.proofs.lemmas.List.{take_all}
@@ -59,3 +62,21 @@ returns-clause-err g c = c.serve.ensures.err
 
 pub returns-clause-points : goal.returns-clause-points
 returns-clause-points g c = kit_is_sound
+
+pub returns-in_err-ins-clause-devices : goal.returns-in_err-ins-clause-devices
+returns-in_err-ins-clause-devices g c =
+    let p = err_from_is_err_and c.from_residual.result c.from_residual.ensures.1 in
+    subst (λ r. TellsDevices r c.args.reader.now c.args.reader.now c.args.writer.now c.args.writer.now) (sym p.1)
+    (told_first p.0 c.args.reader.now c.args.writer.now p.2 c.requires.reader c.requires.writer)
+
+pub returns-in_err-call-clause-devices : goal.returns-in_err-call-clause-devices
+returns-in_err-call-clause-devices g c =
+    let p = err_from_is_err_and c.from_residual-in_err-call.result c.from_residual-in_err-call.ensures.1 in
+    subst (λ r. TellsDevices r c.args.reader.now c.args.reader.now c.args.writer.now c.args.writer.now) (sym p.1)
+    (told_first p.0 c.args.reader.now c.args.writer.now p.2 c.requires.reader c.requires.writer)
+
+pub returns-in_err-push-clause-devices : goal.returns-in_err-push-clause-devices
+returns-in_err-push-clause-devices g c =
+    let p = err_from_is_err_and c.from_residual-in_err-push.result c.from_residual-in_err-push.ensures.1 in
+    subst (λ r. TellsDevices r c.args.reader.now c.args.reader.now c.args.writer.now c.args.writer.now) (sym p.1)
+    (told_first p.0 c.args.reader.now c.args.writer.now p.2 c.requires.reader c.requires.writer)

@@ -1,4 +1,7 @@
-use Rattle.std.proofs.Common.{◌∙◌, ap}
+use Rattle.std.proofs.Common.{◌∙◌, ap, sym, subst}
+use Rattle.std.proofs.lemmas.Result.{err_from_is_err_and}
+use Rattle.propbench.specs.Faults.{TellsDevices}
+use Rattle.propbench.proofs.Devices.{told_first}
 use Rattle.prop_engine.proofs.Io.{on_err}
 use Rattle.propbench.proofs.Starts.{nothing_yet, answered_by_kit, answered_in_front_by_kit}
 use Rattle.propbench.proofs.running.serve_in.Goals as goal
@@ -18,3 +21,9 @@ pub returns-clause-err : goal.returns-clause-err
 returns-clause-err g c =
     let same = ap (λ l. l.procedures.items) (c.in_ok-session.ensures.library ∙ c.new-network.ensures.library) ∙ ap (λ p. p.items) c.new.ensures in
     answered_in_front_by_kit c.in_ok-session.session.network.library c.args.procedures.items _ _ _ _ _ c.answer-counts.result same c.requires.listed c.requires.ruled c.in_ok-session.ensures.state c.answer-counts.ensures.err
+
+pub returns-in_err-session-clause-devices : goal.returns-in_err-session-clause-devices
+returns-in_err-session-clause-devices g c =
+    let p = err_from_is_err_and c.from_residual.result c.from_residual.ensures.1 in
+    subst (λ r. TellsDevices r c.args.reader.now c.args.reader.now c.args.writer.now c.args.writer.now) (sym p.1)
+    (told_first p.0 c.args.reader.now c.args.writer.now p.2 c.requires.reader c.requires.writer)
