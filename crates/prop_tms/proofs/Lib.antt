@@ -6,3 +6,4 @@ pub mod ValueLemmas
 pub mod GainLemmas
 pub mod BeliefUses
 pub mod TrimLemmas
+pub mod ShiftLemmas

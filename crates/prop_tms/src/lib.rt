@@ -3,6 +3,7 @@
 
 mod gain;
 mod gains;
+mod shifting;
 mod strongest;
 pub mod supported;
 pub mod tms;

@@ -1,11 +1,12 @@
 //! The entries of one value.
-ghost use Rattle.std.specs.Prelude.{◌≡◌, ◌↔◌, ◌≤◌, ◌+◌, not, List, [], length, filter, IsTrue, Ok, IsOk, IfOk, OnOk, OnErr};
+ghost use Rattle.std.specs.Prelude.{◌≡◌, ◌≢◌, ◌↔◌, ◌≤◌, ◌+◌, false, not, List, [], length, filter, IsTrue, Ok, IsOk, IfOk, OnOk, OnErr};
 ghost use Rattle.prop_premises.specs.Sets.{Members, set_of, is_within, is_below, is_at_most_one_of, IsBelow};
 ghost use Rattle.prop_tms.specs.Beliefs.{belief_of, IsLeastBelief, Subsumes, NoneSubsumed, NoneAlike, IsNeedless, Adds, IsLean, IsShort, Trims, AreNeeded, joined_with};
 ghost use Rattle.prop_tms.specs.Kept.{IsGrownBy};
 ghost use Rattle.prop_tms.specs.Values.{entries_of, AreKept};
 ghost use Rattle.prop_tms.specs.declared.supported.Supported.{Supported};
 
+use crate::shifting::shifted;
 use crate::strongest::{belief, strongest};
 use crate::supported::Supported;
 use crate::trimming::{count_derived, trim};
@@ -92,6 +93,14 @@ impl<V: Partial> Tms<V> {
         ensures least { IsLeastBelief V.below (set_of worldview.now) self.now result }
     {
         belief(&self.values, worldview)
+    }
+
+    /// Whether what the believed entries say together differs between two worldviews. It takes no memory.
+    pub fn shifted(&self, before: &Worldview, after: &Worldview) -> bool
+        ensures shifted { IsTrue result → belief_of V.bottom V.join (set_of before.now) self.now ≢ belief_of V.bottom V.join (set_of after.now) self.now }
+        ensures stays { result ≡ false → belief_of V.bottom V.join (set_of before.now) self.now ≡ belief_of V.bottom V.join (set_of after.now) self.now }
+    {
+        shifted(&self.values, before, after)
     }
 
     /// What the believed entries say together, with the support of believed entries that say so, none of which can be left

@@ -81,7 +81,7 @@ pub(crate) fn joined<V: Partial>(values: &[Valued<V>], value: V, support: &Premi
 }
 
 /// Whether both are the same value.
-fn is_same<V: Partial>(a: V, b: V) -> bool
+pub(crate) fn is_same<V: Partial>(a: V, b: V) -> bool
     ensures { IsTrue result ↔ (a ≡ b) }
 {
     a.implies(b) && b.implies(a)
