@@ -7,3 +7,4 @@ pub mod GainLemmas
 pub mod BeliefUses
 pub mod TrimLemmas
 pub mod ShiftLemmas
+pub mod LoneLemmas

@@ -1,8 +1,8 @@
 //! What the believed entries say together, and few premises that are enough for it.
-ghost use Rattle.std.specs.Prelude.{◌≡◌, ◌≤◌, [], length, All, Contains, IsTrue, IsOk, IfOk, IfSome, IsSomeAnd};
+ghost use Rattle.std.specs.Prelude.{◌≡◌, ◌≢◌, ◌≤◌, [], ◌∷◌, length, All, Contains, IsTrue, IsOk, IfOk, IfSome, IfNone, IsSomeAnd};
 ghost use Rattle.std.specs.List.{list_any};
 ghost use Rattle.prop_premises.specs.Sets.{Members, set_of, is_within};
-ghost use Rattle.prop_tms.specs.Beliefs.{belief_of, merge_of_all, IsLean, IsShort};
+ghost use Rattle.prop_tms.specs.Beliefs.{belief_of, believed_of, merge_of_all, IsLean, IsShort};
 ghost use Rattle.prop_tms.specs.Gains.{AreGains, AreRanked, entry_of, gained_of};
 ghost use Rattle.prop_tms.specs.Values.{entries_of};
 ghost use Rattle.prop_tms.specs.declared.supported.Supported.{Supported};
@@ -33,6 +33,26 @@ pub(crate) fn belief<V: Partial>(values: &[Valued<V>], worldview: &Worldview) ->
         }
     }
     merged
+}
+
+/// The believed entry, where there is just one.
+fn lone<'a, V: Partial>(values: &'a [Valued<V>], worldview: &Worldview) -> Option<Entry<'a, V>>
+    ensures one { IfSome result (λ e. believed_of (set_of worldview.now) (entries_of values.now) ≡ entry_of e ∷ []) }
+    ensures other { IfNone result (length (believed_of (set_of worldview.now) (entries_of values.now)) ≢ 1) }
+{
+    let mut found = None;
+    for valued in values {
+        for support in &valued.supports {
+            if worldview.believes(support) {
+                if found.is_some() {
+                    return None;
+                }
+                let value = valued.value;
+                found = Some(Entry { value, support });
+            }
+        }
+    }
+    found
 }
 
 /// The first entry of the row that alone says as much as the value.
@@ -81,8 +101,32 @@ fn thinned<V: Partial>(
     Ok(support)
 }
 
+/// The premises of believed entries that say this together, as all of them do, and of which none can be left out. Entries of few
+/// premises come first, and no believed entry that says as much alone has fewer premises.
+fn chosen<V: Partial>(
+    alloc: Global,
+    values: &[Valued<V>],
+    worldview: &Worldview,
+    value: V,
+) -> Result<PremiseSet, AllocError>
+    requires { value ≡ belief_of V.bottom V.join (set_of worldview.now) (entries_of values.now) }
+    ensures nothing { value ≡ V.bottom → IsOk result }
+    ensures lean { IfOk result (λ s. IsLean V.bottom V.join (entries_of values.now) (set_of worldview.now) value s) }
+    ensures short { IfOk result (λ s. IsShort (entries_of values.now) (set_of worldview.now) value s) }
+{
+    let gains = gains(alloc, values, worldview)?;
+    let alone = alone(&gains, value);
+    let together = thinned(alloc, gains, value)?;
+    let premises = count(&together);
+    let support = match alone {
+        Some(entry) if count(entry.support) < premises => entry.support.copy()?,
+        _ => together,
+    };
+    Ok(support)
+}
+
 /// What the believed entries say together, with the support of entries of which none can be left out. Entries of few premises come
-/// first, and no believed entry that says as much alone has fewer premises.
+/// first, and no believed entry that says as much alone has fewer premises. Where just one entry is believed, no row is made of it.
 pub(crate) fn strongest<V: Partial>(
     alloc: Global,
     values: &[Valued<V>],
@@ -94,13 +138,9 @@ pub(crate) fn strongest<V: Partial>(
     ensures short { IfOk result (λ e. IsShort (entries_of values.now) (set_of worldview.now) e.value e.support) }
 {
     let value = belief(values, worldview);
-    let gains = gains(alloc, values, worldview)?;
-    let alone = alone(&gains, value);
-    let together = thinned(alloc, gains, value)?;
-    let premises = count(&together);
-    let support = match alone {
-        Some(entry) if count(entry.support) < premises => entry.support.copy()?,
-        _ => together,
+    let support = match lone(values, worldview) {
+        Some(entry) if !V::nothing().implies(value) => entry.support.copy()?,
+        _ => chosen(alloc, values, worldview, value)?,
     };
     Ok(Supported { value, support })
 }
