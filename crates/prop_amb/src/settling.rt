@@ -133,8 +133,8 @@ fn pass(search: &mut Search, most: u64) -> Result<u64, AllocError>
     Ok(moves)
 }
 
-/// What follows where a list was tried: an end, or the choices go on to a later list, with which no noted nogood is believed if so many moves allow it,
-/// and of the cells that this shifts the readers and writers wait. Answers the end, if it is one, and how many moves were made, one at least where it is none.
+/// What follows where a list was tried: an end, or the choices go on to a later list, and further as far as noted nogoods ask for it, and of the
+/// cells that this shifts the readers and writers wait. Answers the end, if it is one, and how many moves were made, one at least where it is none.
 /// Where no move is allowed, that is an end too.
 fn decide<R: Rule + Drop>(
     search: &mut Search,
