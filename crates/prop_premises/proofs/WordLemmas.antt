@@ -467,13 +467,13 @@ pub is_within-bits : (words : List ℕ) (s : Members) (b : Bool) → (b ≡ true
 is_within-bits words s b h k = is_within-told s (numbers_of words) b (λ t p i. h t p (sym (set_of-numbers_of words p)
     ∙ i)) (λ f. (let out = k f in (out.0, set_of-numbers_of words out.0 ∙ out.1, out.2)))
 
--- ---- the forms of sets that are made
+-- ---- one of two tests
 
-or_first : (b c : Bool) → b ≡ true → (b || c) ≡ true
+pub or_first : (b c : Bool) → b ≡ true → (b || c) ≡ true
 or_first true c e = refl
 or_first false c e = cc
 
-or_last : (b c : Bool) → c ≡ true → (b || c) ≡ true
+pub or_last : (b c : Bool) → c ≡ true → (b || c) ≡ true
 or_last true c e = refl
 or_last false c e = e
 
