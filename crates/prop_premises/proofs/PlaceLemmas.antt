@@ -11,20 +11,12 @@ use Rattle.prop_premises.proofs.BitLemmas.{is_set-zero, is_set-or}
 use Rattle.prop_premises.proofs.MergeLemmas.{same_increasing}
 use Rattle.prop_premises.proofs.SetLemmas.{set_of-filter}
 use Rattle.prop_premises.proofs.WithinLemmas.{is_within-told}
-use Rattle.prop_premises.proofs.WordLemmas.{or_first, or_last, increasing-push, set_of-numbers_from, numbers_from-nil, has_bit-tested, increasing-numbers_from, has_bit-past, is_number, from_below, from_above}
+use Rattle.prop_premises.proofs.WordLemmas.{or_first, or_last, or_none, and_false, increasing-push, set_of-numbers_from, numbers_from-nil, has_bit-tested, increasing-numbers_from, has_bit-past, is_number, from_below, from_above}
 
 and_both : (b c : Bool) → (b && c) ≡ true → (b ≡ true) × (c ≡ true)
 and_both true true h = (refl, refl)
 and_both true false h = cc
 and_both false c h = cc
-
-and_false : (b : Bool) → (b && false) ≡ false
-and_false true = refl
-and_false false = refl
-
-pub or_none : (b : Bool) → (b || false) ≡ b
-or_none true = refl
-or_none false = refl
 
 -- ---- a number of the set and its bit
 

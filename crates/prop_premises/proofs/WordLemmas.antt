@@ -346,7 +346,7 @@ numbers_from-first n word t words is some fits =
 
 -- ---- the numbers below a bound
 
-and_false : (b : Bool) → (b && false) ≡ false
+pub and_false : (b : Bool) → (b && false) ≡ false
 and_false true = refl
 and_false false = refl
 
@@ -445,7 +445,7 @@ end_is words n word trimmed len is fits = record { above = above; last = last }
 
 -- ---- one more number
 
-or_none : (b : Bool) → (b || false) ≡ b
+pub or_none : (b : Bool) → (b || false) ≡ b
 or_none true = refl
 or_none false = refl
 

@@ -1,8 +1,8 @@
 use Rattle.std.proofs.Common.{◌≡◌, ◌≤◌, ◌+◌, ◌-◌, ◌∙◌, ◌*◌, ◌||◌, ◌==◌, ℕ, ap, sym, arith, length}
 use Rattle.prop_premises.specs.Sets.{set_of}
 use Rattle.prop_premises.specs.Words.{has_bit, numbers_from}
-use Rattle.prop_premises.proofs.WordLemmas.{refilled}
-use Rattle.prop_premises.proofs.PlaceLemmas.{added_from, IsForm-added_from, numbers_from-push, or_none}
+use Rattle.prop_premises.proofs.WordLemmas.{or_none, refilled}
+use Rattle.prop_premises.proofs.PlaceLemmas.{added_from, IsForm-added_from, numbers_from-push}
 use Rattle.prop_premises.proofs.words.Words.insert.Goals as goal
 
 -- the numbers of the words that are written

@@ -1,8 +1,7 @@
 use Rattle.std.proofs.Common.{◌≡◌, ◌∙◌, ◌*◌, ◌||◌, ◌==◌, ℕ, List, length, true, sym, ap, arith}
 use Rattle.std.proofs.lemmas.Bool.Decides.{nat_tests}
 use Rattle.prop_premises.specs.Sets.{set_of}
-use Rattle.prop_premises.proofs.PlaceLemmas.{or_none}
-use Rattle.prop_premises.proofs.WordLemmas.{if_ok, numbers_from-nothing}
+use Rattle.prop_premises.proofs.WordLemmas.{or_none, if_ok, numbers_from-nothing}
 use Rattle.prop_premises.proofs.words.Words.union.Goals as goal
 
 empty : (words : List ℕ) → (length words == 0) ≡ true → length words ≡ 0
