@@ -1,15 +1,17 @@
-//! A nogood beside its size.
-ghost use Rattle.std.specs.Prelude.{◌≡◌, List, ℕ, length};
+//! A nogood beside what is looked at first of it.
+ghost use Rattle.std.specs.Prelude.{◌≡◌, List, ℕ, length, IsTrue, IfSome};
 ghost use Rattle.std.specs.List.Sorted.{IsStrictlyIncreasing};
 ghost use Rattle.prop_premises.specs.Sets.{set_of, is_within};
 
-use prop_premises::PremiseSet;
+use prop_premises::{Premise, PremiseSet, Worldview};
 use std::marker::Model;
 
-/// A set of premises that can't all be believed, with how many they are.
+/// A set of premises that can't all be believed, with how many they are and the last of them.
 #[derive(Drop)]
 pub(crate) struct Listed {
     size: usize,
+    /// Most nogoods that aren't believed lack this one.
+    last: Option<Premise>,
     premises: PremiseSet,
 }
 
@@ -18,7 +20,7 @@ impl Model for Listed {
 
     ghost view = { λ l. l.premises };
 
-    ghost invariant = { λ l. (l.size ≡ length l.premises) × IsStrictlyIncreasing l.premises };
+    ghost invariant = { λ l. (l.size ≡ length l.premises) × IsStrictlyIncreasing l.premises × IfSome l.last (λ p. IsTrue (set_of l.premises p)) };
 }
 
 impl Listed {
@@ -26,8 +28,15 @@ impl Listed {
     pub(crate) fn new(premises: PremiseSet) -> Listed
         ensures { result ≡ premises }
     {
+        let mut size = 0;
+        let mut last = None;
+        for premise in premises.iter() {
+            size += 1;
+            last = Some(premise);
+        }
         Listed {
-            size: premises.iter().count(),
+            size,
+            last,
             premises,
         }
     }
@@ -44,6 +53,17 @@ impl Listed {
         ensures { result.now ≡ self.now }
     {
         &self.premises
+    }
+
+    /// Whether each premise of the set is believed. It looks at the last first, and takes no memory.
+    #[inline]
+    pub(crate) fn is_believed(&self, worldview: &Worldview) -> bool
+        ensures { result ≡ is_within (set_of worldview.now) self.now }
+    {
+        match self.last {
+            Some(last) => worldview.has(last) && worldview.believes(&self.premises),
+            None => worldview.believes(&self.premises),
+        }
     }
 
     /// Whether each premise of this set is in the other. Of a larger set it is known by the sizes alone. It takes no memory.

@@ -56,6 +56,17 @@ fn place_of(listed: &[Listed], nogood: &Listed) -> usize
     listed.partition_point(|other| other.size() <= nogood.size())
 }
 
+/// The first listed set of which every premise is believed: none that is believed is smaller.
+fn first_believed<'a>(listed: &'a [Listed], worldview: &Worldview) -> Option<&'a Listed>
+    requires { AreBySize listed.now }
+    ensures listed { IfSome result (λ s. Contains listed.now s.now) }
+    ensures believed { IfSome result (λ s. IsTrue (is_within (set_of worldview.now) s.now)) }
+    ensures smallest { IfSome result (λ s. All (λ line. IsTrue (is_within (set_of worldview.now) line) → length s.now ≤ length line) listed.now) }
+    ensures none { result ≡ None → has_part listed.now (set_of worldview.now) ≡ false }
+{
+    listed.iter().find(|nogood| nogood.is_believed(worldview))
+}
+
 impl Store {
     /// No nogoods. It takes no memory.
     pub fn new(alloc: Global) -> Store
@@ -128,6 +139,7 @@ impl Store {
         ensures smallest { IfSome result (λ s. All (λ line. IsTrue (is_within (set_of worldview.now) line) → length s.now ≤ length line) self.now) }
         ensures none { result ≡ None → has_part self.now (set_of worldview.now) ≡ false }
     {
-        self.iter().find(|nogood| worldview.believes(nogood))
+        let nogood = first_believed(&self.nogoods, worldview)?;
+        Some(nogood.premises())
     }
 }
