@@ -5,10 +5,10 @@ use Rattle.std.specs.List.{find}
 use Rattle.std.specs.List.Sorted.{IsStrictlyIncreasing}
 use Rattle.std.specs.Option.{option_map}
 use Rattle.std.proofs.lemmas.List.Kept.{AllPairs-filter, IsNonDecreasingBy-filter}
-use Rattle.std.proofs.lemmas.List.Sorted.{All-permutation, Contains-permutation, IsPermutation-insert, IsNonDecreasingBy-insert}
+use Rattle.std.proofs.lemmas.List.Sorted.{All-permutation, Contains-permutation, IsPermutation-insert, IsPermutation-sym, IsNonDecreasingBy-insert}
 use Rattle.prop_premises.specs.Sets.{Members, set_of, is_within}
 use Rattle.prop_premises.proofs.WithinLemmas.{within_has}
-use Rattle.prop_nogoods.specs.Stores.{has_part, staying, with_set, AreMinimal, AreBySize, AddsSet}
+use Rattle.prop_nogoods.specs.Stores.{has_part, staying, with_set, AreMinimal, AreBySize, HaveSame, AddsSet}
 use Rattle.prop_nogoods.proofs.PlaceLemmas.{IsPlace, pairs_insert, insert_behind}
 use Rattle.prop_nogoods.proofs.StoreLaws.{PartOf, part-listed, has_part-from}
 
@@ -120,6 +120,39 @@ module _ (old : List (List ℕ)) (n : List ℕ) where
 
   pub joined_behind : (i : ℕ) → IsPlace (staying old n) n i → joined i ≡ with_set old n
   joined_behind i place = insert_behind n (staying old n) i place
+
+-- ---- two lists of the same sets
+
+-- a set that joins both is in both, and what stays of one stays of the other
+module _ (a b : List (List ℕ)) (n : List ℕ) (same : (line : List ℕ) → Contains a line → Contains b line) where
+  staying_same : (line : List ℕ) → Contains (staying a n) line → Contains (staying b n) line
+  staying_same line c =
+      stays_in (is_kept n) b line (same line (left_only a n line c)) (All-contains (λ x. is_kept n x ≡ true) (staying a n) line (filter_passes (is_kept n) a) c)
+
+  joined_same : (i j : ℕ) (line : List ℕ) → Contains (joined a n i) line → Contains (joined b n j) line
+  joined_same i j line c =
+      Contains-permutation (n ∷ staying b n) (joined b n j) line (IsPermutation-insert (staying b n) j n)
+      (by (Contains-permutation (joined a n i) (n ∷ staying a n) line (IsPermutation-sym (n ∷ staying a n) (joined a n i) (IsPermutation-insert (staying a n) i n)) c))
+    where
+      by : Contains (n ∷ staying a n) line → Contains (n ∷ staying b n) line
+      by (zero, l, e) = (zero, omega arith, e)
+      by (suc k, l, e) = contains_there n line (staying b n) (staying_same line (k, omega (arith, l), e))
+
+pub HaveSame-joined : (a b : List (List ℕ)) (n : List ℕ) (i j : ℕ) → HaveSame a b → HaveSame (joined a n i) (joined b n j)
+HaveSame-joined a b n i j same = record {
+  first = joined_same a b n same.first i j;
+  second = joined_same b a n same.second j i;
+}
+
+-- no part is in the one where none is in the other
+pub no_part-same : (a b : List (List ℕ)) (w : Members) → HaveSame a b → has_part b w ≡ false → has_part a w ≡ false
+no_part-same a b w same none = by (has_part a w) refl
+  where
+    by : (t : Bool) → has_part a w ≡ t → t ≡ false
+    by true e =
+        let its = part-listed a w e in
+        cc (has_part-from b w its.line (same.first its.line its.listed_in) its.is_part, none)
+    by false e = refl
 
 -- where a search finds no set in a worldview, no listed set is part of it
 pub none_found : {A : Type 0} (listed : List (List ℕ)) (w : Members) (r : Option A) (v : A → List ℕ) → option_map v r ≡ find (λ line. is_within w line) listed → r ≡ None → has_part listed w ≡ false

@@ -16,6 +16,11 @@ AreMinimal listed = AllPairs (λ a b. (is_within (set_of b) a ≡ false) × (is_
 abbrev pub AreBySize : List (List ℕ) → Type 0
 AreBySize listed = IsNonDecreasingBy length listed
 
+-- both list the same sets
+pub record HaveSame (a b : List (List ℕ)) : Type 0 where
+  pub first : (line : List ℕ) → Contains a line → Contains b line
+  pub second : (line : List ℕ) → Contains b line → Contains a line
+
 -- the listed sets that this one is not part of: they stay when it joins
 abbrev pub staying : List (List ℕ) → List ℕ → List (List ℕ)
 staying listed n = filter (λ line. not (is_within (set_of line) n)) listed

@@ -1,9 +1,10 @@
 //! A nogood beside what is looked at first of it.
-ghost use Rattle.std.specs.Prelude.{◌≡◌, List, ℕ, length, IsTrue, IfSome};
+ghost use Rattle.std.specs.Prelude.{◌≡◌, List, ℕ, length, IsTrue, IfOk, IfSome};
 ghost use Rattle.std.specs.List.Sorted.{IsStrictlyIncreasing};
 ghost use Rattle.prop_premises.specs.Sets.{set_of, is_within};
 
 use prop_premises::{Premise, PremiseSet, Worldview};
+use std::alloc::AllocError;
 use std::marker::Model;
 
 /// A set of premises that can't all be believed, with how many they are and the last of them.
@@ -46,6 +47,25 @@ impl Listed {
         ensures { result ≡ length self.now }
     {
         self.size
+    }
+
+    /// Its last premise, none where it has no premise.
+    pub(crate) fn last(&self) -> Option<Premise>
+        ensures { IfSome result (λ p. IsTrue (set_of self.now p)) }
+    {
+        self.last
+    }
+
+    /// The same set again.
+    pub(crate) fn copy(&self) -> Result<Listed, AllocError>
+        ensures { IfOk result (λ l. l ≡ self.now) }
+    {
+        let premises = self.premises.copy()?;
+        Ok(Listed {
+            size: self.size,
+            last: self.last,
+            premises,
+        })
     }
 
     /// The set itself.

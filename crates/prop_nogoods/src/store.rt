@@ -1,8 +1,8 @@
 //! A store of nogoods, none of which is part of another.
-ghost use Rattle.std.specs.Prelude.{◌≡◌, ◌↔◌, ◌≤◌, ◌<◌, ◌+◌, List, ℕ, [], length, not, false, All, None, Ok, Contains, IsTrue, IfOk, IfSome, OnOk, OnErr, vec_capacity, vec_len};
+ghost use Rattle.std.specs.Prelude.{◌≡◌, ◌↔◌, ◌≤◌, ◌<◌, ◌+◌, List, ℕ, [], length, not, false, All, None, Ok, Contains, IsTrue, IfOk, IfSome, OnOk, OnErr, insert, vec_capacity, vec_len};
 ghost use Rattle.std.specs.List.Sorted.{IsStrictlyIncreasing, IsPartitionPoint};
 ghost use Rattle.prop_premises.specs.Sets.{set_of, is_within};
-ghost use Rattle.prop_nogoods.specs.Stores.{has_part, staying, with_set, AreMinimal, AreBySize, AddsSet};
+ghost use Rattle.prop_nogoods.specs.Stores.{has_part, staying, with_set, AreMinimal, AreBySize, HaveSame, AddsSet};
 
 use crate::listed::Listed;
 use crate::nogoods::Nogoods;
@@ -16,6 +16,8 @@ use std::marker::Model;
 #[derive(Drop)]
 pub struct Store {
     nogoods: Vec<Listed>,
+    /// The same nogoods, those first whose last premise comes early.
+    by_last: Vec<Listed>,
 }
 
 impl Model for Store {
@@ -23,7 +25,7 @@ impl Model for Store {
 
     ghost view = { λ s. s.nogoods.items };
 
-    ghost invariant = { λ s. AreMinimal s.nogoods.items × All IsStrictlyIncreasing s.nogoods.items × AreBySize s.nogoods.items };
+    ghost invariant = { λ s. AreMinimal s.nogoods.items × All IsStrictlyIncreasing s.nogoods.items × AreBySize s.nogoods.items × HaveSame s.nogoods.items s.by_last.items };
 }
 
 /// Whether a listed set is part of this one. It looks at those that are no larger.
@@ -56,12 +58,24 @@ fn place_of(listed: &[Listed], nogood: &Listed) -> usize
     listed.partition_point(|other| other.size() <= nogood.size())
 }
 
-/// The first listed set of which every premise is believed: none that is believed is smaller.
+/// Adds the set behind those whose last premise comes no later than its own; the listed ones that it is part of go. After want of memory nothing has changed.
+fn join_by_last(listed: &mut Vec<Listed>, nogood: &Listed) -> Result<(), AllocError>
+    ensures ok { OnOk result ((place : ℕ) × (listed.new.items ≡ insert (staying listed.old.items nogood.now) place nogood.now)) }
+    ensures err { OnErr result (listed.new.items ≡ listed.old.items) }
+{
+    let again = nogood.copy()?;
+    listed.reserve(1)?;
+    drop_larger(listed, nogood);
+    let place = listed.partition_point(|other| other.last() <= nogood.last());
+    listed.insert(place, again)?;
+    Ok(())
+}
+
+/// The first listed set of which every premise is believed.
 fn first_believed<'a>(listed: &'a [Listed], worldview: &Worldview) -> Option<&'a Listed>
-    requires { AreBySize listed.now }
     ensures listed { IfSome result (λ s. Contains listed.now s.now) }
     ensures believed { IfSome result (λ s. IsTrue (is_within (set_of worldview.now) s.now)) }
-    ensures smallest { IfSome result (λ s. All (λ line. IsTrue (is_within (set_of worldview.now) line) → length s.now ≤ length line) listed.now) }
+    ensures smallest { AreBySize listed.now → IfSome result (λ s. All (λ line. IsTrue (is_within (set_of worldview.now) line) → length s.now ≤ length line) listed.now) }
     ensures none { result ≡ None → has_part listed.now (set_of worldview.now) ≡ false }
 {
     listed.iter().find(|nogood| nogood.is_believed(worldview))
@@ -74,6 +88,7 @@ impl Store {
     {
         Store {
             nogoods: Vec::new(alloc),
+            by_last: Vec::new(alloc),
         }
     }
 
@@ -126,6 +141,7 @@ impl Store {
             return Ok(false);
         }
         self.nogoods.reserve(1)?;
+        join_by_last(&mut self.by_last, &nogood)?;
         drop_larger(&mut self.nogoods, &nogood);
         let place = place_of(&self.nogoods, &nogood);
         self.nogoods.insert(place, nogood)?;
@@ -140,6 +156,17 @@ impl Store {
         ensures none { result ≡ None → has_part self.now (set_of worldview.now) ≡ false }
     {
         let nogood = first_believed(&self.nogoods, worldview)?;
+        Some(nogood.premises())
+    }
+
+    /// A nogood of which every premise is believed, none where there is no such nogood: one whose last premise comes early, so that it shows early
+    /// choices to be wrong. It takes no memory.
+    pub fn blocks_early(&self, worldview: &Worldview) -> Option<&PremiseSet>
+        ensures listed { IfSome result (λ s. Contains self.now s.now) }
+        ensures believed { IfSome result (λ s. IsTrue (is_within (set_of worldview.now) s.now)) }
+        ensures none { result ≡ None → has_part self.now (set_of worldview.now) ≡ false }
+    {
+        let nogood = first_believed(&self.by_last, worldview)?;
         Some(nogood.premises())
     }
 }

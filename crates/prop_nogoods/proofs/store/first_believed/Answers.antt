@@ -13,8 +13,8 @@ found c =
     (YieldsList-from_slice c.args.listed.now (cc)) (λ x b q k. search rules)
 
 pub returns-clause-smallest : goal.returns-clause-smallest
-returns-clause-smallest c =
-    smallest_found (λ line. is_within (set_of c.args.worldview.now) line) c.args.listed.now c.find.result (λ x. x.now) (found c) c.requires
+returns-clause-smallest c by_size =
+    smallest_found (λ line. is_within (set_of c.args.worldview.now) line) c.args.listed.now c.find.result (λ x. x.now) (found c) by_size
 
 pub returns-clause-none : goal.returns-clause-none
 returns-clause-none c none = none_found c.args.listed.now (set_of c.args.worldview.now) c.find.result (λ x. x.now) (found c) none
