@@ -101,4 +101,13 @@ impl Search {
     {
         self.store.blocks(&self.worldview)
     }
+
+    /// A nogood of which every premise is believed, none where there is no such nogood: one whose last premise comes early. It takes no memory.
+    pub(crate) fn blocked_early(&self) -> Option<&PremiseSet>
+        ensures listed { IfSome result (λ s. Contains self.now.listed s.now) }
+        ensures believed { IfSome result (λ s. IsTrue (is_within (set_of self.now.worldview) s.now)) }
+        ensures none { result ≡ None → has_part self.now.listed (set_of self.now.worldview) ≡ false }
+    {
+        self.store.blocks_early(&self.worldview)
+    }
 }

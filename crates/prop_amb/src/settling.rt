@@ -101,7 +101,7 @@ fn go_on(search: &mut Search) -> Result<bool, AllocError>
     ensures moves { result ≡ Ok true → (problem : Problem) → IsSearch problem search.old → Passes problem (users_of search.old) (choices_in search.old) search.old.list 1 search.new.list }
 {
     search.well_made();
-    let Some(blocking) = search.blocked() else {
+    let Some(blocking) = search.blocked_early() else {
         return Ok(false);
     };
     let believed = blocking.copy()?;
