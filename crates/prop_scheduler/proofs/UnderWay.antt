@@ -98,6 +98,27 @@ states_merge s d new x states = by (is_within s (support_of x.premise)) refl
       },
     )
 
+-- what isn't believed, or follows from what is believed of its cell, changes no belief there
+pub states_same : (s : Premises) (d new : Data) (x : Statement) → States d new x → (is_within s (support_of x.premise) ≡ false) ⊎ Below x.info (beliefs s d.contents x.cell) →
+    beliefs s new.contents x.cell ≡ beliefs s d.contents x.cell
+states_same s d new x states less = by (is_within s (support_of x.premise)) refl
+  where
+    e : Entry
+    e = record { value = x.info; support = support_of x.premise }
+
+    known : Info
+    known = beliefs s d.contents x.cell
+
+    by : (b : Bool) → is_within s (support_of x.premise) ≡ b → beliefs s new.contents x.cell ≡ known
+    by false off = adds_same d.contents new.contents x.cell e states.adds s off x.cell
+    by true on = elim less [
+      | inl off ↦ cc (on, off)
+      | inr below ↦
+        let join = info_laws.least_above known x.info in
+        (adds_merges d.contents new.contents x.cell e states.adds s on).merged
+        ∙ info_laws.antisymmetric _ known (join.least known (info_laws.reflexive known) below) join.above_first
+    ]
+
 under_way_states : (library : List Stored) (s : Premises) (d new : Data) (line line' : List ℕ) (x : Statement) (grown : Bool) → IsUnderWay library s d line → IsKept library new → States d new x →
     (grown ≡ false → beliefs s new.contents x.cell ≡ beliefs s d.contents x.cell) → ((k : ℕ) → Contains line k → Contains line' k) → All (λ k. k < length d.instances) line' →
     (grown ≡ true → (j : ℕ) (y : Instance) → slice_get d.instances j ≡ Some y → Contains y.inputs x.cell → Contains line' j) → IsUnderWay library s new line'

@@ -1,8 +1,9 @@
 //! Statements in a network under way.
-ghost use Rattle.std.specs.Prelude.{◌≡◌, ◌<◌, ◌≤◌, ◌⊎◌, None, Some, OnOk, OnErr, IfErr, length};
-ghost use Rattle.prop_premises.specs.Sets.{set_of};
+ghost use Rattle.std.specs.Prelude.{◌≡◌, ◌<◌, ◌≤◌, ◌⊎◌, false, None, Some, OnOk, OnErr, IfErr, length};
+ghost use Rattle.prop_lattice.specs.Order.{Below};
+ghost use Rattle.prop_premises.specs.Sets.{set_of, is_within};
 ghost use Rattle.prop_procedures.specs.Kept.{stored_of};
-ghost use Rattle.prop_cells.specs.Data.{States};
+ghost use Rattle.prop_cells.specs.Data.{States, support_of};
 ghost use Rattle.prop_cells.specs.Refusing.{state_refusal};
 ghost use Rattle.prop_scheduler.specs.Turns.{IsUnderWay};
 ghost use Rattle.prop_scheduler.specs.Watching.{IsWatched};
@@ -12,6 +13,17 @@ use prop_cells::Network;
 use prop_lattice::{Info, Partial, Refusal};
 use prop_premises::{Premise, Worldview};
 use prop_procedures::Rule;
+
+/// Whether a statement says more than what was believed of its cell before: it has to be believed, and not to follow from that.
+fn says_more(before: Info, premise: Option<Premise>, info: Info, worldview: &Worldview) -> bool
+    ensures { result ≡ false → (is_within (set_of worldview.now) (support_of premise) ≡ false) ⊎ Below info before }
+{
+    let is_believed = match premise {
+        Some(premise) => worldview.has(premise),
+        None => true,
+    };
+    is_believed && !before.implies(info)
+}
 
 /// Makes a statement; where what is believed of its cell changes, the cell is watched and its readers wait. Refused as by `Network::state_under`, it changes nothing.
 pub fn state<R: Rule + Drop>(
@@ -40,8 +52,7 @@ pub fn state<R: Rule + Drop>(
 {
     let before = network.belief(cell, worldview);
     network.state_under(premise, cell, info)?;
-    let after = network.belief(cell, worldview);
-    if !before.implies(after) {
+    if says_more(before, premise, info, worldview) {
         agenda.alert_all(network.readers(cell));
         agenda.watch(cell);
     }

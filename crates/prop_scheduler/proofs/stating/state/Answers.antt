@@ -1,14 +1,11 @@
 use Rattle.std.proofs.Common.{◌<◌, ap, length, arith}
 use Rattle.std.proofs.lemmas.List.Elements.{All-weaker}
-use Rattle.prop_lattice.specs.Order.{Below}
-use Rattle.prop_lattice.specs.OrderLaws.{info_laws}
 use Rattle.prop_premises.specs.Sets.{set_of}
 use Rattle.prop_procedures.specs.Kept.{stored_of}
 use Rattle.prop_cells.specs.Instances.{readers_of}
-use Rattle.prop_cells.specs.Data.{IsKept, beliefs}
+use Rattle.prop_cells.specs.Data.{IsKept}
 use Rattle.prop_cells.proofs.Reading.{readers_are}
-use Rattle.prop_cells.proofs.Adding.{adds_grow}
-use Rattle.prop_scheduler.proofs.UnderWay.{under_way_same, under_way_grown, states_merge}
+use Rattle.prop_scheduler.proofs.UnderWay.{under_way_same, under_way_grown, states_merge, states_same}
 use Rattle.prop_scheduler.proofs.WatchLaws.{watched_at, watched_same, same_but}
 use Rattle.prop_scheduler.proofs.stating.state.Goals as goal
 
@@ -18,26 +15,25 @@ alert_all-requires g c =
     let same = ap (λ d. length d.instances) c.in_ok-state_under.ensures.ok.rest in
     rw c.readers.ensures (All-weaker (λ j. j < length new.instances) (λ j. j < c.args.agenda.now.room) (λ j h. let r = c.requires.room in omega (arith, h, same, r)) (readers_of new.instances c.args.cell) (readers_are new.instances c.args.cell).below)
 
-pub returns-then-not-implies-clause-under_way : goal.returns-then-not-implies-clause-under_way
-returns-then-not-implies-clause-under_way g c =
+pub returns-then-says_more-clause-under_way : goal.returns-then-says_more-clause-under_way
+returns-then-says_more-clause-under_way g c =
     let library = stored_of g.R.Rule.value_of c.args.network.now.library in
     let new = c.state_under.new.self.cells in
     let kept : IsKept library new = rw c.state_under.ensures.same at c.state_under.ensures.kept in
     rw (c.watch.ensures.line, c.state_under.ensures.same) (under_way_grown library (set_of c.args.worldview.now) c.args.network.now.cells new c.args.agenda.now.line c.alert_all.new.self.line c.readers.result.now _ c.requires.under_way kept c.in_ok-state_under.ensures.ok c.alert_all.ensures.alerted c.readers.ensures)
 
-pub returns-else-not-implies-clause-under_way : goal.returns-else-not-implies-clause-under_way
-returns-else-not-implies-clause-under_way g c =
+pub returns-else-says_more-clause-under_way : goal.returns-else-says_more-clause-under_way
+returns-else-says_more-clause-under_way g c =
     let library = stored_of g.R.Rule.value_of c.args.network.now.library in
     let s = set_of c.args.worldview.now in
     let old = c.args.network.now.cells in
     let new = c.state_under.new.self.cells in
     let kept : IsKept library new = rw c.state_under.ensures.same at c.state_under.ensures.kept in
-    let less : Below (beliefs s new.contents c.args.cell) (beliefs s old.contents c.args.cell) = rw (c.belief-after.ensures, c.belief-before.ensures) at (c.implies.ensures.0 c.if-not-implies.false) in
-    let same = info_laws.antisymmetric (beliefs s new.contents c.args.cell) (beliefs s old.contents c.args.cell) less (adds_grow old.contents new.contents c.args.cell _ c.in_ok-state_under.ensures.ok.adds s c.args.cell) in
+    let same = states_same s old new _ c.in_ok-state_under.ensures.ok (rw c.belief-before.ensures at (c.says_more.ensures c.if-says_more.false)) in
     rw c.state_under.ensures.same (under_way_same library s old new c.args.agenda.now.line _ c.requires.under_way kept c.in_ok-state_under.ensures.ok same)
 
-pub returns-then-not-implies-clause-watched : goal.returns-then-not-implies-clause-watched
-returns-then-not-implies-clause-watched g c =
+pub returns-then-says_more-clause-watched : goal.returns-then-says_more-clause-watched
+returns-then-says_more-clause-watched g c =
     let s = set_of c.args.worldview.now in
     let old = c.args.network.now.cells in
     let new = c.state_under.new.self.cells in
@@ -45,13 +41,12 @@ returns-then-not-implies-clause-watched g c =
     watched_at s old new c.args.agenda.now.watched c.watch.new.self.watched c.args.cell (ap (λ d. length d.kinds) c.in_ok-state_under.ensures.ok.rest) c.requires.cell merge.1.others
     (rw c.alert_all.ensures.watched at c.watch.ensures.watched) c.requires.watched
 
-pub returns-else-not-implies-clause-watched : goal.returns-else-not-implies-clause-watched
-returns-else-not-implies-clause-watched g c =
+pub returns-else-says_more-clause-watched : goal.returns-else-says_more-clause-watched
+returns-else-says_more-clause-watched g c =
     let s = set_of c.args.worldview.now in
     let old = c.args.network.now.cells in
     let new = c.state_under.new.self.cells in
     let kinds = ap (λ d. length d.kinds) c.in_ok-state_under.ensures.ok.rest in
     let merge = states_merge s old new _ c.in_ok-state_under.ensures.ok in
-    let less : Below (beliefs s new.contents c.args.cell) (beliefs s old.contents c.args.cell) = rw (c.belief-after.ensures, c.belief-before.ensures) at (c.implies.ensures.0 c.if-not-implies.false) in
-    let here = info_laws.antisymmetric (beliefs s new.contents c.args.cell) (beliefs s old.contents c.args.cell) less (adds_grow old.contents new.contents c.args.cell _ c.in_ok-state_under.ensures.ok.adds s c.args.cell) in
+    let here = states_same s old new _ c.in_ok-state_under.ensures.ok (rw c.belief-before.ensures at (c.says_more.ensures c.if-says_more.false)) in
     watched_same s old new c.args.agenda.now.watched (omega (arith, kinds)) (same_but s old new c.args.cell here merge.1.others) c.requires.watched
