@@ -1,11 +1,11 @@
 -- A piece of the input, a byte at a time.
 use Rattle.std.proofs.Common.{◌≡◌, ℕ, ◌+◌, ◌<◌, ◌≤◌, List, [], ◌∷◌, ◌++◌, length, take, drop, get_or, sym, ◌∙◌, ap, subst, append_assoc, append-nil}
-use Rattle.std.specs.Prelude.{Option}
+use Rattle.std.specs.Prelude.{Option, ◌≢◌}
 use Rattle.std.specs.Io.KnownBytes.{Appends}
 use Rattle.std.proofs.lemmas.List.{take_all, take_more, drop_more, take-append-drop}
 use Rattle.prop_engine.specs.Lines.{kept_of}
 use Rattle.prop_engine.specs.Watched.{AppendsFront}
-use Rattle.prop_engine.specs.Answers.{Answer, text_written}
+use Rattle.prop_engine.specs.Answers.{Answer, Silent, text_written}
 use Rattle.prop_engine.specs.Transcripts.{Machine}
 use Rattle.prop_engine.specs.Progress.{CountsAnswer, Advances, Stops}
 use Rattle.prop_engine.specs.declared.outcome.Counts.{Counts}
@@ -39,13 +39,13 @@ feed_line machine asks a b c now kept counts piece now' kept' counts' answer new
       rw (← append_assoc before output (text_written answer)) r,
 )
 
-pub feed_stop : {S : Type 0} (machine : Machine S) → AsksByFront machine → (a b c : Option (List ℕ)) (now : S) (kept : List ℕ) (counts : Counts) (piece : List ℕ) (now' : S) (kept' : List ℕ) (counts' : Counts) (answer : Answer) (new : S) (rest : List ℕ) → SoFar machine a b now kept counts piece now' kept' counts' → machine now' kept' answer new → AppendsFront b c (text_written answer) → (output : List ℕ) × Appends a c output × Stops machine now kept counts (piece ++ 10 ∷ rest) output new
-feed_stop machine asks a b c now kept counts piece now' kept' counts' answer new rest (output, app, adv) s (front, missing, q, e) = (
+pub feed_stop : {S : Type 0} (machine : Machine S) → AsksByFront machine → (a b c : Option (List ℕ)) (now : S) (kept : List ℕ) (counts : Counts) (piece : List ℕ) (now' : S) (kept' : List ℕ) (counts' : Counts) (answer : Answer) (new : S) (rest : List ℕ) → SoFar machine a b now kept counts piece now' kept' counts' → machine now' kept' answer new → AppendsFront b c (text_written answer) → answer ≢ Silent → (output : List ℕ) × Appends a c output × Stops machine now kept counts (piece ++ 10 ∷ rest) output new
+feed_stop machine asks a b c now kept counts piece now' kept' counts' answer new rest (output, app, adv) s (front, missing, q, e) spoken = (
   output ++ front,
   appends_more a b c output front app q,
   λ old input before more p.
       let w : (input ++ (piece ++ 10 ∷ rest)) ++ more ≡ (input ++ piece) ++ 10 ∷ (rest ++ more) = simp append_assoc in
-      let r = line_stopped machine asks old (input ++ piece) kept' (before ++ output) counts' now' answer new front missing (adv old input before p) s e (rest ++ more) ((input ++ (piece ++ 10 ∷ rest)) ++ more) w in
+      let r = line_stopped machine asks old (input ++ piece) kept' (before ++ output) counts' now' answer new front missing (adv old input before p) s e spoken (rest ++ more) ((input ++ (piece ++ 10 ∷ rest)) ++ more) w in
       rw (← append_assoc before output front) r,
 )
 

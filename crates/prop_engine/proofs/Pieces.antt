@@ -1,11 +1,11 @@
 -- A session, a read at a time.
 use Rattle.std.proofs.Common.{◌≡◌, ℕ, ◌<◌, List, [], ◌++◌, Bool, true, false, refl, sym, ◌∙◌, ap, subst, append-nil, arith, inl, inr}
-use Rattle.std.specs.Prelude.{Option, Some, None, Result, Ok, Err, IfOk, OnErr, ◌||◌, ◌&&◌, not, ◌==◌}
+use Rattle.std.specs.Prelude.{◌≢◌, Option, Some, None, Result, Ok, Err, IfOk, OnErr, ◌||◌, ◌&&◌, not, ◌==◌}
 use Rattle.std.specs.Io.KnownBytes.{Appends, Consumes, Keeps, IsAtEnd}
 use Rattle.std.proofs.lemmas.Bool.Decides.{eqb_tells}
 use Rattle.std.proofs.lemmas.Bool.{false≢true}
 use Rattle.prop_engine.specs.Watched.{AppendsFront}
-use Rattle.prop_engine.specs.Answers.{Answer, text_written}
+use Rattle.prop_engine.specs.Answers.{Answer, Silent, text_written}
 use Rattle.prop_engine.specs.Transcripts.{Machine, IsTranscript}
 use Rattle.prop_engine.specs.Progress.{Progress, CountsAnswer, Advances, Stops}
 use Rattle.prop_engine.specs.Endings.{Tells, WritesTranscript, WritesFront}
@@ -62,8 +62,8 @@ ended_line machine asks a b c x y z old kept counts now told answer new counts' 
   (t, f, with_last machine asks old input kept output counts now answer new counts' r e step k),
 )
 
-pub ended_fault : {S : Type 0} (machine : Machine S) → AsksByFront machine → (a b c x y z : Option (List ℕ)) (old : S) (kept : List ℕ) (counts : Counts) (now : S) (told : Bool) (answer : Answer) (new : S) → Going machine a b x y old kept counts now → (kept ≡ [] → ⊥) → Consumes b c [] → IsAtEnd c → told ≡ true → machine now kept answer new → AppendsFront y z (text_written answer) → Told machine a c x z (Err faults.Write) told old new
-ended_fault machine asks a b c x y z old kept counts now told answer new (input, output, p, q, r) e s f t step (front, missing, w, m) = (
+pub ended_fault : {S : Type 0} (machine : Machine S) → AsksByFront machine → (a b c x y z : Option (List ℕ)) (old : S) (kept : List ℕ) (counts : Counts) (now : S) (told : Bool) (answer : Answer) (new : S) → Going machine a b x y old kept counts now → (kept ≡ [] → ⊥) → Consumes b c [] → IsAtEnd c → told ≡ true → machine now kept answer new → AppendsFront y z (text_written answer) → answer ≢ Silent → Told machine a c x z (Err faults.Write) told old new
+ended_fault machine asks a b c x y z old kept counts now told answer new (input, output, p, q, r) e s f t step (front, missing, w, m) spoken = (
   input,
   output ++ front,
   consumed_end a b c input p s,
@@ -71,7 +71,7 @@ ended_fault machine asks a b c x y z old kept counts now told answer new (input,
   (
     (λ _. f),
     λ more follows.
-        rw (follows.0 t, append-nil input) (last_stopped machine asks old input kept output counts now answer new front missing r e step m),
+        rw (follows.0 t, append-nil input) (last_stopped machine asks old input kept output counts now answer new front missing r e step m spoken),
   ),
 )
 

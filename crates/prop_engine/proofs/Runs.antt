@@ -1,11 +1,11 @@
 -- Runs, a line at a time.
 use Rattle.std.proofs.Common.{◌≡◌, ℕ, ◌+◌, ◌<◌, List, [], ◌∷◌, ◌++◌, length, take, cond, refl, sym, ◌∙◌, ap, subst, append_assoc, append-nil, inl, inr, arith, lit<}
-use Rattle.std.specs.Prelude.{count_by}
+use Rattle.std.specs.Prelude.{count_by, ◌≢◌}
 use Rattle.std.proofs.lemmas.List.{flat_map_more, length-take, length_push, take_all, take-append-le, take_at, nil_from_length}
 use Rattle.std.proofs.lemmas.List.Sums.{fold_push}
 use Rattle.std.proofs.lemmas.Bool.{cases_lt}
 use Rattle.prop_engine.specs.Lines.{lines_of, ended_lines, IsWithoutFeed, kept_of}
-use Rattle.prop_engine.specs.Answers.{Answer, text_written, is_refusal}
+use Rattle.prop_engine.specs.Answers.{Answer, Silent, text_written, is_refusal}
 use Rattle.prop_engine.specs.Transcripts.{Machine, Run, WriteStopped, ReadStopped, IsTranscript}
 use Rattle.prop_engine.specs.Progress.{Progress, CountsAnswer, refusals}
 use Rattle.prop_engine.specs.declared.outcome.Counts.{Counts}
@@ -103,8 +103,8 @@ line_progress machine front old input kept output counts now answer new counts' 
 }
 
 -- a write stopped while the answer to a line that a line feed ended was written
-pub line_stopped : {S : Type 0} (machine : Machine S) → AsksByFront machine → (old : S) (input kept output : List ℕ) (counts : Counts) (now : S) (answer : Answer) (new : S) (front missing : List ℕ) → Progress machine old input kept output counts now → machine now kept answer new → text_written answer ≡ front ++ missing → (more whole : List ℕ) → whole ≡ input ++ 10 ∷ more → WriteStopped machine old whole (output ++ front) new
-line_stopped machine asks old input kept output counts now answer new front missing p s m more whole w = record {
+pub line_stopped : {S : Type 0} (machine : Machine S) → AsksByFront machine → (old : S) (input kept output : List ℕ) (counts : Counts) (now : S) (answer : Answer) (new : S) (front missing : List ℕ) → Progress machine old input kept output counts now → machine now kept answer new → text_written answer ≡ front ++ missing → answer ≢ Silent → (more whole : List ℕ) → whole ≡ input ++ 10 ∷ more → WriteStopped machine old whole (output ++ front) new
+line_stopped machine asks old input kept output counts now answer new front missing p s m h more whole w = record {
   lines = p.lines ++ p.part ∷ [];
   rest = lines_of more;
   before = p.answers;
@@ -115,6 +115,7 @@ line_stopped machine asks old input kept output counts now answer new front miss
   run = part_run machine asks old input kept output counts now answer new p s;
   output_is = ap (λ l. l ++ front) p.output_is;
   last_is = m;
+  spoken = h;
 }
 
 -- the end of the input, right after a line feed or with no byte before it
@@ -146,8 +147,8 @@ with_last machine front old input kept output counts now answer new counts' p h 
     }
 
 -- a write stopped while the answer to the last line was written, which no line feed ended
-pub last_stopped : {S : Type 0} (machine : Machine S) → AsksByFront machine → (old : S) (input kept output : List ℕ) (counts : Counts) (now : S) (answer : Answer) (new : S) (front missing : List ℕ) → Progress machine old input kept output counts now → (kept ≡ [] → ⊥) → machine now kept answer new → text_written answer ≡ front ++ missing → WriteStopped machine old input (output ++ front) new
-last_stopped machine asks old input kept output counts now answer new front missing p h s m = record {
+pub last_stopped : {S : Type 0} (machine : Machine S) → AsksByFront machine → (old : S) (input kept output : List ℕ) (counts : Counts) (now : S) (answer : Answer) (new : S) (front missing : List ℕ) → Progress machine old input kept output counts now → (kept ≡ [] → ⊥) → machine now kept answer new → text_written answer ≡ front ++ missing → answer ≢ Silent → WriteStopped machine old input (output ++ front) new
+last_stopped machine asks old input kept output counts now answer new front missing p h s m k = record {
   lines = p.lines ++ p.part ∷ [];
   rest = [];
   before = p.answers;
@@ -158,6 +159,7 @@ last_stopped machine asks old input kept output counts now answer new front miss
   run = part_run machine asks old input kept output counts now answer new p s;
   output_is = ap (λ l. l ++ front) p.output_is;
   last_is = m;
+  spoken = k;
 }
 
 -- no more is read: the lines that have ended were carried out

@@ -1,7 +1,7 @@
 -- What a machine may answer to the lines of an input, and what is written then.
-use Rattle.std.specs.Prelude.{◌≡◌, ℕ, List, [], ◌∷◌, ◌++◌, length, flat_map, count_by}
+use Rattle.std.specs.Prelude.{◌≡◌, ◌≢◌, ℕ, List, [], ◌∷◌, ◌++◌, length, flat_map, count_by}
 use Rattle.prop_engine.specs.Lines.{lines_of, ended_lines}
-use Rattle.prop_engine.specs.Answers.{Answer, text_written, is_refusal}
+use Rattle.prop_engine.specs.Answers.{Answer, Silent, text_written, is_refusal}
 
 -- A machine with states S: from which state a line may be given which answer, and which state follows.
 abbrev pub Machine : Type 0 → Type 1
@@ -36,7 +36,7 @@ pub record ReadStopped {S : Type 0} (machine : Machine S) (old : S) (input outpu
   pub run : Run machine old (ended_lines input) answers new
   pub output_is : output ≡ flat_map text_written answers
 
--- A write stopped it within what is written for last: the line of last was carried out, and no line after it.
+-- A write stopped it within what is written for last, which is not silent: the line of last was carried out, and no line after it.
 pub record WriteStopped {S : Type 0} (machine : Machine S) (old : S) (input output : List ℕ) (new : S) : Type 0 where
   pub lines : List (List ℕ)
   pub rest : List (List ℕ)
@@ -48,3 +48,4 @@ pub record WriteStopped {S : Type 0} (machine : Machine S) (old : S) (input outp
   pub run : Run machine old lines (before ++ last ∷ []) new
   pub output_is : output ≡ flat_map text_written before ++ front
   pub last_is : text_written last ≡ front ++ missing
+  pub spoken : last ≢ Silent

@@ -27,6 +27,14 @@ calls w = w.calls
 abbrev pub widest : {T : Type 0} → Watched T → ℕ
 widest w = w.widest
 
+-- how many bytes it was asked for by the narrowest read: the largest usize where it was not read
+abbrev pub narrowest : {T : Type 0} → Watched T → ℕ
+narrowest w = w.narrowest
+
+-- whether a flush came with nothing to pass on: no write came since the last one
+abbrev pub has_flushed_idly : {T : Type 0} → Watched T → Bool
+has_flushed_idly w = w.has_flushed_idly
+
 -- no call has failed or moved none of its bytes, and all that was written was passed on
 pub record IsFresh {T : Type 0} (w : Watched T) : Type 0 where
   pub not_failed : has_failed w ≡ false

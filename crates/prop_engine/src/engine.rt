@@ -1,8 +1,8 @@
 //! The engine: reads pieces, carries out lines, writes replies.
-ghost use Rattle.std.specs.Prelude.{◌≡◌, ℕ, ◌+◌, ◌<◌, ◌≤◌, ◌^◌, List, length, min, max, true, false, OnOk, OnErr, IfOk, IfErr, MatchResult, IsErrOf, ◌↔◌, ◌⊎◌};
+ghost use Rattle.std.specs.Prelude.{◌≡◌, ◌≢◌, ℕ, ◌+◌, ◌<◌, ◌≤◌, ◌^◌, List, length, min, max, true, false, OnOk, OnErr, IfOk, IfErr, MatchResult, IsErrOf, ◌↔◌, ◌⊎◌};
 ghost use Rattle.std.specs.Io.KnownBytes.{Appends, Consumes};
-ghost use Rattle.prop_engine.specs.Watched.{device, has_failed, has_stopped, calls, widest, AppendsFront, IsFaulty, IsFresh};
-ghost use Rattle.prop_engine.specs.Answers.{Answer, text_written};
+ghost use Rattle.prop_engine.specs.Watched.{device, has_failed, has_stopped, has_flushed_idly, calls, widest, narrowest, AppendsFront, IsFaulty, IsFresh};
+ghost use Rattle.prop_engine.specs.Answers.{Answer, Silent, text_written};
 ghost use Rattle.prop_engine.specs.Progress.{CountsAnswer, Advances, Stops, GrowsAtMost};
 ghost use Rattle.prop_engine.specs.Endings.{Tells, WritesTranscript, WritesFront};
 
@@ -28,9 +28,10 @@ fn answer<M: Interpreter, W: Write>(
     ensures same { M.setting interpreter.new ≡ M.setting interpreter.old }
     ensures step { (answer : Answer) × M.machine (M.setting interpreter.old) (M.state interpreter.old) line.now answer (M.state interpreter.new) × MatchResult result
         (λ _. Appends (W.contents (device writer.old)) (W.contents (device writer.new)) (text_written answer) × CountsAnswer counts.old counts.new answer)
-        (λ _. AppendsFront (W.contents (device writer.old)) (W.contents (device writer.new)) (text_written answer)) }
+        (λ _. AppendsFront (W.contents (device writer.old)) (W.contents (device writer.new)) (text_written answer) × (answer ≢ Silent)) }
     ensures fault { IfErr result (λ e. (e ≡ EngineFault.Write) × IsFaulty writer.new) }
     ensures fresh { OnOk result (IsFresh writer.old → IsFresh writer.new) }
+    ensures needed { has_flushed_idly writer.new ≡ has_flushed_idly writer.old }
 {
     let reply = interpreter.interpret(line);
     write_reply(writer, &reply)?;
@@ -61,6 +62,7 @@ fn feed<M: Interpreter, W: Write>(
     ensures bounded { OnOk result (GrowsAtMost counts.old counts.new (length piece.now)) }
     ensures fault { IfErr result (λ e. (e ≡ EngineFault.Write) × IsFaulty writer.new) }
     ensures fresh { OnOk result (IsFresh writer.old → IsFresh writer.new) }
+    ensures needed { has_flushed_idly writer.new ≡ has_flushed_idly writer.old }
 {
     for byte in piece {
         if *byte == b'\n' {
@@ -73,7 +75,7 @@ fn feed<M: Interpreter, W: Write>(
     Ok(())
 }
 
-/// Reads the input to its end, in at most so many reads of at most 4,096 bytes, and writes
+/// Reads the input to its end, in at most so many reads of 4,096 bytes each, and writes
 /// the replies to its lines. Each reply is written and passed on before the next line is
 /// carried out. It takes no memory beside what the lines take.
 pub fn run_session<M: Interpreter, Rd: Read, W: Write>(
@@ -106,8 +108,11 @@ pub fn run_session<M: Interpreter, Rd: Read, W: Write>(
     ensures reads { IsErrOf result EngineFault.Reads → (has_stopped reader.new ≡ false) × (calls reader.new ≡ min (calls reader.old + reads) u64.MAX) }
     // Where no write stopped it, each reply was written whole and passed on.
     ensures passed_on { IsErrOf result EngineFault.Write ⊎ IsFresh writer.new }
+    // No flush had nothing to pass on, as one at a silent line would.
+    ensures needed { has_flushed_idly writer.new ≡ has_flushed_idly writer.old }
     ensures at_most { calls reader.new ≤ calls reader.old + reads }
     ensures pieces { widest reader.new ≤ max (widest reader.old) 4096 }
+    ensures no_smaller { min (narrowest reader.old) 4096 ≤ narrowest reader.new }
 {
     run(interpreter, reader, writer, reads)
 }
@@ -131,8 +136,10 @@ fn run<M: Interpreter, Rd: Read, W: Write>(
     ensures write { IsErrOf result EngineFault.Write → IsFaulty writer.new }
     ensures reads { IsErrOf result EngineFault.Reads → (has_stopped reader.new ≡ false) × (calls reader.new ≡ min (calls reader.old + reads) u64.MAX) }
     ensures passed_on { IsErrOf result EngineFault.Write ⊎ IsFresh writer.new }
+    ensures needed { has_flushed_idly writer.new ≡ has_flushed_idly writer.old }
     ensures at_most { calls reader.new ≤ calls reader.old + reads }
     ensures pieces { widest reader.new ≤ max (widest reader.old) 4096 }
+    ensures no_smaller { min (narrowest reader.old) 4096 ≤ narrowest reader.new }
 {
     let mut piece = [0; 4096];
     let mut pending = Pending::new();

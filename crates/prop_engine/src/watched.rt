@@ -1,5 +1,5 @@
 //! A reader or a writer that keeps what its calls told.
-ghost use Rattle.std.specs.Prelude.{◌≡◌, ◌<◌, ◌^◌, ◌||◌, is_err, is_ok, max, length, false};
+ghost use Rattle.std.specs.Prelude.{◌≡◌, ◌<◌, ◌^◌, ◌||◌, is_err, is_ok, min, max, length, false};
 ghost use Rattle.std.specs.Io.{ReadsAtMost, WritesAtMost};
 ghost use Rattle.std.specs.Io.KnownBytes.{Keeps, ReadConsumes, WriteAppends};
 
@@ -15,11 +15,13 @@ pub struct Watched<T> {
     is_flushed: bool,
     calls: u64,
     widest: usize,
+    narrowest: usize,
+    has_flushed_idly: bool,
     ghost in_range: { calls < 2 ^ 64 },
 }
 
 impl<T> Watched<T> {
-    ghost use Rattle.prop_engine.specs.Watched.{device, has_failed, calls, widest, IsFresh};
+    ghost use Rattle.prop_engine.specs.Watched.{device, has_failed, calls, widest, narrowest, has_flushed_idly, IsFresh};
 
     /// A device of which no call was made yet.
     pub fn new(inner: T) -> Watched<T>
@@ -27,6 +29,8 @@ impl<T> Watched<T> {
         ensures fresh { IsFresh result }
         ensures calls { calls result ≡ 0 }
         ensures widest { widest result ≡ 0 }
+        ensures narrowest { narrowest result ≡ usize.MAX }
+        ensures needed { has_flushed_idly result ≡ false }
     {
         Watched {
             device: inner,
@@ -35,6 +39,8 @@ impl<T> Watched<T> {
             is_flushed: true,
             calls: 0,
             widest: 0,
+            narrowest: usize::MAX,
+            has_flushed_idly: false,
         }
     }
 
@@ -54,7 +60,7 @@ impl<T> Watched<T> {
 }
 
 impl<R: Read> Watched<R> {
-    ghost use Rattle.prop_engine.specs.Watched.{device, has_failed, has_stopped, is_flushed, calls, widest, one_more, moved_none};
+    ghost use Rattle.prop_engine.specs.Watched.{device, has_failed, has_stopped, is_flushed, calls, widest, narrowest, has_flushed_idly, one_more, moved_none};
 
     /// One read.
     pub fn read(&mut self, buffer: &mut [u8]) -> io::Result<usize>
@@ -65,9 +71,12 @@ impl<R: Read> Watched<R> {
         ensures flushed { is_flushed self.new ≡ is_flushed self.old }
         ensures counted { calls self.new ≡ one_more (calls self.old) }
         ensures widest { widest self.new ≡ max (widest self.old) (length buffer.old) }
+        ensures narrowest { narrowest self.new ≡ min (narrowest self.old) (length buffer.old) }
+        ensures needed { has_flushed_idly self.new ≡ has_flushed_idly self.old }
     {
         self.calls = self.calls.saturating_add(1);
         self.widest = self.widest.max(buffer.len());
+        self.narrowest = self.narrowest.min(buffer.len());
         match self.device.read(buffer) {
             Ok(count) => {
                 if count == 0 && !buffer.is_empty() {
@@ -84,7 +93,7 @@ impl<R: Read> Watched<R> {
 }
 
 impl<W: Write> Watched<W> {
-    ghost use Rattle.prop_engine.specs.Watched.{device, has_failed, has_stopped, is_flushed, calls, widest, one_more, moved_none};
+    ghost use Rattle.prop_engine.specs.Watched.{device, has_failed, has_stopped, is_flushed, calls, widest, narrowest, has_flushed_idly, one_more, moved_none};
 
     /// One write, which may take a part of the bytes.
     pub fn write(&mut self, bytes: &[u8]) -> io::Result<usize>
@@ -95,6 +104,8 @@ impl<W: Write> Watched<W> {
         ensures flushed { is_flushed self.new ≡ false }
         ensures counted { calls self.new ≡ one_more (calls self.old) }
         ensures widest { widest self.new ≡ widest self.old }
+        ensures narrowest { narrowest self.new ≡ narrowest self.old }
+        ensures needed { has_flushed_idly self.new ≡ has_flushed_idly self.old }
     {
         self.calls = self.calls.saturating_add(1);
         self.is_flushed = false;
@@ -120,7 +131,10 @@ impl<W: Write> Watched<W> {
         ensures flushed { is_flushed self.new ≡ (is_flushed self.old || is_ok result) }
         ensures counted { calls self.new ≡ calls self.old }
         ensures widest { widest self.new ≡ widest self.old }
+        ensures narrowest { narrowest self.new ≡ narrowest self.old }
+        ensures needed { has_flushed_idly self.new ≡ (has_flushed_idly self.old || is_flushed self.old) }
     {
+        self.has_flushed_idly |= self.is_flushed;
         match self.device.flush() {
             Ok(()) => {
                 self.is_flushed = true;

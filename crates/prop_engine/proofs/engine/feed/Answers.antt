@@ -18,6 +18,7 @@ loop-byte-init g c = record {
   so_far = feed_start _ _ _ _ _;
   bounded = record { lines = omega arith; refused = omega arith };
   fresh = λ h. h;
+  needed = refl;
 }
 
 stop_at : {T E S : Type 0} (r : Result T E) (machine : Machine S) (a c : Option (List ℕ)) (now : S) (kept : List ℕ) (counts : Counts) (piece whole : List ℕ) (new : S) → whole ≡ piece → ((output : List ℕ) × Appends a c output × Stops machine now kept counts piece output new) → OnErr r ((output : List ℕ) × Appends a c output × Stops machine now kept counts whole output new)
@@ -29,7 +30,7 @@ returns-in_err-answer-clause-err g c =
     let here = at_place c.args.piece.now c.loop-byte.byte-index 10 c.loop-byte-test.true c.if-byte-eq10.true in
     let step : g.M.Interpreter.machine (g.M.Interpreter.setting c.loop-byte.interpreter) (g.M.Interpreter.state c.loop-byte.interpreter) c.loop-byte.pending s.0 (g.M.Interpreter.state c.answer.new.interpreter) = rw (← c.as_slice.ensures) s.1 in
     let step' = same_step g.M.Interpreter.machine _ _ c.loop-byte.invariant.same _ _ _ _ step in
-    let r = feed_stop _ (g.met.M.Interpreter.asks_by_front _) _ _ _ _ _ _ _ _ _ _ _ _ (drop (c.loop-byte.byte-index + 1) c.args.piece.now) c.loop-byte.invariant.so_far step' s.2 in
+    let r = feed_stop _ (g.met.M.Interpreter.asks_by_front _) _ _ _ _ _ _ _ _ _ _ _ _ (drop (c.loop-byte.byte-index + 1) c.args.piece.now) c.loop-byte.invariant.so_far step' s.2.0 s.2.1 in
     stop_at _ _ _ _ _ _ _ _ _ _ here r
 
 pub returns-clause-ok : goal.returns-clause-ok
@@ -59,6 +60,7 @@ loop-byte-preserved g c =
             so_far = feed_line _ (g.met.M.Interpreter.asks_by_front _) _ _ _ _ _ _ _ _ _ _ _ _ _ c.loop-byte.invariant.so_far step' s.2.0 s.2.1;
             bounded = grows _ _ _ _ s.0 c.loop-byte.invariant.bounded s.2.1;
             fresh = λ h. w.in_ok-answer.ensures.fresh (c.loop-byte.invariant.fresh h);
+            needed = w.in_ok-answer.ensures.needed ∙ c.loop-byte.invariant.needed;
           }
       | else-byte-eq10 w ↦
           rw (w.interpreter-is, w.pending-is, w.writer-is, w.counts-is, next_place piece i _ c.loop-byte-test.true refl) record {
@@ -67,5 +69,6 @@ loop-byte-preserved g c =
             so_far = feed_byte _ _ _ _ _ _ _ _ _ _ _ _ c.loop-byte.invariant.so_far w.if-byte-eq10.false w.push.ensures;
             bounded = grows_more _ _ _ c.loop-byte.invariant.bounded;
             fresh = c.loop-byte.invariant.fresh;
+            needed = c.loop-byte.invariant.needed;
           }
     ]

@@ -34,6 +34,8 @@ loop-turn-init g c = record {
   writer = c.requires.writer;
   calls = omega (arith, c.args.reader.now.in_range);
   widest = omega arith;
+  narrowest = omega arith;
+  needed = refl;
 }
 
 pub returns-in-Err-clause-told : goal.returns-in-Err-clause-told
@@ -50,7 +52,7 @@ returns-in_err-answer-clause-told g c =
     let told : has_stopped c.read.new.self ≡ true = at_end _ _ _ _ c.if-count-eq0.true room c.in-Ok.ensures.stopped in
     let end = c.in-Ok.ensures.bytes.1 c.if-count-eq0.true room in
     told_by _ _ _ _ _ _ _ _ _ _ p.1 (p.2 ∙ c.in_err-answer.ensures.fault.0)
-    (ended_fault _ (g.met.M.Interpreter.asks_by_front _) _ _ _ _ _ _ _ _ _ _ _ s.0 _ c.loop-turn.invariant.so_far (λ e. false≢true (sym c.if-not-is_empty.true ∙ c.is_empty.ensures.1 e)) consumed end told step' s.2)
+    (ended_fault _ (g.met.M.Interpreter.asks_by_front _) _ _ _ _ _ _ _ _ _ _ _ s.0 _ c.loop-turn.invariant.so_far (λ e. false≢true (sym c.if-not-is_empty.true ∙ c.is_empty.ensures.1 e)) consumed end told step' s.2.0 s.2.1)
 
 pub returns-in_ok-answer-clause-told : goal.returns-in_ok-answer-clause-told
 returns-in_ok-answer-clause-told g c =
@@ -94,6 +96,8 @@ loop-turn-preserved g c =
       writer = c.in_ok-feed.ensures.fresh c.loop-turn.invariant.writer;
       calls = omega (arith, c.in-Ok.ensures.counted, c.loop-turn.invariant.calls);
       widest = omega (arith, c.in-Ok.ensures.widest, c.loop-turn.invariant.widest);
+      narrowest = omega (arith, c.in-Ok.ensures.narrowest, c.loop-turn.invariant.narrowest);
+      needed = c.in_ok-feed.ensures.needed ∙ c.loop-turn.invariant.needed;
     }
 
 pub returns-clause-told : goal.returns-clause-told

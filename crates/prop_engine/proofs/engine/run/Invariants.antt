@@ -1,6 +1,6 @@
 use Rattle.std.proofs.Common.{◌≤◌, ◌≡◌, ◌*◌, ◌+◌, ◌^◌, ◌-◌, min, max, List, ℕ}
 use Rattle.std.specs.Io.KnownBytes.{Appends, Consumes}
-use Rattle.prop_engine.specs.Watched.{device, calls, widest, IsFresh}
+use Rattle.prop_engine.specs.Watched.{device, has_flushed_idly, calls, widest, narrowest, IsFresh}
 use Rattle.prop_engine.specs.Progress.{Progress}
 use Rattle.prop_engine.proofs.engine.run.Given as goal
 
@@ -18,4 +18,6 @@ invariant-loop-turn g l = record {
   writer : IsFresh l.writer;
   calls : calls l.reader ≡ min (calls l.fn.reader + l._turn) (2 ^ 64 - 1);
   widest : widest l.reader ≤ max (widest l.fn.reader) 4096;
+  narrowest : min (narrowest l.fn.reader) 4096 ≤ narrowest l.reader;
+  needed : has_flushed_idly l.writer ≡ has_flushed_idly l.fn.writer;
 }

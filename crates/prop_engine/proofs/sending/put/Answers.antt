@@ -14,6 +14,8 @@ loop-at-preserved g c = let x = c.in-Ok.ensures in record {
   so_far = written_more _ _ _ _ _ _ c.loop-at.invariant.so_far x.bytes;
   failed = not_failed _ _ x.failed ∙ c.loop-at.invariant.failed;
   stopped = not_stopped _ _ _ _ c.if-count-eq0.false x.stopped ∙ c.loop-at.invariant.stopped;
+  waits = λ _. x.flushed;
+  needed = x.needed ∙ c.loop-at.invariant.needed;
 }
 
 pub returns-in-Err-clause-err : goal.returns-in-Err-clause-err
