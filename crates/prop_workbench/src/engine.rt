@@ -1,7 +1,7 @@
 //! Sessions over a reader and a writer.
 ghost use Rattle.std.specs.Prelude.{◌≡◌, ℕ, ◌+◌, ◌≤◌, List, min, max, true, false, OnErr, IfOk, IsErrOf, ◌↔◌, ◌⊎◌};
 ghost use Rattle.std.specs.Io.KnownBytes.{Appends, Consumes};
-ghost use Rattle.prop_engine.specs.Watched.{device, has_failed, has_stopped, calls, widest, IsFaulty, IsFresh};
+ghost use Rattle.prop_engine.specs.Watched.{device, has_failed, has_stopped, calls, widest, narrowest, has_flushed_idly, IsFaulty, IsFresh};
 
 use crate::session::Session;
 use prop_engine::{Counts, EngineFault, Watched, run_session};
@@ -48,8 +48,11 @@ impl<R: Rule + Drop, O: Order + Drop> Session<R, O> {
         ensures reads { IsErrOf result EngineFault.Reads → (has_stopped reader.new ≡ false) × (calls reader.new ≡ min (calls reader.old + reads) u64.MAX) }
         // Where no write stopped it, each reply was written whole and passed on.
         ensures passed_on { IsErrOf result EngineFault.Write ⊎ IsFresh writer.new }
+        // No flush had nothing to pass on, as one at a silent line would.
+        ensures needed { has_flushed_idly writer.new ≡ has_flushed_idly writer.old }
         ensures at_most { calls reader.new ≤ calls reader.old + reads }
         ensures pieces { widest reader.new ≤ max (widest reader.old) 4096 }
+        ensures no_smaller { min (narrowest reader.old) 4096 ≤ narrowest reader.new }
     {
         run_session(self, reader, writer, reads)
     }

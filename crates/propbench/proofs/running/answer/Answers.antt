@@ -33,4 +33,5 @@ returns-in_err-run_session-clause-devices g c =
     let same : c.from_residual.result ≡ carried c.run_session.result = p.1 ∙ ap Err p.2 ∙ sym (ap carried (c.in_err-run_session.was)) in
     subst (λ r. TellsDevices r c.args.reader.now c.run_session.new.reader c.args.writer.now c.run_session.new.writer) (sym same)
     (told c.run_session.result c.args.reader.now c.run_session.new.reader c.args.writer.now c.run_session.new.writer c.run_session.ensures.read c.run_session.ensures.write
-    c.run_session.ensures.reads c.run_session.ensures.passed_on c.run_session.ensures.at_most c.run_session.ensures.pieces)
+    c.run_session.ensures.reads c.run_session.ensures.passed_on c.run_session.ensures.at_most c.run_session.ensures.pieces
+    c.run_session.ensures.no_smaller c.run_session.ensures.needed)
