@@ -1,5 +1,6 @@
 //! The engine: reads pieces, carries out lines, writes replies.
-ghost use Rattle.std.specs.Prelude.{◌≡◌, ◌≢◌, ℕ, ◌+◌, ◌<◌, ◌≤◌, ◌^◌, List, length, min, max, true, false, OnOk, OnErr, IfOk, IfErr, MatchResult, IsErrOf, ◌↔◌, ◌⊎◌};
+ghost use Rattle.std.specs.Prelude.{◌≡◌, ◌≢◌, ◌↔◌, ◌⊎◌, ℕ, ◌+◌, ◌<◌, ◌≤◌, ◌^◌, List, length, min, max, true, false};
+ghost use Rattle.std.specs.Prelude.{OnOk, OnErr, IfOk, IfErr, MatchResult, IsErrOf};
 ghost use Rattle.std.specs.Io.KnownBytes.{Appends, Consumes};
 ghost use Rattle.prop_engine.specs.Watched.{device, has_failed, has_stopped, has_flushed_idly, calls, widest, narrowest, AppendsFront, IsFaulty, IsFresh};
 ghost use Rattle.prop_engine.specs.Answers.{Answer, Silent, text_written};
