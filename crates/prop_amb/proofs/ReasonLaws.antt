@@ -3,7 +3,7 @@ use Rattle.std.proofs.Common.{◌≡◌, ℕ, zero, suc, ◌+◌, ◌-◌, ◌<�
 use Rattle.std.proofs.Math.ListN.{replicate}
 use Rattle.prop_amb.specs.Moving.{first_sides, advanced, no_reasons, reasons_advanced}
 
-ones : (list : List ℕ) → first_sides list ≡ replicate (length list) 1
+pub ones : (list : List ℕ) → first_sides list ≡ replicate (length list) 1
 ones [] = refl
 ones (side ∷ list) = ap (λ l. 1 ∷ l) (ones list)
 

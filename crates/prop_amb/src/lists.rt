@@ -8,7 +8,9 @@ use std::alloc::{AllocError, Global};
 pub(crate) fn first_sides(alloc: Global, list: &[u8]) -> Result<Vec<u8>, AllocError>
     ensures { IfOk result (λ v. v.items ≡ first_sides list.now) }
 {
-    list.iter().map(|_| 1).collect(alloc)
+    let mut sides = Vec::with_capacity(alloc, list.len())?;
+    sides.resize(list.len(), 1)?;
+    Ok(sides)
 }
 
 /// The list with the choice at a place on its next side, and the later ones on their first.
