@@ -16,6 +16,7 @@ use prop_premises::{PremiseSet, Worldview};
 use std::alloc::{AllocError, Global};
 
 /// Whether some of the supports is believed.
+#[inline]
 pub(crate) fn believes_any(worldview: &Worldview, supports: &[PremiseSet]) -> bool
     ensures { result ≡ list_any (λ s. is_within (set_of worldview.now) s) supports.now }
 {

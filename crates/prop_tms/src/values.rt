@@ -33,6 +33,7 @@ pub(crate) fn count<V: Partial>(values: &[Valued<V>]) -> usize
 }
 
 /// Whether some of the supports is part of this one.
+#[inline]
 fn has_part(supports: &[PremiseSet], support: &PremiseSet) -> bool
     ensures { result ≡ list_any (λ s. is_within (set_of support.now) s) supports.now }
 {
@@ -40,6 +41,7 @@ fn has_part(supports: &[PremiseSet], support: &PremiseSet) -> bool
 }
 
 /// Whether some entry of the value subsumes this one.
+#[inline]
 fn subsumes<V: Partial>(valued: &Valued<V>, entry: &Supported<V>) -> bool
     ensures { IsTrue result ↔ Any (λ x. Subsumes V.below x entry.now) (entries_of_one valued.now) }
 {
@@ -61,6 +63,7 @@ pub(crate) fn is_needless<V: Partial>(values: &[Valued<V>], entry: &Supported<V>
 }
 
 /// Whether some of the supports has the same premises as this one.
+#[inline]
 fn has_same(supports: &[PremiseSet], support: &PremiseSet) -> bool
     ensures { result ≡ list_any (λ s. is_alike s support.now) supports.now }
 {
@@ -81,6 +84,7 @@ pub(crate) fn joined<V: Partial>(values: &[Valued<V>], value: V, support: &Premi
 }
 
 /// Whether both are the same value.
+#[inline]
 pub(crate) fn is_same<V: Partial>(a: V, b: V) -> bool
     ensures { IsTrue result ↔ (a ≡ b) }
 {
@@ -142,6 +146,7 @@ pub(crate) fn drop_subsumed<V: Partial>(values: &mut [Valued<V>], entry: &Suppor
 }
 
 /// Whether the value has no support.
+#[inline]
 fn is_bare<V: Partial>(valued: &Valued<V>) -> bool
     ensures { IsTrue result ↔ (valued.now.supports.items ≡ []) }
 {
