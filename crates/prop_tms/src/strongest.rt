@@ -36,6 +36,17 @@ pub(crate) fn belief<V: Partial>(values: &[Valued<V>], worldview: &Worldview) ->
     merged
 }
 
+/// What the entries of the row say together: what those before the last say, with what the last says.
+fn said_together<V: Partial>(gains: &[Gain<'_, V>]) -> V
+    requires { AreGains V.join V.bottom gains.now }
+    ensures { result ≡ merge_of_all V.bottom V.join (gained_of gains.now) }
+{
+    match gains.last() {
+        Some(gain) => gain.before.merge(gain.entry.value),
+        None => V::nothing(),
+    }
+}
+
 /// The first entry of the row that alone says as much as the value.
 fn alone<'a, V: Partial>(gains: &[Gain<'a, V>], value: V) -> Option<Entry<'a, V>>
     requires { AreRanked (gained_of gains.now) }
@@ -113,8 +124,8 @@ fn strongest_of_many<V: Partial>(
     ensures lean { IfOk result (λ e. IsLean V.bottom V.join (entries_of values.now) (set_of worldview.now) e.value e.support) }
     ensures short { IfOk result (λ e. IsShort (entries_of values.now) (set_of worldview.now) e.value e.support) }
 {
-    let value = belief(values, worldview);
     let gains = gains(alloc, values, worldview)?;
+    let value = said_together(&gains);
     let alone = alone(&gains, value);
     let together = thinned(alloc, gains, value)?;
     let premises = count(&together);
