@@ -70,7 +70,7 @@ fn alone<'a, V: Partial>(gains: &[Gain<'a, V>], value: V) -> Option<Entry<'a, V>
 }
 
 /// The premises of entries of the row that say this together, as all of them do, and of which none can be left out. From the last back,
-/// an entry goes where those before it and those kept say as much.
+/// an entry goes where those before it and those kept say as much; so do all that are left, once those kept say so alone.
 fn thinned<V: Partial>(
     alloc: Global,
     mut gains: Vec<Gain<'_, V>>,
@@ -88,6 +88,9 @@ fn thinned<V: Partial>(
         if !gain.before.merge(after).implies(value) {
             after = gain.entry.value.merge(after);
             support = gain.entry.support.union(&support)?;
+            if after.implies(value) {
+                return Ok(support);
+            }
         }
     }
     Ok(support)
