@@ -107,6 +107,25 @@ module _ {V : Type 0} {below : V → V → Type 0} {bottom top : V} {join : V �
     joined = t.joined;
   }
 
+  -- those that were chosen say the value by themselves: all that are left go
+  pub IsLean-early : (entries : List (Supported V)) (w : Members) (v : V) (left : List (Supported V)) (after : V) (support : List ℕ) → IsThinned bottom join entries w v left after support → below v after → IsLean bottom join entries w v support
+  IsLean-early entries w v left after support t says =
+      let c = t.chosen in
+      let all = merge_of_all bottom join c in
+      let less : below all v = rw t.whole at (under c (left ++ c) (λ P h. all_second P left c h)) in
+      record {
+        chosen = c;
+        among = t.among;
+        believed = t.believed;
+        merged = laws.antisymmetric all v less (rw t.after_is at says);
+        needed = λ k l same.
+            let now = merge_of_all bottom join (left ++ remove c k) in
+            let up : below v now = rw same at (under (remove c k) (left ++ remove c k) (λ P h. all_second P left (remove c k) h)) in
+            let down : below now v = rw t.whole at (less_removed left c k) in
+            t.needed k l (laws.antisymmetric now v down up);
+        joined = t.joined;
+      }
+
   -- ---- entries in a row, each with what those before it say
 
   AreGains-push : (before : V) (gains : List (Gain V)) (g : Gain V) → AreGains join before gains → g.before ≡ join before (merge_of_all bottom join (gained_of gains)) → AreGains join before (gains ++ g ∷ [])

@@ -1,7 +1,8 @@
 -- Values with their supports, and the entries that they stand for.
 use Rattle.std.proofs.Common.{◌≡◌, ◌≢◌, ◌∙◌, ◌+◌, ◌<◌, ◌≤◌, ◌||◌, not, ℕ, zero, suc, Bool, true, false, cond, if◌then◌else◌, List, [], ◌∷◌, ◌++◌, length, map, filter, take, drop, get_or, set, slice_get, Some, vec_capacity, vec_len, refl, sym, ap, subst, arith, inl, inr, ◌⊎◌, All, AllPairs, Any, ◌↔◌, append_assoc, append-nil}
 use Rattle.std.specs.List.{list_any, remove}
-use Rattle.std.proofs.lemmas.List.{get_or_default, length-append, length-set, map-append, take_more, take-set}
+use Rattle.std.proofs.lemmas.List.{get_or_append_left, get_or_default, length-append, length-set, map-append, take_more, take-set}
+use Rattle.std.proofs.lemmas.Grind.{get_or-set_at}
 use Rattle.std.proofs.lemmas.List.Elements.{All-nil, All-cons, All-head, All-tail, filter-append}
 use Rattle.std.proofs.lemmas.List.Kept.{AllPairs-cons}
 use Rattle.std.proofs.lemmas.List.Quantifiers.{all_pairs_push}
@@ -11,7 +12,7 @@ use Rattle.prop_lattice.specs.Laws.{IsInformationOrder}
 use Rattle.prop_premises.specs.Sets.{Members, set_of, is_within}
 use Rattle.prop_tms.specs.Beliefs.{merge_of_all, belief_of, Subsumes}
 use Rattle.prop_tms.specs.Kept.{IsLeftWithout}
-use Rattle.prop_tms.specs.Values.{entries_of, entries_of_one, values_of, place_of, AreApart, NoneBare, HasRoomOf}
+use Rattle.prop_tms.specs.Values.{entries_of, entries_of_one, values_of, place_of, AreApart, NoneBare, NoneBareBut, NoneEmptied, HasRoomOf}
 use Rattle.prop_tms.specs.declared.supported.Supported.{Supported}
 use Rattle.prop_tms.specs.declared.values.Valued.{Valued}
 use Rattle.prop_tms.proofs.KeptLemmas.{contains_cases}
@@ -299,6 +300,16 @@ room_set xs ys i y x m here rest k d l = elim (get_or_set ys i k y d m) as (λ _
   | inr other ↦ subst (λ (z : Valued _). HasRoomOf z (get_or xs k d)) (sym other) (rest k d l)
 ]
 
+-- a write that leaves a support where there was one
+pub emptied_set : {V : Type 0} (xs ys : List (Valued V)) (i : ℕ) (y x : Valued V) → i < length ys → (y.supports.items ≡ [] → (get_or ys i x).supports.items ≡ []) → NoneEmptied xs ys → NoneEmptied xs (set ys i y)
+emptied_set xs ys i y x m here rest k d l = elim (get_or_set ys i k y d m) as (λ _. (get_or (set ys i y) k d).supports.items ≡ [] → (get_or xs k d).supports.items ≡ []) [
+  | inl at ↦
+      (let first = subst (λ (z : Valued _). y.supports.items ≡ [] → z.supports.items ≡ []) (get_or_default ys i x d m) here in
+      let now : y.supports.items ≡ [] → (get_or ys k d).supports.items ≡ [] = subst (λ (n : ℕ). y.supports.items ≡ [] → (get_or ys n d).supports.items ≡ []) at.0 first in
+      λ none. rest k d l (now (ap (λ (z : Valued _). z.supports.items) (sym at.1) ∙ none)))
+  | inr other ↦ (λ none. rest k d l (ap (λ (z : Valued _). z.supports.items) (sym other) ∙ none))
+]
+
 -- a value without the supports that an entry is part of
 pub left_wider : {V : Type 0} (below : V → V → Type 0) (e : Supported V) (x y : Valued V) → below x.value e.value → y.value ≡ x.value → y.supports.items ≡ filter (λ s. not (is_within (set_of s) e.support)) x.supports.items →
     IsLeftWithout (Subsumes below e) (entries_of_one x) (entries_of_one y)
@@ -319,6 +330,25 @@ apart_more {V} xs x v is new apart =
 -- and stands for nothing before it has a support
 pub entries_of-new : {V : Type 0} (xs : List (Valued V)) (x : Valued V) → x.supports.items ≡ [] → entries_of (xs ++ x ∷ []) ≡ entries_of xs
 entries_of-new xs x none = entries_of-push xs x ∙ ap (λ ss. entries_of xs ++ with_value x.value ss) none ∙ append-nil (entries_of xs)
+
+pub bare_but_new : {V : Type 0} (xs : List (Valued V)) (x : Valued V) → NoneBare xs → NoneBareBut (length xs) (xs ++ x ∷ [])
+bare_but_new xs x some k d l other =
+    let n = length-append xs (x ∷ []) in
+    let short : k < length xs = omega (arith, l, n, other) in
+    subst (λ (z : Valued _). z.supports.items ≢ []) (sym (get_or_append_left xs (x ∷ []) d k short)) (some k d short)
+
+-- where no other lost its supports, the one with the new support is the last to have one
+pub none_bare-push : {V : Type 0} (start mid : List (Valued V)) (i : ℕ) (y : Valued V) → i < length mid → length mid ≡ length start → y.supports.items ≢ [] → NoneBareBut i start → NoneEmptied start mid → NoneBare (set mid i y)
+none_bare-push start mid i y l same some others kept k d m =
+    let n = length-set mid i y in
+    elim (get_or_set mid i k y d l) as (λ _. (get_or (set mid i y) k d).supports.items ≢ []) [
+      | inl at ↦ subst (λ (z : Valued _). z.supports.items ≢ []) (sym at.1) some
+      | inr stays ↦
+          (λ none.
+          let other : k ≢ i = λ e. some (ap (λ (z : Valued _). z.supports.items) (sym (get_or-set_at mid i k y d e l)) ∙ none) in
+          let short : k < length start = omega (arith, m, n, same) in
+          others k d short other (kept k d short (ap (λ (z : Valued _). z.supports.items) (sym stays) ∙ none)))
+    ]
 
 pub none_bare-set : {V : Type 0} (xs : List (Valued V)) (i : ℕ) (y d : Valued V) → i < length xs → y.supports.items ≡ (get_or xs i d).supports.items → NoneBare xs → NoneBare (set xs i y)
 none_bare-set xs i y d l same some k z m = elim (get_or_set xs i k y z l) as (λ _. (get_or (set xs i y) k z).supports.items ≢ []) [

@@ -1,5 +1,5 @@
 -- Values, each once, with the supports that say so.
-use Rattle.std.specs.Prelude.{◌≡◌, ◌≢◌, ℕ, ◌+◌, ◌^◌, ◌<◌, ◌≤◌, Bool, not, ◌&&◌, ◌||◌, List, [], ◌∷◌, ◌++◌, length, map, take, All, AllPairs, vec_capacity, vec_len}
+use Rattle.std.specs.Prelude.{◌≡◌, ◌≢◌, ℕ, ◌+◌, ◌^◌, ◌<◌, ◌≤◌, Bool, not, ◌&&◌, ◌||◌, List, [], ◌∷◌, ◌++◌, length, get_or, map, take, All, AllPairs, vec_capacity, vec_len}
 use Rattle.prop_premises.specs.Sets.{Members, is_within}
 use Rattle.prop_tms.specs.Beliefs.{NoneSubsumed, NoneAlike}
 use Rattle.prop_tms.specs.declared.supported.Supported.{Supported}
@@ -24,6 +24,14 @@ AreApart xs = AllPairs (λ a b. a ≢ b) (values_of xs)
 -- each has a support
 abbrev pub NoneBare : {V : Type 0} → List (Valued V) → Type 0
 NoneBare xs = All (λ x. x.supports.items ≢ []) xs
+
+-- each has a support, but maybe the one at this place
+abbrev pub NoneBareBut : {V : Type 0} → ℕ → List (Valued V) → Type 0
+NoneBareBut {V} at xs = (k : ℕ) (d : Valued V) → k < length xs → k ≢ at → (get_or xs k d).supports.items ≢ []
+
+-- each that has no support now had none before
+abbrev pub NoneEmptied : {V : Type 0} → List (Valued V) → List (Valued V) → Type 0
+NoneEmptied {V} old new = (k : ℕ) (d : Valued V) → k < length old → (get_or new k d).supports.items ≡ [] → (get_or old k d).supports.items ≡ []
 
 -- The entries of a Tms: none subsumes another, no two rest on the same premises, each value stands once, and they can be counted.
 pub record AreKept {V : Type 0} (below : V → V → Type 0) (xs : List (Valued V)) : Type 0 where

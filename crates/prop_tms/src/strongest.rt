@@ -1,8 +1,8 @@
 //! What the believed entries say together, and few premises that are enough for it.
-ghost use Rattle.std.specs.Prelude.{◌≡◌, ◌≢◌, ◌≤◌, [], ◌∷◌, length, All, Contains, IsTrue, IsOk, IfOk, IfSome, IsSomeAnd};
+ghost use Rattle.std.specs.Prelude.{◌≡◌, ◌≤◌, [], length, map, option_to_list, All, Contains, IsTrue, IsOk, IfOk, IfSome, IsSomeAnd};
 ghost use Rattle.std.specs.List.{list_any};
 ghost use Rattle.prop_premises.specs.Sets.{Members, set_of, is_within};
-ghost use Rattle.prop_tms.specs.Beliefs.{belief_of, merge_of_all, IsLean, IsShort};
+ghost use Rattle.prop_tms.specs.Beliefs.{belief_of, believed_of, merge_of_all, IsLean, IsShort};
 ghost use Rattle.prop_tms.specs.Gains.{AreGains, AreRanked, entry_of, gained_of};
 ghost use Rattle.prop_tms.specs.Values.{entries_of};
 ghost use Rattle.prop_tms.specs.declared.supported.Supported.{Supported};
@@ -16,6 +16,7 @@ use prop_premises::{PremiseSet, Worldview};
 use std::alloc::{AllocError, Global};
 
 /// Whether some of the supports is believed.
+#[inline]
 pub(crate) fn believes_any(worldview: &Worldview, supports: &[PremiseSet]) -> bool
     ensures { result ≡ list_any (λ s. is_within (set_of worldview.now) s) supports.now }
 {
@@ -33,6 +34,17 @@ pub(crate) fn belief<V: Partial>(values: &[Valued<V>], worldview: &Worldview) ->
         }
     }
     merged
+}
+
+/// What the entries of the row say together: what those before the last say, with what the last says.
+fn said_together<V: Partial>(gains: &[Gain<'_, V>]) -> V
+    requires { AreGains V.join V.bottom gains.now }
+    ensures { result ≡ merge_of_all V.bottom V.join (gained_of gains.now) }
+{
+    match gains.last() {
+        Some(gain) => gain.before.merge(gain.entry.value),
+        None => V::nothing(),
+    }
 }
 
 /// The first entry of the row that alone says as much as the value.
@@ -58,7 +70,7 @@ fn alone<'a, V: Partial>(gains: &[Gain<'a, V>], value: V) -> Option<Entry<'a, V>
 }
 
 /// The premises of entries of the row that say this together, as all of them do, and of which none can be left out. From the last back,
-/// an entry goes where those before it and those kept say as much.
+/// an entry goes where those before it and those kept say as much; so do all that are left, once those kept say so alone.
 fn thinned<V: Partial>(
     alloc: Global,
     mut gains: Vec<Gain<'_, V>>,
@@ -76,28 +88,34 @@ fn thinned<V: Partial>(
         if !gain.before.merge(after).implies(value) {
             after = gain.entry.value.merge(after);
             support = gain.entry.support.union(&support)?;
+            if after.implies(value) {
+                return Ok(support);
+            }
         }
     }
     Ok(support)
 }
 
-/// The entry, where there is no other, it is believed and it says something.
-fn sole<'a, V: Partial>(values: &'a [Valued<V>], worldview: &Worldview) -> Option<Entry<'a, V>>
-    ensures only { IfSome result (λ e. entries_of values.now ≡ entry_of e ∷ []) }
-    ensures believed { IfSome result (λ e. IsTrue (is_within (set_of worldview.now) e.support.now)) }
-    ensures says { IfSome result (λ e. e.value ≢ V.bottom) }
+/// The believed entry, if there is any; nothing where there are more than one. It looks at no entry past the second believed one.
+fn sole<'a, V: Partial>(
+    values: &'a [Valued<V>],
+    worldview: &Worldview,
+) -> Option<Option<Entry<'a, V>>>
+    ensures { IfSome result (λ found. map entry_of (option_to_list found) ≡ believed_of (set_of worldview.now) (entries_of values.now)) }
 {
-    let [valued] = values else {
-        return None;
-    };
-    let [support] = &valued.supports[..] else {
-        return None;
-    };
-    let value = valued.value;
-    if V::nothing().implies(value) || !worldview.believes(support) {
-        return None;
+    let mut found = None;
+    for valued in values {
+        for support in &valued.supports {
+            if worldview.believes(support) {
+                if found.is_some() {
+                    return None;
+                }
+                let value = valued.value;
+                found = Some(Entry { value, support });
+            }
+        }
     }
-    Some(Entry { value, support })
+    Some(found)
 }
 
 /// What the believed entries say together, with the support of entries of which none can be left out. Entries of few premises come
@@ -112,8 +130,8 @@ fn strongest_of_many<V: Partial>(
     ensures lean { IfOk result (λ e. IsLean V.bottom V.join (entries_of values.now) (set_of worldview.now) e.value e.support) }
     ensures short { IfOk result (λ e. IsShort (entries_of values.now) (set_of worldview.now) e.value e.support) }
 {
-    let value = belief(values, worldview);
     let gains = gains(alloc, values, worldview)?;
+    let value = said_together(&gains);
     let alone = alone(&gains, value);
     let together = thinned(alloc, gains, value)?;
     let premises = count(&together);
@@ -125,7 +143,7 @@ fn strongest_of_many<V: Partial>(
 }
 
 /// What the believed entries say together, with the support of entries of which none can be left out. No believed entry that says as
-/// much alone has fewer premises. Where one entry is all that there is, only its support is copied.
+/// much alone has fewer premises. Where just one entry is believed, only its support is copied.
 pub(crate) fn strongest<V: Partial>(
     alloc: Global,
     values: &[Valued<V>],
@@ -137,9 +155,14 @@ pub(crate) fn strongest<V: Partial>(
     ensures short { IfOk result (λ e. IsShort (entries_of values.now) (set_of worldview.now) e.value e.support) }
 {
     match sole(values, worldview) {
-        Some(entry) => {
+        Some(Some(entry)) if !V::nothing().implies(entry.value) => {
             let value = entry.value;
             let support = entry.support.copy()?;
+            Ok(Supported { value, support })
+        }
+        Some(_) => {
+            let value = V::nothing();
+            let support = PremiseSet::empty(alloc);
             Ok(Supported { value, support })
         }
         None => strongest_of_many(alloc, values, worldview),

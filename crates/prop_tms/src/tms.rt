@@ -11,7 +11,7 @@ use crate::strongest::{belief, strongest};
 use crate::supported::Supported;
 use crate::trimming::{count_derived, trim};
 use crate::values::{
-    Valued, count, drop_bare, drop_from, drop_subsumed, is_needless, joined, room_for,
+    Valued, count, drop_bare, drop_emptied, drop_from, drop_subsumed, is_needless, joined, room_for,
 };
 use prop_lattice::Partial;
 use prop_premises::{PremiseSet, Worldview};
@@ -81,9 +81,9 @@ impl<V: Partial> Tms<V> {
         let support = entry.support;
         let entry = Supported { value, support };
         let place = room_for(&mut self.values, value)?;
-        drop_subsumed(&mut self.values, &entry);
+        let emptied = drop_subsumed(&mut self.values, &entry);
         self.values[place].supports.push(entry.support)?;
-        drop_bare(&mut self.values);
+        drop_emptied(&mut self.values, emptied);
         Ok(Change::Grown)
     }
 

@@ -1,10 +1,10 @@
 //! Values, each once, with the supports that say so.
-ghost use Rattle.std.specs.Prelude.{◌≡◌, ◌≢◌, ◌↔◌, ◌<◌, ◌≤◌, ◌+◌, ◌^◌, ℕ, [], Any, All, not, length, filter, get_or, vec_capacity, vec_len, IsTrue, OnErr, IfOk, IfSome, IfNone};
+ghost use Rattle.std.specs.Prelude.{◌≡◌, ◌≢◌, ◌↔◌, ◌<◌, ◌≤◌, ◌+◌, ◌^◌, ℕ, [], Any, All, false, not, length, filter, get_or, vec_capacity, vec_len, IsTrue, OnErr, IfOk, IfSome, IfNone};
 ghost use Rattle.std.specs.List.{list_any};
 ghost use Rattle.prop_premises.specs.Sets.{set_of, is_within, is_alike, is_below};
 ghost use Rattle.prop_tms.specs.Beliefs.{Subsumes, IsNeedless, joined_with};
 ghost use Rattle.prop_tms.specs.Kept.{IsLeftWithout};
-ghost use Rattle.prop_tms.specs.Values.{entries_of, entries_of_one, values_of, AreApart, NoneBare, HasRoomOf};
+ghost use Rattle.prop_tms.specs.Values.{entries_of, entries_of_one, values_of, AreApart, NoneBare, NoneBareBut, NoneEmptied, HasRoomOf};
 ghost use Rattle.prop_tms.specs.declared.supported.Supported.{Supported};
 ghost use Rattle.prop_tms.specs.declared.values.Valued.{Valued};
 
@@ -33,6 +33,7 @@ pub(crate) fn count<V: Partial>(values: &[Valued<V>]) -> usize
 }
 
 /// Whether some of the supports is part of this one.
+#[inline]
 fn has_part(supports: &[PremiseSet], support: &PremiseSet) -> bool
     ensures { result ≡ list_any (λ s. is_within (set_of support.now) s) supports.now }
 {
@@ -40,6 +41,7 @@ fn has_part(supports: &[PremiseSet], support: &PremiseSet) -> bool
 }
 
 /// Whether some entry of the value subsumes this one.
+#[inline]
 fn subsumes<V: Partial>(valued: &Valued<V>, entry: &Supported<V>) -> bool
     ensures { IsTrue result ↔ Any (λ x. Subsumes V.below x entry.now) (entries_of_one valued.now) }
 {
@@ -61,6 +63,7 @@ pub(crate) fn is_needless<V: Partial>(values: &[Valued<V>], entry: &Supported<V>
 }
 
 /// Whether some of the supports has the same premises as this one.
+#[inline]
 fn has_same(supports: &[PremiseSet], support: &PremiseSet) -> bool
     ensures { result ≡ list_any (λ s. is_alike s support.now) supports.now }
 {
@@ -81,6 +84,7 @@ pub(crate) fn joined<V: Partial>(values: &[Valued<V>], value: V, support: &Premi
 }
 
 /// Whether both are the same value.
+#[inline]
 pub(crate) fn is_same<V: Partial>(a: V, b: V) -> bool
     ensures { IsTrue result ↔ (a ≡ b) }
 {
@@ -108,6 +112,7 @@ pub(crate) fn room_for<V: Partial>(
     ensures apart { AreApart values.new.items }
     ensures place { IfOk result (λ at. (at < length values.new.items) × ((d : Valued V) → (get_or values.new.items at d).value ≡ value)) }
     ensures room { IfOk result (λ at. (d : Valued V) → vec_len (get_or values.new.items at d).supports < vec_capacity (get_or values.new.items at d).supports) }
+    ensures others { IfOk result (λ at. NoneBare values.old.items → NoneBareBut at values.new.items) }
     ensures err { OnErr result (NoneBare values.old.items → NoneBare values.new.items) }
 {
     if let Some(place) = find(values, value) {
@@ -119,29 +124,36 @@ pub(crate) fn room_for<V: Partial>(
     Ok(values.len() - 1)
 }
 
-/// Drops the supports that this one is part of.
-fn drop_wider(supports: &mut Vec<PremiseSet>, support: &PremiseSet)
+/// Drops the supports that this one is part of, and tells whether it dropped all that there were.
+fn drop_wider(supports: &mut Vec<PremiseSet>, support: &PremiseSet) -> bool
+    ensures emptied { result ≡ false → supports.new.items ≡ [] → supports.old.items ≡ [] }
     ensures kept { supports.new.items ≡ filter (λ s. not (is_within (set_of s) support.now)) supports.old.items }
     ensures capacity { vec_capacity supports.new ≡ vec_capacity supports.old }
     ensures len { vec_len supports.new ≤ vec_len supports.old }
 {
+    let some = !supports.is_empty();
     supports.retain(|wider| !support.is_subset(wider));
+    some && supports.is_empty()
 }
 
-/// Drops the entries that this one subsumes. A value may be left with no support.
-pub(crate) fn drop_subsumed<V: Partial>(values: &mut [Valued<V>], entry: &Supported<V>)
+/// Drops the entries that this one subsumes, and tells whether it left a value with no support.
+pub(crate) fn drop_subsumed<V: Partial>(values: &mut [Valued<V>], entry: &Supported<V>) -> bool
+    ensures emptied { result ≡ false → NoneEmptied values.old values.new }
     ensures kept { IsLeftWithout (Subsumes V.below entry.now) (entries_of values.old) (entries_of values.new) }
     ensures values { values_of values.new ≡ values_of values.old }
     ensures room { (k : ℕ) (d : Valued V) → k < length values.old → HasRoomOf (get_or values.new k d) (get_or values.old k d) }
 {
+    let mut emptied = false;
     for valued in values {
         if entry.value.implies(valued.value) {
-            drop_wider(&mut valued.supports, &entry.support);
+            emptied |= drop_wider(&mut valued.supports, &entry.support);
         }
     }
+    emptied
 }
 
 /// Whether the value has no support.
+#[inline]
 fn is_bare<V: Partial>(valued: &Valued<V>) -> bool
     ensures { IsTrue result ↔ (valued.now.supports.items ≡ []) }
 {
@@ -156,6 +168,19 @@ pub(crate) fn drop_bare<V: Partial>(values: &mut Vec<Valued<V>>)
     ensures bare { NoneBare values.new.items }
 {
     values.retain(|valued| !is_bare(valued));
+}
+
+/// Drops the values with no support, where some value was left with none.
+pub(crate) fn drop_emptied<V: Partial>(values: &mut Vec<Valued<V>>, emptied: bool)
+    requires apart { AreApart values.old.items }
+    requires bare { emptied ≡ false → NoneBare values.old.items }
+    ensures same { entries_of values.new.items ≡ entries_of values.old.items }
+    ensures apart { AreApart values.new.items }
+    ensures bare { NoneBare values.new.items }
+{
+    if emptied {
+        drop_bare(values);
+    }
 }
 
 /// Drops the supports with a premise that has a number of `count` or more.

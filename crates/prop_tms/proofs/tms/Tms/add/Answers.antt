@@ -1,4 +1,4 @@
-use Rattle.std.proofs.Common.{◌≡◌, ◌≢◌, ◌∙◌, ◌+◌, ◌<◌, ◌≤◌, ◌++◌, ◌∷◌, List, AllPairs, refl, sym, ap, subst, inr, length, get_or, arith}
+use Rattle.std.proofs.Common.{◌≡◌, ◌≢◌, ◌∙◌, ◌+◌, ◌<◌, ◌≤◌, ◌++◌, [], ◌∷◌, List, AllPairs, refl, sym, ap, subst, inr, length, get_or, arith}
 use Rattle.prop_tms.specs.Beliefs.{Adds, IsNeedless, NoneAlike, NoneSubsumed, Subsumes, joined_with}
 use Rattle.prop_tms.specs.Kept.{IsLeftWithout}
 use Rattle.prop_tms.specs.Values.{entries_of}
@@ -6,7 +6,7 @@ use Rattle.prop_tms.specs.declared.supported.Supported.{Supported}
 use Rattle.prop_tms.specs.declared.values.Valued.{Valued}
 use Rattle.prop_tms.proofs.BeliefLemmas.{adds_joined, adds_needless, needed_joined, none_alike-joined, none_subsumed-joined}
 use Rattle.prop_tms.proofs.KeptLemmas.{insert_length}
-use Rattle.prop_tms.proofs.ValueLemmas.{grown_all, has_room, left_length, length_values, values_of-set, written_values}
+use Rattle.prop_tms.proofs.ValueLemmas.{grown_all, has_room, left_length, length_values, none_bare-push, values_of-set, written_values}
 use Rattle.prop_tms.proofs.tms.Tms.add.Given.{Over}
 use Rattle.prop_tms.proofs.tms.Tms.add.Goals as goal
 
@@ -42,13 +42,13 @@ returns-in_err-place-clause-needless g c =
 no_refusal : (g : Over) (c : goal.After-from_residual-in_err-push g) → ⊥
 no_refusal g c =
     let start = c.room_for.new.values.items in
-    let mid = c.drop_subsumed.new.values in
+    let mid = c.drop_subsumed-emptied.new.values in
     let i = c.in_ok-place.place in
     let x = c.index_mut.result.now in
-    let values = rw c.deref_mut.ensures.value at c.drop_subsumed.ensures.values in
+    let values = rw c.deref_mut.ensures.value at c.drop_subsumed-emptied.ensures.values in
     let is : x ≡ get_or mid i x = rw (written_values _ start mid c.room_for.new.values.ok.0 values) at c.index_mut.ensures.value in
     let l = c.in_ok-place.ensures.place.0 in
-    let kept = rw c.deref_mut.ensures.value at c.drop_subsumed.ensures.room in
+    let kept = rw c.deref_mut.ensures.value at c.drop_subsumed-emptied.ensures.room in
     has_room start mid i x l is (c.in_ok-place.ensures.room x) (kept i x l) c.in_err-push.ensures.full
 
 pub invariant_of-self-in_err-push : goal.invariant_of-self-in_err-push
@@ -71,11 +71,11 @@ returns-in_err-push-clause-err g c = absurd (no_refusal g c)
 
 -- ---- the entry, with what those on its premises say
 
-pub drop_bare-requires : goal.drop_bare-requires
-drop_bare-requires g c =
+pub drop_emptied-requires-clause-apart : goal.drop_emptied-requires-clause-apart
+drop_emptied-requires-clause-apart g c =
     let start = c.room_for.new.values.items in
-    let mid = c.drop_subsumed.new.values in
-    let values = rw c.deref_mut.ensures.value at c.drop_subsumed.ensures.values in
+    let mid = c.drop_subsumed-emptied.new.values in
+    let values = rw c.deref_mut.ensures.value at c.drop_subsumed-emptied.ensures.values in
     let whole = written_values _ start mid c.room_for.new.values.ok.0 values in
     let i = c.in_ok-place.place in
     let x = c.index_mut.result.now in
@@ -84,31 +84,47 @@ drop_bare-requires g c =
     let l : i < length mid = omega (arith, c.in_ok-place.ensures.place.0, n) in
     rw whole (subst (AllPairs (λ a b. a ≢ b)) (sym (values_of-set mid i _ x l (ap (λ (z : Valued _). z.value) is) ∙ values)) c.in_ok-place.ensures.apart)
 
+pub drop_emptied-requires-clause-bare : goal.drop_emptied-requires-clause-bare
+drop_emptied-requires-clause-bare g c left =
+    let start = c.room_for.new.values.items in
+    let mid = c.drop_subsumed-emptied.new.values in
+    let values = rw c.deref_mut.ensures.value at c.drop_subsumed-emptied.ensures.values in
+    let emptied = rw c.deref_mut.ensures.value at c.drop_subsumed-emptied.ensures.emptied in
+    let whole = written_values _ start mid c.room_for.new.values.ok.0 values in
+    let n = length_values mid start values in
+    let l : c.in_ok-place.place < length mid = omega (arith, c.in_ok-place.ensures.place.0, n) in
+    let some : c.push.new.self.items ≢ [] = λ none. none_pushed c.index_mut.result.now.supports.items c.args.support (sym c.in_ok-push.ensures.items ∙ none) in
+    rw whole (none_bare-push start mid c.in_ok-place.place _ l n some (c.in_ok-place.ensures.others c.self.invariant.bare) (emptied left))
+  where
+    none_pushed : {X : Type 0} (xs : List X) (x : X) → xs ++ x ∷ [] ≡ [] → ⊥
+    none_pushed [] x e = absurd (cc)
+    none_pushed (y ∷ xs) x e = absurd (cc)
+
 -- where it stands
-grown : (g : Over) (c : goal.After-drop_bare g) →
+grown : (g : Over) (c : goal.After-drop_emptied g) →
     let old = entries_of c.self.inside.values.items in
     let m = joined_with g.V.Partial.bottom g.V.Partial.join old (record { value = c.args.value; support = c.args.support }) in
-    (front : List (Supported _)) × (rear : List (Supported _)) × IsLeftWithout (Subsumes g.V.Partial.below m) old (front ++ rear) × (entries_of c.drop_bare.new.values.items ≡ front ++ m ∷ rear)
+    (front : List (Supported _)) × (rear : List (Supported _)) × IsLeftWithout (Subsumes g.V.Partial.below m) old (front ++ rear) × (entries_of c.drop_emptied.new.values.items ≡ front ++ m ∷ rear)
 grown g c =
     let old = entries_of c.self.inside.values.items in
     let m = joined_with g.V.Partial.bottom g.V.Partial.join old (record { value = c.args.value; support = c.args.support }) in
     let start = c.room_for.new.values.items in
-    let mid = c.drop_subsumed.new.values in
+    let mid = c.drop_subsumed-emptied.new.values in
     let i = c.in_ok-place.place in
     let x = c.index_mut.result.now in
     let y : Valued _ = record { value = x.value; supports = c.push.new.self } in
     let said : c.joined-value.result ≡ m.value = rw c.deref-3.ensures.value at c.joined-value.ensures in
-    let values = rw c.deref_mut.ensures.value at c.drop_subsumed.ensures.values in
+    let values = rw c.deref_mut.ensures.value at c.drop_subsumed-emptied.ensures.values in
     let whole = written_values _ start mid c.room_for.new.values.ok.0 values in
     let is : x ≡ get_or mid i x = rw whole at c.index_mut.ensures.value in
-    let left : IsLeftWithout (Subsumes g.V.Partial.below m) (entries_of start) (entries_of mid) = rw (c.deref_mut.ensures.value, said) at c.drop_subsumed.ensures.kept in
-    grown_all (Subsumes g.V.Partial.below m) old (entries_of c.drop_bare.new.values.items) m start mid i x y c.in_ok-place.ensures.same c.in_ok-place.ensures.place.0 (c.in_ok-place.ensures.place.1 x ∙ said) left values is refl c.in_ok-push.ensures.items
-    (rw whole at c.drop_bare.ensures.same)
+    let left : IsLeftWithout (Subsumes g.V.Partial.below m) (entries_of start) (entries_of mid) = rw (c.deref_mut.ensures.value, said) at c.drop_subsumed-emptied.ensures.kept in
+    grown_all (Subsumes g.V.Partial.below m) old (entries_of c.drop_emptied.new.values.items) m start mid i x y c.in_ok-place.ensures.same c.in_ok-place.ensures.place.0 (c.in_ok-place.ensures.place.1 x ∙ said) left values is refl c.in_ok-push.ensures.items
+    (rw whole at c.drop_emptied.ensures.same)
 
-needed : (g : Over) (c : goal.After-drop_bare g) → ¬ (IsNeedless g.V.Partial.below g.V.Partial.bottom (entries_of c.self.inside.values.items) (record { value = c.args.value; support = c.args.support }))
+needed : (g : Over) (c : goal.After-drop_emptied g) → ¬ (IsNeedless g.V.Partial.below g.V.Partial.bottom (entries_of c.self.inside.values.items) (record { value = c.args.value; support = c.args.support }))
 needed g c = λ n. cc (c.if-is_needless.false, c.is_needless.ensures.1 (rw c.deref.ensures.value n))
 
-subsumed : (g : Over) (c : goal.After-drop_bare g) → NoneSubsumed g.V.Partial.below (entries_of c.drop_bare.new.values.items)
+subsumed : (g : Over) (c : goal.After-drop_emptied g) → NoneSubsumed g.V.Partial.below (entries_of c.drop_emptied.new.values.items)
 subsumed g c =
     let laws = g.met.V.Partial.laws in
     let old = entries_of c.self.inside.values.items in
@@ -117,13 +133,13 @@ subsumed g c =
     let stands = grown g c in
     subst (NoneSubsumed g.V.Partial.below) (sym stands.3) (none_subsumed-joined laws old stands.0 stands.1 m stands.2 (needed_joined laws old e (needed g c)) c.self.invariant.subsumed)
 
-alike : (g : Over) (c : goal.After-drop_bare g) → NoneAlike (entries_of c.drop_bare.new.values.items)
+alike : (g : Over) (c : goal.After-drop_emptied g) → NoneAlike (entries_of c.drop_emptied.new.values.items)
 alike g c =
     let e : Supported _ = record { value = c.args.value; support = c.args.support } in
     let stands = grown g c in
     subst NoneAlike (sym stands.3) (none_alike-joined g.met.V.Partial.laws (entries_of c.self.inside.values.items) stands.0 stands.1 e stands.2 c.self.invariant.alike)
 
-longer : (g : Over) (c : goal.After-drop_bare g) → length (entries_of c.drop_bare.new.values.items) ≤ length (entries_of c.self.inside.values.items) + 1
+longer : (g : Over) (c : goal.After-drop_emptied g) → length (entries_of c.drop_emptied.new.values.items) ≤ length (entries_of c.self.inside.values.items) + 1
 longer g c =
     let old = entries_of c.self.inside.values.items in
     let m = joined_with g.V.Partial.bottom g.V.Partial.join old (record { value = c.args.value; support = c.args.support }) in
@@ -137,8 +153,8 @@ pub invariant_of-self-2 : goal.invariant_of-self-2
 invariant_of-self-2 g c = record {
   subsumed = subsumed g c;
   alike = alike g c;
-  apart = c.drop_bare.ensures.apart;
-  bare = c.drop_bare.ensures.bare;
+  apart = c.drop_emptied.ensures.apart;
+  bare = c.drop_emptied.ensures.bare;
   counted = (
       let counted = rw c.deref-2.ensures.value at c.count.ensures in
       omega (arith, longer g c, c.if-count.false, counted, c.self.invariant.counted)
