@@ -119,6 +119,41 @@ def sides_among_premises():
     )
 
 
+LINE = 4_096
+
+
+def sizes():
+    """Each size of what a line lists, as far as a line holds it: with ample memory none is refused."""
+    letters = [chr(ord("a") + n) for n in range(26)]
+    pairs = [f"{x} {y}" for x in letters for y in letters]
+    lines = [f"relation r{n} d d = {' ; '.join(pairs[:n])}" for n in range(1, len(pairs) + 1)]
+    lines = [line for line in lines if len(line) <= LINE]
+    uses = [f"attach link x y by r{n + 1}" for n in range(len(lines))]
+    yield Case(
+        "sizes: pairs of a relation",
+        sent(f"domain d {' '.join(letters)}", "cell x d", "cell y d", *lines, *uses, "fix x a", "ask y"),
+        answered(4 + 2 * len(lines), "y = a"),
+    )
+    cells = [f"c{n}" for n in range(64)]
+    lines = [f"cell {cell} span" for cell in cells]
+    lines += [f"define f{n} {' '.join(cells[:n])} = copier c0 {cells[n - 1]}" for n in range(2, 65)]
+    lines += [f"attach f{n} {' '.join(cells[:n])}" for n in range(2, 65)]
+    yield Case("sizes: parameters of a definition", sent(*lines, "fix c0 7", *(f"ask {cell}" for cell in cells)), answered(len(lines) + 1, *(f"{cell} = 7" for cell in cells)))
+    lines = [f"define g{n} x y = {' ; '.join(['copier x y'] * n)}" for n in range(1, 400)]
+    lines = [line for line in lines if len(line) <= LINE]
+    lines += [f"attach g{n + 1} a b" for n in range(len(lines))]
+    yield Case("sizes: steps of a definition", sent("cell a span", "cell b span", *lines, "fix a 7", "ask b"), answered(len(lines) + 3, "b = 7"))
+    lines = [f"domain d{n} {' '.join(f'e{m}' for m in range(n))}" for n in range(1, 65)] + [f"cell x{n} d{n}" for n in range(1, 65)]
+    lines += [f"fix x{n} {{{' '.join(f'e{m}' for m in range(n))}}}" for n in range(2, 65)]
+    lines += [f"choose k{n} x64 {' or '.join(f'e{m}' for m in range(n))}" for n in range(2, 9)]
+    yield Case("sizes: elements, and sides of a choice", sent(*lines, "ask x64"), answered(len(lines), "x64 = e0"))
+    count = 200
+    lines = [f"cell {name}{n} span" for n in range(count) for name in "xs"] + ["attach same x0 s0", *(f"attach sum s{n - 1} x{n} s{n}" for n in range(1, count))]
+    lines += [f"tell p{n} x{n} {n}" for n in range(count)]
+    because = [f"s{n} = {n * (n + 1) // 2} because {' '.join(f'p{m}' for m in range(n + 1))}" for n in range(count)]
+    yield Case("sizes: premises of an explanation", sent(*lines, *(f"why s{n}" for n in range(count))), answered(len(lines), *because))
+
+
 def line_lengths():
     for length, end, is_too_long in [(4096, b"", False), (4097, b"", True), (4095, b"\r", False), (4096, b"\r", True)]:
         yield Case(
@@ -196,6 +231,7 @@ def cases():
     yield from long_ways()
     yield from limits()
     yield from sides_among_premises()
+    yield from sizes()
     yield from line_lengths()
     yield from command_lines()
     yield from steps()
