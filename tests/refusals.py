@@ -1,8 +1,15 @@
-"""Sessions in which what they ask the machine for is refused: memory, a read, a write."""
+#!/usr/bin/env python3
+"""Worked sessions in which what they ask the machine for is refused: memory, a read, a write; or whose input is cut.
+
+usage: tests/refusals.py PROGRAM SESSION
+
+refuses each request for memory of the lines of the file SESSION in turn, once each. tests/run runs worked sessions so.
+"""
 import atexit
 import os
 import shutil
 import subprocess
+import sys
 import tempfile
 from dataclasses import dataclass
 from functools import cache
@@ -131,7 +138,7 @@ class EachAllocation(Refusals):
         """Which line was refused, where those before it have their replies; none where no line was."""
         before = b""
         for number, reply in enumerate(self.session.replies()):
-            if output.startswith(before + OUT_OF_MEMORY):
+            if reply and output.startswith(before + OUT_OF_MEMORY):
                 return number
             before += reply
         return None
@@ -221,3 +228,20 @@ def cases(transcripts):
     yield from (EachAllocation(f"refusals: memory, {name}", by_name[name]) for name in HUNGRY)
     for kind in [EachRead, EachWrite, EachWriteOfNothing, HalfWrites, EachCut]:
         yield kind(f"refusals: {kind.__name__}, {CHOOSING}", by_name[CHOOSING])
+
+
+def answered(program, path):
+    """The lines of a file, each with what the program writes for it."""
+    with open(path, "rb") as file:
+        lines = file.read().splitlines(keepends=True)
+    outputs = [run(program, lines[:count])[1] for count in range(len(lines) + 1)]
+    replies = [after.removeprefix(before) for before, after in zip(outputs, outputs[1:])]
+    return Transcript(path, [], list(zip(lines, replies)))
+
+
+def main(program, path):
+    return EachAllocation(path, answered(program, path)).wrong(program) or 0
+
+
+if __name__ == "__main__":
+    sys.exit(main(*sys.argv[1:]))
