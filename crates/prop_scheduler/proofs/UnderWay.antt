@@ -114,9 +114,9 @@ states_same s d new x states less = by (is_within s (support_of x.premise)) refl
     by true on = elim less [
       | inl off ↦ cc (on, off)
       | inr below ↦
-        let join = info_laws.least_above known x.info in
-        (adds_merges d.contents new.contents x.cell e states.adds s on).merged
-        ∙ info_laws.antisymmetric _ known (join.least known (info_laws.reflexive known) below) join.above_first
+          let join = info_laws.least_above known x.info in
+          (adds_merges d.contents new.contents x.cell e states.adds s on).merged
+          ∙ info_laws.antisymmetric _ known (join.least known (info_laws.reflexive known) below) join.above_first
     ]
 
 under_way_states : (library : List Stored) (s : Premises) (d new : Data) (line line' : List ℕ) (x : Statement) (grown : Bool) → IsUnderWay library s d line → IsKept library new → States d new x →
