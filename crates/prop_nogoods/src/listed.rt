@@ -86,6 +86,14 @@ impl Listed {
         }
     }
 
+    /// Whether the premise is in the set. It takes no memory.
+    #[inline]
+    pub(crate) fn holds(&self, premise: Premise) -> bool
+        ensures { result ≡ set_of self.now premise }
+    {
+        self.premises.contains(premise)
+    }
+
     /// Whether each premise of this set is in the other. Of a larger set it is known by the sizes alone. It takes no memory.
     pub(crate) fn is_part_of(&self, other: &Listed) -> bool
         ensures { result ≡ is_within (set_of other.now) self.now }

@@ -2,11 +2,11 @@
 ghost use Rattle.std.specs.Prelude.{◌≡◌, ◌↔◌, ◌≤◌, ◌<◌, ◌+◌, List, ℕ, [], length, not, false, All, None, Ok, Contains, IsTrue, IfOk, IfSome, OnOk, OnErr, insert, vec_capacity, vec_len};
 ghost use Rattle.std.specs.List.Sorted.{IsStrictlyIncreasing, IsPartitionPoint};
 ghost use Rattle.prop_premises.specs.Sets.{set_of, is_within};
-ghost use Rattle.prop_nogoods.specs.Stores.{has_part, staying, with_set, AreMinimal, AreBySize, HaveSame, AddsSet};
+ghost use Rattle.prop_nogoods.specs.Stores.{has_part, staying, lacking, with_set, AreMinimal, AreBySize, HaveSame, AddsSet};
 
 use crate::listed::Listed;
 use crate::nogoods::Nogoods;
-use prop_premises::{PremiseSet, Worldview};
+use prop_premises::{Premise, PremiseSet, Worldview};
 use std::alloc::{AllocError, Global};
 use std::marker::Model;
 
@@ -47,6 +47,13 @@ fn drop_larger(listed: &mut Vec<Listed>, nogood: &Listed)
     ensures len { vec_len listed.new ≤ vec_len listed.old }
 {
     listed.retain(|larger| !nogood.is_part_of(larger));
+}
+
+/// Drops the listed sets that hold the premise.
+fn drop_holding(listed: &mut Vec<Listed>, premise: Premise)
+    ensures { listed.new.items ≡ lacking listed.old.items premise }
+{
+    listed.retain(|nogood| !nogood.holds(premise));
 }
 
 /// The place behind the listed sets that are no larger than this one.
@@ -168,5 +175,13 @@ impl Store {
     {
         let nogood = first_believed(&self.by_last, worldview)?;
         Some(nogood.premises())
+    }
+
+    /// Drops the nogoods that hold the premise. It takes no memory.
+    pub fn purge(&mut self, premise: Premise)
+        ensures { self.new ≡ lacking self.old premise }
+    {
+        drop_holding(&mut self.nogoods, premise);
+        drop_holding(&mut self.by_last, premise);
     }
 }
