@@ -4,14 +4,14 @@ use Rattle.std.proofs.lemmas.List.Elements.{All-filter, All-get_or, filter_passe
 use Rattle.prop_premises.specs.Sets.{Members, set_of, union}
 use Rattle.prop_premises.specs.declared.choice.Choice.{Choice}
 use Rattle.prop_premises.specs.ChoiceLists.{IsChoiceList, hypotheticals_of, is_hypothetical}
-use Rattle.prop_premises.specs.Origins.{is_user_at}
+use Rattle.prop_premises.specs.Origins.{is_user_at, IsNumbered}
 use Rattle.prop_premises.proofs.WorldviewLemmas.{hypotheticals_are}
 use Rattle.prop_cells.specs.Problems.{Problem}
 use Rattle.prop_cells.specs.Forgetting.{Forgets}
 use Rattle.prop_cells.proofs.ForgettingLaws.{contradictory_forgets, related_forgets}
 use Rattle.prop_nogoods.specs.Stores.{lacking}
 use Rattle.prop_amb.specs.Refuted.{IsRefuted, IsNogood}
-use Rattle.prop_amb.specs.Search.{Stand, IsStand, IsSearch, choices_in}
+use Rattle.prop_amb.specs.Search.{Stand, IsSearch, choices_in}
 use Rattle.prop_amb.specs.Moving.{restarted}
 use Rattle.prop_amb.proofs.KeepingLaws.{nothing_kept}
 
@@ -44,14 +44,14 @@ not_true true h = cc
 not_true false h = refl
 
 -- every choice is on its first side again, and the nogoods that hold the premise are gone
-pub search_forgotten : (old new : Problem) (p : ℕ) (s : Stand) (w : List ℕ) → IsStand s → IsTrue (is_user_at s.premises p) → Forgets old new p → IsSearch old s →
+pub search_forgotten : (old new : Problem) (p : ℕ) (s : Stand) (w : List ℕ) → IsNumbered s.premises → IsTrue (is_user_at s.premises p) → Forgets old new p → IsSearch old s →
     IsSearch new (record (restarted s) { listed = lacking s.listed p; worldview = w })
-search_forgotten old new p s w stand user less h = record {
+search_forgotten old new p s w numbered user less h = record {
   nogoods = λ k d l.
       let line = get_or (lacking s.listed p) k d in
       nogood_forgets old new p (choices_in s) (set_of line) less
       (not_true (set_of line p) (All-get_or (λ x. not (set_of x p) ≡ true) (lacking s.listed p) k d l (filter_passes (λ x. not (set_of x p)) s.listed)))
-      (stand.numbered.users p user)
+      (numbered.users p user)
       (All-get_or (λ x. IsNogood old (choices_in s) (set_of x)) (lacking s.listed p) k d l (All-filter (λ x. not (set_of x p)) (λ x. IsNogood old (choices_in s) (set_of x)) s.listed h.nogoods));
   reasons = record { kept = λ j choice side reason at one r. absurd (nothing_kept s.reasons j (side - 1) reason r) };
 }
