@@ -42,6 +42,7 @@ changes_carry library s t (commands.Command.Tell premise cell value) answer step
 changes_carry library s t (commands.Command.Choose name cell values) answer steps still r = r
 changes_carry library s t (commands.Command.Kick premise) answer steps still r = r
 changes_carry library s t (commands.Command.Bring premise) answer steps still r = r
+changes_carry library s t (commands.Command.Forget premise) answer steps still r = r
 changes_carry library s t (commands.Command.Limit n) answer steps still r = r
 changes_carry library s t commands.Command.Settle answer steps still r = absurd still
 changes_carry library s t (commands.Command.Ask x) answer steps still r = absurd still
@@ -61,6 +62,7 @@ carry_changes library s t (commands.Command.Tell premise cell value) answer step
 carry_changes library s t (commands.Command.Choose name cell values) answer steps still r = r
 carry_changes library s t (commands.Command.Kick premise) answer steps still r = r
 carry_changes library s t (commands.Command.Bring premise) answer steps still r = r
+carry_changes library s t (commands.Command.Forget premise) answer steps still r = r
 carry_changes library s t (commands.Command.Limit n) answer steps still r = r
 carry_changes library s t commands.Command.Settle answer steps still r = absurd still
 carry_changes library s t (commands.Command.Ask x) answer steps still r = absurd still

@@ -129,6 +129,10 @@ abbrev pub stating : Option (List ℕ) → List ℕ → Value → Command
 stating None cell value = Command.Fix cell value
 stating (Some premise) cell value = Command.Tell premise cell value
 
+-- no statement under p, and no contradiction that was named with it
+abbrev pub forgetting : State → ℕ → State
+forgetting s p = record s { statements = not_under p s.statements; named = lacking s.named p }
+
 -- the state after the command; a command that runs the network changes nothing here
 abbrev pub effect : List Stored → State → Command → State
 effect library s (Command.Domain name elements) = record s { words = with_domain s.words name elements }
@@ -143,5 +147,6 @@ effect library s (Command.Tell premise cell value) = stated s (Some premise) (un
 effect library s (Command.Choose name cell values) = chosen s name (unwrap_or (cell_named s.names cell) 0) (unwrap_or (meants_at s cell values) [])
 effect library s (Command.Kick premise) = record s { premises = with_belief_at s.premises (number_given s.premises premise) false }
 effect library s (Command.Bring premise) = record s { premises = with_belief_at s.premises (number_given s.premises premise) true }
+effect library s (Command.Forget premise) = forgetting s (number_given s.premises premise)
 effect library s (Command.Limit steps) = record s { limit = unwrap_or steps 0 }
 effect library s command = s
