@@ -4,7 +4,7 @@ ghost use Rattle.prop_premises.specs.Origins.{is_user_at};
 ghost use Rattle.prop_cells.specs.Problems.{Problem};
 ghost use Rattle.prop_cells.specs.Forgetting.{Forgets};
 ghost use Rattle.prop_nogoods.specs.Stores.{lacking};
-ghost use Rattle.prop_amb.specs.Search.{IsSearch};
+ghost use Rattle.prop_amb.specs.Search.{IsStand, IsSearch};
 ghost use Rattle.prop_amb.specs.Moving.{restarted};
 
 use crate::search::Search;
@@ -20,6 +20,7 @@ impl Search {
         requires { IsTrue (is_user_at self.old.premises premise) }
         ensures ok { OnOk result (self.new ≡ record (restarted self.old) { listed = lacking self.old.listed premise; worldview = self.new.worldview }) }
         ensures err { OnErr result (self.new ≡ self.old) }
+        ensures stand { OnOk result (IsStand self.new) }
         ensures search { OnOk result ((old new : Problem) → Forgets old new premise → IsSearch old self.old → IsSearch new self.new) }
     {
         self.restart()?;

@@ -18,6 +18,8 @@ use Rattle.prop_procedures.specs.declared.shape.Param.TheVariants.{Plain}
 use Rattle.prop_procedures.specs.Fitting.{fitting_param}
 use Rattle.prop_cells.specs.declared.instance.Statement.{Statement}
 use Rattle.prop_cells.specs.Instances.{Instance}
+use Rattle.prop_cells.specs.Forgetting.{not_under}
+use Rattle.prop_nogoods.specs.Stores.{lacking}
 use Rattle.prop_cells.specs.Refusing.{may_be_stated}
 use Rattle.prop_scheduler.specs.Making.{cell_placed}
 use Rattle.prop_vocabulary.specs.Vocabulary.{Vocabulary, symbol_number, with_domain, with_relation}
@@ -150,3 +152,17 @@ effect library s (Command.Bring premise) = record s { premises = with_belief_at 
 effect library s (Command.Forget premise) = forgetting s (number_given s.premises premise)
 effect library s (Command.Limit steps) = record s { limit = unwrap_or steps 0 }
 effect library s command = s
+
+-- the premise that the command forgets, where it forgets one
+abbrev pub forgotten_in : State → Command → Option ℕ
+forgotten_in s (Command.Forget premise) = Some (number_given s.premises premise)
+forgotten_in s command = None
+
+-- the named contradictions, without those that hold a premise where one is forgotten
+abbrev pub without_named : Option ℕ → List (List ℕ) → List (List ℕ)
+without_named None named = named
+without_named (Some p) named = lacking named p
+
+-- the contradictions that were named, as far as they are known after the command
+abbrev pub named_after : State → Command → List (List ℕ) → List (List ℕ)
+named_after s command named = without_named (forgotten_in s command) named

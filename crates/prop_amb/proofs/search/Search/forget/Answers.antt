@@ -17,6 +17,9 @@ invariant_of-self c =
       minimal = rw c.purge.ensures (minimal_lacking c.args.premise c.self.inside.store kept.minimal);
     }
 
+pub returns-clause-stand : goal.returns-clause-stand
+returns-clause-stand c = invariant_of-self c
+
 pub returns-clause-search : goal.returns-clause-search
 returns-clause-search c old new less h =
     let restarted_is = c.self.view_is ∙ c.in_ok-restart.ensures.ok in
