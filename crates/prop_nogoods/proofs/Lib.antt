@@ -1,3 +1,4 @@
+pub mod EndingLemmas
 pub mod PlaceLemmas
 pub mod SizeLemmas
 pub mod StoreLaws

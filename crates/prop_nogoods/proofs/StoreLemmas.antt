@@ -31,6 +31,10 @@ stays test (x ∷ xs) (suc k) d l t = by (test x) (stays test xs k d (omega (ari
 stays_in : {X : Type 0} (test : X → Bool) (xs : List X) (x : X) → Contains xs x → test x ≡ true → Contains (filter test xs) x
 stays_in test xs x c t = rw c.2 at (stays test xs c.0 x c.1 (rw c.2 t))
 
+pub never : (b : Bool) → ¬ (b ≡ true) → b ≡ false
+never true h = absurd (h refl)
+never false h = refl
+
 -- the set is not part of the line
 abbrev pub is_kept : List ℕ → List ℕ → Bool
 is_kept n line = not (is_within (set_of line) n)
@@ -83,10 +87,6 @@ module _ (old : List (List ℕ)) (n : List ℕ) where
   not_true : (b : Bool) → not b ≡ true → b ≡ false
   not_true true h = cc
   not_true false h = refl
-
-  never : (b : Bool) → ¬ (b ≡ true) → b ≡ false
-  never true h = absurd (h refl)
-  never false h = refl
 
   pub minimal_joined : (i : ℕ) → i ≤ length (staying old n) → has_part old (set_of n) ≡ false → AreMinimal old → AreMinimal (joined i)
   minimal_joined i inside none apart =

@@ -1,6 +1,7 @@
 //! Nogoods: sets of premises that can't all be believed.
 #![tactic(auto)]
 
+mod ending;
 mod listed;
 pub mod nogoods;
 pub mod store;

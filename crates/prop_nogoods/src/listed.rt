@@ -1,7 +1,8 @@
 //! A nogood beside what is looked at first of it.
-ghost use Rattle.std.specs.Prelude.{◌≡◌, List, ℕ, length, IsTrue, IfOk, IfSome};
+ghost use Rattle.std.specs.Prelude.{◌≡◌, ◌≤◌, List, ℕ, length, false, All, None, Contains, IsTrue, IfOk, IfSome, vec_capacity, vec_len};
 ghost use Rattle.std.specs.List.Sorted.{IsStrictlyIncreasing};
 ghost use Rattle.prop_premises.specs.Sets.{set_of, is_within};
+ghost use Rattle.prop_nogoods.specs.Stores.{has_part, staying, lacking, AreBySize};
 
 use prop_premises::{Premise, PremiseSet, Worldview};
 use std::alloc::AllocError;
@@ -100,4 +101,31 @@ impl Listed {
     {
         self.size <= other.size && self.premises.is_subset(&other.premises)
     }
+}
+
+/// Drops the listed sets that this one is part of.
+pub(crate) fn drop_larger(listed: &mut Vec<Listed>, nogood: &Listed)
+    ensures left { listed.new.items ≡ staying listed.old.items nogood.now }
+    ensures capacity { vec_capacity listed.new ≡ vec_capacity listed.old }
+    ensures len { vec_len listed.new ≤ vec_len listed.old }
+{
+    listed.retain(|larger| !nogood.is_part_of(larger));
+}
+
+/// Drops the listed sets that hold the premise.
+pub(crate) fn drop_holding(listed: &mut Vec<Listed>, premise: Premise)
+    ensures left { listed.new.items ≡ lacking listed.old.items premise }
+    ensures capacity { vec_capacity listed.new ≡ vec_capacity listed.old }
+{
+    listed.retain(|nogood| !nogood.holds(premise));
+}
+
+/// The first listed set of which every premise is believed.
+pub(crate) fn first_believed<'a>(listed: &'a [Listed], worldview: &Worldview) -> Option<&'a Listed>
+    ensures listed { IfSome result (λ s. Contains listed.now s.now) }
+    ensures believed { IfSome result (λ s. IsTrue (is_within (set_of worldview.now) s.now)) }
+    ensures smallest { AreBySize listed.now → IfSome result (λ s. All (λ line. IsTrue (is_within (set_of worldview.now) line) → length s.now ≤ length line) listed.now) }
+    ensures none { result ≡ None → has_part listed.now (set_of worldview.now) ≡ false }
+{
+    listed.iter().find(|nogood| nogood.is_believed(worldview))
 }

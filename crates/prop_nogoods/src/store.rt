@@ -1,10 +1,12 @@
 //! A store of nogoods, none of which is part of another.
-ghost use Rattle.std.specs.Prelude.{◌≡◌, ◌↔◌, ◌≤◌, ◌<◌, ◌+◌, List, ℕ, [], length, not, false, All, None, Ok, Contains, IsTrue, IfOk, IfSome, OnOk, OnErr, insert, vec_capacity, vec_len};
+ghost use Rattle.std.specs.Prelude.{◌≡◌, ◌↔◌, ◌≤◌, ◌<◌, ◌+◌, List, ℕ, [], length, not, false, All, None, Ok, Contains, IsTrue, IfOk, IfSome, OnOk, OnErr};
 ghost use Rattle.std.specs.List.Sorted.{IsStrictlyIncreasing, IsPartitionPoint};
 ghost use Rattle.prop_premises.specs.Sets.{set_of, is_within};
-ghost use Rattle.prop_nogoods.specs.Stores.{has_part, staying, lacking, with_set, AreMinimal, AreBySize, HaveSame, AddsSet};
+ghost use Rattle.prop_nogoods.specs.Endings.{sets_of};
+ghost use Rattle.prop_nogoods.specs.Stores.{has_part, lacking, with_set, AreMinimal, AreBySize, HaveSame, AddsSet};
 
-use crate::listed::Listed;
+use crate::ending::{Ending, earliest_believed, join, purge_everywhere};
+use crate::listed::{Listed, drop_holding, drop_larger, first_believed};
 use crate::nogoods::Nogoods;
 use prop_premises::{Premise, PremiseSet, Worldview};
 use std::alloc::{AllocError, Global};
@@ -16,8 +18,8 @@ use std::marker::Model;
 #[derive(Drop)]
 pub struct Store {
     nogoods: Vec<Listed>,
-    /// The same nogoods, those first whose last premise comes early.
-    by_last: Vec<Listed>,
+    /// The same nogoods, each with those that end with the same premise; those come first whose last premise comes early.
+    by_last: Vec<Ending>,
 }
 
 impl Model for Store {
@@ -25,7 +27,7 @@ impl Model for Store {
 
     ghost view = { λ s. s.nogoods.items };
 
-    ghost invariant = { λ s. AreMinimal s.nogoods.items × All IsStrictlyIncreasing s.nogoods.items × AreBySize s.nogoods.items × HaveSame s.nogoods.items s.by_last.items };
+    ghost invariant = { λ s. AreMinimal s.nogoods.items × All IsStrictlyIncreasing s.nogoods.items × AreBySize s.nogoods.items × HaveSame s.nogoods.items (sets_of s.by_last.items) };
 }
 
 /// Whether a listed set is part of this one. It looks at those that are no larger.
@@ -40,22 +42,6 @@ fn has_part(listed: &[Listed], nogood: &Listed) -> bool
         .any(|part| part.is_part_of(nogood))
 }
 
-/// Drops the listed sets that this one is part of.
-fn drop_larger(listed: &mut Vec<Listed>, nogood: &Listed)
-    ensures left { listed.new.items ≡ staying listed.old.items nogood.now }
-    ensures capacity { vec_capacity listed.new ≡ vec_capacity listed.old }
-    ensures len { vec_len listed.new ≤ vec_len listed.old }
-{
-    listed.retain(|larger| !nogood.is_part_of(larger));
-}
-
-/// Drops the listed sets that hold the premise.
-fn drop_holding(listed: &mut Vec<Listed>, premise: Premise)
-    ensures { listed.new.items ≡ lacking listed.old.items premise }
-{
-    listed.retain(|nogood| !nogood.holds(premise));
-}
-
 /// The place behind the listed sets that are no larger than this one.
 fn place_of(listed: &[Listed], nogood: &Listed) -> usize
     requires { AreBySize listed.now }
@@ -63,29 +49,6 @@ fn place_of(listed: &[Listed], nogood: &Listed) -> usize
     ensures between { IsPartitionPoint (λ line. length line ≤ length nogood.now) (λ line. length nogood.now < length line) listed.now result }
 {
     listed.partition_point(|other| other.size() <= nogood.size())
-}
-
-/// Adds the set behind those whose last premise comes no later than its own; the listed ones that it is part of go. After want of memory nothing has changed.
-fn join_by_last(listed: &mut Vec<Listed>, nogood: &Listed) -> Result<(), AllocError>
-    ensures ok { OnOk result ((place : ℕ) × (listed.new.items ≡ insert (staying listed.old.items nogood.now) place nogood.now)) }
-    ensures err { OnErr result (listed.new.items ≡ listed.old.items) }
-{
-    let again = nogood.copy()?;
-    listed.reserve(1)?;
-    drop_larger(listed, nogood);
-    let place = listed.partition_point(|other| other.last() <= nogood.last());
-    listed.insert(place, again)?;
-    Ok(())
-}
-
-/// The first listed set of which every premise is believed.
-fn first_believed<'a>(listed: &'a [Listed], worldview: &Worldview) -> Option<&'a Listed>
-    ensures listed { IfSome result (λ s. Contains listed.now s.now) }
-    ensures believed { IfSome result (λ s. IsTrue (is_within (set_of worldview.now) s.now)) }
-    ensures smallest { AreBySize listed.now → IfSome result (λ s. All (λ line. IsTrue (is_within (set_of worldview.now) line) → length s.now ≤ length line) listed.now) }
-    ensures none { result ≡ None → has_part listed.now (set_of worldview.now) ≡ false }
-{
-    listed.iter().find(|nogood| nogood.is_believed(worldview))
 }
 
 impl Store {
@@ -148,7 +111,7 @@ impl Store {
             return Ok(false);
         }
         self.nogoods.reserve(1)?;
-        join_by_last(&mut self.by_last, &nogood)?;
+        join(&mut self.by_last, &nogood)?;
         drop_larger(&mut self.nogoods, &nogood);
         let place = place_of(&self.nogoods, &nogood);
         self.nogoods.insert(place, nogood)?;
@@ -173,7 +136,7 @@ impl Store {
         ensures believed { IfSome result (λ s. IsTrue (is_within (set_of worldview.now) s.now)) }
         ensures none { result ≡ None → has_part self.now (set_of worldview.now) ≡ false }
     {
-        let nogood = first_believed(&self.by_last, worldview)?;
+        let nogood = earliest_believed(&self.by_last, worldview)?;
         Some(nogood.premises())
     }
 
@@ -182,6 +145,6 @@ impl Store {
         ensures { self.new ≡ lacking self.old premise }
     {
         drop_holding(&mut self.nogoods, premise);
-        drop_holding(&mut self.by_last, premise);
+        purge_everywhere(&mut self.by_last, premise);
     }
 }

@@ -2,6 +2,7 @@ use Rattle.std.proofs.Common.{◌≡◌, ◌≤◌, refl, false, length}
 use Rattle.std.specs.List.Sorted.{IsStrictlyIncreasing}
 use Rattle.prop_premises.specs.Sets.{set_of}
 use Rattle.prop_nogoods.specs.Stores.{has_part, staying, HaveSame}
+use Rattle.prop_nogoods.specs.Endings.{sets_of}
 use Rattle.prop_nogoods.proofs.PlaceLemmas.{IsPlace}
 use Rattle.prop_nogoods.proofs.StoreLemmas.{joined, joined_behind, adds_joined, minimal_joined, in_order_joined, by_size_kept, by_size_joined, HaveSame-joined}
 use Rattle.prop_nogoods.proofs.store.Store.add.Goals as goal
@@ -42,11 +43,11 @@ pub returns-clause-by_size : goal.returns-clause-by_size
 returns-clause-by_size c =
     rw (now c) (by_size_joined c.self.inside.nogoods.items c.args.nogood c.place_of-place.result (inside c) (place c) c.self.invariant.2)
 
-same : (c : goal.In_ok-insert) → HaveSame c.insert.new.self.items c.join_by_last.new.listed.items
+same : (c : goal.In_ok-insert) → HaveSame c.insert.new.self.items (sets_of c.join.new.endings.items)
 same c =
-    let joins = c.in_ok-join_by_last.ensures.ok in
-    let again : c.join_by_last.new.listed.items ≡ joined c.self.inside.by_last.items c.args.nogood joins.0 = rw c.new-nogood.ensures at joins.1 in
-    rw (now c, again) (HaveSame-joined c.self.inside.nogoods.items c.self.inside.by_last.items c.args.nogood c.place_of-place.result joins.0 c.self.invariant.3)
+    let joins = c.in_ok-join.ensures.ok in
+    let again : sets_of c.join.new.endings.items ≡ joined (sets_of c.self.inside.by_last.items) c.args.nogood joins.0 = rw c.new-nogood.ensures at joins.1 in
+    rw (now c, again) (HaveSame-joined c.self.inside.nogoods.items (sets_of c.self.inside.by_last.items) c.args.nogood c.place_of-place.result joins.0 c.self.invariant.3)
 
 pub invariant_of-self-2 : goal.invariant_of-self-2
 invariant_of-self-2 c = (returns-clause-minimal c, returns-clause-in_order c, returns-clause-by_size c, same c)

@@ -5,7 +5,7 @@ use Rattle.std.proofs.lemmas.Iterator.{YieldsList-from_slice}
 use Rattle.std.proofs.lemmas.Iterator.Search.{find_from_yields_List}
 use Rattle.prop_premises.specs.Sets.{set_of, is_within}
 use Rattle.prop_nogoods.proofs.StoreLemmas.{none_found, smallest_found}
-use Rattle.prop_nogoods.proofs.store.first_believed.Goals as goal
+use Rattle.prop_nogoods.proofs.listed.first_believed.Goals as goal
 
 found : (c : goal.After-find) → option_map (λ x. x.now) c.find.result ≡ find (λ line. is_within (set_of c.args.worldview.now) line) c.args.listed.now
 found c =

@@ -1,0 +1,126 @@
+-- The nogoods of groups, once a group changes.
+use Rattle.std.proofs.Common.{◌≡◌, ◌∙◌, ◌<◌, ◌+◌, ◌-◌, ◌||◌, ℕ, zero, suc, Bool, true, false, List, [], ◌∷◌, ◌++◌, length, get_or, take, drop, set, insert, map, not, refl, sym, ap, arith, All, Contains, append_assoc}
+use Rattle.std.specs.List.{flat_map}
+use Rattle.std.proofs.Math.Seq.{map-set_same}
+use Rattle.std.proofs.lemmas.List.{length-map, take-append-drop, take_at}
+use Rattle.std.proofs.lemmas.List.Concat.{flat_map-append}
+use Rattle.std.proofs.lemmas.List.Edits.{insert-append_right}
+use Rattle.std.proofs.lemmas.List.Elements.{Contains-append_left, Contains-append_right, filter-append}
+use Rattle.std.proofs.lemmas.List.Filters.{length-filter_both}
+use Rattle.std.proofs.lemmas.List.Folds.{flat_map-map, list_any-append, list_any_none}
+use Rattle.prop_premises.proofs.WithinLemmas.{within_has}
+use Rattle.prop_premises.specs.Sets.{Members, set_of, is_within}
+use Rattle.prop_nogoods.specs.Stores.{has_part, staying, lacking}
+use Rattle.prop_nogoods.specs.Endings.{Group, HasRoom, sets_of, left_of, lacking_of}
+use Rattle.prop_nogoods.proofs.StoreLemmas.{is_kept, is_without, never}
+
+-- a group that keeps its nogoods
+pub sets_of-set_same : (gs : List Group) (i : ℕ) (y d : Group) → y.sets ≡ (get_or gs i d).sets → sets_of (set gs i y) ≡ sets_of gs
+sets_of-set_same gs i y d same =
+    sym (flat_map-map (λ (x : List (List ℕ)). x) (λ (g : Group). g.sets) (set gs i y))
+    ∙ ap (flat_map (λ (x : List (List ℕ)). x)) (map-set_same (λ (g : Group). g.sets) gs i y d same)
+    ∙ flat_map-map (λ (x : List (List ℕ)). x) (λ (g : Group). g.sets) gs
+
+-- one group more, without nogoods
+pub sets_of-insert_empty : (gs : List Group) (i : ℕ) (y : Group) → y.sets ≡ [] → sets_of (insert gs i y) ≡ sets_of gs
+sets_of-insert_empty gs i y empty =
+    flat_map-append (λ (g : Group). g.sets) (take i gs) (y ∷ drop i gs)
+    ∙ ap (λ xs. flat_map (λ (g : Group). g.sets) (take i gs) ++ (xs ++ flat_map (λ (g : Group). g.sets) (drop i gs))) empty
+    ∙ sym (flat_map-append (λ (g : Group). g.sets) (take i gs) (drop i gs))
+    ∙ ap sets_of (take-append-drop i gs)
+
+-- each group without what a set is part of
+pub sets_of-left : (n : List ℕ) (gs : List Group) → sets_of (map (left_of n) gs) ≡ staying (sets_of gs) n
+sets_of-left n [] = refl
+sets_of-left n (g ∷ gs) = ap (λ xs. staying g.sets n ++ xs) (sets_of-left n gs) ∙ sym (filter-append (is_kept n) g.sets (sets_of gs))
+
+-- each group without what holds a premise
+pub sets_of-lacking : (p : ℕ) (gs : List Group) → sets_of (map (lacking_of p) gs) ≡ lacking (sets_of gs) p
+sets_of-lacking p [] = refl
+sets_of-lacking p (g ∷ gs) = ap (λ xs. lacking g.sets p ++ xs) (sets_of-lacking p gs) ∙ sym (filter-append (is_without p) g.sets (sets_of gs))
+
+-- the same, written back in place of them
+pub lacking_written : (p : ℕ) (gs mid : List Group) (len : ℕ) → mid ≡ map (lacking_of p) gs → len ≡ length gs → sets_of (take len (mid ++ drop (length mid) gs)) ≡ lacking (sets_of gs) p
+lacking_written p gs mid len e l =
+    let same : length mid ≡ len = omega (arith, l, ap length e, length-map gs (lacking_of p)) in
+    ap sets_of (take_at mid (drop (length mid) gs) len same ∙ e) ∙ sets_of-lacking p gs
+
+insert_after : (xs ys : List (List ℕ)) (p : ℕ) (n : List ℕ) → xs ++ insert ys p n ≡ insert (xs ++ ys) (length xs + p) n
+insert_after xs ys p n =
+    let back : length xs + p - length xs ≡ p = omega arith in
+    sym (insert-append_right xs ys (length xs) (length xs + p) n refl (omega arith) ∙ ap (λ k. xs ++ insert ys k n) back)
+
+-- one nogood more in a group
+pub sets_of-push : (gs : List Group) (i : ℕ) (y d : Group) (n : List ℕ) → i < length gs → y.sets ≡ (get_or gs i d).sets ++ n ∷ []
+    → (place : ℕ) × (sets_of (set gs i y) ≡ insert (sets_of gs) place n)
+sets_of-push [] i y d n l more = absurd (omega (arith, l))
+sets_of-push (g ∷ gs) zero y d n l more =
+    (length g.sets + 0, ap (λ xs. xs ++ sets_of gs) more ∙ append_assoc g.sets (n ∷ []) (sets_of gs) ∙ insert_after g.sets (sets_of gs) 0 n)
+sets_of-push (g ∷ gs) (suc i) y d n l more =
+    let rest = sets_of-push gs i y d n (omega (arith, l)) more in
+    (length g.sets + rest.0, ap (λ xs. g.sets ++ xs) rest.1 ∙ insert_after g.sets (sets_of gs) rest.0 n)
+
+-- what is left of the groups is written back in place of them
+pub left_written : (n : List ℕ) (gs mid : List Group) (len : ℕ) → mid ≡ map (left_of n) gs → len ≡ length gs
+    → take len (mid ++ drop (length mid) gs) ≡ map (left_of n) gs
+left_written n gs mid len e l =
+    let same : length mid ≡ len = omega (arith, l, ap length e, length-map gs (left_of n)) in
+    take_at mid (drop (length mid) gs) len same ∙ e
+
+-- the group that is read back
+pub got_left : (n : List ℕ) (gs mid : List Group) (len i : ℕ) (x : Group) → mid ≡ map (left_of n) gs → len ≡ length gs
+    → x ≡ get_or (take len (mid ++ drop (length mid) gs)) i x → x ≡ get_or (map (left_of n) gs) i x
+got_left n gs mid len i x e l is = is ∙ ap (λ ys. get_or ys i x) (left_written n gs mid len e l)
+
+-- what is left of the group at a place
+pub left_at : (n : List ℕ) (gs : List Group) (i : ℕ) (x : Group) → i < length gs → x ≡ get_or (map (left_of n) gs) i x → x ≡ left_of n (get_or gs i x)
+left_at n [] i x l is = absurd (omega (arith, l))
+left_at n (g ∷ gs) zero x l is = is
+left_at n (g ∷ gs) (suc i) x l is = left_at n gs i x (omega (arith, l)) is
+
+-- there is as much room as before
+pub left_room : (n : List ℕ) (gs : List Group) (i : ℕ) (x : Group) → i < length gs → x ≡ get_or (map (left_of n) gs) i x
+    → HasRoom (get_or gs i x) → HasRoom x
+left_room n gs i x l is room =
+    let left = left_at n gs i x l is in
+    let fewer = length-filter_both (is_kept n) (λ line. not (is_kept n line)) (λ line. refl) (get_or gs i x).sets in
+    let sets = ap (λ (g : Group). length g.sets) left in
+    let capacity = ap (λ (g : Group). g.capacity) left in
+    omega (arith, room, fewer, sets, capacity)
+
+-- a set joins the groups: one of them has it, and what it is part of is gone
+pub sets_of-joined : (old : List (List ℕ)) (gs : List Group) (n : List ℕ) (i : ℕ) (x y : Group) → sets_of gs ≡ old → i < length gs
+    → x ≡ get_or (map (left_of n) gs) i x → y.sets ≡ x.sets ++ n ∷ []
+    → (place : ℕ) × (sets_of (set (map (left_of n) gs) i y) ≡ insert (staying old n) place n)
+sets_of-joined old gs n i x y from l is more =
+    let long = length-map gs (left_of n) in
+    let pushed = sets_of-push (map (left_of n) gs) i y x n (omega (arith, l, long)) (more ∙ ap (λ (g : Group). g.sets ++ n ∷ []) is) in
+    (pushed.0, pushed.1 ∙ ap (λ xs. insert xs pushed.0 n) (sets_of-left n gs ∙ ap (λ xs. staying xs n) from))
+
+-- a nogood of a group is one of all
+pub group_contains : (gs : List Group) (i : ℕ) (d : Group) (n : List ℕ) → i < length gs → Contains (get_or gs i d).sets n → Contains (sets_of gs) n
+group_contains [] i d n l c = absurd (omega (arith, l))
+group_contains (g ∷ gs) zero d n l c = Contains-append_left g.sets (sets_of gs) n c
+group_contains (g ∷ gs) (suc i) d n l c = Contains-append_right g.sets (sets_of gs) n (group_contains gs i d n (omega (arith, l)) c)
+
+abbrev pub LacksPart : Members → Group → Type 0
+LacksPart w g = has_part g.sets w ≡ false
+
+-- no nogood is in the set where none of any group is
+pub none_of_all : (w : Members) (gs : List Group) → All (LacksPart w) gs → has_part (sets_of gs) w ≡ false
+none_of_all w [] none = refl
+none_of_all w (g ∷ gs) none =
+    list_any-append (λ line. is_within w line) g.sets (sets_of gs)
+    ∙ neither (has_part g.sets w) (has_part (sets_of gs) w) (none 0 g (omega arith)) (none_of_all w gs (λ k d l. none (suc k) d (omega (arith, l))))
+  where
+    neither : (a b : Bool) → a ≡ false → b ≡ false → (a || b) ≡ false
+    neither true b e f = cc
+    neither false b e f = f
+
+-- where the last premise is not in the set, no nogood that ends so is
+pub none_without_last : (w : Members) (last : ℕ) (listed : List (List ℕ)) → w last ≡ false → All (λ line. set_of line last ≡ true) listed
+    → has_part listed w ≡ false
+none_without_last w last listed lacks all =
+    list_any_none (λ line. is_within w line) listed (λ k d l.
+    let line = get_or listed k d in
+    never (is_within w line) (λ t. let has = within_has w line last t (all k d l) in cc (has, lacks)))

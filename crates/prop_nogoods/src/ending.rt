@@ -1,0 +1,157 @@
+//! Nogoods that end with the same premise.
+ghost use Rattle.std.specs.Prelude.{◌≡◌, ◌<◌, ◌++◌, ◌∷◌, ℕ, [], length, get_or, insert, map, vec_capacity, false, All, None, Contains, IsTrue, IfOk, IfSome, OnOk, OnErr};
+ghost use Rattle.prop_premises.specs.Sets.{set_of, is_within};
+ghost use Rattle.prop_nogoods.specs.Stores.{has_part, staying};
+ghost use Rattle.prop_nogoods.specs.Endings.{Group, EndsSo, sets_of, HasRoom, left_of, lacking_of};
+
+use crate::listed::{Listed, drop_holding, drop_larger, first_believed};
+use prop_premises::{Premise, Worldview};
+use std::alloc::{AllocError, Global};
+use std::marker::Model;
+
+/// Nogoods that end with the same premise: where it isn't believed, none of them is.
+#[derive(Drop)]
+pub(crate) struct Ending {
+    /// None where the only nogood is the set of no premises.
+    last: Option<Premise>,
+    nogoods: Vec<Listed>,
+}
+
+impl Model for Ending {
+    ghost Value = { Group };
+
+    ghost view = { λ e. record { last = e.last; sets = e.nogoods.items; capacity = vec_capacity e.nogoods } };
+
+    ghost invariant = { λ e. All (EndsSo e.last) e.nogoods.items };
+}
+
+impl Ending {
+    /// No nogoods, with room for one.
+    fn with_room(alloc: Global, last: Option<Premise>) -> Result<Ending, AllocError>
+        ensures last { IfOk result (λ e. e.last ≡ last) }
+        ensures empty { IfOk result (λ e. e.sets ≡ []) }
+        ensures room { IfOk result HasRoom }
+    {
+        let nogoods = Vec::with_capacity(alloc, 1)?;
+        Ok(Ending { last, nogoods })
+    }
+
+    /// The premise that each of its nogoods has.
+    fn last(&self) -> Option<Premise>
+        ensures { result ≡ self.now.last }
+    {
+        self.last
+    }
+
+    /// Makes room for one nogood more.
+    fn make_room(&mut self) -> Result<(), AllocError>
+        ensures last { self.new.last ≡ self.old.last }
+        ensures same { self.new.sets ≡ self.old.sets }
+        ensures room { OnOk result (HasRoom self.new) }
+    {
+        self.nogoods.reserve(1)
+    }
+
+    /// Adds a nogood that ends so.
+    fn push(&mut self, nogood: Listed)
+        requires ends_so { EndsSo self.old.last nogood }
+        requires room { HasRoom self.old }
+        ensures { self.new.sets ≡ self.old.sets ++ nogood ∷ [] }
+    {
+        drop(self.nogoods.push(nogood));
+    }
+
+    /// Drops the nogoods that this one is part of. It takes no memory.
+    fn drop_larger(&mut self, nogood: &Listed)
+        ensures { self.new ≡ left_of nogood.now self.old }
+    {
+        drop_larger(&mut self.nogoods, nogood);
+    }
+
+    /// Drops the nogoods that hold the premise. It takes no memory.
+    fn purge(&mut self, premise: Premise)
+        ensures { self.new ≡ lacking_of premise self.old }
+    {
+        drop_holding(&mut self.nogoods, premise);
+    }
+
+    /// The first nogood of which every premise is believed. Where the last premise isn't, it looks at no nogood.
+    #[inline]
+    fn first_believed(&self, worldview: &Worldview) -> Option<&Listed>
+        ensures listed { IfSome result (λ s. Contains self.now.sets s.now) }
+        ensures believed { IfSome result (λ s. IsTrue (is_within (set_of worldview.now) s.now)) }
+        ensures none { result ≡ None → has_part self.now.sets (set_of worldview.now) ≡ false }
+    {
+        if let Some(last) = self.last {
+            if !worldview.has(last) {
+                return None;
+            }
+        }
+        first_believed(&self.nogoods, worldview)
+    }
+}
+
+/// The place of the ending with this last premise, with room for one nogood more. One that is missing is added, behind those whose last
+/// premise comes earlier.
+fn room_for(endings: &mut Vec<Ending>, last: Option<Premise>) -> Result<usize, AllocError>
+    ensures same { sets_of endings.new.items ≡ sets_of endings.old.items }
+    ensures place { IfOk result (λ at. at < length endings.new.items) }
+    ensures last { IfOk result (λ at. (d : Group) → (get_or endings.new.items at d).last ≡ last) }
+    ensures room { IfOk result (λ at. (d : Group) → HasRoom (get_or endings.new.items at d)) }
+{
+    let place = endings.partition_point(|ending| ending.last() < last);
+    if place < endings.len() && endings[place].last() == last {
+        endings[place].make_room()?;
+    } else {
+        let ending = Ending::with_room(*endings.allocator(), last)?;
+        endings.insert(place, ending)?;
+    }
+    Ok(place)
+}
+
+/// Drops the nogoods that this one is part of, at each ending. It takes no memory.
+fn drop_larger_everywhere(endings: &mut [Ending], nogood: &Listed)
+    ensures { endings.new ≡ map (left_of nogood.now) endings.old }
+{
+    for ending in endings {
+        ending.drop_larger(nogood);
+    }
+}
+
+/// Drops the nogoods that hold the premise, at each ending. It takes no memory.
+pub(crate) fn purge_everywhere(endings: &mut [Ending], premise: Premise)
+    ensures { endings.new ≡ map (lacking_of premise) endings.old }
+{
+    for ending in endings {
+        ending.purge(premise);
+    }
+}
+
+/// Adds the set to those that end with its last premise; the nogoods that it is part of go. After want of memory the nogoods are the same.
+pub(crate) fn join(endings: &mut Vec<Ending>, nogood: &Listed) -> Result<(), AllocError>
+    ensures ok { OnOk result ((place : ℕ) × (sets_of endings.new.items ≡ insert (staying (sets_of endings.old.items) nogood.now) place nogood.now)) }
+    ensures err { OnErr result (sets_of endings.new.items ≡ sets_of endings.old.items) }
+{
+    let again = nogood.copy()?;
+    let place = room_for(endings, nogood.last())?;
+    drop_larger_everywhere(endings, nogood);
+    endings[place].push(again);
+    Ok(())
+}
+
+/// A nogood of which every premise is believed, of the first ending that has one. It takes no memory.
+pub(crate) fn earliest_believed<'a>(
+    endings: &'a [Ending],
+    worldview: &Worldview,
+) -> Option<&'a Listed>
+    ensures listed { IfSome result (λ s. Contains (sets_of endings.now) s.now) }
+    ensures believed { IfSome result (λ s. IsTrue (is_within (set_of worldview.now) s.now)) }
+    ensures none { result ≡ None → has_part (sets_of endings.now) (set_of worldview.now) ≡ false }
+{
+    for ending in endings {
+        if let Some(nogood) = ending.first_believed(worldview) {
+            return Some(nogood);
+        }
+    }
+    None
+}
