@@ -49,6 +49,7 @@ class Session(plain.Session):
         *["tell"] * 3,
         "fix",
         *["kick"] * 3,
+        "forget",
         *["bring"] * 2,
         *["attach"] * 4,
         *["ask"] * 4,
@@ -102,7 +103,7 @@ class Session(plain.Session):
     def refused(self):
         """A line that takes a choice's name for a premise's, or that takes a name twice."""
         premise, choice = self.chance.choice(plain.PREMISES), self.chance.choice(NAMES)
-        line, refusal = self.chance.choice([("kick {}", 17), ("bring {}", 17), ("tell {} t0 yes", 17), ("choose {} t0 yes or no", 7)])
+        line, refusal = self.chance.choice([("kick {}", 17), ("bring {}", 17), ("forget {}", 17), ("tell {} t0 yes", 17), ("choose {} t0 yes or no", 7)])
         if self.is_choice(choice):
             self.say(line.format(choice), lambda reply: reply == {17: "error 17: is a choice", 7: "error 7: name taken"}[refusal])
         elif premise in self.plain.known:

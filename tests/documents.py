@@ -10,7 +10,7 @@ from case import Case
 
 TOP = os.path.dirname(os.path.dirname(os.path.realpath(__file__)))
 DOCUMENTS = ["README.md", "docs/TUTORIAL.md", "docs/LANGUAGE.md"]
-COMMANDS = "domain relation cell attach define fix tell choose kick bring limit ask why core settle worldview nogoods".split()
+COMMANDS = "domain relation cell attach define fix tell choose kick bring forget limit ask why core settle worldview nogoods".split()
 
 
 def is_command(line):

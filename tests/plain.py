@@ -237,7 +237,7 @@ def replies_of(output):
 class Session:
     """Lines that look random, with what each of their replies has to be."""
 
-    COMMANDS = ["tell", "tell", "tell", "tell", "fix", "fix", "kick", "kick", "bring", "bring", "attach", "attach", "ask", "ask", "limit"]
+    COMMANDS = ["tell", "tell", "tell", "tell", "fix", "fix", "kick", "kick", "bring", "bring", "forget", "attach", "attach", "ask", "ask", "limit"]
     QUESTIONS = ["ask", "why", "core", "core", "settle"]
     PROCEDURES, LINES = sorted(PROCEDURES), 40
 
@@ -294,6 +294,19 @@ class Session:
 
     def bring(self):
         self.believe("bring", self.plain.believed.add)
+
+    def forget(self):
+        premise = self.chance.choice(PREMISES)
+        if premise in self.plain.known:
+            self.plain.stated = [it for it in self.plain.stated if it[0] != premise]
+            self.say(f"forget {premise}", lambda reply: self.unname(premise) and reply == "ok")
+        else:
+            self.say(f"forget {premise}", lambda reply: reply == "error 10: no such premise")
+
+    def unname(self, premise):
+        """No contradiction that was named with the premise has to be covered from now on."""
+        self.named[:] = [it for it in self.named if premise not in it]
+        return True
 
     def attach(self):
         name = self.chance.choice(self.PROCEDURES)

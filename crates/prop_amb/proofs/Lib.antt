@@ -9,6 +9,7 @@ pub mod GoingLaws
 pub mod GroundedLaws
 pub mod JoinLaws
 pub mod KeepingLaws
+pub mod ForgettingLaws
 pub mod LastChoiceLaws
 pub mod LookingLaws
 pub mod MetLaws

@@ -2,6 +2,7 @@
 #![tactic(auto)]
 
 pub mod believing;
+pub mod forgetting;
 mod joining;
 pub mod laws;
 mod lists;

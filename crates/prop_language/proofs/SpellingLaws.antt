@@ -159,6 +159,7 @@ spelled_is_read ts (Command.Choose c x []) s = absurd s
 spelled_is_read ts (Command.Choose c x (v ∷ vs)) (e, n) = rw (e, choice_read c x v vs n) refl
 spelled_is_read ts (Command.Kick p) e = rw e refl
 spelled_is_read ts (Command.Bring p) e = rw e refl
+spelled_is_read ts (Command.Forget p) e = rw e refl
 spelled_is_read ts (Command.Limit steps) (w, e, n) = rw (e, n) refl
 spelled_is_read ts Command.Settle e = rw e refl
 spelled_is_read ts (Command.Ask x) e = rw e refl
@@ -474,7 +475,7 @@ abbrev ReadsSpelled : List ℕ × (List Token → Option Command) → Type 0
 ReadsSpelled form = (ts : List Token) (command : Command) → form.1 ts ≡ Some command → Spells (Word form.0 ∷ ts) command
 
 forms_spelled : AllByRecursion ReadsSpelled forms
-forms_spelled = (domain_spelled, (relation_spelled, (cell_spelled, (define_spelled, (attach_spelled, (fix_spelled, (tell_spelled, (choice_spelled, (on_word_spelled (codes "kick") Command.Kick (λ w. refl), (on_word_spelled (codes "bring") Command.Bring (λ w. refl), (on_word_spelled (codes "limit") limit_of (λ w. (w, refl, refl)), (bare_spelled (codes "settle") Command.Settle refl, (on_word_spelled (codes "ask") Command.Ask (λ w. refl), (on_word_spelled (codes "why") Command.Why (λ w. refl), (on_word_spelled (codes "core") Command.Core (λ w. refl), (bare_spelled (codes "worldview") Command.Worldview refl, (bare_spelled (codes "nogoods") Command.Nogoods refl, tt)))))))))))))))))
+forms_spelled = (domain_spelled, (relation_spelled, (cell_spelled, (define_spelled, (attach_spelled, (fix_spelled, (tell_spelled, (choice_spelled, (on_word_spelled (codes "kick") Command.Kick (λ w. refl), (on_word_spelled (codes "bring") Command.Bring (λ w. refl), (on_word_spelled (codes "forget") Command.Forget (λ w. refl), (on_word_spelled (codes "limit") limit_of (λ w. (w, refl, refl)), (bare_spelled (codes "settle") Command.Settle refl, (on_word_spelled (codes "ask") Command.Ask (λ w. refl), (on_word_spelled (codes "why") Command.Why (λ w. refl), (on_word_spelled (codes "core") Command.Core (λ w. refl), (bare_spelled (codes "worldview") Command.Worldview refl, (bare_spelled (codes "nogoods") Command.Nogoods refl, tt))))))))))))))))))
 
 found_spelled : (known : List (List ℕ × (List Token → Option Command))) (w : List ℕ) (ts : List Token) (command : Command) → AllByRecursion ReadsSpelled known → option_and_then (λ form. form.1 ts) (find (λ form. bytes_eq form.0 w) known) ≡ Some command → Spells (Word w ∷ ts) command
 found_spelled [] w ts command all h = cc

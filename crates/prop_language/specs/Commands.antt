@@ -41,6 +41,7 @@ pub data Command : Type 0 where
   Choose : (name cell : List ℕ) → (values : List Value) → Command
   Kick : (premise : List ℕ) → Command
   Bring : (premise : List ℕ) → Command
+  Forget : (premise : List ℕ) → Command
   Limit : (steps : Option ℕ) → Command
   Settle : Command
   Ask : (cell : List ℕ) → Command

@@ -192,6 +192,7 @@ forms =
     ∷ (codes "choose", choose)
     ∷ (codes "kick", on_word Command.Kick)
     ∷ (codes "bring", on_word Command.Bring)
+    ∷ (codes "forget", on_word Command.Forget)
     ∷ (codes "limit", on_word limit_of)
     ∷ (codes "settle", bare Command.Settle)
     ∷ (codes "ask", on_word Command.Ask)

@@ -17,7 +17,7 @@ use Rattle.prop_language.specs.declared.tokens.Token.TheVariants as reads
 use Rattle.prop_language.specs.declared.steps.Given.{Given}
 use Rattle.prop_language.specs.declared.steps.Given.TheVariants as givens
 use Rattle.prop_language.specs.declared.reading.CommandWord.{CommandWord}
-use Rattle.prop_language.specs.declared.reading.CommandWord.TheVariants.{Domain, Relation, Cell, Define, Attach, Fix, Tell, Choose, Kick, Bring, Limit, Settle, Ask, Why, Core, Worldview, Nogoods}
+use Rattle.prop_language.specs.declared.reading.CommandWord.TheVariants.{Domain, Relation, Cell, Define, Attach, Fix, Tell, Choose, Kick, Bring, Forget, Limit, Settle, Ask, Why, Core, Worldview, Nogoods}
 
 -- a token without where its word lies in memory
 abbrev pub token_of : read.Token → Token
@@ -165,6 +165,7 @@ form_of Tell = tell
 form_of Choose = choose
 form_of Kick = on_word Command.Kick
 form_of Bring = on_word Command.Bring
+form_of Forget = on_word Command.Forget
 form_of Limit = on_word limit_of
 form_of Settle = bare Command.Settle
 form_of Ask = on_word Command.Ask
@@ -207,6 +208,7 @@ word_of Tell = codes "tell"
 word_of Choose = codes "choose"
 word_of Kick = codes "kick"
 word_of Bring = codes "bring"
+word_of Forget = codes "forget"
 word_of Limit = codes "limit"
 word_of Settle = codes "settle"
 word_of Ask = codes "ask"

@@ -16,7 +16,7 @@ use Rattle.prop_language.specs.declared.command.Passed.TheVariants as passeds
 use Rattle.prop_language.specs.declared.command.Step.{Step}
 use Rattle.prop_language.specs.declared.command.Step.TheVariants as steps
 use Rattle.prop_language.specs.declared.command.Command.{Command}
-use Rattle.prop_language.specs.declared.command.Command.TheVariants.{Silent, Domain, Relation, Cell, Define, Attach, Fix, Tell, Choose, Kick, Bring, Limit, Settle, Ask, Why, Core, Worldview, Nogoods}
+use Rattle.prop_language.specs.declared.command.Command.TheVariants.{Silent, Domain, Relation, Cell, Define, Attach, Fix, Tell, Choose, Kick, Bring, Forget, Limit, Settle, Ask, Why, Core, Worldview, Nogoods}
 
 abbrev pub words : List (Bor (List ℕ)) → List (List ℕ)
 words items = map (λ (w : Bor (List ℕ)). w.now) items
@@ -61,6 +61,7 @@ said (Tell premise cell value) = Some (commands.Command.Tell premise.now cell.no
 said (Choose name cell values) = Some (commands.Command.Choose name.now cell.now (map value_of values.items))
 said (Kick premise) = Some (commands.Command.Kick premise.now)
 said (Bring premise) = Some (commands.Command.Bring premise.now)
+said (Forget premise) = Some (commands.Command.Forget premise.now)
 said (Limit steps) = Some (commands.Command.Limit (Some steps))
 said Settle = Some commands.Command.Settle
 said (Ask cell) = Some (commands.Command.Ask cell.now)

@@ -9,7 +9,7 @@ use Rattle.prop_language.specs.Commands.{Value, Bare, Braces, KindWord, Spans, T
 -- the first words of the commands
 abbrev pub command_words : List (List ℕ)
 command_words =
-    codes "domain" ∷ codes "relation" ∷ codes "cell" ∷ codes "define" ∷ codes "attach" ∷ codes "fix" ∷ codes "tell" ∷ codes "choose" ∷ codes "kick" ∷ codes "bring" ∷ codes "limit" ∷ codes "settle" ∷ codes "ask" ∷ codes "why" ∷ codes "core" ∷ codes "worldview" ∷ codes "nogoods" ∷ []
+    codes "domain" ∷ codes "relation" ∷ codes "cell" ∷ codes "define" ∷ codes "attach" ∷ codes "fix" ∷ codes "tell" ∷ codes "choose" ∷ codes "kick" ∷ codes "bring" ∷ codes "forget" ∷ codes "limit" ∷ codes "settle" ∷ codes "ask" ∷ codes "why" ∷ codes "core" ∷ codes "worldview" ∷ codes "nogoods" ∷ []
 
 -- The word stands for the kind. Three kinds have words of their own, and another word is a domain's name.
 abbrev pub StandsFor : List ℕ → KindWord → Type 0
@@ -98,6 +98,7 @@ Spells ts (Command.Choose name cell (v ∷ vs)) =
     (ts ≡ Word (codes "choose") ∷ Word name ∷ Word cell ∷ tokens_of_value v ++ further_values vs) × AreTwoToEight (v ∷ vs)
 Spells ts (Command.Kick premise) = ts ≡ Word (codes "kick") ∷ Word premise ∷ []
 Spells ts (Command.Bring premise) = ts ≡ Word (codes "bring") ∷ Word premise ∷ []
+Spells ts (Command.Forget premise) = ts ≡ Word (codes "forget") ∷ Word premise ∷ []
 Spells ts (Command.Limit steps) =
     (w : List ℕ) × (ts ≡ Word (codes "limit") ∷ Word w ∷ []) × (option_map unsigned_abs (number_in (pos 0) (pos 1_000_000_000_000_000) w) ≡ steps)
 Spells ts Command.Settle = ts ≡ Word (codes "settle") ∷ []

@@ -55,6 +55,7 @@ pub enum Command<'a> {
     Choose(&'a str, &'a str, Vec<Value<'a>>),
     Kick(&'a str),
     Bring(&'a str),
+    Forget(&'a str),
     Limit(u64),
     Settle,
     Ask(&'a str),

@@ -52,6 +52,7 @@ enum CommandWord {
     Choose,
     Kick,
     Bring,
+    Forget,
     Limit,
     Settle,
     Ask,
@@ -62,7 +63,7 @@ enum CommandWord {
 }
 
 /// The commands by their first words.
-const COMMANDS: [(&[u8], CommandWord); 17] = [
+const COMMANDS: [(&[u8], CommandWord); 18] = [
     (b"domain", CommandWord::Domain),
     (b"relation", CommandWord::Relation),
     (b"cell", CommandWord::Cell),
@@ -73,6 +74,7 @@ const COMMANDS: [(&[u8], CommandWord); 17] = [
     (b"choose", CommandWord::Choose),
     (b"kick", CommandWord::Kick),
     (b"bring", CommandWord::Bring),
+    (b"forget", CommandWord::Forget),
     (b"limit", CommandWord::Limit),
     (b"settle", CommandWord::Settle),
     (b"ask", CommandWord::Ask),
@@ -115,6 +117,7 @@ fn read_form<'a>(
         CommandWord::Choose => choices::choose(alloc, rest),
         CommandWord::Kick => Ok(Command::Kick(forms::only_name(rest)?)),
         CommandWord::Bring => Ok(Command::Bring(forms::only_name(rest)?)),
+        CommandWord::Forget => Ok(Command::Forget(forms::only_name(rest)?)),
         CommandWord::Limit => forms::limit(rest),
         CommandWord::Settle => forms::settle(rest),
         CommandWord::Ask => Ok(Command::Ask(forms::only_name(rest)?)),

@@ -10,9 +10,9 @@ use Rattle.std.proofs.lemmas.List.Filters.{length-filter_both}
 use Rattle.std.proofs.lemmas.List.Folds.{flat_map-map, list_any-append, list_any_none}
 use Rattle.prop_premises.proofs.WithinLemmas.{within_has}
 use Rattle.prop_premises.specs.Sets.{Members, set_of, is_within}
-use Rattle.prop_nogoods.specs.Stores.{has_part, staying}
-use Rattle.prop_nogoods.specs.Endings.{Group, HasRoom, sets_of, left_of}
-use Rattle.prop_nogoods.proofs.StoreLemmas.{is_kept, never}
+use Rattle.prop_nogoods.specs.Stores.{has_part, staying, lacking}
+use Rattle.prop_nogoods.specs.Endings.{Group, HasRoom, sets_of, left_of, lacking_of}
+use Rattle.prop_nogoods.proofs.StoreLemmas.{is_kept, is_without, never}
 
 -- a group that keeps its nogoods
 pub sets_of-set_same : (gs : List Group) (i : ℕ) (y d : Group) → y.sets ≡ (get_or gs i d).sets → sets_of (set gs i y) ≡ sets_of gs
@@ -33,6 +33,17 @@ sets_of-insert_empty gs i y empty =
 pub sets_of-left : (n : List ℕ) (gs : List Group) → sets_of (map (left_of n) gs) ≡ staying (sets_of gs) n
 sets_of-left n [] = refl
 sets_of-left n (g ∷ gs) = ap (λ xs. staying g.sets n ++ xs) (sets_of-left n gs) ∙ sym (filter-append (is_kept n) g.sets (sets_of gs))
+
+-- each group without what holds a premise
+pub sets_of-lacking : (p : ℕ) (gs : List Group) → sets_of (map (lacking_of p) gs) ≡ lacking (sets_of gs) p
+sets_of-lacking p [] = refl
+sets_of-lacking p (g ∷ gs) = ap (λ xs. lacking g.sets p ++ xs) (sets_of-lacking p gs) ∙ sym (filter-append (is_without p) g.sets (sets_of gs))
+
+-- the same, written back in place of them
+pub lacking_written : (p : ℕ) (gs mid : List Group) (len : ℕ) → mid ≡ map (lacking_of p) gs → len ≡ length gs → sets_of (take len (mid ++ drop (length mid) gs)) ≡ lacking (sets_of gs) p
+lacking_written p gs mid len e l =
+    let same : length mid ≡ len = omega (arith, l, ap length e, length-map gs (lacking_of p)) in
+    ap sets_of (take_at mid (drop (length mid) gs) len same ∙ e) ∙ sets_of-lacking p gs
 
 insert_after : (xs ys : List (List ℕ)) (p : ℕ) (n : List ℕ) → xs ++ insert ys p n ≡ insert (xs ++ ys) (length xs + p) n
 insert_after xs ys p n =

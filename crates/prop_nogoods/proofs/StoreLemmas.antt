@@ -8,7 +8,7 @@ use Rattle.std.proofs.lemmas.List.Kept.{AllPairs-filter, IsNonDecreasingBy-filte
 use Rattle.std.proofs.lemmas.List.Sorted.{All-permutation, Contains-permutation, IsPermutation-insert, IsPermutation-sym, IsNonDecreasingBy-insert}
 use Rattle.prop_premises.specs.Sets.{Members, set_of, is_within}
 use Rattle.prop_premises.proofs.WithinLemmas.{within_has}
-use Rattle.prop_nogoods.specs.Stores.{has_part, staying, with_set, AreMinimal, AreBySize, HaveSame, AddsSet}
+use Rattle.prop_nogoods.specs.Stores.{has_part, staying, lacking, with_set, AreMinimal, AreBySize, HaveSame, AddsSet}
 use Rattle.prop_nogoods.proofs.PlaceLemmas.{IsPlace, pairs_insert, insert_behind}
 use Rattle.prop_nogoods.proofs.StoreLaws.{PartOf, part-listed, has_part-from}
 
@@ -143,6 +143,30 @@ HaveSame-joined a b n i j same = record {
   first = joined_same a b n same.first i j;
   second = joined_same b a n same.second j i;
 }
+
+-- ---- the sets without a premise
+
+module _ (p : ℕ) where
+  -- the set doesn't hold it
+  abbrev pub is_without : List ℕ → Bool
+  is_without line = not (set_of line p)
+
+  lacking_same : (a b : List (List ℕ)) → ((line : List ℕ) → Contains a line → Contains b line) → (line : List ℕ) → Contains (lacking a p) line → Contains (lacking b p) line
+  lacking_same a b same line c =
+      stays_in is_without b line (same line (All-contains (Contains a) (lacking a p) line (All-filter is_without (Contains a) a (All-contains_itself a)) c))
+      (All-contains (λ x. is_without x ≡ true) (lacking a p) line (filter_passes is_without a) c)
+
+  pub minimal_lacking : (old : List (List ℕ)) → AreMinimal old → AreMinimal (lacking old p)
+  minimal_lacking old h = AllPairs-filter (λ a b. (is_within (set_of b) a ≡ false) × (is_within (set_of a) b ≡ false)) is_without old h
+
+  pub in_order_lacking : (old : List (List ℕ)) → All IsStrictlyIncreasing old → All IsStrictlyIncreasing (lacking old p)
+  in_order_lacking old h = All-filter is_without IsStrictlyIncreasing old h
+
+  pub by_size_lacking : (old : List (List ℕ)) → AreBySize old → AreBySize (lacking old p)
+  by_size_lacking old h = IsNonDecreasingBy-filter length is_without old h
+
+  pub HaveSame-lacking : (a b : List (List ℕ)) → HaveSame a b → HaveSame (lacking a p) (lacking b p)
+  HaveSame-lacking a b same = record { first = lacking_same a b same.first; second = lacking_same b a same.second }
 
 -- no part is in the one where none is in the other
 pub no_part-same : (a b : List (List ℕ)) (w : Members) → HaveSame a b → has_part b w ≡ false → has_part a w ≡ false

@@ -2,7 +2,7 @@
 use Rattle.std.specs.Prelude.{◌<◌, ℕ, List, length, Option, IfSome, IsTrue}
 use Rattle.std.specs.List.{flat_map}
 use Rattle.prop_premises.specs.Sets.{set_of}
-use Rattle.prop_nogoods.specs.Stores.{staying}
+use Rattle.prop_nogoods.specs.Stores.{staying, lacking}
 
 -- nogoods, the premise that each of them has, and how many there is memory for
 pub record Group : Type 0 where
@@ -25,3 +25,7 @@ sets_of groups = flat_map (λ g. g.sets) groups
 -- the group once a set joins: the nogoods that it is part of are gone
 abbrev pub left_of : List ℕ → Group → Group
 left_of n g = record g { sets = staying g.sets n }
+
+-- the group without the nogoods that hold a premise
+abbrev pub lacking_of : ℕ → Group → Group
+lacking_of p g = record g { sets = lacking g.sets p }

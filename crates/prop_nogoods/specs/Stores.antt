@@ -25,6 +25,10 @@ pub record HaveSame (a b : List (List ℕ)) : Type 0 where
 abbrev pub staying : List (List ℕ) → List ℕ → List (List ℕ)
 staying listed n = filter (λ line. not (is_within (set_of line) n)) listed
 
+-- the listed sets that don't hold this premise
+abbrev pub lacking : List (List ℕ) → ℕ → List (List ℕ)
+lacking listed p = filter (λ line. not (set_of line p)) listed
+
 -- the listed sets that are no larger than this one
 abbrev pub no_larger : List (List ℕ) → List ℕ → List (List ℕ)
 no_larger listed n = filter (λ line. not (nat_lt (length n) (length line))) listed

@@ -2,9 +2,9 @@
 ghost use Rattle.std.specs.Prelude.{◌≡◌, ◌<◌, ◌++◌, ◌∷◌, ℕ, [], length, get_or, insert, map, vec_capacity, false, All, None, Contains, IsTrue, IfOk, IfSome, OnOk, OnErr};
 ghost use Rattle.prop_premises.specs.Sets.{set_of, is_within};
 ghost use Rattle.prop_nogoods.specs.Stores.{has_part, staying};
-ghost use Rattle.prop_nogoods.specs.Endings.{Group, EndsSo, sets_of, HasRoom, left_of};
+ghost use Rattle.prop_nogoods.specs.Endings.{Group, EndsSo, sets_of, HasRoom, left_of, lacking_of};
 
-use crate::listed::{Listed, drop_larger, first_believed};
+use crate::listed::{Listed, drop_holding, drop_larger, first_believed};
 use prop_premises::{Premise, Worldview};
 use std::alloc::{AllocError, Global};
 use std::marker::Model;
@@ -68,6 +68,13 @@ impl Ending {
         drop_larger(&mut self.nogoods, nogood);
     }
 
+    /// Drops the nogoods that hold the premise. It takes no memory.
+    fn purge(&mut self, premise: Premise)
+        ensures { self.new ≡ lacking_of premise self.old }
+    {
+        drop_holding(&mut self.nogoods, premise);
+    }
+
     /// The first nogood of which every premise is believed. Where the last premise isn't, it looks at no nogood.
     #[inline]
     fn first_believed(&self, worldview: &Worldview) -> Option<&Listed>
@@ -108,6 +115,15 @@ fn drop_larger_everywhere(endings: &mut [Ending], nogood: &Listed)
 {
     for ending in endings {
         ending.drop_larger(nogood);
+    }
+}
+
+/// Drops the nogoods that hold the premise, at each ending. It takes no memory.
+pub(crate) fn purge_everywhere(endings: &mut [Ending], premise: Premise)
+    ensures { endings.new ≡ map (lacking_of premise) endings.old }
+{
+    for ending in endings {
+        ending.purge(premise);
     }
 }
 

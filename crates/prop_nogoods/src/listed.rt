@@ -2,7 +2,7 @@
 ghost use Rattle.std.specs.Prelude.{◌≡◌, ◌≤◌, List, ℕ, length, false, All, None, Contains, IsTrue, IfOk, IfSome, vec_capacity, vec_len};
 ghost use Rattle.std.specs.List.Sorted.{IsStrictlyIncreasing};
 ghost use Rattle.prop_premises.specs.Sets.{set_of, is_within};
-ghost use Rattle.prop_nogoods.specs.Stores.{has_part, staying, AreBySize};
+ghost use Rattle.prop_nogoods.specs.Stores.{has_part, staying, lacking, AreBySize};
 
 use prop_premises::{Premise, PremiseSet, Worldview};
 use std::alloc::AllocError;
@@ -87,6 +87,14 @@ impl Listed {
         }
     }
 
+    /// Whether the premise is in the set. It takes no memory.
+    #[inline]
+    pub(crate) fn holds(&self, premise: Premise) -> bool
+        ensures { result ≡ set_of self.now premise }
+    {
+        self.premises.contains(premise)
+    }
+
     /// Whether each premise of this set is in the other. Of a larger set it is known by the sizes alone. It takes no memory.
     pub(crate) fn is_part_of(&self, other: &Listed) -> bool
         ensures { result ≡ is_within (set_of other.now) self.now }
@@ -102,6 +110,14 @@ pub(crate) fn drop_larger(listed: &mut Vec<Listed>, nogood: &Listed)
     ensures len { vec_len listed.new ≤ vec_len listed.old }
 {
     listed.retain(|larger| !nogood.is_part_of(larger));
+}
+
+/// Drops the listed sets that hold the premise.
+pub(crate) fn drop_holding(listed: &mut Vec<Listed>, premise: Premise)
+    ensures left { listed.new.items ≡ lacking listed.old.items premise }
+    ensures capacity { vec_capacity listed.new ≡ vec_capacity listed.old }
+{
+    listed.retain(|nogood| !nogood.holds(premise));
 }
 
 /// The first listed set of which every premise is believed.

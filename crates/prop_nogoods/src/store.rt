@@ -3,12 +3,12 @@ ghost use Rattle.std.specs.Prelude.{◌≡◌, ◌↔◌, ◌≤◌, ◌<◌, �
 ghost use Rattle.std.specs.List.Sorted.{IsStrictlyIncreasing, IsPartitionPoint};
 ghost use Rattle.prop_premises.specs.Sets.{set_of, is_within};
 ghost use Rattle.prop_nogoods.specs.Endings.{sets_of};
-ghost use Rattle.prop_nogoods.specs.Stores.{has_part, with_set, AreMinimal, AreBySize, HaveSame, AddsSet};
+ghost use Rattle.prop_nogoods.specs.Stores.{has_part, lacking, with_set, AreMinimal, AreBySize, HaveSame, AddsSet};
 
-use crate::ending::{Ending, earliest_believed, join};
-use crate::listed::{Listed, drop_larger, first_believed};
+use crate::ending::{Ending, earliest_believed, join, purge_everywhere};
+use crate::listed::{Listed, drop_holding, drop_larger, first_believed};
 use crate::nogoods::Nogoods;
-use prop_premises::{PremiseSet, Worldview};
+use prop_premises::{Premise, PremiseSet, Worldview};
 use std::alloc::{AllocError, Global};
 use std::marker::Model;
 
@@ -138,5 +138,13 @@ impl Store {
     {
         let nogood = earliest_believed(&self.by_last, worldview)?;
         Some(nogood.premises())
+    }
+
+    /// Drops the nogoods that hold the premise. It takes no memory.
+    pub fn purge(&mut self, premise: Premise)
+        ensures { self.new ≡ lacking self.old premise }
+    {
+        drop_holding(&mut self.nogoods, premise);
+        purge_everywhere(&mut self.by_last, premise);
     }
 }

@@ -1,5 +1,5 @@
 -- What the layers above use of beliefs: they grow, keep what each entry keeps, and a lean support is enough for its value.
-use Rattle.std.proofs.Common.{◌≡◌, ◌∙◌, ◌<◌, ℕ, Bool, true, false, cond, if◌then◌else◌, List, [], ◌∷◌, get_or, sym, ap, refl, arith, Contains, filter, nat_lt, Result, Ok, Err, IfOk}
+use Rattle.std.proofs.Common.{◌≡◌, ◌∙◌, ◌<◌, ℕ, Bool, true, false, not, cond, if◌then◌else◌, List, [], ◌∷◌, get_or, sym, ap, refl, arith, Contains, filter, nat_lt, Result, Ok, Err, IfOk}
 use Rattle.std.proofs.lemmas.Bool.Decides.{nat_tests}
 use Rattle.std.proofs.lemmas.List.Folds.{Any-from_list_any, list_any_at}
 use Rattle.std.proofs.lemmas.List.Elements.{recursion_from_All}
@@ -31,6 +31,19 @@ pub belief_of-below : {V : Type 0} (bottom : V) (join : V → V → V) (n : ℕ)
 belief_of-below bottom join n w low es =
     ap (merge_of_all bottom join) (filter_idle (λ e. is_below n e.support) (λ e. is_within w e.support)
     (λ x on. within_from (λ p. nat_lt p n) x.support (λ p t. lt_test p n (low p (within_has w x.support p on t)))) es)
+
+-- who doesn't believe a premise believes what they did, once the entries that rest on it are gone
+pub belief_of-without : {V : Type 0} (bottom : V) (join : V → V → V) (p : ℕ) (w : Members) → w p ≡ false → (es : List (Supported V)) →
+    belief_of bottom join w (filter (λ e. not (set_of e.support p)) es) ≡ belief_of bottom join w es
+belief_of-without bottom join p w lacks es =
+    ap (merge_of_all bottom join) (filter_idle (λ e. not (set_of e.support p)) (λ e. is_within w e.support) (λ x on. outside x.support on) es)
+  where
+    outside : (s : List ℕ) → is_within w s ≡ true → not (set_of s p) ≡ true
+    outside s on = by (set_of s p) refl
+      where
+        by : (b : Bool) → set_of s p ≡ b → not b ≡ true
+        by true t = cc (within_has w s p on t, lacks)
+        by false t = refl
 
 -- what entries say that pass a test keeps what each of them keeps
 pub said_kept : {V : Type 0} (bottom : V) (join : V → V → V) (t : Supported V → Bool) (P : V → Type 0) → P bottom → ((a b : V) → P a → P b → P (join a b)) → (es : List (Supported V)) →

@@ -6,4 +6,5 @@ pub mod ValueLemmas
 pub mod GainLemmas
 pub mod BeliefUses
 pub mod TrimLemmas
+pub mod PurgeLemmas
 pub mod ShiftLemmas

@@ -3,6 +3,7 @@
 
 mod gain;
 mod gains;
+mod purging;
 mod shifting;
 mod strongest;
 pub mod supported;

@@ -1,11 +1,13 @@
 //! The entries of one value.
 ghost use Rattle.std.specs.Prelude.{◌≡◌, ◌≢◌, ◌↔◌, ◌≤◌, ◌+◌, false, not, List, [], length, filter, IsTrue, Ok, IsOk, IfOk, OnOk, OnErr};
+ghost use Rattle.std.specs.List.{list_any};
 ghost use Rattle.prop_premises.specs.Sets.{Members, set_of, is_within, is_below, is_at_most_one_of, IsBelow};
 ghost use Rattle.prop_tms.specs.Beliefs.{belief_of, IsLeastBelief, Subsumes, NoneSubsumed, NoneAlike, IsNeedless, Adds, IsLean, IsShort, Trims, AreNeeded, joined_with};
 ghost use Rattle.prop_tms.specs.Kept.{IsGrownBy};
 ghost use Rattle.prop_tms.specs.Values.{entries_of, AreKept};
 ghost use Rattle.prop_tms.specs.declared.supported.Supported.{Supported};
 
+use crate::purging::drop_resting;
 use crate::shifting::shifted;
 use crate::strongest::{belief, strongest};
 use crate::supported::Supported;
@@ -14,7 +16,7 @@ use crate::values::{
     Valued, count, drop_bare, drop_emptied, drop_from, drop_subsumed, is_needless, joined, room_for,
 };
 use prop_lattice::Partial;
-use prop_premises::{PremiseSet, Worldview};
+use prop_premises::{Premise, PremiseSet, Worldview};
 use std::alloc::{AllocError, Global};
 use std::marker::Model;
 
@@ -138,5 +140,17 @@ impl<V: Partial> Tms<V> {
     {
         drop_from(&mut self.values, count);
         drop_bare(&mut self.values);
+    }
+
+    /// Drops the entries whose support holds the premise, and tells whether there were any. No other entry is lost: what an entry with the premise
+    /// subsumed held it too. It takes no memory.
+    pub fn purge(&mut self, premise: Premise) -> bool
+        ensures left { self.new ≡ filter (λ e. not (set_of e.support premise)) self.old }
+        ensures went { result ≡ list_any (λ e. set_of e.support premise) self.old }
+        ensures beliefs { (w : Members) → w premise ≡ false → belief_of V.bottom V.join w self.new ≡ belief_of V.bottom V.join w self.old }
+    {
+        let went = drop_resting(&mut self.values, premise);
+        drop_bare(&mut self.values);
+        went
     }
 }

@@ -59,6 +59,7 @@ carried_meet None library s t first second (commands.Command.Tell premise cell v
 carried_meet None library s t first second (commands.Command.Choose name cell values) answer other steps others e r q = changes_meet library s t first second (commands.Command.Choose name cell values) answer other steps others e r q
 carried_meet None library s t first second (commands.Command.Kick premise) answer other steps others e r q = changes_meet library s t first second (commands.Command.Kick premise) answer other steps others e r q
 carried_meet None library s t first second (commands.Command.Bring premise) answer other steps others e r q = changes_meet library s t first second (commands.Command.Bring premise) answer other steps others e r q
+carried_meet None library s t first second (commands.Command.Forget premise) answer other steps others e r q = changes_meet library s t first second (commands.Command.Forget premise) answer other steps others e r q
 carried_meet None library s t first second (commands.Command.Limit n) answer other steps others e r q = changes_meet library s t first second (commands.Command.Limit n) answer other steps others e r q
 carried_meet None library s t first second commands.Command.Settle answer other steps others e r q = runs_meet library s t first second commands.Command.Settle answer other steps others e r q
 carried_meet None library s t first second (commands.Command.Ask x) answer other steps others e r q = runs_meet library s t first second (commands.Command.Ask x) answer other steps others e r q
@@ -166,6 +167,7 @@ texts_meet library s (commands.Command.Tell premise cell value) list text also s
 texts_meet library s (commands.Command.Choose name cell values) list text also steps others r q = absurd r
 texts_meet library s (commands.Command.Kick premise) list text also steps others r q = absurd r
 texts_meet library s (commands.Command.Bring premise) list text also steps others r q = absurd r
+texts_meet library s (commands.Command.Forget premise) list text also steps others r q = absurd r
 texts_meet library s (commands.Command.Limit n) list text also steps others r q = absurd r
 
 pub settled_texts_meet : (library : List Stored) → SettledTextsMeet library

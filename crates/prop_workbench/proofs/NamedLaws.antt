@@ -44,6 +44,7 @@ module _ (library : List Stored) (related : ℕ → Param → List Point → Poi
   bears_named (commands.Command.Choose name cell values) text h = h
   bears_named (commands.Command.Kick premise) text h = h
   bears_named (commands.Command.Bring premise) text h = h
+  bears_named (commands.Command.Forget premise) text h = h
   bears_named (commands.Command.Limit n) text h = h
   bears_named commands.Command.Nogoods text h = h
   bears_named commands.Command.Settle text h = h

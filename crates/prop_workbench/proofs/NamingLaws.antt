@@ -1,11 +1,11 @@
 -- Which contradictions were named bears on nothing but the list of nogoods.
-use Rattle.std.proofs.Common.{◌≡◌, ◌∙◌, List, [], ℕ, refl, sym, ap}
+use Rattle.std.proofs.Common.{◌≡◌, ◌∙◌, List, [], ℕ, Option, Some, None, refl, sym, ap}
 use Rattle.prop_procedures.specs.Stored.{Stored}
 use Rattle.prop_language.specs.Commands as commands
 use Rattle.prop_language.specs.Commands.{Command}
 use Rattle.prop_workbench.specs.Machine.{State, naming}
 use Rattle.prop_workbench.specs.Refusing.{refusal_of}
-use Rattle.prop_workbench.specs.Effects.{effect}
+use Rattle.prop_workbench.specs.Effects.{effect, named_after, forgotten_in, without_named}
 use Rattle.prop_workbench.specs.Agreeing.{AreAlike}
 
 pub refusal_naming : (library : List Stored) (s : State) (named : List (List ℕ)) (command : Command) → refusal_of library (naming s named) command ≡ refusal_of library s command
@@ -19,6 +19,7 @@ refusal_naming library s named (commands.Command.Tell premise cell value) = refl
 refusal_naming library s named (commands.Command.Choose name cell values) = refl
 refusal_naming library s named (commands.Command.Kick premise) = refl
 refusal_naming library s named (commands.Command.Bring premise) = refl
+refusal_naming library s named (commands.Command.Forget premise) = refl
 refusal_naming library s named (commands.Command.Limit n) = refl
 refusal_naming library s named commands.Command.Settle = refl
 refusal_naming library s named (commands.Command.Ask x) = refl
@@ -27,7 +28,7 @@ refusal_naming library s named (commands.Command.Core x) = refl
 refusal_naming library s named commands.Command.Worldview = refl
 refusal_naming library s named commands.Command.Nogoods = refl
 
-pub effect_naming : (library : List Stored) (s : State) (named : List (List ℕ)) (command : Command) → effect library (naming s named) command ≡ naming (effect library s command) named
+pub effect_naming : (library : List Stored) (s : State) (named : List (List ℕ)) (command : Command) → effect library (naming s named) command ≡ naming (effect library s command) (named_after s command named)
 effect_naming library s named (commands.Command.Domain name elements) = refl
 effect_naming library s named (commands.Command.Relation name from to pairs) = refl
 effect_naming library s named (commands.Command.Cell name kind) = refl
@@ -38,6 +39,7 @@ effect_naming library s named (commands.Command.Tell premise cell value) = refl
 effect_naming library s named (commands.Command.Choose name cell values) = refl
 effect_naming library s named (commands.Command.Kick premise) = refl
 effect_naming library s named (commands.Command.Bring premise) = refl
+effect_naming library s named (commands.Command.Forget premise) = refl
 effect_naming library s named (commands.Command.Limit n) = refl
 effect_naming library s named commands.Command.Settle = refl
 effect_naming library s named (commands.Command.Ask x) = refl
@@ -50,8 +52,18 @@ effect_naming library s named commands.Command.Nogoods = refl
 pub refusal_alike : (library : List Stored) (s t : State) (command : Command) → AreAlike s t → refusal_of library t command ≡ refusal_of library s command
 refusal_alike library s t command e = sym (refusal_naming library t [] command) ∙ ap (λ u. refusal_of library u command) e ∙ refusal_naming library s [] command
 
+none_after : (s : State) (command : Command) → named_after s command [] ≡ []
+none_after s command = by (forgotten_in s command)
+  where
+    by : (o : Option ℕ) → without_named o [] ≡ []
+    by None = refl
+    by (Some p) = refl
+
 pub effect_alike : (library : List Stored) (s t : State) (command : Command) → AreAlike s t → AreAlike (effect library s command) (effect library t command)
-effect_alike library s t command e = sym (effect_naming library t [] command) ∙ ap (λ u. effect library u command) e ∙ effect_naming library s [] command
+effect_alike library s t command e = sym (nothing_named t) ∙ ap (λ u. effect library u command) e ∙ nothing_named s
+  where
+    nothing_named : (u : State) → effect library (naming u []) command ≡ naming (effect library u command) []
+    nothing_named u = effect_naming library u [] command ∙ ap (λ named. naming (effect library u command) named) (none_after u command)
 
 pub alike_naming : (s t : State) (named others : List (List ℕ)) → AreAlike s t → AreAlike (naming s named) (naming t others)
 alike_naming s t named others e = e

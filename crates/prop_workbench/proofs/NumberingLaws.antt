@@ -192,6 +192,7 @@ carried library s t None (commands.Command.Choose name cell values) answer steps
     rw r.new_is (numbered_chosen s.premises name (meants_at s cell values) (length values) counts.0 counts.1 (λ meants e. meant_count s cell values meants e) n)
 carried library s t None (commands.Command.Kick premise) answer steps n few r = rw r.new_is (numbered_belief s.premises _ false n)
 carried library s t None (commands.Command.Bring premise) answer steps n few r = rw r.new_is (numbered_belief s.premises _ true n)
+carried library s t None (commands.Command.Forget premise) answer steps n few r = rw r.new_is n
 carried library s t None (commands.Command.Limit limit) answer steps n few r = rw r.new_is n
 carried library s t None commands.Command.Settle answer steps n few r = rw r.new_is n
 carried library s t None (commands.Command.Ask x) answer steps n few r = rw r.new_is n

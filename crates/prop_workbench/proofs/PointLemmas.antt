@@ -96,6 +96,7 @@ module _ (library : List Stored) (related : ℕ → Param → List Point → Poi
   carried None commands.Command.Nogoods answer new steps text r e = tt
   carried None (commands.Command.Kick premise) answer new steps text r e = tt
   carried None (commands.Command.Bring premise) answer new steps text r e = tt
+  carried None (commands.Command.Forget premise) answer new steps text r e = tt
   carried None (commands.Command.Limit n) answer new steps text r e = tt
 
   obeyed : (command : Command) (answer : Answer) (new : State) (steps : ℕ) (text : List ℕ) → Obeys library s command answer new steps → answer ≡ Text text → BearsOut library related s command text

@@ -98,7 +98,9 @@ replies_named library s named (commands.Command.Choose name cell values) (Unsett
 replies_named library s named (commands.Command.Kick premise) (Settled list) steps text r = absurd r
 replies_named library s named (commands.Command.Kick premise) (Unsettled list) steps text r = absurd r
 replies_named library s named (commands.Command.Bring premise) (Settled list) steps text r = absurd r
+replies_named library s named (commands.Command.Forget premise) (Settled list) steps text r = absurd r
 replies_named library s named (commands.Command.Bring premise) (Unsettled list) steps text r = absurd r
+replies_named library s named (commands.Command.Forget premise) (Unsettled list) steps text r = absurd r
 replies_named library s named (commands.Command.Limit n) (Settled list) steps text r = absurd r
 replies_named library s named (commands.Command.Limit n) (Unsettled list) steps text r = absurd r
 replies_named library s named commands.Command.Nogoods (Settled list) steps text r = absurd r

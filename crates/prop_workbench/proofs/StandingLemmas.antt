@@ -1,8 +1,8 @@
 -- What a search keeps where a belief changes, a statement is made, or a name is taken up.
-use Rattle.std.proofs.Common.{◌≡◌, ◌∙◌, ℕ, zero, suc, Bool, true, false, IsTrue, List, [], ◌∷◌, ◌++◌, Contains, All, Some, None, ◌+◌, ◌<◌, ◌==◌, ◌||◌, map, unwrap_or, length, get_or, arith, refl, sym, ap}
+use Rattle.std.proofs.Common.{◌≡◌, ◌∙◌, ℕ, zero, suc, Bool, true, false, not, IsTrue, List, [], ◌∷◌, ◌++◌, Contains, All, Some, None, ◌+◌, ◌<◌, ◌==◌, ◌||◌, map, unwrap_or, length, get_or, arith, refl, sym, ap}
 use Rattle.std.proofs.lemmas.Bool.Decides.{nat_tests}
 use Rattle.std.proofs.lemmas.List.{length-append}
-use Rattle.std.proofs.lemmas.List.Elements.{All-weaker, Contains-get_or, Contains-append_left}
+use Rattle.std.proofs.lemmas.List.Elements.{All-filter, All-weaker, Contains-get_or, Contains-append_left}
 use Rattle.prop_premises.specs.Sets.{Members, set_of}
 use Rattle.prop_premises.specs.Origins.{Origin, User, Side, believed_in, is_user_at, premise_number, with_belief_at}
 use Rattle.prop_premises.proofs.ChoiceLemmas.{choices_of-user, choices_of-with_belief_at}
@@ -11,6 +11,7 @@ use Rattle.prop_cells.specs.declared.instance.Statement.{Statement}
 use Rattle.prop_cells.specs.Problems.{Extends}
 use Rattle.prop_cells.specs.Data.{Data, problem_of}
 use Rattle.prop_cells.specs.Instances.{constraint_of}
+use Rattle.prop_cells.specs.Forgetting.{forgotten, is_under}
 use Rattle.prop_scheduler.specs.Agendas.{Waiting}
 use Rattle.prop_scheduler.specs.Turns.{IsUnderWay}
 use Rattle.prop_amb.specs.Refuted.{IsCovered}
@@ -129,3 +130,19 @@ named_at_work library old new name d agenda work none made stand search =
 
 pub named_covers : (old new : Stand) (name : List ℕ) → new ≡ interned old name → premise_number old.premises name ≡ None → (m : Members) → IsCovered (choices_in old) old.listed m → IsCovered (choices_in new) new.listed m
 named_covers old new name made none m h = rw (made, new_stand old name none, choices_of-user old.premises name true) h
+
+-- ---- a premise that is forgotten
+
+-- a search that forgets a premise is at work where the network forgets it too
+pub forgotten_at_work : (library : List Stored) (old new : Stand) (p : ℕ) (d : Data) (before after : Waiting) → IsAtWork library old d before → new.premises ≡ old.premises → IsStand new →
+    (IsSearch (problem_of library d) old → IsSearch (problem_of library (forgotten p d)) new) → IsUnderWay library (set_of new.worldview) (forgotten p d) after.line → after.room ≡ before.room → IsWatched (set_of new.worldview) (forgotten p d) after.watched →
+    after.cells ≡ before.cells → IsAtWork library new (forgotten p d) after
+forgotten_at_work library old new p d before after work same stand search under_way room watch space = record {
+  under_way = under_way;
+  well_made = stand;
+  search = search work.search;
+  known = rw same (All-filter (λ x. not (is_under p x.premise)) (λ x. (q : ℕ) → x.premise ≡ Some q → q < length old.premises) d.statements work.known);
+  roomy = rw room work.roomy;
+  watched = watch;
+  cells = rw space work.cells;
+}

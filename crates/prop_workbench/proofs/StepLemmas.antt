@@ -101,6 +101,7 @@ same_if_memory None library old new (commands.Command.Choose name cell values) a
 same_if_memory None library old new commands.Command.Nogoods answer steps e r = let f : Refused Memory ≡ Text r.text = sym e ∙ r.answer_is in cc
 same_if_memory None library old new (commands.Command.Kick premise) answer steps e r = let f : Refused Memory ≡ Done = sym e ∙ r.answer_is in cc
 same_if_memory None library old new (commands.Command.Bring premise) answer steps e r = let f : Refused Memory ≡ Done = sym e ∙ r.answer_is in cc
+same_if_memory None library old new (commands.Command.Forget premise) answer steps e r = let f : Refused Memory ≡ Done = sym e ∙ r.answer_is in cc
 same_if_memory None library old new (commands.Command.Limit n) answer steps e r = let f : Refused Memory ≡ Done = sym e ∙ r.answer_is in cc
 same_if_memory None library old new (commands.Command.Why cell) answer steps e r = let f : Refused Memory ≡ Text r.text = sym e ∙ r.answer_is in cc
 same_if_memory None library old new (commands.Command.Core cell) answer steps e r = let f : Refused Memory ≡ Text r.text = sym e ∙ r.answer_is in cc
@@ -146,6 +147,7 @@ carried_within None library old new (commands.Command.Choose name cell values) a
 carried_within None library old new commands.Command.Nogoods answer steps r = none_within steps new.limit r.no_steps
 carried_within None library old new (commands.Command.Kick premise) answer steps r = none_within steps new.limit r.no_steps
 carried_within None library old new (commands.Command.Bring premise) answer steps r = none_within steps new.limit r.no_steps
+carried_within None library old new (commands.Command.Forget premise) answer steps r = none_within steps new.limit r.no_steps
 carried_within None library old new (commands.Command.Limit n) answer steps r = none_within steps new.limit r.no_steps
 carried_within None library old new commands.Command.Settle answer steps r = run_within library old new commands.Command.Settle answer steps r
 carried_within None library old new (commands.Command.Ask cell) answer steps r = run_within library old new (commands.Command.Ask cell) answer steps r

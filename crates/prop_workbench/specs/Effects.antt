@@ -18,6 +18,8 @@ use Rattle.prop_procedures.specs.declared.shape.Param.TheVariants.{Plain}
 use Rattle.prop_procedures.specs.Fitting.{fitting_param}
 use Rattle.prop_cells.specs.declared.instance.Statement.{Statement}
 use Rattle.prop_cells.specs.Instances.{Instance}
+use Rattle.prop_cells.specs.Forgetting.{not_under}
+use Rattle.prop_nogoods.specs.Stores.{lacking}
 use Rattle.prop_cells.specs.Refusing.{may_be_stated}
 use Rattle.prop_scheduler.specs.Making.{cell_placed}
 use Rattle.prop_vocabulary.specs.Vocabulary.{Vocabulary, symbol_number, with_domain, with_relation}
@@ -129,6 +131,10 @@ abbrev pub stating : Option (List ℕ) → List ℕ → Value → Command
 stating None cell value = Command.Fix cell value
 stating (Some premise) cell value = Command.Tell premise cell value
 
+-- no statement under p, and no contradiction that was named with it
+abbrev pub forgetting : State → ℕ → State
+forgetting s p = record s { statements = not_under p s.statements; named = lacking s.named p }
+
 -- the state after the command; a command that runs the network changes nothing here
 abbrev pub effect : List Stored → State → Command → State
 effect library s (Command.Domain name elements) = record s { words = with_domain s.words name elements }
@@ -143,5 +149,20 @@ effect library s (Command.Tell premise cell value) = stated s (Some premise) (un
 effect library s (Command.Choose name cell values) = chosen s name (unwrap_or (cell_named s.names cell) 0) (unwrap_or (meants_at s cell values) [])
 effect library s (Command.Kick premise) = record s { premises = with_belief_at s.premises (number_given s.premises premise) false }
 effect library s (Command.Bring premise) = record s { premises = with_belief_at s.premises (number_given s.premises premise) true }
+effect library s (Command.Forget premise) = forgetting s (number_given s.premises premise)
 effect library s (Command.Limit steps) = record s { limit = unwrap_or steps 0 }
 effect library s command = s
+
+-- the premise that the command forgets, where it forgets one
+abbrev pub forgotten_in : State → Command → Option ℕ
+forgotten_in s (Command.Forget premise) = Some (number_given s.premises premise)
+forgotten_in s command = None
+
+-- the named contradictions, without those that hold a premise where one is forgotten
+abbrev pub without_named : Option ℕ → List (List ℕ) → List (List ℕ)
+without_named None named = named
+without_named (Some p) named = lacking named p
+
+-- the contradictions that were named, as far as they are known after the command
+abbrev pub named_after : State → Command → List (List ℕ) → List (List ℕ)
+named_after s command named = without_named (forgotten_in s command) named

@@ -87,6 +87,7 @@ is_nobody s name = is_none (premise_number s.premises name) && not (is_choice s.
 abbrev pub is_premise_missing : State → Command → Bool
 is_premise_missing s (Command.Kick premise) = is_nobody s premise
 is_premise_missing s (Command.Bring premise) = is_nobody s premise
+is_premise_missing s (Command.Forget premise) = is_nobody s premise
 is_premise_missing s command = false
 
 -- a choice has the name, where one is given
@@ -99,6 +100,7 @@ abbrev pub is_choice_given : State → Command → Bool
 is_choice_given s (Command.Tell premise cell value) = is_choice s.premises premise
 is_choice_given s (Command.Kick premise) = is_choice s.premises premise
 is_choice_given s (Command.Bring premise) = is_choice s.premises premise
+is_choice_given s (Command.Forget premise) = is_choice s.premises premise
 is_choice_given s command = false
 
 -- what a command gives with its procedure

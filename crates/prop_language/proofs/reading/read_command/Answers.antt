@@ -3,7 +3,7 @@ use Rattle.prop_language.specs.Tokens.{Token, Word, tokens}
 use Rattle.prop_language.specs.Said.{KeepsWords}
 use Rattle.prop_language.specs.Parts.{KeepsWordsOf, word_of}
 use Rattle.prop_language.specs.declared.reading.CommandWord.{CommandWord}
-use Rattle.prop_language.specs.declared.reading.CommandWord.TheVariants.{Domain, Relation, Cell, Define, Attach, Fix, Tell, Choose, Kick, Bring, Limit, Settle, Ask, Why, Core, Worldview, Nogoods}
+use Rattle.prop_language.specs.declared.reading.CommandWord.TheVariants.{Domain, Relation, Cell, Define, Attach, Fix, Tell, Choose, Kick, Bring, Forget, Limit, Settle, Ask, Why, Core, Worldview, Nogoods}
 use Rattle.prop_language.proofs.reading.read_command.Goals as goal
 
 keeps : (command : CommandWord) (w : List ℕ) (ts : List Token) → w ≡ word_of command → KeepsWordsOf command ts → KeepsWords (Word w ∷ ts)
@@ -17,6 +17,7 @@ keeps Tell w ts e h = inr (inr (inr (inr (inr (inr e, h)))))
 keeps Choose w ts e h = inr (inr (inr (inr (inl e))))
 keeps Kick w ts e h = absurd h
 keeps Bring w ts e h = absurd h
+keeps Forget w ts e h = absurd h
 keeps Limit w ts e h = absurd h
 keeps Settle w ts e h = absurd h
 keeps Ask w ts e h = absurd h

@@ -7,6 +7,7 @@ use Rattle.prop_engine.specs.Answers.{Silent, Done, answer_done}
 use Rattle.prop_workbench.specs.Steps.{Shown}
 use Rattle.prop_workbench.specs.Sessions.{state_of, shown_of}
 use Rattle.prop_workbench.proofs.CoveringLemmas.{still_obeyed, refused_followed}
+use Rattle.prop_workbench.proofs.SoundLemmas.{stays}
 use Rattle.prop_workbench.proofs.WordLemmas.{some_elements}
 use Rattle.prop_workbench.proofs.session.Session.carry_out.Goals as goal
 
@@ -14,7 +15,7 @@ pub domain-requires-clause-some : goal.domain-requires-clause-some
 domain-requires-clause-some g c = rw c.deref.ensures.value (some_elements c.in-Domain.name.now c.in-Domain.elements.items (rw c.in-Domain.is at c.requires.some))
 
 pub returns-in-Silent-clause-keeps : goal.returns-in-Silent-clause-keeps
-returns-in-Silent-clause-keeps g c = record { library = refl; sound = c.requires.sound; steps = refl; covers = λ m covered. covered }
+returns-in-Silent-clause-keeps g c = record { library = refl; sound = c.requires.sound; steps = refl }
 
 pub returns-in-Silent-clause-step : goal.returns-in-Silent-clause-step
 returns-in-Silent-clause-step g c =
@@ -25,7 +26,7 @@ pub returns-in-Silent-clause-rests : goal.returns-in-Silent-clause-rests
 returns-in-Silent-clause-rests g c = rw c.in-Silent.is (record { lean = tt; earned = tt })
 
 pub returns-in-Domain-clause-keeps : goal.returns-in-Domain-clause-keeps
-returns-in-Domain-clause-keeps g c = c.domain.ensures.keeps
+returns-in-Domain-clause-keeps g c = stays c.domain.ensures.keeps
 
 pub returns-in-Domain-clause-step : goal.returns-in-Domain-clause-step
 returns-in-Domain-clause-step g c =
@@ -37,7 +38,7 @@ pub returns-in-Domain-clause-rests : goal.returns-in-Domain-clause-rests
 returns-in-Domain-clause-rests g c = rw c.in-Domain.is (record { lean = tt; earned = tt })
 
 pub returns-in-Relation-clause-keeps : goal.returns-in-Relation-clause-keeps
-returns-in-Relation-clause-keeps g c = c.relation.ensures.keeps
+returns-in-Relation-clause-keeps g c = stays c.relation.ensures.keeps
 
 pub returns-in-Relation-clause-step : goal.returns-in-Relation-clause-step
 returns-in-Relation-clause-step g c =
@@ -49,7 +50,7 @@ pub returns-in-Relation-clause-rests : goal.returns-in-Relation-clause-rests
 returns-in-Relation-clause-rests g c = rw c.in-Relation.is (record { lean = tt; earned = tt })
 
 pub returns-in-Cell-clause-keeps : goal.returns-in-Cell-clause-keeps
-returns-in-Cell-clause-keeps g c = c.cell.ensures.keeps
+returns-in-Cell-clause-keeps g c = stays c.cell.ensures.keeps
 
 pub returns-in-Cell-clause-step : goal.returns-in-Cell-clause-step
 returns-in-Cell-clause-step g c =
@@ -61,7 +62,7 @@ pub returns-in-Cell-clause-rests : goal.returns-in-Cell-clause-rests
 returns-in-Cell-clause-rests g c = rw c.in-Cell.is (record { lean = tt; earned = tt })
 
 pub returns-in-Define-clause-keeps : goal.returns-in-Define-clause-keeps
-returns-in-Define-clause-keeps g c = c.define.ensures.keeps
+returns-in-Define-clause-keeps g c = stays c.define.ensures.keeps
 
 pub returns-in-Define-clause-step : goal.returns-in-Define-clause-step
 returns-in-Define-clause-step g c =
@@ -73,7 +74,7 @@ pub returns-in-Define-clause-rests : goal.returns-in-Define-clause-rests
 returns-in-Define-clause-rests g c = rw c.in-Define.is (record { lean = tt; earned = tt })
 
 pub returns-in-Attach-clause-keeps : goal.returns-in-Attach-clause-keeps
-returns-in-Attach-clause-keeps g c = c.attach.ensures.keeps
+returns-in-Attach-clause-keeps g c = stays c.attach.ensures.keeps
 
 pub returns-in-Attach-clause-step : goal.returns-in-Attach-clause-step
 returns-in-Attach-clause-step g c =
@@ -85,7 +86,7 @@ pub returns-in-Attach-clause-rests : goal.returns-in-Attach-clause-rests
 returns-in-Attach-clause-rests g c = rw c.in-Attach.is (record { lean = tt; earned = tt })
 
 pub returns-in-Fix-clause-keeps : goal.returns-in-Fix-clause-keeps
-returns-in-Fix-clause-keeps g c = c.say.ensures.keeps
+returns-in-Fix-clause-keeps g c = stays c.say.ensures.keeps
 
 pub returns-in-Fix-clause-step : goal.returns-in-Fix-clause-step
 returns-in-Fix-clause-step g c =
@@ -97,7 +98,7 @@ pub returns-in-Fix-clause-rests : goal.returns-in-Fix-clause-rests
 returns-in-Fix-clause-rests g c = rw c.in-Fix.is (record { lean = tt; earned = tt })
 
 pub returns-in-Tell-clause-keeps : goal.returns-in-Tell-clause-keeps
-returns-in-Tell-clause-keeps g c = c.say-in-Tell.ensures.keeps
+returns-in-Tell-clause-keeps g c = stays c.say-in-Tell.ensures.keeps
 
 pub returns-in-Tell-clause-step : goal.returns-in-Tell-clause-step
 returns-in-Tell-clause-step g c =
@@ -109,7 +110,7 @@ pub returns-in-Tell-clause-rests : goal.returns-in-Tell-clause-rests
 returns-in-Tell-clause-rests g c = rw c.in-Tell.is (record { lean = tt; earned = tt })
 
 pub returns-in-Kick-clause-keeps : goal.returns-in-Kick-clause-keeps
-returns-in-Kick-clause-keeps g c = c.kick.ensures.keeps
+returns-in-Kick-clause-keeps g c = stays c.kick.ensures.keeps
 
 pub returns-in-Kick-clause-step : goal.returns-in-Kick-clause-step
 returns-in-Kick-clause-step g c =
@@ -121,7 +122,7 @@ pub returns-in-Kick-clause-rests : goal.returns-in-Kick-clause-rests
 returns-in-Kick-clause-rests g c = rw c.in-Kick.is (record { lean = tt; earned = tt })
 
 pub returns-in-Bring-clause-keeps : goal.returns-in-Bring-clause-keeps
-returns-in-Bring-clause-keeps g c = c.bring.ensures.keeps
+returns-in-Bring-clause-keeps g c = stays c.bring.ensures.keeps
 
 pub returns-in-Bring-clause-step : goal.returns-in-Bring-clause-step
 returns-in-Bring-clause-step g c =
@@ -132,8 +133,19 @@ returns-in-Bring-clause-step g c =
 pub returns-in-Bring-clause-rests : goal.returns-in-Bring-clause-rests
 returns-in-Bring-clause-rests g c = rw c.in-Bring.is (record { lean = tt; earned = tt })
 
+-- ---- what forgets
+
+pub returns-in-Forget-clause-keeps : goal.returns-in-Forget-clause-keeps
+returns-in-Forget-clause-keeps g c = c.forget.ensures.stays
+
+pub returns-in-Forget-clause-step : goal.returns-in-Forget-clause-step
+returns-in-Forget-clause-step g c = rw (c.in-Forget.is, c.of-in-Forget.ensures) c.forget.ensures.step
+
+pub returns-in-Forget-clause-rests : goal.returns-in-Forget-clause-rests
+returns-in-Forget-clause-rests g c = rw c.in-Forget.is (record { lean = tt; earned = tt })
+
 pub returns-in-Settle-clause-keeps : goal.returns-in-Settle-clause-keeps
-returns-in-Settle-clause-keeps g c = c.answered.ensures.keeps
+returns-in-Settle-clause-keeps g c = stays c.answered.ensures.keeps
 
 pub returns-in-Settle-clause-step : goal.returns-in-Settle-clause-step
 returns-in-Settle-clause-step g c = rw c.in-Settle.is c.answered.ensures.step
@@ -142,7 +154,7 @@ pub returns-in-Settle-clause-rests : goal.returns-in-Settle-clause-rests
 returns-in-Settle-clause-rests g c = rw c.in-Settle.is c.answered.ensures.rests
 
 pub returns-in-Ask-clause-keeps : goal.returns-in-Ask-clause-keeps
-returns-in-Ask-clause-keeps g c = c.ask.ensures.keeps
+returns-in-Ask-clause-keeps g c = stays c.ask.ensures.keeps
 
 pub returns-in-Ask-clause-step : goal.returns-in-Ask-clause-step
 returns-in-Ask-clause-step g c = rw c.in-Ask.is c.ask.ensures.step
@@ -151,7 +163,7 @@ pub returns-in-Ask-clause-rests : goal.returns-in-Ask-clause-rests
 returns-in-Ask-clause-rests g c = rw c.in-Ask.is c.ask.ensures.rests
 
 pub returns-in-Why-clause-keeps : goal.returns-in-Why-clause-keeps
-returns-in-Why-clause-keeps g c = c.why.ensures.keeps
+returns-in-Why-clause-keeps g c = stays c.why.ensures.keeps
 
 pub returns-in-Why-clause-step : goal.returns-in-Why-clause-step
 returns-in-Why-clause-step g c = rw c.in-Why.is c.why.ensures.step
@@ -160,7 +172,7 @@ pub returns-in-Why-clause-rests : goal.returns-in-Why-clause-rests
 returns-in-Why-clause-rests g c = rw c.in-Why.is c.why.ensures.rests
 
 pub returns-in-Core-clause-keeps : goal.returns-in-Core-clause-keeps
-returns-in-Core-clause-keeps g c = c.core.ensures.keeps
+returns-in-Core-clause-keeps g c = stays c.core.ensures.keeps
 
 pub returns-in-Core-clause-step : goal.returns-in-Core-clause-step
 returns-in-Core-clause-step g c = rw c.in-Core.is c.core.ensures.step
@@ -169,7 +181,7 @@ pub returns-in-Core-clause-rests : goal.returns-in-Core-clause-rests
 returns-in-Core-clause-rests g c = rw c.in-Core.is c.core.ensures.rests
 
 pub returns-in-Worldview-clause-keeps : goal.returns-in-Worldview-clause-keeps
-returns-in-Worldview-clause-keeps g c = c.answered-in-Worldview.ensures.keeps
+returns-in-Worldview-clause-keeps g c = stays c.answered-in-Worldview.ensures.keeps
 
 pub returns-in-Worldview-clause-step : goal.returns-in-Worldview-clause-step
 returns-in-Worldview-clause-step g c = rw c.in-Worldview.is c.answered-in-Worldview.ensures.step
@@ -180,7 +192,7 @@ returns-in-Worldview-clause-rests g c = rw c.in-Worldview.is c.answered-in-World
 pub returns-in-Limit-clause-keeps : goal.returns-in-Limit-clause-keeps
 returns-in-Limit-clause-keeps g c =
     let sound = c.requires.sound in
-    record { library = refl; sound = record { at_work = sound.at_work; sized = sound.sized; locals = sound.locals; named = sound.named; defined = sound.defined }; steps = refl; covers = λ m covered. covered }
+    record { library = refl; sound = record { at_work = sound.at_work; sized = sound.sized; locals = sound.locals; named = sound.named; defined = sound.defined }; steps = refl }
 
 pub returns-in-Limit-clause-step : goal.returns-in-Limit-clause-step
 returns-in-Limit-clause-step g c =
@@ -204,7 +216,7 @@ choose-requires-clause-few g c =
     rw c.deref-in-Choose.ensures.value (omega (arith, said.1, length-map values value_of))
 
 pub returns-in-Choose-clause-keeps : goal.returns-in-Choose-clause-keeps
-returns-in-Choose-clause-keeps g c = c.choose.ensures.keeps
+returns-in-Choose-clause-keeps g c = stays c.choose.ensures.keeps
 
 pub returns-in-Choose-clause-step : goal.returns-in-Choose-clause-step
 returns-in-Choose-clause-step g c =
@@ -216,7 +228,7 @@ pub returns-in-Choose-clause-rests : goal.returns-in-Choose-clause-rests
 returns-in-Choose-clause-rests g c = rw c.in-Choose.is (record { lean = tt; earned = tt })
 
 pub returns-in-Nogoods-clause-keeps : goal.returns-in-Nogoods-clause-keeps
-returns-in-Nogoods-clause-keeps g c = record { library = refl; sound = c.requires.sound; steps = refl; covers = λ m covered. covered }
+returns-in-Nogoods-clause-keeps g c = record { library = refl; sound = c.requires.sound; steps = refl }
 
 pub returns-in-Nogoods-clause-step : goal.returns-in-Nogoods-clause-step
 returns-in-Nogoods-clause-step g c = rw c.in-Nogoods.is c.nogoods.ensures.step

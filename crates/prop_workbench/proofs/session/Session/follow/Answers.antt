@@ -28,7 +28,7 @@ returns-in-Err-clause-rests g c = record {
 }
 
 pub returns-in-Err-clause-keeps : goal.returns-in-Err-clause-keeps
-returns-in-Err-clause-keeps g c = record { library = refl; sound = c.requires.sound; steps = refl; covers = λ m covered. covered }
+returns-in-Err-clause-keeps g c = record { library = refl; sound = c.requires.sound; steps = refl }
 
 pub returns-in-Ok-clause-step : goal.returns-in-Ok-clause-step
 returns-in-Ok-clause-step g c = rw c.in-Ok.ensures.read c.carry_out.ensures.step

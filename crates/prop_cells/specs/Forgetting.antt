@@ -1,0 +1,30 @@
+-- What is left where the statements under a premise go.
+use Rattle.std.specs.Prelude.{◌≡◌, ◌⊎◌, ◌==◌, ℕ, Bool, false, not, map, filter, All, Contains, List, Option, Some, None, slice_get}
+use Rattle.prop_premises.specs.Sets.{set_of}
+use Rattle.prop_procedures.specs.declared.shape.Kinded.{Kinded}
+use Rattle.prop_cells.specs.declared.instance.Statement.{Statement}
+use Rattle.prop_cells.specs.Problems.{Problem}
+use Rattle.prop_cells.specs.Data.{Data, Entry}
+
+-- whether a statement with this premise, or with none, stands under p
+abbrev pub is_under : ℕ → Option ℕ → Bool
+is_under p None = false
+is_under p (Some q) = q == p
+
+-- the statements that don't stand under p
+abbrev pub not_under : ℕ → List Statement → List Statement
+not_under p statements = filter (λ x. not (is_under p x.premise)) statements
+
+-- the entries that don't rest on p
+abbrev pub not_on : ℕ → List Entry → List Entry
+not_on p entries = filter (λ e. not (set_of e.support p)) entries
+
+-- no statement under p, and no entry that rests on it
+abbrev pub forgotten : ℕ → Data → Data
+forgotten p d = record d { contents = map (λ entries. not_on p entries) d.contents; statements = not_under p d.statements }
+
+-- the second problem lacks at most statements under p
+pub record Forgets (old new : Problem) (p : ℕ) : Type 0 where
+  pub cells : (cell : ℕ) (k : Kinded) → slice_get old.cells cell ≡ Some k → slice_get new.cells cell ≡ Some k
+  pub statements : All (λ x. (x.premise ≡ Some p) ⊎ Contains new.statements x) old.statements
+  pub constraints : All (Contains new.constraints) old.constraints
