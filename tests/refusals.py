@@ -217,6 +217,8 @@ HUNGRY = [
     "compounds: a definition with a local cell, and what is refused",
     "compounds: elements that are alike",
     "cores: two that are needed, and one that is not",
+    "forgetting: a contradiction, and one of its two premises is forgotten",
+    "forgetting: a choice goes back to its first side, and what was learned without the premise stays",
 ]
 
 # The session on devices that fail.
