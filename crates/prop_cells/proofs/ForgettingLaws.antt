@@ -1,11 +1,11 @@
 -- What stays where the statements under a premise go.
-use Rattle.std.proofs.Common.{◌≡◌, ◌∙◌, ◌==◌, ℕ, Bool, true, false, not, ◌&&◌, IsTrue, All, Contains, List, [], ◌∷◌, Option, Some, None, map, filter, length, get_or, slice_get, slice_index_or, refl, sym, ap, ◌⊎◌, inl, inr, zero, suc, arith, ◌<◌, ◌≤◌, ◌++◌, take, drop, slice_set}
+use Rattle.std.proofs.Common.{◌≡◌, ◌∙◌, ◌==◌, ℕ, Bool, true, false, not, ◌&&◌, IsTrue, All, Contains, List, [], ◌∷◌, Option, Some, None, map, filter, length, get_or, slice_index_or, refl, sym, ap, ◌⊎◌, inl, inr, zero, suc, arith, ◌<◌, ◌≤◌, ◌++◌, take, drop, slice_set}
 use Rattle.std.proofs.lemmas.Bool.Decides.{eqb_tells}
 use Rattle.std.proofs.lemmas.List.{length-map, take-append-le, take_all}
 use Rattle.std.proofs.lemmas.List.Elements.{All-contains, All-cons, All-filter, All-get_or, All-weaker, filter_passes, All-contains_itself}
 use Rattle.prop_lattice.specs.declared.info.Info.{Info}
 use Rattle.prop_lattice.specs.declared.info.Info.TheVariants.{Nothing}
-use Rattle.prop_lattice.specs.Order.{Below, merge_of}
+use Rattle.prop_lattice.specs.Order.{merge_of}
 use Rattle.prop_lattice.specs.OrderLaws.{info_laws}
 use Rattle.prop_lattice.specs.Rank.{IsOf}
 use Rattle.prop_premises.specs.Sets.{set_of, without, IsPart}
@@ -16,8 +16,7 @@ use Rattle.prop_cells.specs.declared.instance.Statement.{Statement}
 use Rattle.prop_cells.specs.Problems.{Problem, Premises, Assignment, Satisfies, Meets, IsSolution, Entails, IsContradictory, is_member}
 use Rattle.prop_cells.specs.Reach.{Reaches, IsRelatedAt}
 use Rattle.prop_cells.specs.Reach.Reaches.{stated, passed}
-use Rattle.prop_cells.specs.Instances.{IsFitting}
-use Rattle.prop_cells.specs.Data.{Data, Entry, IsStated, IsWellMade, IsFounded, IsKept, IsStored, AreTold, beliefs, content_of, problem_of}
+use Rattle.prop_cells.specs.Data.{Data, Entry, IsStated, IsWellMade, IsFounded, IsKept, IsStored, beliefs, content_of, problem_of}
 use Rattle.prop_cells.specs.Forgetting.{Forgets, forgotten, not_on, not_under, is_under}
 
 -- ---- a problem

@@ -1,9 +1,7 @@
 -- What goes with a premise, value by value.
-use Rattle.std.proofs.Common.{◌≡◌, ◌∙◌, ◌+◌, ◌<◌, ◌++◌, ◌||◌, ℕ, Bool, true, false, not, List, [], ◌∷◌, length, get_or, take, filter, refl, sym, ap}
+use Rattle.std.proofs.Common.{◌≡◌, ◌∙◌, ◌+◌, ◌<◌, ◌||◌, ℕ, Bool, List, [], ◌∷◌, length, get_or, take, refl, sym, ap}
 use Rattle.std.specs.List.{list_any}
 use Rattle.std.proofs.lemmas.List.Folds.{list_any-append}
-use Rattle.prop_premises.specs.Sets.{Members, set_of, is_within}
-use Rattle.prop_premises.proofs.WithinLemmas.{within_has}
 use Rattle.prop_tms.specs.Values.{entries_of, entries_of_one}
 use Rattle.prop_tms.specs.declared.values.Valued.{Valued}
 use Rattle.prop_tms.proofs.ValueLemmas.{with_value, entries_of-more}

@@ -1,5 +1,5 @@
 -- A premise that a session forgets: what is left of what was learned covers the contradictions that were named without it.
-use Rattle.std.proofs.Common.{◌≡◌, ◌∙◌, ◌⊎◌, ◌||◌, ℕ, Bool, true, false, not, IsTrue, All, List, [], ◌∷◌, Some, None, Result, Ok, Err, filter, get_or, length, ◌<◌, inl, inr, refl, sym, ap, subst, ◌↔◌}
+use Rattle.std.proofs.Common.{◌≡◌, ◌∙◌, ◌⊎◌, ◌||◌, ℕ, Bool, true, false, not, IsTrue, All, List, [], ◌∷◌, Some, None, Result, Ok, Err, get_or, inl, inr, refl, sym, ap, subst, ◌↔◌}
 use Rattle.std.specs.Prelude.{⊤, OnOk, OnErr, IfErr}
 use Rattle.std.proofs.lemmas.List.Elements.{All-filter, All-get_or, filter_passes}
 use Rattle.prop_lattice.specs.declared.refusal.Refusal.{Refusal}
@@ -7,7 +7,7 @@ use Rattle.prop_lattice.specs.declared.refusal.Refusal.TheVariants.{Memory, NoSu
 use Rattle.prop_premises.specs.Sets.{Members, set_of, union, is_within}
 use Rattle.prop_premises.specs.Origins.{premise_number, is_choice, choices_of}
 use Rattle.prop_premises.specs.declared.choice.Choice.{Choice}
-use Rattle.prop_premises.specs.ChoiceLists.{IsChoiceList, hypotheticals_of, is_hypothetical}
+use Rattle.prop_premises.specs.ChoiceLists.{hypotheticals_of, is_hypothetical}
 use Rattle.prop_premises.proofs.WithinLemmas.{within_has}
 use Rattle.prop_premises.proofs.WorldviewLemmas.{hypotheticals_are}
 use Rattle.prop_procedures.specs.Stored.{Stored}
@@ -18,10 +18,8 @@ use Rattle.prop_amb.specs.Refuted.{IsCovered}
 use Rattle.prop_workbench.specs.Machine.{State, naming, choices_in}
 use Rattle.prop_workbench.specs.Refusing.{refusal_of}
 use Rattle.prop_workbench.specs.Effects.{forgetting}
-use Rattle.prop_workbench.specs.Steps.{Shown, Covers, Carries, IsObeyed}
-use Rattle.prop_workbench.proofs.NamingLaws.{refusal_naming}
+use Rattle.prop_workbench.specs.Steps.{Shown, Carries, IsObeyed}
 use Rattle.prop_workbench.proofs.BeliefLemmas.{IsMissing}
-use Rattle.prop_workbench.proofs.CoveringLemmas.{covers_still}
 use Rattle.prop_workbench.proofs.StepLemmas.{obeys_done}
 
 -- ---- what covers

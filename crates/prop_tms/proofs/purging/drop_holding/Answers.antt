@@ -1,8 +1,5 @@
 use Rattle.std.proofs.Common.{rules}
 use Rattle.std.proofs.lemmas.Fn.{filter_same}
-use Rattle.std.proofs.lemmas.Iterator.{YieldsList-from_slice}
-use Rattle.std.proofs.lemmas.Iterator.Search.{any_from_yields_List}
-use Rattle.prop_premises.specs.Sets.{set_of}
 use Rattle.prop_tms.proofs.purging.drop_holding.Goals as goal
 
 pub returns-clause-left : goal.returns-clause-left

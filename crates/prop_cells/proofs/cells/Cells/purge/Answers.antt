@@ -1,5 +1,3 @@
-use Rattle.std.proofs.Common.{◌≡◌}
-use Rattle.prop_cells.specs.Forgetting.{forgotten}
 use Rattle.prop_cells.specs.Rooms.{row_items}
 use Rattle.prop_cells.proofs.ForgettingLaws.{stored_forgotten, written_back}
 use Rattle.prop_cells.proofs.cells.Cells.purge.Goals as goal

@@ -1,4 +1,3 @@
-use Rattle.std.proofs.Common.{◌≡◌}
 use Rattle.prop_procedures.specs.Kept.{stored_of}
 use Rattle.prop_cells.proofs.ForgettingLaws.{kept_forgotten}
 use Rattle.prop_cells.proofs.network.Network.purge.Goals as goal

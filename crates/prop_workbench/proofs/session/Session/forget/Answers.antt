@@ -1,18 +1,18 @@
-use Rattle.std.proofs.Common.{◌≡◌, ◌∙◌, false, Some, Ok, Err, refl, sym, ap, inl, inr}
+use Rattle.std.proofs.Common.{◌≡◌, ◌∙◌, false, Some, Ok, Err, refl, ap, inl, inr}
 use Rattle.std.proofs.lemmas.Result.{err_from_is_err_and}
 use Rattle.prop_lattice.specs.declared.refusal.Refusal.TheVariants.{Memory}
 use Rattle.prop_procedures.specs.Kept.{stored_of}
 use Rattle.prop_premises.specs.Sets.{set_of}
 use Rattle.prop_premises.specs.Origins.{premise_number, is_choice}
 use Rattle.prop_nogoods.specs.Stores.{lacking}
-use Rattle.prop_cells.specs.Data.{Data, problem_of}
+use Rattle.prop_cells.specs.Data.{problem_of}
 use Rattle.prop_cells.specs.Forgetting.{forgotten}
 use Rattle.prop_cells.proofs.ForgettingLaws.{forgets_data}
 use Rattle.prop_amb.specs.Search.{Stand}
 use Rattle.prop_amb.specs.Moving.{restarted}
 use Rattle.prop_workbench.specs.Sessions.{state_of, state_from, shown_of}
 use Rattle.prop_workbench.proofs.BeliefLemmas.{found_free}
-use Rattle.prop_workbench.proofs.StandingLemmas.{forgotten_at_work, same_at_work}
+use Rattle.prop_workbench.proofs.StandingLemmas.{forgotten_at_work}
 use Rattle.prop_workbench.proofs.ForgettingLemmas.{forget_obeyed, forget_refused, missing_from}
 use Rattle.prop_workbench.proofs.session.Session.forget.Goals as goal
 
