@@ -52,10 +52,8 @@ fn room_for_cell<R: Rule + Drop>(network: &Network<R>, agenda: &mut Agenda) -> R
     if count >= Limit::Cells.most() {
         return Ok(());
     }
-    match agenda.room_to_watch(count + 1) {
-        Ok(()) => Ok(()),
-        Err(AllocError) => Err(Refusal::Memory),
-    }
+    agenda.room_to_watch(count + 1)?;
+    Ok(())
 }
 
 /// The numbers that the fresh cells, the parameters and the instances of a use begin with.

@@ -52,16 +52,14 @@ impl Vocabulary {
         ensures why { IfErr result (λ e. (domain_refusal self.old name.now (texts_of elements.now) ≡ Some e) ⊎ (e ≡ Refusal.Memory)) }
     {
         let domain = self.domain_to_declare(name, elements)?;
-        match push_named(
+        push_named(
             self.alloc,
             &mut self.domain_names,
             &mut self.domains,
             name,
             domain,
-        ) {
-            Ok(()) => Ok(()),
-            Err(AllocError) => Err(Refusal::Memory),
-        }
+        )?;
+        Ok(())
     }
 
     /// The domain with these elements, where it may be declared with this name.

@@ -66,10 +66,8 @@ impl Vocabulary {
         if number >= Limit::Symbols.most() {
             return Err(Refusal::LimitReached(Limit::Symbols));
         }
-        match self.symbols.push(self.alloc, name) {
-            Ok(()) => Ok(number as u32),
-            Err(AllocError) => Err(Refusal::Memory),
-        }
+        self.symbols.push(self.alloc, name)?;
+        Ok(number as u32)
     }
 
     /// Takes all symbols back but the first `count`: those that a command made which is then refused. Takes no memory.
