@@ -32,15 +32,13 @@ use Rattle.prop_procedures.specs.Rules.{AreOf, ArePointsOf, EachHolds}
 use Rattle.prop_sets.specs.NarrowestLaws.{elements_hold, elements_of_kind}
 use Rattle.prop_sets.specs.OtherLaws as others
 use Rattle.prop_sets.specs.Others as element_others
-use Rattle.prop_arith.specs.Arguments.{at_two, at_three}
-use Rattle.prop_arith.specs.Comparing.{on_truth, lesser_of, is_contradiction, is_single, told_alike, comparer_of, first_element, other_symbol, others_of, parter_of}
-use Rattle.prop_arith.specs.Logic.{is_just}
-use Rattle.prop_arith.specs.Points.{RelatesToTruth, RelatesByTruth, RelatesAlike, RelatesApart}
+use Rattle.prop_arith.specs.Comparing.{comparer_of, first_element, is_contradiction, is_just, is_single, others_of}
+use Rattle.prop_arith.specs.Combined.{RelatesAlike, RelatesApart, RelatesByTruth, RelatesToTruth, at_three, at_two, on_spans, on_truth, parter_of, told_alike}
 use Rattle.prop_arith.specs.SingleLaws.{never, single_element, single_stays, single_points, just_stays, no_single, no_element}
 
 -- ---- less
 
-pub lesser_sound : (args : List Info) (points : List Point) (point : Point) → IsPointOf (kinds.Set 0) 2 point → EachHolds args points → RelatesToTruth SaysLess points point → Holds (at_two lesser_of args) point
+pub lesser_sound : (args : List Info) (points : List Point) (point : Point) → IsPointOf (kinds.Set 0) 2 point → EachHolds args points → RelatesToTruth SaysLess points point → Holds (at_two (on_spans less_of) args) point
 lesser_sound (Span a ∷ Span b ∷ []) (Number u ∷ Number v ∷ []) (Element i) k e r = less_sound a b u v i e.0 e.1.0 k r
 lesser_sound args points point k e r = search rules
 
@@ -176,7 +174,7 @@ others_below (Set x) (Set y) (Set y') q m = by (count_ones x.bits == 1)
     by : (s : Bool) → Below (if s then element_others.without_of y (first_element x) else Nothing) (if s then element_others.without_of y' (first_element x) else Nothing)
     by true = others.without_monotone y y' (first_element x) q
     by false = tt
-others_below (Sym x) (Sym y) (Sym y') q m = subst (λ z. Below (other_symbol x y) (other_symbol x z)) q (info_laws.reflexive (other_symbol x y))
+others_below (Sym x) (Sym y) (Sym y') q m = subst (λ z. Below (others_of (Sym x) (Sym y)) (others_of (Sym x) (Sym z))) q (info_laws.reflexive (others_of (Sym x) (Sym y)))
 others_below x (Span y) Contradiction q m = absurd (m refl)
 others_below x (Set y) Contradiction q m = absurd (m refl)
 others_below x (Sym y) Contradiction q m = absurd (m refl)

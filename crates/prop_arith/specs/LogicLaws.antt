@@ -11,9 +11,8 @@ use Rattle.prop_lattice.specs.declared.info.Kind.TheVariants as kinds
 use Rattle.prop_procedures.specs.declared.shape.Kinded.{Kinded}
 use Rattle.prop_procedures.specs.declared.shape.Shape.TheVariants.{Truth, Any}
 use Rattle.prop_procedures.specs.Rules.{AreOf, ArePointsOf, EachHolds}
-use Rattle.prop_arith.specs.Arguments.{at_one, at_two}
-use Rattle.prop_arith.specs.Logic.{is_just, passer_of}
-use Rattle.prop_arith.specs.Points.{RelatesElement, RelatesElements, RelatesWhere}
+use Rattle.prop_arith.specs.Comparing.{is_just}
+use Rattle.prop_arith.specs.Combined.{RelatesElement, RelatesElements, RelatesWhere, at_one, at_two, passer_of}
 use Rattle.prop_arith.specs.SingleLaws.{never, just_stays, yes_single, yes_element}
 
 -- ---- not, and, or

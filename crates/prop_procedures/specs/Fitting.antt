@@ -1,11 +1,12 @@
 -- Which cells and parameters fit a procedure.
-use Rattle.std.specs.Prelude.{ℕ, ℤ, pos, List, [], ◌∷◌, ◌++◌, Bool, cond, ◌&&◌, int_le, Option, Some, None, map, zip, slice_index_or}
+use Rattle.std.specs.Prelude.{ℕ, pos, List, [], ◌∷◌, ◌++◌, Bool, cond, Option, Some, None, map, zip, slice_index_or}
 use Rattle.prop_procedures.specs.declared.shape.Param.{Param}
 use Rattle.prop_procedures.specs.declared.shape.Param.TheVariants as params
 use Rattle.prop_procedures.specs.declared.shape.Need.{Need}
 use Rattle.prop_procedures.specs.declared.shape.Need.TheVariants as needs
 use Rattle.prop_procedures.specs.declared.shape.Shape.{Shape}
 use Rattle.prop_procedures.specs.declared.shape.Kinded.{Kinded}
+use Rattle.prop_procedures.specs.Rules.{is_scale}
 use Rattle.prop_procedures.specs.Stored.{Stored, span_kind, are_right}
 use Rattle.prop_sets.specs.declared.side.Side.{Side}
 
@@ -21,10 +22,6 @@ abbrev pub kinds_fit : Stored → List Kinded → Option (Side × Side) → List
 kinds_fit p kinds given cells = are_right p.need given (places_of p kinds cells)
 
 -- ---- parameters
-
--- a scale that a procedure takes
-abbrev pub is_scale : ℤ → Bool
-is_scale k = int_le (pos 1) k && int_le k (pos 1_000_000_000)
 
 -- the scale, where it is one that a procedure takes
 abbrev pub scale_in_range : Param → Option Param
