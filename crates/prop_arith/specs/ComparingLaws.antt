@@ -27,6 +27,7 @@ use Rattle.prop_lattice.specs.declared.info.Kind.{Kind}
 use Rattle.prop_lattice.specs.declared.info.Kind.TheVariants as kinds
 use Rattle.prop_lattice.specs.declared.span.Span as spans
 use Rattle.prop_procedures.specs.declared.shape.Kinded.{Kinded}
+use Rattle.prop_procedures.specs.declared.shape.Shape.{Shape}
 use Rattle.prop_procedures.specs.declared.shape.Shape.TheVariants.{Truth, Any, Span as SpanShape}
 use Rattle.prop_procedures.specs.Rules.{AreOf, ArePointsOf, EachHolds}
 use Rattle.prop_sets.specs.NarrowestLaws.{elements_hold, elements_of_kind}
@@ -52,7 +53,7 @@ pub by_truth_kind : (f : sets.Elements → spans.Span → Info) → ((t : sets.E
 by_truth_kind f h (Set t) (Span a) = h t a
 by_truth_kind f h t x = tt
 
-pub by_truth_sound : (f : sets.Elements → spans.Span → Info) (related : ℕ → ℤ → ℤ → Type 0) → ((t : sets.Elements) (a : spans.Span) (i : ℕ) (v w : ℤ) → HasElement t i → i < 2 → Holds (Span a) (Number v) → IsInRange w → related i v w → Holds (f t a) (Number w)) → (any : ℕ → Kinded) (args : List Info) (points : List Point) (point : Point) → ArePointsOf any (Truth ∷ SpanShape ∷ []) points → IsPointOf kinds.Span 0 point → EachHolds args points → RelatesByTruth related points point → Holds (at_two (on_truth f) args) point
+pub by_truth_sound : (f : sets.Elements → spans.Span → Info) (related : ℕ → ℤ → ℤ → Type 0) → ((t : sets.Elements) (a : spans.Span) (i : ℕ) (v w : ℤ) → HasElement t i → i < 2 → Holds (Span a) (Number v) → IsInRange w → related i v w → Holds (f t a) (Number w)) → (any : Shape → Kinded) (args : List Info) (points : List Point) (point : Point) → ArePointsOf any (Truth ∷ SpanShape ∷ []) points → IsPointOf kinds.Span 0 point → EachHolds args points → RelatesByTruth related points point → Holds (at_two (on_truth f) args) point
 by_truth_sound f related h any (Set t ∷ Span a ∷ []) (Element i ∷ Number v ∷ []) (Number w) ps k e r = h t a i v w e.0 ps.0 e.1.0 k r
 by_truth_sound f related h any args points point ps k e r = search rules
 
@@ -220,11 +221,11 @@ others_kind kinds.Symbol size (Sym x) (Sym y) h = by (x == y)
     by false = tt
 others_kind kind size x y h = search rules
 
-pub parter_kind : (any : ℕ → Kinded) (args : List Info) → AreOf any (Truth ∷ Any 0 ∷ Any 0 ∷ []) args → IsOf (any 0).kind (any 0).size (at_three parter_of args)
+pub parter_kind : (any : Shape → Kinded) (args : List Info) → AreOf any (Truth ∷ Any 0 ∷ Any 0 ∷ []) args → IsOf (any (Any 0)).kind (any (Any 0)).size (at_three parter_of args)
 parter_kind any (t ∷ x ∷ y ∷ []) h = by (is_just no_bits t)
   where
-    by : (s : Bool) → IsOf (any 0).kind (any 0).size (if s then others_of x y else Nothing)
-    by true = others_kind (any 0).kind (any 0).size x y h.1.1.0
+    by : (s : Bool) → IsOf (any (Any 0)).kind (any (Any 0)).size (if s then others_of x y else Nothing)
+    by true = others_kind (any (Any 0)).kind (any (Any 0)).size x y h.1.1.0
     by false = search rules
 parter_kind any args h = search rules
 

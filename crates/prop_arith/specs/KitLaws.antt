@@ -76,7 +76,7 @@ keeps_kind Below ins out need f any param args c = rw f.1 (two_kind kinds.Span 0
 keeps_kind Above ins out need f any param args c = rw f.1 (two_kind kinds.Span 0 (on_truth above_of) (by_truth_kind above_of (above_kind 0)) args)
 keeps_kind Copy ins out need f any param args c = rw f.1 (by args (rw f.0 at c.of_kinds))
   where
-    by : (args : List Info) → AreOf any (Any 0 ∷ []) args → IsOf (any 0).kind (any 0).size (at_one (λ x. x) args)
+    by : (args : List Info) → AreOf any (Any 0 ∷ []) args → IsOf (any (Any 0)).kind (any (Any 0)).size (at_one (λ x. x) args)
     by (x ∷ []) h = h.0
     by args h = search rules
 keeps_kind Alike ins out need f any param args c = rw f.1 (two_kind (kinds.Set 0) 2 comparer_of comparer_kind args)
