@@ -23,21 +23,10 @@ kinds_fit p kinds given cells = are_right p.need given (places_of p kinds cells)
 
 -- ---- parameters
 
--- the scale, where it is one that a procedure takes
-abbrev pub scale_in_range : Param → Option Param
-scale_in_range (params.Scale k) = cond (is_scale k) (Some (params.Scale k)) None
-scale_in_range param = None
-
--- the relation, where it is one
-abbrev pub relation_alone : Param → Option Param
-relation_alone (params.Rows r) = Some (params.Rows r)
-relation_alone param = None
-
 -- the parameter that an instance has where this one is given or none is: none where what is given does not fit
 abbrev pub fitting_param : Need → Option Param → Option Param
 fitting_param needs.Nothing None = Some params.Plain
-fitting_param needs.Nothing (Some param) = None
 fitting_param needs.Scale None = Some (params.Scale (pos 1))
-fitting_param needs.Scale (Some param) = scale_in_range param
-fitting_param needs.Rows None = None
-fitting_param needs.Rows (Some param) = relation_alone param
+fitting_param needs.Scale (Some (params.Scale k)) = cond (is_scale k) (Some (params.Scale k)) None
+fitting_param needs.Rows (Some (params.Rows r)) = Some (params.Rows r)
+fitting_param need given = None
