@@ -7,7 +7,7 @@ use Rattle.prop_lattice.specs.declared.info.Info.{Info}
 use Rattle.prop_lattice.specs.declared.info.Info.TheVariants.{Contradiction}
 use Rattle.prop_lattice.specs.declared.info.Kind.{Kind}
 use Rattle.prop_procedures.specs.Rules.{EachBelow, AreClear}
-use Rattle.prop_arith.specs.Arguments.{at_one, at_two, at_three}
+use Rattle.prop_arith.specs.Combined.{at_one, at_three, at_two}
 
 -- ---- more in the arguments is more in the answer
 

@@ -27,20 +27,19 @@ use Rattle.prop_lattice.specs.declared.info.Kind.{Kind}
 use Rattle.prop_lattice.specs.declared.info.Kind.TheVariants as kinds
 use Rattle.prop_lattice.specs.declared.span.Span as spans
 use Rattle.prop_procedures.specs.declared.shape.Kinded.{Kinded}
+use Rattle.prop_procedures.specs.declared.shape.Shape.{Shape}
 use Rattle.prop_procedures.specs.declared.shape.Shape.TheVariants.{Truth, Any, Span as SpanShape}
 use Rattle.prop_procedures.specs.Rules.{AreOf, ArePointsOf, EachHolds}
 use Rattle.prop_sets.specs.NarrowestLaws.{elements_hold, elements_of_kind}
 use Rattle.prop_sets.specs.OtherLaws as others
 use Rattle.prop_sets.specs.Others as element_others
-use Rattle.prop_arith.specs.Arguments.{at_two, at_three}
-use Rattle.prop_arith.specs.Comparing.{on_truth, lesser_of, is_contradiction, is_single, told_alike, comparer_of, first_element, other_symbol, others_of, parter_of}
-use Rattle.prop_arith.specs.Logic.{is_just}
-use Rattle.prop_arith.specs.Points.{RelatesToTruth, RelatesByTruth, RelatesAlike, RelatesApart}
+use Rattle.prop_arith.specs.Comparing.{comparer_of, first_element, is_contradiction, is_just, is_single, others_of}
+use Rattle.prop_arith.specs.Combined.{RelatesAlike, RelatesApart, RelatesByTruth, RelatesToTruth, at_three, at_two, on_spans, on_truth, parter_of, told_alike}
 use Rattle.prop_arith.specs.SingleLaws.{never, single_element, single_stays, single_points, just_stays, no_single, no_element}
 
 -- ---- less
 
-pub lesser_sound : (args : List Info) (points : List Point) (point : Point) → IsPointOf (kinds.Set 0) 2 point → EachHolds args points → RelatesToTruth SaysLess points point → Holds (at_two lesser_of args) point
+pub lesser_sound : (args : List Info) (points : List Point) (point : Point) → IsPointOf (kinds.Set 0) 2 point → EachHolds args points → RelatesToTruth SaysLess points point → Holds (at_two (on_spans less_of) args) point
 lesser_sound (Span a ∷ Span b ∷ []) (Number u ∷ Number v ∷ []) (Element i) k e r = less_sound a b u v i e.0 e.1.0 k r
 lesser_sound args points point k e r = search rules
 
@@ -54,7 +53,7 @@ pub by_truth_kind : (f : sets.Elements → spans.Span → Info) → ((t : sets.E
 by_truth_kind f h (Set t) (Span a) = h t a
 by_truth_kind f h t x = tt
 
-pub by_truth_sound : (f : sets.Elements → spans.Span → Info) (related : ℕ → ℤ → ℤ → Type 0) → ((t : sets.Elements) (a : spans.Span) (i : ℕ) (v w : ℤ) → HasElement t i → i < 2 → Holds (Span a) (Number v) → IsInRange w → related i v w → Holds (f t a) (Number w)) → (any : ℕ → Kinded) (args : List Info) (points : List Point) (point : Point) → ArePointsOf any (Truth ∷ SpanShape ∷ []) points → IsPointOf kinds.Span 0 point → EachHolds args points → RelatesByTruth related points point → Holds (at_two (on_truth f) args) point
+pub by_truth_sound : (f : sets.Elements → spans.Span → Info) (related : ℕ → ℤ → ℤ → Type 0) → ((t : sets.Elements) (a : spans.Span) (i : ℕ) (v w : ℤ) → HasElement t i → i < 2 → Holds (Span a) (Number v) → IsInRange w → related i v w → Holds (f t a) (Number w)) → (any : Shape → Kinded) (args : List Info) (points : List Point) (point : Point) → ArePointsOf any (Truth ∷ SpanShape ∷ []) points → IsPointOf kinds.Span 0 point → EachHolds args points → RelatesByTruth related points point → Holds (at_two (on_truth f) args) point
 by_truth_sound f related h any (Set t ∷ Span a ∷ []) (Element i ∷ Number v ∷ []) (Number w) ps k e r = h t a i v w e.0 ps.0 e.1.0 k r
 by_truth_sound f related h any args points point ps k e r = search rules
 
@@ -176,7 +175,7 @@ others_below (Set x) (Set y) (Set y') q m = by (count_ones x.bits == 1)
     by : (s : Bool) → Below (if s then element_others.without_of y (first_element x) else Nothing) (if s then element_others.without_of y' (first_element x) else Nothing)
     by true = others.without_monotone y y' (first_element x) q
     by false = tt
-others_below (Sym x) (Sym y) (Sym y') q m = subst (λ z. Below (other_symbol x y) (other_symbol x z)) q (info_laws.reflexive (other_symbol x y))
+others_below (Sym x) (Sym y) (Sym y') q m = subst (λ z. Below (others_of (Sym x) (Sym y)) (others_of (Sym x) (Sym z))) q (info_laws.reflexive (others_of (Sym x) (Sym y)))
 others_below x (Span y) Contradiction q m = absurd (m refl)
 others_below x (Set y) Contradiction q m = absurd (m refl)
 others_below x (Sym y) Contradiction q m = absurd (m refl)
@@ -222,11 +221,11 @@ others_kind kinds.Symbol size (Sym x) (Sym y) h = by (x == y)
     by false = tt
 others_kind kind size x y h = search rules
 
-pub parter_kind : (any : ℕ → Kinded) (args : List Info) → AreOf any (Truth ∷ Any 0 ∷ Any 0 ∷ []) args → IsOf (any 0).kind (any 0).size (at_three parter_of args)
+pub parter_kind : (any : Shape → Kinded) (args : List Info) → AreOf any (Truth ∷ Any 0 ∷ Any 0 ∷ []) args → IsOf (any (Any 0)).kind (any (Any 0)).size (at_three parter_of args)
 parter_kind any (t ∷ x ∷ y ∷ []) h = by (is_just no_bits t)
   where
-    by : (s : Bool) → IsOf (any 0).kind (any 0).size (if s then others_of x y else Nothing)
-    by true = others_kind (any 0).kind (any 0).size x y h.1.1.0
+    by : (s : Bool) → IsOf (any (Any 0)).kind (any (Any 0)).size (if s then others_of x y else Nothing)
+    by true = others_kind (any (Any 0)).kind (any (Any 0)).size x y h.1.1.0
     by false = search rules
 parter_kind any args h = search rules
 

@@ -12,14 +12,14 @@ use Rattle.prop_lattice.specs.declared.info.Kind.TheVariants as kinds
 use Rattle.prop_procedures.specs.declared.shape.Kinded.{Kinded}
 use Rattle.prop_procedures.specs.declared.shape.Param.{Param}
 use Rattle.prop_procedures.specs.declared.shape.Param.TheVariants.{Plain, Scale, Rows}
+use Rattle.prop_procedures.specs.declared.shape.Shape.{Shape}
+use Rattle.prop_procedures.specs.declared.shape.Shape.TheVariants.{From, To}
 use Rattle.prop_procedures.specs.Rules.{AreSides, EachBelow, EachHolds, AreClear}
 use Rattle.prop_sets.specs.ImageLaws.{image_kind, coimage_kind}
 use Rattle.prop_sets.specs.Images.{image_of, coimage_of}
 use Rattle.prop_sets.specs.Relation.{Relation}
-use Rattle.prop_arith.specs.Arguments.{at_one, at_rows}
+use Rattle.prop_arith.specs.Combined.{RelatesByRows, at_one, at_rows, on_set}
 use Rattle.prop_arith.specs.ArgumentLaws.{one_below, one_kind}
-use Rattle.prop_arith.specs.Linking.{on_set, imager_of, coimager_of}
-use Rattle.prop_arith.specs.Points.{RelatesByRows}
 
 -- ---- more in the arguments is more in the answer
 
@@ -39,15 +39,15 @@ set_kind : (kind : Kind) (size : ℕ) (f : sets.Elements → Info) → ((a : set
 set_kind kind size f h (Set a) = h a
 set_kind kind size f h x = search rules
 
-pub imager_kind : (any : ℕ → Kinded) (param : Param) (args : List Info) → AreSides any param → IsOf (any 257).kind (any 257).size (at_rows imager_of param args)
+pub imager_kind : (any : Shape → Kinded) (param : Param) (args : List Info) → AreSides any param → IsOf (any To).kind (any To).size (at_rows (λ m. on_set (image_of m)) param args)
 imager_kind any (Rows m) args s =
-    subst (λ k. IsOf k.kind k.size (at_one (imager_of m) args)) (sym s.1) (one_kind (kinds.Set m.to.domain) m.to.size (imager_of m) (set_kind (kinds.Set m.to.domain) m.to.size (image_of m) (image_kind m.to.domain m)) args)
+    subst (λ k. IsOf k.kind k.size (at_one (on_set (image_of m)) args)) (sym s.1) (one_kind (kinds.Set m.to.domain) m.to.size (on_set (image_of m)) (set_kind (kinds.Set m.to.domain) m.to.size (image_of m) (image_kind m.to.domain m)) args)
 imager_kind any Plain args s = search rules
 imager_kind any (Scale k) args s = search rules
 
-pub coimager_kind : (any : ℕ → Kinded) (param : Param) (args : List Info) → AreSides any param → IsOf (any 256).kind (any 256).size (at_rows coimager_of param args)
+pub coimager_kind : (any : Shape → Kinded) (param : Param) (args : List Info) → AreSides any param → IsOf (any From).kind (any From).size (at_rows (λ m. on_set (coimage_of m)) param args)
 coimager_kind any (Rows m) args s =
-    subst (λ k. IsOf k.kind k.size (at_one (coimager_of m) args)) (sym s.0) (one_kind (kinds.Set m.from.domain) m.from.size (coimager_of m) (set_kind (kinds.Set m.from.domain) m.from.size (coimage_of m) (coimage_kind m.from.domain m)) args)
+    subst (λ k. IsOf k.kind k.size (at_one (on_set (coimage_of m)) args)) (sym s.0) (one_kind (kinds.Set m.from.domain) m.from.size (on_set (coimage_of m)) (set_kind (kinds.Set m.from.domain) m.from.size (coimage_of m) (coimage_kind m.from.domain m)) args)
 coimager_kind any Plain args s = search rules
 coimager_kind any (Scale k) args s = search rules
 

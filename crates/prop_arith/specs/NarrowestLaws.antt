@@ -1,5 +1,5 @@
 -- Which rules answer the narrowest information, and why.
-use Rattle.std.specs.Prelude.{◌≡◌, ℕ, ◌≤◌, ◌*◌, zero, suc, ℤ, pos, neg_ℤ, ◌+ℤ◌, ◌*ℤ◌, ◌≤ℤ◌, ◌<ℤ◌, Bool, true, false, int_le, ◌&&◌, if◌then◌else◌, [], ◌∷◌, Option, Some, None}
+use Rattle.std.specs.Prelude.{◌≡◌, ℕ, ◌≤◌, ◌*◌, zero, suc, ℤ, pos, neg_ℤ, ◌+ℤ◌, ◌*ℤ◌, ◌≤ℤ◌, ◌<ℤ◌, Bool, true, if◌then◌else◌, List, [], ◌∷◌, Option, Some, None}
 use Rattle.std.proofs.Common.{arith, refl, rules, sym, subst, negsuc}
 use Rattle.std.proofs.lemmas.Nat.{mul-le}
 use borrow.Author.Differences.{product_is, same_in}
@@ -26,9 +26,20 @@ use Rattle.prop_lattice.specs.declared.span.Span as spans
 use Rattle.prop_sets.specs.ImageLaws.{image_kind, image_narrowest, coimage_kind, coimage_narrowest}
 use Rattle.prop_sets.specs.Narrowest.{IsNarrowest as IsLeast}
 use Rattle.prop_sets.specs.Relation.{HasPair}
-use Rattle.prop_arith.specs.Functions.{is_scale, IsScale}
-use Rattle.prop_arith.specs.Points.{RelatesOne, RelatesTwo, RelatesElement}
+use Rattle.prop_arith.specs.Combined.{Combined, RelatesOne, RelatesTwo, RelatesElement}
+use Rattle.prop_arith.specs.CombinedLaws.{related_is}
+use Rattle.prop_arith.specs.NumberLaws.{at_least_one}
+use Rattle.prop_arith.specs.Points.{Related}
+use Rattle.prop_arith.specs.declared.kit.Kit.{Kit}
+use Rattle.prop_arith.specs.declared.kit.Kit.TheVariants.{Add, Sub, Mul, Square, Root, Image, Coimage}
+use Rattle.prop_procedures.specs.declared.shape.Param.{Param}
+use Rattle.prop_procedures.specs.declared.shape.Param.TheVariants.{Scale, Rows}
+use Rattle.prop_procedures.specs.Rules.{is_scale}
 use Rattle.prop_arith.specs.Narrowest.{HoldsRelated, IsNarrowest, AddIsNarrowest, SubIsNarrowest, MulIsNarrowest, SquareIsNarrowest, RootIsNarrowest, ImageIsNarrowest, CoimageIsNarrowest}
+
+-- what is narrowest by functions of functions is so by the table
+of_rule : (rule : Kit) (param : Param) (kind : Kind) (size : ℕ) (args : List Info) (v : Info) → IsNarrowest (Combined rule param) kind size args v → IsNarrowest (Related rule param) kind size args v
+of_rule rule param kind size args v = subst (λ (P : Type 0). P) (λ i. IsNarrowest (λ points point. related_is rule param points point i) kind size args v)
 
 -- ---- from numbers to points
 
@@ -57,10 +68,12 @@ two_narrowest related a b v k n = record {
 -- ---- sums and differences
 
 pub add_is_narrowest : AddIsNarrowest
-add_is_narrowest param x y r = two_narrowest IsSum x y _ (sum_kind 0 x y) (sum_narrowest x y (r.0, omega (arith, ints, x.ordered, y.ordered), r.1))
+add_is_narrowest param x y r =
+    of_rule Add param _ _ _ _ (two_narrowest IsSum x y _ (sum_kind 0 x y) (sum_narrowest x y (r.0, omega (arith, ints, x.ordered, y.ordered), r.1)))
 
 pub sub_is_narrowest : SubIsNarrowest
-sub_is_narrowest param z x r = two_narrowest (λ z x y. IsSum x y z) z x _ (difference_kind 0 z x) (difference_narrowest z x (r.0, omega (arith, ints, z.ordered, x.ordered), r.1))
+sub_is_narrowest param z x r =
+    of_rule Sub param _ _ _ _ (two_narrowest (λ z x y. IsSum x y z) z x _ (difference_kind 0 z x) (difference_narrowest z x (r.0, omega (arith, ints, z.ordered, x.ordered), r.1)))
 
 -- ---- products
 
@@ -76,19 +89,11 @@ rounded_ordered m n k s h =
     over : (q t e : ℤ) → t ≡ q +ℤ e → e ≡ k → n ≤ℤ q → m <ℤ t
     over q t e i j l = omega (arith, ints, h, s)
 
-scale_holds : (k : ℤ) → IsScale k → is_scale k ≡ true
-scale_holds k s = by (int_le (pos 1) k) refl (int_le k (pos 1_000_000_000)) refl
-  where
-    by : (p : Bool) → int_le (pos 1) k ≡ p → (q : Bool) → int_le k (pos 1_000_000_000) ≡ q → (p && q) ≡ true
-    by true e true f = refl
-    by true e false f = absurd (omega (arith, ints, s.0, s.1))
-    by false e q f = absurd (omega (arith, ints, s.0, s.1))
-
 pub mul_is_narrowest : MulIsNarrowest
 mul_is_narrowest k x y s r =
     let within = product_within x y x.lo y.lo (omega (arith, ints), x.ordered) (omega (arith, ints), y.ordered) in
-    let ordered = rounded_ordered (least_product x y) (greatest_product x y) k s.0 (between _ _ _ within.0 within.1) in
-    subst (λ t. IsNarrowest (RelatesTwo (IsProduct k)) kinds.Span 0 (Span x ∷ Span y ∷ []) (if t then product_of x y k else Nothing)) (sym (scale_holds k s)) (two_narrowest (IsProduct k) x y _ (product_kind 0 x y k) (product_narrowest x y k s.0 (r.0, ordered, r.1)))
+    let ordered = rounded_ordered (least_product x y) (greatest_product x y) k (at_least_one k s) (between _ _ _ within.0 within.1) in
+    of_rule Mul (Scale k) _ _ _ _ (subst (λ t. IsNarrowest (RelatesTwo (IsProduct k)) kinds.Span 0 (Span x ∷ Span y ∷ []) (if t then product_of x y k else Nothing)) (sym s) (two_narrowest (IsProduct k) x y _ (product_kind 0 x y k) (product_narrowest x y k (at_least_one k s) (r.0, ordered, r.1))))
   where
     between : (a b c : ℤ) → a ≤ℤ b → b ≤ℤ c → a ≤ℤ c
     between a b c p q = omega (arith, ints)
@@ -98,7 +103,7 @@ mul_is_narrowest k x y s r =
 pub square_is_narrowest : SquareIsNarrowest
 square_is_narrowest param x r =
     let within = square_within x x.lo (omega (arith, ints), x.ordered) in
-    one_narrowest IsSquare x _ (square_kind 0 x) (square_narrowest x (r.0, between _ _ _ within.0 within.1, r.1))
+    of_rule Square param _ _ _ _ (one_narrowest IsSquare x _ (square_kind 0 x) (square_narrowest x (r.0, between _ _ _ within.0 within.1, r.1)))
   where
     between : (a b c : ℤ) → a ≤ℤ b → b ≤ℤ c → a ≤ℤ c
     between a b c p q = omega (arith, ints)
@@ -137,8 +142,8 @@ root_narrowest y x known into out = record {
 
 pub root_is_narrowest : RootIsNarrowest
 root_is_narrowest param y x = (
-  root_narrowest y (Some x) (Span x) (λ v p q. (p, q)) (λ v h l. (h.0, h.1)),
-  root_narrowest y None Nothing (λ v p q. tt) (λ v h l. let b = square_bounds v y.hi l in (omega (arith, ints, y.below), omega (arith, ints, y.below))),
+  of_rule Root param _ _ _ _ (root_narrowest y (Some x) (Span x) (λ v p q. (p, q)) (λ v h l. (h.0, h.1))),
+  of_rule Root param _ _ _ _ (root_narrowest y None Nothing (λ v p q. tt) (λ v h l. let b = square_bounds v y.hi l in (omega (arith, ints, y.below), omega (arith, ints, y.below)))),
 )
 
 -- ---- along a relation
@@ -155,7 +160,9 @@ set_narrowest kind size related a v k n = record {
     holds points point e r = search rules
 
 pub image_is_narrowest : ImageIsNarrowest
-image_is_narrowest m x = set_narrowest (kinds.Set m.to.domain) m.to.size (HasPair m) x _ (image_kind m.to.domain m x) (image_narrowest m x)
+image_is_narrowest m x =
+    of_rule Image (Rows m) _ _ _ _ (set_narrowest (kinds.Set m.to.domain) m.to.size (HasPair m) x _ (image_kind m.to.domain m x) (image_narrowest m x))
 
 pub coimage_is_narrowest : CoimageIsNarrowest
-coimage_is_narrowest m y = set_narrowest (kinds.Set m.from.domain) m.from.size (λ j i. HasPair m i j) y _ (coimage_kind m.from.domain m y) (coimage_narrowest m y)
+coimage_is_narrowest m y =
+    of_rule Coimage (Rows m) _ _ _ _ (set_narrowest (kinds.Set m.from.domain) m.from.size (λ j i. HasPair m i j) y _ (coimage_kind m.from.domain m y) (coimage_narrowest m y))

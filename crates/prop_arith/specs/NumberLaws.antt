@@ -1,5 +1,5 @@
 -- The laws of the functions of numbers.
-use Rattle.std.specs.Prelude.{◌≡◌, ◌≢◌, ℕ, ℤ, pos, Bool, true, false, int_le, ◌&&◌, if◌then◌else◌, List, [], ◌∷◌, Some, None}
+use Rattle.std.specs.Prelude.{◌≡◌, ◌≢◌, ℕ, ℤ, pos, ◌≤ℤ◌, Bool, true, false, int_le, ◌&&◌, if◌then◌else◌, List, [], ◌∷◌, Some, None}
 use Rattle.std.proofs.Common.{arith, refl, rules}
 use Rattle.std.proofs.lemmas.Int.{ints}
 use Rattle.prop_intervals.specs.Relations.{IsSquare, IsInRange}
@@ -16,30 +16,28 @@ use Rattle.prop_lattice.specs.declared.span.Span as spans
 use Rattle.prop_procedures.specs.declared.shape.Param.{Param}
 use Rattle.prop_procedures.specs.declared.shape.Param.TheVariants.{Plain, Scale, Rows}
 use Rattle.prop_procedures.specs.Rules.{EachBelow, EachHolds, AreClear}
-use Rattle.prop_arith.specs.Arguments.{at_one, at_two, at_scale}
+use Rattle.prop_procedures.specs.Rules.{is_scale}
+use Rattle.prop_arith.specs.Combined.{RelatesAt, RelatesOne, RelatesTwo, at_one, at_scale, at_two, on_span, on_spans, rooter_of}
 use Rattle.prop_arith.specs.ArgumentLaws.{two_below, two_kind}
-use Rattle.prop_arith.specs.Functions.{on_span, on_spans, IsScale, is_scale, rooter_of}
-use Rattle.prop_arith.specs.Points.{RelatesOne, RelatesTwo, RelatesAt}
 
 -- ---- scales
 
-pub scale_is : (k : ℤ) → is_scale k ≡ true → IsScale k
-scale_is k e = by (int_le (pos 1) k) refl (int_le k (pos 1_000_000_000)) refl e
+pub at_least_one : (k : ℤ) → is_scale k ≡ true → pos 1 ≤ℤ k
+at_least_one k = by (int_le (pos 1) k) refl _
   where
-    by : (s : Bool) → int_le (pos 1) k ≡ s → (t : Bool) → int_le k (pos 1_000_000_000) ≡ t → (s && t) ≡ true → IsScale k
-    by true p true q h = (omega (arith, ints), omega (arith, ints))
-    by true p false q h = absurd (cc)
-    by false p t q h = absurd (cc)
+    by : (s : Bool) → int_le (pos 1) k ≡ s → (t : Bool) → (s && t) ≡ true → pos 1 ≤ℤ k
+    by true e t h = omega (arith, ints)
+    by false e t h = absurd (cc)
 
 -- ---- more in the arguments is more in the answer
 
-pub scale_below : (f : ℤ → Info → Info → Info) → ((k : ℤ) → IsScale k → (x y x' y' : Info) → Below x x' → Below y y' → x' ≢ Contradiction → y' ≢ Contradiction → Below (f k x y) (f k x' y')) → (param : Param) (olds news : List Info) → EachBelow olds news → AreClear news → Below (at_scale f param olds) (at_scale f param news)
+pub scale_below : (f : ℤ → Info → Info → Info) → ((k : ℤ) → is_scale k ≡ true → (x y x' y' : Info) → Below x x' → Below y y' → x' ≢ Contradiction → y' ≢ Contradiction → Below (f k x y) (f k x' y')) → (param : Param) (olds news : List Info) → EachBelow olds news → AreClear news → Below (at_scale f param olds) (at_scale f param news)
 scale_below f h Plain olds news p n = tt
 scale_below f h (Rows m) olds news p n = tt
 scale_below f h (Scale k) olds news p n = by (is_scale k) refl
   where
     by : (t : Bool) → is_scale k ≡ t → Below (if t then at_two (f k) olds else Nothing) (if t then at_two (f k) news else Nothing)
-    by true e = two_below (f k) (h k (scale_is k e)) olds news p n
+    by true e = two_below (f k) (h k e) olds news p n
     by false e = tt
 
 pub span_below : (f : spans.Span → Info) → ((a c : spans.Span) → Below (Span a) (Span c) → Below (f a) (f c)) → (x x' : Info) → Below x x' → x' ≢ Contradiction → Below (on_span f x) (on_span f x')
@@ -82,13 +80,13 @@ pub two_sound : (f : spans.Span → spans.Span → Info) (related : ℤ → ℤ 
 two_sound f related h (Span a ∷ Span b ∷ []) (Number x ∷ Number y ∷ []) (Number z) k e r = h a b x y z e.0 e.1.0 k r
 two_sound f related h args points point k e r = search rules
 
-pub scale_sound : (f : ℤ → spans.Span → spans.Span → Info) (related : ℤ → ℤ → ℤ → ℤ → Type 0) → ((k : ℤ) → IsScale k → (a b : spans.Span) (x y z : ℤ) → Holds (Span a) (Number x) → Holds (Span b) (Number y) → IsInRange z → related k x y z → Holds (f k a b) (Number z)) → (param : Param) (args : List Info) (points : List Point) (point : Point) → IsPointOf kinds.Span 0 point → EachHolds args points → RelatesAt related param points point → Holds (at_scale (λ k. on_spans (f k)) param args) point
+pub scale_sound : (f : ℤ → spans.Span → spans.Span → Info) (related : ℤ → ℤ → ℤ → ℤ → Type 0) → ((k : ℤ) → is_scale k ≡ true → (a b : spans.Span) (x y z : ℤ) → Holds (Span a) (Number x) → Holds (Span b) (Number y) → IsInRange z → related k x y z → Holds (f k a b) (Number z)) → (param : Param) (args : List Info) (points : List Point) (point : Point) → IsPointOf kinds.Span 0 point → EachHolds args points → RelatesAt related param points point → Holds (at_scale (λ k. on_spans (f k)) param args) point
 scale_sound f related h Plain args points point p e r = tt
 scale_sound f related h (Rows m) args points point p e r = tt
 scale_sound f related h (Scale k) args points point p e r = by (is_scale k) refl
   where
     by : (t : Bool) → is_scale k ≡ t → Holds (if t then at_two (on_spans (f k)) args else Nothing) point
-    by true s = two_sound (f k) (related k) (h k (scale_is k s)) args points point p e r
+    by true s = two_sound (f k) (related k) (h k s) args points point p e r
     by false s = tt
 
 -- ---- roots

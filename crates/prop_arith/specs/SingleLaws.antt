@@ -16,8 +16,7 @@ use Rattle.prop_lattice.specs.Points.{Point, Number, Element, Symbol, Holds}
 use Rattle.prop_lattice.specs.declared.elements.Elements as sets
 use Rattle.prop_lattice.specs.declared.info.Info.{Info}
 use Rattle.prop_lattice.specs.declared.info.Info.TheVariants.{Nothing, Span, Set, Sym, Contradiction}
-use Rattle.prop_arith.specs.Comparing.{is_single, first_element}
-use Rattle.prop_arith.specs.Logic.{is_just}
+use Rattle.prop_arith.specs.Comparing.{first_element, is_just, is_single}
 
 pub never : false ≡ true → ⊥
 never e = cc

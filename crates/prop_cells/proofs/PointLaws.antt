@@ -162,13 +162,13 @@ each_holds : (points : ℕ → Point) (cells : List ℕ) → EachHolds (map (λ 
 each_holds points [] = tt
 each_holds points (c ∷ cs) = (single_holding (single (points c)) (points c) (info_laws.reflexive (single (points c))), each_holds points cs)
 
-abbrev is_place : (ℕ → Kinded) → (Shape × Kinded) → Bool
+abbrev is_place : (Shape → Kinded) → (Shape × Kinded) → Bool
 is_place any place = is_same place.1 (kind_of any place.0)
 
 abbrev IsPointAt : List Kinded → (ℕ → Point) → ℕ → Type 0
 IsPointAt kinds points c = IsPointOf (kind_at kinds c).kind (kind_at kinds c).size (points c)
 
-points_of : (any : ℕ → Kinded) (ins : List Shape) (out : Shape) (kinds : List Kinded) (points : ℕ → Point) (inputs : List ℕ) (o : ℕ) → length inputs ≡ length ins → list_all (is_place any) (zip (ins ++ out ∷ []) (map (kind_at kinds) (inputs ++ o ∷ []))) ≡ true → All (IsPointAt kinds points) inputs → IsPointAt kinds points o → ArePointsOf any ins (map points inputs) × IsPointOf (kind_of any out).kind (kind_of any out).size (points o)
+points_of : (any : Shape → Kinded) (ins : List Shape) (out : Shape) (kinds : List Kinded) (points : ℕ → Point) (inputs : List ℕ) (o : ℕ) → length inputs ≡ length ins → list_all (is_place any) (zip (ins ++ out ∷ []) (map (kind_at kinds) (inputs ++ o ∷ []))) ≡ true → All (IsPointAt kinds points) inputs → IsPointAt kinds points o → ArePointsOf any ins (map points inputs) × IsPointOf (kind_of any out).kind (kind_of any out).size (points o)
 points_of any [] out kinds points [] o l e h k =
     let P : Kinded → Type 0 = λ d. IsPointOf d.kind d.size (points o) in
     (tt, subst P (same_kinded _ _ (and_both (is_same (kind_at kinds o) (kind_of any out)) true e).0) k)

@@ -13,7 +13,9 @@ use Rattle.prop_procedures.specs.declared.library.Library.{Library}
 use Rattle.prop_cells.specs.Points.{AreSoundBy}
 use Rattle.prop_procedures.specs.Kept.{stored_as, stored_of}
 use Rattle.prop_procedures.specs.declared.procedure.Procedure.{Procedure}
-use Rattle.prop_arith.specs.Kit.{in_order, name_of, ins_of, out_of, need_of, value_of, Related}
+use Rattle.prop_arith.specs.Kit.{in_order, form_of}
+use Rattle.prop_arith.specs.Points.{Related}
+use Rattle.prop_arith.specs.Values.{value_of}
 use Rattle.prop_arith.specs.KitLaws.{kit_sound}
 use Rattle.prop_arith.specs.declared.kit.Kit.{Kit}
 use Rattle.prop_arith.specs.declared.kit.Kit.TheVariants.{Add, Sub, Mul, Div, Square, Root, Less, Below, Above, Copy, Alike, Apart, Switch, Not, And, AndBack, Or, OrBack, Image, Coimage}
@@ -34,7 +36,7 @@ pub nothing_yet : (left held : Option (List ℕ)) (limit : ℕ) → IsAnsweredIn
 nothing_yet left held limit = inl refl
 
 -- each rule has an input, and at most eight
-pub inputs_fit : (rule : Kit) → (1 ≤ length (ins_of rule)) × (length (ins_of rule) ≤ 8)
+pub inputs_fit : (rule : Kit) → (1 ≤ length (form_of rule).ins) × (length (form_of rule).ins ≤ 8)
 inputs_fit Add = (omega arith, omega arith)
 inputs_fit Sub = (omega arith, omega arith)
 inputs_fit Mul = (omega arith, omega arith)
@@ -57,7 +59,7 @@ inputs_fit Image = (omega arith, omega arith)
 inputs_fit Coimage = (omega arith, omega arith)
 
 -- a procedure with the name, the form and the value of a rule
-pub stored_is : {X : Type 0} {F : X → Type 0} {g : _} → (p : Procedure Kit X F g) (k : Kit) → p.name.now ≡ name_of k → p.ins.items ≡ ins_of k → p.out ≡ out_of k → p.need ≡ need_of k → p.rule ≡ k → stored_as value_of p ≡ stored_kit k
+pub stored_is : {X : Type 0} {F : X → Type 0} {g : _} → (p : Procedure Kit X F g) (k : Kit) → p.name.now ≡ (form_of k).name → p.ins.items ≡ (form_of k).ins → p.out ≡ (form_of k).out → p.need ≡ (form_of k).need → p.rule ≡ k → stored_as value_of p ≡ stored_kit k
 stored_is p k n i o d r = rw (n, i, o, d, r) refl
 
 -- one more procedure is that of one more rule
@@ -77,7 +79,7 @@ kit_is_sound n p at = by in_order n p at
   where
     by : (rules : List Kit) (n : ℕ) (p : Stored) → slice_get (map stored_kit rules) n ≡ Some p → IsSound p.value (λ param points point. IsSomeAnd (slice_get rules n) (λ rule. Related rule param points point)) p.ins p.out p.need
     by [] n p at = absurd (none-some p at)
-    by (rule ∷ rest) zero p at = let same : stored_kit rule ≡ p = same_Some (stored_kit rule) p at in rw (← same) (kit_sound rule (ins_of rule) (out_of rule) (need_of rule) (refl, refl, refl))
+    by (rule ∷ rest) zero p at = let same : stored_kit rule ≡ p = same_Some (stored_kit rule) p at in rw (← same) (kit_sound rule (form_of rule).ins (form_of rule).out (form_of rule).need (refl, refl, refl))
     by (rule ∷ rest) (suc k) p at = by rest k p at
 
 -- what the procedures relate is what their rules do

@@ -3,7 +3,9 @@ use Rattle.std.specs.Prelude.{◌≡◌, ◌⊎◌, ℕ, List, [], ◌∷◌, Op
 use Rattle.prop_lattice.specs.Points.{Point}
 use Rattle.prop_procedures.specs.declared.shape.Param.{Param}
 use Rattle.prop_procedures.specs.Stored.{Stored}
-use Rattle.prop_arith.specs.Kit.{in_order, name_of, ins_of, out_of, need_of, value_of, Related}
+use Rattle.prop_arith.specs.Kit.{in_order, form_of}
+use Rattle.prop_arith.specs.Points.{Related}
+use Rattle.prop_arith.specs.Values.{value_of}
 use Rattle.prop_arith.specs.declared.kit.Kit.{Kit}
 use Rattle.prop_engine.specs.declared.outcome.Counts.{Counts}
 use Rattle.prop_engine.specs.Answers.{Answer}
@@ -16,7 +18,7 @@ use Rattle.prop_engine.specs.Endings.{WritesTranscript, WritesFront}
 
 -- the procedure of a rule
 abbrev pub stored_kit : Kit → Stored
-stored_kit rule = record { name = name_of rule; ins = ins_of rule; out = out_of rule; need = need_of rule; value = value_of rule }
+stored_kit rule = record { name = (form_of rule).name; ins = (form_of rule).ins; out = (form_of rule).out; need = (form_of rule).need; value = value_of rule }
 
 -- the procedures of the kit, in order
 abbrev pub kit_library : List Stored

@@ -1,6 +1,7 @@
 //! A session with the kit's procedures, over a reader and a writer.
 ghost use Rattle.std.specs.Prelude.{◌≡◌, IfOk, OnErr, map};
-ghost use Rattle.prop_arith.specs.Kit.{value_of, in_order};
+ghost use Rattle.prop_arith.specs.Kit.{in_order};
+ghost use Rattle.prop_arith.specs.Values.{value_of};
 ghost use Rattle.prop_procedures.specs.Kept.{AllMean, stored_as};
 ghost use Rattle.prop_engine.specs.Watched.{device, IsFresh};
 ghost use Rattle.propbench.specs.Faults.{TellsDevices};
