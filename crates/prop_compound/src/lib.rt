@@ -16,6 +16,6 @@ mod walk;
 
 pub use definitions::Definitions;
 pub use prop_language::{
-    By, Command, KindWord, Passed, Step, Value, number_in, read_line, reads_what_is_spelled,
+    By, Command, KindWord, Passed, Step, Value, number_in, lines_have_one_reading, read_line,
 };
 pub use prop_procedures::{Flat, Placed};

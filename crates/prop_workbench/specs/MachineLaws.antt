@@ -2,18 +2,19 @@
 use Rattle.std.proofs.Common.{◌≡◌, ◌≢◌, ℕ, ◌≤◌, ◌<◌, List, length, take, refl, sym, ◌∙◌, ap, subst, inl, inr, arith}
 use Rattle.std.specs.Prelude.{Option, Some, None, Result, Ok, Err}
 use Rattle.std.proofs.lemmas.List.{length-take, take_all}
-use Rattle.std.proofs.lemmas.Bool.{cases_lt, lt-ltb}
+use Rattle.std.proofs.lemmas.Bool.{cases_lt}
 use Rattle.prop_lattice.specs.declared.refusal.Refusal.{Refusal}
 use Rattle.prop_lattice.specs.declared.refusal.Refusal.TheVariants.{LineTooLong, Memory}
 use Rattle.prop_lattice.specs.Points.{Point}
 use Rattle.prop_procedures.specs.declared.shape.Param.{Param}
 use Rattle.prop_procedures.specs.Stored.{Stored}
 use Rattle.prop_language.specs.Commands.{Command}
-use Rattle.prop_language.specs.Reading.{reading}
+use Rattle.prop_language.specs.Reading.{IsReading}
+use Rattle.prop_language.proofs.ReadingLaws.{have_one_reading}
 use Rattle.prop_engine.specs.Lines.{kept_of}
 use Rattle.prop_engine.specs.Answers.{Answer, Silent, Text, Refused}
 use Rattle.prop_workbench.specs.Machine.{State, naming}
-use Rattle.prop_workbench.specs.Steps.{Follows, IsFollowed}
+use Rattle.prop_workbench.specs.Steps.{Follows, Step}
 use Rattle.prop_workbench.specs.Engine.{workbench, learning, Shows}
 use Rattle.prop_engine.specs.Machines.{AsksByFront, IsTotal}
 
@@ -21,29 +22,41 @@ use Rattle.prop_engine.specs.Machines.{AsksByFront, IsTotal}
 front_of_line : (limit : ℕ) (line : List ℕ) → (length line ≤ limit → take limit line ≡ line) × (limit < length line → length (take limit line) ≡ limit)
 front_of_line limit line = (λ h. take_all limit line h, λ h. length-take limit line ∙ omega arith)
 
-too_long : (line : List ℕ) → 4096 < length line → reading line ≡ Err LineTooLong
-too_long line h = rw (lt-ltb 4096 (length line) h) refl
+-- a line that is too long asks for nothing else
+too_long : (line : List ℕ) (read : Result (Option Command) Refusal) → 4096 < length line → IsReading line read → read ≡ Err LineTooLong
+too_long line read h (inl (l, e)) = e
+too_long line read h (inr (l, r)) = absurd (omega arith)
 
 -- what is kept of a line asks for what the line asks for
-pub reading-kept_of : (line : List ℕ) → reading (kept_of line) ≡ reading line
+kept_is_read : (line : List ℕ) (read : Result (Option Command) Refusal) → IsReading (kept_of line) read → IsReading line read
 unfolding kept_of
-reading-kept_of line = elim (cases_lt 4097 (length line)) [
-  | inl h ↦ let e = (front_of_line 4097 line).1 h in too_long (take 4097 line) (omega arith) ∙ sym (too_long line (omega arith))
-  | inr h ↦ ap reading ((front_of_line 4097 line).0 h)
+kept_is_read line read r = elim (cases_lt 4097 (length line)) [
+  | inl h ↦ inl (omega arith, too_long (take 4097 line) read (let e = (front_of_line 4097 line).1 h in omega (arith, e)) r)
+  | inr h ↦ subst (λ l. IsReading l read) ((front_of_line 4097 line).0 h) r
 ]
+
+line_is_kept : (line : List ℕ) (read : Result (Option Command) Refusal) → IsReading line read → IsReading (kept_of line) read
+unfolding kept_of
+line_is_kept line read r = elim (cases_lt 4097 (length line)) [
+  | inl h ↦ inl (let e = (front_of_line 4097 line).1 h in omega (arith, e), too_long line read (omega arith) r)
+  | inr h ↦ subst (λ l. IsReading l read) (sym ((front_of_line 4097 line).0 h)) r
+]
+
+kept_steps : (library : List Stored) (old new : State) (line : List ℕ) (answer : Answer) (steps : ℕ) → Step library old (kept_of line) answer new steps → Step library old line answer new steps
+kept_steps library old new line answer steps (read, is, follows) = (read, kept_is_read line read is, follows)
 
 pub workbench_asks_by_front : (library : List Stored) (related : ℕ → Param → List Point → Point → Type 0) → AsksByFront (workbench library related)
 workbench_asks_by_front library related old line answer new s = record {
   steps = s.steps;
-  points = λ sound command text read e. s.points sound command text (reading-kept_of line ∙ read) e;
-  step = subst (λ (read : Result (Option Command) Refusal). Follows library old read answer new s.steps) (reading-kept_of line) s.step;
+  points = λ sound command text read e. s.points sound command text (line_is_kept line _ read) e;
+  step = kept_steps library old new line answer s.steps s.step;
 }
 
 pub learning_asks_by_front : (library : List Stored) (related : ℕ → Param → List Point → Point → Type 0) → AsksByFront (learning library related)
 learning_asks_by_front library related old line answer new s = record {
   steps = s.steps;
-  points = λ sound command text read e. s.points sound command text (reading-kept_of line ∙ read) e;
-  step = subst (λ (read : Result (Option Command) Refusal). IsFollowed library read answer s.steps old new) (reading-kept_of line) s.step;
+  points = λ sound command text read e. s.points sound command text (line_is_kept line _ read) e;
+  step = λ named covers. let goes = s.step named covers in record { now = goes.now; covers = goes.covers; step = kept_steps library _ _ line answer s.steps goes.step };
 }
 
 -- silence, or want of memory, leaves the state and says no value
@@ -59,23 +72,24 @@ follows_somehow library old (Err refusal) = (Refused Memory, record { steps = 0;
 
 pub workbench_is_total : (library : List Stored) (related : ℕ → Param → List Point → Point → Type 0) → IsTotal (workbench library related)
 workbench_is_total library related old line =
-    let somehow = follows_somehow library old (reading line) in
-    (somehow.0, record { steps = somehow.1.steps; step = somehow.1.follows; points = λ sound command text read e. absurd (somehow.1.no_text text e) })
+    let read = have_one_reading line in
+    let somehow = follows_somehow library old read.0 in
+    (somehow.0, record { steps = somehow.1.steps; step = (read.0, read.1, somehow.1.follows); points = λ sound command text read e. absurd (somehow.1.no_text text e) })
 
 pub learning_is_total : (library : List Stored) (related : ℕ → Param → List Point → Point → Type 0) → IsTotal (learning library related)
-learning_is_total library related old line = total (reading line) refl
+learning_is_total library related old line = total (have_one_reading line).0 (have_one_reading line).1
   where
-    say : (read : Result (Option Command) Refusal) → reading line ≡ read → (answer : Answer) → ((s : State) → Follows library s read answer s 0) → ((text : List ℕ) → answer ≢ Text text) → (answer : Answer) × Shows library related old line answer old
+    say : (read : Result (Option Command) Refusal) → IsReading line read → (answer : Answer) → ((s : State) → Follows library s read answer s 0) → ((text : List ℕ) → answer ≢ Text text) → (answer : Answer) × Shows library related old line answer old
     say read is_read answer follows no_text = (
       answer,
       record {
         steps = 0;
-        step = λ named covers. record { now = named; covers = covers; step = rw is_read (follows (naming old.state named)) };
+        step = λ named covers. record { now = named; covers = covers; step = (read, is_read, follows (naming old.state named)) };
         points = λ sound command text r e. absurd (no_text text e);
       },
     )
 
-    total : (read : Result (Option Command) Refusal) → reading line ≡ read → (answer : Answer) × Shows library related old line answer old
+    total : (read : Result (Option Command) Refusal) → IsReading line read → (answer : Answer) × Shows library related old line answer old
     total (Ok None) e = say (Ok None) e Silent (λ s. (refl, refl, refl)) (λ text f. cc)
     total (Ok (Some command)) e = say (Ok (Some command)) e (Refused Memory) (λ s. inr record { answer_is = refl; same = refl }) (λ text f. cc)
     total (Err refusal) e = say (Err refusal) e (Refused Memory) (λ s. inr record { answer_is = refl; same = refl }) (λ text f. cc)

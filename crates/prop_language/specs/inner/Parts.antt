@@ -1,5 +1,5 @@
 -- What the parts of the reader answer.
-use Rattle.std.specs.Prelude.{◌≡◌, ℕ, List, [], ◌∷◌, Bool, true, false, cond, not, nat_le, bytes_eq, codes, ◌||◌, Option, Some, None, is_some, flat_map, ⊤, Contains, Result, Ok, Err}
+use Rattle.std.specs.Prelude.{◌≡◌, ℕ, List, [], ◌∷◌, Bool, true, false, cond, not, nat_le, bytes_eq, codes, ◌||◌, Option, Some, None, is_some, map, flat_map, ⊤, Contains, Result, Ok, Err}
 use Rattle.std.specs.Option.{option_map, option_and_then}
 use Rattle.std.specs.List.{list_all}
 use Rattle.std.specs.Borrow.{Bor}
@@ -8,10 +8,12 @@ use Rattle.prop_lattice.specs.declared.refusal.Refusal.TheVariants.{UnknownComma
 use Rattle.prop_language.specs.Tokens.{Token, Word, Open, Close, Semicolon, Equals, Star, is_blank, mark_of}
 use Rattle.prop_language.specs.Names.{is_name, digits_number}
 use Rattle.prop_language.specs.Commands.{Value, By, Passed, Step, Command}
-use Rattle.prop_language.specs.Forms.{join, bare, each, step, on_word, limit_of, domain, relation, cell, define, attach, fix, tell, choose, parameter, values, sides, two_to_eight}
-use Rattle.prop_language.specs.Reading.{by_names, is_by_in_range, passed_names, is_passed_in_range, step_names, is_step_in_range, command_in_form}
-use Rattle.prop_language.specs.Said.{steps_said}
+use Rattle.prop_language.specs.inner.Forms.{join, bare, each, step, on_word, limit_of, domain, relation, cell, define, attach, fix, tell, choose, parameter, values, sides, two_to_eight}
+use Rattle.prop_language.specs.Reading.{by_names, is_by_in_range, passed_names, is_passed_in_range, step_names, is_step_in_range}
+use Rattle.prop_language.specs.inner.Parsing.{command_in_form}
+use Rattle.prop_language.specs.Said.{Reads, step_of}
 use Rattle.prop_language.specs.declared.command.Step as kept
+use Rattle.prop_language.specs.declared.command.Command as made
 use Rattle.prop_language.specs.declared.tokens.Token as read
 use Rattle.prop_language.specs.declared.tokens.Token.TheVariants as reads
 use Rattle.prop_language.specs.declared.steps.Given.{Given}
@@ -115,10 +117,19 @@ step_in_range step = judged (step_names step) (is_step_in_range step) step
 abbrev pub steps_in_range : List Step → Result (List Step) Refusal
 steps_in_range steps = judged (flat_map step_names steps) (list_all is_step_in_range steps) steps
 
+-- the reader answers what was read so
+abbrev pub ReadsAs : Result made.Command Refusal → Result (Option Command) Refusal → Type 0
+ReadsAs result read = Reads result (λ other. read ≡ other)
+
 -- the step by itself
 abbrev pub step_in_form : Option Step → Result Step Refusal
 step_in_form None = Err WrongForm
 step_in_form (Some step) = step_in_range step
+
+-- the steps, or why they are refused
+abbrev pub steps_said : List kept.Step → Option Refusal → Result (List Step) Refusal
+steps_said steps None = Ok (map step_of steps)
+steps_said steps (Some refusal) = Err refusal
 
 -- what was read of some parts is what their steps say
 abbrev pub Says : (parts : List (List Token)) → List kept.Step → Option Refusal → Type 0
