@@ -1,7 +1,7 @@
 -- Groups of nogoods that end with the same premise.
-use Rattle.std.specs.Prelude.{◌<◌, ℕ, List, length, Option, IfSome, IsTrue}
+use Rattle.std.specs.Prelude.{◌<◌, ◌+◌, ℕ, List, length, Option, Some, None, IfSome, IsTrue}
 use Rattle.std.specs.List.{flat_map}
-use Rattle.prop_premises.specs.Sets.{set_of}
+use Rattle.prop_premises.specs.Sets.{set_of, is_below}
 use Rattle.prop_nogoods.specs.Stores.{staying, lacking}
 
 -- nogoods, the premise that each of them has, and how many there is memory for
@@ -10,9 +10,14 @@ pub record Group : Type 0 where
   pub sets : List (List ℕ)
   pub capacity : ℕ
 
--- the set has the last premise of a group
+-- one above the last premise, 0 where there is none
+abbrev pub end_of : Option ℕ → ℕ
+end_of None = 0
+end_of (Some p) = p + 1
+
+-- the set has the last premise of a group, and none after it
 abbrev pub EndsSo : Option ℕ → List ℕ → Type 0
-EndsSo last n = IfSome last (λ p. IsTrue (set_of n p))
+EndsSo last n = IfSome last (λ p. IsTrue (set_of n p)) × IsTrue (is_below (end_of last) n)
 
 -- there is room for one nogood more
 abbrev pub HasRoom : Group → Type 0

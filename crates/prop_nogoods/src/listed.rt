@@ -3,6 +3,7 @@ ghost use Rattle.std.specs.Prelude.{◌≡◌, ◌≤◌, List, ℕ, length, fal
 ghost use Rattle.std.specs.List.Sorted.{IsStrictlyIncreasing};
 ghost use Rattle.prop_premises.specs.Sets.{set_of, is_within};
 ghost use Rattle.prop_nogoods.specs.Stores.{has_part, staying, lacking, AreBySize};
+ghost use Rattle.prop_nogoods.specs.Endings.{EndsSo};
 
 use prop_premises::{Premise, PremiseSet, Worldview};
 use std::alloc::AllocError;
@@ -22,7 +23,7 @@ impl Model for Listed {
 
     ghost view = { λ l. l.premises };
 
-    ghost invariant = { λ l. (l.size ≡ length l.premises) × IsStrictlyIncreasing l.premises × IfSome l.last (λ p. IsTrue (set_of l.premises p)) };
+    ghost invariant = { λ l. (l.size ≡ length l.premises) × IsStrictlyIncreasing l.premises × EndsSo l.last l.premises };
 }
 
 impl Listed {
@@ -52,7 +53,7 @@ impl Listed {
 
     /// Its last premise, none where it has no premise.
     pub(crate) fn last(&self) -> Option<Premise>
-        ensures { IfSome result (λ p. IsTrue (set_of self.now p)) }
+        ensures { EndsSo result self.now }
     {
         self.last
     }

@@ -3,7 +3,7 @@ ghost use Rattle.std.specs.Prelude.{◌≡◌, ◌↔◌, ◌≤◌, ◌<◌, �
 ghost use Rattle.std.specs.List.Sorted.{IsStrictlyIncreasing, IsPartitionPoint};
 ghost use Rattle.prop_premises.specs.Sets.{set_of, is_within};
 ghost use Rattle.prop_nogoods.specs.Endings.{sets_of};
-ghost use Rattle.prop_nogoods.specs.Stores.{has_part, lacking, with_set, AreMinimal, AreBySize, HaveSame, AddsSet};
+ghost use Rattle.prop_nogoods.specs.Stores.{has_part, lacking, with_set, AreMinimal, AreBySize, PartsEndBelow, HaveSame, AddsSet};
 
 use crate::ending::{Ending, earliest_believed, join, purge_everywhere};
 use crate::listed::{Listed, drop_holding, drop_larger, first_believed};
@@ -129,14 +129,14 @@ impl Store {
         Some(nogood.premises())
     }
 
-    /// A nogood of which every premise is believed, none where there is no such nogood: one whose last premise comes early, so that it shows early
-    /// choices to be wrong. It takes no memory.
-    pub fn blocks_early(&self, worldview: &Worldview) -> Option<&PremiseSet>
+    /// A nogood of which every premise is believed, one whose last premise comes early, so that it shows early choices to be wrong. It passes over
+    /// those whose last premise has a number below this one, and answers none where no other is believed. It takes no memory.
+    pub fn blocks_early(&self, worldview: &Worldview, from: Premise) -> Option<&PremiseSet>
         ensures listed { IfSome result (λ s. Contains self.now s.now) }
         ensures believed { IfSome result (λ s. IsTrue (is_within (set_of worldview.now) s.now)) }
-        ensures none { result ≡ None → has_part self.now (set_of worldview.now) ≡ false }
+        ensures none { result ≡ None → PartsEndBelow self.now (set_of worldview.now) from }
     {
-        let nogood = earliest_believed(&self.by_last, worldview)?;
+        let nogood = earliest_believed(&self.by_last, worldview, from)?;
         Some(nogood.premises())
     }
 
