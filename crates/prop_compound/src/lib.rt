@@ -16,6 +16,6 @@ mod walk;
 
 pub use definitions::Definitions;
 pub use prop_language::{
-    By, Command, KindWord, Passed, Step, Value, number_in, lines_have_one_reading, read_line,
+    By, Command, KindWord, Passed, Step, Value, lines_have_one_reading, number_in, read_line,
 };
 pub use prop_procedures::{Flat, Placed};

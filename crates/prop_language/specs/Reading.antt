@@ -87,7 +87,7 @@ abbrev pub begins_as_command : List Token → Bool
 begins_as_command (Word w ∷ ts) = is_among command_words w
 begins_as_command ts = false
 
--- what tokens ask for: the command that they spell, or none, where they spell none
+-- what tokens ask for: the command that they spell; those that spell none are refused
 abbrev pub AskFor : List Token → Result (Option Command) Refusal → Type 0
 AskFor ts read =
     ((command : Command) × Spells ts command × (read ≡ command_in_range command))
@@ -105,7 +105,7 @@ abbrev pub IsReading : List ℕ → Result (Option Command) Refusal → Type 0
 IsReading line read =
     ((4096 < length line) × (read ≡ Err LineTooLong)) ⊎ ((length line ≤ 4096) × IsReadingOf (without_return line) read)
 
--- this holds of what the line asks for
+-- it holds of what the line asks for
 abbrev pub AsRead : List ℕ → (Result (Option Command) Refusal → Type 0) → Type 0
 AsRead line Holds = (read : Result (Option Command) Refusal) × IsReading line read × Holds read
 

@@ -168,7 +168,7 @@ pub fn read_line<'a>(alloc: Global, line: &'a [u8]) -> Result<Command<'a>, Refus
     read_text(alloc, without_return(line))
 }
 
-/// Each line asks for one thing: it is read in one way, and no line in two.
+/// Each line asks for one thing and no other: it has one reading.
 pub fn lines_have_one_reading()
     ensures { HaveOneReading }
 {}

@@ -1,10 +1,10 @@
 -- The nogoods of groups, once a group changes.
-use Rattle.std.proofs.Common.{◌≡◌, ◌∙◌, ◌<◌, ◌≤◌, ◌+◌, ◌-◌, ℕ, zero, suc, true, false, nat_lt, Option, inl, inr, IsTrue, List, [], ◌∷◌, ◌++◌, length, get_or, take, drop, set, insert, map, not, refl, sym, ap, subst, arith, All, Contains, append_assoc}
+use Rattle.std.proofs.Common.{◌≡◌, ◌∙◌, ◌<◌, ◌≤◌, ◌+◌, ◌-◌, ◌||◌, ◌==◌, ℕ, zero, suc, Bool, true, false, nat_lt, Option, inl, inr, IsTrue, List, [], ◌∷◌, ◌++◌, length, get_or, take, drop, set, insert, map, not, refl, sym, ap, subst, arith, All, Contains, append_assoc}
 use Rattle.std.specs.List.{flat_map, AllByRecursion}
 use Rattle.std.specs.List.Sorted.{IsStrictlyIncreasing}
 use Rattle.std.proofs.Math.Seq.{map-set_same}
 use Rattle.std.proofs.lemmas.Bool.{leb-true}
-use Rattle.std.proofs.lemmas.Bool.Decides.{leb_tells}
+use Rattle.std.proofs.lemmas.Bool.Decides.{eqb_tells, leb_tells}
 use Rattle.std.proofs.lemmas.List.{length-map, take-append-drop, take_at}
 use Rattle.std.proofs.lemmas.List.Concat.{flat_map-append}
 use Rattle.std.proofs.lemmas.List.Edits.{insert-append_right}
@@ -136,6 +136,15 @@ ends_below w last n listed l all = λ k d m is_part. is_below-more (end_of last)
 pub end_below_where_none : (w : Members) (n : ℕ) (listed : List (List ℕ)) → has_part listed w ≡ false → PartsEndBelow listed w n
 end_below_where_none w n listed none = λ k d m is_part.
     let has = has_part-from listed w (get_or listed k d) (Contains-get_or listed k d m) (λ p t. within_has w (get_or listed k d) p is_part t) in cc (has, none)
+
+-- a number of a list is in its set
+pub has_middle : (xs ys : List ℕ) (x : ℕ) → set_of (xs ++ x ∷ ys) x ≡ true
+has_middle [] ys x = elim (eqb_tells x x) [ inl e ↦ rw e.0 refl | inr e ↦ absurd (e.1 refl) ]
+has_middle (y ∷ xs) ys x = either (y == x) (set_of (xs ++ x ∷ ys) x) (has_middle xs ys x)
+  where
+    either : (a b : Bool) → b ≡ true → (a || b) ≡ true
+    either true b e = refl
+    either false b e = e
 
 -- what comes up in order is below one above the last that came
 pub passed_below : (all xs ys : List ℕ) (x : ℕ) → IsStrictlyIncreasing all → (xs ++ x ∷ []) ++ ys ≡ all → is_below (x + 1) (xs ++ x ∷ []) ≡ true

@@ -96,11 +96,18 @@ impl Listed {
         self.premises.contains(premise)
     }
 
-    /// Whether each premise of this set is in the other. Of a larger set it is known by the sizes alone. It takes no memory.
+    /// Whether each premise of this set is in the other. Of a larger set it is known by the sizes alone, and of most others by the last premise. It takes
+    /// no memory.
     pub(crate) fn is_part_of(&self, other: &Listed) -> bool
         ensures { result ≡ is_within (set_of other.now) self.now }
     {
-        self.size <= other.size && self.premises.is_subset(&other.premises)
+        if self.size > other.size {
+            return false;
+        }
+        match self.last {
+            Some(last) => other.holds(last) && self.premises.is_subset(&other.premises),
+            None => self.premises.is_subset(&other.premises),
+        }
     }
 }
 

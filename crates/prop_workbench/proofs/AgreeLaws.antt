@@ -1,5 +1,5 @@
 -- Two sessions that are given the same lines agree.
-use Rattle.std.proofs.Common.{◌≡◌, ◌≢◌, ◌∙◌, ◌⊎◌, ℕ, zero, suc, List, [], ◌∷◌, codes, Option, Some, None, Result, Ok, Err, IsTrue, inl, inr, refl, sym, ap}
+use Rattle.std.proofs.Common.{◌≡◌, ◌≢◌, ◌∙◌, ◌⊎◌, ℕ, zero, suc, List, [], ◌∷◌, codes, Option, Some, None, Result, Ok, Err, IsTrue, inl, inr, refl, sym, ap, subst}
 use Rattle.std.proofs.lemmas.List.Elements.{All-head, All-tail}
 use Rattle.prop_lattice.specs.declared.info.Info.{Info}
 use Rattle.prop_lattice.specs.declared.refusal.Refusal.{Refusal}
@@ -22,7 +22,7 @@ use Rattle.prop_workbench.specs.Machine.{State, naming, text_at, problem_in, use
 use Rattle.prop_workbench.specs.Refusing.{refusal_of}
 use Rattle.prop_workbench.specs.Effects.{effect}
 use Rattle.prop_workbench.specs.Running.{named_by, Settled, MayEnd, Replies, IsRest, IsValueReply, IsExplainedReply}
-use Rattle.prop_workbench.specs.Steps.{Runs, Lists, Changes, CarriesUnless, Follows}
+use Rattle.prop_workbench.specs.Steps.{Runs, Lists, Changes, CarriesUnless, Follows, Step}
 use Rattle.prop_workbench.specs.Engine.{workbench}
 use Rattle.prop_workbench.specs.Agreeing.{AreAlike, HaveMemory, RunsMeet, AnswersMeet, IsCoreMark, SayOneValue, SettledTextsMeet, SettledIsFree}
 use Rattle.prop_workbench.proofs.NamingLaws.{refusal_alike, effect_alike}

@@ -31,14 +31,14 @@ too_long line read h (inr (l, r)) = absurd (omega arith)
 kept_is_read : (line : List ℕ) (read : Result (Option Command) Refusal) → IsReading (kept_of line) read → IsReading line read
 unfolding kept_of
 kept_is_read line read r = elim (cases_lt 4097 (length line)) [
-  | inl h ↦ inl (omega arith, too_long (take 4097 line) read (let e = (front_of_line 4097 line).1 h in omega (arith, e)) r)
+  | inl h ↦ let e = (front_of_line 4097 line).1 h in inl (omega arith, too_long (take 4097 line) read (omega (arith, e)) r)
   | inr h ↦ subst (λ l. IsReading l read) ((front_of_line 4097 line).0 h) r
 ]
 
 line_is_kept : (line : List ℕ) (read : Result (Option Command) Refusal) → IsReading line read → IsReading (kept_of line) read
 unfolding kept_of
 line_is_kept line read r = elim (cases_lt 4097 (length line)) [
-  | inl h ↦ inl (let e = (front_of_line 4097 line).1 h in omega (arith, e), too_long line read (omega arith) r)
+  | inl h ↦ let e = (front_of_line 4097 line).1 h in inl (omega (arith, e), too_long line read (omega arith) r)
   | inr h ↦ subst (λ l. IsReading l read) (sym ((front_of_line 4097 line).0 h)) r
 ]
 

@@ -27,6 +27,7 @@ use Rattle.prop_workbench.specs.Reasons.{IsLeanAnswer}
 use Rattle.prop_workbench.specs.Running as running
 use Rattle.prop_workbench.specs.Running.{Outcome, MayEnd, Replies}
 use Rattle.prop_workbench.specs.Sessions.{Work, state_of, library_of}
+use Rattle.prop_workbench.specs.Steps.{Shown, IsFollowed}
 
 -- the command that asks so
 abbrev pub command_of : Question → Command
@@ -116,3 +117,8 @@ Earns picks library s old new read answer steps = ⊤
 pub record RestsOn {O : Type 0} (picks : Picks O) (library : List Stored) (s : State) (old new : Work O) (read : Result (Option Command) Refusal) (answer : Answer) (steps : ℕ) : Type 0 where
   pub lean : IsLeanAnswer (worldview_at s new.list) new.cells s read answer
   pub earned : Earns picks library s old new read answer steps
+
+-- what a line is answered that was read so: a step, and what its answer rests on
+pub record Heeds {O : Type 0} (picks : Picks O) (library : List Stored) (old new : Shown) (from to : Work O) (answer : Answer) (steps : ℕ) (read : Result (Option Command) Refusal) : Type 0 where
+  pub step : IsFollowed library read answer steps old new
+  pub rests : RestsOn picks library old.state from to read answer steps

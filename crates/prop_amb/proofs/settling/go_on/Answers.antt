@@ -1,6 +1,6 @@
 use Rattle.std.proofs.Common.{◌∙◌, length, ap, arith}
 use Rattle.prop_premises.specs.Sets.{set_of}
-use Rattle.prop_premises.specs.Origins.{Origin, choices_of}
+use Rattle.prop_premises.specs.Origins.{choices_of}
 use Rattle.prop_premises.proofs.WithinLemmas.{within_has}
 use Rattle.prop_cells.specs.Problems.{Problem}
 use Rattle.prop_amb.specs.Search.{IsSearch, choices_in}

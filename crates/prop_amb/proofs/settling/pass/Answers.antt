@@ -16,7 +16,7 @@ loop-moves-init c = record {
 pub loop-moves-preserved : goal.loop-moves-preserved
 loop-moves-preserved c =
     let before = c.loop-moves.invariant in
-    let after = c.in_ok-go_on.ensures in
+    let after = c.in_ok-moved.ensures in
     record {
       premises = after.premises ∙ before.premises;
       listed = after.listed ∙ before.listed;

@@ -18,13 +18,13 @@ returns-then-is_memory-clause-step g c =
     let new = shown_of c.follow-reply.new.self in
     let read = c.follow-reply.ensures.read in
     step_of_read library (shown_of s) new c.args.line.now read.0 (answer_of c.follow-reply.result.0) _ read.1
-    (still_lacking library (shown_of s) new read.0 (answer_of c.follow-reply.result.0) c.follow-reply.result.1 _ (c.is_memory.ensures.0 c.if-is_memory.true) read.2)
+    (still_lacking library (shown_of s) new read.0 (answer_of c.follow-reply.result.0) c.follow-reply.result.1 _ (c.is_memory.ensures.0 c.if-is_memory.true) read.2.step)
 
 pub returns-clause-step : goal.returns-clause-step
 returns-clause-step g c =
     let s = c.args.self.now in
     let read = c.follow-reply.ensures.read in
-    step_of_read (stored_of g.R.Rule.value_of s.network.library) (shown_of s) (shown_of c.follow-reply.new.self) c.args.line.now read.0 (answer_of c.follow-reply.result.0) c.follow-reply.result.1 read.1 read.2
+    step_of_read (stored_of g.R.Rule.value_of s.network.library) (shown_of s) (shown_of c.follow-reply.new.self) c.args.line.now read.0 (answer_of c.follow-reply.result.0) c.follow-reply.result.1 read.1 read.2.step
 
 pub returns-then-is_memory-clause-points : goal.returns-then-is_memory-clause-points
 returns-then-is_memory-clause-points g c =
@@ -33,7 +33,7 @@ returns-then-is_memory-clause-points g c =
     let made : IsWellMade s.network.cells = rw c.data.ensures at c.well_made.ensures in
     let work = c.requires.sound.in_order.at_work in
     λ sound. step_holds_points (stored_of g.R.Rule.value_of s.network.library) (related_of g.R.Rule.related s.network.library) sound (state_from s.names s.words s.definitions s.search.premises s.network.cells s.limit)
-    (record { fitting = work.under_way.kept.fits; within = made.within }) work.well_made.numbered c.args.line.now _ _ _ (read.0, read.1, (read.2 [] (covers_none (shown_of s))).step)
+    (record { fitting = work.under_way.kept.fits; within = made.within }) work.well_made.numbered c.args.line.now _ _ _ (read.0, read.1, (read.2.step [] (covers_none (shown_of s))).step)
 
 pub returns-clause-points : goal.returns-clause-points
 returns-clause-points g c =
@@ -42,13 +42,13 @@ returns-clause-points g c =
     let made : IsWellMade s.network.cells = rw c.data.ensures at c.well_made.ensures in
     let work = c.requires.sound.in_order.at_work in
     λ sound. step_holds_points (stored_of g.R.Rule.value_of s.network.library) (related_of g.R.Rule.related s.network.library) sound (state_from s.names s.words s.definitions s.search.premises s.network.cells s.limit)
-    (record { fitting = work.under_way.kept.fits; within = made.within }) work.well_made.numbered c.args.line.now _ _ _ (read.0, read.1, (read.2 [] (covers_none (shown_of s))).step)
+    (record { fitting = work.under_way.kept.fits; within = made.within }) work.well_made.numbered c.args.line.now _ _ _ (read.0, read.1, (read.2.step [] (covers_none (shown_of s))).step)
 
 pub returns-then-is_memory-clause-sound : goal.returns-then-is_memory-clause-sound
 returns-then-is_memory-clause-sound g c =
     let s = c.args.self.now in
     let read = c.follow-reply.ensures.read in
-    let on = read.2 [] (covers_none (shown_of s)) in
+    let on = read.2.step [] (covers_none (shown_of s)) in
     let same : naming (state_of c.follow-reply.new.self) on.now ≡ state_of s =
     lacking_same (stored_of g.R.Rule.value_of s.network.library) (state_of s) (naming (state_of c.follow-reply.new.self) on.now) read.0 _ _ (c.is_memory.ensures.0 c.if-is_memory.true) on.step in
     let within : steps_of s ≤ (state_of s).limit = c.requires.sound.within in
@@ -58,7 +58,7 @@ pub returns-clause-sound : goal.returns-clause-sound
 returns-clause-sound g c =
     let s = c.args.self.now in
     let read = c.follow-reply.ensures.read in
-    let on = read.2 [] (covers_none (shown_of s)) in
+    let on = read.2.step [] (covers_none (shown_of s)) in
     record {
       in_order =
           let sound = c.follow-reply.ensures.keeps.sound in
@@ -74,22 +74,22 @@ returns-then-is_memory-clause-earned g c =
 pub returns-clause-earned : goal.returns-clause-earned
 returns-clause-earned g c =
     let read = c.follow-reply.ensures.read in
-    (read.0, read.1, read.3.earned)
+    (read.0, read.1, read.2.rests.earned)
 
 pub returns-then-is_memory-clause-lean : goal.returns-then-is_memory-clause-lean
 returns-then-is_memory-clause-lean g c =
     let s = c.args.self.now in
     let read = c.follow-reply.ensures.read in
     let new = c.follow-reply.new.self in
-    let on = read.2 [] (covers_none (shown_of s)) in
+    let on = read.2.step [] (covers_none (shown_of s)) in
     (read.0, read.1, lean_after (stored_of g.R.Rule.value_of s.network.library) (state_of s) (naming (state_of new) on.now) new.search.worldview new.search.list new.network.cells read.0 (answer_of c.follow-reply.result.0) c.follow-reply.result.1 on.step
-    c.follow-reply.ensures.keeps.sound.at_work.well_made.believes read.3.lean)
+    c.follow-reply.ensures.keeps.sound.at_work.well_made.believes read.2.rests.lean)
 
 pub returns-clause-lean : goal.returns-clause-lean
 returns-clause-lean g c =
     let s = c.args.self.now in
     let read = c.follow-reply.ensures.read in
     let new = c.follow-reply.new.self in
-    let on = read.2 [] (covers_none (shown_of s)) in
+    let on = read.2.step [] (covers_none (shown_of s)) in
     (read.0, read.1, lean_after (stored_of g.R.Rule.value_of s.network.library) (state_of s) (naming (state_of new) on.now) new.search.worldview new.search.list new.network.cells read.0 (answer_of c.follow-reply.result.0) c.follow-reply.result.1 on.step
-    c.follow-reply.ensures.keeps.sound.at_work.well_made.believes read.3.lean)
+    c.follow-reply.ensures.keeps.sound.at_work.well_made.believes read.2.rests.lean)

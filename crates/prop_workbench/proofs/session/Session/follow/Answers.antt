@@ -18,10 +18,12 @@ returns-in-Err-clause-read g c =
     (
       refused.0,
       refused.1,
-      refused_followed library (shown_of s) (shown_of s) refused.0 (Refused c.in-Err.refusal) 0 (λ m covered. covered) (λ named. refused.2 library (naming (state_of s) named)),
       record {
-        lean = lean_read_refused (worldview_at (state_of s) s.search.list) s.network.cells (state_of s) refused.0 c.in-Err.refusal;
-        earned = earns_refused _ library (state_of s) (work_of s) (work_of s) refused.0 c.in-Err.refusal 0;
+        step = refused_followed library (shown_of s) (shown_of s) refused.0 (Refused c.in-Err.refusal) 0 (λ m covered. covered) (λ named. refused.2 library (naming (state_of s) named));
+        rests = record {
+          lean = lean_read_refused (worldview_at (state_of s) s.search.list) s.network.cells (state_of s) refused.0 c.in-Err.refusal;
+          earned = earns_refused _ library (state_of s) (work_of s) (work_of s) refused.0 c.in-Err.refusal 0;
+        };
       },
     )
 
@@ -32,4 +34,4 @@ pub returns-in-Err-clause-keeps : goal.returns-in-Err-clause-keeps
 returns-in-Err-clause-keeps g c = record { library = refl; sound = c.requires.sound; steps = refl }
 
 pub returns-in-Ok-clause-read : goal.returns-in-Ok-clause-read
-returns-in-Ok-clause-read g c = (_, c.in-Ok.ensures.read, c.carry_out.ensures.step, c.carry_out.ensures.rests)
+returns-in-Ok-clause-read g c = (_, c.in-Ok.ensures.read, record { step = c.carry_out.ensures.step; rests = c.carry_out.ensures.rests })
