@@ -16,7 +16,7 @@ use Rattle.prop_compound.specs.declared.definition.Used.{Used}
 use Rattle.prop_procedures.specs.declared.flat.Flat.{Flat}
 use Rattle.prop_compound.specs.Definitions.{Definitions, used_named, cells_wanted, is_miscounted}
 use Rattle.prop_compound.specs.declared.walk.Walk as walks
-use Rattle.prop_compound.specs.Expansion.{Expansion, before, expanded_in, expanded}
+use Rattle.prop_compound.specs.Expansion.{param_passed, Expansion, before, expanded_in, expanded}
 use Rattle.prop_compound.specs.Expanding.{size_refusal, fit_refusal, expand_refusal}
 use Rattle.prop_compound.specs.AtOnce.{refused_at_once}
 use Rattle.prop_compound.specs.Flattened.{placed_of, walk_of, expansion_of_flat, IsFlatOver, AreRight, IsBehind}
@@ -68,7 +68,7 @@ module _ (library : List Stored) (words : Vocabulary) (definitions : Definitions
     size_stops o r s e =
         passes_count ∙ ap (λ z. first_of (z ∷ fit_refusal library stands ∷ [])) (sym s ∙ e)
 
-  module _ (walk : walks.Walk) (walk_is : walk_of walk ≡ expanded_in words definitions.definitions used (range_with_len 0 (length kinds)) given (before definitions.definitions used kinds given)) where
+  module _ (walk : walks.Walk) (walk_is : walk_of walk ≡ expanded_in (param_passed words) definitions.definitions used (range_with_len 0 (length kinds)) given (before definitions.definitions used kinds given)) where
     -- no size is over its limit: what is said of how it fits is said
     pub fit_decides : (wrong : Bool) → wrong ≡ not (length kinds == cells_wanted library definitions used) → wrong ≡ false → (o : Option Refusal) → o ≡ sizes → o ≡ None → expand_refusal library words definitions name kinds given ≡ fit_refusal library (walk_of walk)
     fit_decides wrong wrong_is right o s e =

@@ -1,5 +1,5 @@
 -- What is kept beside each definition, and what is true of the definitions that are kept.
-use Rattle.std.specs.Prelude.{◌≡◌, ◌<◌, ℕ, ◌+◌, ◌==◌, min, List, [], ◌∷◌, All, Option, true, false, cond, not, ◌||◌, length, map, reverse, slice_get, slice_index_or, sum_by, ⊤}
+use Rattle.std.specs.Prelude.{◌≡◌, ◌<◌, ℕ, ◌+◌, ◌==◌, min, List, [], ◌∷◌, ◌++◌, All, Option, true, false, cond, not, ◌||◌, length, map, reverse, slice_get, slice_index_or, sum_by, ⊤}
 use Rattle.std.specs.List.{list_any, flat_map}
 use Rattle.std.specs.Option.{option_map_or}
 use Rattle.prop_lattice.specs.Refusals.{most}
@@ -13,7 +13,7 @@ use Rattle.prop_compound.specs.declared.definition.Used.TheVariants as uses
 use Rattle.prop_compound.specs.declared.definition.NumberedStep.{NumberedStep}
 use Rattle.prop_compound.specs.declared.definition.NumberedStep.TheVariants.{Local, Like, Use}
 use Rattle.prop_compound.specs.Definitions.{Definition, Definitions, is_passing_on}
-use Rattle.prop_compound.specs.Expansion.{Walk, steps_expanded, definition_expanded, spare_of, is_spare}
+use Rattle.prop_compound.specs.Expansion.{Walk, param_passed, steps_in, spare_of, is_spare}
 use Rattle.prop_compound.specs.Shortcuts.{shortened}
 
 -- the definition alone
@@ -91,7 +91,7 @@ pub record IsKept (definitions : List Definition) (n : ℕ) (k : KeptDefinition)
   pub plan_in_scope : AreInScope k.params k.plan.items
   pub plan_uses : All (IsUseBelow definitions n) k.plan.items
   pub same : (words : Vocabulary) (cells : List ℕ) (given : Option Param) (e : Walk) → length cells ≡ k.params →
-      steps_expanded words (definition_expanded words (reverse definitions)) given cells k.plan.items e ≡ steps_expanded words (definition_expanded words (reverse definitions)) given cells k.steps.items e
+      steps_in (param_passed words) definitions given cells k.plan.items e ≡ steps_in (param_passed words) definitions given cells k.steps.items e
   pub spare_given : k.spare_given ≡ is_spare definitions n true
   pub spare_bare : k.spare_bare ≡ is_spare definitions n false
   pub fresh : k.fresh ≡ min (most Cells + 1) (total_of fresh_of definitions n)
@@ -100,6 +100,10 @@ pub record IsKept (definitions : List Definition) (n : ℕ) (k : KeptDefinition)
 -- each of them is kept so
 abbrev pub AreKept : List KeptDefinition → Type 0
 AreKept definitions = (n : ℕ) (d : KeptDefinition) → n < length definitions → IsKept (all_bare definitions) n (slice_index_or definitions n d)
+
+-- it is kept so as one more behind the definitions
+abbrev pub IsKeptNext : List Definition → KeptDefinition → Type 0
+IsKeptNext definitions k = IsKept (definitions ++ bare k ∷ []) (length definitions) k
 
 -- what is kept for a use of so many cells and these steps, behind the definitions
 pub record IsCounted (definitions : List KeptDefinition) (count : ℕ) (items : List NumberedStep) (k : KeptDefinition) : Type 0 where

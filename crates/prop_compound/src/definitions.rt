@@ -3,6 +3,7 @@ ghost use Rattle.std.specs.Prelude.{◌≡◌, ◌<◌, length, IfSome};
 ghost use Rattle.prop_procedures.specs.Stored.{Stored};
 ghost use Rattle.prop_vocabulary.specs.Names.{number_in};
 ghost use Rattle.prop_compound.specs.Definitions.{no_definitions};
+ghost use Rattle.prop_compound.specs.InPlace.{UsesArePutInPlace};
 ghost use Rattle.prop_compound.specs.Kept.{IsDefinedOver};
 ghost use Rattle.std.specs.Prelude.{List};
 
@@ -41,6 +42,14 @@ impl Definitions {
             names: Names::new(alloc),
             definitions: Vec::new(alloc),
         }
+    }
+
+    /// A use equals its flat list put in place: whatever was made before, on cells that are there it adds just the fresh cells and the
+    /// instances of the flat list, each parameter replaced by the given cell and each fresh cell by the next one.
+    pub fn uses_are_put_in_place(&self)
+        ensures { UsesArePutInPlace self.now.definitions }
+    {
+        let _ = &self.definitions;
     }
 
     /// How many definitions there are.

@@ -21,8 +21,8 @@ use Rattle.prop_procedures.specs.Fitting.{kinds_fit, fitting_param}
 use Rattle.prop_cells.specs.Instances.{Instance, sides_given, param_in, attached, instance_of}
 use Rattle.prop_cells.specs.Refusing.{refusal_at, attach_refusal, or_else, when}
 use Rattle.prop_procedures.specs.declared.flat.Placed as flats
-use Rattle.prop_procedures.specs.Flats.{param_at}
-use Rattle.prop_scheduler.specs.Making.{cell_placed, param_number, cells_made, made_of, MayBeMade}
+use Rattle.prop_procedures.specs.Flats.{param_at, cell_placed}
+use Rattle.prop_scheduler.specs.Making.{param_number, cells_made, made_of, MayBeMade}
 
 -- ---- parameters
 

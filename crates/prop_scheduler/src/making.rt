@@ -2,12 +2,13 @@
 ghost use Rattle.std.specs.Prelude.{◌≡◌, ◌≤◌, ◌<◌, ◌^◌, ◌+◌, ◌-◌, ◌++◌, ◌∷◌, [], ◌⊎◌, ℕ, List, All, Contains, None, Some, drop, length, map, IfOk, IfErr, OnOk, OnErr};
 ghost use Rattle.prop_lattice.specs.Refusals.{most};
 ghost use Rattle.prop_lattice.specs.declared.refusal.Limit.TheVariants.{Cells, Instances};
+ghost use Rattle.prop_procedures.specs.Flats.{cell_placed};
 ghost use Rattle.prop_procedures.specs.Kept.{stored_of};
 ghost use Rattle.prop_cells.specs.Data.{Data as Held, IsKept, IsWellMade};
 ghost use Rattle.prop_cells.specs.Problems.{Premises};
 ghost use Rattle.prop_cells.specs.Back.{GoesBackTo};
 ghost use Rattle.prop_cells.specs.Refusing.{cell_refusal};
-ghost use Rattle.prop_scheduler.specs.Making.{room_refusal, cell_placed, param_number, made_of, with_fresh_cells, with_flat, MayBeMade, MayMake};
+ghost use Rattle.prop_scheduler.specs.Making.{room_refusal, param_number, made_of, with_fresh_cells, with_flat, MayBeMade, MayMake};
 ghost use Rattle.prop_scheduler.specs.Turns.{IsUnderWay};
 ghost use Rattle.prop_scheduler.specs.Watching.{IsWatched};
 

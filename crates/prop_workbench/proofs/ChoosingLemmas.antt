@@ -24,7 +24,7 @@ use Rattle.prop_workbench.specs.Choosing.{meaning_of, meanings_of, Means, infos_
 use Rattle.prop_workbench.specs.Effects.{info_meant, with_meants, sides_stated, chosen, MayMean}
 use Rattle.prop_workbench.specs.Machine.{State}
 use Rattle.prop_workbench.specs.Refusing.{meaning_at, with_meant, naming_limit, all_naming_limit}
-use Rattle.prop_workbench.specs.Sessions.{IsKnown}
+use Rattle.prop_compound.specs.Kinds.{IsKnown}
 use Rattle.prop_workbench.proofs.TellLemmas.{same_domains}
 use Rattle.prop_workbench.proofs.ValueLemmas.{value_may_be}
 

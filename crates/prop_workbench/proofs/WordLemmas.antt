@@ -19,7 +19,8 @@ use Rattle.prop_compound.specs.declared.definition.NumberedStep.{NumberedStep}
 use Rattle.prop_compound.specs.declared.definition.NumberedStep.TheVariants.{Local, Like, Use}
 use Rattle.prop_compound.specs.Definitions.{Definitions}
 use Rattle.prop_language.proofs.ReadingLaws.{spelled, choose_counts}
-use Rattle.prop_workbench.specs.Sessions.{IsSized, IsLocalOf, AreLocalsOf, HasElements}
+use Rattle.prop_workbench.specs.Sessions.{HasElements}
+use Rattle.prop_compound.specs.Kinds.{IsSized, IsLocalOf, AreLocalsOf}
 
 -- what is true of kinds, is true of those of locals
 locals_weaker : (P Q : Kinded → Type 0) → ((k : Kinded) → P k → Q k) → (definitions : Definitions) → AreLocalsOf P definitions → AreLocalsOf Q definitions

@@ -8,9 +8,11 @@ use Rattle.prop_lattice.specs.declared.info.Info.TheVariants.{Nothing, Sym}
 use Rattle.prop_lattice.specs.declared.info.Kind.TheVariants as kinds
 use Rattle.prop_premises.specs.Origins.{Origin, premise_number, with_name, with_choice, with_belief_at}
 use Rattle.prop_procedures.specs.declared.shape.Kinded.{Kinded}
-use Rattle.prop_procedures.specs.Stored.{Stored}
+use Rattle.prop_procedures.specs.Flats.{cell_placed}
+use Rattle.prop_procedures.specs.Stored.{Stored, span_kind}
 use Rattle.prop_language.specs.Commands.{Value, Command}
-use Rattle.prop_compound.specs.Defining.{kind_named, with_definition}
+use Rattle.prop_compound.specs.Defining.{with_definition}
+use Rattle.prop_compound.specs.Kinds.{kind_named}
 use Rattle.prop_compound.specs.Expansion.{Placed, Expansion}
 use Rattle.prop_values.specs.Values.{Meant, Known, Name}
 use Rattle.prop_procedures.specs.declared.shape.Param.{Param}
@@ -21,7 +23,6 @@ use Rattle.prop_cells.specs.Instances.{Instance}
 use Rattle.prop_cells.specs.Forgetting.{not_under}
 use Rattle.prop_nogoods.specs.Stores.{lacking}
 use Rattle.prop_cells.specs.Refusing.{may_be_stated}
-use Rattle.prop_scheduler.specs.Making.{cell_placed}
 use Rattle.prop_vocabulary.specs.Vocabulary.{Vocabulary, symbol_number, with_domain, with_relation}
 use Rattle.prop_workbench.specs.Machine.{State}
 use Rattle.prop_workbench.specs.Refusing.{value_at, used, with_meant, meants_at}
@@ -139,7 +140,7 @@ forgetting s p = record s { statements = not_under p s.statements; named = lacki
 abbrev pub effect : List Stored → State → Command → State
 effect library s (Command.Domain name elements) = record s { words = with_domain s.words name elements }
 effect library s (Command.Relation name from to pairs) = record s { words = with_relation s.words name from to pairs }
-effect library s (Command.Cell name kind) = record s { names = with_cell_name s.names name (length s.kinds); kinds = s.kinds ++ kind_named s.words kind ∷ [] }
+effect library s (Command.Cell name kind) = record s { names = with_cell_name s.names name (length s.kinds); kinds = s.kinds ++ unwrap_or (kind_named s.words kind) span_kind ∷ [] }
 effect library s (Command.Define name params steps) =
     record s { definitions = with_definition library s.words s.definitions name params steps }
 effect library s (Command.Attach name cells by) =

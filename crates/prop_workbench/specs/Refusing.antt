@@ -11,10 +11,10 @@ use Rattle.prop_premises.specs.Origins.{premise_number, is_choice, choices_of}
 use Rattle.prop_procedures.specs.declared.shape.Param.{Param}
 use Rattle.prop_procedures.specs.declared.shape.Param.TheVariants as params
 use Rattle.prop_procedures.specs.Stored.{Stored}
-use Rattle.prop_language.specs.Commands.{By, KindWord, Named, Value, Command}
+use Rattle.prop_language.specs.Commands.{By, Value, Command}
 use Rattle.prop_values.specs.Values.{Meant, Known, Name, value_said}
 use Rattle.prop_procedures.specs.Fitting.{kind_at}
-use Rattle.prop_vocabulary.specs.Vocabulary.{Vocabulary, domain_number, relation_named, with_symbol}
+use Rattle.prop_vocabulary.specs.Vocabulary.{Vocabulary, relation_named, with_symbol}
 use Rattle.prop_vocabulary.specs.Texts.{elements_of_kind}
 use Rattle.prop_vocabulary.specs.Refusing.{when, first_of, domain_refusal, relation_refusal, symbol_refusal}
 use Rattle.prop_scheduler.specs.Making.{room_refusal}
@@ -23,6 +23,7 @@ use Rattle.prop_vocabulary.specs.Cells.{cell_named, cells_named, is_cell_missing
 use Rattle.prop_cells.specs.Refusing.{or_else}
 use Rattle.prop_compound.specs.Expansion.{Expansion, expanded}
 use Rattle.prop_compound.specs.Expanding.{expand_refusal}
+use Rattle.prop_compound.specs.Kinds.{kind_named}
 use Rattle.prop_compound.specs.Defining.{define_refusal}
 
 -- what the value means at a cell of the kind
@@ -55,12 +56,8 @@ is_taken s (Command.Choose choice cell values) = is_some (premise_number s.premi
 is_taken s command = false
 
 -- a domain is named, of which there is none
-abbrev pub is_nowhere : Vocabulary → KindWord → Bool
-is_nowhere words (Named domain) = is_none (domain_number words domain)
-is_nowhere words kind = false
-
 abbrev pub is_domain_missing : State → Command → Bool
-is_domain_missing s (Command.Cell name kind) = is_nowhere s.words kind
+is_domain_missing s (Command.Cell name kind) = is_none (kind_named s.words kind)
 is_domain_missing s command = false
 
 -- what is given is a relation, of which there is none

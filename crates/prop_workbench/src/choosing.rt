@@ -6,7 +6,7 @@ ghost use Rattle.prop_vocabulary.specs.Vocabulary.{with_first_symbols};
 ghost use Rattle.prop_workbench.specs.Choosing.{is_one_refused, values_refusal, meaning_of, Means, meanings_of, infos_meant};
 ghost use Rattle.prop_workbench.specs.Effects.{info_meant, with_meants};
 ghost use Rattle.prop_workbench.specs.Refusing.{meaning_at, is_error, with_meant, naming_limit, all_naming_limit};
-ghost use Rattle.prop_workbench.specs.Sessions.{IsKnown};
+ghost use Rattle.prop_compound.specs.Kinds.{IsKnown};
 
 use crate::session::Session;
 use crate::stating::meaning;
@@ -192,7 +192,6 @@ impl<R: Rule + Drop, O: Order + Drop> Session<R, O> {
             Some(refusal) => return Err(refusal),
             None => {}
         }
-        self.words.domain_count();
         let count = self.words.symbol_count();
         match infos_of(self.alloc, &mut self.words, kind, values) {
             Ok(infos) => match self.choose_between(choice, cell, &infos) {

@@ -5,7 +5,7 @@ ghost use Rattle.prop_language.specs.Said.{value_of};
 ghost use Rattle.prop_values.specs.Said.{meant_of};
 ghost use Rattle.prop_vocabulary.specs.Texts.{elements_of_kind};
 ghost use Rattle.prop_workbench.specs.Refusing.{meaning_at};
-ghost use Rattle.prop_workbench.specs.Sessions.{IsKnown};
+ghost use Rattle.prop_compound.specs.Kinds.{IsKnown};
 
 use crate::session::Session;
 use prop_compound::Value;
@@ -27,10 +27,9 @@ pub(crate) fn meaning<'a>(
     ensures err { IfErr result (λ e. meaning_at words.now kind (value_of value.now) ≡ Err e) }
     ensures few { OnOk result (length (elements_of_kind words.now kind) ≤ 64) }
 {
-    words.domain_count();
     let domain = match kind {
         Kind::Set(number) => words.domain(number),
-        Kind::Span | Kind::Symbol => words.domain(0),
+        Kind::Span | Kind::Symbol => words.truth(),
     };
     read_value(value, kind, domain)
 }

@@ -13,7 +13,7 @@ choose_between-requires-clause-may g c =
     let sized = c.requires.sound.sized c.args.cell span_kind c.requires.cell in
     let mean = rw c.requires.kind at c.requires.mean in
     let infos = c.deref.ensures.value ∙ c.in-Ok.ensures.infos in
-    rw (infos, c.requires.kind) (infos_may_be s.words s.words (kind_at s.network.cells.kinds c.args.cell) (map value_of c.args.values.now) sized.1 (few_elements s.words (kind_at s.network.cells.kinds c.args.cell).kind c.domain_count.ensures.whole sized.0) mean)
+    rw (infos, c.requires.kind) (infos_may_be s.words s.words (kind_at s.network.cells.kinds c.args.cell) (map value_of c.args.values.now) sized.1 (few_elements s.words (kind_at s.network.cells.kinds c.args.cell).kind c.symbol_count-count.ensures.whole sized.0) mean)
 
 pub choose_between-requires-clause-fits : goal.choose_between-requires-clause-fits
 choose_between-requires-clause-fits g c =

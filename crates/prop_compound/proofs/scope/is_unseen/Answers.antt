@@ -1,6 +1,6 @@
 use Rattle.std.proofs.Common.{sym, ap, ◌∙◌}
 use Rattle.prop_compound.proofs.Scoping.{late_at, late_is}
-use Rattle.prop_compound.proofs.scope.is_late.Goals as goal
+use Rattle.prop_compound.proofs.scope.is_unseen.Goals as goal
 
 pub returns-in-Some : goal.returns-in-Some
 returns-in-Some c =
