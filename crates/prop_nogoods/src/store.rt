@@ -75,21 +75,15 @@ impl Store {
         self.nogoods.is_empty()
     }
 
-    /// The nogoods, the smallest first, and those of one size in the order in which they were added.
+    /// The nogoods, the smallest first, and those of one size in the order in which they were added. None is part of another, and the premises of each are
+    /// in order of number.
     pub fn iter(&self) -> Nogoods<'_>
         ensures all { result ≡ self.now }
-        ensures by_size { AreBySize self.now }
-    {
-        Nogoods::new(&self.nogoods)
-    }
-
-    /// No nogood of a store is part of another or smaller than one before it, and the premises of each are in order of number.
-    pub fn minimal(&self)
         ensures minimal { AreMinimal self.now }
         ensures in_order { All IsStrictlyIncreasing self.now }
         ensures by_size { AreBySize self.now }
     {
-        let _ = &self.nogoods;
+        Nogoods::new(&self.nogoods)
     }
 
     /// Adds a nogood behind those that are no larger, and answers whether it says more than those listed; the listed ones that it is part of go.
