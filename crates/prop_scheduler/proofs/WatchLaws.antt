@@ -68,6 +68,17 @@ watched_at s d new old watched cell kinds within others a w = record {
   ];
 }
 
+-- the one cell of which something else is believed holds no contradiction
+pub watched_clear : (s : Premises) (d new : Data) (watched : List ℕ) (cell : ℕ) → length new.kinds ≡ length d.kinds → ((k : ℕ) → k ≢ cell → beliefs s new.contents k ≡ beliefs s d.contents k) → beliefs s new.contents cell ≢ Contradiction →
+    IsWatched s d watched → IsWatched s new watched
+watched_clear s d new watched cell kinds others clear w = record {
+  below = rw kinds w.below;
+  holds = λ k clash. elim (eqb_tells k cell) as (λ _. Contains watched k) [
+    | inl e ↦ absurd (clear (rw e.1 at clash))
+    | inr e ↦ w.holds k (sym (others k e.1) ∙ clash)
+  ];
+}
+
 -- where nothing clashed, only the output of the called instance can
 pub watched_turn : (s : Premises) (d new : Data) (old watched : List ℕ) (cell : ℕ) (v : Info) (grown : Bool) → length new.kinds ≡ length d.kinds → cell < length d.kinds → IsFree s d → Merges (beliefs s d.contents) (beliefs s new.contents) cell v grown →
     (beliefs s new.contents cell ≡ Contradiction → Contains watched cell) → ((k : ℕ) → Contains watched k → Contains old k ⊎ (k ≡ cell)) → IsWatched s d old → IsWatched s new watched
