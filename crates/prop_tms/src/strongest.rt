@@ -40,12 +40,11 @@ fn said_with<V: Partial>(values: &[Valued<V>], worldview: &Worldview, first: V) 
 pub(crate) fn belief<V: Partial>(values: &[Valued<V>], worldview: &Worldview) -> V
     ensures { result ≡ belief_of V.bottom V.join (set_of worldview.now) (entries_of values.now) }
 {
-    match values.last() {
-        Some(newest) if believes_any(worldview, &newest.supports) => {
-            said_with(values, worldview, newest.value)
-        }
-        _ => said_with(values, worldview, V::nothing()),
-    }
+    let first = match values.last() {
+        Some(newest) if believes_any(worldview, &newest.supports) => newest.value,
+        _ => V::nothing(),
+    };
+    said_with(values, worldview, first)
 }
 
 /// What the entries of the row say together: what those before the last say, with what the last says.
