@@ -25,7 +25,7 @@ use Rattle.prop_sets.specs.TruthLaws.{not_monotone, not_kind, not_sound, and_mon
 use Rattle.prop_arith.specs.declared.kit.Kit.{Kit}
 use Rattle.prop_arith.specs.declared.kit.Kit.TheVariants.{Add, Sub, Mul, Div, Square, Root, Less, Below, Above, Copy, Alike, Apart, Switch, Not, And, AndBack, Or, OrBack, Image, Coimage}
 use Rattle.prop_arith.specs.Comparing.{comparer_of}
-use Rattle.prop_arith.specs.Combined.{Combined, RelatesSame, at_one, combined_of, on_set, on_span, on_spans, on_truth, parter_of, passer_of, rooter_of}
+use Rattle.prop_arith.specs.Combined.{Combined, RelatesSame, at_one, combined_of, on_span, on_spans, on_truth, parter_of, passer_of, rooter_of}
 use Rattle.prop_arith.specs.Kit.{FormOf}
 use Rattle.prop_arith.specs.Values.{value_of}
 use Rattle.prop_arith.specs.Points.{Related}

@@ -1,5 +1,5 @@
 -- Which rules answer the narrowest information, and why.
-use Rattle.std.specs.Prelude.{◌≡◌, ℕ, ◌≤◌, ◌*◌, zero, suc, ℤ, pos, neg_ℤ, ◌+ℤ◌, ◌*ℤ◌, ◌≤ℤ◌, ◌<ℤ◌, Bool, true, if◌then◌else◌, List, [], ◌∷◌, Option, Some, None}
+use Rattle.std.specs.Prelude.{◌≡◌, ℕ, ◌≤◌, ◌*◌, zero, suc, ℤ, pos, neg_ℤ, ◌+ℤ◌, ◌*ℤ◌, ◌≤ℤ◌, ◌<ℤ◌, if◌then◌else◌, List, [], ◌∷◌, Option, Some, None}
 use Rattle.std.proofs.Common.{arith, refl, rules, sym, subst, negsuc}
 use Rattle.std.proofs.lemmas.Nat.{mul-le}
 use borrow.Author.Differences.{product_is, same_in}
@@ -34,7 +34,6 @@ use Rattle.prop_arith.specs.declared.kit.Kit.{Kit}
 use Rattle.prop_arith.specs.declared.kit.Kit.TheVariants.{Add, Sub, Mul, Square, Root, Image, Coimage}
 use Rattle.prop_procedures.specs.declared.shape.Param.{Param}
 use Rattle.prop_procedures.specs.declared.shape.Param.TheVariants.{Scale, Rows}
-use Rattle.prop_procedures.specs.Rules.{is_scale}
 use Rattle.prop_arith.specs.Narrowest.{HoldsRelated, IsNarrowest, AddIsNarrowest, SubIsNarrowest, MulIsNarrowest, SquareIsNarrowest, RootIsNarrowest, ImageIsNarrowest, CoimageIsNarrowest}
 
 -- what is narrowest by functions of functions is so by the table
