@@ -12,7 +12,7 @@ use Rattle.prop_workbench.specs.Machine.{State, naming}
 use Rattle.prop_workbench.specs.Steps.{Shown, Covers}
 use Rattle.prop_workbench.specs.Points.{SaysPoint, IsBorneOut, BearsOut, HoldsPoints}
 use Rattle.prop_workbench.specs.Engine.{workbench, learning}
-use Rattle.prop_workbench.specs.Shown.{ShownRunsAreRuns, ShownTranscripts, ShownFronts}
+use Rattle.prop_workbench.specs.Shown.{ShownTranscripts, ShownFronts}
 
 module _ (library : List Stored) (related : ℕ → Param → List Point → Point → Type 0) (s : State) (named : List (List ℕ)) where
   borne_named : (text : List ℕ) (settled unsettled settled_then unsettled_then : List ℕ → (ℕ → Point) → Type 0) → ((list : List ℕ) (points : ℕ → Point) → settled list points → settled_then list points) →
@@ -75,10 +75,6 @@ run_named library related old new (line ∷ lines) (a ∷ ls) (mid, shows, rest)
     let step = shows.step named covers in
     let more = run_named library related mid new lines ls rest step.now step.covers in
     (more.0, more.1, (naming mid.state step.now, record { steps = shows.steps; step = step.step; points = λ sound. points_named library related old.state named line a (shows.points sound) }, more.2))
-
-pub shown_runs_are_runs : (library : List Stored) (related : ℕ → Param → List Point → Point → Type 0) → ShownRunsAreRuns library related
-shown_runs_are_runs library related old new lines answers r named covers =
-    let x = run_named library related old new lines answers r named covers in record { now = x.0; covers = x.1; done = x.2 }
 
 pub shown_transcripts : (library : List Stored) (related : ℕ → Param → List Point → Point → Type 0) → ShownTranscripts library related
 shown_transcripts library related old new input output lines refused t named covers =

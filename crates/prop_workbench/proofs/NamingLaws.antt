@@ -64,6 +64,3 @@ effect_alike library s t command e = sym (nothing_named t) ∙ ap (λ u. effect 
   where
     nothing_named : (u : State) → effect library (naming u []) command ≡ naming (effect library u command) []
     nothing_named u = effect_naming library u [] command ∙ ap (λ named. naming (effect library u command) named) (none_after u command)
-
-pub alike_naming : (s t : State) (named others : List (List ℕ)) → AreAlike s t → AreAlike (naming s named) (naming t others)
-alike_naming s t named others e = e

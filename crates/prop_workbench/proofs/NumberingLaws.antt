@@ -25,10 +25,6 @@ use Rattle.prop_workbench.specs.Steps.{CarriesUnless, Follows}
 
 -- ---- one premise or one choice more
 
-false_true : (b : Bool) → b ≡ false → IsTrue b → ⊥
-false_true true e h = cc
-false_true false e h = cc
-
 none_true : (b : Bool) → (IsTrue b → ⊥) → b ≡ false
 none_true true h = absurd (h refl)
 none_true false h = refl

@@ -45,12 +45,6 @@ lean_answer believed d s name Done lean = tt
 lean_answer believed d s name (Text text) lean = lean text refl
 lean_answer believed d s name (Refused refusal) lean = tt
 
-pub lean_refused : (believed : Members) (d : Data) (s : State) (question : Question) (refusal : Refusal) → IsLeanAnswer believed d s (Ok (Some (command_of question))) (Refused refusal)
-lean_refused believed d s Settle refusal = tt
-lean_refused believed d s Worldview refusal = tt
-lean_refused believed d s (Ask cell name) refusal = tt
-lean_refused believed d s (Why cell name) refusal = tt
-
 pub lean_contradicted : (believed : Members) (d : Data) (s : State) (question : Question) (answer : Answer) → ((text : List ℕ) → answer ≡ Text text → IsContradiction s text) → IsLeanAnswer believed d s (Ok (Some (command_of question))) answer
 lean_contradicted believed d s Settle answer lean = tt
 lean_contradicted believed d s Worldview answer lean = tt

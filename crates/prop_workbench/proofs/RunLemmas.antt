@@ -79,32 +79,8 @@ replies_named library s named (commands.Command.Why x) (Unsettled list) steps te
 replies_named library s named (commands.Command.Core x) (Settled list) steps text (inl r) = inl (record { explained = settled_reply_named library s named list x [] text r.explained; least = record { entails = r.least.entails; needed = r.least.needed } })
 replies_named library s named (commands.Command.Core x) (Settled list) steps text (inr r) = inr (settled_reply_named library s named list x (codes " not reduced") text r.0, r.1, r.2)
 replies_named library s named (commands.Command.Core x) (Unsettled list) steps text r = (unsettled_reply_named library s named list x (codes " unsettled") text r.0, r.1)
-replies_named library s named (commands.Command.Domain name elements) (Settled list) steps text r = absurd r
-replies_named library s named (commands.Command.Domain name elements) (Unsettled list) steps text r = absurd r
-replies_named library s named (commands.Command.Relation name from to pairs) (Settled list) steps text r = absurd r
-replies_named library s named (commands.Command.Relation name from to pairs) (Unsettled list) steps text r = absurd r
-replies_named library s named (commands.Command.Cell name kind) (Settled list) steps text r = absurd r
-replies_named library s named (commands.Command.Cell name kind) (Unsettled list) steps text r = absurd r
-replies_named library s named (commands.Command.Define name params body) (Settled list) steps text r = absurd r
-replies_named library s named (commands.Command.Define name params body) (Unsettled list) steps text r = absurd r
-replies_named library s named (commands.Command.Attach name cells by) (Settled list) steps text r = absurd r
-replies_named library s named (commands.Command.Attach name cells by) (Unsettled list) steps text r = absurd r
-replies_named library s named (commands.Command.Fix cell value) (Settled list) steps text r = absurd r
-replies_named library s named (commands.Command.Fix cell value) (Unsettled list) steps text r = absurd r
-replies_named library s named (commands.Command.Tell premise cell value) (Settled list) steps text r = absurd r
-replies_named library s named (commands.Command.Tell premise cell value) (Unsettled list) steps text r = absurd r
-replies_named library s named (commands.Command.Choose name cell values) (Settled list) steps text r = absurd r
-replies_named library s named (commands.Command.Choose name cell values) (Unsettled list) steps text r = absurd r
-replies_named library s named (commands.Command.Kick premise) (Settled list) steps text r = absurd r
-replies_named library s named (commands.Command.Kick premise) (Unsettled list) steps text r = absurd r
-replies_named library s named (commands.Command.Bring premise) (Settled list) steps text r = absurd r
-replies_named library s named (commands.Command.Forget premise) (Settled list) steps text r = absurd r
-replies_named library s named (commands.Command.Bring premise) (Unsettled list) steps text r = absurd r
-replies_named library s named (commands.Command.Forget premise) (Unsettled list) steps text r = absurd r
-replies_named library s named (commands.Command.Limit n) (Settled list) steps text r = absurd r
-replies_named library s named (commands.Command.Limit n) (Unsettled list) steps text r = absurd r
-replies_named library s named commands.Command.Nogoods (Settled list) steps text r = absurd r
-replies_named library s named commands.Command.Nogoods (Unsettled list) steps text r = absurd r
+replies_named library s named command (Settled list) steps text r = absurd r
+replies_named library s named command (Unsettled list) steps text r = absurd r
 
 -- what is named when a run has ended is covered, where a contradiction that ended it is
 abbrev pub IsCoveredEnd : Shown → Outcome → Type 0

@@ -3,8 +3,7 @@ use Rattle.std.specs.Prelude.{ℕ, List}
 use Rattle.prop_lattice.specs.Points.{Point}
 use Rattle.prop_procedures.specs.declared.shape.Param.{Param}
 use Rattle.prop_procedures.specs.Stored.{Stored}
-use Rattle.prop_engine.specs.Answers.{Answer}
-use Rattle.prop_engine.specs.Transcripts.{Run, IsTranscript, IsFrontOfTranscript}
+use Rattle.prop_engine.specs.Transcripts.{IsTranscript, IsFrontOfTranscript}
 use Rattle.prop_workbench.specs.Machine.{State, naming}
 use Rattle.prop_workbench.specs.Steps.{Shown, Covers}
 use Rattle.prop_workbench.specs.Engine.{workbench, learning}
@@ -15,13 +14,7 @@ pub record IsShown (goes : State → Type 0) (new : Shown) : Type 0 where
   pub covers : Covers new now
   pub done : goes (naming new.state now)
 
--- the answers that a session shows are answers of the machine
-abbrev pub ShownRunsAreRuns : List Stored → (ℕ → Param → List Point → Point → Type 0) → Type 0
-ShownRunsAreRuns library related =
-    (old new : Shown) (lines : List (List ℕ)) (answers : List Answer) → Run (learning library related) old lines answers new → (named : List (List ℕ)) → Covers old named →
-    IsShown (λ s. Run (workbench library related) (naming old.state named) lines answers s) new
-
--- and so are its transcripts, and their fronts
+-- the transcripts of a session are transcripts of the machine, and so are their fronts
 abbrev pub ShownTranscripts : List Stored → (ℕ → Param → List Point → Point → Type 0) → Type 0
 ShownTranscripts library related =
     (old new : Shown) (input output : List ℕ) (lines refused : ℕ) → IsTranscript (learning library related) old input output lines refused new → (named : List (List ℕ)) → Covers old named →

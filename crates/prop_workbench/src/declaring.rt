@@ -11,16 +11,15 @@ impl<R: Rule + Drop, O: Order + Drop> Session<R, O> {
     ghost use Rattle.prop_lattice.specs.declared.refusal.Refusal.TheVariants.{Memory};
     ghost use Rattle.prop_language.specs.Commands as commands;
     ghost use Rattle.prop_language.specs.Said.{kind_of, words, pairs_of, step_of};
-    ghost use Rattle.prop_engine.specs.Answers.{answer_done};
-    ghost use Rattle.prop_workbench.specs.Sessions.{state_of, library_of, IsInOrder, Keeps, IsMeant};
-    ghost use Rattle.prop_workbench.specs.Steps.{Obeys};
+    ghost use Rattle.prop_workbench.specs.Sessions.{IsInOrder, Keeps, IsMeant};
+    ghost use Rattle.prop_workbench.specs.Carrying.{IsDone};
 
     /// Declares a domain.
     pub(crate) fn domain(&mut self, name: &str, elements: &[&str]) -> Result<(), Refusal>
         requires sound { IsInOrder R.value_of self.old }
         requires some { 0 < length elements.now }
         ensures keeps { Keeps R.value_of self.old self.new }
-        ensures step { Obeys (library_of R.value_of self.old) (state_of self.old) (commands.Command.Domain name.now (words elements.now)) (answer_done result) (state_of self.new) 0 }
+        ensures step { IsDone R.value_of self.old (commands.Command.Domain name.now (words elements.now)) result self.new }
     {
         self.words.declare_domain(name, elements)
     }
@@ -35,7 +34,7 @@ impl<R: Rule + Drop, O: Order + Drop> Session<R, O> {
     ) -> Result<(), Refusal>
         requires sound { IsInOrder R.value_of self.old }
         ensures keeps { Keeps R.value_of self.old self.new }
-        ensures step { Obeys (library_of R.value_of self.old) (state_of self.old) (commands.Command.Relation name.now from.now to.now (pairs_of pairs.now)) (answer_done result) (state_of self.new) 0 }
+        ensures step { IsDone R.value_of self.old (commands.Command.Relation name.now from.now to.now (pairs_of pairs.now)) result self.new }
     {
         self.words.declare_relation(name, from, to, pairs)
     }
@@ -49,7 +48,7 @@ impl<R: Rule + Drop, O: Order + Drop> Session<R, O> {
     ) -> Result<(), Refusal>
         requires sound { IsInOrder R.value_of self.old }
         ensures keeps { Keeps R.value_of self.old self.new }
-        ensures step { Obeys (library_of R.value_of self.old) (state_of self.old) (commands.Command.Define name.now (words params.now) (map step_of steps.now)) (answer_done result) (state_of self.new) 0 }
+        ensures step { IsDone R.value_of self.old (commands.Command.Define name.now (words params.now) (map step_of steps.now)) result self.new }
     {
         self.definitions.define(
             self.alloc,
@@ -65,7 +64,7 @@ impl<R: Rule + Drop, O: Order + Drop> Session<R, O> {
     pub(crate) fn cell(&mut self, name: &str, kind: KindWord) -> Result<(), Refusal>
         requires sound { IsInOrder R.value_of self.old }
         ensures keeps { Keeps R.value_of self.old self.new }
-        ensures step { Obeys (library_of R.value_of self.old) (state_of self.old) (commands.Command.Cell name.now (kind_of kind.entry)) (answer_done result) (state_of self.new) 0 }
+        ensures step { IsDone R.value_of self.old (commands.Command.Cell name.now (kind_of kind.entry)) result self.new }
     {
         match self.names.find(name) {
             Some(_) => return Err(Refusal::NameTaken),

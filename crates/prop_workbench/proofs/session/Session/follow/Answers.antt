@@ -1,11 +1,11 @@
-use Rattle.std.proofs.Common.{ap, Err, refl}
+use Rattle.std.proofs.Common.{ap, Err}
 use Rattle.prop_procedures.specs.Kept.{stored_of}
 use Rattle.prop_engine.specs.Answers.{Refused}
-use Rattle.prop_workbench.specs.Machine.{naming, worldview_at}
+use Rattle.prop_workbench.specs.Machine.{naming}
 use Rattle.prop_workbench.specs.Sessions.{state_of, shown_of, work_of}
 use Rattle.prop_workbench.proofs.CoveringLemmas.{refused_followed}
-use Rattle.prop_workbench.proofs.EarnedLemmas.{earns_refused}
-use Rattle.prop_workbench.proofs.ReasonLemmas.{lean_read_refused}
+use Rattle.prop_workbench.proofs.AnsweredLemmas.{refusal_rests}
+use Rattle.prop_workbench.proofs.SoundLemmas.{stays, unchanged}
 use Rattle.prop_workbench.proofs.HeardLemmas.{follows_refused}
 use Rattle.prop_workbench.proofs.WordLemmas.{has_elements}
 use Rattle.prop_workbench.proofs.session.Session.follow.Goals as goal
@@ -20,10 +20,7 @@ returns-in-Err-clause-read g c =
       refused.1,
       record {
         step = refused_followed library (shown_of s) (shown_of s) refused.0 (Refused c.in-Err.refusal) 0 (λ m covered. covered) (λ named. refused.2 library (naming (state_of s) named));
-        rests = record {
-          lean = lean_read_refused (worldview_at (state_of s) s.search.list) s.network.cells (state_of s) refused.0 c.in-Err.refusal;
-          earned = earns_refused _ library (state_of s) (work_of s) (work_of s) refused.0 c.in-Err.refusal 0;
-        };
+        rests = refusal_rests g.O.Order.picks library (state_of s) (work_of s) (work_of s) refused.0 c.in-Err.refusal 0;
       },
     )
 
@@ -31,7 +28,10 @@ pub carry_out-requires-clause-some : goal.carry_out-requires-clause-some
 carry_out-requires-clause-some g c = has_elements c.args.line.now _ c.in-Ok.ensures.read
 
 pub returns-in-Err-clause-keeps : goal.returns-in-Err-clause-keeps
-returns-in-Err-clause-keeps g c = record { library = refl; sound = c.requires.sound; steps = refl }
+returns-in-Err-clause-keeps g c = stays (unchanged c.requires.sound)
+
+pub returns-in-Ok-clause-keeps : goal.returns-in-Ok-clause-keeps
+returns-in-Ok-clause-keeps g c = c.carry_out.ensures.keeps
 
 pub returns-in-Ok-clause-read : goal.returns-in-Ok-clause-read
 returns-in-Ok-clause-read g c = (_, c.in-Ok.ensures.read, record { step = c.carry_out.ensures.step; rests = c.carry_out.ensures.rests })
