@@ -13,7 +13,7 @@ use Rattle.prop_premises.specs.ChoiceLists.{worldview}
 use Rattle.prop_amb.specs.Going.{Passes, IsMove}
 use Rattle.prop_amb.specs.Going.Passes.{none, next}
 use Rattle.prop_premises.specs.declared.choice.Choice.{Choice}
-use Rattle.prop_amb.specs.Settling.{IsMet, IsHeld}
+use Rattle.prop_amb.specs.inner.Settling.{IsMet, IsHeld}
 use Rattle.prop_amb.proofs.AdvancingLaws.{advanced_is_list}
 use Rattle.prop_amb.proofs.MetLaws.{met_refutes, advanced_later, believes_worldview}
 

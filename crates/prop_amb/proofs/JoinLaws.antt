@@ -10,7 +10,7 @@ use Rattle.prop_amb.proofs.ProblemLaws.{contradictory_more}
 use Rattle.prop_nogoods.specs.Stores.{has_part}
 use Rattle.prop_nogoods.proofs.StoreLaws.{has_part-more}
 use Rattle.prop_amb.specs.Refuted.{IsRefuted, IsNogood, IsGrounded, IsUserPart, IsCovered}
-use Rattle.prop_amb.specs.Joined.{IsJoined}
+use Rattle.prop_amb.specs.inner.Joined.{IsJoined}
 use Rattle.prop_amb.proofs.ZipLemmas.{some_same, none_some, zip_at, zip_from}
 use Rattle.prop_amb.proofs.SearchLaws.{or_true_left, or_true_right, side_above, side_below}
 

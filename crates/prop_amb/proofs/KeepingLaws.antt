@@ -10,7 +10,7 @@ use Rattle.prop_nogoods.specs.Stores.{AddsSet}
 use Rattle.prop_amb.specs.Refuted.{IsNogood}
 use Rattle.prop_amb.specs.Search.{Stand, users_of, choices_in, IsKept, IsSearch}
 use Rattle.prop_amb.specs.Moving.{restarted, no_reasons}
-use Rattle.prop_amb.specs.Laws.{AdditionsKeepSearches}
+use Rattle.prop_amb.specs.Promises.{AdditionsKeepSearches}
 use Rattle.prop_amb.proofs.RefutedLaws.{refuted_extends, nogood_extends, grounded_extends}
 use Rattle.prop_amb.proofs.ZipLemmas.{none_some}
 

@@ -11,7 +11,7 @@ use Rattle.prop_nogoods.proofs.StoreLaws.{has_part-from}
 use Rattle.prop_amb.specs.Refuted.{IsNogood, IsListRefuted}
 use Rattle.prop_amb.specs.Search.{Stand, IsStand, IsSearch, users_of, choices_in}
 use Rattle.prop_amb.specs.Moving.{advanced}
-use Rattle.prop_amb.specs.Settling.{IsMet}
+use Rattle.prop_amb.specs.inner.Settling.{IsMet}
 use Rattle.prop_amb.proofs.StandLaws.{users_no_sides}
 use Rattle.prop_amb.proofs.SearchLaws.{clash_refuted, refuted_within}
 

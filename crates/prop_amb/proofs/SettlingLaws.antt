@@ -12,7 +12,8 @@ use Rattle.prop_scheduler.specs.Turns.{IsUnderWay, IsSettled}
 use Rattle.prop_scheduler.specs.Potential.{potential, most_steps}
 use Rattle.prop_amb.specs.Refuted.{IsListRefuted, IsFirstConsistent, IsRuledOut}
 use Rattle.prop_amb.specs.Search.{Stand, IsStand, IsSearch, users_of, choices_in, Moves}
-use Rattle.prop_amb.specs.Settling.{IfContradiction, IsHeld}
+use Rattle.prop_amb.specs.Settling.{IfContradiction}
+use Rattle.prop_amb.specs.inner.Settling.{IsHeld}
 use Rattle.prop_amb.specs.Going.{Goes, Passes, IsMove}
 use Rattle.prop_amb.specs.Going.Passes.{none, next as one_more}
 use Rattle.prop_amb.specs.Going.Goes.{none as not_gone, moved}

@@ -1,8 +1,8 @@
 pub mod Going
-pub mod Joined
-pub mod Laws
+pub mod Promises
 pub mod Moving
 pub mod Refuted
 pub mod Resolving
 pub mod Search
 pub mod Settling
+pub mod inner

@@ -1,7 +1,7 @@
 //! The reasons against all sides of a choice, joined.
 ghost use Rattle.std.specs.Prelude.{◌≡◌, ◌+◌, ◌≤◌, ◌<◌, ◌^◌, length, IfOk};
 ghost use Rattle.prop_premises.specs.Sets.{set_of, union, without, IsSame};
-ghost use Rattle.prop_amb.specs.Joined.{others_of};
+ghost use Rattle.prop_amb.specs.inner.Joined.{others_of};
 
 use prop_premises::{Premise, PremiseSet};
 use std::alloc::AllocError;

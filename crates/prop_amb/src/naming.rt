@@ -81,10 +81,7 @@ impl Search {
         if self.list.len() >= Limit::Choices.most() {
             return Err(Refusal::LimitReached(Limit::Choices));
         }
-        match self.add_choice(name, sides) {
-            Ok(choice) => Ok(choice),
-            Err(AllocError) => Err(Refusal::Memory),
-        }
+        Ok(self.add_choice(name, sides)?)
     }
 
     /// Adds a choice with a new name, which stands on its first side.

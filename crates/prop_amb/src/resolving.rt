@@ -6,7 +6,8 @@ ghost use Rattle.prop_nogoods.specs.Stores.{has_part};
 ghost use Rattle.prop_amb.specs.Refuted.{IsNogood};
 ghost use Rattle.prop_amb.specs.Search.{choices_in, IsSearch};
 ghost use Rattle.prop_amb.specs.Moving.{advanced, reasons_advanced};
-ghost use Rattle.prop_amb.specs.Resolving.{MayAdvance, IsReason, IsResolved, IfAgainst, IsShown, IsWithin, IfLeaves, IsLooked};
+ghost use Rattle.prop_amb.specs.Resolving.{MayAdvance, IsReason, IsResolved, IfAgainst};
+ghost use Rattle.prop_amb.specs.inner.Resolving.{IsShown, IsWithin, IfLeaves, IsLooked};
 
 use crate::joining::joined;
 use crate::lists::advanced;

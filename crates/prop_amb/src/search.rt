@@ -2,13 +2,13 @@
 ghost use Rattle.std.specs.Prelude.{◌≡◌, ℕ, List, Contains, IsTrue, None, Ok, false, not, IfOk, IfSome, OnOk, OnErr};
 ghost use Rattle.prop_premises.specs.Sets.{set_of, is_within};
 ghost use Rattle.prop_cells.specs.Problems.{Problem};
-ghost use Rattle.prop_nogoods.specs.Stores.{has_part, AddsSet};
+ghost use Rattle.prop_nogoods.specs.Stores.{has_part, PartsEndBelow, AddsSet};
 ghost use Rattle.prop_amb.specs.Refuted.{IsNogood};
 ghost use Rattle.prop_amb.specs.Search.{Stand, no_stand, choices_in, IsStand, IsSearch};
 
 use crate::reasons::Reasons;
 use prop_nogoods::Store;
-use prop_premises::{PremiseSet, Premises, Worldview};
+use prop_premises::{Premise, PremiseSet, Premises, Worldview};
 use std::alloc::{AllocError, Global};
 use std::marker::Model;
 
@@ -102,12 +102,13 @@ impl Search {
         self.store.blocks(&self.worldview)
     }
 
-    /// A nogood of which every premise is believed, none where there is no such nogood: one whose last premise comes early. It takes no memory.
-    pub(crate) fn blocked_early(&self) -> Option<&PremiseSet>
+    /// A nogood of which every premise is believed, one whose last premise comes early. It passes over those whose last premise has a number below
+    /// this one, and answers none where no other is believed. It takes no memory.
+    pub(crate) fn blocked_early(&self, from: Premise) -> Option<&PremiseSet>
         ensures listed { IfSome result (λ s. Contains self.now.listed s.now) }
         ensures believed { IfSome result (λ s. IsTrue (is_within (set_of self.now.worldview) s.now)) }
-        ensures none { result ≡ None → has_part self.now.listed (set_of self.now.worldview) ≡ false }
+        ensures none { result ≡ None → PartsEndBelow self.now.listed (set_of self.now.worldview) from }
     {
-        self.store.blocks_early(&self.worldview)
+        self.store.blocks_early(&self.worldview, from)
     }
 }

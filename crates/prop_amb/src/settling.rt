@@ -12,13 +12,14 @@ ghost use Rattle.prop_amb.specs.Refuted.{IsListRefuted, AllBeforeRefuted, IsFirs
 ghost use Rattle.prop_amb.specs.Search.{users_of, choices_in, IsStand, IsSearch, AllBeforeBlocked, Moves};
 ghost use Rattle.prop_amb.specs.Going.{Passes, IsMove, Goes};
 ghost use Rattle.prop_cells.specs.Problems.{Problem};
-ghost use Rattle.prop_amb.specs.Settling.{IfContradiction, IfRefuted, IsMet, IsHeld};
+ghost use Rattle.prop_amb.specs.Settling.{IfContradiction};
+ghost use Rattle.prop_amb.specs.inner.Settling.{IfRefuted, IsMet, IsHeld};
 
 use crate::outcome::Outcome;
 use crate::resolving::Resolved;
 use crate::search::Search;
 use prop_cells::Network;
-use prop_premises::PremiseSet;
+use prop_premises::{Premise, PremiseSet};
 use prop_procedures::Rule;
 use prop_scheduler::{Agenda, Order, Run, alert_shifted, run};
 use std::alloc::{AllocError, Global};
@@ -90,33 +91,37 @@ fn attempt<R: Rule + Drop, O: Order>(
     }
 }
 
-/// The choices go on to a later list, where a noted nogood is believed and a choice may leave its side. Answers whether they did. After want of
-/// memory nothing has changed.
-fn go_on(search: &mut Search) -> Result<bool, AllocError>
+/// The choices go on to a later list, where a noted nogood is believed and a choice may leave its side. Nogoods whose last premise has a number below
+/// this one are not looked at. Answers the first side of the choice that went on, if one did. After want of memory nothing has changed.
+fn go_on(search: &mut Search, from: Premise) -> Result<Option<Premise>, AllocError>
     ensures premises { search.new.premises ≡ search.old.premises }
     ensures listed { search.new.listed ≡ search.old.listed }
     ensures stand { IsStand search.new }
     ensures search { (problem : Problem) → IsSearch problem search.old → IsSearch problem search.new }
-    ensures stays { result ≡ Ok false → search.new ≡ search.old }
-    ensures moves { result ≡ Ok true → (problem : Problem) → IsSearch problem search.old → Passes problem (users_of search.old) (choices_in search.old) search.old.list 1 search.new.list }
+    ensures stays { result ≡ Ok None → search.new ≡ search.old }
+    ensures moves { IfOk result (λ r. IfSome r (λ moved. (problem : Problem) → IsSearch problem search.old → Passes problem (users_of search.old) (choices_in search.old) search.old.list 1 search.new.list)) }
 {
     search.well_made();
-    let Some(blocking) = search.blocked_early() else {
-        return Ok(false);
+    let Some(blocking) = search.blocked_early(from) else {
+        return Ok(None);
     };
     let believed = blocking.copy()?;
     match search.resolve(believed)? {
-        Resolved::RuledOut(_) => Ok(false),
+        Resolved::RuledOut(_) => Ok(None),
         Resolved::Against(place, reason) => {
+            let moved = search.premises().choices()[place].first;
             drop(search.advance(place, reason)?);
             search.well_made();
-            Ok(true)
+            Ok(Some(moved))
         }
     }
 }
 
 /// The choices go on as long as noted nogoods show that they have to, by so many moves at the most. Answers by how many. After want of memory the
 /// moves that were made stay.
+///
+/// A move goes by the nogood that ends earliest, so none that ends before the choice that moves is believed; nor is one after the move, which changes
+/// sides of that choice and later ones alone. So the next move looks at nogoods from that choice on.
 fn pass(search: &mut Search, most: u64) -> Result<u64, AllocError>
     ensures premises { search.new.premises ≡ search.old.premises }
     ensures listed { search.new.listed ≡ search.old.listed }
@@ -127,7 +132,12 @@ fn pass(search: &mut Search, most: u64) -> Result<u64, AllocError>
 {
     search.well_made();
     let mut moves = 0;
-    while moves < most && go_on(search)? {
+    let mut from = 0;
+    while moves < most {
+        match go_on(search, from)? {
+            Some(moved) => from = moved,
+            None => return Ok(moves),
+        }
         moves += 1;
     }
     Ok(moves)

@@ -1,5 +1,5 @@
 -- The narrowest information that a rule can answer, and where it is answered.
-use Rattle.std.specs.Prelude.{ℕ, ℤ, neg_ℤ, ◌+ℤ◌, ◌-ℤ◌, ◌≤ℤ◌, List, [], ◌∷◌}
+use Rattle.std.specs.Prelude.{◌≡◌, ℕ, ℤ, neg_ℤ, ◌+ℤ◌, ◌-ℤ◌, ◌≤ℤ◌, List, [], ◌∷◌, true}
 use Rattle.prop_intervals.specs.Quotients.{int_div_floor, int_div_ceil}
 use Rattle.prop_intervals.specs.Spans.{least_product, greatest_product, least_square, greatest_square}
 use Rattle.prop_lattice.specs.Order.{Below}
@@ -14,10 +14,10 @@ use Rattle.prop_lattice.specs.declared.span.Span as spans
 use Rattle.prop_lattice.specs.declared.span.TheConstants.{B}
 use Rattle.prop_procedures.specs.declared.shape.Param.{Param}
 use Rattle.prop_procedures.specs.declared.shape.Param.TheVariants.{Scale, Rows}
-use Rattle.prop_procedures.specs.Rules.{EachHolds}
+use Rattle.prop_procedures.specs.Rules.{is_scale, EachHolds}
 use Rattle.prop_sets.specs.Relation.{Relation}
-use Rattle.prop_arith.specs.Functions.{IsScale}
-use Rattle.prop_arith.specs.Kit.{value_of, Related}
+use Rattle.prop_arith.specs.Points.{Related}
+use Rattle.prop_arith.specs.Values.{value_of}
 use Rattle.prop_arith.specs.declared.kit.Kit.{Kit}
 use Rattle.prop_arith.specs.declared.kit.Kit.TheVariants.{Add, Sub, Mul, Square, Root, Image, Coimage}
 
@@ -53,7 +53,7 @@ SubIsNarrowest =
 
 abbrev pub MulIsNarrowest : Type 0
 MulIsNarrowest =
-    (k : ℤ) (x y : spans.Span) → IsScale k → AreInRange (int_div_floor (least_product x y) k) (int_div_ceil (greatest_product x y) k) → AnswersNarrowest Mul (Scale k) (Span x ∷ Span y ∷ [])
+    (k : ℤ) (x y : spans.Span) → is_scale k ≡ true → AreInRange (int_div_floor (least_product x y) k) (int_div_ceil (greatest_product x y) k) → AnswersNarrowest Mul (Scale k) (Span x ∷ Span y ∷ [])
 
 abbrev pub SquareIsNarrowest : Type 0
 SquareIsNarrowest =

@@ -1,72 +1,35 @@
--- Points that belong together.
-use Rattle.std.specs.Prelude.{◌≡◌, ◌≢◌, ◌↔◌, ℕ, ℤ, List, [], ◌∷◌}
+-- Which points belong together at the rules of the kit.
+use Rattle.std.specs.Prelude.{◌≡◌, ◌≢◌, ◌↔◌, List, [], ◌∷◌}
+use Rattle.prop_intervals.specs.Relations.{IsSum, IsProduct, IsSquare, SaysLess}
 use Rattle.prop_lattice.specs.Points.{Point, Number, Element}
 use Rattle.prop_procedures.specs.declared.shape.Param.{Param}
 use Rattle.prop_procedures.specs.declared.shape.Param.TheVariants.{Scale, Rows}
-use Rattle.prop_sets.specs.Relation.{Relation}
+use Rattle.prop_sets.specs.Relation.{HasPair}
+use Rattle.prop_sets.specs.Truth.{IsNot, IsAnd, IsOr}
+use Rattle.prop_arith.specs.declared.kit.Kit as kits
+use Rattle.prop_arith.specs.declared.kit.Kit.TheVariants.{Add, Sub, Mul, Div, Square, Root, Less, Below, Above, Copy, Alike, Apart, Switch, Not, And, AndBack, Or, OrBack, Image, Coimage}
 
--- ---- numbers
-
--- a number and one that belongs to it
-abbrev pub RelatesOne : (ℤ → ℤ → Type 0) → List Point → Point → Type 0
-RelatesOne related (Number x ∷ []) (Number y) = related x y
-RelatesOne related points point = ⊥
-
--- two numbers and one that belongs to them
-abbrev pub RelatesTwo : (ℤ → ℤ → ℤ → Type 0) → List Point → Point → Type 0
-RelatesTwo related (Number x ∷ Number y ∷ []) (Number z) = related x y z
-RelatesTwo related points point = ⊥
-
--- the same at a scale
-abbrev pub RelatesAt : (ℤ → ℤ → ℤ → ℤ → Type 0) → Param → List Point → Point → Type 0
-RelatesAt related (Scale k) points point = RelatesTwo (related k) points point
-RelatesAt related param points point = ⊥
-
--- two numbers and a truth of them
-abbrev pub RelatesToTruth : (ℤ → ℤ → ℕ → Type 0) → List Point → Point → Type 0
-RelatesToTruth related (Number x ∷ Number y ∷ []) (Element t) = related x y t
-RelatesToTruth related points point = ⊥
-
--- a truth, a number, and another of which the truth says something
-abbrev pub RelatesByTruth : (ℕ → ℤ → ℤ → Type 0) → List Point → Point → Type 0
-RelatesByTruth related (Element t ∷ Number x ∷ []) (Number y) = related t x y
-RelatesByTruth related points point = ⊥
-
--- ---- elements, truths among them
-
--- an element and one that belongs to it
-abbrev pub RelatesElement : (ℕ → ℕ → Type 0) → List Point → Point → Type 0
-RelatesElement related (Element x ∷ []) (Element y) = related x y
-RelatesElement related points point = ⊥
-
--- two elements and one that belongs to them
-abbrev pub RelatesElements : (ℕ → ℕ → ℕ → Type 0) → List Point → Point → Type 0
-RelatesElements related (Element x ∷ Element y ∷ []) (Element z) = related x y z
-RelatesElements related points point = ⊥
-
--- an element and one that belongs to it by a relation
-abbrev pub RelatesByRows : (Relation → ℕ → ℕ → Type 0) → Param → List Point → Point → Type 0
-RelatesByRows related (Rows m) points point = RelatesElement (related m) points point
-RelatesByRows related param points point = ⊥
-
--- ---- points of any kind
-
--- a point and the same point
-abbrev pub RelatesSame : List Point → Point → Type 0
-RelatesSame (x ∷ []) y = y ≡ x
-RelatesSame points point = ⊥
-
--- two points and whether they are the same
-abbrev pub RelatesAlike : List Point → Point → Type 0
-RelatesAlike (x ∷ y ∷ []) (Element t) = (t ≡ 0) ↔ (x ≡ y)
-RelatesAlike points point = ⊥
-
--- a truth, two points and the second of them, which is another than the first where the truth is `no`
-abbrev pub RelatesApart : List Point → Point → Type 0
-RelatesApart (Element t ∷ x ∷ y ∷ []) z = (z ≡ y) × (t ≡ 1 → z ≢ x)
-RelatesApart points point = ⊥
-
--- a truth, a point and another, the same where the truth is `yes`
-abbrev pub RelatesWhere : List Point → Point → Type 0
-RelatesWhere (Element t ∷ x ∷ []) y = t ≡ 0 → y ≡ x
-RelatesWhere points point = ⊥
+-- the point of the output that belongs to points of the inputs: the root that is answered is the second input's number; y is another
+-- point than x where the truth, 0 for `yes`, is `no`, and the same where it is `yes`
+abbrev pub Related : kits.Kit → Param → List Point → Point → Type 0
+Related Add param (Number x ∷ Number y ∷ []) (Number z) = IsSum x y z
+Related Sub param (Number z ∷ Number x ∷ []) (Number y) = IsSum x y z
+Related Mul (Scale k) (Number x ∷ Number y ∷ []) (Number z) = IsProduct k x y z
+Related Div (Scale k) (Number z ∷ Number y ∷ []) (Number x) = IsProduct k x y z
+Related Square param (Number x ∷ []) (Number y) = IsSquare x y
+Related Root param (Number y ∷ Number x ∷ []) (Number v) = (v ≡ x) × IsSquare x y
+Related Less param (Number x ∷ Number y ∷ []) (Element t) = SaysLess x y t
+Related Below param (Element t ∷ Number y ∷ []) (Number x) = SaysLess x y t
+Related Above param (Element t ∷ Number x ∷ []) (Number y) = SaysLess x y t
+Related Copy param (x ∷ []) y = y ≡ x
+Related Alike param (x ∷ y ∷ []) (Element t) = (t ≡ 0) ↔ (x ≡ y)
+Related Apart param (Element t ∷ x ∷ y ∷ []) z = (z ≡ y) × (t ≡ 1 → z ≢ x)
+Related Switch param (Element t ∷ x ∷ []) y = t ≡ 0 → y ≡ x
+Related Not param (Element x ∷ []) (Element y) = IsNot x y
+Related And param (Element x ∷ Element y ∷ []) (Element z) = IsAnd x y z
+Related AndBack param (Element z ∷ Element y ∷ []) (Element x) = IsAnd x y z
+Related Or param (Element x ∷ Element y ∷ []) (Element z) = IsOr x y z
+Related OrBack param (Element z ∷ Element y ∷ []) (Element x) = IsOr x y z
+Related Image (Rows m) (Element x ∷ []) (Element y) = HasPair m x y
+Related Coimage (Rows m) (Element y ∷ []) (Element x) = HasPair m x y
+Related rule param points point = ⊥

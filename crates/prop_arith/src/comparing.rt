@@ -1,7 +1,10 @@
 //! What the rules that compare compute, a plain function for each.
-ghost use Rattle.std.specs.Prelude.{◌≡◌, ◌<◌};
-ghost use Rattle.prop_lattice.specs.Order.{merge_of};
-ghost use Rattle.prop_arith.specs.Comparing.{lesser_of, below_of, above_of, is_contradiction, is_single, comparer_of, first_element, other_numbers, other_elements, other_symbol, others_of, parter_of};
+ghost use Rattle.std.specs.Prelude.{◌≡◌, ◌<◌, ◌∷◌, []};
+ghost use Rattle.prop_lattice.specs.Order.{merge_of, is_contradiction};
+ghost use Rattle.prop_procedures.specs.declared.shape.Param.{Param};
+ghost use Rattle.prop_arith.specs.Comparing.{is_single, first_element, others_of};
+ghost use Rattle.prop_arith.specs.Values.{value_of};
+ghost use Rattle.prop_arith.specs.declared.kit.Kit.TheVariants.{Less, Below, Above, Alike, Apart};
 
 use crate::logic::is_just;
 use prop_intervals::comparisons::{NO, YES};
@@ -10,7 +13,7 @@ use prop_lattice::{Elements, Info, Partial, Span};
 
 /// What is known of whether `x < y`.
 pub fn lesser(x: Info, y: Info) -> Info
-    ensures { result ≡ lesser_of x y }
+    ensures { (param : Param) → result ≡ value_of Less param (x ∷ y ∷ []) }
 {
     match (x, y) {
         (Info::Span(x), Info::Span(y)) => less(x, y),
@@ -20,7 +23,7 @@ pub fn lesser(x: Info, y: Info) -> Info
 
 /// What is known of `x` where `t` says whether `x < y`.
 pub fn below(t: Info, y: Info) -> Info
-    ensures { result ≡ below_of t y }
+    ensures { (param : Param) → result ≡ value_of Below param (t ∷ y ∷ []) }
 {
     match (t, y) {
         (Info::Set(t), Info::Span(y)) => prop_intervals::below(t, y),
@@ -30,7 +33,7 @@ pub fn below(t: Info, y: Info) -> Info
 
 /// What is known of `y` where `t` says whether `x < y`.
 pub fn above(t: Info, x: Info) -> Info
-    ensures { result ≡ above_of t x }
+    ensures { (param : Param) → result ≡ value_of Above param (t ∷ x ∷ []) }
 {
     match (t, x) {
         (Info::Set(t), Info::Span(x)) => prop_intervals::above(t, x),
@@ -61,7 +64,7 @@ fn is_single(info: Info) -> bool
 /// What is known of whether `x` and `y` are the same: `no` where they share no point, `yes` where each leaves one
 /// point, which is then the same, and else nothing.
 pub fn comparer(x: Info, y: Info) -> Info
-    ensures { result ≡ comparer_of x y }
+    ensures { (param : Param) → result ≡ value_of Alike param (x ∷ y ∷ []) }
 {
     if are_apart(x, y) {
         Info::from_bits(NO)
@@ -82,7 +85,7 @@ fn first_element(elements: Elements) -> u8
 
 /// `y` without the number that `x` is, nothing where `x` has several.
 fn other_numbers(x: Span, y: Span) -> Info
-    ensures { result ≡ other_numbers x y }
+    ensures { result ≡ others_of (Info.Span x) (Info.Span y) }
 {
     if x.lo() == x.hi() {
         prop_intervals::without(y, x.lo())
@@ -93,7 +96,7 @@ fn other_numbers(x: Span, y: Span) -> Info
 
 /// `y` without the element that `x` is, nothing where `x` has several.
 fn other_elements(x: Elements, y: Elements) -> Info
-    ensures { result ≡ other_elements x y }
+    ensures { result ≡ others_of (Info.Set x) (Info.Set y) }
 {
     if x.bits().count_ones() == 1 {
         prop_sets::without(y, first_element(x))
@@ -104,7 +107,7 @@ fn other_elements(x: Elements, y: Elements) -> Info
 
 /// The symbol `y`, a contradiction where it is `x`.
 fn other_symbol(x: u32, y: u32) -> Info
-    ensures { result ≡ other_symbol x y }
+    ensures { result ≡ others_of (Info.Sym x) (Info.Sym y) }
 {
     if x == y {
         Info::Contradiction
@@ -128,7 +131,7 @@ fn others(x: Info, y: Info) -> Info
 /// What is known of `y` where `t` says whether it is `x`: nothing while `t` isn't just `no` or `x` leaves several
 /// points, and else what `y` leaves other than `x`.
 pub fn parter(t: Info, x: Info, y: Info) -> Info
-    ensures { result ≡ parter_of t x y }
+    ensures { (param : Param) → result ≡ value_of Apart param (t ∷ x ∷ y ∷ []) }
 {
     if is_just(t, NO) {
         others(x, y)

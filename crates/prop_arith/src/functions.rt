@@ -1,20 +1,17 @@
 //! What the rules of the kit compute, a plain function for each.
-ghost use Rattle.std.specs.Prelude.{◌≡◌};
-ghost use Rattle.prop_arith.specs.Functions.{IsScale, is_scale, adder_of, subtracter_of, multiplier_of, divider_of, squarer_of, rooter_of, copier_of};
+ghost use Rattle.std.specs.Prelude.{◌≡◌, ◌∷◌, []};
+ghost use Rattle.prop_procedures.specs.declared.shape.Param.{Param};
+ghost use Rattle.prop_procedures.specs.declared.shape.Param.TheVariants.{Scale};
+ghost use Rattle.prop_arith.specs.Values.{value_of};
+ghost use Rattle.prop_arith.specs.declared.kit.Kit.TheVariants.{Add, Sub, Mul, Div, Square, Root, Copy};
 
 use prop_intervals::{add, div, mul, root, square, sub};
 use prop_lattice::Info;
-
-/// Whether a number may be a scale: it is one from 1 to 1,000,000,000.
-pub fn is_scale(k: i64) -> bool
-    ensures { result ≡ is_scale k }
-{
-    1 <= k && k <= 1_000_000_000
-}
+use prop_procedures::fitting::is_scale;
 
 /// What is known of `x + y`.
 pub fn adder(x: Info, y: Info) -> Info
-    ensures { result ≡ adder_of x y }
+    ensures { (param : Param) → result ≡ value_of Add param (x ∷ y ∷ []) }
 {
     match (x, y) {
         (Info::Span(x), Info::Span(y)) => add(x, y),
@@ -24,7 +21,7 @@ pub fn adder(x: Info, y: Info) -> Info
 
 /// What is known of `y` where `z` is `x + y`.
 pub fn subtracter(z: Info, x: Info) -> Info
-    ensures { result ≡ subtracter_of z x }
+    ensures { (param : Param) → result ≡ value_of Sub param (z ∷ x ∷ []) }
 {
     match (z, x) {
         (Info::Span(z), Info::Span(x)) => sub(z, x),
@@ -32,31 +29,29 @@ pub fn subtracter(z: Info, x: Info) -> Info
     }
 }
 
-/// What is known of `z` where it is `x * y` in units of `1 / k`, rounded up or down.
+/// What is known of `z` where it is `x * y` in units of `1 / k`, rounded up or down; nothing where `k` is no scale.
 pub fn multiplier(x: Info, y: Info, k: i64) -> Info
-    requires { IsScale k }
-    ensures { result ≡ multiplier_of k x y }
+    ensures { result ≡ value_of Mul (Scale k) (x ∷ y ∷ []) }
 {
     match (x, y) {
-        (Info::Span(x), Info::Span(y)) => mul(x, y, k),
+        (Info::Span(x), Info::Span(y)) if is_scale(k) => mul(x, y, k),
         _ => Info::Nothing,
     }
 }
 
-/// What is known of `x` where `z` is `x * y` in units of `1 / k`, rounded up or down.
+/// What is known of `x` where `z` is `x * y` in units of `1 / k`, rounded up or down; nothing where `k` is no scale.
 pub fn divider(z: Info, y: Info, k: i64) -> Info
-    requires { IsScale k }
-    ensures { result ≡ divider_of k z y }
+    ensures { result ≡ value_of Div (Scale k) (z ∷ y ∷ []) }
 {
     match (z, y) {
-        (Info::Span(z), Info::Span(y)) => div(z, y, k),
+        (Info::Span(z), Info::Span(y)) if is_scale(k) => div(z, y, k),
         _ => Info::Nothing,
     }
 }
 
 /// What is known of `x * x`.
 pub fn squarer(x: Info) -> Info
-    ensures { result ≡ squarer_of x }
+    ensures { (param : Param) → result ≡ value_of Square param (x ∷ []) }
 {
     match x {
         Info::Span(x) => square(x),
@@ -66,7 +61,7 @@ pub fn squarer(x: Info) -> Info
 
 /// What is known of `x` where `y` is `x * x`, beside what is known of it already.
 pub fn rooter(y: Info, x: Info) -> Info
-    ensures { result ≡ rooter_of y x }
+    ensures { (param : Param) → result ≡ value_of Root param (y ∷ x ∷ []) }
 {
     match (y, x) {
         (Info::Span(y), Info::Span(x)) => root(y, Some(x)),
@@ -77,7 +72,7 @@ pub fn rooter(y: Info, x: Info) -> Info
 
 /// What is known of `y` where it is `x`.
 pub fn copier(x: Info) -> Info
-    ensures { result ≡ copier_of x }
+    ensures { (param : Param) → result ≡ value_of Copy param (x ∷ []) }
 {
     x
 }

@@ -1,11 +1,13 @@
 //! The rules of the kit: their names, their forms and what they answer.
 ghost use Rattle.std.specs.Prelude.{◌≡◌, ◌∷◌, []};
-ghost use Rattle.prop_arith.specs.Kit.{FormOf, value_of, Related, in_order, name_of, ins_of, out_of, need_of};
-ghost use Rattle.prop_arith.specs.KitLaws.{kit_monotone, kit_keeps_kind, kit_sound};
+ghost use Rattle.prop_arith.specs.Kit.{FormOf, form_of, in_order};
+ghost use Rattle.prop_arith.specs.Points.{Related};
+ghost use Rattle.prop_arith.specs.Values.{value_of};
+ghost use Rattle.prop_arith.specs.laws.KitLaws.{kit_monotone, kit_keeps_kind, kit_sound};
 ghost use Rattle.prop_arith.specs.Narrowest.{AddIsNarrowest, SubIsNarrowest, MulIsNarrowest, SquareIsNarrowest, RootIsNarrowest, ImageIsNarrowest, CoimageIsNarrowest};
 
 use crate::comparing::{above, below, comparer, lesser, parter};
-use crate::functions::{adder, copier, divider, is_scale, multiplier, rooter, squarer, subtracter};
+use crate::functions::{adder, copier, divider, multiplier, rooter, squarer, subtracter};
 use crate::linking::{coimager, imager};
 use crate::logic::{conjoin_back, conjoiner, disjoin_back, disjoiner, inverter, passer};
 use prop_lattice::Info;
@@ -83,7 +85,7 @@ pub const KITS: [Kit; 20] = [
 impl Kit {
     /// The name that a command uses.
     pub fn name(self) -> &'static str
-        ensures { result.now ≡ name_of self }
+        ensures { result.now ≡ (form_of self).name }
     {
         match self {
             Kit::Add => "adder",
@@ -111,7 +113,7 @@ impl Kit {
 
     /// The shapes of its inputs.
     pub fn ins(self) -> &'static [Shape]
-        ensures { result.now ≡ ins_of self }
+        ensures { result.now ≡ (form_of self).ins }
     {
         match self {
             Kit::Add | Kit::Sub | Kit::Mul | Kit::Div | Kit::Root | Kit::Less => {
@@ -132,7 +134,7 @@ impl Kit {
 
     /// The shape of its output.
     pub fn out(self) -> Shape
-        ensures { result ≡ out_of self }
+        ensures { result ≡ (form_of self).out }
     {
         match self {
             Kit::Less | Kit::Alike | Kit::Not => Shape::Truth,
@@ -146,7 +148,7 @@ impl Kit {
 
     /// The parameter that it needs.
     pub fn need(self) -> Need
-        ensures { result ≡ need_of self }
+        ensures { result ≡ (form_of self).need }
     {
         match self {
             Kit::Mul | Kit::Div => Need::Scale,
@@ -196,11 +198,11 @@ impl Kit {
             Kit::Add => adder(first, second),
             Kit::Sub => subtracter(first, second),
             Kit::Mul => match param {
-                Param::Scale(k) if is_scale(*k) => multiplier(first, second, *k),
+                Param::Scale(k) => multiplier(first, second, *k),
                 _ => Info::Nothing,
             },
             Kit::Div => match param {
-                Param::Scale(k) if is_scale(*k) => divider(first, second, *k),
+                Param::Scale(k) => divider(first, second, *k),
                 _ => Info::Nothing,
             },
             Kit::Root => rooter(first, second),

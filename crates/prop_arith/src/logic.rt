@@ -1,6 +1,9 @@
 //! What the rules of truth compute, a plain function for each.
-ghost use Rattle.std.specs.Prelude.{◌≡◌};
-ghost use Rattle.prop_arith.specs.Logic.{is_just, passer_of, inverter_of, conjoiner_of, conjoin_back_of, disjoiner_of, disjoin_back_of};
+ghost use Rattle.std.specs.Prelude.{◌≡◌, ◌∷◌, []};
+ghost use Rattle.prop_procedures.specs.declared.shape.Param.{Param};
+ghost use Rattle.prop_arith.specs.Comparing.{is_just};
+ghost use Rattle.prop_arith.specs.Values.{value_of};
+ghost use Rattle.prop_arith.specs.declared.kit.Kit.TheVariants.{Switch, Not, And, AndBack, Or, OrBack};
 
 use prop_intervals::comparisons::YES;
 use prop_lattice::Info;
@@ -18,42 +21,42 @@ pub(crate) fn is_just(info: Info, bits: u64) -> bool
 
 /// What is known of `y` where it is `x` if `t` is `yes`: nothing while `t` isn't just `yes`.
 pub fn passer(t: Info, x: Info) -> Info
-    ensures { result ≡ passer_of t x }
+    ensures { (param : Param) → result ≡ value_of Switch param (t ∷ x ∷ []) }
 {
     if is_just(t, YES) { x } else { Info::Nothing }
 }
 
 /// What is known of `not x`.
 pub fn inverter(x: Info) -> Info
-    ensures { result ≡ inverter_of x }
+    ensures { (param : Param) → result ≡ value_of Not param (x ∷ []) }
 {
     not2(x)
 }
 
 /// What is known of `x and y`.
 pub fn conjoiner(x: Info, y: Info) -> Info
-    ensures { result ≡ conjoiner_of x y }
+    ensures { (param : Param) → result ≡ value_of And param (x ∷ y ∷ []) }
 {
     and3(x, y)
 }
 
 /// What is known of `x` where `z` is `x and y`.
 pub fn conjoin_back(z: Info, y: Info) -> Info
-    ensures { result ≡ conjoin_back_of z y }
+    ensures { (param : Param) → result ≡ value_of AndBack param (z ∷ y ∷ []) }
 {
     and_back(z, y)
 }
 
 /// What is known of `x or y`.
 pub fn disjoiner(x: Info, y: Info) -> Info
-    ensures { result ≡ disjoiner_of x y }
+    ensures { (param : Param) → result ≡ value_of Or param (x ∷ y ∷ []) }
 {
     or3(x, y)
 }
 
 /// What is known of `x` where `z` is `x or y`.
 pub fn disjoin_back(z: Info, y: Info) -> Info
-    ensures { result ≡ disjoin_back_of z y }
+    ensures { (param : Param) → result ≡ value_of OrBack param (z ∷ y ∷ []) }
 {
     or_back(z, y)
 }

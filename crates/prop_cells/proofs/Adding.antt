@@ -6,7 +6,7 @@ use Rattle.std.proofs.lemmas.List.Elements.{All-contains}
 use Rattle.prop_lattice.specs.declared.info.Info.{Info}
 use Rattle.prop_lattice.specs.declared.info.Info.TheVariants.{Nothing}
 use Rattle.prop_lattice.specs.Order.{Below, merge_of}
-use Rattle.prop_lattice.specs.OrderLaws.{info_laws}
+use Rattle.prop_lattice.specs.laws.OrderLaws.{info_laws}
 use Rattle.prop_lattice.specs.Rank.{IsOf}
 use Rattle.prop_premises.specs.Sets.{is_within, is_alike}
 use Rattle.prop_tms.specs.Beliefs.{belief_of}

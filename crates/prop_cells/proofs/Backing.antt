@@ -8,9 +8,10 @@ use Rattle.std.proofs.Math.Seq.{take-append_seam, take-length}
 use Rattle.prop_procedures.specs.declared.shape.Kinded.{Kinded}
 use Rattle.prop_procedures.specs.declared.shape.Param.{Param}
 use Rattle.prop_cells.specs.Instances.{Instance, IsWithin, readers_of, writers_of}
-use Rattle.prop_cells.specs.Data.{Data, Entry, IsWellMade, IsStored}
-use Rattle.prop_cells.specs.Rooms.{Unnoted}
-use Rattle.prop_cells.specs.Back.{GoesBackTo}
+use Rattle.prop_cells.specs.Data.{Data, Entry, IsWellMade}
+use Rattle.prop_cells.specs.inner.Data.{IsStored}
+use Rattle.prop_cells.specs.inner.Rooms.{Unnoted}
+use Rattle.prop_cells.specs.inner.Back.{GoesBackTo}
 use Rattle.prop_cells.proofs.Telling.{told_taken}
 use Rattle.prop_cells.proofs.RowLemmas.{or_none, rows_unnoted, rows_taken, numbers_none}
 

@@ -6,7 +6,7 @@ use Rattle.std.proofs.lemmas.List.Elements.{All-contains, All-cons, All-filter, 
 use Rattle.prop_lattice.specs.declared.info.Info.{Info}
 use Rattle.prop_lattice.specs.declared.info.Info.TheVariants.{Nothing}
 use Rattle.prop_lattice.specs.Order.{merge_of}
-use Rattle.prop_lattice.specs.OrderLaws.{info_laws}
+use Rattle.prop_lattice.specs.laws.OrderLaws.{info_laws}
 use Rattle.prop_lattice.specs.Rank.{IsOf}
 use Rattle.prop_premises.specs.Sets.{set_of, without, IsPart}
 use Rattle.prop_tms.proofs.BeliefUses.{belief_of-without, belief_of-more}
@@ -16,7 +16,8 @@ use Rattle.prop_cells.specs.declared.instance.Statement.{Statement}
 use Rattle.prop_cells.specs.Problems.{Problem, Premises, Assignment, Satisfies, Meets, IsSolution, Entails, IsContradictory, is_member}
 use Rattle.prop_cells.specs.Reach.{Reaches, IsRelatedAt}
 use Rattle.prop_cells.specs.Reach.Reaches.{stated, passed}
-use Rattle.prop_cells.specs.Data.{Data, Entry, IsStated, IsWellMade, IsFounded, IsKept, IsStored, beliefs, content_of, problem_of}
+use Rattle.prop_cells.specs.Data.{Data, Entry, IsStated, IsWellMade, IsFounded, IsKept, beliefs, content_of, problem_of}
+use Rattle.prop_cells.specs.inner.Data.{IsStored}
 use Rattle.prop_cells.specs.Forgetting.{Forgets, forgotten, not_on, not_under, is_under}
 
 -- ---- a problem

@@ -7,7 +7,7 @@ use Rattle.std.proofs.lemmas.List.Folds.{Any-from_list_any, list_any-append}
 use Rattle.prop_lattice.specs.declared.info.Info.{Info}
 use Rattle.prop_lattice.specs.declared.info.Info.TheVariants.{Nothing, Contradiction}
 use Rattle.prop_lattice.specs.Order.{Below, merge_of}
-use Rattle.prop_lattice.specs.OrderLaws.{info_laws}
+use Rattle.prop_lattice.specs.laws.OrderLaws.{info_laws}
 use Rattle.prop_premises.specs.Sets.{set_of, is_within, union, IsPart, IsSame}
 use Rattle.prop_premises.proofs.WithinLemmas.{within_has, within_from}
 use Rattle.prop_tms.specs.Beliefs.{belief_of, IsLean}

@@ -13,8 +13,8 @@ use Rattle.prop_lattice.specs.declared.info.Info.TheVariants.{Nothing, Span, Set
 use Rattle.prop_lattice.specs.declared.info.Kind.{Kind}
 use Rattle.prop_lattice.specs.declared.info.Kind.TheVariants as kinds
 use Rattle.prop_lattice.specs.Ends.{AreEnds, AreSome, ends_or_not, some_or_not}
-use Rattle.prop_lattice.specs.Order.{Below, HasElement}
-use Rattle.prop_lattice.specs.OrderLaws.{info_laws}
+use Rattle.prop_lattice.specs.Order.{Below, HasElement, is_contradiction}
+use Rattle.prop_lattice.specs.laws.OrderLaws.{info_laws}
 use Rattle.prop_lattice.specs.declared.span.Span as spans
 use Rattle.prop_lattice.specs.declared.elements.Elements as sets
 use Rattle.prop_lattice.specs.Rank.{IsOf}
@@ -25,7 +25,7 @@ use Rattle.prop_procedures.specs.declared.shape.Param.{Param}
 use Rattle.prop_procedures.specs.declared.shape.Shape.{Shape}
 use Rattle.prop_procedures.specs.Rules.{kind_of, ArePointsOf, EachHolds}
 use Rattle.prop_procedures.specs.Stored.{Stored, is_same, span_kind}
-use Rattle.prop_cells.specs.Problems.{Premises, AreOfKinds, Meets, IsSolution, is_contradiction}
+use Rattle.prop_cells.specs.Problems.{Premises, AreOfKinds, Meets, IsSolution}
 use Rattle.prop_procedures.specs.Fitting.{kind_at}
 use Rattle.prop_cells.specs.Instances.{Instance, IsFitting, IsWithin, constraint_of}
 use Rattle.prop_cells.specs.Points.{AreSoundBy, Attached, AreFitting, problem_of, ArePoints, EntailedHoldsPoints, PointsAreConsistent}
@@ -162,13 +162,13 @@ each_holds : (points : ℕ → Point) (cells : List ℕ) → EachHolds (map (λ 
 each_holds points [] = tt
 each_holds points (c ∷ cs) = (single_holding (single (points c)) (points c) (info_laws.reflexive (single (points c))), each_holds points cs)
 
-abbrev is_place : (ℕ → Kinded) → (Shape × Kinded) → Bool
+abbrev is_place : (Shape → Kinded) → (Shape × Kinded) → Bool
 is_place any place = is_same place.1 (kind_of any place.0)
 
 abbrev IsPointAt : List Kinded → (ℕ → Point) → ℕ → Type 0
 IsPointAt kinds points c = IsPointOf (kind_at kinds c).kind (kind_at kinds c).size (points c)
 
-points_of : (any : ℕ → Kinded) (ins : List Shape) (out : Shape) (kinds : List Kinded) (points : ℕ → Point) (inputs : List ℕ) (o : ℕ) → length inputs ≡ length ins → list_all (is_place any) (zip (ins ++ out ∷ []) (map (kind_at kinds) (inputs ++ o ∷ []))) ≡ true → All (IsPointAt kinds points) inputs → IsPointAt kinds points o → ArePointsOf any ins (map points inputs) × IsPointOf (kind_of any out).kind (kind_of any out).size (points o)
+points_of : (any : Shape → Kinded) (ins : List Shape) (out : Shape) (kinds : List Kinded) (points : ℕ → Point) (inputs : List ℕ) (o : ℕ) → length inputs ≡ length ins → list_all (is_place any) (zip (ins ++ out ∷ []) (map (kind_at kinds) (inputs ++ o ∷ []))) ≡ true → All (IsPointAt kinds points) inputs → IsPointAt kinds points o → ArePointsOf any ins (map points inputs) × IsPointOf (kind_of any out).kind (kind_of any out).size (points o)
 points_of any [] out kinds points [] o l e h k =
     let P : Kinded → Type 0 = λ d. IsPointOf d.kind d.size (points o) in
     (tt, subst P (same_kinded _ _ (and_both (is_same (kind_at kinds o) (kind_of any out)) true e).0) k)

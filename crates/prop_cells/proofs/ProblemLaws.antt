@@ -1,11 +1,11 @@
 -- What follows from the definitions alone: one least solution, and more where there is more.
 use Rattle.std.proofs.Common.{ℕ, Contains}
 use Rattle.std.proofs.lemmas.List.Elements.{All-contains}
-use Rattle.prop_lattice.specs.OrderLaws.{info_laws}
+use Rattle.prop_lattice.specs.laws.OrderLaws.{info_laws}
 use Rattle.prop_cells.specs.Problems.{Problem, Extends}
 use Rattle.prop_cells.specs.Reach.{Reaches}
 use Rattle.prop_cells.specs.Reach.Reaches.{stated, passed}
-use Rattle.prop_cells.specs.Laws.{LeastIsUnique, ContradictionStays, RelationStays}
+use Rattle.prop_cells.specs.Promises.{LeastIsUnique, ContradictionStays, RelationStays}
 use Rattle.prop_cells.proofs.Fixpoint.{solution_old}
 
 pub least_unique : LeastIsUnique

@@ -7,7 +7,7 @@ use Rattle.std.proofs.lemmas.List.Folds.{list_any_at}
 use Rattle.std.proofs.lemmas.List.Sums.{sum_by-cons, sum_by-append}
 use Rattle.prop_procedures.specs.Stored.{Stored}
 use Rattle.prop_cells.specs.Instances.{Instance, numbers_from, readers_of, writers_of, constraint_of}
-use Rattle.prop_cells.specs.Data.{AreReaders}
+use Rattle.prop_cells.specs.inner.Data.{AreReaders}
 
 contains_head : (n : ℕ) (ns : List ℕ) → Contains (n ∷ ns) n
 contains_head n ns = (0, omega arith, refl)

@@ -1,13 +1,13 @@
 -- What the tests before a statement and an attachment tell.
 use Rattle.std.proofs.Common.{◌≡◌, ◌∙◌, ◌<◌, ◌≤◌, ◌^◌, ◌/◌, ◌==◌, ◌↔◌, ℕ, min, Bool, true, false, not, is_none, nat_le, ◌||◌, IsTrue, List, [], ◌∷◌, ◌++◌, Option, Some, None, All, length, slice_get, get_or, refl, sym, ap, arith, inl, inr}
 use Rattle.std.specs.List.{list_any}
-use Rattle.std.specs.Option.{option_map_or}
+use Rattle.std.specs.Option.{option_map_or, option_or}
 use Rattle.std.specs.Bool.{Decides}
 use Rattle.std.proofs.lemmas.Bool.{cases_lt, le-leb, lt-leb, eq-eqb, ne_eqb, eqb-true, both_ways}
 use Rattle.std.proofs.lemmas.Bool.Decides.{same_from_decides}
 use Rattle.std.proofs.lemmas.List.Elements.{All-pop}
 use Rattle.std.proofs.lemmas.List.Folds.{list_any_at, list_any-append}
-use Rattle.prop_lattice.specs.Refusals.{most}
+use Rattle.prop_lattice.specs.Refusals.{most, when}
 use Rattle.prop_lattice.specs.Rank.{IsOf}
 use Rattle.prop_lattice.specs.Parts.{AllBelow}
 use Rattle.prop_lattice.proofs.PartLemmas.{below_test, below_top}
@@ -19,6 +19,7 @@ use Rattle.prop_lattice.specs.declared.info.Kind.TheVariants as kinds
 use Rattle.prop_lattice.specs.declared.refusal.Limit.TheVariants.{Instances, Statements}
 use Rattle.prop_lattice.specs.declared.refusal.Refusal.{Refusal}
 use Rattle.prop_lattice.specs.declared.refusal.Refusal.TheVariants.{NoSuchCell, WrongCount, WrongKind, WrongParameter, LimitReached}
+use Rattle.prop_lattice.specs.Order.{is_contradiction}
 use Rattle.prop_procedures.specs.declared.shape.Param.{Param}
 use Rattle.prop_procedures.specs.declared.shape.Kinded.{Kinded}
 use Rattle.prop_procedures.specs.declared.shape.Need.{Need}
@@ -27,10 +28,9 @@ use Rattle.prop_procedures.specs.Stored.{Stored}
 use Rattle.prop_procedures.specs.Fitting.{kind_at, kinds_fit}
 use Rattle.prop_cells.specs.Instances.{Instance, IsFitting, IsWithin, sides_given, param_in, instance_of, attached}
 use Rattle.prop_cells.specs.Data.{Data}
-use Rattle.prop_cells.specs.Problems.{is_contradiction}
 use Rattle.prop_cells.proofs.RowLemmas.{or_none}
 use Rattle.prop_cells.proofs.Keeping.{fit_attached}
-use Rattle.prop_cells.specs.Refusing.{when, or_else, may_be_stated, state_refusal, refusal_at, attach_refusal}
+use Rattle.prop_cells.specs.Refusing.{may_be_stated, state_refusal, refusal_at, attach_refusal}
 
 -- ---- statements
 
@@ -66,7 +66,7 @@ stated_of_kind kinds.Symbol size (Sym s) h = tt
 stated_of_kind kind size Contradiction h = tt
 stated_of_kind kind size info h = cc
 
-none_of_three : (a b c : Bool) (x y z : Refusal) → or_else (when x a) (or_else (when y (not b)) (when z c)) ≡ None → (a ≡ false) × (b ≡ true)
+none_of_three : (a b c : Bool) (x y z : Refusal) → option_or (when x a) (option_or (when y (not b)) (when z c)) ≡ None → (a ≡ false) × (b ≡ true)
 none_of_three true b c x y z e = cc
 none_of_three false true c x y z e = (refl, refl)
 none_of_three false false c x y z e = cc
@@ -90,10 +90,10 @@ no_strangers kinds n cells same e k d l =
 
 abbrev table : Bool → Bool → Bool → Bool → Bool → Option Refusal
 table a b c e f =
-    or_else (when NoSuchCell a)
-    (or_else (when WrongCount (not b))
-    (or_else (when WrongKind (not c))
-    (or_else (when WrongParameter e) (when (LimitReached Instances) f))))
+    option_or (when NoSuchCell a)
+    (option_or (when WrongCount (not b))
+    (option_or (when WrongKind (not c))
+    (option_or (when WrongParameter e) (when (LimitReached Instances) f))))
 
 -- where the table has no refusal, each test passed
 none_in_table : (a b c e f : Bool) → table a b c e f ≡ None → (a ≡ false) × (b ≡ true) × (c ≡ true) × (e ≡ false)

@@ -8,8 +8,8 @@ use Rattle.std.proofs.lemmas.List.{length-append, length-take, get_or-take, get_
 use Rattle.std.proofs.lemmas.List.Elements.{All-head, All-tail, All-more, All-weaker}
 use Rattle.std.proofs.lemmas.List.Folds.{list_any_more}
 use Rattle.prop_cells.specs.Instances.{Instance, numbers_from}
-use Rattle.prop_cells.specs.Data.{AreRows}
-use Rattle.prop_cells.specs.Rooms.{row_items, HasRoom, ChangesAt, Noted, Unnoted}
+use Rattle.prop_cells.specs.inner.Data.{AreRows}
+use Rattle.prop_cells.specs.inner.Rooms.{row_items, HasRoom, ChangesAt, Noted, Unnoted}
 use Rattle.prop_cells.proofs.Lists.{get_or-push_default}
 
 pub or_none : (b : Bool) → (b || false) ≡ b

@@ -17,7 +17,8 @@ use Rattle.prop_cells.specs.Problems.{Problem}
 use Rattle.prop_cells.specs.Reach.{Reaches}
 use Rattle.prop_cells.specs.Reach.Reaches.{stated, passed}
 use Rattle.prop_cells.specs.Data.{Data, Entry, IsFounded, IsKept, States, content_of, problem_of}
-use Rattle.prop_cells.specs.Sides.{sides_at, StatesAll, AreUnderBelow, StandsAt, entries_below, statements_back}
+use Rattle.prop_cells.specs.Sides.{sides_at, StatesAll, AreUnderBelow}
+use Rattle.prop_cells.specs.inner.Sides.{StandsAt, entries_below, statements_back}
 use Rattle.prop_cells.proofs.Backing.{take_more_of}
 use Rattle.prop_cells.proofs.Keeping.{kept_statement}
 

@@ -6,7 +6,7 @@ use Rattle.std.proofs.lemmas.List.{get_or_default, get_or-set_other, get_or-set_
 use Rattle.std.proofs.lemmas.List.Elements.{All-weaker, All-push, All-contains, All-contains_itself, All-take}
 use Rattle.prop_lattice.specs.declared.info.Info.TheVariants.{Nothing}
 use Rattle.prop_lattice.specs.Order.{Below, merge_of}
-use Rattle.prop_lattice.specs.OrderLaws.{info_laws}
+use Rattle.prop_lattice.specs.laws.OrderLaws.{info_laws}
 use Rattle.prop_lattice.specs.Rank.{IsOf}
 use Rattle.prop_premises.specs.Sets.{set_of, union, is_within, is_at_most_one_of, IsSame}
 use Rattle.prop_tms.specs.Beliefs.{belief_of, Trims}
@@ -16,7 +16,8 @@ use Rattle.prop_procedures.specs.declared.shape.Kinded.{Kinded}
 use Rattle.prop_procedures.specs.Fitting.{kind_at}
 use Rattle.prop_cells.specs.declared.instance.Statement.{Statement}
 use Rattle.prop_cells.specs.Problems.{Premises, is_member}
-use Rattle.prop_cells.specs.Data.{Data, Entry, IsStated, IsWellMade, IsStored, AreTold, TrimsAt, beliefs, content_of, support_of}
+use Rattle.prop_cells.specs.Data.{Data, Entry, IsStated, IsWellMade, TrimsAt, beliefs, content_of, support_of}
+use Rattle.prop_cells.specs.inner.Data.{IsStored, AreTold}
 use Rattle.prop_cells.proofs.Lists.{get_or-push_default}
 
 -- a cell was told of under these premises too

@@ -1,12 +1,8 @@
 -- What is left where the last cells, parameters and instances are taken back.
-use Rattle.std.specs.Prelude.{◌≡◌, ℕ, length, take}
+use Rattle.std.specs.Prelude.{ℕ, take}
 use Rattle.prop_cells.specs.Data.{Data}
 
 -- the cells, the parameters and the instances below these numbers, and every statement
 abbrev pub taken_back : ℕ → ℕ → ℕ → Data → Data
 taken_back cells params instances d =
     record d { kinds = take cells d.kinds; contents = take cells d.contents; params = take params d.params; instances = take instances d.instances }
-
--- what was made since the first data, taken back, leaves the first
-abbrev pub GoesBackTo : Data → Data → Type 0
-GoesBackTo before d = taken_back (length before.kinds) (length before.params) (length before.instances) d ≡ before

@@ -1,8 +1,8 @@
 -- Why a network refuses a cell, a statement or an instance: the first condition of a list that holds.
 use Rattle.std.specs.Prelude.{ℕ, ◌+◌, ◌^◌, ◌/◌, ◌==◌, nat_le, nat_lt, Bool, true, false, not, cond, List, [], ◌∷◌, ◌++◌, Option, Some, None, is_none, length, slice_get}
-use Rattle.std.specs.Option.{option_map_or}
+use Rattle.std.specs.Option.{option_map_or, option_or}
 use Rattle.std.specs.List.{list_any}
-use Rattle.prop_lattice.specs.Refusals.{most}
+use Rattle.prop_lattice.specs.Refusals.{most, when}
 use Rattle.prop_lattice.specs.declared.info.Info.{Info}
 use Rattle.prop_lattice.specs.declared.info.Info.TheVariants.{Nothing, Span, Set, Sym}
 use Rattle.prop_lattice.specs.declared.info.Kind.{Kind}
@@ -14,13 +14,6 @@ use Rattle.prop_procedures.specs.Stored.{Stored}
 use Rattle.prop_procedures.specs.Fitting.{kind_at, kinds_fit}
 use Rattle.prop_cells.specs.Instances.{sides_given, param_in}
 use Rattle.prop_cells.specs.Data.{Data}
-
-abbrev pub when : Refusal → Bool → Option Refusal
-when refusal holds = cond holds (Some refusal) None
-
-abbrev pub or_else : Option Refusal → Option Refusal → Option Refusal
-or_else (Some refusal) rest = Some refusal
-or_else None rest = rest
 
 -- why one more cell is refused
 abbrev pub cell_refusal : Data → Option Refusal
@@ -37,8 +30,8 @@ may_be_stated kind size a = false
 -- why an information is not stated at a cell
 abbrev pub state_refusal : Data → ℕ → Info → Option Refusal
 state_refusal d cell info =
-    or_else (when NoSuchCell (nat_le (length d.kinds) cell))
-    (or_else (when WrongKind (not (may_be_stated (kind_at d.kinds cell).kind (kind_at d.kinds cell).size info)))
+    option_or (when NoSuchCell (nat_le (length d.kinds) cell))
+    (option_or (when WrongKind (not (may_be_stated (kind_at d.kinds cell).kind (kind_at d.kinds cell).size info)))
     (when (LimitReached Statements) (nat_le (most Statements) (length d.statements))))
 
 -- why so many statements more are not made
@@ -48,10 +41,10 @@ sides_refusal d count = when (LimitReached Statements) (nat_lt (most Statements)
 -- why a procedure is not attached to cells, with the parameter of a number or without one
 abbrev pub refusal_at : Stored → Data → Option ℕ → List ℕ → ℕ → Option Refusal
 refusal_at p d param ins out =
-    or_else (when NoSuchCell (list_any (λ cell. nat_le (length d.kinds) cell) (ins ++ out ∷ [])))
-    (or_else (when WrongCount (not (length ins == length p.ins)))
-    (or_else (when WrongKind (not (kinds_fit p d.kinds (sides_given d.params param) (ins ++ out ∷ []))))
-    (or_else (when WrongParameter (is_none (param_in p.need d.params param)))
+    option_or (when NoSuchCell (list_any (λ cell. nat_le (length d.kinds) cell) (ins ++ out ∷ [])))
+    (option_or (when WrongCount (not (length ins == length p.ins)))
+    (option_or (when WrongKind (not (kinds_fit p d.kinds (sides_given d.params param) (ins ++ out ∷ []))))
+    (option_or (when WrongParameter (is_none (param_in p.need d.params param)))
     (when (LimitReached Instances) (nat_le (most Instances) (length d.instances))))))
 
 -- the same, by the procedure's number

@@ -1,12 +1,11 @@
 //! The entries of cells, in one worldview.
 ghost use Rattle.std.specs.Prelude.{◌≡◌, ◌≢◌, ◌<◌, ◌≤◌, ◌⊎◌, ℕ, List, [], length, filter, not, map, All, Contains, IsTrue, IsOk, IfOk, IfSome, OnOk, OnErr, None, false};
 ghost use Rattle.std.specs.List.{list_any};
-ghost use Rattle.prop_lattice.specs.Order.{merge_of};
+ghost use Rattle.prop_lattice.specs.Order.{merge_of, is_contradiction};
 ghost use Rattle.prop_tms.specs.Beliefs.{AreNeeded};
 ghost use Rattle.prop_premises.specs.Sets.{set_of, union, is_within, is_at_most_one_of, IsSame};
-ghost use Rattle.prop_cells.specs.Problems.{is_contradiction};
 ghost use Rattle.prop_cells.specs.Data.{beliefs, support_of, IsSupport, IsLeanAt, AddsAt, TrimsAt, Entry, content_of};
-ghost use Rattle.prop_cells.specs.Sides.{StandsAt, entries_below};
+ghost use Rattle.prop_cells.specs.inner.Sides.{StandsAt, entries_below};
 
 use prop_lattice::{Info, Partial};
 use prop_premises::{Premise, PremiseSet, Worldview};

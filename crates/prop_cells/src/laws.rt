@@ -1,7 +1,7 @@
 //! What follows from the definitions alone, whatever the network.
 ghost use Rattle.prop_procedures.specs.Kept.{AreSound, stored_of, related_of};
 ghost use Rattle.prop_cells.specs.Points.{EntailedHoldsPoints, PointsAreConsistent};
-ghost use Rattle.prop_cells.specs.Laws.{LeastIsUnique, EntailmentGrows, ContradictionGrows, EntailedClashRefutes, EntailmentStays, ContradictionStays, ReachStays, RelationStays};
+ghost use Rattle.prop_cells.specs.Promises.{LeastIsUnique, EntailmentGrows, ContradictionGrows, EntailedClashRefutes, EntailmentStays, ContradictionStays, ReachStays, RelationStays};
 
 use prop_procedures::{Library, Rule};
 

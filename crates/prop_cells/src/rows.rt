@@ -1,7 +1,7 @@
 //! Which instances each cell has: a row of numbers for each cell.
 ghost use Rattle.std.specs.Prelude.{◌≡◌, ℕ, ◌<◌, ◌==◌, cond, List, [], ◌∷◌, ◌++◌, length, map, take, All, OnOk, slice_index};
 ghost use Rattle.std.specs.List.{list_any};
-ghost use Rattle.prop_cells.specs.Rooms.{row_items, HasRoom, Noted, Unnoted};
+ghost use Rattle.prop_cells.specs.inner.Rooms.{row_items, HasRoom, Noted, Unnoted};
 
 use std::alloc::AllocError;
 

@@ -7,20 +7,22 @@ use Rattle.std.proofs.lemmas.Bool.{eqb-true, not-false}
 use Rattle.std.proofs.lemmas.List.{length-append, take-append-drop}
 use Rattle.prop_lattice.specs.declared.refusal.Refusal.{Refusal}
 use Rattle.prop_lattice.specs.declared.refusal.Refusal.TheVariants.{NoSuchProcedure, WrongCount, Memory}
+use Rattle.prop_lattice.specs.Refusals.{when, first_of}
 use Rattle.prop_procedures.specs.declared.shape.Kinded.{Kinded}
 use Rattle.prop_procedures.specs.declared.shape.Param.{Param}
 use Rattle.prop_procedures.specs.Stored.{Stored}
-use Rattle.prop_vocabulary.specs.Refusing.{when, first_of}
 use Rattle.prop_vocabulary.specs.Vocabulary.{Vocabulary}
 use Rattle.prop_compound.specs.declared.definition.Used.{Used}
 use Rattle.prop_procedures.specs.declared.flat.Flat.{Flat}
 use Rattle.prop_compound.specs.Definitions.{Definitions, used_named, cells_wanted, is_miscounted}
 use Rattle.prop_compound.specs.declared.walk.Walk as walks
-use Rattle.prop_compound.specs.Expansion.{Expansion, before, expanded_in, expanded}
+use Rattle.prop_compound.specs.Expansion.{param_passed, Expansion, before, expanded_in, expanded}
 use Rattle.prop_compound.specs.Expanding.{size_refusal, fit_refusal, expand_refusal}
 use Rattle.prop_compound.specs.AtOnce.{refused_at_once}
-use Rattle.prop_compound.specs.Flattened.{placed_of, walk_of, expansion_of_flat, IsFlatOver, AreRight, IsBehind}
-use Rattle.prop_compound.specs.Kept.{all_bare, fresh_used, instances_used, fresh_of, instances_of, total_of, IsDefinedOver, IsThere, AreKept}
+use Rattle.prop_compound.specs.Flattened.{placed_of, expansion_of_flat, IsFlatOver}
+use Rattle.prop_compound.specs.inner.Flattened.{walk_of, AreRight, IsBehind}
+use Rattle.prop_compound.specs.Kept.{all_bare, IsDefinedOver}
+use Rattle.prop_compound.specs.inner.Kept.{fresh_used, instances_used, fresh_of, instances_of, total_of, IsThere, AreKept}
 use Rattle.prop_compound.specs.declared.definition.KeptDefinition.{KeptDefinition}
 use Rattle.prop_compound.proofs.Firsts.{fits_bare}
 use Rattle.prop_compound.proofs.Placing.{right_of}
@@ -68,7 +70,7 @@ module _ (library : List Stored) (words : Vocabulary) (definitions : Definitions
     size_stops o r s e =
         passes_count ∙ ap (λ z. first_of (z ∷ fit_refusal library stands ∷ [])) (sym s ∙ e)
 
-  module _ (walk : walks.Walk) (walk_is : walk_of walk ≡ expanded_in words definitions.definitions used (range_with_len 0 (length kinds)) given (before definitions.definitions used kinds given)) where
+  module _ (walk : walks.Walk) (walk_is : walk_of walk ≡ expanded_in (param_passed words) definitions.definitions used (range_with_len 0 (length kinds)) given (before definitions.definitions used kinds given)) where
     -- no size is over its limit: what is said of how it fits is said
     pub fit_decides : (wrong : Bool) → wrong ≡ not (length kinds == cells_wanted library definitions used) → wrong ≡ false → (o : Option Refusal) → o ≡ sizes → o ≡ None → expand_refusal library words definitions name kinds given ≡ fit_refusal library (walk_of walk)
     fit_decides wrong wrong_is right o s e =

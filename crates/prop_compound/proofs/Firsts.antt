@@ -8,15 +8,16 @@ use Rattle.prop_procedures.specs.Fitting.{fitting_param}
 use Rattle.std.specs.List.{list_any}
 use Rattle.prop_lattice.specs.declared.refusal.Refusal.{Refusal}
 use Rattle.prop_lattice.specs.declared.refusal.Refusal.TheVariants.{WrongKind, WrongParameter}
+use Rattle.prop_lattice.specs.Refusals.{when, first_of}
 use Rattle.prop_procedures.specs.declared.shape.Kinded.{Kinded}
 use Rattle.prop_procedures.specs.declared.shape.Param.{Param}
 use Rattle.prop_procedures.specs.Stored.{Stored}
 use Rattle.prop_procedures.specs.declared.flat.Placed as instances
 use Rattle.prop_compound.specs.declared.walk.Walk as walks
 use Rattle.prop_compound.specs.Expansion.{Placed, Expansion}
-use Rattle.prop_compound.specs.Flattened.{placed_of, walk_of}
-use Rattle.prop_compound.specs.Expanding.{is_misplaced, is_misgiven, is_param_wrong, fit_refusal}
-use Rattle.prop_vocabulary.specs.Refusing.{when, first_of}
+use Rattle.prop_compound.specs.Flattened.{placed_of}
+use Rattle.prop_compound.specs.inner.Flattened.{walk_of}
+use Rattle.prop_compound.specs.Expanding.{is_kind_wrong, is_param_wrong, are_params_wrong, fit_refusal}
 
 -- this condition holds
 pub stops : (r : Refusal) (b : Bool) (rest : List (Option Refusal)) → b ≡ true → first_of (when r b ∷ rest) ≡ Some r
@@ -63,42 +64,42 @@ pub none_found : {X : Type 0} (p : X → Bool) (xs : List X) (i : ℕ) → lengt
 none_found p xs i l h = sym h ∙ ap (list_any p) (take_all i xs l)
 
 -- what is said of an instance by its procedure
-pub misgiven_is : (library : List Stored) (x : Placed (Option Param)) (s : Stored) → slice_get library x.procedure ≡ Some s → (b : Bool) (need : _) → need ≡ s.need → b ≡ is_none (fitting_param need x.given) → b ≡ is_misgiven library x
+pub misgiven_is : (library : List Stored) (x : Placed (Option Param)) (s : Stored) → slice_get library x.procedure ≡ Some s → (b : Bool) (need : _) → need ≡ s.need → b ≡ is_none (fitting_param need x.given) → b ≡ is_param_wrong library x
 misgiven_is library x s at b need n e =
     e ∙ (λ i. is_none (fitting_param (n i) x.given)) ∙ sym (ap (λ o. option_map_or (λ (p : Stored). is_none (fitting_param p.need x.given)) o false) at)
 
 -- ---- whether what a use stands for fits
 
 module _ (library : List Stored) (walk : walks.Walk) (kinds : List Kinded) (params : List Param) (xs : List instances.Placed) (same_kinds : kinds ≡ walk.kinds.items) (same_params : params ≡ walk.params.items) (same_instances : xs ≡ walk.instances.items)
-    (b : Bool) (is : b ≡ list_any (λ x. is_misplaced library kinds (placed_of params x)) xs) where
-  misplaced : list_any (is_misplaced library walk.kinds.items) (walk_of walk).placed ≡ b
+    (b : Bool) (is : b ≡ list_any (λ x. is_kind_wrong library kinds (placed_of params x)) xs) where
+  misplaced : list_any (is_kind_wrong library walk.kinds.items) (walk_of walk).placed ≡ b
   misplaced =
-      list_any-map (placed_of walk.params.items) (is_misplaced library walk.kinds.items) walk.instances.items ∙ sym (is ∙ (λ i. list_any (λ x. is_misplaced library (same_kinds i) (placed_of (same_params i) x)) (same_instances i)))
+      list_any-map (placed_of walk.params.items) (is_kind_wrong library walk.kinds.items) walk.instances.items ∙ sym (is ∙ (λ i. list_any (λ x. is_kind_wrong library (same_kinds i) (placed_of (same_params i) x)) (same_instances i)))
 
   -- some kind does not
   pub kind_stops : b ≡ true → fit_refusal library (walk_of walk) ≡ Some WrongKind
-  kind_stops e = stops WrongKind (list_any (is_misplaced library walk.kinds.items) (walk_of walk).placed) (when WrongParameter (is_param_wrong library (walk_of walk)) ∷ []) (misplaced ∙ e)
+  kind_stops e = stops WrongKind (list_any (is_kind_wrong library walk.kinds.items) (walk_of walk).placed) (when WrongParameter (are_params_wrong library (walk_of walk)) ∷ []) (misplaced ∙ e)
 
   -- the kinds do: what is said of the parameters is said
-  decides : (wrong : Bool) → b ≡ false → wrong ≡ is_param_wrong library (walk_of walk) → fit_refusal library (walk_of walk) ≡ first_of (when WrongParameter wrong ∷ [])
+  decides : (wrong : Bool) → b ≡ false → wrong ≡ are_params_wrong library (walk_of walk) → fit_refusal library (walk_of walk) ≡ first_of (when WrongParameter wrong ∷ [])
   decides wrong e w =
-      passes WrongKind (list_any (is_misplaced library walk.kinds.items) (walk_of walk).placed) (when WrongParameter (is_param_wrong library (walk_of walk)) ∷ []) (first_of (when WrongParameter wrong ∷ [])) (misplaced ∙ e) (ap (λ t. first_of (when WrongParameter t ∷ [])) (sym w))
+      passes WrongKind (list_any (is_kind_wrong library walk.kinds.items) (walk_of walk).placed) (when WrongParameter (are_params_wrong library (walk_of walk)) ∷ []) (first_of (when WrongParameter wrong ∷ [])) (misplaced ∙ e) (ap (λ t. first_of (when WrongParameter t ∷ [])) (sym w))
 
   -- a definition is given something and takes nothing
   pub spare_stops : b ≡ false → walk.spare ≡ true → fit_refusal library (walk_of walk) ≡ Some WrongParameter
-  spare_stops e t = decides true e (ap (λ z. z || list_any (is_misgiven library) (walk_of walk).placed) (sym t))
+  spare_stops e t = decides true e (ap (λ z. z || list_any (is_param_wrong library) (walk_of walk).placed) (sym t))
 
   -- no definition is: what is said of the instances is said
   pub given_decides : (params' : List Param) (xs' : List instances.Placed) (misgiven : Bool) → b ≡ false → walk.spare ≡ false → params' ≡ walk.params.items → xs' ≡ walk.instances.items →
-      misgiven ≡ list_any (λ x. is_misgiven library (placed_of params' x)) xs' → fit_refusal library (walk_of walk) ≡ first_of (when WrongParameter misgiven ∷ [])
+      misgiven ≡ list_any (λ x. is_param_wrong library (placed_of params' x)) xs' → fit_refusal library (walk_of walk) ≡ first_of (when WrongParameter misgiven ∷ [])
   given_decides params' xs' misgiven e t p x m =
-      let any : misgiven ≡ list_any (is_misgiven library) (walk_of walk).placed = m ∙ (λ i. list_any (λ y. is_misgiven library (placed_of (p i) y)) (x i)) ∙ sym (list_any-map (placed_of walk.params.items) (is_misgiven library) walk.instances.items) in
-      decides misgiven e (any ∙ ap (λ z. z || list_any (is_misgiven library) (walk_of walk).placed) (sym t))
+      let any : misgiven ≡ list_any (is_param_wrong library) (walk_of walk).placed = m ∙ (λ i. list_any (λ y. is_param_wrong library (placed_of (p i) y)) (x i)) ∙ sym (list_any-map (placed_of walk.params.items) (is_param_wrong library) walk.instances.items) in
+      decides misgiven e (any ∙ ap (λ z. z || list_any (is_param_wrong library) (walk_of walk).placed) (sym t))
 
 -- what fits gives no definition a parameter that it does not take
 pub fits_bare : (library : List Stored) (e : Expansion (Option Param)) → fit_refusal library e ≡ None → e.spare ≡ false
-fits_bare library e h = by e.spare (neither WrongKind WrongParameter (list_any (is_misplaced library e.kinds) e.placed) (is_param_wrong library e) h).1
+fits_bare library e h = by e.spare (neither WrongKind WrongParameter (list_any (is_kind_wrong library e.kinds) e.placed) (are_params_wrong library e) h).1
   where
-    by : (b : Bool) → (b || list_any (is_misgiven library) e.placed) ≡ false → b ≡ false
+    by : (b : Bool) → (b || list_any (is_param_wrong library) e.placed) ≡ false → b ≡ false
     by true k = k
     by false k = refl

@@ -5,20 +5,21 @@ use Rattle.std.specs.Borrow.{Bor}
 use Rattle.std.specs.List.{list_any, flat_map}
 use Rattle.std.proofs.lemmas.List.{take_at, drop_at, length-map, length-append}
 use Rattle.std.proofs.lemmas.Bool.{or_parts, or_left, or_right}
-use Rattle.prop_lattice.specs.Refusals.{most}
+use Rattle.prop_lattice.specs.Refusals.{most, when, first_of}
 use Rattle.prop_lattice.specs.declared.refusal.Limit.TheVariants.{Definitions as TooMany}
 use Rattle.prop_lattice.specs.declared.refusal.Refusal.{Refusal}
 use Rattle.prop_lattice.specs.declared.refusal.Refusal.TheVariants.{NameTaken, NoSuchDomain, NoSuchRelation, NoSuchCell, NoSuchProcedure, WrongCount, LimitReached, Memory}
 use Rattle.prop_sets.specs.Names.{has_repeat}
 use Rattle.prop_procedures.specs.Stored.{Stored, procedure_number}
 use Rattle.prop_vocabulary.specs.Names.{number_in}
-use Rattle.prop_vocabulary.specs.Refusing.{when, first_of}
+use Rattle.prop_vocabulary.specs.Refusing.{IsReason}
 use Rattle.prop_vocabulary.specs.Vocabulary.{Vocabulary}
 use Rattle.prop_language.specs.Commands as commands
 use Rattle.prop_language.specs.declared.command.Step.{Step}
 use Rattle.prop_language.specs.Said.{words, step_of}
 use Rattle.prop_compound.specs.Definitions.{Definitions}
-use Rattle.prop_compound.specs.Defining.{locals_of, scope_of, is_name_taken, is_nowhere, is_unrelated, is_cell_missing, is_unknown, is_count_wrong, define_refusal}
+use Rattle.prop_compound.specs.Defining.{locals_of, scope_of, is_name_taken, is_domain_missing, is_relation_missing, is_cell_missing, is_unknown, is_count_wrong, words_refusals, uses_refusals, define_refusal}
+use Rattle.prop_compound.specs.inner.Defining.{steps_refusal}
 use Rattle.prop_compound.proofs.Firsts.{stops, passes, list_any-map}
 use Rattle.prop_compound.proofs.Scoping.{taken_then}
 
@@ -75,44 +76,33 @@ one_passed r true rest e = cc
 one_passed r false rest e = (refl, e)
 
 module _ (library : List Stored) (words : Vocabulary) (definitions : Definitions) (params : List (List ℕ)) (steps : List commands.Step) where
-  -- why the steps may not stand for their words, and for what they use
-  abbrev words_said : List (List ℕ) → List (Option Refusal)
-  words_said cells =
-      when NoSuchDomain (list_any (is_nowhere words) steps) ∷ when NoSuchRelation (list_any (is_unrelated words) steps) ∷ when NoSuchCell (is_cell_missing cells steps) ∷ []
-
-  abbrev uses_said : List (Option Refusal)
-  uses_said =
-      when NoSuchProcedure (list_any (is_unknown library definitions) steps) ∷ when WrongCount (list_any (is_count_wrong library definitions) steps) ∷ when (LimitReached TooMany) (nat_le (most TooMany) (length definitions.definitions)) ∷ []
-
   -- what the steps of a definition that is not refused have
   pub record IsRightly : Type 0 where
     pub cells : is_cell_missing params steps ≡ false
     pub procedures : list_any (is_unknown library definitions) steps ≡ false
     pub counts : list_any (is_count_wrong library definitions) steps ≡ false
 
-  module _ (cells : List (List ℕ)) (first : cells ≡ params) (o : Option Refusal) (h : o ≡ first_of (words_said cells)) where
-    said : first_of (words_said params) ≡ o
-    said = sym (h ∙ ap (λ cs. first_of (words_said cs)) first)
+  module _ (cells : List (List ℕ)) (first : cells ≡ params) (o : Option Refusal) (h : o ≡ first_of (words_refusals words cells steps)) where
+    said : first_of (words_refusals words params steps) ≡ o
+    said = sym (h ∙ ap (λ cs. first_of (words_refusals words cs steps)) first)
 
-    pub refused_words : (r : Refusal) → o ≡ Some r → (name : List ℕ) → is_name_taken library definitions name params steps ≡ false → define_refusal library words definitions name params steps ≡ Some r
-    refused_words r e name new =
-        passes NameTaken (is_name_taken library definitions name params steps) (words_said params ++ uses_said) (Some r) new (first_before (words_said params) uses_said r (said ∙ e))
+    pub refused_words : (r : Refusal) → o ≡ Some r → steps_refusal library words definitions params steps ≡ Some r
+    refused_words r e = first_before (words_refusals words params steps) (uses_refusals library definitions steps) r (said ∙ e)
 
-    module _ (e : o ≡ None) (o' : Option Refusal) (h' : o' ≡ first_of uses_said) where
-      past_words : (name : List ℕ) → is_name_taken library definitions name params steps ≡ false → define_refusal library words definitions name params steps ≡ o'
-      past_words name new =
-          passes NameTaken (is_name_taken library definitions name params steps) (words_said params ++ uses_said) o' new (none_before (words_said params) uses_said (said ∙ e) ∙ sym h')
+    module _ (e : o ≡ None) (o' : Option Refusal) (h' : o' ≡ first_of (uses_refusals library definitions steps)) where
+      past_words : steps_refusal library words definitions params steps ≡ o'
+      past_words = none_before (words_refusals words params steps) (uses_refusals library definitions steps) (said ∙ e) ∙ sym h'
 
-      pub refused_uses : (r : Refusal) → o' ≡ Some r → (name : List ℕ) → is_name_taken library definitions name params steps ≡ false → define_refusal library words definitions name params steps ≡ Some r
-      refused_uses r e' name new = past_words name new ∙ e'
+      pub refused_uses : (r : Refusal) → o' ≡ Some r → steps_refusal library words definitions params steps ≡ Some r
+      refused_uses r e' = past_words ∙ e'
 
-      pub not_refused : o' ≡ None → (name : List ℕ) → is_name_taken library definitions name params steps ≡ false → define_refusal library words definitions name params steps ≡ None
-      not_refused e' name new = past_words name new ∙ e'
+      pub not_refused : o' ≡ None → steps_refusal library words definitions params steps ≡ None
+      not_refused e' = past_words ∙ e'
 
       pub rightly : o' ≡ None → IsRightly
       rightly e' =
-          let a = one_passed NoSuchDomain (list_any (is_nowhere words) steps) (when NoSuchRelation (list_any (is_unrelated words) steps) ∷ when NoSuchCell (is_cell_missing params steps) ∷ []) (said ∙ e) in
-          let b = one_passed NoSuchRelation (list_any (is_unrelated words) steps) (when NoSuchCell (is_cell_missing params steps) ∷ []) a.1 in
+          let a = one_passed NoSuchDomain (list_any (is_domain_missing words) steps) (when NoSuchRelation (list_any (is_relation_missing words) steps) ∷ when NoSuchCell (is_cell_missing params steps) ∷ []) (said ∙ e) in
+          let b = one_passed NoSuchRelation (list_any (is_relation_missing words) steps) (when NoSuchCell (is_cell_missing params steps) ∷ []) a.1 in
           let c = one_passed NoSuchCell (is_cell_missing params steps) [] b.1 in
           let d = one_passed NoSuchProcedure (list_any (is_unknown library definitions) steps) (when WrongCount (list_any (is_count_wrong library definitions) steps) ∷ when (LimitReached TooMany) (nat_le (most TooMany) (length definitions.definitions)) ∷ []) (sym h' ∙ e') in
           let f = one_passed WrongCount (list_any (is_count_wrong library definitions) steps) (when (LimitReached TooMany) (nat_le (most TooMany) (length definitions.definitions)) ∷ []) d.1 in
@@ -122,7 +112,7 @@ module _ (library : List Stored) (words : Vocabulary) (definitions : Definitions
   -- a name that is taken is refused before all else
   pub refused_name : is_name_taken library definitions name params steps ≡ true → define_refusal library words definitions name params steps ≡ Some NameTaken
   refused_name e =
-      stops NameTaken (is_name_taken library definitions name params steps) (words_said library words definitions params steps params ++ uses_said library words definitions params steps) e
+      stops NameTaken (is_name_taken library definitions name params steps) (words_refusals words params steps ++ uses_refusals library definitions steps) e
 
   pub why_named : (e : Refusal) → ((e ≡ NameTaken) × (is_name_taken library definitions name params steps ≡ true)) ⊎ (e ≡ Memory) → (define_refusal library words definitions name params steps ≡ Some e) ⊎ (e ≡ Memory)
   why_named e (inl h) = inl (refused_name h.1 ∙ ap (λ r. Some r) (sym h.0))
@@ -131,7 +121,7 @@ module _ (library : List Stored) (words : Vocabulary) (definitions : Definitions
   -- what is not refused has a new name
   pub new_name : define_refusal library words definitions name params steps ≡ None → number_in definitions.names name ≡ None
   new_name e =
-      let taken = one_passed NameTaken (is_name_taken library definitions name params steps) (words_said library words definitions params steps params ++ uses_said library words definitions params steps) e in
+      let taken = one_passed NameTaken (is_name_taken library definitions name params steps) (words_refusals words params steps ++ uses_refusals library definitions steps) e in
       let a = or_parts (is_some (procedure_number library name)) (is_some (number_in definitions.names name) || has_repeat (scope_of params steps)) taken.0 in
       let b = or_parts (is_some (number_in definitions.names name)) (has_repeat (scope_of params steps)) a.1 in
       absent (number_in definitions.names name) b.0
@@ -162,11 +152,13 @@ module _ (library : List Stored) (definitions : Definitions) (name : List ℕ) (
 
 -- what is said of the rest where the name is new
 module _ (library : List Stored) (words : Vocabulary) (definitions : Definitions) (name : List ℕ) (params : List (List ℕ)) (steps : List commands.Step) (new : is_name_taken library definitions name params steps ≡ false) where
-  pub fits_named : {X : Type 0} (r : Result X Refusal) → OnOk r ((name : List ℕ) → is_name_taken library definitions name params steps ≡ false → define_refusal library words definitions name params steps ≡ None) → OnOk r (define_refusal library words definitions name params steps ≡ None)
-  fits_named (Ok x) h = h name new
+  pub fits_named : {X : Type 0} (r : Result X Refusal) → OnOk r (steps_refusal library words definitions params steps ≡ None) → OnOk r (define_refusal library words definitions name params steps ≡ None)
+  fits_named (Ok x) h =
+      passes NameTaken (is_name_taken library definitions name params steps) (words_refusals words params steps ++ uses_refusals library definitions steps) None new h
   fits_named (Err e) h = h
 
-  pub why_rest : {X : Type 0} (r : Result X Refusal) → IfErr r (λ e. ((name : List ℕ) → is_name_taken library definitions name params steps ≡ false → define_refusal library words definitions name params steps ≡ Some e) ⊎ (e ≡ Memory)) → IfErr r (λ e. (define_refusal library words definitions name params steps ≡ Some e) ⊎ (e ≡ Memory))
+  pub why_rest : {X : Type 0} (r : Result X Refusal) → IfErr r (IsReason (steps_refusal library words definitions params steps)) → IfErr r (IsReason (define_refusal library words definitions name params steps))
   why_rest (Ok x) h = h
-  why_rest (Err e) (inl h) = inl (h name new)
+  why_rest (Err e) (inl h) =
+      inl (passes NameTaken (is_name_taken library definitions name params steps) (words_refusals words params steps ++ uses_refusals library definitions steps) (Some e) new h)
   why_rest (Err e) (inr h) = inr h

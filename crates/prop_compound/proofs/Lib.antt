@@ -1,6 +1,7 @@
 pub mod Latest
 pub mod Unrolling
 pub mod Walking
+pub mod WellMade
 pub mod Sparing
 pub mod Shorter
 pub mod Sizes
@@ -12,5 +13,6 @@ mod Using
 mod Placing
 mod Zips
 mod Looping
+pub mod InPlace
 pub mod Judging
 pub mod Resolved

@@ -11,7 +11,8 @@ use Rattle.prop_procedures.specs.declared.flat.Placed as instances
 use Rattle.prop_procedures.specs.Flats.{param_at, cells_of}
 use Rattle.prop_compound.specs.declared.walk.Walk as walks
 use Rattle.prop_compound.specs.Expansion.{Placed, with_placed}
-use Rattle.prop_compound.specs.Flattened.{placed_of, walk_of, IsPlaceIn, ArePlaced, IsFurther, IsInstanceOver, AreRight}
+use Rattle.prop_compound.specs.Flattened.{placed_of, IsInstanceOver}
+use Rattle.prop_compound.specs.inner.Flattened.{walk_of, IsPlaceIn, ArePlaced, IsFurther, AreRight}
 use Rattle.prop_compound.proofs.Ranges as ranges
 
 same_at : (params more : List Param) (n : ℕ) → n < length params → slice_get (params ++ more) n ≡ slice_get params n

@@ -14,10 +14,12 @@ use Rattle.prop_compound.specs.declared.definition.NumberedStep.TheVariants.{Loc
 use Rattle.prop_compound.specs.Definitions.{Definition}
 use Rattle.prop_procedures.specs.Fitting.{kind_at}
 use Rattle.prop_compound.specs.Expansion.{Walk, Placed, cell_at, cells_at, with_fresh, param_passed, use_expanded, steps_expanded, definition_expanded}
-use Rattle.prop_compound.specs.Kept.{fresh_of, total_in, AreInScope, IsUseBelow, IsUseOver}
+use Rattle.prop_compound.specs.inner.Kept.{fresh_of, total_in, AreInScope, IsUseBelow}
+use Rattle.prop_compound.specs.Kept.{IsUseOver}
 use Rattle.prop_compound.proofs.Latest.{latest_at}
 use Rattle.prop_compound.proofs.Unrolling.{Adds}
 use Rattle.prop_compound.proofs.Sizes.{IsLonger, Makes, use_makes, definitions_make}
+use Rattle.prop_compound.proofs.WellMade.{AreWellMade, well_made_tail}
 
 -- the instance's procedure is one of the library, on as many cells as it wants, which are below n
 pub record IsRight (library : List Stored) (n : ℕ) (p : Placed (Option Param)) : Type 0 where
@@ -56,6 +58,13 @@ fresh_within e kind cells h =
     let n = length (e.kinds ++ kind ∷ []) in
     All-push (λ cell. cell < n) cells (length e.kinds) (cells_still (length e.kinds) n (omega (arith, longer)) cells h) (omega (arith, longer))
 
+-- each of these definitions uses procedures of the library alone, on as many cells as they want
+abbrev pub AreOver : List Stored → List Definition → Type 0
+AreOver library latest = (n : ℕ) (d : Definition) → n < length latest → All (IsUseOver library) (latest_at latest n d).steps
+
+over_tail : (library : List Stored) (d : Definition) (earlier : List Definition) → AreOver library (d ∷ earlier) → AreOver library earlier
+over_tail library d earlier h n x l = rw (ne_eqb n (length earlier) (λ e. omega (arith, e, l))) at (h n x (omega (arith, l)))
+
 module _ (library : List Stored) (words : Vocabulary) (definitions : List Definition) where
   -- how many cells a definition wants
   abbrev wants : ℕ → ℕ
@@ -73,7 +82,7 @@ module _ (library : List Stored) (words : Vocabulary) (definitions : List Defini
       h m below.0 cells (below.1 ∙ sym same) given e within right
 
   steps_keep : (f : Adds) (count : ℕ → ℕ) (n : ℕ) → Makes f count → Keeps f n → (steps : List NumberedStep) → All (IsUseBelow definitions n) steps → All (IsUseOver library) steps → (cells : List ℕ) → AreInScope (length cells) steps →
-      (given : Option Param) (e : Walk) → All (λ cell. cell < length e.kinds) cells → AreRight library e → AreRight library (steps_expanded words f given cells steps e)
+      (given : Option Param) (e : Walk) → All (λ cell. cell < length e.kinds) cells → AreRight library e → AreRight library (steps_expanded (param_passed words) f given cells steps e)
   steps_keep f count n makes h [] below over cells scope given e within right = right
   steps_keep f count n makes h (Local kind ∷ steps) below over cells scope given e within right =
       steps_keep f count n makes h steps (All-tail (IsUseBelow definitions n) (Local kind) steps below) (All-tail (IsUseOver library) (Local kind) steps over) (cells ++ length e.kinds ∷ [])
@@ -91,33 +100,17 @@ module _ (library : List Stored) (words : Vocabulary) (definitions : List Defini
       (cells_still (length e.kinds) (length e'.kinds) longer cells within)
       (use_keeps f n h used places passing (All-head (IsUseBelow definitions n) step steps below) (All-head (IsUseOver library) step steps over) chosen (length-map places (cell_at cells)) (param_passed words given passing) e (chosen_within (length e.kinds) cells places within scope.0) right)
 
-  -- each of these definitions is well made, and so are its uses
-  pub record IsSound (latest : List Definition) (n : ℕ) (d : Definition) : Type 0 where
-    pub params : option_map_or (λ (d : Definition). d.params) (slice_get definitions n) 0 ≡ (latest_at latest n d).params
-    pub scope : AreInScope (latest_at latest n d).params (latest_at latest n d).steps
-    pub below : All (IsUseBelow definitions n) (latest_at latest n d).steps
-    pub over : All (IsUseOver library) (latest_at latest n d).steps
-
-  abbrev pub AreSound : List Definition → Type 0
-  AreSound latest = (n : ℕ) (d : Definition) → n < length latest → IsSound latest n d
-
-  sound_tail : (d : Definition) (earlier : List Definition) → AreSound (d ∷ earlier) → AreSound earlier
-  sound_tail d earlier h n x l =
-      let is_not = ne_eqb n (length earlier) (λ e. omega (arith, e, l)) in
-      let here = h n x (omega (arith, l)) in
-      record { params = rw is_not at here.params; scope = rw is_not at here.scope; below = rw is_not at here.below; over = rw is_not at here.over }
-
-  pub definitions_keep : (latest : List Definition) → AreSound latest → Keeps (definition_expanded words latest) (length latest)
-  definitions_keep [] h m l cells count given e within right = right
-  definitions_keep (d ∷ earlier) h m l cells count given e within right =
-      let later = definitions_keep earlier (sound_tail d earlier h) in
+  pub definitions_keep : (latest : List Definition) → AreWellMade definitions latest → AreOver library latest → Keeps (definition_expanded (param_passed words) latest) (length latest)
+  definitions_keep [] h over m l cells count given e within right = right
+  definitions_keep (d ∷ earlier) h over m l cells count given e within right =
+      let later = definitions_keep earlier (well_made_tail definitions d earlier h) (over_tail library d earlier over) in
       elim (cases_eq m (length earlier)) [
         | inl same ↦
             (let is_it = eq-eqb m (length earlier) same in
             let here = h m d l in
             let params : d.params ≡ length cells = sym (rw is_it at here.params) ∙ count in
             let below : All (IsUseBelow definitions (length earlier)) d.steps = rw same at (rw is_it at here.below) in
-            rw is_it (steps_keep (definition_expanded words earlier) (total_in fresh_of earlier) (length earlier) (definitions_make words earlier) later d.steps below (rw is_it at here.over) cells (rw params at (rw is_it at here.scope)) given e within right))
+            rw is_it (steps_keep (definition_expanded (param_passed words) earlier) (total_in fresh_of earlier) (length earlier) (definitions_make words earlier) later d.steps below (rw is_it at (over m d l)) cells (rw params at (rw is_it at here.scope)) given e within right))
         | inr other ↦
             rw (ne_eqb m (length earlier) other) (later m (omega (arith, l, other)) cells count given e within right)
       ]

@@ -13,6 +13,7 @@ use Rattle.prop_lattice.specs.Refusals.{most}
 use Rattle.prop_lattice.specs.declared.refusal.Limit.TheVariants.{Cells, Instances}
 use Rattle.prop_lattice.specs.declared.refusal.Refusal.{Refusal}
 use Rattle.prop_lattice.specs.declared.refusal.Refusal.TheVariants.{Memory}
+use Rattle.prop_procedures.specs.declared.shape.Kinded.{Kinded}
 use Rattle.prop_procedures.specs.Stored.{Stored, procedure_number}
 use Rattle.prop_vocabulary.specs.Names.{number_in, numbers_in, is_missing}
 use Rattle.prop_vocabulary.specs.Vocabulary.{Vocabulary}
@@ -25,9 +26,11 @@ use Rattle.prop_compound.specs.declared.definition.NumberedStep.{NumberedStep}
 use Rattle.prop_compound.specs.declared.definition.NumberedStep.TheVariants as numbered
 use Rattle.prop_compound.specs.Definitions.{Definition, Definitions, used_named, cells_wanted, is_passing_on}
 use Rattle.prop_compound.specs.Defining.{scope_of, definition_of, with_definition, locals_of, cells_in, step_numbered, passing_named, is_cell_missing, is_unknown, is_count_wrong}
-use Rattle.prop_compound.specs.Expansion.{steps_expanded, definition_expanded, spare_of, is_spare}
-use Rattle.prop_compound.specs.Shortcuts.{shortened}
-use Rattle.prop_compound.specs.Kept.{bare, all_bare, fresh_of, instances_of, total_in, total_of, places_made, IsInScope, AreInScope, IsUseBelow, IsUseOver, IsThere, IsKept, AreKept, IsCounted, IsDefinedOver}
+use Rattle.prop_compound.specs.Expansion.{param_passed, steps_expanded, definition_expanded, spare_of, is_spare}
+use Rattle.prop_compound.specs.inner.Shortcuts.{shortened}
+use Rattle.prop_compound.specs.Kinds.{IsLocalOf, AreLocalsOf}
+use Rattle.prop_compound.specs.Kept.{bare, all_bare, IsUseOver, IsDefinedOver}
+use Rattle.prop_compound.specs.inner.Kept.{fresh_of, instances_of, total_in, total_of, places_made, IsInScope, AreInScope, IsUseBelow, IsThere, IsKept, AreKept, IsCounted}
 use Rattle.prop_compound.proofs.Scoping.{late_at, late_is, taken_on, dropped_on, within_on}
 use Rattle.prop_compound.proofs.Judging.{IsRightly}
 use Rattle.prop_compound.proofs.Sparing.{spare_same, spare_last}
@@ -234,9 +237,9 @@ kept_last ks count items k kept scope below h =
       plan_uses = subst (All (IsUseBelow (ds ++ d ∷ []) (length ds))) (sym plan) (still (flat_map (shortened ks) items) short_below);
       same =
           λ words cells given e l. (
-          ap (λ it. steps_expanded words (definition_expanded words (reverse (ds ++ d ∷ []))) given cells it e) plan ∙
+          ap (λ it. steps_expanded (param_passed words) (definition_expanded (param_passed words) (reverse (ds ++ d ∷ []))) given cells it e) plan ∙
           same_later ds d words n here (flat_map (shortened ks) items) items short_below below given cells e (all_make ks kept words items below given cells e) ∙
-          ap (λ it. steps_expanded words (definition_expanded words (reverse (ds ++ d ∷ []))) given cells it e) (sym steps)
+          ap (λ it. steps_expanded (param_passed words) (definition_expanded (param_passed words) (reverse (ds ++ d ∷ []))) given cells it e) (sym steps)
           );
       spare_given = h.spare_given ∙ (λ i. not (list_any is_passing_on (sym steps i)) || list_any (spare_of (is_spare ds) true) (sym steps i)) ∙ sym (spare true);
       spare_bare = h.spare_bare ∙ ap (list_any (spare_of (is_spare ds) false)) (sym steps) ∙ sym (spare false);
@@ -308,6 +311,13 @@ module _ (library : List Stored) (words : Vocabulary) (definitions : Definitions
     uses = All-push (λ (d : Definition). All (IsUseOver library) d.steps) definitions.definitions (bare k) over.uses steps_over;
   })
   pushed_over (Err r) new steps_over over e h = subst (IsDefinedOver library) (sym h) over
+
+-- one definition more, whose locals are of such kinds, or none
+pub pushed_locals : {X : Type 0} (P : Kinded → Type 0) (definitions : Definitions) (name : List ℕ) (k : KeptDefinition) → All (IsLocalOf P) k.steps.items → (r : Result X Refusal) (new : Definitions) →
+    OnOk r (new ≡ record { names = definitions.names ++ name ∷ []; definitions = definitions.definitions ++ bare k ∷ [] }) → OnErr r (new ≡ definitions) → AreLocalsOf P definitions → AreLocalsOf P new
+pushed_locals P definitions name k locals (Ok x) new e h all =
+    subst (AreLocalsOf P) (sym e) (All-push (λ (d : Definition). All (IsLocalOf P) d.steps) definitions.definitions (bare k) all locals)
+pushed_locals P definitions name k locals (Err r) new e h all = subst (AreLocalsOf P) (sym h) all
 
 -- what holds holds on the way that it is wanted on
 pub on_ok : {X E : Type 0} {P : Type 0} (r : Result X E) → P → OnOk r P

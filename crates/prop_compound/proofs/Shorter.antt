@@ -19,8 +19,10 @@ use Rattle.prop_compound.specs.declared.definition.NumberedStep.TheVariants.{Loc
 use Rattle.prop_compound.specs.Definitions.{Definition}
 use Rattle.prop_procedures.specs.Fitting.{kind_at}
 use Rattle.prop_compound.specs.Expansion.{Walk, cell_at, cells_at, with_fresh, param_passed, use_expanded, steps_expanded, definition_expanded}
-use Rattle.prop_compound.specs.Shortcuts.{passed, through, plan_of, shortened}
-use Rattle.prop_compound.specs.Kept.{all_bare, places_made, AreInScope, IsUseBelow, AreKept}
+use Rattle.prop_compound.specs.Shortcuts.{passed}
+use Rattle.prop_compound.specs.inner.Shortcuts.{through, plan_of, shortened}
+use Rattle.prop_compound.specs.Kept.{all_bare}
+use Rattle.prop_compound.specs.inner.Kept.{places_made, AreInScope, IsUseBelow, AreKept}
 use Rattle.prop_compound.proofs.Ranges.{chosen_within}
 use Rattle.prop_compound.proofs.Unrolling.{Adds, same_steps, one_later}
 use Rattle.prop_compound.proofs.Walking.{kept_at, kept_here, params_at, begins, earlier_of}
@@ -33,7 +35,7 @@ chosen_twice cells places [] h = refl
 chosen_twice cells places (c ∷ chosen) h =
     λ i. sym (get_or-map (cell_at cells) places c 0 0 (All-head (λ place. place < length places) c chosen h)) i ∷ chosen_twice cells places chosen (All-tail (λ place. place < length places) c chosen h) i
 
-passed_twice : (words : Vocabulary) (given : Option Param) (passing own : Passing) → param_passed words given (passed passing own) ≡ param_passed words (param_passed words given passing) own
+pub passed_twice : (words : Vocabulary) (given : Option Param) (passing own : Passing) → param_passed words given (passed passing own) ≡ param_passed words (param_passed words given passing) own
 passed_twice words given passing passings.Nothing = refl
 passed_twice words given passing (passings.Scale k) = refl
 passed_twice words given passing (passings.Relation n) = refl
@@ -41,12 +43,12 @@ passed_twice words given passing passings.Own = refl
 
 module _ (used : Used) (places : List ℕ) (passing : Passing) (n : ℕ) (count : n ≡ length places) where
   module _ (words : Vocabulary) (f : Adds) (given : Option Param) (cells : List ℕ) (rest : List NumberedStep) (e : Walk) where
-    through_makes : (plan : List NumberedStep) → AreInScope n plan → steps_expanded words f (param_passed words given passing) (cells_at cells places) plan e ≡ use_expanded f used (cells_at cells places) (param_passed words given passing) e →
-        steps_expanded words f given cells (through plan used places passing ++ rest) e ≡ steps_expanded words f given cells rest (use_expanded f used (cells_at cells places) (param_passed words given passing) e)
-    through_makes [] scope makes = ap (steps_expanded words f given cells rest) makes
+    through_makes : (plan : List NumberedStep) → AreInScope n plan → steps_expanded (param_passed words) f (param_passed words given passing) (cells_at cells places) plan e ≡ use_expanded f used (cells_at cells places) (param_passed words given passing) e →
+        steps_expanded (param_passed words) f given cells (through plan used places passing ++ rest) e ≡ steps_expanded (param_passed words) f given cells rest (use_expanded f used (cells_at cells places) (param_passed words given passing) e)
+    through_makes [] scope makes = ap (steps_expanded (param_passed words) f given cells rest) makes
     through_makes (Use inner chosen own ∷ []) scope makes =
         let within : All (λ place. place < length places) chosen = subst (λ m. All (λ place. place < m) chosen) count scope.0 in
-        ap (steps_expanded words f given cells rest) ((λ i. use_expanded f inner (chosen_twice cells places chosen within i) (passed_twice words given passing own i) e) ∙ makes)
+        ap (steps_expanded (param_passed words) f given cells rest) ((λ i. use_expanded f inner (chosen_twice cells places chosen within i) (passed_twice words given passing own i) e) ∙ makes)
     through_makes (Use inner chosen own ∷ (step ∷ steps)) scope makes = refl
     through_makes (Local kind ∷ steps) scope makes = refl
     through_makes (Like place ∷ steps) scope makes = refl
@@ -85,7 +87,7 @@ module _ (used : Used) (places : List ℕ) (passing : Passing) (n : ℕ) (count 
 
 module _ (ks : List KeptDefinition) (kept : AreKept ks) where
   abbrev M : Vocabulary → Adds
-  M words = definition_expanded words (reverse (all_bare ks))
+  M words = definition_expanded (param_passed words) (reverse (all_bare ks))
 
   abbrev IsBelow : NumberedStep → Type 0
   IsBelow = IsUseBelow (all_bare ks) (length ks)
@@ -94,7 +96,7 @@ module _ (ks : List KeptDefinition) (kept : AreKept ks) where
   plan_is n k l at = ap (λ o. option_map_or (λ (k : KeptDefinition). k.plan.items) o []) (slice_get_read ks (length ks) n k refl l at)
 
   short_makes : (words : Vocabulary) → (step : NumberedStep) → IsUseBelow (all_bare ks) (length ks) step → (given : Option Param) (cells : List ℕ) (rest : List NumberedStep) (e : Walk) →
-      steps_expanded words (definition_expanded words (reverse (all_bare ks))) given cells (shortened ks step ++ rest) e ≡ steps_expanded words (definition_expanded words (reverse (all_bare ks))) given cells (step ∷ rest) e
+      steps_expanded (param_passed words) (definition_expanded (param_passed words) (reverse (all_bare ks))) given cells (shortened ks step ++ rest) e ≡ steps_expanded (param_passed words) (definition_expanded (param_passed words) (reverse (all_bare ks))) given cells (step ∷ rest) e
   short_makes words (Local kind) below given cells rest e = refl
   short_makes words (Like place) below given cells rest e = refl
   short_makes words (Use (uses.Procedure n) places passing) below given cells rest e = refl
@@ -105,7 +107,7 @@ module _ (ks : List KeptDefinition) (kept : AreKept ks) where
       let here = kept_here ks n k kept below.0 at in
       let count = params_at ks n k (length places) below.0 at below.1 in
       let makes = begins words ks n k (cells_at cells places) (param_passed words given passing) e kept below.0 at (length-map places (cell_at cells) ∙ sym count) in
-      ap (λ plan. steps_expanded words (M words) given cells (through plan (uses.Definition n) places passing ++ rest) e) (plan_is n k below.0 at) ∙
+      ap (λ plan. steps_expanded (param_passed words) (M words) given cells (through plan (uses.Definition n) places passing ++ rest) e) (plan_is n k below.0 at) ∙
       through_makes (uses.Definition n) places passing k.params count words (M words) given cells rest e k.plan.items here.plan_in_scope makes
 
   short_scope : (step : NumberedStep) → IsUseBelow (all_bare ks) (length ks) step → (m : ℕ) (rest : List NumberedStep) → AreInScope m (step ∷ []) → AreInScope (m + places_made step) rest → AreInScope m (shortened ks step ++ rest)
@@ -137,8 +139,8 @@ module _ (ks : List KeptDefinition) (kept : AreKept ks) where
       (through_below (uses.Definition n) places passing k.params count (all_bare ks) n (length ks) (omega (arith, early)) below rest behind k.plan.items here.plan_uses)
 
   -- a step more before steps that make the same
-  behind_same : (words : Vocabulary) → (step : NumberedStep) (a b : List NumberedStep) → ((given : Option Param) (cells : List ℕ) (e : Walk) → steps_expanded words (M words) given cells a e ≡ steps_expanded words (M words) given cells b e) →
-      (given : Option Param) (cells : List ℕ) (e : Walk) → steps_expanded words (M words) given cells (step ∷ a) e ≡ steps_expanded words (M words) given cells (step ∷ b) e
+  behind_same : (words : Vocabulary) → (step : NumberedStep) (a b : List NumberedStep) → ((given : Option Param) (cells : List ℕ) (e : Walk) → steps_expanded (param_passed words) (M words) given cells a e ≡ steps_expanded (param_passed words) (M words) given cells b e) →
+      (given : Option Param) (cells : List ℕ) (e : Walk) → steps_expanded (param_passed words) (M words) given cells (step ∷ a) e ≡ steps_expanded (param_passed words) (M words) given cells (step ∷ b) e
   behind_same words (Local kind) a b h given cells e = h given (cells ++ length e.kinds ∷ []) (with_fresh e kind)
   behind_same words (Like place) a b h given cells e =
       h given (cells ++ length e.kinds ∷ []) (with_fresh e (kind_at e.kinds (cell_at cells place)))
@@ -146,11 +148,11 @@ module _ (ks : List KeptDefinition) (kept : AreKept ks) where
       h given cells (use_expanded (M words) used (cells_at cells places) (param_passed words given passing) e)
 
   pub all_make : (words : Vocabulary) → (steps : List NumberedStep) → All (IsUseBelow (all_bare ks) (length ks)) steps → (given : Option Param) (cells : List ℕ) (e : Walk) →
-      steps_expanded words (definition_expanded words (reverse (all_bare ks))) given cells (flat_map (shortened ks) steps) e ≡ steps_expanded words (definition_expanded words (reverse (all_bare ks))) given cells steps e
+      steps_expanded (param_passed words) (definition_expanded (param_passed words) (reverse (all_bare ks))) given cells (flat_map (shortened ks) steps) e ≡ steps_expanded (param_passed words) (definition_expanded (param_passed words) (reverse (all_bare ks))) given cells steps e
   all_make words [] below given cells e = refl
   all_make words (step ∷ steps) below given cells e =
       let rest = flat_map (shortened ks) steps in
-      ap (λ all. steps_expanded words (M words) given cells all e) (flat_map-cons (shortened ks) step steps) ∙ short_makes words step (All-head IsBelow step steps below) given cells rest e ∙
+      ap (λ all. steps_expanded (param_passed words) (M words) given cells all e) (flat_map-cons (shortened ks) step steps) ∙ short_makes words step (All-head IsBelow step steps below) given cells rest e ∙
       behind_same words step rest steps (all_make words steps (All-tail IsBelow step steps below)) given cells e
 
   pub all_scope : (steps : List NumberedStep) → All (IsUseBelow (all_bare ks) (length ks)) steps → (m : ℕ) → AreInScope m steps → AreInScope m (flat_map (shortened ks) steps)
@@ -168,19 +170,19 @@ module _ (ks : List KeptDefinition) (kept : AreKept ks) where
 -- ---- one definition more
 
 module _ (ds : List Definition) (d : Definition) where
-  made_later : (words : Vocabulary) → (m : ℕ) → m < length ds → definition_expanded words (reverse (ds ++ d ∷ [])) m ≡ definition_expanded words (reverse ds) m
+  made_later : (words : Vocabulary) → (m : ℕ) → m < length ds → definition_expanded (param_passed words) (reverse (ds ++ d ∷ [])) m ≡ definition_expanded (param_passed words) (reverse ds) m
   made_later words m l =
-      ap (λ latest. definition_expanded words latest m) (reverse-append ds (d ∷ [])) ∙ one_later words d (reverse ds) m (omega (arith, l, length-reverse ds))
+      ap (λ latest. definition_expanded (param_passed words) latest m) (reverse-append ds (d ∷ [])) ∙ one_later words d (reverse ds) m (omega (arith, l, length-reverse ds))
 
   -- steps that use definitions below n make the same
   steps_later : (words : Vocabulary) → (n : ℕ) → n ≤ length ds → (steps : List NumberedStep) → All (IsUseBelow ds n) steps → (given : Option Param) (cells : List ℕ) (e : Walk) →
-      steps_expanded words (definition_expanded words (reverse (ds ++ d ∷ []))) given cells steps e ≡ steps_expanded words (definition_expanded words (reverse ds)) given cells steps e
+      steps_expanded (param_passed words) (definition_expanded (param_passed words) (reverse (ds ++ d ∷ []))) given cells steps e ≡ steps_expanded (param_passed words) (definition_expanded (param_passed words) (reverse ds)) given cells steps e
   steps_later words n l steps below given cells e =
-      same_steps words (definition_expanded words (reverse (ds ++ d ∷ []))) (definition_expanded words (reverse ds)) n (λ m b. made_later words m (omega (arith, b, l))) steps
+      same_steps words (definition_expanded (param_passed words) (reverse (ds ++ d ∷ []))) (definition_expanded (param_passed words) (reverse ds)) n (λ m b. made_later words m (omega (arith, b, l))) steps
       (All-weaker (IsUseBelow ds n) _ (earlier_of ds n) steps below) given cells e
 
   pub same_later : (words : Vocabulary) → (n : ℕ) → n ≤ length ds → (a b : List NumberedStep) → All (IsUseBelow ds n) a → All (IsUseBelow ds n) b → (given : Option Param) (cells : List ℕ) (e : Walk) →
-      steps_expanded words (definition_expanded words (reverse ds)) given cells a e ≡ steps_expanded words (definition_expanded words (reverse ds)) given cells b e →
-      steps_expanded words (definition_expanded words (reverse (ds ++ d ∷ []))) given cells a e ≡ steps_expanded words (definition_expanded words (reverse (ds ++ d ∷ []))) given cells b e
+      steps_expanded (param_passed words) (definition_expanded (param_passed words) (reverse ds)) given cells a e ≡ steps_expanded (param_passed words) (definition_expanded (param_passed words) (reverse ds)) given cells b e →
+      steps_expanded (param_passed words) (definition_expanded (param_passed words) (reverse (ds ++ d ∷ []))) given cells a e ≡ steps_expanded (param_passed words) (definition_expanded (param_passed words) (reverse (ds ++ d ∷ []))) given cells b e
   same_later words n l a b below_a below_b given cells e h =
       steps_later words n l a below_a given cells e ∙ h ∙ sym (steps_later words n l b below_b given cells e)

@@ -12,7 +12,8 @@ use Rattle.prop_compound.specs.declared.definition.NumberedStep.{NumberedStep}
 use Rattle.prop_compound.specs.declared.definition.NumberedStep.TheVariants.{Use}
 use Rattle.prop_compound.specs.Definitions.{Definition, is_taking}
 use Rattle.prop_compound.specs.Expansion.{passes_something, spare_of, spare_in, is_spare}
-use Rattle.prop_compound.specs.Kept.{all_bare, IsUseBelow, AreKept}
+use Rattle.prop_compound.specs.Kept.{all_bare}
+use Rattle.prop_compound.specs.inner.Kept.{IsUseBelow, AreKept}
 use Rattle.prop_compound.proofs.Walking.{kept_here}
 
 -- what is known of a use that is given something and of one that is not is known of each

@@ -17,7 +17,8 @@ use Rattle.prop_compound.specs.declared.definition.NumberedStep.{NumberedStep}
 use Rattle.prop_compound.specs.declared.definition.NumberedStep.TheVariants.{Local, Like, Use}
 use Rattle.prop_compound.specs.Definitions.{Definition}
 use Rattle.prop_compound.specs.Expansion.{Walk, cell_at, cells_at, param_passed, use_expanded, steps_expanded, definition_expanded}
-use Rattle.prop_compound.specs.Kept.{bare, all_bare, places_made, IsInScope, AreInScope, IsUseBelow, IsKept, AreKept}
+use Rattle.prop_compound.specs.Kept.{bare, all_bare}
+use Rattle.prop_compound.specs.inner.Kept.{places_made, IsInScope, AreInScope, IsUseBelow, IsKept, AreKept}
 use Rattle.prop_compound.proofs.Latest.{latest_at, latest_of}
 use Rattle.prop_compound.proofs.Unrolling.{Adds, IsEarlier, AreOrdered, unrolled}
 
@@ -52,13 +53,13 @@ ordered ks kept n d l =
 
 -- before the first step
 pub begins : (words : Vocabulary) (ks : List KeptDefinition) (n : ℕ) (k : KeptDefinition) (cells : List ℕ) (given : Option Param) (e : Walk) → AreKept ks → n < length ks → k ≡ get_or ks n k → length cells ≡ k.params →
-    steps_expanded words (definition_expanded words (reverse (all_bare ks))) given cells k.plan.items e ≡ definition_expanded words (reverse (all_bare ks)) n cells given e
+    steps_expanded (param_passed words) (definition_expanded (param_passed words) (reverse (all_bare ks))) given cells k.plan.items e ≡ definition_expanded (param_passed words) (reverse (all_bare ks)) n cells given e
 begins words ks n k cells given e kept l at count =
-    let M = definition_expanded words (reverse (all_bare ks)) in
+    let M = definition_expanded (param_passed words) (reverse (all_bare ks)) in
     let here = kept_here ks n k kept l at in
     let in_all : n < length (reverse (all_bare ks)) = omega (arith, l, length-reverse (all_bare ks), length-map ks bare) in
     here.same words cells given e count ∙
-    sym (unrolled words (reverse (all_bare ks)) (ordered ks kept) n (bare k) in_all cells given e ∙ ap (λ d. steps_expanded words M given cells d.steps e) (bare_at ks n k (bare k) l at))
+    sym (unrolled words (reverse (all_bare ks)) (ordered ks kept) n (bare k) in_all cells given e ∙ ap (λ d. steps_expanded (param_passed words) M given cells d.steps e) (bare_at ks n k (bare k) l at))
 
 -- the count of the cells of a use is that of the parameters
 pub params_at : (ks : List KeptDefinition) (n : ℕ) (k : KeptDefinition) (count : ℕ) → n < length ks → k ≡ get_or ks n k → option_map_or (λ (d : Definition). d.params) (slice_get (all_bare ks) n) 0 ≡ count → k.params ≡ count
@@ -71,15 +72,15 @@ params_at ks n k count l at e =
 -- what is at hand behind a step makes the same with the further steps as what was at hand before it does with the step too
 module _ (words : Vocabulary) (D : Adds) (given : Option Param) (cells : List ℕ) (step : NumberedStep) (e : Walk) where
   abbrev pub Goes : List ℕ → Walk → Type 0
-  Goes cells' e' = (steps : List NumberedStep) → steps_expanded words D given cells (step ∷ steps) e ≡ steps_expanded words D given cells' steps e'
+  Goes cells' e' = (steps : List NumberedStep) → steps_expanded (param_passed words) D given cells (step ∷ steps) e ≡ steps_expanded (param_passed words) D given cells' steps e'
 
   module _ (kind : Kinded) (cells' : List ℕ) (kinds' : List Kinded) where
     pub local_goes : {X E : Type 0} (r : Result X E) → step ≡ Local kind → OnOk r (kinds' ≡ e.kinds ++ kind ∷ []) → OnOk r (cells' ≡ cells ++ length e.kinds ∷ []) → OnOk r (Goes cells' (record e { kinds = kinds' }))
-    local_goes (Ok x) s w p = λ steps. ap (λ z. steps_expanded words D given cells (z ∷ steps) e) s ∙ (λ i. steps_expanded words D given (sym p i) steps (record e { kinds = sym w i }))
+    local_goes (Ok x) s w p = λ steps. ap (λ z. steps_expanded (param_passed words) D given cells (z ∷ steps) e) s ∙ (λ i. steps_expanded (param_passed words) D given (sym p i) steps (record e { kinds = sym w i }))
     local_goes (Err y) s w p = w
 
     pub like_goes : {X E : Type 0} (r : Result X E) (place : ℕ) → step ≡ Like place → kind ≡ kind_at e.kinds (cell_at cells place) → OnOk r (kinds' ≡ e.kinds ++ kind ∷ []) → OnOk r (cells' ≡ cells ++ length e.kinds ∷ []) → OnOk r (Goes cells' (record e { kinds = kinds' }))
-    like_goes (Ok x) place s k w p = λ steps. ap (λ z. steps_expanded words D given cells (z ∷ steps) e) s ∙ (λ i. steps_expanded words D given (sym p i) steps (record e { kinds = sym (w ∙ ap (λ z. e.kinds ++ z ∷ []) k) i }))
+    like_goes (Ok x) place s k w p = λ steps. ap (λ z. steps_expanded (param_passed words) D given cells (z ∷ steps) e) s ∙ (λ i. steps_expanded (param_passed words) D given (sym p i) steps (record e { kinds = sym (w ∙ ap (λ z. e.kinds ++ z ∷ []) k) i }))
     like_goes (Err y) place s k w p = w
 
   pub one_made : {X E : Type 0} (r : Result X E) (cells' : List ℕ) → places_made step ≡ 1 → OnOk r (cells' ≡ cells ++ length e.kinds ∷ []) → OnOk r (length cells' ≡ length cells + places_made step)
@@ -89,7 +90,7 @@ module _ (words : Vocabulary) (D : Adds) (given : Option Param) (cells : List �
   module _ (used : Used) (places : List ℕ) (passing : Passing) (s : step ≡ Use used places passing) where
     pub use_goes : (used' : Used) → used ≡ used' → (chosen : List ℕ) → chosen ≡ cells_at cells places → (p : Option Param) → p ≡ param_passed words given passing → (e' : Walk) → e' ≡ use_expanded D used' chosen p e → Goes cells e'
     use_goes used' u chosen c p q e' w =
-        λ steps. ap (λ z. steps_expanded words D given cells (z ∷ steps) e) s ∙ ap (steps_expanded words D given cells steps) (sym (w ∙ (λ i. use_expanded D (sym u i) (c i) (q i) e)))
+        λ steps. ap (λ z. steps_expanded (param_passed words) D given cells (z ∷ steps) e) s ∙ ap (steps_expanded (param_passed words) D given cells steps) (sym (w ∙ (λ i. use_expanded D (sym u i) (c i) (q i) e)))
 
     pub use_goes_if : {X E : Type 0} (r : Result X E) (used' : Used) → used ≡ used' → (chosen : List ℕ) → chosen ≡ cells_at cells places → (p : Option Param) → p ≡ param_passed words given passing → (mid e' : Walk) → mid ≡ e → OnOk r (e' ≡ use_expanded D used' chosen p mid) → OnOk r (Goes cells e')
     use_goes_if (Ok x) used' u chosen c p q mid e' same w = use_goes used' u chosen c p q e' (w ∙ ap (use_expanded D used' chosen p) same)
@@ -109,9 +110,9 @@ module _ (all : List NumberedStep) (i : ℕ) (step : NumberedStep) (l : i < leng
   pub scope_behind : (n m : ℕ) → m ≡ n + places_made step → AreInScope n (drop i all) → AreInScope m (drop (i + 1) all)
   scope_behind n m e h = subst (λ k. AreInScope k (drop (i + 1) all)) (sym e) (subst (AreInScope n) rest_is h).1
 
-  pub goes_on : (words : Vocabulary) (D : Adds) (given : Option Param) (cells cells' : List ℕ) (e e' : Walk) → Goes words D given cells step e cells' e' → steps_expanded words D given cells' (drop (i + 1) all) e' ≡ steps_expanded words D given cells (drop i all) e
+  pub goes_on : (words : Vocabulary) (D : Adds) (given : Option Param) (cells cells' : List ℕ) (e e' : Walk) → Goes words D given cells step e cells' e' → steps_expanded (param_passed words) D given cells' (drop (i + 1) all) e' ≡ steps_expanded (param_passed words) D given cells (drop i all) e
   goes_on words D given cells cells' e e' h =
-      sym (h (drop (i + 1) all)) ∙ ap (λ steps. steps_expanded words D given cells steps e) (sym rest_is)
+      sym (h (drop (i + 1) all)) ∙ ap (λ steps. steps_expanded (param_passed words) D given cells steps e) (sym rest_is)
 
 -- a use of an earlier definition is of one that there is
 pub below_all : (ds : List Definition) (n m : ℕ) → n ≤ m → (step : NumberedStep) → IsUseBelow ds n step → IsUseBelow ds m step

@@ -2,36 +2,24 @@
 use Rattle.std.specs.Prelude.{ℕ, List, [], ◌∷◌, ◌++◌, Bool, false, ◌||◌, nat_le, Option, length, map, is_none, is_some, unwrap_or}
 use Rattle.std.specs.List.{list_any, flat_map}
 use Rattle.std.specs.Option.{option_map_or}
-use Rattle.prop_lattice.specs.Refusals.{most}
-use Rattle.prop_lattice.specs.declared.info.Kind.TheVariants as kinds
+use Rattle.prop_lattice.specs.Refusals.{most, when, first_of}
 use Rattle.prop_lattice.specs.declared.refusal.Limit.TheVariants.{Definitions as TooMany}
 use Rattle.prop_lattice.specs.declared.refusal.Refusal.{Refusal}
 use Rattle.prop_lattice.specs.declared.refusal.Refusal.TheVariants.{NameTaken, NoSuchDomain, NoSuchRelation, NoSuchCell, NoSuchProcedure, WrongCount, LimitReached}
 use Rattle.prop_sets.specs.Names.{has_repeat}
-use Rattle.prop_procedures.specs.declared.shape.Kinded.{Kinded}
 use Rattle.prop_procedures.specs.Stored.{Stored, span_kind, procedure_number}
 use Rattle.prop_vocabulary.specs.Names.{number_in, numbers_in, is_missing}
-use Rattle.prop_vocabulary.specs.Refusing.{when, first_of}
-use Rattle.prop_vocabulary.specs.Vocabulary.{Vocabulary, domain_number, elements_of}
-use Rattle.prop_language.specs.Commands.{KindWord, Spans, Truths, Symbols, Named, By, Passed, Step}
+use Rattle.prop_vocabulary.specs.Vocabulary.{Vocabulary}
+use Rattle.prop_language.specs.Commands.{By, Passed, Step}
 use Rattle.prop_compound.specs.declared.definition.Passing.{Passing}
 use Rattle.prop_compound.specs.declared.definition.Passing.TheVariants as passings
 use Rattle.prop_compound.specs.declared.definition.Used.TheVariants as uses
 use Rattle.prop_compound.specs.declared.definition.NumberedStep.{NumberedStep}
 use Rattle.prop_compound.specs.declared.definition.NumberedStep.TheVariants as numbered
 use Rattle.prop_compound.specs.Definitions.{Definition, Definitions, used_named, is_miscounted}
+use Rattle.prop_compound.specs.Kinds.{kind_named}
 
 -- ---- what the words mean
-
--- the kind of the sets over the domain with the number
-abbrev pub domain_kind : Vocabulary → ℕ → Kinded
-domain_kind words domain = record { kind = kinds.Set domain; size = length (elements_of words domain) }
-
-abbrev pub kind_named : Vocabulary → KindWord → Kinded
-kind_named words Spans = span_kind
-kind_named words Truths = domain_kind words 0
-kind_named words Symbols = record { kind = kinds.Symbol; size = 0 }
-kind_named words (Named domain) = domain_kind words (unwrap_or (domain_number words domain) 0)
 
 abbrev pub said_passing : Vocabulary → By → Passing
 said_passing words By.Nothing = passings.Nothing
@@ -54,7 +42,7 @@ scope_of params steps = params ++ flat_map locals_of steps
 
 -- the step by numbers
 abbrev pub step_numbered : List Stored → Vocabulary → Definitions → List (List ℕ) → Step → NumberedStep
-step_numbered library words definitions scope (Step.Local name kind) = numbered.Local (kind_named words kind)
+step_numbered library words definitions scope (Step.Local name kind) = numbered.Local (unwrap_or (kind_named words kind) span_kind)
 step_numbered library words definitions scope (Step.Like name like) = numbered.Like (unwrap_or (number_in scope like) 0)
 step_numbered library words definitions scope (Step.Use name cells passed) =
     numbered.Use (unwrap_or (used_named library definitions name) (uses.Procedure 0)) (numbers_in scope cells) (passing_named words passed)
@@ -78,14 +66,14 @@ is_name_taken library definitions name params steps =
     is_some (procedure_number library name) || (is_some (number_in definitions.names name) || has_repeat (scope_of params steps))
 
 -- the step makes a local of a kind that is no domain's
-abbrev pub is_nowhere : Vocabulary → Step → Bool
-is_nowhere words (Step.Local name (Named domain)) = is_none (domain_number words domain)
-is_nowhere words step = false
+abbrev pub is_domain_missing : Vocabulary → Step → Bool
+is_domain_missing words (Step.Local name kind) = is_none (kind_named words kind)
+is_domain_missing words step = false
 
 -- the step passes a relation that there is not
-abbrev pub is_unrelated : Vocabulary → Step → Bool
-is_unrelated words (Step.Use name cells (Passed.Said (By.Relation relation))) = is_none (number_in words.relation_names relation)
-is_unrelated words step = false
+abbrev pub is_relation_missing : Vocabulary → Step → Bool
+is_relation_missing words (Step.Use name cells (Passed.Said (By.Relation relation))) = is_none (number_in words.relation_names relation)
+is_relation_missing words step = false
 
 -- the cells that the step names
 abbrev pub cells_in : Step → List (List ℕ)
@@ -108,16 +96,23 @@ abbrev pub is_count_wrong : List Stored → Definitions → Step → Bool
 is_count_wrong library definitions (Step.Use name cells passed) = is_miscounted library definitions name (length cells)
 is_count_wrong library definitions step = false
 
--- why the definition may not be made
-abbrev pub define_refusal : List Stored → Vocabulary → Definitions → List ℕ → List (List ℕ) → List Step → Option Refusal
-define_refusal library words definitions name params steps =
-    first_of (
-    when NameTaken (is_name_taken library definitions name params steps)
-    ∷ when NoSuchDomain (list_any (is_nowhere words) steps)
-    ∷ when NoSuchRelation (list_any (is_unrelated words) steps)
+-- why the steps may not stand for their words' sake, where these are the parameters
+abbrev pub words_refusals : Vocabulary → List (List ℕ) → List Step → List (Option Refusal)
+words_refusals words params steps =
+    when NoSuchDomain (list_any (is_domain_missing words) steps)
+    ∷ when NoSuchRelation (list_any (is_relation_missing words) steps)
     ∷ when NoSuchCell (is_cell_missing params steps)
-    ∷ when NoSuchProcedure (list_any (is_unknown library definitions) steps)
+    ∷ []
+
+-- why they may not be defined for what they use, or for the count of definitions
+abbrev pub uses_refusals : List Stored → Definitions → List Step → List (Option Refusal)
+uses_refusals library definitions steps =
+    when NoSuchProcedure (list_any (is_unknown library definitions) steps)
     ∷ when WrongCount (list_any (is_count_wrong library definitions) steps)
     ∷ when (LimitReached TooMany) (nat_le (most TooMany) (length definitions.definitions))
     ∷ []
-    )
+
+-- why the definition may not be made
+abbrev pub define_refusal : List Stored → Vocabulary → Definitions → List ℕ → List (List ℕ) → List Step → Option Refusal
+define_refusal library words definitions name params steps =
+    first_of (when NameTaken (is_name_taken library definitions name params steps) ∷ words_refusals words params steps ++ uses_refusals library definitions steps)

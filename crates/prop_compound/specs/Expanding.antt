@@ -2,31 +2,30 @@
 use Rattle.std.specs.Prelude.{ℕ, ◌-◌, List, [], ◌∷◌, Bool, false, not, ◌||◌, nat_lt, Option, length, is_none, slice_get}
 use Rattle.std.specs.List.{list_any}
 use Rattle.std.specs.Option.{option_map_or, option_and_then}
-use Rattle.prop_lattice.specs.Refusals.{most}
+use Rattle.prop_lattice.specs.Refusals.{most, when, first_of}
 use Rattle.prop_lattice.specs.declared.refusal.Limit.TheVariants.{Cells, Instances}
 use Rattle.prop_lattice.specs.declared.refusal.Refusal.{Refusal}
 use Rattle.prop_lattice.specs.declared.refusal.Refusal.TheVariants.{NoSuchProcedure, WrongCount, WrongKind, WrongParameter, LimitReached}
 use Rattle.prop_procedures.specs.declared.shape.Kinded.{Kinded}
 use Rattle.prop_procedures.specs.declared.shape.Param.{Param}
 use Rattle.prop_procedures.specs.Stored.{Stored, sides_of}
-use Rattle.prop_vocabulary.specs.Refusing.{when, first_of}
 use Rattle.prop_vocabulary.specs.Vocabulary.{Vocabulary}
 use Rattle.prop_compound.specs.Definitions.{Definitions, used_named, is_miscounted}
 use Rattle.prop_procedures.specs.Fitting.{kinds_fit, fitting_param}
 use Rattle.prop_compound.specs.Expansion.{Placed, Expansion, expanded}
 
 -- the kinds of the instance's cells do not fit its procedure
-abbrev pub is_misplaced : List Stored → List Kinded → Placed (Option Param) → Bool
-is_misplaced library kinds x =
+abbrev pub is_kind_wrong : List Stored → List Kinded → Placed (Option Param) → Bool
+is_kind_wrong library kinds x =
     option_map_or (λ p. not (kinds_fit p kinds (option_and_then sides_of x.given) x.cells)) (slice_get library x.procedure) false
 
 -- the instance's procedure does not take what the instance is given
-abbrev pub is_misgiven : List Stored → Placed (Option Param) → Bool
-is_misgiven library x = option_map_or (λ p. is_none (fitting_param p.need x.given)) (slice_get library x.procedure) false
+abbrev pub is_param_wrong : List Stored → Placed (Option Param) → Bool
+is_param_wrong library x = option_map_or (λ p. is_none (fitting_param p.need x.given)) (slice_get library x.procedure) false
 
 -- an instance is given what its procedure does not take, or a definition is given something and takes nothing
-abbrev pub is_param_wrong : List Stored → Expansion (Option Param) → Bool
-is_param_wrong library e = e.spare || list_any (is_misgiven library) e.placed
+abbrev pub are_params_wrong : List Stored → Expansion (Option Param) → Bool
+are_params_wrong library e = e.spare || list_any (is_param_wrong library) e.placed
 
 -- there are too many fresh cells or instances
 abbrev pub size_refusal : ℕ → ℕ → Option Refusal
@@ -41,8 +40,8 @@ size_refusal fresh instances =
 abbrev pub fit_refusal : List Stored → Expansion (Option Param) → Option Refusal
 fit_refusal library e =
     first_of (
-    when WrongKind (list_any (is_misplaced library e.kinds) e.placed)
-    ∷ when WrongParameter (is_param_wrong library e)
+    when WrongKind (list_any (is_kind_wrong library e.kinds) e.placed)
+    ∷ when WrongParameter (are_params_wrong library e)
     ∷ []
     )
 

@@ -34,7 +34,7 @@ abbrev pub Walk : Type 0
 Walk = Expansion (Option Param)
 
 -- on cells of these kinds, before anything is expanded
-abbrev pub start : List Kinded → Bool → Walk
+abbrev pub start : {G : Type 0} → List Kinded → Bool → Expansion G
 start kinds spare = record { kinds = kinds; placed = []; spare = spare }
 
 abbrev pub cell_at : List ℕ → ℕ → ℕ
@@ -44,10 +44,10 @@ abbrev pub cells_at : List ℕ → List ℕ → List ℕ
 cells_at cells places = map (cell_at cells) places
 
 -- a fresh cell more, whose number is the next one
-abbrev pub with_fresh : Walk → Kinded → Walk
+abbrev pub with_fresh : {G : Type 0} → Expansion G → Kinded → Expansion G
 with_fresh e kind = record e { kinds = e.kinds ++ kind ∷ [] }
 
-abbrev pub with_placed : Walk → Placed (Option Param) → Walk
+abbrev pub with_placed : {G : Type 0} → Expansion G → Placed G → Expansion G
 with_placed e p = record e { placed = e.placed ++ p ∷ [] }
 
 -- ---- cells and instances
@@ -60,31 +60,32 @@ param_passed words given (passings.Relation n) = option_map params.Rows (slice_g
 param_passed words given passings.Own = given
 
 -- what a use adds: one instance for a procedure, and for a definition what `definition` says
-abbrev pub use_expanded : (ℕ → List ℕ → Option Param → Walk → Walk) → Used → List ℕ → Option Param → Walk → Walk
+abbrev pub use_expanded : {G : Type 0} → (ℕ → List ℕ → G → Expansion G → Expansion G) → Used → List ℕ → G → Expansion G → Expansion G
 use_expanded definition (uses.Procedure n) cells given e = with_placed e (record { procedure = n; given = given; cells = cells })
 use_expanded definition (uses.Definition n) cells given e = definition n cells given e
 
--- what steps add, in order: a local is a fresh cell, of its kind or of that of the cell that it is like, and has the next place
-abbrev pub steps_expanded : Vocabulary → (ℕ → List ℕ → Option Param → Walk → Walk) → Option Param → List ℕ → List NumberedStep → Walk → Walk
-steps_expanded words definition given cells [] e = e
-steps_expanded words definition given cells (Local kind ∷ steps) e =
-    steps_expanded words definition given (cells ++ length e.kinds ∷ []) steps (with_fresh e kind)
-steps_expanded words definition given cells (Like place ∷ steps) e =
-    steps_expanded words definition given (cells ++ length e.kinds ∷ []) steps (with_fresh e (kind_at e.kinds (cell_at cells place)))
-steps_expanded words definition given cells (Use used places passing ∷ steps) e =
-    steps_expanded words definition given cells steps (use_expanded definition used (cells_at cells places) (param_passed words given passing) e)
+-- What steps add, in order: a local is a fresh cell, of its kind or of that of the cell that it is like, and has the next place. What a
+-- use passes in a definition that is itself given something is as `pass` says.
+abbrev pub steps_expanded : {G : Type 0} → (G → Passing → G) → (ℕ → List ℕ → G → Expansion G → Expansion G) → G → List ℕ → List NumberedStep → Expansion G → Expansion G
+steps_expanded pass definition given cells [] e = e
+steps_expanded pass definition given cells (Local kind ∷ steps) e =
+    steps_expanded pass definition given (cells ++ length e.kinds ∷ []) steps (with_fresh e kind)
+steps_expanded pass definition given cells (Like place ∷ steps) e =
+    steps_expanded pass definition given (cells ++ length e.kinds ∷ []) steps (with_fresh e (kind_at e.kinds (cell_at cells place)))
+steps_expanded pass definition given cells (Use used places passing ∷ steps) e =
+    steps_expanded pass definition given cells steps (use_expanded definition used (cells_at cells places) (pass given passing) e)
 
 -- What a use of the definition with the number adds, the definitions being listed from the latest on: what its steps add, which use
 -- earlier definitions alone.
-abbrev pub definition_expanded : Vocabulary → List Definition → ℕ → List ℕ → Option Param → Walk → Walk
-definition_expanded words [] n cells given e = e
-definition_expanded words (d ∷ earlier) n cells given e =
-    cond (n == length earlier) (steps_expanded words (definition_expanded words earlier) given cells d.steps e) (definition_expanded words earlier n cells given e)
+abbrev pub definition_expanded : {G : Type 0} → (G → Passing → G) → List Definition → ℕ → List ℕ → G → Expansion G → Expansion G
+definition_expanded pass [] n cells given e = e
+definition_expanded pass (d ∷ earlier) n cells given e =
+    cond (n == length earlier) (steps_expanded pass (definition_expanded pass earlier) given cells d.steps e) (definition_expanded pass earlier n cells given e)
 
 -- what a use adds among these definitions
-abbrev pub expanded_in : Vocabulary → List Definition → Used → List ℕ → Option Param → Walk → Walk
-expanded_in words definitions used cells given e =
-    use_expanded (definition_expanded words (reverse definitions)) used cells given e
+abbrev pub expanded_in : {G : Type 0} → (G → Passing → G) → List Definition → Used → List ℕ → G → Expansion G → Expansion G
+expanded_in pass definitions used cells given e =
+    use_expanded (definition_expanded pass (reverse definitions)) used cells given e
 
 -- ---- what is spare
 
@@ -120,8 +121,12 @@ is_spare definitions n given = spare_in (reverse definitions) n given
 abbrev pub before : List Definition → Used → List Kinded → Option Param → Walk
 before definitions used kinds given = start kinds (spare_used (is_spare definitions) used (is_some given))
 
--- what the use of the name stands for, on cells of these kinds, which have the numbers from 0 on
-abbrev pub expanded : List Stored → Vocabulary → Definitions → List ℕ → List Kinded → Option Param → Expansion (Option Param)
+-- what a use stands for, on cells of these kinds, which have the numbers from 0 on
+abbrev pub stands_for : Vocabulary → List Definition → Used → List Kinded → Option Param → Walk
+stands_for words definitions used kinds given =
+    expanded_in (param_passed words) definitions used (range_with_len 0 (length kinds)) given (before definitions used kinds given)
+
+-- what a use of the name stands for, nothing where it is nobody's
+abbrev pub expanded : List Stored → Vocabulary → Definitions → List ℕ → List Kinded → Option Param → Walk
 expanded library words definitions name kinds given =
-    let all = definitions.definitions in
-    option_map_or (λ used. expanded_in words all used (range_with_len 0 (length kinds)) given (before all used kinds given)) (used_named library definitions name) (start kinds false)
+    option_map_or (λ used. stands_for words definitions.definitions used kinds given) (used_named library definitions name) (start kinds false)

@@ -1,12 +1,11 @@
 -- What is handed out for a use: its fresh cells and instances, in one list each; and what is at hand of it while it is made.
-use Rattle.std.specs.Prelude.{◌≡◌, ◌<◌, ℕ, ◌+◌, List, ◌++◌, All, IfSome, Option, Some, false, drop, length, map, slice_get}
+use Rattle.std.specs.Prelude.{◌≡◌, ◌<◌, ℕ, ◌+◌, List, ◌++◌, All, Option, Some, false, length, map, slice_get}
 use Rattle.prop_procedures.specs.declared.shape.Kinded.{Kinded}
 use Rattle.prop_procedures.specs.declared.shape.Param.{Param}
 use Rattle.prop_procedures.specs.Stored.{Stored}
 use Rattle.prop_procedures.specs.declared.flat.Placed as instances
 use Rattle.prop_procedures.specs.declared.flat.Flat.{Flat}
 use Rattle.prop_procedures.specs.Flats.{cells_of, param_at}
-use Rattle.prop_compound.specs.declared.walk.Walk.{Walk}
 use Rattle.prop_compound.specs.Expansion.{Placed, Expansion}
 
 -- the instance, with its parameter looked up among these
@@ -31,37 +30,3 @@ pub record IsInstanceOver (library : List Stored) (n : ℕ) (x : instances.Place
 -- each instance is, where so many cells are given
 abbrev pub IsFlatOver : List Stored → ℕ → Flat → Type 0
 IsFlatOver library count flat = All (IsInstanceOver library (count + length flat.fresh.items)) flat.instances.items
-
--- ---- while it is made
-
--- what was expanded so far
-abbrev pub walk_of : Walk → Expansion (Option Param)
-walk_of walk = record {
-  kinds = walk.kinds.items;
-  placed = map (placed_of walk.params.items) walk.instances.items;
-  spare = walk.spare;
-}
-
--- the place is one of these parameters', where there is a place
-abbrev pub IsPlaceIn : List Param → Option ℕ → Type 0
-IsPlaceIn params place = IfSome place (λ n. n < length params)
-
--- the parameter of each instance is there
-abbrev pub ArePlaced : Walk → Type 0
-ArePlaced walk = All (λ x. IsPlaceIn walk.params.items x.param) walk.instances.items
-
--- further on each parameter is where it was, and that of each instance is there
-pub record IsFurther (old new : Walk) : Type 0 where
-  pub more : List Param
-  pub params : new.params.items ≡ old.params.items ++ more
-  pub placed : ArePlaced new
-
--- each instance so far is one of a procedure of the library, on cells that are there
-abbrev pub AreRight : List Stored → Walk → Type 0
-AreRight library walk = All (IsInstanceOver library (length walk.kinds.items)) walk.instances.items
-
--- it is what was expanded, behind the first so many cells
-pub record IsBehind (walk : Walk) (count : ℕ) (flat : Flat) : Type 0 where
-  pub fresh : flat.fresh.items ≡ drop count walk.kinds.items
-  pub params : flat.params ≡ walk.params
-  pub instances : flat.instances ≡ walk.instances

@@ -1,20 +1,13 @@
 -- What is kept beside each definition, and what is true of the definitions that are kept.
-use Rattle.std.specs.Prelude.{◌≡◌, ◌<◌, ℕ, ◌+◌, ◌==◌, min, List, [], ◌∷◌, All, Option, true, false, cond, not, ◌||◌, length, map, reverse, slice_get, slice_index_or, sum_by, ⊤}
-use Rattle.std.specs.List.{list_any, flat_map}
+use Rattle.std.specs.Prelude.{◌≡◌, ◌<◌, ℕ, ◌+◌, List, All, length, map, slice_get, ⊤}
 use Rattle.std.specs.Option.{option_map_or}
-use Rattle.prop_lattice.specs.Refusals.{most}
-use Rattle.prop_lattice.specs.declared.refusal.Limit.TheVariants.{Cells, Instances}
-use Rattle.prop_procedures.specs.declared.shape.Param.{Param}
 use Rattle.prop_procedures.specs.Stored.{Stored}
-use Rattle.prop_vocabulary.specs.Vocabulary.{Vocabulary}
 use Rattle.prop_compound.specs.declared.definition.KeptDefinition.{KeptDefinition}
 use Rattle.prop_compound.specs.declared.definition.Used.{Used}
 use Rattle.prop_compound.specs.declared.definition.Used.TheVariants as uses
 use Rattle.prop_compound.specs.declared.definition.NumberedStep.{NumberedStep}
-use Rattle.prop_compound.specs.declared.definition.NumberedStep.TheVariants.{Local, Like, Use}
-use Rattle.prop_compound.specs.Definitions.{Definition, Definitions, is_passing_on}
-use Rattle.prop_compound.specs.Expansion.{Walk, steps_expanded, definition_expanded, spare_of, is_spare}
-use Rattle.prop_compound.specs.Shortcuts.{shortened}
+use Rattle.prop_compound.specs.declared.definition.NumberedStep.TheVariants.{Use}
+use Rattle.prop_compound.specs.Definitions.{Definition, Definitions}
 
 -- the definition alone
 abbrev pub bare : KeptDefinition → Definition
@@ -23,98 +16,7 @@ bare k = record { params = k.params; steps = k.steps.items }
 abbrev pub all_bare : List KeptDefinition → List Definition
 all_bare definitions = map bare definitions
 
--- ---- sizes
-
--- how many fresh cells a use stands for, where a definition stands for so many
-abbrev pub fresh_used : (ℕ → ℕ) → Used → ℕ
-fresh_used count (uses.Procedure n) = 0
-fresh_used count (uses.Definition n) = count n
-
--- how many instances
-abbrev pub instances_used : (ℕ → ℕ) → Used → ℕ
-instances_used count (uses.Procedure n) = 1
-instances_used count (uses.Definition n) = count n
-
--- how many fresh cells a step stands for
-abbrev pub fresh_of : (ℕ → ℕ) → NumberedStep → ℕ
-fresh_of count (Use used cells passing) = fresh_used count used
-fresh_of count step = 1
-
--- how many instances
-abbrev pub instances_of : (ℕ → ℕ) → NumberedStep → ℕ
-instances_of count (Use used cells passing) = instances_used count used
-instances_of count step = 0
-
--- how many of them a definition stands for by its number, the definitions being listed from the latest on
-abbrev pub total_in : ((ℕ → ℕ) → NumberedStep → ℕ) → List Definition → ℕ → ℕ
-total_in of [] n = 0
-total_in of (d ∷ earlier) n = cond (n == length earlier) (sum_by (of (total_in of earlier)) d.steps) (total_in of earlier n)
-
--- the same, listed in order
-abbrev pub total_of : ((ℕ → ℕ) → NumberedStep → ℕ) → List Definition → ℕ → ℕ
-total_of of definitions n = total_in of (reverse definitions) n
-
--- ---- places
-
--- how many places a step makes
-abbrev pub places_made : NumberedStep → ℕ
-places_made (Use used cells passing) = 0
-places_made step = 1
-
--- the step names places below n alone
-abbrev pub IsInScope : ℕ → NumberedStep → Type 0
-IsInScope n (Local kind) = ⊤
-IsInScope n (Like place) = place < n
-IsInScope n (Use used places passing) = All (λ place. place < n) places
-
--- each step does, where there are n places before the first
-abbrev pub AreInScope : ℕ → List NumberedStep → Type 0
-AreInScope n [] = ⊤
-AreInScope n (step ∷ steps) = IsInScope n step × AreInScope (n + places_made step) steps
-
--- ---- uses
-
--- the step uses a procedure on one cell at least, or a definition with a number below n on as many cells as it wants, or nothing
-abbrev pub IsUseBelow : List Definition → ℕ → NumberedStep → Type 0
-IsUseBelow definitions n (Use (uses.Procedure m) cells passing) = 0 < length cells
-IsUseBelow definitions n (Use (uses.Definition m) cells passing) =
-    (m < n) × (option_map_or (λ d. d.params) (slice_get definitions m) 0 ≡ length cells)
-IsUseBelow definitions n step = ⊤
-
 -- ---- what is kept
-
--- The n-th of the definitions: its steps name places that are there and use earlier definitions, its plan does so too and makes the same
--- cells and instances, and what is kept beside it is right, numbers up to one past their limit.
-pub record IsKept (definitions : List Definition) (n : ℕ) (k : KeptDefinition) : Type 0 where
-  pub in_scope : AreInScope k.params k.steps.items
-  pub uses : All (IsUseBelow definitions n) k.steps.items
-  pub plan_in_scope : AreInScope k.params k.plan.items
-  pub plan_uses : All (IsUseBelow definitions n) k.plan.items
-  pub same : (words : Vocabulary) (cells : List ℕ) (given : Option Param) (e : Walk) → length cells ≡ k.params →
-      steps_expanded words (definition_expanded words (reverse definitions)) given cells k.plan.items e ≡ steps_expanded words (definition_expanded words (reverse definitions)) given cells k.steps.items e
-  pub spare_given : k.spare_given ≡ is_spare definitions n true
-  pub spare_bare : k.spare_bare ≡ is_spare definitions n false
-  pub fresh : k.fresh ≡ min (most Cells + 1) (total_of fresh_of definitions n)
-  pub instances : k.instances ≡ min (most Instances + 1) (total_of instances_of definitions n)
-
--- each of them is kept so
-abbrev pub AreKept : List KeptDefinition → Type 0
-AreKept definitions = (n : ℕ) (d : KeptDefinition) → n < length definitions → IsKept (all_bare definitions) n (slice_index_or definitions n d)
-
--- what is kept for a use of so many cells and these steps, behind the definitions
-pub record IsCounted (definitions : List KeptDefinition) (count : ℕ) (items : List NumberedStep) (k : KeptDefinition) : Type 0 where
-  pub params : k.params ≡ count
-  pub steps : k.steps.items ≡ items
-  pub plan : k.plan.items ≡ flat_map (shortened definitions) items
-  pub spare_given : k.spare_given ≡ (not (list_any is_passing_on items) || list_any (spare_of (is_spare (all_bare definitions)) true) items)
-  pub spare_bare : k.spare_bare ≡ list_any (spare_of (is_spare (all_bare definitions)) false) items
-  pub fresh : k.fresh ≡ min (most Cells + 1) (sum_by (fresh_of (total_of fresh_of (all_bare definitions))) items)
-  pub instances : k.instances ≡ min (most Instances + 1) (sum_by (instances_of (total_of instances_of (all_bare definitions))) items)
-
--- the procedure or definition is one of so many
-abbrev pub IsThere : ℕ → ℕ → Used → Type 0
-IsThere procedures definitions (uses.Procedure n) = n < procedures
-IsThere procedures definitions (uses.Definition n) = n < definitions
 
 -- the use is of a procedure on one cell at least, or of a definition that there is on as many cells as it wants
 abbrev pub IsUseThere : List Definition → Used → ℕ → Type 0

@@ -1,4 +1,5 @@
 pub mod Definitions
+pub mod Kinds
 pub mod Expansion
 pub mod Defining
 pub mod Expanding
@@ -6,3 +7,5 @@ pub mod AtOnce
 pub mod Shortcuts
 pub mod Kept
 pub mod Flattened
+pub mod InPlace
+pub mod inner

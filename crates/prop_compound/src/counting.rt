@@ -4,7 +4,8 @@ ghost use Rattle.std.specs.List.{list_any};
 ghost use Rattle.prop_lattice.specs.Refusals.{most};
 ghost use Rattle.prop_lattice.specs.declared.refusal.Limit.TheVariants.{Cells, Instances};
 ghost use Rattle.prop_compound.specs.Definitions.{is_passing_on};
-ghost use Rattle.prop_compound.specs.Kept.{all_bare, fresh_of, instances_of, total_of, IsUseBelow, AreKept, IsCounted};
+ghost use Rattle.prop_compound.specs.Kept.{all_bare};
+ghost use Rattle.prop_compound.specs.inner.Kept.{fresh_of, instances_of, total_of, IsUseBelow, AreKept, IsCounted};
 ghost use Rattle.prop_compound.specs.Expansion.{spare_of, is_spare};
 
 use crate::definition::{KeptDefinition, NumberedStep, Passing, Used, passes_something};

@@ -1,19 +1,22 @@
 //! Making a definition.
-ghost use Rattle.std.specs.Prelude.{◌≡◌, ◌≤◌, ◌++◌, ◌∷◌, ◌⊎◌, ℕ, List, [], true, false, All, nat_le, length, map, take, drop, IfOk, IfErr, IfSome, OnOk, OnErr, Err, None, Some};
-ghost use Rattle.std.specs.List.{list_any, flat_map};
-ghost use Rattle.prop_lattice.specs.Refusals.{most};
+ghost use Rattle.std.specs.Prelude.{◌≡◌, ◌≤◌, ◌++◌, ◌∷◌, [], false, All, length, map, take, drop, IfOk, IfErr, IfSome, OnOk, OnErr, Err, None, Some};
+ghost use Rattle.std.specs.List.{flat_map};
+ghost use Rattle.prop_lattice.specs.Refusals.{first_of};
 ghost use Rattle.prop_procedures.specs.Kept.{stored_of};
 ghost use Rattle.prop_vocabulary.specs.Names.{number_in};
-ghost use Rattle.prop_vocabulary.specs.Refusing.{when, first_of};
+ghost use Rattle.prop_vocabulary.specs.Refusing.{IsReason};
 ghost use Rattle.prop_language.specs.Said.{words as words_of, step_of};
 ghost use Rattle.prop_compound.specs.Definitions.{used_named};
-ghost use Rattle.prop_compound.specs.Defining.{locals_of, scope_of, definition_of, with_definition, define_refusal, is_name_taken, is_nowhere, is_unrelated, is_cell_missing, is_unknown, is_count_wrong};
-ghost use Rattle.prop_compound.specs.Kept.{bare, IsKept, IsUseOver, IsDefinedOver};
+ghost use Rattle.prop_compound.specs.Defining.{locals_of, scope_of, definition_of, with_definition, is_name_taken, words_refusals, uses_refusals, define_refusal};
+ghost use Rattle.prop_compound.specs.inner.Defining.{IsNameReason, steps_refusal};
+ghost use Rattle.prop_compound.specs.Kinds.{IsSized, IsLocalOf, AreLocalsOf};
+ghost use Rattle.prop_compound.specs.Kept.{bare, IsUseOver, IsDefinedOver};
+ghost use Rattle.prop_compound.specs.inner.Kept.{IsKeptNext};
 
 use crate::counting::counted;
 use crate::definition::KeptDefinition;
 use crate::definitions::Definitions;
-use crate::resolving::{has_nowhere, has_unrelated};
+use crate::resolving::{has_domain_missing, has_relation_missing};
 use crate::scope::{is_cell_missing, push_names};
 use prop_language::Step;
 use prop_lattice::{Limit, Refusal};
@@ -38,12 +41,12 @@ fn words_refusal(
 ) -> Option<Refusal>
     requires count { params ≤ length scope.now }
     requires locals { drop params scope.now ≡ flat_map locals_of (map step_of steps.now) }
-    ensures { result ≡ first_of (when Refusal.NoSuchDomain (list_any (is_nowhere words.now) (map step_of steps.now)) ∷ when Refusal.NoSuchRelation (list_any (is_unrelated words.now) (map step_of steps.now)) ∷ when Refusal.NoSuchCell (is_cell_missing (take params scope.now) (map step_of steps.now)) ∷ []) }
+    ensures { result ≡ first_of (words_refusals words.now (take params scope.now) (map step_of steps.now)) }
 {
-    if has_nowhere(words, steps) {
+    if has_domain_missing(words, steps) {
         return Some(Refusal::NoSuchDomain);
     }
-    if has_unrelated(words, steps) {
+    if has_relation_missing(words, steps) {
         return Some(Refusal::NoSuchRelation);
     }
     if is_cell_missing(scope, params, steps) {
@@ -55,7 +58,7 @@ fn words_refusal(
 impl Definitions {
     /// Why steps may not be defined for what they use, or for the count of definitions: 11, 12 or 16.
     fn uses_refusal<R: Rule + Drop>(&self, library: &Library<R>, steps: &[Step]) -> Option<Refusal>
-        ensures { result ≡ first_of (when Refusal.NoSuchProcedure (list_any (is_unknown (stored_of R.value_of library.now) self.now) (map step_of steps.now)) ∷ when Refusal.WrongCount (list_any (is_count_wrong (stored_of R.value_of library.now) self.now) (map step_of steps.now)) ∷ when (Refusal.LimitReached Limit.Definitions) (nat_le (most Limit.Definitions) (length self.now.definitions)) ∷ []) }
+        ensures { result ≡ first_of (uses_refusals (stored_of R.value_of library.now) self.now (map step_of steps.now)) }
     {
         if self.has_unknown(library, steps) {
             return Some(Refusal::NoSuchProcedure);
@@ -81,7 +84,7 @@ impl Definitions {
         requires { scope.old ≡ [] }
         ensures scope { OnOk result (scope.new ≡ scope_of (words_of said.now.params.now) (map step_of said.now.steps.now)) }
         ensures new { OnOk result (is_name_taken (stored_of R.value_of library.now) self.now said.now.name.now (words_of said.now.params.now) (map step_of said.now.steps.now) ≡ false) }
-        ensures why { IfErr result (λ e. ((e ≡ Refusal.NameTaken) × (is_name_taken (stored_of R.value_of library.now) self.now said.now.name.now (words_of said.now.params.now) (map step_of said.now.steps.now) ≡ true)) ⊎ (e ≡ Refusal.Memory)) }
+        ensures why { IfErr result (IsNameReason (is_name_taken (stored_of R.value_of library.now) self.now said.now.name.now (words_of said.now.params.now) (map step_of said.now.steps.now))) }
         ensures at_once { IfSome (used_named (stored_of R.value_of library.now) self.now said.now.name.now) (λ _. result ≡ Err Refusal.NameTaken) }
     {
         if library.find(said.name).is_some() || self.find(said.name).is_some() {
@@ -102,10 +105,11 @@ impl Definitions {
     ) -> Result<KeptDefinition, Refusal>
         requires { scope.now ≡ scope_of (words_of said.now.params.now) (map step_of said.now.steps.now) }
         ensures definition { IfOk result (λ k. bare k ≡ definition_of (stored_of R.value_of library.now) words.now self.now (words_of said.now.params.now) (map step_of said.now.steps.now)) }
-        ensures kept { IfOk result (λ k. IsKept (self.now.definitions ++ bare k ∷ []) (length self.now.definitions) k) }
+        ensures kept { IfOk result (IsKeptNext self.now.definitions) }
         ensures over { IfOk result (λ k. All (IsUseOver (stored_of R.value_of library.now)) k.steps.items) }
-        ensures fits { OnOk result ((name : List ℕ) → is_name_taken (stored_of R.value_of library.now) self.now name (words_of said.now.params.now) (map step_of said.now.steps.now) ≡ false → define_refusal (stored_of R.value_of library.now) words.now self.now name (words_of said.now.params.now) (map step_of said.now.steps.now) ≡ None) }
-        ensures err { IfErr result (λ e. ((name : List ℕ) → is_name_taken (stored_of R.value_of library.now) self.now name (words_of said.now.params.now) (map step_of said.now.steps.now) ≡ false → define_refusal (stored_of R.value_of library.now) words.now self.now name (words_of said.now.params.now) (map step_of said.now.steps.now) ≡ Some e) ⊎ (e ≡ Refusal.Memory)) }
+        ensures locals { IfOk result (λ k. All (IsLocalOf (IsSized words.now)) k.steps.items) }
+        ensures fits { OnOk result (steps_refusal (stored_of R.value_of library.now) words.now self.now (words_of said.now.params.now) (map step_of said.now.steps.now) ≡ None) }
+        ensures err { IfErr result (IsReason (steps_refusal (stored_of R.value_of library.now) words.now self.now (words_of said.now.params.now) (map step_of said.now.steps.now))) }
     {
         if let Some(refusal) = words_refusal(words, scope, said.params.len(), said.steps) {
             return Err(refusal);
@@ -131,10 +135,11 @@ impl Definitions {
     ) -> Result<KeptDefinition, Refusal>
         requires { scope.old ≡ [] }
         ensures definition { IfOk result (λ k. bare k ≡ definition_of (stored_of R.value_of library.now) words.now self.now (words_of said.now.params.now) (map step_of said.now.steps.now)) }
-        ensures kept { IfOk result (λ k. IsKept (self.now.definitions ++ bare k ∷ []) (length self.now.definitions) k) }
+        ensures kept { IfOk result (IsKeptNext self.now.definitions) }
         ensures over { IfOk result (λ k. All (IsUseOver (stored_of R.value_of library.now)) k.steps.items) }
+        ensures locals { IfOk result (λ k. All (IsLocalOf (IsSized words.now)) k.steps.items) }
         ensures fits { OnOk result (define_refusal (stored_of R.value_of library.now) words.now self.now said.now.name.now (words_of said.now.params.now) (map step_of said.now.steps.now) ≡ None) }
-        ensures err { IfErr result (λ e. (define_refusal (stored_of R.value_of library.now) words.now self.now said.now.name.now (words_of said.now.params.now) (map step_of said.now.steps.now) ≡ Some e) ⊎ (e ≡ Refusal.Memory)) }
+        ensures err { IfErr result (IsReason (define_refusal (stored_of R.value_of library.now) words.now self.now said.now.name.now (words_of said.now.params.now) (map step_of said.now.steps.now))) }
         ensures at_once { IfSome (used_named (stored_of R.value_of library.now) self.now said.now.name.now) (λ _. result ≡ Err Refusal.NameTaken) }
     {
         self.name_all(alloc, library, scope, said)?;
@@ -150,10 +155,11 @@ impl Definitions {
         said: &Said,
     ) -> Result<KeptDefinition, Refusal>
         ensures definition { IfOk result (λ k. bare k ≡ definition_of (stored_of R.value_of library.now) words.now self.now (words_of said.now.params.now) (map step_of said.now.steps.now)) }
-        ensures kept { IfOk result (λ k. IsKept (self.now.definitions ++ bare k ∷ []) (length self.now.definitions) k) }
+        ensures kept { IfOk result (IsKeptNext self.now.definitions) }
         ensures over { IfOk result (λ k. All (IsUseOver (stored_of R.value_of library.now)) k.steps.items) }
+        ensures locals { IfOk result (λ k. All (IsLocalOf (IsSized words.now)) k.steps.items) }
         ensures fits { OnOk result (define_refusal (stored_of R.value_of library.now) words.now self.now said.now.name.now (words_of said.now.params.now) (map step_of said.now.steps.now) ≡ None) }
-        ensures err { IfErr result (λ e. (define_refusal (stored_of R.value_of library.now) words.now self.now said.now.name.now (words_of said.now.params.now) (map step_of said.now.steps.now) ≡ Some e) ⊎ (e ≡ Refusal.Memory)) }
+        ensures err { IfErr result (IsReason (define_refusal (stored_of R.value_of library.now) words.now self.now said.now.name.now (words_of said.now.params.now) (map step_of said.now.steps.now))) }
         ensures at_once { IfSome (used_named (stored_of R.value_of library.now) self.now said.now.name.now) (λ _. result ≡ Err Refusal.NameTaken) }
     {
         let mut scope = Names::new(alloc);
@@ -163,7 +169,7 @@ impl Definitions {
     /// One definition more. After an error, which is 90, nothing has changed.
     fn push(&mut self, alloc: Global, name: &str, definition: KeptDefinition) -> Result<(), Refusal>
         requires new { number_in self.old.names name.now ≡ None }
-        requires kept { IsKept (self.old.definitions ++ bare definition ∷ []) (length self.old.definitions) definition }
+        requires kept { IsKeptNext self.old.definitions definition }
         ensures ok { OnOk result (self.new ≡ record { names = self.old.names ++ name.now ∷ []; definitions = self.old.definitions ++ bare definition ∷ [] }) }
         ensures err { IfErr result (λ e. e ≡ Refusal.Memory) }
         ensures err_same { OnErr result (self.new ≡ self.old) }
@@ -198,9 +204,10 @@ impl Definitions {
     ) -> Result<(), Refusal>
         requires over { IsDefinedOver (stored_of R.value_of library.now) self.old }
         ensures over { IsDefinedOver (stored_of R.value_of library.now) self.new }
+        ensures locals { AreLocalsOf (IsSized words.now) self.old → AreLocalsOf (IsSized words.now) self.new }
         ensures fits { OnOk result (define_refusal (stored_of R.value_of library.now) words.now self.old name.now (words_of params.now) (map step_of steps.now) ≡ None) }
         ensures ok { OnOk result (self.new ≡ with_definition (stored_of R.value_of library.now) words.now self.old name.now (words_of params.now) (map step_of steps.now)) }
-        ensures err { IfErr result (λ e. (define_refusal (stored_of R.value_of library.now) words.now self.old name.now (words_of params.now) (map step_of steps.now) ≡ Some e) ⊎ (e ≡ Refusal.Memory)) }
+        ensures err { IfErr result (IsReason (define_refusal (stored_of R.value_of library.now) words.now self.old name.now (words_of params.now) (map step_of steps.now))) }
         ensures err_same { OnErr result (self.new ≡ self.old) }
         ensures at_once { IfSome (used_named (stored_of R.value_of library.now) self.old name.now) (λ _. result ≡ Err Refusal.NameTaken) }
     {

@@ -3,6 +3,7 @@ ghost use Rattle.std.specs.Prelude.{◌≡◌, ◌<◌, length, IfSome};
 ghost use Rattle.prop_procedures.specs.Stored.{Stored};
 ghost use Rattle.prop_vocabulary.specs.Names.{number_in};
 ghost use Rattle.prop_compound.specs.Definitions.{no_definitions};
+ghost use Rattle.prop_compound.specs.InPlace.{UsesArePutInPlace};
 ghost use Rattle.prop_compound.specs.Kept.{IsDefinedOver};
 ghost use Rattle.std.specs.Prelude.{List};
 
@@ -22,7 +23,8 @@ pub struct Definitions {
 impl Model for Definitions {
     ghost use Rattle.std.specs.Prelude.{◌≡◌, length};
     ghost use Rattle.prop_compound.specs.Definitions as compounds;
-    ghost use Rattle.prop_compound.specs.Kept.{all_bare, AreKept};
+    ghost use Rattle.prop_compound.specs.Kept.{all_bare};
+    ghost use Rattle.prop_compound.specs.inner.Kept.{AreKept};
 
     ghost Value = { compounds.Definitions };
 
@@ -41,6 +43,14 @@ impl Definitions {
             names: Names::new(alloc),
             definitions: Vec::new(alloc),
         }
+    }
+
+    /// A use equals its flat list put in place: whatever was made before, on cells that are there it adds just the fresh cells and the
+    /// instances of the flat list, each parameter replaced by the given cell and each fresh cell by the next one.
+    pub fn uses_are_put_in_place(&self)
+        ensures { UsesArePutInPlace self.now.definitions }
+    {
+        let _ = &self.definitions;
     }
 
     /// How many definitions there are.

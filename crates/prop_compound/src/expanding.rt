@@ -1,11 +1,11 @@
 //! The instances and fresh cells that a use stands for.
-ghost use Rattle.std.specs.Prelude.{◌≡◌, ◌<◌, ◌+◌, ◌∷◌, ◌++◌, [], List, All, length, reverse, slice_get, IfOk, OnOk};
+ghost use Rattle.std.specs.Prelude.{◌≡◌, ◌<◌, ◌+◌, ◌∷◌, ◌++◌, [], All, length, slice_get, IfOk, OnOk};
 ghost use Rattle.std.specs.Option.{option_map_or};
-ghost use Rattle.prop_procedures.specs.Flats.{cells_of, param_at};
-ghost use Rattle.prop_compound.specs.declared.definition.NumberedStep.{NumberedStep as Numbered};
-ghost use Rattle.prop_compound.specs.Expansion.{cells_at, steps_expanded, definition_expanded};
-ghost use Rattle.prop_compound.specs.Flattened.{walk_of, IsPlaceIn, ArePlaced, IsFurther};
-ghost use Rattle.prop_compound.specs.Kept.{all_bare, places_made, IsInScope, IsUseBelow, AreKept};
+ghost use Rattle.prop_procedures.specs.Flats.{cells_of};
+ghost use Rattle.prop_compound.specs.Expansion.{cells_at};
+ghost use Rattle.prop_compound.specs.inner.Flattened.{IsAdded, IsStepAdded, IsPlaceIn, ArePlaced, IsFurther};
+ghost use Rattle.prop_compound.specs.Kept.{all_bare};
+ghost use Rattle.prop_compound.specs.inner.Kept.{places_made, IsInScope, IsUseBelow, AreKept};
 
 use crate::definition::{KeptDefinition, NumberedStep, Used};
 use crate::walk::{Walk, kind_at, param_place};
@@ -78,7 +78,7 @@ pub(crate) fn expand_definition(
     requires count { option_map_or (λ d. d.params) (slice_get (all_bare definitions.now) number) 0 ≡ length cells.items }
     requires given { IsPlaceIn walk.old.params.items given }
     requires placed { ArePlaced walk.old }
-    ensures made { OnOk result (walk_of walk.new ≡ definition_expanded words.now (reverse (all_bare definitions.now)) number cells.items (param_at walk.old.params.items given) (walk_of walk.old)) }
+    ensures made { OnOk result (IsAdded words.now (all_bare definitions.now) (Used.Definition number) cells.items given walk.old walk.new) }
     ensures further { OnOk result (IsFurther walk.old walk.new) }
 {
     let definition = &definitions[number];
@@ -105,7 +105,7 @@ fn expand_step(
     requires used { IsUseBelow (all_bare definitions.now) (length definitions.now) step.now }
     requires given { IsPlaceIn walk.old.params.items given }
     requires placed { ArePlaced walk.old }
-    ensures steps { OnOk result ((steps : List Numbered) → steps_expanded words.now (definition_expanded words.now (reverse (all_bare definitions.now))) (param_at walk.old.params.items given) cells.old.items (step.now ∷ steps) (walk_of walk.old) ≡ steps_expanded words.now (definition_expanded words.now (reverse (all_bare definitions.now))) (param_at walk.old.params.items given) cells.new.items steps (walk_of walk.new)) }
+    ensures steps { OnOk result (IsStepAdded words.now (all_bare definitions.now) step.now given cells.old.items walk.old cells.new.items walk.new) }
     ensures places { OnOk result (length cells.new.items ≡ length cells.old.items + places_made step.now) }
     ensures further { OnOk result (IsFurther walk.old walk.new) }
 {

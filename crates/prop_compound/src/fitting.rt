@@ -1,11 +1,13 @@
 //! Whether the cells and parameters of instances fit their procedures.
-ghost use Rattle.std.specs.Prelude.{◌≡◌, ◌<◌, ◌≤◌, ◌++◌, ◌∷◌, ◌⊎◌, [], is_none, All, length, map, zip, IfOk, IfErr, OnOk, None, Some};
+ghost use Rattle.std.specs.Prelude.{◌≡◌, ◌<◌, ◌≤◌, ◌++◌, ◌∷◌, [], is_none, All, length, map, zip, IfOk, IfErr, OnOk, None, Some};
 ghost use Rattle.std.specs.List.{list_any};
 ghost use Rattle.prop_procedures.specs.Kept.{stored_of};
+ghost use Rattle.prop_vocabulary.specs.Refusing.{IsReason};
 ghost use Rattle.prop_procedures.specs.Flats.{param_at};
 ghost use Rattle.prop_procedures.specs.Fitting.{kind_at, fitting_param};
-ghost use Rattle.prop_compound.specs.Expanding.{is_misplaced, is_misgiven, fit_refusal};
-ghost use Rattle.prop_compound.specs.Flattened.{placed_of, walk_of, IsInstanceOver, AreRight, IsBehind};
+ghost use Rattle.prop_compound.specs.Expanding.{is_kind_wrong, is_param_wrong, fit_refusal};
+ghost use Rattle.prop_compound.specs.Flattened.{placed_of, IsInstanceOver};
+ghost use Rattle.prop_compound.specs.inner.Flattened.{walk_of, AreRight, IsBehind};
 
 use crate::walk::{Walk, flat_behind, kind_at, param_at};
 use prop_lattice::Refusal;
@@ -14,7 +16,7 @@ use prop_procedures::{Flat, Kinded, Library, Need, Param, Placed, Rule, Shape};
 use std::alloc::{AllocError, Global};
 
 /// Whether a procedure with this need does not take a parameter.
-fn is_param_wrong(need: Need, param: &Param) -> bool
+fn rejects(need: Need, param: &Param) -> bool
     ensures { result ≡ is_none (fitting_param need (Some param.now)) }
 {
     match (need, param) {
@@ -25,11 +27,11 @@ fn is_param_wrong(need: Need, param: &Param) -> bool
 }
 
 /// Whether a procedure with this need does not take the parameter at the place, or not do without one.
-fn is_misgiven(need: Need, params: &[Param], place: Option<usize>) -> bool
+fn is_param_wrong(need: Need, params: &[Param], place: Option<usize>) -> bool
     ensures { result ≡ is_none (fitting_param need (param_at params.now place)) }
 {
     match param_at(params, place) {
-        Some(param) => is_param_wrong(need, param),
+        Some(param) => rejects(need, param),
         None => matches!(need, Need::Rows),
     }
 }
@@ -54,7 +56,7 @@ fn places(
 }
 
 /// Whether the kinds of the instance's cells do not fit its procedure.
-fn is_misplaced<R: Rule + Drop>(
+fn is_kind_wrong<R: Rule + Drop>(
     alloc: Global,
     library: &Library<R>,
     params: &[Param],
@@ -62,7 +64,7 @@ fn is_misplaced<R: Rule + Drop>(
     instance: &Placed,
 ) -> Result<bool, AllocError>
     requires { IsInstanceOver (stored_of R.value_of library.now) (length kinds.now) instance.now }
-    ensures { IfOk result (λ b. b ≡ is_misplaced (stored_of R.value_of library.now) kinds.now (placed_of params.now instance.now)) }
+    ensures { IfOk result (λ b. b ≡ is_kind_wrong (stored_of R.value_of library.now) kinds.now (placed_of params.now instance.now)) }
 {
     let p = library.get(instance.procedure);
     let places = places(alloc, p.ins(), p.out(), kinds, instance)?;
@@ -74,7 +76,7 @@ fn is_misplaced<R: Rule + Drop>(
 }
 
 /// Whether the kinds of some instance's cells do not fit.
-fn has_misplaced<R: Rule + Drop>(
+fn has_kind_wrong<R: Rule + Drop>(
     alloc: Global,
     library: &Library<R>,
     params: &[Param],
@@ -82,10 +84,10 @@ fn has_misplaced<R: Rule + Drop>(
     instances: &[Placed],
 ) -> Result<bool, AllocError>
     requires { All (IsInstanceOver (stored_of R.value_of library.now) (length kinds.now)) instances.now }
-    ensures { IfOk result (λ b. b ≡ list_any (λ x. is_misplaced (stored_of R.value_of library.now) kinds.now (placed_of params.now x)) instances.now) }
+    ensures { IfOk result (λ b. b ≡ list_any (λ x. is_kind_wrong (stored_of R.value_of library.now) kinds.now (placed_of params.now x)) instances.now) }
 {
     for instance in instances {
-        if is_misplaced(alloc, library, params, kinds, instance)? {
+        if is_kind_wrong(alloc, library, params, kinds, instance)? {
             return Ok(true);
         }
     }
@@ -93,17 +95,17 @@ fn has_misplaced<R: Rule + Drop>(
 }
 
 /// Whether some instance is given what its procedure does not take.
-fn has_misgiven<R: Rule + Drop>(
+fn has_param_wrong<R: Rule + Drop>(
     library: &Library<R>,
     params: &[Param],
     instances: &[Placed],
 ) -> bool
     requires { All (λ x. x.procedure < length (stored_of R.value_of library.now)) instances.now }
-    ensures { result ≡ list_any (λ x. is_misgiven (stored_of R.value_of library.now) (placed_of params.now x)) instances.now }
+    ensures { result ≡ list_any (λ x. is_param_wrong (stored_of R.value_of library.now) (placed_of params.now x)) instances.now }
 {
     for instance in instances {
         let need = library.get(instance.procedure).need();
-        if is_misgiven(need, params, instance.param) {
+        if is_param_wrong(need, params, instance.param) {
             return true;
         }
     }
@@ -114,14 +116,14 @@ fn has_misgiven<R: Rule + Drop>(
 fn judge<R: Rule + Drop>(alloc: Global, library: &Library<R>, walk: &Walk) -> Result<(), Refusal>
     requires { AreRight (stored_of R.value_of library.now) walk.now }
     ensures fits { OnOk result (fit_refusal (stored_of R.value_of library.now) (walk_of walk.now) ≡ None) }
-    ensures err { IfErr result (λ e. (fit_refusal (stored_of R.value_of library.now) (walk_of walk.now) ≡ Some e) ⊎ (e ≡ Refusal.Memory)) }
+    ensures err { IfErr result (IsReason (fit_refusal (stored_of R.value_of library.now) (walk_of walk.now))) }
 {
-    match has_misplaced(alloc, library, &walk.params, &walk.kinds, &walk.instances) {
+    match has_kind_wrong(alloc, library, &walk.params, &walk.kinds, &walk.instances) {
         Ok(false) => {}
         Ok(true) => return Err(Refusal::WrongKind),
         Err(AllocError) => return Err(Refusal::Memory),
     }
-    if walk.spare || has_misgiven(library, &walk.params, &walk.instances) {
+    if walk.spare || has_param_wrong(library, &walk.params, &walk.instances) {
         return Err(Refusal::WrongParameter);
     }
     Ok(())
@@ -138,7 +140,7 @@ pub(crate) fn fitted<R: Rule + Drop>(
     requires count { count ≤ length walk.kinds.items }
     ensures fits { OnOk result (fit_refusal (stored_of R.value_of library.now) (walk_of walk) ≡ None) }
     ensures flat { IfOk result (IsBehind walk count) }
-    ensures err { IfErr result (λ e. (fit_refusal (stored_of R.value_of library.now) (walk_of walk) ≡ Some e) ⊎ (e ≡ Refusal.Memory)) }
+    ensures err { IfErr result (IsReason (fit_refusal (stored_of R.value_of library.now) (walk_of walk))) }
 {
     if let Err(refusal) = judge(alloc, library, &walk) {
         drop(walk);

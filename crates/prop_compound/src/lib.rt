@@ -8,6 +8,7 @@ pub mod definition;
 pub mod definitions;
 mod expanding;
 mod fitting;
+mod kinds;
 mod resolving;
 mod scope;
 mod shortening;
@@ -15,7 +16,8 @@ pub mod uses;
 mod walk;
 
 pub use definitions::Definitions;
+pub use kinds::kind_named;
 pub use prop_language::{
-    By, Command, KindWord, Passed, Step, Value, number_in, read_line, reads_what_is_spelled,
+    By, Command, KindWord, Passed, Step, Value, lines_have_one_reading, number_in, read_line,
 };
 pub use prop_procedures::{Flat, Placed};

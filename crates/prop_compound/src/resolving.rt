@@ -1,45 +1,19 @@
 //! What the words of a definition stand for.
-ghost use Rattle.std.specs.Prelude.{◌≡◌, ◌<◌, [], length, map, take, unwrap_or, IfOk, OnOk, None, Some};
+ghost use Rattle.std.specs.Prelude.{◌≡◌, [], All, map, IfOk, OnOk};
 ghost use Rattle.std.specs.List.{list_any};
 ghost use Rattle.prop_procedures.specs.Kept.{stored_of};
-ghost use Rattle.prop_language.specs.Said.{kind_of, passed_of, step_of};
-ghost use Rattle.prop_compound.specs.Defining.{domain_kind, kind_named, passing_named, step_numbered, is_nowhere, is_unrelated, is_unknown, is_count_wrong};
+ghost use Rattle.prop_language.specs.Said.{passed_of, step_of};
+ghost use Rattle.prop_compound.specs.Kinds.{IsSized, IsLocalOf};
+ghost use Rattle.prop_compound.specs.Defining.{passing_named, step_numbered, is_domain_missing, is_relation_missing, is_unknown, is_count_wrong};
 
 use crate::definition::{NumberedStep, Passing, Places, Used};
 use crate::definitions::Definitions;
-use prop_language::{By, KindWord, Passed, Step};
-use prop_lattice::Kind;
+use crate::kinds::kind_named;
+use prop_language::{By, Passed, Step};
 use prop_procedures::fitting::span_kinded;
-use prop_procedures::{Kinded, Library, Rule};
+use prop_procedures::{Library, Rule};
 use prop_vocabulary::{Names, Vocabulary};
 use std::alloc::{AllocError, Global};
-
-/// The kind of the sets over the domain with this number.
-fn domain_kinded(words: &Vocabulary, number: u16) -> Kinded
-    requires { number < length words.now.domains }
-    ensures { result ≡ domain_kind words.now number }
-{
-    Kinded {
-        kind: Kind::Set(number),
-        size: words.domain(number).size(),
-    }
-}
-
-/// The kind that a word says, that of truth where it names no domain.
-fn kind_named(words: &Vocabulary, word: KindWord) -> Kinded
-    ensures { result ≡ kind_named words.now (kind_of word.entry) }
-{
-    words.domain_count();
-    match word {
-        KindWord::Spans => span_kinded(),
-        KindWord::Truths => domain_kinded(words, 0),
-        KindWord::Symbols => Kinded {
-            kind: Kind::Symbol,
-            size: 0,
-        },
-        KindWord::Named(name) => domain_kinded(words, words.domain_number(name).unwrap_or(0)),
-    }
-}
 
 /// What is passed, by numbers.
 fn passing_named(words: &Vocabulary, passed: Passed) -> Passing
@@ -56,29 +30,29 @@ fn passing_named(words: &Vocabulary, passed: Passed) -> Passing
 }
 
 /// Whether the step makes a local of a kind that is no domain's.
-fn is_nowhere(words: &Vocabulary, step: &Step) -> bool
-    ensures { result ≡ is_nowhere words.now (step_of step.now) }
+fn is_domain_missing(words: &Vocabulary, step: &Step) -> bool
+    ensures { result ≡ is_domain_missing words.now (step_of step.now) }
 {
     match step {
-        Step::Local(_, KindWord::Named(name)) => words.domain_number(name).is_none(),
+        Step::Local(_, kind) => kind_named(words, *kind).is_none(),
         _ => false,
     }
 }
 
 /// Whether some step does.
-pub(crate) fn has_nowhere(words: &Vocabulary, steps: &[Step]) -> bool
-    ensures { result ≡ list_any (λ step. is_nowhere words.now (step_of step)) steps.now }
+pub(crate) fn has_domain_missing(words: &Vocabulary, steps: &[Step]) -> bool
+    ensures { result ≡ list_any (λ step. is_domain_missing words.now (step_of step)) steps.now }
 {
     steps.iter().any(
         |step: &Step| -> bool
-            ensures { result ≡ is_nowhere words.entry.now (step_of step.now) }
-        { is_nowhere(words, step) },
+            ensures { result ≡ is_domain_missing words.entry.now (step_of step.now) }
+        { is_domain_missing(words, step) },
     )
 }
 
 /// Whether the step passes a relation that there is not.
-fn is_unrelated(words: &Vocabulary, step: &Step) -> bool
-    ensures { result ≡ is_unrelated words.now (step_of step.now) }
+fn is_relation_missing(words: &Vocabulary, step: &Step) -> bool
+    ensures { result ≡ is_relation_missing words.now (step_of step.now) }
 {
     match step {
         Step::Use(_, _, Passed::Said(By::Relation(name))) => words.relation_number(name).is_none(),
@@ -87,13 +61,13 @@ fn is_unrelated(words: &Vocabulary, step: &Step) -> bool
 }
 
 /// Whether some step does.
-pub(crate) fn has_unrelated(words: &Vocabulary, steps: &[Step]) -> bool
-    ensures { result ≡ list_any (λ step. is_unrelated words.now (step_of step)) steps.now }
+pub(crate) fn has_relation_missing(words: &Vocabulary, steps: &[Step]) -> bool
+    ensures { result ≡ list_any (λ step. is_relation_missing words.now (step_of step)) steps.now }
 {
     steps.iter().any(
         |step: &Step| -> bool
-            ensures { result ≡ is_unrelated words.entry.now (step_of step.now) }
-        { is_unrelated(words, step) },
+            ensures { result ≡ is_relation_missing words.entry.now (step_of step.now) }
+        { is_relation_missing(words, step) },
     )
 }
 
@@ -156,10 +130,14 @@ impl Definitions {
         scope: &Names,
         step: &Step,
     ) -> Result<NumberedStep, AllocError>
-        ensures { IfOk result (λ numbered. numbered ≡ step_numbered (stored_of R.value_of library.now) words.now self.now scope.now (step_of step.now)) }
+        ensures numbered { IfOk result (λ numbered. numbered ≡ step_numbered (stored_of R.value_of library.now) words.now self.now scope.now (step_of step.now)) }
+        ensures local { IfOk result (IsLocalOf (IsSized words.now)) }
     {
         match step {
-            Step::Local(_, kind) => Ok(NumberedStep::Local(kind_named(words, *kind))),
+            Step::Local(_, kind) => {
+                let kind = kind_named(words, *kind).unwrap_or(span_kinded());
+                Ok(NumberedStep::Local(kind))
+            }
             Step::Like(_, like) => Ok(NumberedStep::Like(scope.number(like))),
             Step::Use(name, cells, passed) => {
                 let used = self.used(library, name).unwrap_or(Used::Procedure(0));
@@ -180,7 +158,8 @@ impl Definitions {
         all: &mut Vec<NumberedStep>,
     ) -> Result<(), AllocError>
         requires { all.old.items ≡ [] }
-        ensures { OnOk result (all.new.items ≡ map (step_numbered (stored_of R.value_of library.now) words.now self.now scope.now) (map step_of steps.now)) }
+        ensures steps { OnOk result (all.new.items ≡ map (step_numbered (stored_of R.value_of library.now) words.now self.now scope.now) (map step_of steps.now)) }
+        ensures locals { OnOk result (All (IsLocalOf (IsSized words.now)) all.new.items) }
     {
         for step in steps {
             all.push(self.numbered(alloc, library, words, scope, step)?)?;

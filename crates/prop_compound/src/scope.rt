@@ -1,10 +1,11 @@
 //! The parameters and locals of a definition by name.
-ghost use Rattle.std.specs.Prelude.{◌≡◌, ◌≤◌, ◌+◌, ◌++◌, ◌∷◌, ◌⊎◌, [], true, false, is_none, length, map, take, drop, IfOk, IfErr, OnOk};
+ghost use Rattle.std.specs.Prelude.{◌≡◌, ◌≤◌, ◌+◌, ◌++◌, ◌∷◌, [], false, is_none, length, map, take, drop, IfErr, OnOk};
 ghost use Rattle.std.specs.List.{flat_map, list_any};
 ghost use Rattle.prop_sets.specs.Names.{is_among, has_repeat};
 ghost use Rattle.prop_vocabulary.specs.Names.{number_in, is_missing};
 ghost use Rattle.prop_language.specs.Said.{words as words_of, step_of};
 ghost use Rattle.prop_compound.specs.Defining.{locals_of, scope_of, cells_in, is_cell_missing};
+ghost use Rattle.prop_compound.specs.inner.Defining.{IsNameReason};
 
 use prop_language::Step;
 use prop_lattice::Refusal;
@@ -15,7 +16,7 @@ use std::alloc::{AllocError, Global};
 fn push_new(alloc: Global, scope: &mut Names, name: &str) -> Result<(), Refusal>
     ensures ok { OnOk result (scope.new ≡ scope.old ++ name.now ∷ []) }
     ensures new { OnOk result (is_among name.now scope.old ≡ false) }
-    ensures why { IfErr result (λ e. ((e ≡ Refusal.NameTaken) × (is_among name.now scope.old ≡ true)) ⊎ (e ≡ Refusal.Memory)) }
+    ensures why { IfErr result (IsNameReason (is_among name.now scope.old)) }
 {
     if scope.find(name).is_some() {
         return Err(Refusal::NameTaken);
@@ -31,7 +32,7 @@ fn push_params(alloc: Global, scope: &mut Names, params: &[&str]) -> Result<(), 
     requires { has_repeat scope.old ≡ false }
     ensures ok { OnOk result (scope.new ≡ scope.old ++ words_of params.now) }
     ensures apart { OnOk result (has_repeat scope.new ≡ false) }
-    ensures why { IfErr result (λ e. ((e ≡ Refusal.NameTaken) × (has_repeat (scope.old ++ words_of params.now) ≡ true)) ⊎ (e ≡ Refusal.Memory)) }
+    ensures why { IfErr result (IsNameReason (has_repeat (scope.old ++ words_of params.now))) }
 {
     for param in params {
         push_new(alloc, scope, param)?;
@@ -44,7 +45,7 @@ fn push_local(alloc: Global, scope: &mut Names, step: &Step) -> Result<(), Refus
     requires { has_repeat scope.old ≡ false }
     ensures ok { OnOk result (scope.new ≡ scope.old ++ locals_of (step_of step.now)) }
     ensures apart { OnOk result (has_repeat scope.new ≡ false) }
-    ensures why { IfErr result (λ e. ((e ≡ Refusal.NameTaken) × (has_repeat (scope.old ++ locals_of (step_of step.now)) ≡ true)) ⊎ (e ≡ Refusal.Memory)) }
+    ensures why { IfErr result (IsNameReason (has_repeat (scope.old ++ locals_of (step_of step.now)))) }
 {
     match step {
         Step::Local(name, _) | Step::Like(name, _) => push_new(alloc, scope, name),
@@ -57,7 +58,7 @@ fn push_locals(alloc: Global, scope: &mut Names, steps: &[Step]) -> Result<(), R
     requires { has_repeat scope.old ≡ false }
     ensures ok { OnOk result (scope.new ≡ scope.old ++ flat_map locals_of (map step_of steps.now)) }
     ensures apart { OnOk result (has_repeat scope.new ≡ false) }
-    ensures why { IfErr result (λ e. ((e ≡ Refusal.NameTaken) × (has_repeat (scope.old ++ flat_map locals_of (map step_of steps.now)) ≡ true)) ⊎ (e ≡ Refusal.Memory)) }
+    ensures why { IfErr result (IsNameReason (has_repeat (scope.old ++ flat_map locals_of (map step_of steps.now)))) }
 {
     for step in steps {
         push_local(alloc, scope, step)?;
@@ -75,14 +76,14 @@ pub(crate) fn push_names(
     requires { scope.old ≡ [] }
     ensures ok { OnOk result (scope.new ≡ scope_of (words_of params.now) (map step_of steps.now)) }
     ensures apart { OnOk result (has_repeat (scope_of (words_of params.now) (map step_of steps.now)) ≡ false) }
-    ensures why { IfErr result (λ e. ((e ≡ Refusal.NameTaken) × (has_repeat (scope_of (words_of params.now) (map step_of steps.now)) ≡ true)) ⊎ (e ≡ Refusal.Memory)) }
+    ensures why { IfErr result (IsNameReason (has_repeat (scope_of (words_of params.now) (map step_of steps.now)))) }
 {
     push_params(alloc, scope, params)?;
     push_locals(alloc, scope, steps)
 }
 
 /// Whether the name is none of the first so many.
-fn is_late(scope: &Names, seen: usize, name: &str) -> bool
+fn is_unseen(scope: &Names, seen: usize, name: &str) -> bool
     ensures { result ≡ is_none (number_in (take seen scope.now) name.now) }
 {
     match scope.find(name) {
@@ -92,25 +93,25 @@ fn is_late(scope: &Names, seen: usize, name: &str) -> bool
 }
 
 /// Whether one of the names is none of the first so many.
-fn has_late(scope: &Names, seen: usize, names: &[&str]) -> bool
+fn has_unseen(scope: &Names, seen: usize, names: &[&str]) -> bool
     ensures { result ≡ list_any (λ name. is_none (number_in (take seen scope.now) name.now)) names.now }
 {
     names.iter().any(
         |name: &&str| -> bool
             ensures { result ≡ is_none (number_in (take seen scope.entry.now) name.now.now) }
-        { is_late(scope, seen, name) },
+        { is_unseen(scope, seen, name) },
     )
 }
 
 /// Whether the step names a cell that is none of the first so many.
 #[tactic(auto, using(crate::proofs::Scoping::late_words))]
-fn is_step_late(scope: &Names, seen: usize, step: &Step) -> bool
+fn names_unseen(scope: &Names, seen: usize, step: &Step) -> bool
     ensures { result ≡ is_missing (take seen scope.now) (cells_in (step_of step.now)) }
 {
     match step {
         Step::Local(_, _) => false,
-        Step::Like(_, like) => is_late(scope, seen, like),
-        Step::Use(_, cells, _) => has_late(scope, seen, cells),
+        Step::Like(_, like) => is_unseen(scope, seen, like),
+        Step::Use(_, cells, _) => has_unseen(scope, seen, cells),
     }
 }
 
@@ -133,7 +134,7 @@ pub(crate) fn is_cell_missing(scope: &Names, params: usize, steps: &[Step]) -> b
     let all = scope.len();
     let mut seen = params;
     for step in steps {
-        if is_step_late(scope, seen, step) {
+        if names_unseen(scope, seen, step) {
             return true;
         }
         let locals = count_locals(step);

@@ -2,8 +2,9 @@
 //! goes straight on to that.
 ghost use Rattle.std.specs.Prelude.{◌≡◌, ◌++◌, [], All, length, OnOk};
 ghost use Rattle.std.specs.List.{flat_map};
-ghost use Rattle.prop_compound.specs.Kept.{all_bare, AreInScope, IsUseBelow, AreKept};
-ghost use Rattle.prop_compound.specs.Shortcuts.{shortened, through};
+ghost use Rattle.prop_compound.specs.Kept.{all_bare};
+ghost use Rattle.prop_compound.specs.inner.Kept.{AreInScope, IsUseBelow, AreKept};
+ghost use Rattle.prop_compound.specs.inner.Shortcuts.{shortened, through};
 
 use crate::definition::{KeptDefinition, NumberedStep, Passing, Places, Used, passed};
 use crate::expanding::cells_at;

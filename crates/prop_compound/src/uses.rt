@@ -1,14 +1,17 @@
 //! What a use of a name stands for, and why it is refused.
-ghost use Rattle.std.specs.Prelude.{◌≡◌, ◌<◌, ◌+◌, ◌==◌, ◌⊎◌, [], not, length, IfOk, IfErr, IfSome, OnOk, Err, None, Some};
+ghost use Rattle.std.specs.Prelude.{◌≡◌, ◌<◌, ◌+◌, ◌==◌, [], not, length, IfOk, IfErr, IfSome, OnOk, Err, None, Some};
 ghost use Rattle.std.specs.List.{range_with_len};
 ghost use Rattle.prop_procedures.specs.Kept.{stored_of};
+ghost use Rattle.prop_vocabulary.specs.Refusing.{IsReason};
 ghost use Rattle.prop_procedures.specs.Flats.{param_at};
 ghost use Rattle.prop_compound.specs.Definitions.{used_named, cells_wanted};
-ghost use Rattle.prop_compound.specs.Expansion.{before, expanded_in, expanded};
+ghost use Rattle.prop_compound.specs.Expansion.{stands_for, expanded};
 ghost use Rattle.prop_compound.specs.Expanding.{size_refusal, expand_refusal};
 ghost use Rattle.prop_compound.specs.AtOnce.{refused_at_once};
-ghost use Rattle.prop_compound.specs.Flattened.{walk_of, expansion_of_flat, IsFlatOver, IsPlaceIn};
-ghost use Rattle.prop_compound.specs.Kept.{fresh_used, instances_used, fresh_of, instances_of, total_of, IsDefinedOver, IsThere, IsUseThere};
+ghost use Rattle.prop_compound.specs.inner.Flattened.{walk_of, IsAdded, IsPlaceIn};
+ghost use Rattle.prop_compound.specs.Flattened.{expansion_of_flat, IsFlatOver};
+ghost use Rattle.prop_compound.specs.inner.Kept.{fresh_used, instances_used, fresh_of, instances_of, total_of, IsThere};
+ghost use Rattle.prop_compound.specs.Kept.{IsDefinedOver, IsUseThere};
 
 use crate::definition::Used;
 use crate::definitions::Definitions;
@@ -115,7 +118,7 @@ impl Definitions {
         requires there { IsUseThere self.now.definitions used (length cells.items) }
         requires given { IsPlaceIn walk.old.params.items given }
         requires empty { walk.old.instances.items ≡ [] }
-        ensures { OnOk result (walk_of walk.new ≡ expanded_in words.now self.now.definitions used cells.items (param_at walk.old.params.items given) (walk_of walk.old)) }
+        ensures { OnOk result (IsAdded words.now self.now.definitions used cells.items given walk.old walk.new) }
     {
         match used {
             Used::Procedure(number) => {
@@ -138,7 +141,7 @@ impl Definitions {
         given: Option<Param>,
     ) -> Result<Walk, AllocError>
         requires { IsUseThere self.now.definitions used (length cells.now) }
-        ensures walk { IfOk result (λ walk. walk_of walk ≡ expanded_in words.now self.now.definitions used (range_with_len 0 (length cells.now)) given (before self.now.definitions used cells.now given)) }
+        ensures walk { IfOk result (λ walk. walk_of walk ≡ stands_for words.now self.now.definitions used cells.now given) }
     {
         let spare = match used {
             Used::Procedure(_) => false,
@@ -181,7 +184,7 @@ impl Definitions {
         ensures fits { OnOk result (expand_refusal (stored_of R.value_of library.now) words.now self.now name.now cells.now given ≡ None) }
         ensures ok { IfOk result (λ flat. expansion_of_flat cells.now flat ≡ expanded (stored_of R.value_of library.now) words.now self.now name.now cells.now given) }
         ensures safe { IfOk result (λ flat. IsFlatOver (stored_of R.value_of library.now) (length cells.now) flat) }
-        ensures err { IfErr result (λ e. (expand_refusal (stored_of R.value_of library.now) words.now self.now name.now cells.now given ≡ Some e) ⊎ (e ≡ Refusal.Memory)) }
+        ensures err { IfErr result (IsReason (expand_refusal (stored_of R.value_of library.now) words.now self.now name.now cells.now given)) }
         ensures at_once { IfSome (refused_at_once (stored_of R.value_of library.now) words.now self.now name.now cells.now given) (λ e. result ≡ Err e) }
     {
         let _ = &self.names;

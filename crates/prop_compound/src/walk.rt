@@ -4,7 +4,7 @@ ghost use Rattle.prop_procedures.specs.declared.shape.Param.{Param as Parameter}
 ghost use Rattle.prop_procedures.specs.Fitting.{kind_at};
 ghost use Rattle.prop_procedures.specs.Flats.{param_at};
 ghost use Rattle.prop_compound.specs.Expansion.{param_passed};
-ghost use Rattle.prop_compound.specs.Flattened.{IsPlaceIn, IsBehind};
+ghost use Rattle.prop_compound.specs.inner.Flattened.{IsPlaceIn, IsBehind};
 
 use crate::definition::Passing;
 use prop_procedures::fitting::span_kinded;

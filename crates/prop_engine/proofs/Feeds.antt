@@ -7,10 +7,10 @@ use Rattle.prop_engine.specs.Lines.{kept_of}
 use Rattle.prop_engine.specs.Watched.{AppendsFront}
 use Rattle.prop_engine.specs.Answers.{Answer, Silent, text_written}
 use Rattle.prop_engine.specs.Transcripts.{Machine}
-use Rattle.prop_engine.specs.Progress.{CountsAnswer, Advances, Stops}
+use Rattle.prop_engine.specs.inner.Progress.{CountsAnswer, Advances, Stops}
 use Rattle.prop_engine.specs.declared.outcome.Counts.{Counts}
 use Rattle.prop_engine.proofs.Io.{appends_none, appends_more}
-use Rattle.prop_engine.specs.Machines.{AsksByFront}
+use Rattle.prop_engine.specs.Machines.{AsksByPrefix}
 use Rattle.prop_engine.proofs.Runs.{byte_progress, line_progress, line_stopped}
 
 -- the output so far is what the piece so far asks for
@@ -30,7 +30,7 @@ feed_byte machine a b now kept counts piece now' kept' counts' byte kept'' (outp
       byte_progress machine old (input ++ piece) kept' (before ++ output) counts' now' byte h (input ++ (piece ++ byte ∷ [])) (sym (append_assoc input piece (byte ∷ []))) kept'' k (adv old input before p),
 )
 
-pub feed_line : {S : Type 0} (machine : Machine S) → AsksByFront machine → (a b c : Option (List ℕ)) (now : S) (kept : List ℕ) (counts : Counts) (piece : List ℕ) (now' : S) (kept' : List ℕ) (counts' : Counts) (answer : Answer) (new : S) (counts'' : Counts) → SoFar machine a b now kept counts piece now' kept' counts' → machine now' kept' answer new → Appends b c (text_written answer) → CountsAnswer counts' counts'' answer → SoFar machine a c now kept counts (piece ++ 10 ∷ []) new [] counts''
+pub feed_line : {S : Type 0} (machine : Machine S) → AsksByPrefix machine → (a b c : Option (List ℕ)) (now : S) (kept : List ℕ) (counts : Counts) (piece : List ℕ) (now' : S) (kept' : List ℕ) (counts' : Counts) (answer : Answer) (new : S) (counts'' : Counts) → SoFar machine a b now kept counts piece now' kept' counts' → machine now' kept' answer new → Appends b c (text_written answer) → CountsAnswer counts' counts'' answer → SoFar machine a c now kept counts (piece ++ 10 ∷ []) new [] counts''
 feed_line machine asks a b c now kept counts piece now' kept' counts' answer new counts'' (output, app, adv) s q counted = (
   output ++ text_written answer,
   appends_more a b c output (text_written answer) app q,
@@ -39,14 +39,14 @@ feed_line machine asks a b c now kept counts piece now' kept' counts' answer new
       rw (← append_assoc before output (text_written answer)) r,
 )
 
-pub feed_stop : {S : Type 0} (machine : Machine S) → AsksByFront machine → (a b c : Option (List ℕ)) (now : S) (kept : List ℕ) (counts : Counts) (piece : List ℕ) (now' : S) (kept' : List ℕ) (counts' : Counts) (answer : Answer) (new : S) (rest : List ℕ) → SoFar machine a b now kept counts piece now' kept' counts' → machine now' kept' answer new → AppendsFront b c (text_written answer) → answer ≢ Silent → (output : List ℕ) × Appends a c output × Stops machine now kept counts (piece ++ 10 ∷ rest) output new
-feed_stop machine asks a b c now kept counts piece now' kept' counts' answer new rest (output, app, adv) s (front, missing, q, e) spoken = (
-  output ++ front,
-  appends_more a b c output front app q,
+pub feed_stop : {S : Type 0} (machine : Machine S) → AsksByPrefix machine → (a b c : Option (List ℕ)) (now : S) (kept : List ℕ) (counts : Counts) (piece : List ℕ) (now' : S) (kept' : List ℕ) (counts' : Counts) (answer : Answer) (new : S) (rest : List ℕ) → SoFar machine a b now kept counts piece now' kept' counts' → machine now' kept' answer new → AppendsFront b c (text_written answer) → answer ≢ Silent → (output : List ℕ) × Appends a c output × Stops machine now kept counts (piece ++ 10 ∷ rest) output new
+feed_stop machine asks a b c now kept counts piece now' kept' counts' answer new rest (output, app, adv) s (prefix, missing, q, e) spoken = (
+  output ++ prefix,
+  appends_more a b c output prefix app q,
   λ old input before more p.
       let w : (input ++ (piece ++ 10 ∷ rest)) ++ more ≡ (input ++ piece) ++ 10 ∷ (rest ++ more) = simp append_assoc in
-      let r = line_stopped machine asks old (input ++ piece) kept' (before ++ output) counts' now' answer new front missing (adv old input before p) s e spoken (rest ++ more) ((input ++ (piece ++ 10 ∷ rest)) ++ more) w in
-      rw (← append_assoc before output front) r,
+      let r = line_stopped machine asks old (input ++ piece) kept' (before ++ output) counts' now' answer new prefix missing (adv old input before p) s e spoken (rest ++ more) ((input ++ (piece ++ 10 ∷ rest)) ++ more) w in
+      rw (← append_assoc before output prefix) r,
 )
 
 -- a list at one of its places

@@ -69,15 +69,15 @@ not_stopped a false n len h e = elim (eqb_tells n 0) [
   | inr p ↦ e ∙ ap (λ t. t && not (len == 0)) p.0
 ]
 
-pub front_of_first : (a b : Option (List ℕ)) (x y : List ℕ) → AppendsFront a b x → AppendsFront a b (x ++ y)
-front_of_first a b x y (front, missing, p, e) = (front, missing ++ y, p, ap (λ l. l ++ y) e ∙ append_assoc front missing y)
+pub prefix_of_first : (a b : Option (List ℕ)) (x y : List ℕ) → AppendsFront a b x → AppendsFront a b (x ++ y)
+prefix_of_first a b x y (prefix, missing, p, e) = (prefix, missing ++ y, p, ap (λ l. l ++ y) e ∙ append_assoc prefix missing y)
 
-pub front_of_second : (a b c : Option (List ℕ)) (x y : List ℕ) → Appends a b x → AppendsFront b c y → AppendsFront a c (x ++ y)
-front_of_second a b c x y p (front, missing, q, e) =
-    (x ++ front, missing, appends_more a b c x front p q, ap (λ l. x ++ l) e ∙ sym (append_assoc x front missing))
+pub prefix_of_second : (a b c : Option (List ℕ)) (x y : List ℕ) → Appends a b x → AppendsFront b c y → AppendsFront a c (x ++ y)
+prefix_of_second a b c x y p (prefix, missing, q, e) =
+    (x ++ prefix, missing, appends_more a b c x prefix p q, ap (λ l. x ++ l) e ∙ sym (append_assoc x prefix missing))
 
-pub front_of_whole : (a b : Option (List ℕ)) (x : List ℕ) → Appends a b x → AppendsFront a b x
-front_of_whole a b x p = (x, [], p, sym (append-nil x))
+pub prefix_of_whole : (a b : Option (List ℕ)) (x : List ℕ) → Appends a b x → AppendsFront a b x
+prefix_of_whole a b x p = (x, [], p, sym (append-nil x))
 
 pub front_taken : (a b : Option (List ℕ)) (k : ℕ) (x : List ℕ) → Appends a b (take k x) → AppendsFront a b x
 front_taken a b k x p = (take k x, drop k x, p, sym (take-append-drop k x))
@@ -87,5 +87,5 @@ pub on_err : {T E : Type 0} (r : Result T E) (P : Type 0) → P → OnErr r P
 on_err (Ok x) P p = tt
 on_err (Err e) P p = p
 
-pub front_is : {T E : Type 0} (r : Result T E) (a b : Option (List ℕ)) (x y : List ℕ) → x ≡ y → AppendsFront a b y → OnErr r (AppendsFront a b x)
-front_is r a b x y e p = on_err r _ (subst (λ (l : List ℕ). AppendsFront a b l) (sym e) p)
+pub prefix_is : {T E : Type 0} (r : Result T E) (a b : Option (List ℕ)) (x y : List ℕ) → x ≡ y → AppendsFront a b y → OnErr r (AppendsFront a b x)
+prefix_is r a b x y e p = on_err r _ (subst (λ (l : List ℕ). AppendsFront a b l) (sym e) p)

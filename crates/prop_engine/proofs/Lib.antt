@@ -4,4 +4,4 @@ pub mod Machines
 pub mod Runs
 pub mod Feeds
 pub mod Pieces
-pub mod Fronts
+pub mod Prefixes

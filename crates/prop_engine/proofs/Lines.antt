@@ -1,7 +1,8 @@
 -- Lines, a byte at a time.
 use Rattle.std.proofs.Common.{◌≡◌, ℕ, List, [], ◌∷◌, ◌++◌, false, eqb, refl, inl, inr}
 use Rattle.std.proofs.lemmas.Bool.Decides.{eqb_tells}
-use Rattle.prop_engine.specs.Lines.{lines_of, ended_lines, IsWithoutFeed}
+use Rattle.prop_engine.specs.Lines.{lines_of, ended_lines}
+use Rattle.prop_engine.specs.inner.Lines.{IsWithoutFeed}
 
 pub not_feed : (b : ℕ) → (b ≡ 10 → ⊥) → eqb b 10 ≡ false
 not_feed b h = elim (eqb_tells b 10) [ inl p ↦ absurd (h p.1) | inr p ↦ p.0 ]

@@ -7,14 +7,14 @@ use Rattle.std.proofs.lemmas.Bool.{false≢true}
 use Rattle.prop_engine.specs.Watched.{AppendsFront}
 use Rattle.prop_engine.specs.Answers.{Answer, Silent, text_written}
 use Rattle.prop_engine.specs.Transcripts.{Machine, IsTranscript}
-use Rattle.prop_engine.specs.Progress.{Progress, CountsAnswer, Advances, Stops}
-use Rattle.prop_engine.specs.Endings.{Tells, WritesTranscript, WritesFront}
+use Rattle.prop_engine.specs.inner.Progress.{Progress, CountsAnswer, Advances, Stops}
+use Rattle.prop_engine.specs.Endings.{Tells, WritesTranscript, WritesPrefix}
 use Rattle.prop_engine.specs.declared.outcome.Counts.{Counts}
 use Rattle.prop_engine.specs.declared.outcome.EngineFault.{EngineFault}
 use Rattle.prop_engine.specs.declared.outcome.EngineFault.TheVariants as faults
 use Rattle.prop_engine.proofs.Io.{appends_none, appends_more, consumes_none, consumes_more, consumed_kept}
-use Rattle.prop_engine.specs.Machines.{AsksByFront, IsTotal}
-use Rattle.prop_engine.proofs.Fronts.{write_front, read_front}
+use Rattle.prop_engine.specs.Machines.{AsksByPrefix, IsTotal}
+use Rattle.prop_engine.proofs.Prefixes.{write_prefix, read_prefix}
 use Rattle.prop_engine.proofs.Runs.{start_progress, no_last, with_last, last_stopped, read_stopped}
 
 -- so far the session took an input and wrote an output
@@ -53,7 +53,7 @@ pub ended_plain : {S : Type 0} (machine : Machine S) (a b c x y : Option (List �
 ended_plain machine a b c x y old kept counts now told (input, output, p, q, r) e s f t =
     (input, output, consumed_end a b c input p s, q, (t, f, no_last machine old input kept output counts now r e))
 
-pub ended_line : {S : Type 0} (machine : Machine S) → AsksByFront machine → (a b c x y z : Option (List ℕ)) (old : S) (kept : List ℕ) (counts : Counts) (now : S) (told : Bool) (answer : Answer) (new : S) (counts' : Counts) → Going machine a b x y old kept counts now → (kept ≡ [] → ⊥) → Consumes b c [] → IsAtEnd c → told ≡ true → machine now kept answer new → Appends y z (text_written answer) → CountsAnswer counts counts' answer → Told machine a c x z (Ok counts') told old new
+pub ended_line : {S : Type 0} (machine : Machine S) → AsksByPrefix machine → (a b c x y z : Option (List ℕ)) (old : S) (kept : List ℕ) (counts : Counts) (now : S) (told : Bool) (answer : Answer) (new : S) (counts' : Counts) → Going machine a b x y old kept counts now → (kept ≡ [] → ⊥) → Consumes b c [] → IsAtEnd c → told ≡ true → machine now kept answer new → Appends y z (text_written answer) → CountsAnswer counts counts' answer → Told machine a c x z (Ok counts') told old new
 ended_line machine asks a b c x y z old kept counts now told answer new counts' (input, output, p, q, r) e s f t step w k = (
   input,
   output ++ text_written answer,
@@ -62,16 +62,16 @@ ended_line machine asks a b c x y z old kept counts now told answer new counts' 
   (t, f, with_last machine asks old input kept output counts now answer new counts' r e step k),
 )
 
-pub ended_fault : {S : Type 0} (machine : Machine S) → AsksByFront machine → (a b c x y z : Option (List ℕ)) (old : S) (kept : List ℕ) (counts : Counts) (now : S) (told : Bool) (answer : Answer) (new : S) → Going machine a b x y old kept counts now → (kept ≡ [] → ⊥) → Consumes b c [] → IsAtEnd c → told ≡ true → machine now kept answer new → AppendsFront y z (text_written answer) → answer ≢ Silent → Told machine a c x z (Err faults.Write) told old new
-ended_fault machine asks a b c x y z old kept counts now told answer new (input, output, p, q, r) e s f t step (front, missing, w, m) spoken = (
+pub ended_fault : {S : Type 0} (machine : Machine S) → AsksByPrefix machine → (a b c x y z : Option (List ℕ)) (old : S) (kept : List ℕ) (counts : Counts) (now : S) (told : Bool) (answer : Answer) (new : S) → Going machine a b x y old kept counts now → (kept ≡ [] → ⊥) → Consumes b c [] → IsAtEnd c → told ≡ true → machine now kept answer new → AppendsFront y z (text_written answer) → answer ≢ Silent → Told machine a c x z (Err faults.Write) told old new
+ended_fault machine asks a b c x y z old kept counts now told answer new (input, output, p, q, r) e s f t step (prefix, missing, w, m) spoken = (
   input,
-  output ++ front,
+  output ++ prefix,
   consumed_end a b c input p s,
-  appends_more x y z output front q w,
+  appends_more x y z output prefix q w,
   (
     (λ _. f),
     λ more follows.
-        rw (follows.0 t, append-nil input) (last_stopped machine asks old input kept output counts now answer new front missing r e step m spoken),
+        rw (follows.0 t, append-nil input) (last_stopped machine asks old input kept output counts now answer new prefix missing r e step m spoken),
   ),
 )
 
@@ -104,14 +104,14 @@ whole machine (Some xs) (Some ys) x y (Ok counts) told old new (input, output, p
     (output, q, subst (λ (l : List ℕ). IsTranscript machine old l output counts.lines counts.refused new) (sym same) t.2)
 whole machine a b x y (Err fault) told old new h = tt
 
-pub front_of_whole_input : {S : Type 0} (machine : Machine S) → IsTotal machine → (a b x y : Option (List ℕ)) (result : Result Counts EngineFault) (told : Bool) (old new : S) → Told machine a b x y result told old new → OnErr result (WritesFront machine a x y old)
-front_of_whole_input machine total a b x y (Ok counts) told old new h = tt
-front_of_whole_input machine total None b x y (Err fault) told old new h = tt
-front_of_whole_input machine total (Some xs) None x y (Err fault) told old new (input, output, p, q, t) = absurd p
-front_of_whole_input machine total (Some xs) (Some ys) x y (Err faults.Write) told old new (input, output, p, q, t) =
+pub prefix_of_whole_input : {S : Type 0} (machine : Machine S) → IsTotal machine → (a b x y : Option (List ℕ)) (result : Result Counts EngineFault) (told : Bool) (old new : S) → Told machine a b x y result told old new → OnErr result (WritesPrefix machine a x y old)
+prefix_of_whole_input machine total a b x y (Ok counts) told old new h = tt
+prefix_of_whole_input machine total None b x y (Err fault) told old new h = tt
+prefix_of_whole_input machine total (Some xs) None x y (Err fault) told old new (input, output, p, q, t) = absurd p
+prefix_of_whole_input machine total (Some xs) (Some ys) x y (Err faults.Write) told old new (input, output, p, q, t) =
     let stopped = t.1 ys (t.0, refl) in
-    (output, q, rw p (write_front machine total old (input ++ ys) output new stopped))
-front_of_whole_input machine total (Some xs) (Some ys) x y (Err faults.Read) told old new (input, output, p, q, t) =
-    (output, q, rw p (read_front machine total old input output ys new t))
-front_of_whole_input machine total (Some xs) (Some ys) x y (Err faults.Reads) told old new (input, output, p, q, t) =
-    (output, q, rw p (read_front machine total old input output ys new t))
+    (output, q, rw p (write_prefix machine total old (input ++ ys) output new stopped))
+prefix_of_whole_input machine total (Some xs) (Some ys) x y (Err faults.Read) told old new (input, output, p, q, t) =
+    (output, q, rw p (read_prefix machine total old input output ys new t))
+prefix_of_whole_input machine total (Some xs) (Some ys) x y (Err faults.Reads) told old new (input, output, p, q, t) =
+    (output, q, rw p (read_prefix machine total old input output ys new t))

@@ -4,13 +4,14 @@ use Rattle.std.specs.Prelude.{count_by, ◌≢◌}
 use Rattle.std.proofs.lemmas.List.{flat_map_more, length-take, length_push, take_all, take-append-le, take_at, nil_from_length}
 use Rattle.std.proofs.lemmas.List.Sums.{fold_push}
 use Rattle.std.proofs.lemmas.Bool.{cases_lt}
-use Rattle.prop_engine.specs.Lines.{lines_of, ended_lines, IsWithoutFeed, kept_of}
+use Rattle.prop_engine.specs.Lines.{lines_of, ended_lines, kept_of}
+use Rattle.prop_engine.specs.inner.Lines.{IsWithoutFeed}
 use Rattle.prop_engine.specs.Answers.{Answer, Silent, text_written, is_refusal}
 use Rattle.prop_engine.specs.Transcripts.{Machine, Run, WriteStopped, ReadStopped, IsTranscript}
-use Rattle.prop_engine.specs.Progress.{Progress, CountsAnswer, refusals}
+use Rattle.prop_engine.specs.inner.Progress.{Progress, CountsAnswer, refusals}
 use Rattle.prop_engine.specs.declared.outcome.Counts.{Counts}
 use Rattle.prop_engine.proofs.Lines.{at_feed, ended_at_feed, last_line, none_ended, without_more}
-use Rattle.prop_engine.specs.Machines.{AsksByFront}
+use Rattle.prop_engine.specs.Machines.{AsksByPrefix}
 
 -- a run goes on by one step
 pub run_more : {S : Type 0} (machine : Machine S) (old : S) (lines : List (List ℕ)) (answers : List Answer) (mid : S) (line : List ℕ) (answer : Answer) (new : S) → Run machine old lines answers mid → machine mid line answer new → Run machine old (lines ++ line ∷ []) (answers ++ answer ∷ []) new
@@ -81,14 +82,14 @@ byte_progress machine old input kept output counts now b h whole w kept' k p = r
   refused_counted = p.refused_counted;
 }
 
--- the run with the line of the part, of which a front was carried out
-part_run : {S : Type 0} (machine : Machine S) → AsksByFront machine → (old : S) (input kept output : List ℕ) (counts : Counts) (now : S) (answer : Answer) (new : S) (p : Progress machine old input kept output counts now) → machine now kept answer new → Run machine old (p.lines ++ p.part ∷ []) (p.answers ++ answer ∷ []) new
-part_run machine front old input kept output counts now answer new p s =
-    run_more machine old p.lines p.answers now p.part answer new p.run (front now p.part answer new (subst (λ (l : List ℕ). machine now l answer new) p.kept_is s))
+-- the run with the line of the part, of which a prefix was carried out
+part_run : {S : Type 0} (machine : Machine S) → AsksByPrefix machine → (old : S) (input kept output : List ℕ) (counts : Counts) (now : S) (answer : Answer) (new : S) (p : Progress machine old input kept output counts now) → machine now kept answer new → Run machine old (p.lines ++ p.part ∷ []) (p.answers ++ answer ∷ []) new
+part_run machine prefix old input kept output counts now answer new p s =
+    run_more machine old p.lines p.answers now p.part answer new p.run (prefix now p.part answer new (subst (λ (l : List ℕ). machine now l answer new) p.kept_is s))
 
 -- a line feed: the line was answered
-pub line_progress : {S : Type 0} (machine : Machine S) → AsksByFront machine → (old : S) (input kept output : List ℕ) (counts : Counts) (now : S) (answer : Answer) (new : S) (counts' : Counts) → Progress machine old input kept output counts now → machine now kept answer new → CountsAnswer counts counts' answer → (whole : List ℕ) → whole ≡ input ++ 10 ∷ [] → Progress machine old whole [] (output ++ text_written answer) counts' new
-line_progress machine front old input kept output counts now answer new counts' p s c whole w = record {
+pub line_progress : {S : Type 0} (machine : Machine S) → AsksByPrefix machine → (old : S) (input kept output : List ℕ) (counts : Counts) (now : S) (answer : Answer) (new : S) (counts' : Counts) → Progress machine old input kept output counts now → machine now kept answer new → CountsAnswer counts counts' answer → (whole : List ℕ) → whole ≡ input ++ 10 ∷ [] → Progress machine old whole [] (output ++ text_written answer) counts' new
+line_progress machine prefix old input kept output counts now answer new counts' p s c whole w = record {
   lines = p.lines ++ p.part ∷ [];
   part = [];
   answers = p.answers ++ answer ∷ [];
@@ -96,24 +97,24 @@ line_progress machine front old input kept output counts now answer new counts' 
   ended = λ more. rw (w, append_assoc input, append_assoc p.lines) (p.ended (10 ∷ more) ∙ ap (λ l. p.lines ++ l) (ended_at_feed p.part more p.plain));
   plain = tt;
   kept_is = sym empty_kept;
-  run = part_run machine front old input kept output counts now answer new p s;
+  run = part_run machine prefix old input kept output counts now answer new p s;
   output_is = ap (λ l. l ++ text_written answer) p.output_is ∙ flat_map_more text_written [] p.answers answer;
   lines_counted = omega (arith, c.line, p.lines_counted, length_push p.lines p.part);
   refused_counted = omega (arith, c.refusal, p.refused_counted, counted_more p.answers answer);
 }
 
 -- a write stopped while the answer to a line that a line feed ended was written
-pub line_stopped : {S : Type 0} (machine : Machine S) → AsksByFront machine → (old : S) (input kept output : List ℕ) (counts : Counts) (now : S) (answer : Answer) (new : S) (front missing : List ℕ) → Progress machine old input kept output counts now → machine now kept answer new → text_written answer ≡ front ++ missing → answer ≢ Silent → (more whole : List ℕ) → whole ≡ input ++ 10 ∷ more → WriteStopped machine old whole (output ++ front) new
-line_stopped machine asks old input kept output counts now answer new front missing p s m h more whole w = record {
+pub line_stopped : {S : Type 0} (machine : Machine S) → AsksByPrefix machine → (old : S) (input kept output : List ℕ) (counts : Counts) (now : S) (answer : Answer) (new : S) (prefix missing : List ℕ) → Progress machine old input kept output counts now → machine now kept answer new → text_written answer ≡ prefix ++ missing → answer ≢ Silent → (more whole : List ℕ) → whole ≡ input ++ 10 ∷ more → WriteStopped machine old whole (output ++ prefix) new
+line_stopped machine asks old input kept output counts now answer new prefix missing p s m h more whole w = record {
   lines = p.lines ++ p.part ∷ [];
   rest = lines_of more;
   before = p.answers;
   last = answer;
-  front = front;
+  prefix = prefix;
   missing = missing;
   split = rw (w, append_assoc p.lines) (p.split (10 ∷ more) ∙ ap (λ l. p.lines ++ l) (at_feed p.part more p.plain));
   run = part_run machine asks old input kept output counts now answer new p s;
-  output_is = ap (λ l. l ++ front) p.output_is;
+  output_is = ap (λ l. l ++ prefix) p.output_is;
   last_is = m;
   spoken = h;
 }
@@ -136,28 +137,28 @@ all_lines machine old input kept output counts now p h =
     ap lines_of (sym (append-nil input)) ∙ p.split [] ∙ ap (λ l. p.lines ++ lines_of l) (append-nil p.part) ∙ ap (λ l. p.lines ++ l) (one_line p.part p.plain (λ e. h (p.kept_is ∙ ap kept_of e ∙ empty_kept)))
 
 -- the end of the input, with bytes before it: they are a line
-pub with_last : {S : Type 0} (machine : Machine S) → AsksByFront machine → (old : S) (input kept output : List ℕ) (counts : Counts) (now : S) (answer : Answer) (new : S) (counts' : Counts) → Progress machine old input kept output counts now → (kept ≡ [] → ⊥) → machine now kept answer new → CountsAnswer counts counts' answer → IsTranscript machine old input (output ++ text_written answer) counts'.lines counts'.refused new
-with_last machine front old input kept output counts now answer new counts' p h s c =
+pub with_last : {S : Type 0} (machine : Machine S) → AsksByPrefix machine → (old : S) (input kept output : List ℕ) (counts : Counts) (now : S) (answer : Answer) (new : S) (counts' : Counts) → Progress machine old input kept output counts now → (kept ≡ [] → ⊥) → machine now kept answer new → CountsAnswer counts counts' answer → IsTranscript machine old input (output ++ text_written answer) counts'.lines counts'.refused new
+with_last machine prefix old input kept output counts now answer new counts' p h s c =
     let all = all_lines machine old input kept output counts now p h in record {
       answers = p.answers ++ answer ∷ [];
-      run = subst (λ (l : List (List ℕ)). Run machine old l (p.answers ++ answer ∷ []) new) (sym all) (part_run machine front old input kept output counts now answer new p s);
+      run = subst (λ (l : List (List ℕ)). Run machine old l (p.answers ++ answer ∷ []) new) (sym all) (part_run machine prefix old input kept output counts now answer new p s);
       output_is = ap (λ l. l ++ text_written answer) p.output_is ∙ flat_map_more text_written [] p.answers answer;
       lines_counted = omega (arith, c.line, p.lines_counted, length_push p.lines p.part, ap length all);
       refused_counted = omega (arith, c.refusal, p.refused_counted, counted_more p.answers answer);
     }
 
 -- a write stopped while the answer to the last line was written, which no line feed ended
-pub last_stopped : {S : Type 0} (machine : Machine S) → AsksByFront machine → (old : S) (input kept output : List ℕ) (counts : Counts) (now : S) (answer : Answer) (new : S) (front missing : List ℕ) → Progress machine old input kept output counts now → (kept ≡ [] → ⊥) → machine now kept answer new → text_written answer ≡ front ++ missing → answer ≢ Silent → WriteStopped machine old input (output ++ front) new
-last_stopped machine asks old input kept output counts now answer new front missing p h s m k = record {
+pub last_stopped : {S : Type 0} (machine : Machine S) → AsksByPrefix machine → (old : S) (input kept output : List ℕ) (counts : Counts) (now : S) (answer : Answer) (new : S) (prefix missing : List ℕ) → Progress machine old input kept output counts now → (kept ≡ [] → ⊥) → machine now kept answer new → text_written answer ≡ prefix ++ missing → answer ≢ Silent → WriteStopped machine old input (output ++ prefix) new
+last_stopped machine asks old input kept output counts now answer new prefix missing p h s m k = record {
   lines = p.lines ++ p.part ∷ [];
   rest = [];
   before = p.answers;
   last = answer;
-  front = front;
+  prefix = prefix;
   missing = missing;
   split = all_lines machine old input kept output counts now p h ∙ sym (append-nil _);
   run = part_run machine asks old input kept output counts now answer new p s;
-  output_is = ap (λ l. l ++ front) p.output_is;
+  output_is = ap (λ l. l ++ prefix) p.output_is;
   last_is = m;
   spoken = k;
 }

@@ -4,7 +4,7 @@ use Rattle.std.specs.Io.KnownBytes.{IsAtEnd, Appends}
 use Rattle.prop_engine.specs.declared.outcome.EngineFault.{EngineFault}
 use Rattle.prop_engine.specs.declared.outcome.EngineFault.TheVariants as faults
 use Rattle.prop_engine.specs.declared.outcome.Counts.{Counts}
-use Rattle.prop_engine.specs.Transcripts.{Machine, IsTranscript, IsFrontOfTranscript, WriteStopped, ReadStopped}
+use Rattle.prop_engine.specs.Transcripts.{Machine, IsTranscript, IsPrefixOfTranscript, WriteStopped, ReadStopped}
 
 -- more may be what a reader with these bytes left, where they are known, still gives: nothing where it told the end
 abbrev pub MayFollow : Option (List ℕ) → Bool → List ℕ → Type 0
@@ -25,7 +25,7 @@ abbrev pub WritesTranscript : {S : Type 0} → Machine S → Option (List ℕ) �
 WritesTranscript machine left held held' counts old new =
     IfSome left (λ input. (output : List ℕ) × Appends held held' output × IsTranscript machine old input output counts.lines counts.refused new)
 
--- What a session that was stopped wrote is the front of an allowed transcript of all that the reader had left, where that is known.
-abbrev pub WritesFront : {S : Type 0} → Machine S → Option (List ℕ) → Option (List ℕ) → Option (List ℕ) → S → Type 0
-WritesFront machine left held held' old =
-    IfSome left (λ input. (output : List ℕ) × Appends held held' output × IsFrontOfTranscript machine old input output)
+-- What a session that was stopped wrote is the prefix of an allowed transcript of all that the reader had left, where that is known.
+abbrev pub WritesPrefix : {S : Type 0} → Machine S → Option (List ℕ) → Option (List ℕ) → Option (List ℕ) → S → Type 0
+WritesPrefix machine left held held' old =
+    IfSome left (λ input. (output : List ℕ) × Appends held held' output × IsPrefixOfTranscript machine old input output)

@@ -3,5 +3,5 @@ pub mod Lines
 pub mod Transcripts
 pub mod Machines
 pub mod Watched
-pub mod Progress
 pub mod Endings
+pub mod inner

@@ -22,8 +22,8 @@ pub record IsTranscript {S : Type 0} (machine : Machine S) (old : S) (input outp
   pub lines_counted : lines_count ≡ length (lines_of input)
   pub refused_counted : refused_count ≡ count_by is_refusal answers
 
--- the output is the front of what an allowed transcript of the input writes
-pub record IsFrontOfTranscript {S : Type 0} (machine : Machine S) (old : S) (input output : List ℕ) : Type 0 where
+-- the output is the prefix of what an allowed transcript of the input writes
+pub record IsPrefixOfTranscript {S : Type 0} (machine : Machine S) (old : S) (input output : List ℕ) : Type 0 where
   pub rest : List ℕ
   pub lines_count : ℕ
   pub refused_count : ℕ
@@ -42,10 +42,10 @@ pub record WriteStopped {S : Type 0} (machine : Machine S) (old : S) (input outp
   pub rest : List (List ℕ)
   pub before : List Answer
   pub last : Answer
-  pub front : List ℕ
+  pub prefix : List ℕ
   pub missing : List ℕ
   pub split : lines_of input ≡ lines ++ rest
   pub run : Run machine old lines (before ++ last ∷ []) new
-  pub output_is : output ≡ flat_map text_written before ++ front
-  pub last_is : text_written last ≡ front ++ missing
+  pub output_is : output ≡ flat_map text_written before ++ prefix
+  pub last_is : text_written last ≡ prefix ++ missing
   pub spoken : last ≢ Silent

@@ -45,11 +45,6 @@ pub record IsFresh {T : Type 0} (w : Watched T) : Type 0 where
 abbrev pub IsFaulty : {T : Type 0} → Watched T → Type 0
 IsFaulty w = (has_failed w ≡ true) ⊎ (has_stopped w ≡ true)
 
--- no more calls failed, or moved none of their bytes
-pub record IsUnharmed {T : Type 0} (old new : Watched T) : Type 0 where
-  pub failed : has_failed new ≡ has_failed old
-  pub stopped : has_stopped new ≡ has_stopped old
-
 -- one more call, as it is counted
 abbrev pub one_more : ℕ → ℕ
 one_more n = min (n + 1) (2 ^ 64 - 1)
@@ -59,6 +54,6 @@ abbrev pub moved_none : {E : Type 0} → Result ℕ E → List ℕ → Bool
 moved_none (Result.Ok n) bytes = (n == 0) && not (length bytes == 0)
 moved_none (Result.Err _) bytes = false
 
--- a writer took a front of the bytes
+-- a writer took a prefix of the bytes
 abbrev pub AppendsFront : Option (List ℕ) → Option (List ℕ) → List ℕ → Type 0
-AppendsFront old new bytes = (front : List ℕ) × (missing : List ℕ) × Appends old new front × (bytes ≡ front ++ missing)
+AppendsFront old new bytes = (prefix : List ℕ) × (missing : List ℕ) × Appends old new prefix × (bytes ≡ prefix ++ missing)

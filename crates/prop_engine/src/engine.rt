@@ -4,8 +4,8 @@ ghost use Rattle.std.specs.Prelude.{OnOk, OnErr, IfOk, IfErr, MatchResult, IsErr
 ghost use Rattle.std.specs.Io.KnownBytes.{Appends, Consumes};
 ghost use Rattle.prop_engine.specs.Watched.{device, has_failed, has_stopped, has_flushed_idly, calls, widest, narrowest, AppendsFront, IsFaulty, IsFresh};
 ghost use Rattle.prop_engine.specs.Answers.{Answer, Silent, text_written};
-ghost use Rattle.prop_engine.specs.Progress.{CountsAnswer, Advances, Stops, GrowsAtMost};
-ghost use Rattle.prop_engine.specs.Endings.{Tells, WritesTranscript, WritesFront};
+ghost use Rattle.prop_engine.specs.inner.Progress.{CountsAnswer, Advances, Stops, GrowsAtMost};
+ghost use Rattle.prop_engine.specs.Endings.{Tells, WritesTranscript, WritesPrefix};
 
 use crate::interpreter::Interpreter;
 use crate::outcome::{Counts, EngineFault};
@@ -94,8 +94,8 @@ pub fn run_session<M: Interpreter, Rd: Read, W: Write>(
     // What was written is a transcript of all that the reader had left.
     ensures transcript { IfOk result (λ counts. WritesTranscript (M.machine (M.setting interpreter.old)) (Rd.remaining (device reader.old))
         (W.contents (device writer.old)) (W.contents (device writer.new)) counts (M.state interpreter.old) (M.state interpreter.new)) }
-    // At a fault it is the front of an allowed one.
-    ensures front { OnErr result (WritesFront (M.machine (M.setting interpreter.old)) (Rd.remaining (device reader.old))
+    // At a fault it is the prefix of an allowed one.
+    ensures prefix { OnErr result (WritesPrefix (M.machine (M.setting interpreter.old)) (Rd.remaining (device reader.old))
         (W.contents (device writer.old)) (W.contents (device writer.new)) (M.state interpreter.old)) }
     // Which lines were carried out, by what the reads gave.
     ensures told { (input : List ℕ) × (output : List ℕ)

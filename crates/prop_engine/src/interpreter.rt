@@ -2,14 +2,14 @@
 ghost use Rattle.std.specs.Prelude.{◌≡◌};
 ghost use Rattle.prop_engine.specs.Answers.{answer_of};
 ghost use Rattle.prop_engine.specs.Transcripts.{Machine};
-ghost use Rattle.prop_engine.specs.Machines.{AsksByFront, IsTotal};
+ghost use Rattle.prop_engine.specs.Machines.{AsksByPrefix, IsTotal};
 
 use crate::reply::Reply;
 
 /// What carries out lines, one after another, as a machine.
 ///
 /// A line takes the machine from a state to the next, and leaves the setting as it was. The machine
-/// has to answer a line as it may answer the front of it that is kept, its first 4,097 bytes, and has
+/// has to answer a line as it may answer the prefix of it that is kept, its first 4,097 bytes, and has
 /// to have some answer to each line that leaves the state as it was.
 pub trait Interpreter {
     /// What no line changes, such as what words mean.
@@ -37,7 +37,7 @@ pub trait Interpreter {
         ensures same { setting self.new ≡ setting self.old }
         ensures step { machine (setting self.old) (state self.old) line.now (answer_of result) (state self.new) };
 
-    ghost asks_by_front: { (at : Self.Setting) → AsksByFront (machine at) };
+    ghost asks_by_prefix: { (at : Self.Setting) → AsksByPrefix (machine at) };
 
     ghost total: { (at : Self.Setting) → IsTotal (machine at) };
 }

@@ -4,7 +4,7 @@ ghost use Rattle.prop_engine.specs.Lines.{kept_of};
 
 use std::marker::Model;
 
-/// The front of a line: its first 4,097 bytes, which tell whether it is too long.
+/// The prefix of a line: its first 4,097 bytes, which tell whether it is too long.
 #[derive(Drop)]
 pub struct Pending {
     bytes: [u8; 4097],
@@ -20,7 +20,7 @@ impl Model for Pending {
 }
 
 impl Pending {
-    /// The front of an empty line.
+    /// The prefix of an empty line.
     pub fn new() -> Pending
         ensures { result ≡ [] }
     {
@@ -54,7 +54,7 @@ impl Pending {
         }
     }
 
-    /// The bytes of the front: the line, or the first 4,097 bytes of a longer one.
+    /// The bytes of the prefix: the line, or the first 4,097 bytes of a longer one.
     pub fn as_slice(&self) -> &[u8]
         ensures { result.now ≡ self.now }
     {

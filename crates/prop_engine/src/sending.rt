@@ -1,7 +1,8 @@
 //! Replies, written and passed on.
 ghost use Rattle.std.specs.Prelude.{◌≡◌, ◌<◌, ◌++◌, ◌∷◌, ◌||◌, [], length, OnOk, OnErr, IfErr, IsOk, true, false};
 ghost use Rattle.std.specs.Io.KnownBytes.{Appends, Keeps};
-ghost use Rattle.prop_engine.specs.Watched.{device, is_flushed, has_flushed_idly, AppendsFront, IsFaulty, IsFresh, IsUnharmed};
+ghost use Rattle.prop_engine.specs.Watched.{device, is_flushed, has_flushed_idly, AppendsFront, IsFaulty, IsFresh};
+ghost use Rattle.prop_engine.specs.inner.Watched.{IsUnharmed};
 ghost use Rattle.prop_engine.specs.Answers.{Silent, text_written, answer_of};
 
 use crate::outcome::EngineFault;
@@ -60,7 +61,7 @@ fn put_line<W: Write>(writer: &mut Watched<W>, text: &str) -> Result<(), EngineF
 }
 
 /// Writes a reply with its line feed, and passes it on. A silent reply leaves the writer as it is.
-/// `EngineFault::Write` where a write or the flush fails, or a write takes no byte: then a front
+/// `EngineFault::Write` where a write or the flush fails, or a write takes no byte: then a prefix
 /// of the reply was written, and the writer tells the fault.
 pub fn write_reply<W: Write>(writer: &mut Watched<W>, reply: &Reply) -> Result<(), EngineFault>
     ensures ok { OnOk result (Appends (W.contents (device writer.old)) (W.contents (device writer.new)) (text_written (answer_of reply.now))) }

@@ -1,16 +1,21 @@
 -- What a run over some premises tells of what they entail.
-use Rattle.std.proofs.Common.{◌≡◌, ◌∙◌, ◌+◌, ◌<◌, ℕ, List, Contains, IsTrue, Option, Some, None, get_or, length, refl, ap, subst}
+use Rattle.std.proofs.Common.{◌≡◌, ◌∙◌, ◌+◌, ◌-◌, ◌*◌, ◌<◌, ◌≤◌, ◌++◌, ◌∷◌, [], ℕ, List, Contains, IsTrue, Option, Some, None, get_or, length, refl, ap, subst, arith}
 use Rattle.prop_lattice.specs.declared.info.Info.{Info}
 use Rattle.prop_lattice.specs.Order.{Below}
-use Rattle.prop_lattice.specs.OrderLaws.{info_laws}
+use Rattle.prop_lattice.specs.laws.OrderLaws.{info_laws}
 use Rattle.prop_premises.specs.Sets.{Members, IsPart}
 use Rattle.prop_procedures.specs.Stored.{Stored}
 use Rattle.prop_cells.specs.Problems.{Problem, Assignment, IsSolution, Entails, IsConsistent, is_member}
 use Rattle.prop_cells.specs.Reach.{IsConflict}
 use Rattle.prop_cells.specs.Data.{Data, problem_of, beliefs, IsKept}
-use Rattle.prop_scheduler.specs.Turns.{IsSettled, Turns}
+use Rattle.prop_scheduler.specs.Agendas.{Waiting}
+use Rattle.prop_scheduler.specs.Potential.{most_steps}
+use Rattle.prop_scheduler.specs.Turns.{IsSettled, IsUnderWay, Turns}
+use Rattle.prop_scheduler.specs.Watching.{IsWatched}
+use Rattle.prop_explain.specs.inner.Ready.{IsReady, StaysReady}
 use Rattle.prop_explain.specs.Trying.{Tries}
 use Rattle.prop_explain.specs.Trying.Tries.{none, tried}
+use Rattle.prop_explain.proofs.TryingLaws.{few_more}
 
 -- at rest, what is entailed is below what is believed
 pub settled_below : (library : List Stored) (s : Members) (d : Data) (cell : ℕ) (v : Info) → IsSettled library s d → Entails (problem_of library d) s cell v → Below v (beliefs s d.contents cell)
@@ -42,24 +47,59 @@ no_conflict problem s n c conflict = conflict.contradictory (consistent_fewer pr
 pub same_problem : (library library' : List Stored) (start new : Data) → library' ≡ library → new ≡ record start { contents = new.contents } → problem_of library' new ≡ problem_of library start
 same_problem library library' start new same rest = λ i. problem_of (same i) (rest i)
 
--- what is put into a network that is the same but for what its cells hold
-pub rest_of : (start middle new : Data) → middle ≡ record start { contents = middle.contents } → new ≡ record middle { contents = new.contents } → new ≡ record start { contents = new.contents }
-rest_of start middle new first rest = rest ∙ (λ i. record (first i) { contents = new.contents })
+-- ---- one try after another
 
--- ---- one try
+-- a network in which nothing was tried is ready as it was
+pub as_ready : (library : List Stored) (d : Data) (agenda : Waiting) → IsReady library d agenda → StaysReady library d d agenda agenda
+as_ready library d agenda ready = record { rest = refl; ready = ready; room = refl; cells = refl }
 
--- what a try in a network tells of the one that the reduction began with
-module _ {O L : Type 0} (picks : O → ℕ → ℕ → O → Type 0) (stored : L → List Stored) (a b : L) (start d : Data) (same : b ≡ a) (rest : d ≡ record start { contents = d.contents }) where
-  pub there : problem_of (stored b) d ≡ problem_of (stored a) start
-  there = same_problem (stored a) (stored b) start d (ap stored same) rest
+-- what a run leaves, for which every instance waited
+pub run_leaves : (library library' : List Stored) (s : Members) (old new : Data) (before all after : Waiting) → library' ≡ library → IsReady library old before → new ≡ record old { contents = new.contents } → IsUnderWay library' s new after.line → IsWatched s new after.watched →
+    all.room ≡ before.room → after.room ≡ all.room → all.cells ≡ before.cells → after.cells ≡ all.cells → StaysReady library old new before after
+run_leaves library library' s old new before all after same ready rest under_way watched room room' cells cells' = record {
+  rest = rest;
+  ready = record {
+    kept = subst (λ l. IsKept l new) same under_way.kept;
+    line = under_way.line_below;
+    watched = watched.below;
+    room = rw (room' ∙ room, ap (λ (d : Data). d.instances) rest) ready.room;
+    cells = rw (cells' ∙ cells, ap (λ (d : Data). d.kinds) rest) ready.cells;
+  };
+  room = room' ∙ room;
+  cells = cells' ∙ cells;
+}
 
-  pub kept_there : (new : Data) → IsKept (stored b) new → IsKept (stored a) new
-  kept_there new kept = subst (λ l. IsKept (stored l) new) same kept
+-- what a try leaves of what another left
+pub stays_then : (library : List Stored) (old middle new : Data) (before between after : Waiting) → StaysReady library old middle before between → StaysReady library middle new between after → StaysReady library old new before after
+stays_then library old middle new before between after first then = record {
+  rest = then.rest ∙ (λ i. record (first.rest i) { contents = new.contents });
+  ready = then.ready;
+  room = then.room ∙ first.room;
+  cells = then.cells ∙ first.cells;
+}
 
-  pub one_more : (believed : Members) (line before after : List ℕ) (order first next : O) (s : Members) (steps calls : ℕ) (new : Data) → IsPart s believed → Tries picks (stored a) believed start line order steps d before first →
-      ((all : List ℕ) × ((j : ℕ) → j < length d.instances → Contains all j) × Turns picks (stored b) s d all first calls new after next) → Tries picks (stored a) believed start line order (steps + calls) new after next
-  one_more believed line before after order first next s steps calls new part before_it (all, waits, turns) =
-      tried steps calls s d new before all after first next part before_it waits (subst (λ l. Turns picks (stored l) s d all first calls new after next) same turns)
+-- the instances that were called in so many steps, each premise of the list having been tried, and the network that this left
+pub record HasTried {O : Type 0} (picks : O → ℕ → ℕ → O → Type 0) (library : List Stored) (believed : Members) (start : Data) (before : Waiting) (first : O) (budget : ℕ) (ps : List ℕ) (steps : ℕ) (d : Data) (agenda : Waiting) (order : O) : Type 0 where
+  pub left : StaysReady library start d before agenda
+  pub within : steps ≤ budget
+  pub few : steps ≤ length ps * most_steps (problem_of library start)
+  pub tries : Tries picks library believed start before.line first steps d agenda.line order
+
+-- some of the believed premises are tried, in so many calls
+pub tried_on : {O : Type 0} {picks : O → ℕ → ℕ → O → Type 0} {start d : Data} {line now : List ℕ} {first order next : O} {believed : Members} {steps calls : ℕ} (library : List Stored) (s : Members) (new : Data) (after : List ℕ) → IsPart s believed →
+    Tries picks library believed start line first steps d now order → ((all : List ℕ) × ((j : ℕ) → j < length d.instances → Contains all j) × Turns picks library s d all order calls new after next) → Tries picks library believed start line first (steps + calls) new after next
+tried_on library s new after part tries (all, waits, turns) = tried _ _ s _ new _ all after _ _ part tries waits turns
+
+-- one premise more was tried: the network was run with some of the believed ones
+pub one_more : {O : Type 0} {picks : O → ℕ → ℕ → O → Type 0} {new : Data} {before agenda after : Waiting} {first order next : O} {believed s : Members} {budget : ℕ} (library : List Stored) (start d : Data) (ps : List ℕ) (p steps calls : ℕ) → HasTried picks library believed start before first budget ps steps d agenda order → IsPart s believed →
+    StaysReady library d new agenda after → calls ≤ budget - steps → calls ≤ most_steps (problem_of library d) → ((all : List ℕ) × ((j : ℕ) → j < length d.instances → Contains all j) × Turns picks library s d all order calls new after.line next) →
+    HasTried picks library believed start before first budget (ps ++ p ∷ []) (steps + calls) new after next
+one_more library start d ps p steps calls so_far part left within falls turns = record {
+  left = stays_then library start d _ _ _ _ so_far.left left;
+  within = omega (arith, within, so_far.within);
+  few = few_more ps p (most_steps (problem_of library start)) steps calls so_far.few (subst (λ (q : Problem). calls ≤ most_steps q) (same_problem library library start d refl so_far.left.rest) falls);
+  tries = tried_on library _ _ _ part so_far.tries turns;
+}
 
 -- what was tried of some premises was tried of more
 pub tries_of_more : {O : Type 0} (picks : O → ℕ → ℕ → O → Type 0) (library : List Stored) (s t : Members) (start : Data) (line : List ℕ) (order : O) (n : ℕ) (new : Data) (after : List ℕ) (next : O) → IsPart s t →

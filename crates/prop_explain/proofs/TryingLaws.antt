@@ -45,6 +45,10 @@ part_without s t p part q h = and_both (s q) (not (p == q)) (part q (and_first (
 pub without_part : (s : Members) (p : ℕ) → IsPart (without s p) s
 without_part s p q h = and_first (s q) (not (p == q)) h
 
+-- and so of what that was a part of
+pub less_is_part : (s why less : Members) (p : ℕ) → less ≡ without s p → IsPart s why → IsPart less why
+less_is_part s why less p is part = rw is (λ q h. part q (without_part s p q h))
+
 not_itself : (s : Members) (p : ℕ) → IsTrue (without s p p) → ⊥
 not_itself s p h =
     let out : not (p == p) ≡ true = and_second (s p) (not (p == p)) h in

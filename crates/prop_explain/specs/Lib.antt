@@ -1,2 +1,3 @@
 pub mod Irreducible
 pub mod Trying
+pub mod inner

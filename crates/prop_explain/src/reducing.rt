@@ -7,6 +7,7 @@ ghost use Rattle.prop_procedures.specs.Kept.{AllMean, stored_of};
 ghost use Rattle.prop_cells.specs.Problems.{Entails, IsConsistent, Premises};
 ghost use Rattle.prop_cells.specs.Reach.{Explains};
 ghost use Rattle.prop_explain.specs.Irreducible.{IsIrreducible, IfLeast, IfNotReduced, OfCore};
+ghost use Rattle.prop_explain.specs.inner.Ready.{IsReady, StaysReady};
 ghost use Rattle.prop_explain.specs.Trying.{Tries};
 ghost use Rattle.prop_cells.specs.Data.{problem_of, beliefs, IsKept};
 ghost use Rattle.prop_scheduler.specs.Turns.{IsUnderWay, IsSettled, Turns};
@@ -103,20 +104,11 @@ fn explained_least<R: Rule + Drop, O: Order>(
     budget: u64,
 ) -> Result<(Core, u64), AllocError>
     requires means { AllMean R.value_of network.old.library.procedures.items }
-    requires kept { IsKept (stored_of R.value_of network.old.library) network.old.cells }
-    requires line { All (λ j. j < length network.old.cells.instances) agenda.old.line }
-    requires watched { All (λ c. c < length network.old.cells.kinds) agenda.old.watched }
-    requires room { length network.old.cells.instances ≤ agenda.old.room }
-    requires cells { length network.old.cells.kinds ≤ agenda.old.cells }
+    requires ready { IsReady (stored_of R.value_of network.old.library) network.old.cells agenda.old }
     requires cell { cell < length network.old.cells.kinds }
     requires settled { IsSettled (stored_of R.value_of network.old.library) (set_of worldview.now) network.old.cells }
     ensures same { network.new.library ≡ network.old.library }
-    ensures rest { network.new.cells ≡ record network.old.cells { contents = network.new.cells.contents } }
-    ensures kept { IsKept (stored_of R.value_of network.old.library) network.new.cells }
-    ensures line { All (λ j. j < length network.new.cells.instances) agenda.new.line }
-    ensures watched { All (λ c. c < length network.new.cells.kinds) agenda.new.watched }
-    ensures room { agenda.new.room ≡ agenda.old.room }
-    ensures cells { agenda.new.cells ≡ agenda.old.cells }
+    ensures left { StaysReady (stored_of R.value_of network.old.library) network.old.cells network.new.cells agenda.old agenda.new }
     ensures explains { IfOk result (λ r. OfCore r.0 (λ v s. (v ≡ beliefs (set_of worldview.now) network.old.cells.contents cell) × Explains (problem_of (stored_of R.value_of network.old.library) network.old.cells) (set_of worldview.now) cell v (set_of s))) }
     ensures least { IfOk result (λ r. IfLeast r.0 (λ v s. IsIrreducible (problem_of (stored_of R.value_of network.old.library) network.old.cells) (set_of s) cell v)) }
     ensures spent { IfOk result (λ r. IfNotReduced r.0 (λ v s. r.1 ≡ budget)) }
@@ -147,21 +139,12 @@ fn left_of<R: Rule + Drop, O: Order>(
     budget: u64,
 ) -> Result<(PremiseSet, End, u64), AllocError>
     requires means { AllMean R.value_of network.old.library.procedures.items }
-    requires kept { IsKept (stored_of R.value_of network.old.library) network.old.cells }
-    requires line { All (λ j. j < length network.old.cells.instances) agenda.old.line }
-    requires watched { All (λ c. c < length network.old.cells.kinds) agenda.old.watched }
-    requires room { length network.old.cells.instances ≤ agenda.old.room }
-    requires cells { length network.old.cells.kinds ≤ agenda.old.cells }
+    requires ready { IsReady (stored_of R.value_of network.old.library) network.old.cells agenda.old }
     requires cell { cell < length network.old.cells.kinds }
     requires entails { Entails (problem_of (stored_of R.value_of network.old.library) network.old.cells) (set_of why.now.support) cell why.now.value }
     requires consistent { IsConsistent (problem_of (stored_of R.value_of network.old.library) network.old.cells) (set_of why.now.support) }
     ensures same { network.new.library ≡ network.old.library }
-    ensures rest { network.new.cells ≡ record network.old.cells { contents = network.new.cells.contents } }
-    ensures kept { IsKept (stored_of R.value_of network.old.library) network.new.cells }
-    ensures line { All (λ j. j < length network.new.cells.instances) agenda.new.line }
-    ensures watched { All (λ c. c < length network.new.cells.kinds) agenda.new.watched }
-    ensures room { agenda.new.room ≡ agenda.old.room }
-    ensures cells { agenda.new.cells ≡ agenda.old.cells }
+    ensures left { StaysReady (stored_of R.value_of network.old.library) network.old.cells network.new.cells agenda.old agenda.new }
     ensures part { IfOk result (λ r. IsPart (set_of r.0) (set_of why.now.support)) }
     ensures entails { IfOk result (λ r. Entails (problem_of (stored_of R.value_of network.old.library) network.old.cells) (set_of r.0) cell why.now.value) }
     ensures least { IfOk result (λ r. r.1 ≡ End.AllTried → IsIrreducible (problem_of (stored_of R.value_of network.old.library) network.old.cells) (set_of r.0) cell why.now.value) }
@@ -210,20 +193,11 @@ fn attempt<R: Rule + Drop, O: Order>(
     budget: u64,
 ) -> Result<(Tried, u64), AllocError>
     requires means { AllMean R.value_of network.old.library.procedures.items }
-    requires kept { IsKept (stored_of R.value_of network.old.library) network.old.cells }
-    requires line { All (λ j. j < length network.old.cells.instances) agenda.old.line }
-    requires watched { All (λ c. c < length network.old.cells.kinds) agenda.old.watched }
-    requires room { length network.old.cells.instances ≤ agenda.old.room }
-    requires cells { length network.old.cells.kinds ≤ agenda.old.cells }
+    requires ready { IsReady (stored_of R.value_of network.old.library) network.old.cells agenda.old }
     requires cell { cell < length network.old.cells.kinds }
     requires consistent { IsConsistent (problem_of (stored_of R.value_of network.old.library) network.old.cells) (set_of set.now) }
     ensures same { network.new.library ≡ network.old.library }
-    ensures rest { network.new.cells ≡ record network.old.cells { contents = network.new.cells.contents } }
-    ensures kept { IsKept (stored_of R.value_of network.old.library) network.new.cells }
-    ensures line { All (λ j. j < length network.new.cells.instances) agenda.new.line }
-    ensures watched { All (λ c. c < length network.new.cells.kinds) agenda.new.watched }
-    ensures room { agenda.new.room ≡ agenda.old.room }
-    ensures cells { agenda.new.cells ≡ agenda.old.cells }
+    ensures left { StaysReady (stored_of R.value_of network.old.library) network.old.cells network.new.cells agenda.old agenda.new }
     ensures enough { IfOk result (λ r. r.0 ≡ Tried.Enough → Entails (problem_of (stored_of R.value_of network.old.library) network.old.cells) (set_of set.now) cell value) }
     ensures too_few { IfOk result (λ r. r.0 ≡ Tried.TooFew → ¬ (Entails (problem_of (stored_of R.value_of network.old.library) network.old.cells) (set_of set.now) cell value)) }
     ensures falls { IfOk result (λ r. r.1 ≤ most_steps (problem_of (stored_of R.value_of network.old.library) network.old.cells)) }

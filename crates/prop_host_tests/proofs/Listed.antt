@@ -16,8 +16,10 @@ use Rattle.prop_procedures.specs.Both.{either_of}
 use Rattle.prop_procedures.specs.Rules.{IsSound}
 use Rattle.prop_procedures.specs.Stored.{Stored}
 use Rattle.prop_procedures.specs.Kept.{stored_as, stored_of, related_of}
-use Rattle.prop_arith.specs.Kit.{in_order, name_of, ins_of, out_of, need_of, value_of, Related}
-use Rattle.prop_arith.specs.KitLaws.{kit_sound}
+use Rattle.prop_arith.specs.Kit.{in_order, form_of}
+use Rattle.prop_arith.specs.Points.{Related}
+use Rattle.prop_arith.specs.Values.{value_of}
+use Rattle.prop_arith.specs.laws.KitLaws.{kit_sound}
 use Rattle.prop_arith.specs.declared.kit.Kit.{Kit}
 use Rattle.prop_cells.specs.Points.{AreSoundBy}
 use Rattle.prop_engine.specs.Answers.{Answer}
@@ -27,14 +29,14 @@ use Rattle.prop_workbench.specs.Engine.{learning}
 use Rattle.prop_host_tests.specs.declared.host.Host.{Host}
 use Rattle.prop_host_tests.specs.declared.host.Host.TheVariants.{Maxer}
 use Rattle.prop_host_tests.specs.Host.{value_of as host_value, Related as host_points}
-use Rattle.prop_host_tests.specs.HostLaws.{host_sound}
+use Rattle.prop_host_tests.specs.laws.HostLaws.{host_sound}
 use Rattle.prop_host_tests.specs.Answered.{host_rules, stored_rule, host_library, host_related, IsAnswered}
 
 -- the procedure has the name, the form and the value of its rule
 abbrev pub IsOfItsRule : {X : Type 0} {F : X → Type 0} {g : _} → Procedure (Both Kit Host) X F g → Type 0
 IsOfItsRule p = stored_as (either_of value_of host_value) p ≡ stored_rule p.rule
 
-pub is_of_kit : {X : Type 0} {F : X → Type 0} {g : _} → (p : Procedure (Both Kit Host) X F g) (k : Kit) → p.name.now ≡ name_of k → p.ins.items ≡ ins_of k → p.out ≡ out_of k → p.need ≡ need_of k → p.rule ≡ One k → IsOfItsRule p
+pub is_of_kit : {X : Type 0} {F : X → Type 0} {g : _} → (p : Procedure (Both Kit Host) X F g) (k : Kit) → p.name.now ≡ (form_of k).name → p.ins.items ≡ (form_of k).ins → p.out ≡ (form_of k).out → p.need ≡ (form_of k).need → p.rule ≡ One k → IsOfItsRule p
 is_of_kit p k n i o d r = rw (n, i, o, d, r) refl
 
 pub is_of_host : {X : Type 0} {F : X → Type 0} {g : _} → (p : Procedure (Both Kit Host) X F g) → p.name.now ≡ codes "maxer" → p.ins.items ≡ Span ∷ Span ∷ [] → p.out ≡ Span → p.need ≡ Nothing → p.rule ≡ Two Maxer → IsOfItsRule p
@@ -70,7 +72,7 @@ pub host_is_sound : AreSoundBy host_library host_related
 host_is_sound n p at = by host_rules n p at
   where
     of_rule : (rule : Both Kit Host) → IsSound (stored_rule rule).value (either_of Related host_points rule) (stored_rule rule).ins (stored_rule rule).out (stored_rule rule).need
-    of_rule (One rule) = kit_sound rule (ins_of rule) (out_of rule) (need_of rule) (refl, refl, refl)
+    of_rule (One rule) = kit_sound rule (form_of rule).ins (form_of rule).out (form_of rule).need (refl, refl, refl)
     of_rule (Two Maxer) = host_sound Maxer (Span ∷ Span ∷ []) Span Nothing (refl, refl, refl)
 
     by : (rules : List (Both Kit Host)) (n : ℕ) (p : Stored) → slice_get (map stored_rule rules) n ≡ Some p → IsSound p.value (λ param points point. IsSomeAnd (slice_get rules n) (λ rule. either_of Related host_points rule param points point)) p.ins p.out p.need

@@ -8,7 +8,9 @@ use Rattle.prop_procedures.specs.declared.shape.Shape.TheVariants.{Span}
 use Rattle.prop_procedures.specs.declared.shape.Need.TheVariants.{Nothing}
 use Rattle.prop_procedures.specs.Both.{either_of}
 use Rattle.prop_procedures.specs.Stored.{Stored}
-use Rattle.prop_arith.specs.Kit.{in_order, name_of, ins_of, out_of, need_of, value_of, Related}
+use Rattle.prop_arith.specs.Kit.{in_order, form_of}
+use Rattle.prop_arith.specs.Points.{Related}
+use Rattle.prop_arith.specs.Values.{value_of}
 use Rattle.prop_arith.specs.declared.kit.Kit.{Kit}
 use Rattle.prop_engine.specs.Answers.{Answer}
 use Rattle.prop_engine.specs.Transcripts.{Run}
@@ -24,7 +26,7 @@ host_rules = map One in_order ++ Two Maxer ∷ []
 
 -- the procedure of a rule
 abbrev pub stored_rule : Both Kit Host → Stored
-stored_rule (One rule) = record { name = name_of rule; ins = ins_of rule; out = out_of rule; need = need_of rule; value = value_of rule }
+stored_rule (One rule) = record { name = (form_of rule).name; ins = (form_of rule).ins; out = (form_of rule).out; need = (form_of rule).need; value = value_of rule }
 stored_rule (Two Maxer) = record { name = codes "maxer"; ins = Span ∷ Span ∷ []; out = Span; need = Nothing; value = host_value Maxer }
 
 -- the procedures of the rules, in order

@@ -1,3 +1,3 @@
 pub mod Host
-pub mod HostLaws
 pub mod Answered
+pub mod laws

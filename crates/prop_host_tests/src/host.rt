@@ -3,7 +3,7 @@ ghost use Rattle.std.specs.Prelude.{◌≡◌};
 ghost use Rattle.std.specs.Int.{int_max};
 ghost use Rattle.prop_intervals.specs.Clip.{clip};
 ghost use Rattle.prop_host_tests.specs.Host.{FormOf, value_of, Related};
-ghost use Rattle.prop_host_tests.specs.HostLaws.{host_monotone, host_keeps_kind, host_sound};
+ghost use Rattle.prop_host_tests.specs.laws.HostLaws.{host_monotone, host_keeps_kind, host_sound};
 
 use prop_intervals::clipped;
 use prop_lattice::{Info, Span};

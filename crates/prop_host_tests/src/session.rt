@@ -1,6 +1,6 @@
 //! A host of the workbench: it makes the kit's procedures and its own, and has a session with them carry out lines.
 ghost use Rattle.std.specs.Prelude.{◌≡◌, IfOk, map};
-ghost use Rattle.prop_arith.specs.Kit.{value_of};
+ghost use Rattle.prop_arith.specs.Values.{value_of};
 ghost use Rattle.prop_procedures.specs.Both.{either_of};
 ghost use Rattle.prop_procedures.specs.Kept.{AllMean, stored_as};
 ghost use Rattle.prop_cells.specs.Points.{AreSoundBy};

@@ -1,6 +1,6 @@
 //! Each public call of procedures, libraries and rules once, at the kit's rules and the host's.
 ghost use Rattle.std.specs.Prelude.{◌≡◌};
-ghost use Rattle.prop_arith.specs.Kit.{value_of};
+ghost use Rattle.prop_arith.specs.Values.{value_of};
 ghost use Rattle.prop_host_tests.specs.Host.{value_of as host_value};
 
 use crate::calling::{call_on_spans, larger};

@@ -10,7 +10,7 @@ use Rattle.prop_lattice.specs.declared.span.Span as spans
 use Rattle.std.proofs.lemmas.Int.{ints, clamps, unsigned_abs-mul, to_z-of_z}
 use Rattle.std.proofs.lemmas.Nat.{mul-le}
 use Rattle.prop_intervals.specs.Quotients.{int_div_floor, int_div_ceil}
-use Rattle.prop_intervals.specs.QuotientLaws.{le-floor, floor-lt, product-le, product-ge}
+use Rattle.prop_intervals.specs.laws.QuotientLaws.{le-floor, floor-lt, product-le, product-ge}
 
 -- a product of two numbers of these sizes
 pub product_of_sizes : (a b : ℤ) (m n : ℕ) → unsigned_abs a ≤ m → unsigned_abs b ≤ n → (neg_ℤ (pos (m * n)) ≤ℤ (a *ℤ b)) × ((a *ℤ b) ≤ℤ pos (m * n))

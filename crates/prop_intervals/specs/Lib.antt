@@ -1,16 +1,8 @@
 pub mod Clip
-pub mod ClipLaws
 pub mod Narrowest
-pub mod NarrowestLaws
 pub mod Relations
 pub mod Quotients
-pub mod QuotientLaws
 pub mod Roots
-pub mod RootLaws
 pub mod Spans
-pub mod SumLaws
-pub mod ProductLaws
-pub mod SquareLaws
-pub mod DivisionLaws
 pub mod Comparisons
-pub mod ComparisonLaws
+pub mod laws

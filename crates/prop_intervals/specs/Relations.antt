@@ -1,5 +1,5 @@
 -- Which numbers belong together.
-use Rattle.std.specs.Prelude.{◌≡◌, ◌↔◌, ℕ, ℤ, pos, neg_ℤ, ◌+ℤ◌, ◌-ℤ◌, ◌*ℤ◌, ◌≤ℤ◌, ◌<ℤ◌}
+use Rattle.std.specs.Prelude.{◌≡◌, ◌↔◌, ℕ, ℤ, pos, ◌+ℤ◌, ◌-ℤ◌, ◌*ℤ◌, ◌<ℤ◌}
 use Rattle.prop_lattice.specs.Points.{Number, Holds}
 use Rattle.prop_lattice.specs.declared.span.Span as spans
 use Rattle.prop_lattice.specs.declared.info.Info.TheVariants.{Span}
@@ -19,11 +19,6 @@ IsSquare x y = y ≡ x *ℤ x
 -- the truth t, 0 for `yes`, says whether x is less than y
 abbrev pub SaysLess : ℤ → ℤ → ℕ → Type 0
 SaysLess x y t = (t ≡ 0) ↔ (x <ℤ y)
-
--- v is no larger in magnitude than numbers may be
-abbrev pub IsInRange : ℤ → Type 0
-IsInRange v =
-    (neg_ℤ (pos 1_000_000_000_000_000_000) ≤ℤ v) × (v ≤ℤ pos 1_000_000_000_000_000_000)
 
 -- v belongs to some number of a
 abbrev pub BelongsToOne : (ℤ → ℤ → Type 0) → spans.Span → ℤ → Type 0

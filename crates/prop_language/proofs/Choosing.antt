@@ -10,9 +10,9 @@ use Rattle.prop_lattice.specs.declared.refusal.Refusal.TheVariants.{WrongForm, N
 use Rattle.prop_language.specs.Tokens.{Token, Word, Open, Close}
 use Rattle.prop_language.specs.Names.{is_name}
 use Rattle.prop_language.specs.Commands.{Value, Bare, Braces, Command}
-use Rattle.prop_language.specs.Forms.{join, values, in_braces, sides, choose}
-use Rattle.prop_language.specs.Reading.{command_in_form}
-use Rattle.prop_language.specs.Parts.{behind_word, some_values, sides_in, few_sides_in, before_sides}
+use Rattle.prop_language.specs.inner.Forms.{join, values, in_braces, sides, choose}
+use Rattle.prop_language.specs.inner.Parsing.{command_in_form}
+use Rattle.prop_language.specs.inner.Parts.{behind_word, some_values, sides_in, few_sides_in, before_sides}
 use Rattle.prop_language.proofs.Forming.{LacksTwo, misread, unnamed, all_named}
 
 -- ---- one value and what stands behind it

@@ -6,7 +6,7 @@ use Rattle.std.proofs.lemmas.Int.{ints}
 use Rattle.std.specs.Option.{option_and_then}
 use Rattle.std.proofs.lemmas.Bool.Decides.{leb_tells}
 use Rattle.prop_language.specs.Names.{is_digit, number_after}
-use Rattle.prop_language.specs.Parts.{up_to, number_up_to}
+use Rattle.prop_language.specs.inner.Parts.{up_to, number_up_to}
 
 pub of_some_digits : (most : ℕ) (digits : List ℕ) → 0 < length digits → number_up_to most digits ≡ option_and_then (up_to most) (number_after 0 digits)
 of_some_digits most [] h = absurd (omega arith)

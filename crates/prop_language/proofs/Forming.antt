@@ -10,9 +10,10 @@ use Rattle.prop_lattice.specs.declared.refusal.Refusal.TheVariants.{WrongForm, N
 use Rattle.prop_language.specs.Tokens.{Token, Word, Open, Close, Semicolon, Equals}
 use Rattle.prop_language.specs.Names.{is_name}
 use Rattle.prop_language.specs.Commands.{Value, KindWord, By, Passed, Step, Command}
-use Rattle.prop_language.specs.Forms.{join, only_words, domain, pairs, relation, kind_word, cell, tell, values, in_braces, one_value, only_value, cells_by, by_form, attach, with_cell, passed_form, use_step}
-use Rattle.prop_language.specs.Reading.{kind_names, by_names, is_by_in_range, passed_names, is_passed_in_range, command_in_form}
-use Rattle.prop_language.specs.Parts.{front, one_word, are_words, front_words, before_pairs, behind_by, given, before_by, judged, step_in_form, BeginsOpen}
+use Rattle.prop_language.specs.inner.Forms.{join, only_words, domain, pairs, relation, kind_word, cell, tell, values, in_braces, one_value, only_value, cells_by, by_form, attach, with_cell, passed_form, use_step}
+use Rattle.prop_language.specs.Reading.{kind_names, by_names, is_by_in_range, passed_names, is_passed_in_range}
+use Rattle.prop_language.specs.inner.Parsing.{command_in_form}
+use Rattle.prop_language.specs.inner.Parts.{front, one_word, are_words, front_words, before_pairs, behind_by, given, before_by, judged, step_in_form, BeginsOpen}
 
 -- ---- values
 

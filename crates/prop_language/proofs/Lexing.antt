@@ -5,7 +5,7 @@ use Rattle.std.specs.List.{AllByRecursion}
 use Rattle.std.proofs.lemmas.List.{take-append-drop}
 use Rattle.std.proofs.lemmas.Bool.{false≢true}
 use Rattle.prop_language.specs.Tokens.{Token, Word, tokens, front_word, with_word, onto_front, is_blank, mark_of}
-use Rattle.prop_language.specs.Parts.{IsInWord, StartsPast, EndsWord}
+use Rattle.prop_language.specs.inner.Parts.{IsInWord, StartsPast, EndsWord}
 
 -- a word ends before what ends it
 ended_by : (blank : Bool) (mark : Option Token) (b : ℕ) (ts : List Token) (front : List ℕ × List Token) → (blank || is_some mark) ≡ true → cond blank ([], ts) (onto_front mark b front) ≡ ([], with_word (cond blank ([], ts) (onto_front mark b front)))

@@ -5,4 +5,4 @@ pub mod Choosing
 pub mod StepLaws
 pub mod ValueLaws
 pub mod SpellingLaws
-pub mod RefusalLaws
+pub mod ReadingLaws

@@ -1,7 +1,7 @@
 -- A form reads just the commands that the tokens spell.
 use Rattle.std.proofs.Common.{◌≡◌, ◌≢◌, ℕ, List, [], ◌∷◌, ◌++◌, Bool, true, false, cond, refl, sym, ◌∙◌, ap, subst, Some, None, map, inl, inr}
 use Rattle.std.specs.Bool.{Decides}
-use Rattle.std.specs.Prelude.{Option, bytes_eq, codes, find, pos, ◌&&◌}
+use Rattle.std.specs.Prelude.{Option, bytes_eq, codes, find, flat_map, pos, ◌&&◌}
 use Rattle.std.specs.Option.{option_map, option_and_then, option_or}
 use Rattle.std.specs.List.{AllByRecursion, slice_split, onto_first}
 use Rattle.std.proofs.lemmas.Slice.Eq.{bytes_eq-Decides}
@@ -10,15 +10,19 @@ use Rattle.std.proofs.lemmas.Option.{none-some}
 use Rattle.prop_language.specs.Tokens.{Token, Word, Semicolon, Equals, Star}
 use Rattle.prop_language.specs.Names.{looks_like_number, number_in}
 use Rattle.prop_language.specs.Commands.{Value, KindWord, Spans, Truths, Symbols, Named, By, Passed, Step, Command}
-use Rattle.prop_language.specs.Forms.{bare, on_word, only_words, domain, pairs, relation, kind_word, cell, parameter, by_form, with_cell, cells_by, attach, local_of_kind, local_like, passed_form, use_step, step, each, is_semicolon, steps, define, join, values, limit_of, only_value, fix, tell, forms}
+use Rattle.prop_language.specs.inner.Forms.{bare, on_word, only_words, domain, pairs, relation, kind_word, cell, parameter, by_form, with_cell, cells_by, attach, local_of_kind, local_like, passed_form, use_step, step, each, is_semicolon, steps, define, join, values, limit_of, only_value, fix, tell, forms}
 use Rattle.prop_language.proofs.ValueLaws.{value_read, choice_read, one_spelled, choice_spelled}
 use Rattle.prop_language.proofs.StepLaws.{Head, Headed, Headless, head, words_alone, before_equals, after_equals, bodiless, bodied}
-use Rattle.prop_language.specs.Spelling.{Spells, SpellsStep, SpellsSteps, IsLocal, StandsFor, further_pairs, Gives, Passes, HaveNoBy, tokens_of_value}
+use Rattle.prop_language.specs.Spelling.{Spells, SpellsStep, SpellsSteps, IsLocal, StandsFor, Gives, Passes, HaveNoBy, tokens_of_value}
 
 -- what is read from a line's tokens, where there is a form for it
 abbrev pub read_form : List Token → Option Command
 read_form (Word w ∷ ts) = option_and_then (λ form. form.1 ts) (find (λ form. bytes_eq form.0 w) forms)
 read_form ts = None
+
+-- the pairs after a first one, each behind a semicolon
+abbrev further_pairs : List (List ℕ × List ℕ) → List Token
+further_pairs ps = flat_map (λ q. Semicolon ∷ Word q.0 ∷ Word q.1 ∷ []) ps
 
 -- ---- what is spelled is read
 
@@ -143,13 +147,13 @@ define_read n p ps rest ss h =
     rw (before_equals ps rest, words_alone ps, after_equals ps rest, steps_read rest ss h) refl
 
 pub spelled_is_read : (ts : List Token) (command : Command) → Spells ts command → read_form ts ≡ Some command
-spelled_is_read ts (Command.Domain name []) s = absurd s
-spelled_is_read ts (Command.Domain name (e ∷ es)) s = rw s (ap (option_map (λ l. Command.Domain name (e ∷ l))) (words_alone es))
+spelled_is_read ts (Command.Domain name []) (s, n) = absurd (n refl)
+spelled_is_read ts (Command.Domain name (e ∷ es)) (s, n) = rw s (ap (option_map (λ l. Command.Domain name (e ∷ l))) (words_alone es))
 spelled_is_read ts (Command.Relation name d e []) s = absurd s
 spelled_is_read ts (Command.Relation name d e (p ∷ ps)) s = rw s (ap (option_map (Command.Relation name d e)) (pairs_read p ps))
 spelled_is_read ts (Command.Cell name kind) (w, e, s) = rw e (ap (λ k. Some (Command.Cell name k)) (kind_read w kind s))
-spelled_is_read ts (Command.Define name [] ss) s = absurd s
-spelled_is_read ts (Command.Define name (p ∷ ps) ss) (rest, e, h) = rw (e, define_read name p ps rest ss h) refl
+spelled_is_read ts (Command.Define name [] ss) (rest, e, n, h) = absurd (n refl)
+spelled_is_read ts (Command.Define name (p ∷ ps) ss) (rest, e, n, h) = rw (e, define_read name p ps rest ss h) refl
 spelled_is_read ts (Command.Attach name [] by) s = absurd s
 spelled_is_read ts (Command.Attach name (x ∷ xs) by) (rest, e, h, g) =
     rw (e, cells_read by_form Gives xs by rest given_read h g) refl
@@ -187,7 +191,7 @@ domain_spelled (Word n ∷ Word e ∷ ts) command h = by (only_words ts) (λ es 
     by : (o : Option (List (List ℕ))) → ((es : List (List ℕ)) → o ≡ Some es → ts ≡ map Word es) → option_map (λ es. Command.Domain n (e ∷ es)) o ≡ Some command → Spells (Word (codes "domain") ∷ Word n ∷ Word e ∷ ts) command
     by None spelled h = cc
     by (Some es) spelled h =
-        let s : Spells (Word (codes "domain") ∷ Word n ∷ Word e ∷ ts) (Command.Domain n (e ∷ es)) = ap (λ l. Word (codes "domain") ∷ Word n ∷ Word e ∷ l) (spelled es refl) in
+        let s : Spells (Word (codes "domain") ∷ Word n ∷ Word e ∷ ts) (Command.Domain n (e ∷ es)) = (ap (λ l. Word (codes "domain") ∷ Word n ∷ Word e ∷ l) (spelled es refl), λ none. cc) in
         let same : Command.Domain n (e ∷ es) ≡ command = cc in
         subst (Spells (Word (codes "domain") ∷ Word n ∷ Word e ∷ ts)) same s
 domain_spelled ts command h = cc
@@ -434,7 +438,7 @@ define_spelled (Word n ∷ Word p ∷ ts) command h = at (head ts)
         made : (o : Option (List Step)) → steps rest ≡ o → option_map (Command.Define n (p ∷ ps)) o ≡ Some command → Spells (Word (codes "define") ∷ Word n ∷ Word p ∷ ts) command
         made None q h = cc
         made (Some ss) q h =
-            let s : Spells (Word (codes "define") ∷ Word n ∷ Word p ∷ ts) (Command.Define n (p ∷ ps) ss) = (rest, ap (λ l. Word (codes "define") ∷ Word n ∷ Word p ∷ l) e, steps_spelled ss rest q) in
+            let s : Spells (Word (codes "define") ∷ Word n ∷ Word p ∷ ts) (Command.Define n (p ∷ ps) ss) = (rest, ap (λ l. Word (codes "define") ∷ Word n ∷ Word p ∷ l) e, (λ none. cc), steps_spelled ss rest q) in
             let same : Command.Define n (p ∷ ps) ss ≡ command = cc in
             subst (Spells (Word (codes "define") ∷ Word n ∷ Word p ∷ ts)) same s
 define_spelled ts command h = cc

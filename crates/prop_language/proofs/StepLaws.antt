@@ -16,10 +16,12 @@ use Rattle.prop_lattice.specs.declared.refusal.Refusal.TheVariants.{WrongForm, N
 use Rattle.prop_language.specs.Tokens.{Token, Word, Open, Close, Equals, Star, tokens, front_word, with_word, is_blank, mark_of}
 use Rattle.prop_language.specs.Names.{is_name}
 use Rattle.prop_language.specs.Commands.{KindWord, Step, Command}
-use Rattle.prop_language.specs.Forms.{join, only_words, each, is_semicolon, is_equals, kind_word, cell, local_of_kind, local_like, use_step, step, steps, define}
-use Rattle.prop_language.specs.Reading.{kind_names, step_names, is_step_in_range, command_in_form}
-use Rattle.prop_language.specs.Said.{step_of, steps_said}
-use Rattle.prop_language.specs.Parts.{behind_word, front_words, judged, step_in_form, steps_in_range, body, Says}
+use Rattle.prop_language.specs.inner.Forms.{join, only_words, each, is_semicolon, is_equals, kind_word, cell, local_of_kind, local_like, use_step, step, steps, define}
+use Rattle.prop_language.specs.Reading.{kind_names, step_names, is_step_in_range}
+use Rattle.prop_language.specs.inner.Parsing.{command_in_form}
+use Rattle.prop_language.specs.Said.{step_of}
+use Rattle.prop_language.specs.inner.Parts.{steps_said}
+use Rattle.prop_language.specs.inner.Parts.{behind_word, front_words, judged, step_in_form, steps_in_range, body, Says}
 use Rattle.prop_language.specs.declared.command.Step as kept
 use Rattle.prop_language.proofs.Forming.{unnamed, all_named}
 

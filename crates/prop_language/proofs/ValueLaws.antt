@@ -1,17 +1,21 @@
 -- Values, and the sides of a choice, are read just from the tokens that spell them.
 use Rattle.std.proofs.Common.{◌≡◌, ℕ, List, [], ◌∷◌, ◌++◌, Bool, true, false, cond, refl, sym, ◌∙◌, ap, subst, Some, None, map, append-nil, append_assoc, length}
 use Rattle.std.specs.Bool.{Decides}
-use Rattle.std.specs.Prelude.{Option, bytes_eq, codes, nat_le, ◌&&◌}
+use Rattle.std.specs.Prelude.{Option, bytes_eq, codes, nat_le, ◌&&◌, flat_map}
 use Rattle.std.specs.Option.{option_map, option_and_then}
 use Rattle.std.proofs.lemmas.Slice.Eq.{bytes_eq-Decides}
 use Rattle.std.proofs.lemmas.Bool.{le-leb, leb-true}
 use Rattle.prop_language.specs.Tokens.{Token, Word, Open, Close}
 use Rattle.prop_language.specs.Commands.{Value, Bare, Braces, Command}
-use Rattle.prop_language.specs.Forms.{join, values, in_braces, one_value, sides, two_to_eight, choose}
-use Rattle.prop_language.specs.Spelling.{Spells, tokens_of_value, further_values, AreTwoToEight}
-use Rattle.prop_language.specs.Parts.{sides_in, few_sides_in}
+use Rattle.prop_language.specs.inner.Forms.{join, values, in_braces, one_value, sides, two_to_eight, choose}
+use Rattle.prop_language.specs.Spelling.{Spells, tokens_of_value, AreTwoToEight}
+use Rattle.prop_language.specs.inner.Parts.{sides_in, few_sides_in}
 use Rattle.prop_language.proofs.Forming.{Filled, filled}
 use Rattle.prop_language.proofs.Choosing.{last_side, next_side}
+
+-- the values after a first one, each behind an `or`
+abbrev pub further_values : List Value → List Token
+further_values vs = flat_map (λ w. Word (codes "or") ∷ tokens_of_value w) vs
 
 -- ---- what is spelled is read
 

@@ -1,9 +1,7 @@
 pub mod Tokens
 pub mod Names
 pub mod Commands
-pub mod Forms
+pub mod Spelling
 pub mod Reading
 pub mod Said
-pub mod Parts
-pub mod Spelling
-pub mod Refusals
+pub mod inner

@@ -1,13 +1,12 @@
 -- What a line asks for, or the first reason in the line alone why it is refused.
-use Rattle.std.specs.Prelude.{ℕ, List, [], ◌∷◌, ◌++◌, Bool, true, cond, not, ◌==◌, nat_lt, length, bytes_eq, Option, Some, None, Result, Ok, Err, find, flat_map, is_some}
-use Rattle.std.specs.Str.{is_utf8}
+use Rattle.std.specs.Prelude.{◌≡◌, ◌⊎◌, ℕ, ◌<◌, ◌≤◌, List, [], ◌∷◌, ◌++◌, Bool, true, false, cond, not, ◌==◌, length, Option, Some, None, Result, Ok, Err, flat_map, is_some, IsUtf8}
 use Rattle.std.specs.List.{list_all}
 use Rattle.prop_lattice.specs.declared.refusal.Refusal.{Refusal}
 use Rattle.prop_lattice.specs.declared.refusal.Refusal.TheVariants.{LineTooLong, NotUtf8, UnknownCommand, WrongForm, NotAName, NotANumber}
 use Rattle.prop_language.specs.Tokens.{Token, Word, tokens, is_blank}
-use Rattle.prop_language.specs.Names.{is_name}
+use Rattle.prop_language.specs.Names.{is_name, is_among}
 use Rattle.prop_language.specs.Commands.{KindWord, Named, By, Passed, Step, Command}
-use Rattle.prop_language.specs.Forms.{forms}
+use Rattle.prop_language.specs.Spelling.{Spells, command_words}
 
 -- the bytes but for one carriage return at their end
 abbrev pub without_return : List ℕ → List ℕ
@@ -83,23 +82,34 @@ abbrev pub command_in_range : Command → Result (Option Command) Refusal
 command_in_range command =
     cond (not (list_all is_name (names_in command))) (Err NotAName) (cond (not (is_in_range command)) (Err NotANumber) (Ok (Some command)))
 
-abbrev pub command_in_form : Option Command → Result (Option Command) Refusal
-command_in_form None = Err WrongForm
-command_in_form (Some command) = command_in_range command
+-- the first token is the word of a command
+abbrev pub begins_as_command : List Token → Bool
+begins_as_command (Word w ∷ ts) = is_among command_words w
+begins_as_command ts = false
 
-abbrev pub by_form_of : Option (List ℕ × (List Token → Option Command)) → List Token → Result (Option Command) Refusal
-by_form_of None ts = Err UnknownCommand
-by_form_of (Some form) ts = command_in_form (form.1 ts)
-
--- a line's tokens: the word of a command, and what follows its form
-abbrev pub command_of : List Token → Result (Option Command) Refusal
-command_of (Word w ∷ ts) = by_form_of (find (λ form. bytes_eq form.0 w) forms) ts
-command_of ts = Err UnknownCommand
+-- what tokens ask for: the command that they spell; those that spell none are refused
+abbrev pub AskFor : List Token → Result (Option Command) Refusal → Type 0
+AskFor ts read =
+    ((command : Command) × Spells ts command × (read ≡ command_in_range command))
+    ⊎ (((command : Command) → ¬ (Spells ts command)) × (read ≡ Err (cond (begins_as_command ts) WrongForm UnknownCommand)))
 
 -- what a line without its carriage return asks for, None where it gets no reply
-abbrev pub reading_of : List ℕ → Result (Option Command) Refusal
-reading_of bytes = cond (not (is_utf8 bytes)) (Err NotUtf8) (cond (is_silent bytes) (Ok None) (command_of (tokens bytes)))
+abbrev pub IsReadingOf : List ℕ → Result (Option Command) Refusal → Type 0
+IsReadingOf bytes read =
+    (¬ (IsUtf8 bytes) × (read ≡ Err NotUtf8))
+    ⊎ (IsUtf8 bytes × (is_silent bytes ≡ true) × (read ≡ Ok None))
+    ⊎ (IsUtf8 bytes × (is_silent bytes ≡ false) × AskFor (tokens bytes) read)
 
 -- what a line asks for
-abbrev pub reading : List ℕ → Result (Option Command) Refusal
-reading line = cond (nat_lt 4096 (length line)) (Err LineTooLong) (reading_of (without_return line))
+abbrev pub IsReading : List ℕ → Result (Option Command) Refusal → Type 0
+IsReading line read =
+    ((4096 < length line) × (read ≡ Err LineTooLong)) ⊎ ((length line ≤ 4096) × IsReadingOf (without_return line) read)
+
+-- it holds of what the line asks for
+abbrev pub AsRead : List ℕ → (Result (Option Command) Refusal → Type 0) → Type 0
+AsRead line Holds = (read : Result (Option Command) Refusal) × IsReading line read × Holds read
+
+-- each line asks for one thing and no other
+abbrev pub HaveOneReading : Type 0
+HaveOneReading =
+    (line : List ℕ) → AsRead line (λ read. (other : Result (Option Command) Refusal) → IsReading line other → other ≡ read)

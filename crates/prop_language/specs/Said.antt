@@ -70,15 +70,10 @@ said (Core cell) = Some (commands.Command.Core cell.now)
 said Worldview = Some commands.Command.Worldview
 said Nogoods = Some commands.Command.Nogoods
 
--- the steps, or why they are refused
-abbrev pub steps_said : List Step → Option Refusal → Result (List commands.Step) Refusal
-steps_said steps None = Ok (map step_of steps)
-steps_said steps (Some refusal) = Err refusal
-
 -- What a reader answers is what the grammar reads, and a refusal is the grammar's, unless memory runs out.
-abbrev pub Reads : Result Command Refusal → Result (Option commands.Command) Refusal → Type 0
-Reads (Ok command) read = read ≡ Ok (said command)
-Reads (Err refusal) read = (refusal ≡ Memory) ⊎ (read ≡ Err refusal)
+abbrev pub Reads : Result Command Refusal → (Result (Option commands.Command) Refusal → Type 0) → Type 0
+Reads (Ok command) IsRead = IsRead (Ok (said command))
+Reads (Err refusal) IsRead = (refusal ≡ Memory) ⊎ IsRead (Err refusal)
 
 -- The command keeps a list: its elements, pairs, parameters, cells or values, or the words in braces. For another line there is
 -- no want of memory.

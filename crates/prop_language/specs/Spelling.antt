@@ -1,5 +1,5 @@
 -- How each command is spelled: the tokens of a line that asks for it.
-use Rattle.std.specs.Prelude.{◌≡◌, ◌≢◌, ◌⊎◌, ℕ, ◌≤◌, List, [], ◌∷◌, ◌++◌, true, false, codes, pos, unsigned_abs, map, length}
+use Rattle.std.specs.Prelude.{◌≡◌, ◌≢◌, ◌⊎◌, ℕ, ◌≤◌, List, [], ◌∷◌, ◌++◌, true, false, codes, pos, unsigned_abs, map, flat_map, length}
 use Rattle.std.specs.List.{AllByRecursion}
 use Rattle.std.specs.Option.{option_map}
 use Rattle.prop_language.specs.Tokens.{Token, Word, Open, Close, Semicolon, Equals, Star}
@@ -17,11 +17,6 @@ StandsFor w Spans = w ≡ codes "span"
 StandsFor w Truths = w ≡ codes "truth"
 StandsFor w Symbols = w ≡ codes "symbol"
 StandsFor w (Named name) = (w ≡ name) × (w ≢ codes "span") × (w ≢ codes "truth") × (w ≢ codes "symbol")
-
--- the pairs after a first one, each behind a semicolon
-abbrev pub further_pairs : List (List ℕ × List ℕ) → List Token
-further_pairs [] = []
-further_pairs (p ∷ ps) = Semicolon ∷ Word p.0 ∷ Word p.1 ∷ further_pairs ps
 
 -- none of the words is `by`
 abbrev pub HaveNoBy : List (List ℕ) → Type 0
@@ -66,11 +61,6 @@ abbrev pub tokens_of_value : Value → List Token
 tokens_of_value (Bare w) = Word w ∷ []
 tokens_of_value (Braces ws) = Open ∷ map Word ws ++ Close ∷ []
 
--- the values after a first one, each behind an `or`
-abbrev pub further_values : List Value → List Token
-further_values [] = []
-further_values (v ∷ vs) = Word (codes "or") ∷ tokens_of_value v ++ further_values vs
-
 -- the number of a choice's values
 abbrev pub AreTwoToEight : List Value → Type 0
 AreTwoToEight vs = (2 ≤ length vs) × (length vs ≤ 8)
@@ -78,16 +68,14 @@ AreTwoToEight vs = (2 ≤ length vs) × (length vs ≤ 8)
 -- The tokens spell the command. Of a domain's elements, a relation's pairs, a definition's parameters and steps and an
 -- attachment's cells there is one or more, and of the cells only the first can be called `by`. A choice has two to eight values.
 abbrev pub Spells : List Token → Command → Type 0
-Spells ts (Command.Domain name []) = ⊥
-Spells ts (Command.Domain name (e ∷ es)) = ts ≡ Word (codes "domain") ∷ Word name ∷ Word e ∷ map Word es
+Spells ts (Command.Domain name elements) = (ts ≡ Word (codes "domain") ∷ Word name ∷ map Word elements) × (elements ≢ [])
 Spells ts (Command.Relation name d e []) = ⊥
 Spells ts (Command.Relation name d e (p ∷ ps)) =
-    ts ≡ Word (codes "relation") ∷ Word name ∷ Word d ∷ Word e ∷ Equals ∷ Word p.0 ∷ Word p.1 ∷ further_pairs ps
+    ts ≡ Word (codes "relation") ∷ Word name ∷ Word d ∷ Word e ∷ Equals ∷ Word p.0 ∷ Word p.1 ∷ flat_map (λ q. Semicolon ∷ Word q.0 ∷ Word q.1 ∷ []) ps
 Spells ts (Command.Cell name kind) =
     (word : List ℕ) × (ts ≡ Word (codes "cell") ∷ Word name ∷ Word word ∷ []) × StandsFor word kind
-Spells ts (Command.Define name [] steps) = ⊥
-Spells ts (Command.Define name (p ∷ ps) steps) =
-    (rest : List Token) × (ts ≡ Word (codes "define") ∷ Word name ∷ Word p ∷ map Word ps ++ Equals ∷ rest) × SpellsSteps rest steps
+Spells ts (Command.Define name params steps) =
+    (rest : List Token) × (ts ≡ Word (codes "define") ∷ Word name ∷ map Word params ++ Equals ∷ rest) × (params ≢ []) × SpellsSteps rest steps
 Spells ts (Command.Attach name [] by) = ⊥
 Spells ts (Command.Attach name (x ∷ xs) by) =
     (rest : List Token) × (ts ≡ Word (codes "attach") ∷ Word name ∷ Word x ∷ map Word xs ++ rest) × HaveNoBy xs × Gives by rest
@@ -95,7 +83,7 @@ Spells ts (Command.Fix cell value) = ts ≡ Word (codes "fix") ∷ Word cell ∷
 Spells ts (Command.Tell premise cell value) = ts ≡ Word (codes "tell") ∷ Word premise ∷ Word cell ∷ tokens_of_value value
 Spells ts (Command.Choose name cell []) = ⊥
 Spells ts (Command.Choose name cell (v ∷ vs)) =
-    (ts ≡ Word (codes "choose") ∷ Word name ∷ Word cell ∷ tokens_of_value v ++ further_values vs) × AreTwoToEight (v ∷ vs)
+    (ts ≡ Word (codes "choose") ∷ Word name ∷ Word cell ∷ tokens_of_value v ++ flat_map (λ w. Word (codes "or") ∷ tokens_of_value w) vs) × AreTwoToEight (v ∷ vs)
 Spells ts (Command.Kick premise) = ts ≡ Word (codes "kick") ∷ Word premise ∷ []
 Spells ts (Command.Bring premise) = ts ≡ Word (codes "bring") ∷ Word premise ∷ []
 Spells ts (Command.Forget premise) = ts ≡ Word (codes "forget") ∷ Word premise ∷ []

@@ -1,11 +1,11 @@
 //! The forms of the commands about choices: what is read from the bytes behind their words.
 ghost use Rattle.std.specs.Prelude.{◌≡◌, ◌≢◌, ◌⊎◌, map, IfOk, IfErr, Ok, Err, None, Some};
 ghost use Rattle.prop_language.specs.Tokens.{tokens};
-ghost use Rattle.prop_language.specs.Forms as forms;
+ghost use Rattle.prop_language.specs.inner.Forms as forms;
 ghost use Rattle.prop_language.specs.Commands as commands;
-ghost use Rattle.prop_language.specs.Reading.{command_in_form};
-ghost use Rattle.prop_language.specs.Said.{Reads, value_of};
-ghost use Rattle.prop_language.specs.Parts.{sides_in, few_sides_in};
+ghost use Rattle.prop_language.specs.inner.Parsing.{command_in_form};
+ghost use Rattle.prop_language.specs.Said.{value_of};
+ghost use Rattle.prop_language.specs.inner.Parts.{sides_in, few_sides_in, ReadsAs};
 
 use crate::command::{Command, Value};
 use crate::forms::{is_end, two_names, two_words, value};
@@ -56,7 +56,7 @@ fn few_sides<'a>(alloc: Global, bytes: &'a [u8]) -> Result<Vec<Value<'a>>, Refus
 
 /// `choose C X V or W ..`, behind its first word.
 pub fn choose<'a>(alloc: Global, rest: &'a [u8]) -> Result<Command<'a>, Refusal>
-    ensures { Reads result (command_in_form (forms.choose (tokens rest.now))) }
+    ensures { ReadsAs result (command_in_form (forms.choose (tokens rest.now))) }
 {
     let ((choice, cell), rest) = two_words(rest)?;
     let values = few_sides(alloc, rest)?;
@@ -66,7 +66,7 @@ pub fn choose<'a>(alloc: Global, rest: &'a [u8]) -> Result<Command<'a>, Refusal>
 
 /// `nogoods`, behind its first word.
 pub fn nogoods(rest: &[u8]) -> Result<Command<'_>, Refusal>
-    ensures read { Reads result (command_in_form (forms.bare commands.Command.Nogoods (tokens rest.now))) }
+    ensures read { ReadsAs result (command_in_form (forms.bare commands.Command.Nogoods (tokens rest.now))) }
     ensures memory { result ≢ Err Refusal.Memory }
 {
     if is_end(rest) {

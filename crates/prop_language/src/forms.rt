@@ -4,11 +4,12 @@ ghost use Rattle.std.specs.List.{list_all};
 ghost use Rattle.std.specs.Option.{option_map, option_and_then};
 ghost use Rattle.prop_language.specs.Tokens.{tokens, Word, Open, Equals};
 ghost use Rattle.prop_language.specs.Names.{is_name};
-ghost use Rattle.prop_language.specs.Forms as forms;
+ghost use Rattle.prop_language.specs.inner.Forms as forms;
 ghost use Rattle.prop_language.specs.Commands as commands;
-ghost use Rattle.prop_language.specs.Reading.{command_in_form, kind_names};
-ghost use Rattle.prop_language.specs.Said.{Reads, words, pairs_of, kind_of, by_of, value_of};
-ghost use Rattle.prop_language.specs.Parts.{front, one_word, are_words, front_words, behind_by, given, parameter_said, before_by, by_in_range, some_values, BeginsOpen};
+ghost use Rattle.prop_language.specs.Reading.{kind_names};
+ghost use Rattle.prop_language.specs.inner.Parsing.{command_in_form};
+ghost use Rattle.prop_language.specs.Said.{words, pairs_of, kind_of, by_of, value_of};
+ghost use Rattle.prop_language.specs.inner.Parts.{front, one_word, are_words, front_words, behind_by, given, parameter_said, before_by, by_in_range, some_values, BeginsOpen, ReadsAs};
 
 use crate::command::{By, Command, KindWord, Value};
 use crate::names::name;
@@ -144,7 +145,7 @@ fn domain_words(bytes: &[u8]) -> Result<(&[u8], &[u8]), Refusal>
 
 /// `domain D e ..`, behind its first word.
 pub fn domain<'a>(alloc: Global, rest: &'a [u8]) -> Result<Command<'a>, Refusal>
-    ensures { Reads result (command_in_form (forms.domain (tokens rest.now))) }
+    ensures { ReadsAs result (command_in_form (forms.domain (tokens rest.now))) }
 {
     let (domain, elements) = domain_words(rest)?;
     let (domain, elements) = listed_names(alloc, domain, elements)?;
@@ -186,7 +187,7 @@ fn relation_words(bytes: &[u8]) -> Result<(&[u8], (&[u8], &[u8]), &[u8]), Refusa
 
 /// `relation R D E = a b ; c d ..`, behind its first word.
 pub fn relation<'a>(alloc: Global, rest: &'a [u8]) -> Result<Command<'a>, Refusal>
-    ensures { Reads result (command_in_form (forms.relation (tokens rest.now))) }
+    ensures { ReadsAs result (command_in_form (forms.relation (tokens rest.now))) }
 {
     let (relation, domains, rest) = relation_words(rest)?;
     let pairs = pairs(alloc, rest)?;
@@ -224,7 +225,7 @@ pub(crate) fn named_kind<'a>(
 
 /// `cell X KIND`, behind its first word.
 pub fn cell(rest: &[u8]) -> Result<Command<'_>, Refusal>
-    ensures read { Reads result (command_in_form (forms.cell (tokens rest.now))) }
+    ensures read { ReadsAs result (command_in_form (forms.cell (tokens rest.now))) }
     ensures memory { result ≢ Err Refusal.Memory }
 {
     let (cell, kind) = only_two_words(rest)?;
@@ -234,7 +235,7 @@ pub fn cell(rest: &[u8]) -> Result<Command<'_>, Refusal>
 
 /// `limit N`, behind its first word: a number from 0 to 1,000,000,000,000,000.
 pub fn limit(rest: &[u8]) -> Result<Command<'_>, Refusal>
-    ensures read { Reads result (command_in_form (forms.on_word forms.limit_of (tokens rest.now))) }
+    ensures read { ReadsAs result (command_in_form (forms.on_word forms.limit_of (tokens rest.now))) }
     ensures memory { result ≢ Err Refusal.Memory }
 {
     match natural_in(1_000_000_000_000_000, only_word(rest)?) {
@@ -245,7 +246,7 @@ pub fn limit(rest: &[u8]) -> Result<Command<'_>, Refusal>
 
 /// `settle`, behind its first word.
 pub fn settle(rest: &[u8]) -> Result<Command<'_>, Refusal>
-    ensures read { Reads result (command_in_form (forms.bare commands.Command.Settle (tokens rest.now))) }
+    ensures read { ReadsAs result (command_in_form (forms.bare commands.Command.Settle (tokens rest.now))) }
     ensures memory { result ≢ Err Refusal.Memory }
 {
     if is_end(rest) {
@@ -257,7 +258,7 @@ pub fn settle(rest: &[u8]) -> Result<Command<'_>, Refusal>
 
 /// `worldview`, behind its first word.
 pub fn worldview(rest: &[u8]) -> Result<Command<'_>, Refusal>
-    ensures read { Reads result (command_in_form (forms.bare commands.Command.Worldview (tokens rest.now))) }
+    ensures read { ReadsAs result (command_in_form (forms.bare commands.Command.Worldview (tokens rest.now))) }
     ensures memory { result ≢ Err Refusal.Memory }
 {
     if is_end(rest) {
@@ -348,7 +349,7 @@ pub(crate) fn parameter(word: Option<&[u8]>) -> Result<By<'_>, Refusal>
 
 /// `attach N X.. [by P]`, behind its first word.
 pub fn attach<'a>(alloc: Global, rest: &'a [u8]) -> Result<Command<'a>, Refusal>
-    ensures { Reads result (command_in_form (forms.attach (tokens rest.now))) }
+    ensures { ReadsAs result (command_in_form (forms.attach (tokens rest.now))) }
 {
     let (front, rest) = two_words(rest)?;
     let by = word_behind_by(rest)?;
@@ -408,7 +409,7 @@ fn only_value<'a>(alloc: Global, bytes: &'a [u8]) -> Result<Value<'a>, Refusal>
 
 /// `fix X V`, behind its first word.
 pub fn fix<'a>(alloc: Global, rest: &'a [u8]) -> Result<Command<'a>, Refusal>
-    ensures read { Reads result (command_in_form (forms.fix (tokens rest.now))) }
+    ensures read { ReadsAs result (command_in_form (forms.fix (tokens rest.now))) }
     ensures memory { (result ≡ Err Refusal.Memory) → Contains (tokens rest.now) Open }
 {
     let (cell, rest) = word(rest)?;
@@ -418,7 +419,7 @@ pub fn fix<'a>(alloc: Global, rest: &'a [u8]) -> Result<Command<'a>, Refusal>
 
 /// `tell P X V`, behind its first word.
 pub fn tell<'a>(alloc: Global, rest: &'a [u8]) -> Result<Command<'a>, Refusal>
-    ensures read { Reads result (command_in_form (forms.tell (tokens rest.now))) }
+    ensures read { ReadsAs result (command_in_form (forms.tell (tokens rest.now))) }
     ensures memory { (result ≡ Err Refusal.Memory) → Contains (tokens rest.now) Open }
 {
     let ((premise, cell), rest) = two_words(rest)?;

@@ -13,4 +13,4 @@ mod tokens;
 pub use command::{By, Command, KindWord, Passed, Step, Value};
 pub use names::name;
 pub use numbers::{natural_in, number_in};
-pub use reading::{read_line, reads_what_is_spelled};
+pub use reading::{lines_have_one_reading, read_line};

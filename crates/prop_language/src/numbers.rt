@@ -2,7 +2,7 @@
 ghost use Rattle.std.specs.Prelude.{◌≡◌, pos, unsigned_abs};
 ghost use Rattle.std.specs.Option.{option_map};
 ghost use Rattle.prop_language.specs.Names.{looks_like_number, number_in};
-ghost use Rattle.prop_language.specs.Parts.{number_up_to};
+ghost use Rattle.prop_language.specs.inner.Parts.{number_up_to};
 
 /// Whether the word begins as a number does: with a minus sign or an ASCII digit.
 pub fn looks_like_number(word: &[u8]) -> bool

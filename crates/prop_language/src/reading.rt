@@ -3,10 +3,10 @@ ghost use Rattle.std.specs.Prelude.{◌≡◌, List, map, find, bytes_eq, IfSome
 ghost use Rattle.std.specs.List.{list_all};
 ghost use Rattle.prop_language.specs.Tokens as words;
 ghost use Rattle.prop_language.specs.Tokens.{tokens};
-ghost use Rattle.prop_language.specs.Reading.{reading, reading_of, command_of, by_form_of, command_in_form, is_silent, without_return};
-ghost use Rattle.prop_language.specs.Parts.{form_of, form_entry, read_by, word_of, is_worded, KeepsWordsOf};
+ghost use Rattle.prop_language.specs.Reading.{is_silent, without_return, IsReading, HaveOneReading};
+ghost use Rattle.prop_language.specs.inner.Parsing.{reading_of, command_of, by_form_of, command_in_form};
+ghost use Rattle.prop_language.specs.inner.Parts.{form_of, form_entry, read_by, word_of, is_worded, KeepsWordsOf, ReadsAs};
 ghost use Rattle.prop_language.specs.Said.{Reads, KeepsWords};
-ghost use Rattle.prop_language.specs.Refusals.{RefusesTheFirst, ReadsWhatIsSpelled, ChoosesAmongTwoToEight, PassesOverSilence};
 
 use crate::command::Command;
 use crate::tokens::{Token, is_blank, next_token};
@@ -103,7 +103,7 @@ fn read_form<'a>(
     command: CommandWord,
     rest: &'a [u8],
 ) -> Result<Command<'a>, Refusal>
-    ensures read { Reads result (command_in_form (form_of command (tokens rest.now))) }
+    ensures read { ReadsAs result (command_in_form (form_of command (tokens rest.now))) }
     ensures memory { (result ≡ Err Refusal.Memory) → KeepsWordsOf command (tokens rest.now) }
 {
     match command {
@@ -130,7 +130,7 @@ fn read_form<'a>(
 
 /// The command of a line that gets a reply, by its first word.
 fn read_command<'a>(alloc: Global, text: &'a [u8]) -> Result<Command<'a>, Refusal>
-    ensures read { Reads result (command_of (tokens text.now)) }
+    ensures read { ReadsAs result (command_of (tokens text.now)) }
     ensures memory { (result ≡ Err Refusal.Memory) → KeepsWords (tokens text.now) }
 {
     let Some((Token::Word(word), rest)) = next_token(text) else {
@@ -143,7 +143,7 @@ fn read_command<'a>(alloc: Global, text: &'a [u8]) -> Result<Command<'a>, Refusa
 }
 
 fn read_text<'a>(alloc: Global, text: &'a [u8]) -> Result<Command<'a>, Refusal>
-    ensures read { Reads result (reading_of text.now) }
+    ensures read { ReadsAs result (reading_of text.now) }
     ensures memory { (result ≡ Err Refusal.Memory) → KeepsWords (tokens text.now) }
 {
     match str::from_utf8(text) {
@@ -159,7 +159,7 @@ fn read_text<'a>(alloc: Global, text: &'a [u8]) -> Result<Command<'a>, Refusal>
 /// its command's, has a word in a name's place that is no name, or a number out of its range. Or it is `Refusal::Memory`,
 /// where there was no memory for the words.
 pub fn read_line<'a>(alloc: Global, line: &'a [u8]) -> Result<Command<'a>, Refusal>
-    ensures read { Reads result (reading line.now) }
+    ensures read { Reads result (IsReading line.now) }
     ensures memory { (result ≡ Err Refusal.Memory) → KeepsWords (tokens (without_return line.now)) }
 {
     if line.len() > MOST_BYTES {
@@ -168,11 +168,7 @@ pub fn read_line<'a>(alloc: Global, line: &'a [u8]) -> Result<Command<'a>, Refus
     read_text(alloc, without_return(line))
 }
 
-/// What `read_line` answers, by the tokens that spell each command and by a condition for each refusal. A choice that it reads has
-/// two to eight values.
-pub fn reads_what_is_spelled()
-    ensures refused { RefusesTheFirst }
-    ensures read { ReadsWhatIsSpelled }
-    ensures values { ChoosesAmongTwoToEight }
-    ensures silent { PassesOverSilence }
+/// Each line asks for one thing and no other: it has one reading.
+pub fn lines_have_one_reading()
+    ensures { HaveOneReading }
 {}

@@ -3,11 +3,11 @@ ghost use Rattle.std.specs.Prelude.{◌≡◌, ◌<◌, ◌∷◌, ◌++◌, [],
 ghost use Rattle.std.specs.Option.{option_map};
 ghost use Rattle.prop_language.specs.Tokens as words;
 ghost use Rattle.prop_language.specs.Tokens.{tokens, Word};
-ghost use Rattle.prop_language.specs.Forms as forms;
+ghost use Rattle.prop_language.specs.inner.Forms as forms;
 ghost use Rattle.prop_language.specs.Commands as commands;
-ghost use Rattle.prop_language.specs.Reading.{command_in_form};
-ghost use Rattle.prop_language.specs.Said.{Reads, step_of, passed_of, steps_said};
-ghost use Rattle.prop_language.specs.Parts.{behind_word, front_words, given, passed_said, passed_in_range, step_in_form, steps_in_range, body, Says};
+ghost use Rattle.prop_language.specs.inner.Parsing.{command_in_form};
+ghost use Rattle.prop_language.specs.Said.{step_of, passed_of};
+ghost use Rattle.prop_language.specs.inner.Parts.{behind_word, front_words, given, passed_said, passed_in_range, step_in_form, steps_in_range, body, Says, ReadsAs, steps_said};
 
 use crate::command::{Command, Passed, Step};
 use crate::forms::{
@@ -158,7 +158,7 @@ fn definition_words(bytes: &[u8]) -> Result<(&[u8], &[u8], &[u8]), Refusal>
 /// `define N p.. = step ; step ..`, behind its first word. Over all steps a wrong form comes before a word that is no name, and
 /// such a word before a number out of range.
 pub fn define<'a>(alloc: Global, rest: &'a [u8]) -> Result<Command<'a>, Refusal>
-    ensures { Reads result (command_in_form (forms.define (tokens rest.now))) }
+    ensures { ReadsAs result (command_in_form (forms.define (tokens rest.now))) }
 {
     let (defined, params, body) = definition_words(rest)?;
     let steps = read_steps(alloc, body)?;

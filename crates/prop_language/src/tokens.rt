@@ -3,7 +3,7 @@ ghost use Rattle.std.specs.Prelude.{◌≡◌, ◌≤◌, ◌<◌, ◌∷◌, []
 ghost use Rattle.std.specs.List.{AllByRecursion};
 ghost use Rattle.std.specs.Option.{option_map};
 ghost use Rattle.prop_language.specs.Tokens.{tokens, is_blank, mark_of};
-ghost use Rattle.prop_language.specs.Parts.{token_of, IsInWord, StartsPast, EndsWord};
+ghost use Rattle.prop_language.specs.inner.Parts.{token_of, IsInWord, StartsPast, EndsWord};
 
 /// A word or a mark.
 #[derive(Clone, Copy)]

@@ -5,7 +5,7 @@ use Rattle.prop_lattice.specs.declared.span.Span as spans
 use Rattle.prop_lattice.specs.declared.elements.Elements as sets
 use Rattle.prop_lattice.specs.declared.info.Info.TheVariants.{Span, Set, Contradiction}
 use Rattle.prop_lattice.specs.Ends.{AreEnds, AreSome, ends_or_not, some_or_not, span_if, elements_if, span_from, elements_from}
-use Rattle.prop_lattice.specs.OrderLaws.{same_span, same_elements}
+use Rattle.prop_lattice.specs.laws.OrderLaws.{same_span, same_elements}
 
 pub span_from-ends : (lo hi : ℤ) (s : spans.Span) → s.lo ≡ lo → s.hi ≡ hi → span_from lo hi ≡ Span s
 unfolding span_from

@@ -6,8 +6,9 @@ use Rattle.std.proofs.lemmas.Nat.Bits.{same_from_bits, bit_at-zero, bit_at-suc, 
 use Rattle.std.proofs.lemmas.Nat.{shr-shr, pow_pos}
 use Rattle.std.proofs.lemmas.Bool.{cases_lt}
 use Rattle.std.specs.Int.Count.{ones_step, ones-ones}
-use Rattle.prop_lattice.specs.Parts.{HasBitsOf, AllBelow}
-use Rattle.prop_lattice.specs.PartLaws.{bit_at_le, part_left, part_right, part_least, same_parts, part_of_none}
+use Rattle.prop_lattice.specs.laws.Parts.{HasBitsOf}
+use Rattle.prop_lattice.specs.Parts.{AllBelow}
+use Rattle.prop_lattice.specs.laws.PartLaws.{bit_at_le, part_left, part_right, part_least, same_parts, part_of_none}
 
 pub and_from_part : (a b : ℕ) → HasBitsOf a b → bit_and a b ≡ b
 and_from_part a b p = same_parts (bit_and a b) b (part_least a b b p (λ i h. h)) (part_right a b)

@@ -1,17 +1,22 @@
 -- The nogoods of groups, once a group changes.
-use Rattle.std.proofs.Common.{◌≡◌, ◌∙◌, ◌<◌, ◌+◌, ◌-◌, ◌||◌, ℕ, zero, suc, Bool, true, false, List, [], ◌∷◌, ◌++◌, length, get_or, take, drop, set, insert, map, not, refl, sym, ap, arith, All, Contains, append_assoc}
-use Rattle.std.specs.List.{flat_map}
+use Rattle.std.proofs.Common.{◌≡◌, ◌∙◌, ◌<◌, ◌≤◌, ◌+◌, ◌-◌, ◌||◌, ◌==◌, ℕ, zero, suc, Bool, true, false, nat_lt, Option, inl, inr, IsTrue, List, [], ◌∷◌, ◌++◌, length, get_or, take, drop, set, insert, map, not, refl, sym, ap, subst, arith, All, Contains, append_assoc}
+use Rattle.std.specs.List.{flat_map, AllByRecursion}
+use Rattle.std.specs.List.Sorted.{IsStrictlyIncreasing}
 use Rattle.std.proofs.Math.Seq.{map-set_same}
+use Rattle.std.proofs.lemmas.Bool.{leb-true}
+use Rattle.std.proofs.lemmas.Bool.Decides.{eqb_tells, leb_tells}
 use Rattle.std.proofs.lemmas.List.{length-map, take-append-drop, take_at}
 use Rattle.std.proofs.lemmas.List.Concat.{flat_map-append}
 use Rattle.std.proofs.lemmas.List.Edits.{insert-append_right}
-use Rattle.std.proofs.lemmas.List.Elements.{Contains-append_left, Contains-append_right, filter-append}
+use Rattle.std.proofs.lemmas.List.Elements.{All-append, Contains-append_left, Contains-append_right, Contains-get_or, filter-append}
 use Rattle.std.proofs.lemmas.List.Filters.{length-filter_both}
-use Rattle.std.proofs.lemmas.List.Folds.{flat_map-map, list_any-append, list_any_none}
-use Rattle.prop_premises.proofs.WithinLemmas.{within_has}
-use Rattle.prop_premises.specs.Sets.{Members, set_of, is_within}
-use Rattle.prop_nogoods.specs.Stores.{has_part, staying, lacking}
-use Rattle.prop_nogoods.specs.Endings.{Group, HasRoom, sets_of, left_of, lacking_of}
+use Rattle.std.proofs.lemmas.List.Folds.{flat_map-map, list_any_none}
+use Rattle.prop_premises.proofs.MergeLemmas.{Rising, rising_from_increasing}
+use Rattle.prop_premises.proofs.WithinLemmas.{within_has, within_from}
+use Rattle.prop_premises.specs.Sets.{Members, set_of, is_within, is_below}
+use Rattle.prop_nogoods.specs.Stores.{has_part, staying, lacking, PartsEndBelow}
+use Rattle.prop_nogoods.specs.inner.Endings.{Group, EndsSo, HasRoom, end_of, sets_of, left_of, lacking_of}
+use Rattle.prop_nogoods.proofs.StoreLaws.{has_part-from}
 use Rattle.prop_nogoods.proofs.StoreLemmas.{is_kept, is_without, never}
 
 -- a group that keeps its nogoods
@@ -97,25 +102,62 @@ sets_of-joined old gs n i x y from l is more =
     let pushed = sets_of-push (map (left_of n) gs) i y x n (omega (arith, l, long)) (more ∙ ap (λ (g : Group). g.sets ++ n ∷ []) is) in
     (pushed.0, pushed.1 ∙ ap (λ xs. insert xs pushed.0 n) (sets_of-left n gs ∙ ap (λ xs. staying xs n) from))
 
+nat_lt_true : (a b : ℕ) → a < b → nat_lt a b ≡ true
+nat_lt_true a b l = elim (leb_tells (suc a) b) [ inl e ↦ e.0 | inr e ↦ absurd (omega (arith, l, e.1)) ]
+
 -- a nogood of a group is one of all
 pub group_contains : (gs : List Group) (i : ℕ) (d : Group) (n : List ℕ) → i < length gs → Contains (get_or gs i d).sets n → Contains (sets_of gs) n
 group_contains [] i d n l c = absurd (omega (arith, l))
 group_contains (g ∷ gs) zero d n l c = Contains-append_left g.sets (sets_of gs) n c
 group_contains (g ∷ gs) (suc i) d n l c = Contains-append_right g.sets (sets_of gs) n (group_contains gs i d n (omega (arith, l)) c)
 
-abbrev pub LacksPart : Members → Group → Type 0
-LacksPart w g = has_part g.sets w ≡ false
+-- the group's nogoods that are part of the set lie below n
+abbrev pub EndsBelow : Members → ℕ → Group → Type 0
+EndsBelow w n g = PartsEndBelow g.sets w n
 
--- no nogood is in the set where none of any group is
-pub none_of_all : (w : Members) (gs : List Group) → All (LacksPart w) gs → has_part (sets_of gs) w ≡ false
-none_of_all w [] none = refl
-none_of_all w (g ∷ gs) none =
-    list_any-append (λ line. is_within w line) g.sets (sets_of gs)
-    ∙ neither (has_part g.sets w) (has_part (sets_of gs) w) (none 0 g (omega arith)) (none_of_all w gs (λ k d l. none (suc k) d (omega (arith, l))))
+-- what holds of each group's nogoods holds of all
+pub all_end_below : (w : Members) (n : ℕ) (gs : List Group) → All (EndsBelow w n) gs → PartsEndBelow (sets_of gs) w n
+all_end_below w n [] all = λ k d l. absurd (omega (arith, l))
+all_end_below w n (g ∷ gs) all =
+    All-append (λ line. IsTrue (is_within w line) → IsTrue (is_below n line)) g.sets (sets_of gs) (all 0 g (omega arith))
+    (all_end_below w n gs (λ k d l. all (suc k) d (omega (arith, l))))
+
+-- numbers below n are below what is no less
+is_below-more : (n m : ℕ) (ps : List ℕ) → n ≤ m → is_below n ps ≡ true → is_below m ps ≡ true
+is_below-more n m ps l h = within_from (λ p. nat_lt p m) ps (λ p t.
+    let below = leb-true (suc p) n (within_has (λ q. nat_lt q n) ps p h t) in
+    nat_lt_true p m (omega (arith, below, l)))
+
+-- nogoods of a group that ends before n lie below it
+pub ends_below : (w : Members) (last : Option ℕ) (n : ℕ) (listed : List (List ℕ)) → end_of last ≤ n → All (EndsSo last) listed → PartsEndBelow listed w n
+ends_below w last n listed l all = λ k d m is_part. is_below-more (end_of last) n (get_or listed k d) l (all k d m).1
+
+-- where no nogood is part of the set, none is that doesn't lie below n
+pub end_below_where_none : (w : Members) (n : ℕ) (listed : List (List ℕ)) → has_part listed w ≡ false → PartsEndBelow listed w n
+end_below_where_none w n listed none = λ k d m is_part.
+    let has = has_part-from listed w (get_or listed k d) (Contains-get_or listed k d m) (λ p t. within_has w (get_or listed k d) p is_part t) in cc (has, none)
+
+-- a number of a list is in its set
+pub has_middle : (xs ys : List ℕ) (x : ℕ) → set_of (xs ++ x ∷ ys) x ≡ true
+has_middle [] ys x = elim (eqb_tells x x) [ inl e ↦ rw e.0 refl | inr e ↦ absurd (e.1 refl) ]
+has_middle (y ∷ xs) ys x = either (y == x) (set_of (xs ++ x ∷ ys) x) (has_middle xs ys x)
   where
-    neither : (a b : Bool) → a ≡ false → b ≡ false → (a || b) ≡ false
-    neither true b e f = cc
-    neither false b e f = f
+    either : (a b : Bool) → b ≡ true → (a || b) ≡ true
+    either true b e = refl
+    either false b e = e
+
+-- what comes up in order is below one above the last that came
+pub passed_below : (all xs ys : List ℕ) (x : ℕ) → IsStrictlyIncreasing all → (xs ++ x ∷ []) ++ ys ≡ all → is_below (x + 1) (xs ++ x ∷ []) ≡ true
+passed_below all xs ys x up so_far =
+    by xs (rising_from_increasing (xs ++ x ∷ ys) (subst IsStrictlyIncreasing (sym so_far ∙ append_assoc xs (x ∷ []) ys) up))
+  where
+    above : (y : ℕ) (zs : List ℕ) → AllByRecursion (λ z. y < z) (zs ++ x ∷ ys) → y < x
+    above y [] h = h.0
+    above y (z ∷ zs) h = above y zs h.1
+
+    by : (zs : List ℕ) → Rising (zs ++ x ∷ ys) → is_below (x + 1) (zs ++ x ∷ []) ≡ true
+    by [] h = rw (nat_lt_true x (x + 1) (omega arith)) refl
+    by (y ∷ zs) h = let l = above y zs h.0 in rw (nat_lt_true y (x + 1) (omega (arith, l))) (by zs h.1)
 
 -- where the last premise is not in the set, no nogood that ends so is
 pub none_without_last : (w : Members) (last : ℕ) (listed : List (List ℕ)) → w last ≡ false → All (λ line. set_of line last ≡ true) listed

@@ -8,7 +8,8 @@ use Rattle.std.proofs.lemmas.List.Kept.{AllPairs-filter, IsNonDecreasingBy-filte
 use Rattle.std.proofs.lemmas.List.Sorted.{All-permutation, Contains-permutation, IsPermutation-insert, IsPermutation-sym, IsNonDecreasingBy-insert}
 use Rattle.prop_premises.specs.Sets.{Members, set_of, is_within}
 use Rattle.prop_premises.proofs.WithinLemmas.{within_has}
-use Rattle.prop_nogoods.specs.Stores.{has_part, staying, lacking, with_set, AreMinimal, AreBySize, HaveSame, AddsSet}
+use Rattle.prop_nogoods.specs.Stores.{has_part, staying, lacking, with_set, AreMinimal, AreBySize, AddsSet}
+use Rattle.prop_nogoods.specs.inner.Stores.{HaveSame}
 use Rattle.prop_nogoods.proofs.PlaceLemmas.{IsPlace, pairs_insert, insert_behind}
 use Rattle.prop_nogoods.proofs.StoreLaws.{PartOf, part-listed, has_part-from}
 

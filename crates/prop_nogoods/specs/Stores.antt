@@ -1,12 +1,16 @@
 -- Lists of nogoods, none of which is part of another or smaller than one before it.
-use Rattle.std.specs.Prelude.{◌≡◌, ℕ, Bool, false, not, nat_lt, IsTrue, List, ◌∷◌, ◌++◌, length, filter, AllPairs, Contains, ◌⊎◌}
+use Rattle.std.specs.Prelude.{◌≡◌, ℕ, Bool, false, not, nat_lt, IsTrue, List, ◌∷◌, ◌++◌, length, filter, All, AllPairs, Contains, ◌⊎◌}
 use Rattle.std.specs.List.{list_any}
 use Rattle.std.specs.List.Sorted.{IsNonDecreasingBy}
-use Rattle.prop_premises.specs.Sets.{Members, set_of, is_within}
+use Rattle.prop_premises.specs.Sets.{Members, set_of, is_within, is_below}
 
 -- some listed set is part of this one
 abbrev pub has_part : List (List ℕ) → Members → Bool
 has_part listed n = list_any (λ line. is_within n line) listed
+
+-- each listed set that is part of this one has numbers below p alone
+abbrev pub PartsEndBelow : List (List ℕ) → Members → ℕ → Type 0
+PartsEndBelow listed n p = All (λ line. IsTrue (is_within n line) → IsTrue (is_below p line)) listed
 
 -- no listed set is part of another
 abbrev pub AreMinimal : List (List ℕ) → Type 0
@@ -15,11 +19,6 @@ AreMinimal listed = AllPairs (λ a b. (is_within (set_of b) a ≡ false) × (is_
 -- no listed set is smaller than one before it
 abbrev pub AreBySize : List (List ℕ) → Type 0
 AreBySize listed = IsNonDecreasingBy length listed
-
--- both list the same sets
-pub record HaveSame (a b : List (List ℕ)) : Type 0 where
-  pub first : (line : List ℕ) → Contains a line → Contains b line
-  pub second : (line : List ℕ) → Contains b line → Contains a line
 
 -- the listed sets that this one is not part of: they stay when it joins
 abbrev pub staying : List (List ℕ) → List ℕ → List (List ℕ)

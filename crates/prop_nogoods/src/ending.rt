@@ -1,8 +1,8 @@
 //! Nogoods that end with the same premise.
 ghost use Rattle.std.specs.Prelude.{◌≡◌, ◌<◌, ◌++◌, ◌∷◌, ℕ, [], length, get_or, insert, map, vec_capacity, false, All, None, Contains, IsTrue, IfOk, IfSome, OnOk, OnErr};
 ghost use Rattle.prop_premises.specs.Sets.{set_of, is_within};
-ghost use Rattle.prop_nogoods.specs.Stores.{has_part, staying};
-ghost use Rattle.prop_nogoods.specs.Endings.{Group, EndsSo, sets_of, HasRoom, left_of, lacking_of};
+ghost use Rattle.prop_nogoods.specs.Stores.{staying, PartsEndBelow};
+ghost use Rattle.prop_nogoods.specs.inner.Endings.{Group, EndsSo, sets_of, HasRoom, left_of, lacking_of};
 
 use crate::listed::{Listed, drop_holding, drop_larger, first_believed};
 use prop_premises::{Premise, Worldview};
@@ -75,17 +75,16 @@ impl Ending {
         drop_holding(&mut self.nogoods, premise);
     }
 
-    /// The first nogood of which every premise is believed. Where the last premise isn't, it looks at no nogood.
+    /// The first nogood of which every premise is believed. Where the last premise isn't, or has a number below this one, it looks at no nogood.
     #[inline]
-    fn first_believed(&self, worldview: &Worldview) -> Option<&Listed>
+    fn first_believed(&self, worldview: &Worldview, from: Premise) -> Option<&Listed>
         ensures listed { IfSome result (λ s. Contains self.now.sets s.now) }
         ensures believed { IfSome result (λ s. IsTrue (is_within (set_of worldview.now) s.now)) }
-        ensures none { result ≡ None → has_part self.now.sets (set_of worldview.now) ≡ false }
+        ensures none { result ≡ None → PartsEndBelow self.now.sets (set_of worldview.now) from }
     {
-        if let Some(last) = self.last {
-            if !worldview.has(last) {
-                return None;
-            }
+        let last = self.last?;
+        if last < from || !worldview.has(last) {
+            return None;
         }
         first_believed(&self.nogoods, worldview)
     }
@@ -139,17 +138,19 @@ pub(crate) fn join(endings: &mut Vec<Ending>, nogood: &Listed) -> Result<(), All
     Ok(())
 }
 
-/// A nogood of which every premise is believed, of the first ending that has one. It takes no memory.
+/// A nogood of which every premise is believed, of the first ending that has one. It passes over endings whose premise has a number below this one,
+/// and takes no memory.
 pub(crate) fn earliest_believed<'a>(
     endings: &'a [Ending],
     worldview: &Worldview,
+    from: Premise,
 ) -> Option<&'a Listed>
     ensures listed { IfSome result (λ s. Contains (sets_of endings.now) s.now) }
     ensures believed { IfSome result (λ s. IsTrue (is_within (set_of worldview.now) s.now)) }
-    ensures none { result ≡ None → has_part (sets_of endings.now) (set_of worldview.now) ≡ false }
+    ensures none { result ≡ None → PartsEndBelow (sets_of endings.now) (set_of worldview.now) from }
 {
     for ending in endings {
-        if let Some(nogood) = ending.first_believed(worldview) {
+        if let Some(nogood) = ending.first_believed(worldview, from) {
             return Some(nogood);
         }
     }

@@ -3,6 +3,7 @@ ghost use Rattle.std.specs.Prelude.{◌≡◌, ◌≤◌, List, ℕ, length, fal
 ghost use Rattle.std.specs.List.Sorted.{IsStrictlyIncreasing};
 ghost use Rattle.prop_premises.specs.Sets.{set_of, is_within};
 ghost use Rattle.prop_nogoods.specs.Stores.{has_part, staying, lacking, AreBySize};
+ghost use Rattle.prop_nogoods.specs.inner.Endings.{EndsSo};
 
 use prop_premises::{Premise, PremiseSet, Worldview};
 use std::alloc::AllocError;
@@ -22,7 +23,7 @@ impl Model for Listed {
 
     ghost view = { λ l. l.premises };
 
-    ghost invariant = { λ l. (l.size ≡ length l.premises) × IsStrictlyIncreasing l.premises × IfSome l.last (λ p. IsTrue (set_of l.premises p)) };
+    ghost invariant = { λ l. (l.size ≡ length l.premises) × IsStrictlyIncreasing l.premises × EndsSo l.last l.premises };
 }
 
 impl Listed {
@@ -52,7 +53,7 @@ impl Listed {
 
     /// Its last premise, none where it has no premise.
     pub(crate) fn last(&self) -> Option<Premise>
-        ensures { IfSome result (λ p. IsTrue (set_of self.now p)) }
+        ensures { EndsSo result self.now }
     {
         self.last
     }
@@ -95,11 +96,18 @@ impl Listed {
         self.premises.contains(premise)
     }
 
-    /// Whether each premise of this set is in the other. Of a larger set it is known by the sizes alone. It takes no memory.
+    /// Whether each premise of this set is in the other. Of a larger set it is known by the sizes alone, and of most others by the last premise. It takes
+    /// no memory.
     pub(crate) fn is_part_of(&self, other: &Listed) -> bool
         ensures { result ≡ is_within (set_of other.now) self.now }
     {
-        self.size <= other.size && self.premises.is_subset(&other.premises)
+        if self.size > other.size {
+            return false;
+        }
+        match self.last {
+            Some(last) => other.holds(last) && self.premises.is_subset(&other.premises),
+            None => self.premises.is_subset(&other.premises),
+        }
     }
 }
 

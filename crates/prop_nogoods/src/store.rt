@@ -2,8 +2,9 @@
 ghost use Rattle.std.specs.Prelude.{◌≡◌, ◌↔◌, ◌≤◌, ◌<◌, ◌+◌, List, ℕ, [], length, not, false, All, None, Ok, Contains, IsTrue, IfOk, IfSome, OnOk, OnErr};
 ghost use Rattle.std.specs.List.Sorted.{IsStrictlyIncreasing, IsPartitionPoint};
 ghost use Rattle.prop_premises.specs.Sets.{set_of, is_within};
-ghost use Rattle.prop_nogoods.specs.Endings.{sets_of};
-ghost use Rattle.prop_nogoods.specs.Stores.{has_part, lacking, with_set, AreMinimal, AreBySize, HaveSame, AddsSet};
+ghost use Rattle.prop_nogoods.specs.inner.Endings.{sets_of};
+ghost use Rattle.prop_nogoods.specs.Stores.{has_part, lacking, with_set, AreMinimal, AreBySize, PartsEndBelow, AddsSet};
+ghost use Rattle.prop_nogoods.specs.inner.Stores.{HaveSame};
 
 use crate::ending::{Ending, earliest_believed, join, purge_everywhere};
 use crate::listed::{Listed, drop_holding, drop_larger, first_believed};
@@ -75,21 +76,15 @@ impl Store {
         self.nogoods.is_empty()
     }
 
-    /// The nogoods, the smallest first, and those of one size in the order in which they were added.
+    /// The nogoods, the smallest first, and those of one size in the order in which they were added. None is part of another, and the premises of each are
+    /// in order of number.
     pub fn iter(&self) -> Nogoods<'_>
         ensures all { result ≡ self.now }
-        ensures by_size { AreBySize self.now }
-    {
-        Nogoods::new(&self.nogoods)
-    }
-
-    /// No nogood of a store is part of another or smaller than one before it, and the premises of each are in order of number.
-    pub fn minimal(&self)
         ensures minimal { AreMinimal self.now }
         ensures in_order { All IsStrictlyIncreasing self.now }
         ensures by_size { AreBySize self.now }
     {
-        let _ = &self.nogoods;
+        Nogoods::new(&self.nogoods)
     }
 
     /// Adds a nogood behind those that are no larger, and answers whether it says more than those listed; the listed ones that it is part of go.
@@ -129,14 +124,14 @@ impl Store {
         Some(nogood.premises())
     }
 
-    /// A nogood of which every premise is believed, none where there is no such nogood: one whose last premise comes early, so that it shows early
-    /// choices to be wrong. It takes no memory.
-    pub fn blocks_early(&self, worldview: &Worldview) -> Option<&PremiseSet>
+    /// A nogood of which every premise is believed, one whose last premise comes early, so that it shows early choices to be wrong. It passes over
+    /// those whose last premise has a number below this one, and answers none where no other is believed. It takes no memory.
+    pub fn blocks_early(&self, worldview: &Worldview, from: Premise) -> Option<&PremiseSet>
         ensures listed { IfSome result (λ s. Contains self.now s.now) }
         ensures believed { IfSome result (λ s. IsTrue (is_within (set_of worldview.now) s.now)) }
-        ensures none { result ≡ None → has_part self.now (set_of worldview.now) ≡ false }
+        ensures none { result ≡ None → PartsEndBelow self.now (set_of worldview.now) from }
     {
-        let nogood = earliest_believed(&self.by_last, worldview)?;
+        let nogood = earliest_believed(&self.by_last, worldview, from)?;
         Some(nogood.premises())
     }
 

@@ -5,7 +5,7 @@ use Rattle.prop_premises.specs.declared.named.Named.{Named}
 use Rattle.prop_premises.specs.declared.named.Kind.{Kind}
 use Rattle.prop_premises.specs.declared.named.Kind.TheVariants as kind
 use Rattle.prop_premises.specs.Origins.{Origin, User, believed_in}
-use Rattle.prop_premises.specs.Named.{width, is_believed_kind, origins_of_kind, origins_of, AreNumberedFrom}
+use Rattle.prop_premises.specs.inner.Named.{width, is_believed_kind, origins_of_kind, origins_of, AreNumberedFrom}
 use Rattle.prop_premises.proofs.TableLemmas.{origins_of-append, numbered-second, length-cons}
 use Rattle.prop_premises.proofs.ChangeLemmas.{believed_in-with_choice}
 

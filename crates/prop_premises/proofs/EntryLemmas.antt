@@ -13,7 +13,7 @@ use Rattle.prop_premises.specs.declared.named.Named.{Named}
 use Rattle.prop_premises.specs.declared.named.Kind.{Kind}
 use Rattle.prop_premises.specs.declared.named.Kind.TheVariants as kind
 use Rattle.prop_premises.specs.Origins.{Origin, User, Side, is_user, is_user_at, is_user_called, premise_number, is_start, starts, with_belief_at, name_of}
-use Rattle.prop_premises.specs.Named.{width, origins_of_kind, origins_of, places_from, IsKind, AreNumberedFrom, number_of, user_number}
+use Rattle.prop_premises.specs.inner.Named.{width, origins_of_kind, origins_of, places_from, IsKind, AreNumberedFrom, number_of, user_number}
 use Rattle.prop_premises.proofs.LookupLemmas.{names_it, premise_number-lookup}
 use Rattle.prop_premises.proofs.OriginLemmas.{is_user_at-at, is_start-at}
 use Rattle.prop_premises.proofs.ChoiceLemmas.{slice_get-skip, slice_get-front, slice_get-sides}

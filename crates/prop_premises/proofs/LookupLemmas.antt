@@ -10,7 +10,7 @@ use Rattle.prop_premises.specs.declared.named.Named.{Named}
 use Rattle.prop_premises.specs.declared.named.Kind.{Kind}
 use Rattle.prop_premises.specs.declared.named.Kind.TheVariants as kind
 use Rattle.prop_premises.specs.Origins.{Origin, Side, sides_below, is_user_called, is_side_called, premise_number, is_choice}
-use Rattle.prop_premises.specs.Named.{width, origins_of_kind, origins_of, IsKind, AreNumberedFrom, number_of, is_choices, user_number, is_choice_kind}
+use Rattle.prop_premises.specs.inner.Named.{width, origins_of_kind, origins_of, IsKind, AreNumberedFrom, number_of, is_choices, user_number, is_choice_kind}
 use Rattle.prop_premises.proofs.ChoiceLemmas.{length-sides}
 
 skip_one : (b : Bool) (n : ℕ) (rest : Bool) (here there : Option ℕ) → (b || rest) ≡ false → (rest ≡ false → here ≡ there) → cond b (Some n) here ≡ there

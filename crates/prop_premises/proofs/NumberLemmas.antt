@@ -10,7 +10,7 @@ use Rattle.prop_premises.specs.declared.named.Kind.{Kind}
 use Rattle.prop_premises.specs.declared.named.Kind.TheVariants as kind
 use Rattle.prop_premises.specs.ChoiceLists.{is_side_of, is_hypothetical, AreInOrder, AreOfSides}
 use Rattle.prop_premises.specs.Origins.{Origin, User, sides_below, choices_from, choices_of, is_user, is_user_at, IsNumbered}
-use Rattle.prop_premises.specs.Named.{width, origins_of_kind, origins_of, IsKind, AreNumberedFrom}
+use Rattle.prop_premises.specs.inner.Named.{width, origins_of_kind, origins_of, IsKind, AreNumberedFrom}
 use Rattle.prop_premises.proofs.ChoiceLemmas.{choices_from-append, choices_from-sides, length-sides, slice_get-sides, slice_get-front, slice_get-skip}
 use Rattle.prop_premises.proofs.OriginLemmas.{is_user_at-at}
 

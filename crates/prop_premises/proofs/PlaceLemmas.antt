@@ -6,7 +6,8 @@ use Rattle.std.proofs.lemmas.List.{length-drop}
 use Rattle.std.proofs.lemmas.List.Folds.{list_any-append}
 use Rattle.std.proofs.lemmas.List.Kept.{IsStrictlyIncreasing-filter}
 use Rattle.prop_premises.specs.Sets.{set_of, is_below, IsBelow}
-use Rattle.prop_premises.specs.Words.{is_set, has_bit, numbers_from, HasFrom, IsTrimmed, IsForm}
+use Rattle.prop_premises.specs.Words.{is_set, has_bit, numbers_from}
+use Rattle.prop_premises.specs.inner.Words.{HasFrom, IsTrimmed, IsForm}
 use Rattle.prop_premises.proofs.BitLemmas.{is_set-zero, is_set-or}
 use Rattle.prop_premises.proofs.MergeLemmas.{same_increasing}
 use Rattle.prop_premises.proofs.SetLemmas.{set_of-filter}

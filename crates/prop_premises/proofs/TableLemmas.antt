@@ -5,7 +5,7 @@ use Rattle.std.proofs.lemmas.List.{take_all}
 use Rattle.prop_premises.specs.declared.named.Named.{Named}
 use Rattle.prop_premises.specs.declared.named.Kind.{Kind}
 use Rattle.prop_premises.specs.declared.named.Kind.TheVariants as kind
-use Rattle.prop_premises.specs.Named.{width, origins_of_kind, origins_of, places_from, IsKind, AreNumberedFrom}
+use Rattle.prop_premises.specs.inner.Named.{width, origins_of_kind, origins_of, places_from, IsKind, AreNumberedFrom}
 use Rattle.prop_premises.proofs.ChoiceLemmas.{length-sides, slice_get-skip, slice_get-front}
 
 pub length-kind : (name : List ℕ) (k : Kind) → length (origins_of_kind name k) ≡ width k

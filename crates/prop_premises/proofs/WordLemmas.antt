@@ -14,7 +14,8 @@ use Rattle.std.proofs.lemmas.List.Kept.{IsStrictlyIncreasing-filter}
 use Rattle.std.proofs.lemmas.List.Sums.{length-filter, count_by-le-length}
 use Rattle.std.proofs.lemmas.Nat.Bits.{bit_at-zero}
 use Rattle.prop_premises.specs.Sets.{Members, set_of, is_within, IsBelow}
-use Rattle.prop_premises.specs.Words.{is_set, has_bit, numbers_from, numbers_of, HaveSameBits, HasFrom, IsTrimmed}
+use Rattle.prop_premises.specs.Words.{is_set, has_bit, numbers_from}
+use Rattle.prop_premises.specs.inner.Words.{numbers_of, HaveSameBits, HasFrom, IsTrimmed}
 use Rattle.prop_premises.proofs.BitLemmas.{tested, is_set-or, is_set-and, is_set-not, is_set-pow, is_set-zero, is_set-ones, is_set-cleared, pow_fits, lowest, Highest, highest}
 use Rattle.prop_premises.proofs.WithinLemmas.{is_within-told}
 use Rattle.prop_premises.proofs.SetLemmas.{set_of-filter}

@@ -2,4 +2,4 @@ pub mod Sets
 pub mod Words
 pub mod ChoiceLists
 pub mod Origins
-pub mod Named
+pub mod inner

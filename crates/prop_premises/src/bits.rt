@@ -1,7 +1,8 @@
 //! Bits of words.
 ghost use Rattle.std.specs.Prelude.{◌≡◌, ◌<◌, ◌≤◌, ◌+◌, ◌-◌, ◌*◌, ◌/◌, ◌%◌, ◌^◌, ℕ, true, false, not, ◌&&◌, ◌||◌, ◌==◌, length, slice_index, IsTrue};
 ghost use Rattle.prop_premises.specs.Sets.{set_of};
-ghost use Rattle.prop_premises.specs.Words.{has_bit, numbers_from, HasFrom, IsTrimmed};
+ghost use Rattle.prop_premises.specs.Words.{has_bit, numbers_from};
+ghost use Rattle.prop_premises.specs.inner.Words.{HasFrom, IsTrimmed};
 
 /// How many bits a word has.
 pub(crate) const BITS: usize = 64;

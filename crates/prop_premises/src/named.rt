@@ -2,7 +2,7 @@
 
 ghost use Rattle.std.specs.Prelude.{◌≡◌};
 ghost use Rattle.prop_premises.specs.Origins.{is_believed, side_of};
-ghost use Rattle.prop_premises.specs.Named.{width, is_believed_kind, told};
+ghost use Rattle.prop_premises.specs.inner.Named.{width, is_believed_kind, told};
 
 use crate::premise_set::Premise;
 

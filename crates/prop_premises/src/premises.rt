@@ -109,10 +109,8 @@ impl Premises {
         ensures why { IfErr result (λ e. e ≡ Refusal.Memory) }
     {
         let number = self.table.len() as Premise;
-        match self.table.add(name, Kind::User(true)) {
-            Ok(()) => Ok(number),
-            Err(AllocError) => Err(Refusal::Memory),
-        }
+        self.table.add(name, Kind::User(true))?;
+        Ok(number)
     }
 
     /// The premise with this name. `IsAChoice` where a choice has it, `NoSuchPremise` where neither a premise nor a choice has it.
@@ -158,10 +156,7 @@ impl Premises {
         if self.table.len() + usize::from(sides) > MOST {
             return Err(Refusal::LimitReached(Limit::Premises));
         }
-        match self.add_choice(name, sides) {
-            Ok(choice) => Ok(choice),
-            Err(AllocError) => Err(Refusal::Memory),
-        }
+        Ok(self.add_choice(name, sides)?)
     }
 
     /// Adds a choice with a new name.

@@ -6,7 +6,7 @@ ghost use Rattle.prop_premises.specs.Sets.{union, IsSame};
 ghost use Rattle.prop_premises.specs.Words.{has_bit};
 ghost use Rattle.prop_premises.specs.Origins.{Origin, premise_number, is_choice, is_user_at, with_belief_at, is_start, name_of, IsNumbered, choices_of, believed_in};
 ghost use Rattle.prop_premises.specs.ChoiceLists.{is_hypothetical};
-ghost use Rattle.prop_premises.specs.Named.{origins_of, origins_of_kind, places_from, width, told, number_of, is_choices, IsKind, AreNumberedFrom};
+ghost use Rattle.prop_premises.specs.inner.Named.{origins_of, origins_of_kind, places_from, width, told, number_of, is_choices, IsKind, AreNumberedFrom};
 
 use crate::bits::set_bit;
 use crate::named::{Kind, Named, Source};

@@ -2,7 +2,8 @@
 ghost use Rattle.std.specs.Prelude.{◌≡◌, ◌↔◌, ◌<◌, ◌≤◌, ◌+◌, ◌*◌, ◌&&◌, ℕ, List, [], ◌∷◌, ◌++◌, false, length, max, nat_lt, filter, IsTrue, IsOk, IfOk, OnOk, OnErr};
 ghost use Rattle.std.specs.List.Sorted.{IsStrictlyIncreasing};
 ghost use Rattle.prop_premises.specs.Sets.{set_of, union, without, is_within, is_below, is_at_most_one_of, IsSame, IsBelow};
-ghost use Rattle.prop_premises.specs.Words.{has_bit, numbers_from, IsTrimmed, IsForm};
+ghost use Rattle.prop_premises.specs.Words.{has_bit, numbers_from};
+ghost use Rattle.prop_premises.specs.inner.Words.{IsTrimmed, IsForm};
 
 use crate::bits::{
     BITS, bit_of, clear, end_of, is_part, leading, place_of, set_bit, trimmed_len, unite, word_at,
@@ -25,7 +26,8 @@ pub(crate) struct Words {
 
 impl Model for Words {
     ghost use Rattle.std.specs.Prelude.{List, ℕ, ◌*◌};
-    ghost use Rattle.prop_premises.specs.Words.{numbers_from, IsForm};
+    ghost use Rattle.prop_premises.specs.Words.{numbers_from};
+    ghost use Rattle.prop_premises.specs.inner.Words.{IsForm};
 
     ghost Value = { List ℕ };
 

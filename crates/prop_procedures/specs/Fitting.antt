@@ -1,11 +1,12 @@
 -- Which cells and parameters fit a procedure.
-use Rattle.std.specs.Prelude.{ℕ, ℤ, pos, List, [], ◌∷◌, ◌++◌, Bool, cond, ◌&&◌, int_le, Option, Some, None, map, zip, slice_index_or}
+use Rattle.std.specs.Prelude.{ℕ, pos, List, [], ◌∷◌, ◌++◌, Bool, cond, Option, Some, None, map, zip, slice_index_or}
 use Rattle.prop_procedures.specs.declared.shape.Param.{Param}
 use Rattle.prop_procedures.specs.declared.shape.Param.TheVariants as params
 use Rattle.prop_procedures.specs.declared.shape.Need.{Need}
 use Rattle.prop_procedures.specs.declared.shape.Need.TheVariants as needs
 use Rattle.prop_procedures.specs.declared.shape.Shape.{Shape}
 use Rattle.prop_procedures.specs.declared.shape.Kinded.{Kinded}
+use Rattle.prop_procedures.specs.Rules.{is_scale}
 use Rattle.prop_procedures.specs.Stored.{Stored, span_kind, are_right}
 use Rattle.prop_sets.specs.declared.side.Side.{Side}
 
@@ -22,25 +23,10 @@ kinds_fit p kinds given cells = are_right p.need given (places_of p kinds cells)
 
 -- ---- parameters
 
--- a scale that a procedure takes
-abbrev pub is_scale : ℤ → Bool
-is_scale k = int_le (pos 1) k && int_le k (pos 1_000_000_000)
-
--- the scale, where it is one that a procedure takes
-abbrev pub scale_in_range : Param → Option Param
-scale_in_range (params.Scale k) = cond (is_scale k) (Some (params.Scale k)) None
-scale_in_range param = None
-
--- the relation, where it is one
-abbrev pub relation_alone : Param → Option Param
-relation_alone (params.Rows r) = Some (params.Rows r)
-relation_alone param = None
-
 -- the parameter that an instance has where this one is given or none is: none where what is given does not fit
 abbrev pub fitting_param : Need → Option Param → Option Param
 fitting_param needs.Nothing None = Some params.Plain
-fitting_param needs.Nothing (Some param) = None
 fitting_param needs.Scale None = Some (params.Scale (pos 1))
-fitting_param needs.Scale (Some param) = scale_in_range param
-fitting_param needs.Rows None = None
-fitting_param needs.Rows (Some param) = relation_alone param
+fitting_param needs.Scale (Some (params.Scale k)) = cond (is_scale k) (Some (params.Scale k)) None
+fitting_param needs.Rows (Some (params.Rows r)) = Some (params.Rows r)
+fitting_param need given = None

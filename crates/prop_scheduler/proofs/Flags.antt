@@ -8,7 +8,8 @@ use Rattle.std.proofs.lemmas.List.{length-append, length-replicate, get_or_appen
 use Rattle.std.proofs.lemmas.List.Sums.{sum_by-cons, sum_by-set, sum_by-remove, sum_by_push, sum_by-append, count_by-le-length, get_or-le-sum_by}
 use Rattle.std.proofs.lemmas.List.Folds.{sum_by-replicate}
 use Rattle.std.proofs.lemmas.List.Edits.{length-remove}
-use Rattle.prop_scheduler.specs.Agendas.{IsFlagged, IsLine}
+use Rattle.prop_scheduler.specs.inner.Agendas.{IsFlagged}
+use Rattle.prop_scheduler.specs.Agendas.{IsLine}
 
 -- how often a number stands in a line
 abbrev pub times : List ℕ → ℕ → ℕ

@@ -2,13 +2,13 @@
 use Rattle.std.proofs.Common.{◌≡◌, ◌∙◌, ℕ, ◌<◌, ◌≤◌, ◌+◌, ◌-◌, ◌==◌, Bool, true, false, cond, not, List, [], ◌∷◌, ◌++◌, Option, Some, None, All, map, drop, length, slice_get, nat_le, is_none, unwrap_or, get_or, ◌⊎◌, inl, inr, refl, sym, ap, arith, suc, zero, zero-add}
 use Rattle.std.specs.Prelude.{⊤, Result, Ok, Err, OnOk}
 use Rattle.std.specs.List.{list_any}
-use Rattle.std.specs.Option.{option_map_or, option_and_then}
+use Rattle.std.specs.Option.{option_map_or, option_and_then, option_or}
 use Rattle.std.proofs.lemmas.Bool.{lt-leb, lt-ltb, le-ltb, cases_lt}
 use Rattle.std.proofs.lemmas.Bool.Decides.{nat_tests}
 use Rattle.std.proofs.lemmas.List.{map-append, length-map}
 use Rattle.std.proofs.lemmas.List.Folds.{list_any_none}
 use Rattle.std.proofs.lemmas.Option.{slice_get_cases, slice_get_past}
-use Rattle.prop_lattice.specs.Refusals.{most}
+use Rattle.prop_lattice.specs.Refusals.{most, when}
 use Rattle.prop_lattice.specs.declared.refusal.Limit.TheVariants.{Instances}
 use Rattle.prop_lattice.specs.declared.refusal.Refusal.{Refusal}
 use Rattle.prop_lattice.specs.declared.refusal.Refusal.TheVariants.{NoSuchCell, WrongCount, WrongKind, WrongParameter, LimitReached}
@@ -19,10 +19,11 @@ use Rattle.prop_procedures.specs.Stored.{Stored, sides_of}
 use Rattle.prop_cells.specs.Data.{Data}
 use Rattle.prop_procedures.specs.Fitting.{kinds_fit, fitting_param}
 use Rattle.prop_cells.specs.Instances.{Instance, sides_given, param_in, attached, instance_of}
-use Rattle.prop_cells.specs.Refusing.{refusal_at, attach_refusal, or_else, when}
+use Rattle.prop_cells.specs.Refusing.{refusal_at, attach_refusal}
 use Rattle.prop_procedures.specs.declared.flat.Placed as flats
-use Rattle.prop_procedures.specs.Flats.{param_at}
-use Rattle.prop_scheduler.specs.Making.{cell_placed, param_number, cells_made, made_of, MayBeMade}
+use Rattle.prop_procedures.specs.Flats.{param_at, cell_placed}
+use Rattle.prop_scheduler.specs.inner.Making.{param_number}
+use Rattle.prop_scheduler.specs.Making.{cells_made, made_of, MayBeMade}
 
 -- ---- parameters
 
@@ -79,7 +80,7 @@ none_strange n cells h = list_any_none (λ cell. nat_le n cell) cells (λ k d l.
 
 rows : (strange count kind param full : Bool) → Option Refusal
 rows strange count kind param full =
-    or_else (when NoSuchCell strange) (or_else (when WrongCount (not count)) (or_else (when WrongKind (not kind)) (or_else (when WrongParameter param) (when (LimitReached Instances) full))))
+    option_or (when NoSuchCell strange) (option_or (when WrongCount (not count)) (option_or (when WrongKind (not kind)) (option_or (when WrongParameter param) (when (LimitReached Instances) full))))
 
 rows_none : (strange count kind param full : Bool) → strange ≡ false → count ≡ true → kind ≡ true → param ≡ false → full ≡ false → rows strange count kind param full ≡ None
 unfolding rows

@@ -6,9 +6,9 @@ use Rattle.std.proofs.lemmas.Bool.{cases_lt}
 use Rattle.std.proofs.lemmas.Bool.Decides.{eqb_tells}
 use Rattle.std.proofs.lemmas.Option.{slice_get_within, slice_get-get_or, get_or_from_slice_get}
 use Rattle.prop_lattice.specs.declared.info.Info.{Info}
-use Rattle.prop_lattice.specs.declared.info.Info.TheVariants.{Nothing}
-use Rattle.prop_lattice.specs.Order.{Below}
-use Rattle.prop_lattice.specs.OrderLaws.{info_laws}
+use Rattle.prop_lattice.specs.declared.info.Info.TheVariants.{Nothing, Contradiction}
+use Rattle.prop_lattice.specs.Order.{Below, merge_of}
+use Rattle.prop_lattice.specs.laws.OrderLaws.{info_laws}
 use Rattle.prop_lattice.specs.declared.refusal.Refusal.{Refusal}
 use Rattle.std.specs.Prelude.{⊤, Result, Ok, Err, OnOk, OnErr}
 use Rattle.prop_premises.specs.Sets.{is_within}
@@ -118,6 +118,23 @@ states_same s d new x states less = by (is_within s (support_of x.premise)) refl
           (adds_merges d.contents new.contents x.cell e states.adds s on).merged
           ∙ info_laws.antisymmetric _ known (join.least known (info_laws.reflexive known) below) join.above_first
     ]
+
+-- no more than what was believed and what is stated say together
+pub states_clear : (s : Premises) (d new : Data) (x : Statement) → States d new x → merge_of (beliefs s d.contents x.cell) x.info ≢ Contradiction → beliefs s new.contents x.cell ≢ Contradiction
+states_clear s d new x states clear clash = by (is_within s (support_of x.premise)) refl
+  where
+    e : Entry
+    e = record { value = x.info; support = support_of x.premise }
+
+    known : Info
+    known = beliefs s d.contents x.cell
+
+    by : (b : Bool) → is_within s (support_of x.premise) ≡ b → ⊥
+    by true on = clear (sym (adds_merges d.contents new.contents x.cell e states.adds s on).merged ∙ clash)
+    by false off =
+        let is : known ≡ Contradiction = sym (adds_same d.contents new.contents x.cell e states.adds s off x.cell) ∙ clash in
+        let both = merge_of known x.info in
+        clear (info_laws.antisymmetric both Contradiction (info_laws.to_top both) (subst (λ v. Below v both) is (info_laws.least_above known x.info).above_first))
 
 under_way_states : (library : List Stored) (s : Premises) (d new : Data) (line line' : List ℕ) (x : Statement) (grown : Bool) → IsUnderWay library s d line → IsKept library new → States d new x →
     (grown ≡ false → beliefs s new.contents x.cell ≡ beliefs s d.contents x.cell) → ((k : ℕ) → Contains line k → Contains line' k) → All (λ k. k < length d.instances) line' →

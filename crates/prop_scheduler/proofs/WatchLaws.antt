@@ -1,13 +1,12 @@
 -- Which cells have to be looked at, as cells, statements and worldviews change.
 use Rattle.std.proofs.Common.{◌≡◌, ◌≢◌, ◌∙◌, ◌<◌, ◌≤◌, ◌⊎◌, ℕ, zero, suc, ◌+◌, Bool, true, false, List, [], ◌∷◌, ◌++◌, All, Contains, Some, map, length, slice_get, refl, sym, ap, arith, inl, inr}
 use Rattle.std.specs.Prelude.{⊤, Result, Ok, Err, OnOk, OnErr, None}
-use Rattle.prop_lattice.specs.Refusals.{most}
+use Rattle.prop_lattice.specs.Refusals.{most, when}
 use Rattle.prop_lattice.specs.declared.refusal.Refusal.{Refusal}
 use Rattle.prop_lattice.specs.declared.refusal.Limit.TheVariants.{Cells}
 use Rattle.std.specs.List.{remove}
 use Rattle.std.proofs.lemmas.Bool.Decides.{eqb_tells}
 use Rattle.std.proofs.lemmas.Bool.{cases_lt, leb-false}
-use Rattle.prop_cells.specs.Refusing.{when}
 use Rattle.std.specs.Prelude.{nat_le}
 use Rattle.prop_lattice.specs.declared.refusal.Refusal.TheVariants.{LimitReached}
 use Rattle.std.proofs.lemmas.List.{get_or_past, length-append}
@@ -65,6 +64,17 @@ watched_at s d new old watched cell kinds within others a w = record {
   holds = λ k clash. elim (eqb_tells k cell) as (λ _. Contains watched k) [
     | inl e ↦ rw e.1 (alerted_here old watched cell a)
     | inr e ↦ alerted_kept old watched cell k a (w.holds k (sym (others k e.1) ∙ clash))
+  ];
+}
+
+-- the one cell of which something else is believed holds no contradiction
+pub watched_clear : (s : Premises) (d new : Data) (watched : List ℕ) (cell : ℕ) → length new.kinds ≡ length d.kinds → ((k : ℕ) → k ≢ cell → beliefs s new.contents k ≡ beliefs s d.contents k) → beliefs s new.contents cell ≢ Contradiction →
+    IsWatched s d watched → IsWatched s new watched
+watched_clear s d new watched cell kinds others clear w = record {
+  below = rw kinds w.below;
+  holds = λ k clash. elim (eqb_tells k cell) as (λ _. Contains watched k) [
+    | inl e ↦ absurd (clear (rw e.1 at clash))
+    | inr e ↦ w.holds k (sym (others k e.1) ∙ clash)
   ];
 }
 

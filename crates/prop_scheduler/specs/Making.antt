@@ -1,7 +1,7 @@
 -- What a use stands for, made in a network.
-use Rattle.std.specs.Prelude.{◌≡◌, ◌<◌, ◌^◌, ℕ, ◌+◌, ◌-◌, List, [], ◌++◌, All, cond, true, false, nat_lt, Option, Some, None, length, map, is_none, slice_get, slice_index_or, unwrap_or}
-use Rattle.std.specs.Option.{option_and_then}
-use Rattle.prop_lattice.specs.Refusals.{most}
+use Rattle.std.specs.Prelude.{◌≡◌, ◌<◌, ◌^◌, ℕ, ◌+◌, ◌-◌, List, [], ◌++◌, All, true, false, nat_lt, Option, Some, length, map, is_none, slice_get, unwrap_or}
+use Rattle.std.specs.Option.{option_and_then, option_or}
+use Rattle.prop_lattice.specs.Refusals.{most, when}
 use Rattle.prop_lattice.specs.declared.refusal.Limit.TheVariants.{Cells, Instances}
 use Rattle.prop_lattice.specs.declared.refusal.Refusal.{Refusal}
 use Rattle.prop_lattice.specs.declared.refusal.Refusal.TheVariants.{LimitReached}
@@ -10,25 +10,15 @@ use Rattle.prop_procedures.specs.declared.flat.Flat.{Flat}
 use Rattle.prop_procedures.specs.declared.shape.Kinded.{Kinded}
 use Rattle.prop_procedures.specs.declared.shape.Param.{Param}
 use Rattle.prop_procedures.specs.declared.shape.Param.TheVariants.{Plain}
-use Rattle.prop_procedures.specs.Flats.{cells_of, param_at}
+use Rattle.prop_procedures.specs.Flats.{cells_of, param_at, cell_placed}
 use Rattle.prop_procedures.specs.Stored.{Stored, sides_of}
 use Rattle.prop_procedures.specs.Fitting.{kinds_fit, fitting_param}
 use Rattle.prop_cells.specs.Data.{Data}
 use Rattle.prop_cells.specs.Instances.{Instance}
-use Rattle.prop_cells.specs.Refusing.{when, or_else}
 
 -- so many cells, or instances, are more than there can be
 abbrev pub room_refusal : ℕ → ℕ → Option Refusal
-room_refusal cells instances = or_else (when (LimitReached Cells) (nat_lt (most Cells) cells)) (when (LimitReached Instances) (nat_lt (most Instances) instances))
-
--- the number of the cell at a place: these cells have the first places, and the fresh ones, numbered from next on, those behind
-abbrev pub cell_placed : List ℕ → ℕ → ℕ → ℕ
-cell_placed cells next place = cond (nat_lt place (length cells)) (slice_index_or cells place 0) (next + (place - length cells))
-
--- the number of the parameter at a place, where the network has so many and those of the use begin with the first
-abbrev pub param_number : ℕ → ℕ → Option ℕ → Option ℕ
-param_number first count None = None
-param_number first count (Some n) = cond (nat_lt n (count - first)) (Some (first + n)) None
+room_refusal cells instances = option_or (when (LimitReached Cells) (nat_lt (most Cells) cells)) (when (LimitReached Instances) (nat_lt (most Instances) instances))
 
 -- the numbers of an instance's cells
 abbrev pub cells_made : List ℕ → ℕ → Placed → List ℕ

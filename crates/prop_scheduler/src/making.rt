@@ -2,12 +2,14 @@
 ghost use Rattle.std.specs.Prelude.{◌≡◌, ◌≤◌, ◌<◌, ◌^◌, ◌+◌, ◌-◌, ◌++◌, ◌∷◌, [], ◌⊎◌, ℕ, List, All, Contains, None, Some, drop, length, map, IfOk, IfErr, OnOk, OnErr};
 ghost use Rattle.prop_lattice.specs.Refusals.{most};
 ghost use Rattle.prop_lattice.specs.declared.refusal.Limit.TheVariants.{Cells, Instances};
+ghost use Rattle.prop_procedures.specs.Flats.{cell_placed};
 ghost use Rattle.prop_procedures.specs.Kept.{stored_of};
 ghost use Rattle.prop_cells.specs.Data.{Data as Held, IsKept, IsWellMade};
 ghost use Rattle.prop_cells.specs.Problems.{Premises};
-ghost use Rattle.prop_cells.specs.Back.{GoesBackTo};
+ghost use Rattle.prop_cells.specs.inner.Back.{GoesBackTo};
 ghost use Rattle.prop_cells.specs.Refusing.{cell_refusal};
-ghost use Rattle.prop_scheduler.specs.Making.{room_refusal, cell_placed, param_number, made_of, with_fresh_cells, with_flat, MayBeMade, MayMake};
+ghost use Rattle.prop_scheduler.specs.Making.{room_refusal, made_of, with_fresh_cells, with_flat, MayBeMade, MayMake};
+ghost use Rattle.prop_scheduler.specs.inner.Making.{param_number};
 ghost use Rattle.prop_scheduler.specs.Turns.{IsUnderWay};
 ghost use Rattle.prop_scheduler.specs.Watching.{IsWatched};
 
@@ -52,10 +54,8 @@ fn room_for_cell<R: Rule + Drop>(network: &Network<R>, agenda: &mut Agenda) -> R
     if count >= Limit::Cells.most() {
         return Ok(());
     }
-    match agenda.room_to_watch(count + 1) {
-        Ok(()) => Ok(()),
-        Err(AllocError) => Err(Refusal::Memory),
-    }
+    agenda.room_to_watch(count + 1)?;
+    Ok(())
 }
 
 /// The numbers that the fresh cells, the parameters and the instances of a use begin with.

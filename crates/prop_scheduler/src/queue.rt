@@ -1,7 +1,8 @@
 //! Numbers in a queue, each at most once.
 ghost use Rattle.std.specs.Prelude.{◌≡◌, ℕ, ◌<◌, ◌≤◌, max, List, [], length, OnOk, OnErr, All, slice_get, remove, Some};
 ghost use Rattle.std.specs.VecDeque.{deque_capacity};
-ghost use Rattle.prop_scheduler.specs.Agendas.{Queued, Alerted, AllAlerted, FirstAlerted, all_alerted, numbers_below, IsLine, IsFlagged};
+ghost use Rattle.prop_scheduler.specs.inner.Agendas.{Queued, IsFlagged};
+ghost use Rattle.prop_scheduler.specs.Agendas.{Alerted, AllAlerted, FirstAlerted, all_alerted, numbers_below, IsLine};
 
 use std::alloc::{AllocError, Global};
 use std::collections::VecDeque;

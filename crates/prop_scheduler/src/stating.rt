@@ -25,7 +25,8 @@ fn says_more(before: Info, premise: Option<Premise>, info: Info, worldview: &Wor
     is_believed && !before.implies(info)
 }
 
-/// Makes a statement; where what is believed of its cell changes, the cell is watched and its readers wait. Refused as by `Network::state_under`, it changes nothing.
+/// Makes a statement; where what is believed of its cell changes, the cell's readers wait, and it is watched where it comes to a contradiction. Refused as by
+/// `Network::state_under`, it changes nothing.
 pub fn state<R: Rule + Drop>(
     network: &mut Network<R>,
     agenda: &mut Agenda,
@@ -54,7 +55,9 @@ pub fn state<R: Rule + Drop>(
     network.state_under(premise, cell, info)?;
     if says_more(before, premise, info, worldview) {
         agenda.alert_all(network.readers(cell));
-        agenda.watch(cell);
+        if before.merge(info).is_contradiction() {
+            agenda.watch(cell);
+        }
     }
     Ok(())
 }

@@ -4,10 +4,10 @@ use Rattle.std.specs.Int.{bit_at}
 use Rattle.prop_lattice.specs.Ends.{elements_from}
 use Rattle.prop_lattice.specs.declared.elements.Elements as sets
 use Rattle.prop_sets.specs.Images.{IsInImage, IsInCoimage, image_of, coimage_of}
-use Rattle.prop_sets.specs.ImageLaws.{image_from_bits, coimage_from_bits}
+use Rattle.prop_sets.specs.laws.ImageLaws.{image_from_bits, coimage_from_bits}
 use Rattle.prop_sets.specs.Relation.{Relation}
-use Rattle.prop_sets.specs.Ties.{AreTied}
-use Rattle.prop_sets.specs.Words.{IsUnionOf}
+use Rattle.prop_sets.specs.inner.Ties.{AreTied}
+use Rattle.prop_sets.specs.inner.Words.{IsUnionOf}
 use Rattle.prop_sets.proofs.TieLemmas.{tied_within}
 
 pub image_from_union : (m : Relation) (columns : List ℕ) (x : sets.Elements) (union : ℕ) → AreTied m.from.size m.to.size m.rows columns → IsUnionOf m.rows x.bits union → elements_from union ≡ image_of m x

@@ -2,10 +2,10 @@
 use Rattle.std.proofs.Common.{◌≡◌, ◌↔◌, ℕ, List, get_or, arith, ◌∙◌, sym, ap}
 use Rattle.std.specs.Int.{bit_at}
 use Rattle.std.proofs.lemmas.Grind.{same_number_lists}
-use Rattle.prop_lattice.specs.PartLaws.{same_parts}
-use Rattle.prop_sets.specs.Laws.{SamePairsAreOne}
+use Rattle.prop_lattice.specs.laws.PartLaws.{same_parts}
+use Rattle.prop_sets.specs.Promises.{SamePairsAreOne}
 use Rattle.prop_sets.specs.Relation.{Relation, HasPair, IsWhole}
-use Rattle.prop_sets.specs.Ties.{AreTied}
+use Rattle.prop_sets.specs.inner.Ties.{AreTied}
 use Rattle.prop_sets.proofs.TieLemmas.{word_within, tied_within}
 
 pub whole_from_tied : (m : Relation) (columns : List ℕ) → AreTied m.from.size m.to.size m.rows columns → IsWhole m

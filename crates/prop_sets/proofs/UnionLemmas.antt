@@ -4,12 +4,12 @@ use Rattle.std.specs.Int.{bit_at, bit_not, w64, trailing_zeros}
 use Rattle.std.proofs.lemmas.Bool.{cases_eq, cases_lt}
 use Rattle.std.proofs.lemmas.Nat.{and_le_l}
 use Rattle.std.proofs.lemmas.Nat.Bits.{bit_at-zero, bit_at-lt, bit_at_above, bit_at_and, bit_at_or, bit_at_clear_same, bit_at_clear_other, bit_at-trailing_zeros}
-use Rattle.prop_lattice.specs.Parts.{HasBitsOf}
+use Rattle.prop_lattice.specs.laws.Parts.{HasBitsOf}
 use Rattle.prop_lattice.specs.Ends.{elements_from}
 use Rattle.prop_lattice.specs.declared.elements.Elements as sets
 use Rattle.prop_sets.specs.Others.{IsOther, without_of}
-use Rattle.prop_sets.specs.OtherLaws.{without_from_bits}
-use Rattle.prop_sets.specs.Words.{IsUnionOf}
+use Rattle.prop_sets.specs.laws.OtherLaws.{without_from_bits}
+use Rattle.prop_sets.specs.inner.Words.{IsUnionOf}
 
 -- the union has what the chosen words have but those of the rest
 pub record IsUnionSoFar (words : List ℕ) (chosen union rest : ℕ) : Type 0 where

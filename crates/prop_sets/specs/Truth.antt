@@ -22,7 +22,6 @@ abbrev pub IsNot : ℕ → ℕ → Type 0
 IsNot x y = (y ≡ 0) ↔ (x ≢ 0)
 
 -- the same as tests
-
 abbrev pub agree : Bool → Bool → Bool
 agree true b = b
 agree false b = not b

@@ -86,10 +86,8 @@ impl Domain {
         if names.len() > MOST {
             return Err(Refusal::LimitReached(Limit::Elements));
         }
-        match in_order(alloc, names) {
-            Ok(names) => Ok(Domain { names }),
-            Err(AllocError) => Err(Refusal::Memory),
-        }
+        let names = in_order(alloc, names)?;
+        Ok(Domain { names })
     }
 
     /// How many elements it has, from 1 to 64.

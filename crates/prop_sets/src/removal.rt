@@ -1,6 +1,6 @@
 //! A set without one element.
 ghost use Rattle.std.specs.Prelude.{◌≡◌, ◌<◌, ℕ};
-ghost use Rattle.prop_sets.specs.Laws.{IsMonotone};
+ghost use Rattle.prop_sets.specs.Promises.{IsMonotone};
 ghost use Rattle.prop_sets.specs.Narrowest.{IsNarrowest};
 ghost use Rattle.prop_sets.specs.Others.{IsOther, without_of};
 

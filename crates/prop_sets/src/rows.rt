@@ -1,6 +1,6 @@
 //! Relations between two domains.
 ghost use Rattle.std.specs.Prelude.{◌≡◌, ◌<◌, IfOk};
-ghost use Rattle.prop_sets.specs.Laws.{SamePairsAreOne, IsMonotone, ImageIsNarrowest, CoimageIsNarrowest};
+ghost use Rattle.prop_sets.specs.Promises.{SamePairsAreOne, IsMonotone, ImageIsNarrowest, CoimageIsNarrowest};
 ghost use Rattle.prop_sets.specs.Relation.{Relation, IsWhole, no_pairs, with_pair, AddsPair};
 ghost use Rattle.prop_sets.specs.Images.{image_of, coimage_of, IsInImage, IsInCoimage, HoldsJust};
 
@@ -21,7 +21,7 @@ pub struct Rows {
 
 impl Model for Rows {
     ghost use Rattle.prop_sets.specs.Relation.{Relation};
-    ghost use Rattle.prop_sets.specs.Ties.{AreTied};
+    ghost use Rattle.prop_sets.specs.inner.Ties.{AreTied};
 
     ghost Value = { Relation };
 

@@ -1,7 +1,7 @@
 //! The functions of truth, on informations. Truth is the set kind over the domain 0: element 0 is `yes`, element 1 is `no`.
 ghost use Rattle.std.specs.Prelude.{◌≡◌, ◌↔◌, ◌⊎◌, ◌+◌, ◌*◌, ◌<◌, ◌||◌, cond, true, IsTrue};
 ghost use Rattle.prop_sets.specs.Images.{is_set};
-ghost use Rattle.prop_sets.specs.Laws.{IsMonotoneInOne, IsMonotoneInTwo, IsSoundInOne, IsSoundInTwo};
+ghost use Rattle.prop_sets.specs.Promises.{IsMonotoneInOne, IsMonotoneInTwo, IsSoundInOne, IsSoundInTwo};
 ghost use Rattle.prop_sets.specs.Truth.{IsAnd, IsOr, IsNot, IsLeftByOne, IsLeftByTwo, LeavesJust, leaves, is_nothing, told, and_of, and_back_of, or_of, or_back_of, not_of};
 
 use prop_lattice::{Elements, Info};

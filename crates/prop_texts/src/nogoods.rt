@@ -15,10 +15,12 @@ use std::fmt::Write;
 /// How many nogoods there are, and a line for each.
 fn nogoods_text(alloc: Global, premises: &Premises, store: &Store) -> Result<String, AllocError>
     requires { All (λ nogood. All (λ p. p < length premises.now) nogood) store.now }
-    ensures { IfOk result (λ text. string_bytes text ≡ nogoods_text premises.now store.now) }
+    ensures text { IfOk result (λ text. string_bytes text ≡ nogoods_text premises.now store.now) }
+    ensures in_order { All IsStrictlyIncreasing store.now }
 {
+    let nogoods = store.iter();
     let mut text = format!(in alloc; "nogoods {}", store.len())?;
-    for nogood in store.iter() {
+    for nogood in nogoods {
         let names = support_text(alloc, premises, nogood)?;
         write!(text, "\nnogood:{names}")?;
     }
@@ -31,7 +33,6 @@ pub fn nogoods_reply(alloc: Global, premises: &Premises, store: &Store) -> Reply
     ensures says { Says (answer_of result) (nogoods_text premises.now store.now) }
     ensures in_order { All IsStrictlyIncreasing store.now }
 {
-    store.minimal();
     match nogoods_text(alloc, premises, store) {
         Ok(text) => Reply::Text(text),
         Err(AllocError) => Reply::Refused(Refusal::Memory),

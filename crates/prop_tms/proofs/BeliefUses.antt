@@ -3,7 +3,7 @@ use Rattle.std.proofs.Common.{◌≡◌, ◌∙◌, ◌<◌, ℕ, Bool, true, fa
 use Rattle.std.proofs.lemmas.Bool.Decides.{nat_tests}
 use Rattle.std.proofs.lemmas.List.Folds.{Any-from_list_any, list_any_at}
 use Rattle.std.proofs.lemmas.List.Elements.{recursion_from_All}
-use Rattle.prop_lattice.specs.Laws.{IsInformationOrder}
+use Rattle.prop_lattice.specs.InformationOrder.{IsInformationOrder}
 use Rattle.prop_premises.specs.Sets.{Members, set_of, is_within, is_below, IsBelow, IsSame}
 use Rattle.prop_premises.proofs.WithinLemmas.{within_has, within_from, is_within-same}
 use Rattle.prop_tms.specs.Beliefs.{merge_of_all, believed_of, belief_of, IsLeastBelief, IsLean, Adds}

@@ -1,15 +1,16 @@
 -- Entries that are enough for a value, and of which none can be left out.
-use Rattle.std.proofs.Common.{◌≡◌, ◌≢◌, ◌∙◌, ◌<◌, ℕ, zero, suc, true, List, [], ◌∷◌, ◌++◌, length, take, drop, refl, sym, arith, Contains, All, append_assoc, append-nil}
-use Rattle.std.proofs.lemmas.List.{map-append}
-use Rattle.std.specs.List.{AllByRecursion, list_any, remove}
+use Rattle.std.proofs.Common.{◌≡◌, ◌≢◌, ◌∙◌, ◌<◌, ◌≤◌, ◌+◌, ap, ℕ, zero, suc, true, List, [], ◌∷◌, ◌++◌, length, take, drop, get_or, refl, sym, subst, arith, Contains, All, append_assoc, append-nil}
+use Rattle.std.proofs.lemmas.List.{map-append, length-append, length-take-le, take-append-drop}
+use Rattle.std.proofs.Math.Seq.{take-append_seam}
+use Rattle.std.specs.List.{AllByRecursion, list_any, remove, take-map}
 use Rattle.std.proofs.lemmas.List.Elements.{All-nil, All-cons, All-contains, Contains-push, All-from_recursion, recursion_from_All, All-take, All-drop, All-append}
-use Rattle.prop_lattice.specs.Laws.{IsInformationOrder}
+use Rattle.prop_lattice.specs.InformationOrder.{IsInformationOrder}
 use Rattle.prop_premises.specs.Sets.{Members, set_of, union, is_within, IsSame}
 use Rattle.prop_tms.specs.Beliefs.{merge_of_all, IsLean}
-use Rattle.prop_tms.specs.Gains.{AreGains, entry_of, gained_of}
+use Rattle.prop_tms.specs.inner.Gains.{AreGains, entry_of, gained_of}
 use Rattle.prop_tms.specs.declared.supported.Supported.{Supported}
 use Rattle.prop_tms.specs.declared.gain.Gain.{Gain}
-use Rattle.prop_tms.proofs.MergedLemmas.{merged_below, below_merged, merge_of_all-append, join-bottom, bottom-join, join-assoc, all_first, all_second, all_both}
+use Rattle.prop_tms.proofs.MergedLemmas.{merged_below, below_merged, merge_of_all-append, merge_of_all-push, join-bottom, bottom-join, join-assoc, all_first, all_second, all_both}
 
 -- Some of the entries that were looked at were chosen: with those that are left to look at they give the value, and none of them can be left out.
 pub record IsThinned {V : Type 0} (bottom : V) (join : V → V → V) (entries : List (Supported V)) (w : Members) (v : V) (left : List (Supported V)) (after : V) (support : List ℕ) : Type 0 where
@@ -20,6 +21,12 @@ pub record IsThinned {V : Type 0} (bottom : V) (join : V → V → V) (entries :
   pub whole : merge_of_all bottom join (left ++ chosen) ≡ v
   pub needed : (k : ℕ) → k < length chosen → merge_of_all bottom join (left ++ remove chosen k) ≢ v
   pub joined : IsSame (set_of support) (λ p. list_any (λ e. set_of e.support p) chosen)
+
+-- The entries give the value with what comes after them, and without the last of them they do not.
+pub record AreEnough {V : Type 0} (below : V → V → Type 0) (bottom : V) (join : V → V → V) (row : List (Gain V)) (after v : V) : Type 0 where
+  pub gains : AreGains join bottom row
+  pub says : below v (join (merge_of_all bottom join (gained_of row)) after)
+  pub needed : (front : List (Gain V)) (g : Gain V) → row ≡ front ++ g ∷ [] → ¬ (below v (join (merge_of_all bottom join (gained_of front)) after))
 
 module _ {V : Type 0} {below : V → V → Type 0} {bottom top : V} {join : V → V → V} (laws : IsInformationOrder below bottom top join) where
   under : (a b : List (Supported V)) → ((P : Supported V → Type 0) → AllByRecursion P b → AllByRecursion P a) → below (merge_of_all bottom join a) (merge_of_all bottom join b)
@@ -32,10 +39,10 @@ module _ {V : Type 0} {below : V → V → Type 0} {bottom top : V} {join : V �
       let all = All-from_recursion P c h in
       recursion_from_All P (remove c k) (All-append P (take k c) (drop (suc k) c) (All-take P k c all) (All-drop P (suc k) c all))
 
-  -- without one entry they say no more
-  less_without : (left c : List (Supported V)) (e : Supported V) → below (merge_of_all bottom join (left ++ c)) (merge_of_all bottom join ((left ++ e ∷ []) ++ c))
-  less_without left c e = under (left ++ c) ((left ++ e ∷ []) ++ c) (λ P h.
-      all_both P left c (all_first P left (e ∷ []) (all_first P (left ++ e ∷ []) c h)) (all_second P (left ++ e ∷ []) c h))
+  -- without some entries they say no more
+  less_without : (left c rest : List (Supported V)) → below (merge_of_all bottom join (left ++ c)) (merge_of_all bottom join ((left ++ rest) ++ c))
+  less_without left c rest = under (left ++ c) ((left ++ rest) ++ c) (λ P h.
+      all_both P left c (all_first P left rest (all_first P (left ++ rest) c h)) (all_second P (left ++ rest) c h))
 
   less_removed : (left c : List (Supported V)) (k : ℕ) → below (merge_of_all bottom join (left ++ remove c k)) (merge_of_all bottom join (left ++ c))
   less_removed left c k = under (left ++ remove c k) (left ++ c) (λ P h. all_both P left (remove c k) (all_first P left c h) (all_remove P c k (all_second P left c h)))
@@ -54,25 +61,29 @@ module _ {V : Type 0} {below : V → V → Type 0} {bottom top : V} {join : V �
   split : (left c : List (Supported V)) (after : V) → after ≡ merge_of_all bottom join c → merge_of_all bottom join (left ++ c) ≡ join (merge_of_all bottom join left) after
   split left c after h = rw h (merge_of_all-append laws left c)
 
-  -- an entry goes, since the others give the value too
-  pub IsThinned-skip : (entries : List (Supported V)) (w : Members) (v : V) (left : List (Supported V)) (e : Supported V) (after : V) (support : List ℕ) →
-      IsThinned bottom join entries w v (left ++ e ∷ []) after support → below v (join (merge_of_all bottom join left) after) → IsThinned bottom join entries w v left after support
-  IsThinned-skip entries w v left e after support t h =
+  -- those that are left and those that were chosen say the value
+  pub IsThinned-says : (entries : List (Supported V)) (w : Members) (v : V) (left : List (Supported V)) (after : V) (support : List ℕ) → IsThinned bottom join entries w v left after support → below v (join (merge_of_all bottom join left) after)
+  IsThinned-says entries w v left after support t = rw (← split left t.chosen after t.after_is, t.whole) (laws.reflexive v)
+
+  -- entries go, since the others give the value too
+  pub IsThinned-skip : (entries : List (Supported V)) (w : Members) (v : V) (left rest : List (Supported V)) (after : V) (support : List ℕ) →
+      IsThinned bottom join entries w v (left ++ rest) after support → below v (join (merge_of_all bottom join left) after) → IsThinned bottom join entries w v left after support
+  IsThinned-skip entries w v left rest after support t h =
       let c = t.chosen in
-      let rest = merge_of_all bottom join (left ++ c) in
-      let less : below rest v = rw t.whole at (less_without left c e) in
-      let more : below v rest = rw (split left c after t.after_is) h in
+      let now = merge_of_all bottom join (left ++ c) in
+      let less : below now v = rw t.whole at (less_without left c rest) in
+      let more : below v now = rw (split left c after t.after_is) h in
       record {
         chosen = c;
         among = t.among;
         believed = t.believed;
         after_is = t.after_is;
-        whole = laws.antisymmetric rest v less more;
+        whole = laws.antisymmetric now v less more;
         needed = λ k l same.
-            let now = merge_of_all bottom join ((left ++ e ∷ []) ++ remove c k) in
-            let up : below v now = rw same at (less_without left (remove c k) e) in
-            let down : below now v = rw t.whole at (less_removed (left ++ e ∷ []) c k) in
-            t.needed k l (laws.antisymmetric now v down up);
+            let all = merge_of_all bottom join ((left ++ rest) ++ remove c k) in
+            let up : below v all = rw same at (less_without left (remove c k) rest) in
+            let down : below all v = rw t.whole at (less_removed (left ++ rest) c k) in
+            t.needed k l (laws.antisymmetric all v down up);
         joined = t.joined;
       }
 
@@ -107,25 +118,6 @@ module _ {V : Type 0} {below : V → V → Type 0} {bottom top : V} {join : V �
     joined = t.joined;
   }
 
-  -- those that were chosen say the value by themselves: all that are left go
-  pub IsLean-early : (entries : List (Supported V)) (w : Members) (v : V) (left : List (Supported V)) (after : V) (support : List ℕ) → IsThinned bottom join entries w v left after support → below v after → IsLean bottom join entries w v support
-  IsLean-early entries w v left after support t says =
-      let c = t.chosen in
-      let all = merge_of_all bottom join c in
-      let less : below all v = rw t.whole at (under c (left ++ c) (λ P h. all_second P left c h)) in
-      record {
-        chosen = c;
-        among = t.among;
-        believed = t.believed;
-        merged = laws.antisymmetric all v less (rw t.after_is at says);
-        needed = λ k l same.
-            let now = merge_of_all bottom join (left ++ remove c k) in
-            let up : below v now = rw same at (under (remove c k) (left ++ remove c k) (λ P h. all_second P left (remove c k) h)) in
-            let down : below now v = rw t.whole at (less_removed left c k) in
-            t.needed k l (laws.antisymmetric now v down up);
-        joined = t.joined;
-      }
-
   -- ---- entries in a row, each with what those before it say
 
   AreGains-push : (before : V) (gains : List (Gain V)) (g : Gain V) → AreGains join before gains → g.before ≡ join before (merge_of_all bottom join (gained_of gains)) → AreGains join before (gains ++ g ∷ [])
@@ -145,6 +137,21 @@ module _ {V : Type 0} {below : V → V → Type 0} {bottom top : V} {join : V �
   before_last before (x ∷ gains) g h =
       before_last (join before x.entry.value) gains g h.1 ∙ sym (join-assoc laws before x.entry.value (merge_of_all bottom join (gained_of gains)))
 
+  pub AreGains-take : (before : V) (n : ℕ) (gains : List (Gain V)) → AreGains join before gains → AreGains join before (take n gains)
+  AreGains-take before zero gains h = tt
+  AreGains-take before (suc n) [] h = tt
+  AreGains-take before (suc n) (x ∷ gains) h = (h.0, AreGains-take (join before x.entry.value) n gains h.1)
+
+  before_at : (before : V) (gains : List (Gain V)) (n : ℕ) (g : Gain V) → n < length gains → get_or gains n g ≡ g → AreGains join before gains → g.before ≡ join before (merge_of_all bottom join (gained_of (take n gains)))
+  before_at before [] n g l is h = absurd (omega (arith, l))
+  before_at before (x ∷ gains) zero g l is h = ap (λ (y : Gain V). y.before) (sym is) ∙ h.0 ∙ sym (join-bottom laws before)
+  before_at before (x ∷ gains) (suc n) g l is h =
+      before_at (join before x.entry.value) gains n g (omega (arith, l)) is h.1 ∙ sym (join-assoc laws before x.entry.value (merge_of_all bottom join (gained_of (take n gains))))
+
+  -- each tells what those before it say together
+  pub AreGains-at : (gains : List (Gain V)) (n : ℕ) (g : Gain V) → n < length gains → get_or gains n g ≡ g → AreGains join bottom gains → g.before ≡ merge_of_all bottom join (gained_of (take n gains))
+  AreGains-at gains n g l is h = before_at bottom gains n g l is h ∙ bottom-join laws (merge_of_all bottom join (gained_of (take n gains)))
+
   pub AreGains-last : (gains : List (Gain V)) (g : Gain V) → AreGains join bottom (gains ++ g ∷ []) → g.before ≡ merge_of_all bottom join (gained_of gains)
   AreGains-last gains g h = before_last bottom gains g h ∙ bottom-join laws (merge_of_all bottom join (gained_of gains))
 
@@ -156,3 +163,40 @@ All-front P xs x h = All-from_recursion P xs (all_first P xs (x ∷ []) (recursi
 
 pub All-last : {X : Type 0} (P : X → Type 0) (xs : List X) (x : X) → All P (xs ++ x ∷ []) → P x
 All-last P xs x h = All-contains P (xs ++ x ∷ []) x h (Contains-push xs x)
+
+-- An entry that is the last of the first n is one of the row, and those before it are the first of all.
+pub last_of_first : {X : Type 0} (xs front : List X) (x : X) (n : ℕ) → n ≤ length xs → take n xs ≡ front ++ x ∷ [] → (length front + 1 ≡ n) × (take (length front) xs ≡ front)
+last_of_first xs front x n l is =
+    let size = sym (length-take-le n xs l) ∙ ap length is ∙ length-append front (x ∷ []) in
+    let all : xs ≡ front ++ x ∷ drop n xs = sym (take-append-drop n xs) ∙ ap (λ (ys : List _). ys ++ drop n xs) is ∙ append_assoc front (x ∷ []) (drop n xs) in
+    (sym size, ap (take (length front)) all ∙ take-append_seam front (x ∷ drop n xs))
+
+-- of the first entries as many as are enough
+pub first_enough : {V : Type 0} {below : V → V → Type 0} {bottom top : V} {join : V → V → V} (laws : IsInformationOrder below bottom top join) (gains : List (Gain V)) (n : ℕ) (after v : V) → AreGains join bottom gains → n ≤ length gains →
+    below v (join (merge_of_all bottom join (gained_of (take n gains))) after) → ((k : ℕ) → k + 1 ≡ n → ¬ (below v (join (merge_of_all bottom join (gained_of (take k gains))) after))) → AreEnough below bottom join (take n gains) after v
+first_enough {below = below} {bottom = bottom} {join = join} laws gains n after v h l says needed = record {
+  gains = AreGains-take laws bottom n gains h;
+  says = says;
+  needed = λ front g is same.
+      let at = last_of_first gains front g n l is in
+      needed (length front) at.0 (rw at.1 same);
+}
+
+-- an entry that is kept says what it said
+pub says_kept : {V : Type 0} {below : V → V → Type 0} {bottom top : V} {join : V → V → V} (laws : IsInformationOrder below bottom top join) (left : List (Gain V)) (gain : Gain V) (after v : V) →
+    below v (join (merge_of_all bottom join (gained_of (left ++ gain ∷ []))) after) → below v (join (merge_of_all bottom join (gained_of left)) (join gain.entry.value after))
+says_kept {below = below} {bottom = bottom} {join = join} laws left gain after v h =
+    let front = merge_of_all bottom join (gained_of left) in
+    let whole : merge_of_all bottom join (gained_of (left ++ gain ∷ [])) ≡ join front gain.entry.value = ap (merge_of_all bottom join) (gained_of-push left gain) ∙ merge_of_all-push laws (gained_of left) (entry_of gain.entry) in
+    subst (below v) (ap (λ x. join x after) whole ∙ sym (join-assoc laws front gain.entry.value after)) h
+
+pub All-first : {V : Type 0} (P : Supported V → Type 0) (gains : List (Gain V)) (n : ℕ) → All P (gained_of gains) → All P (gained_of (take n gains))
+All-first P gains n h = subst (All P) (take-map (λ (x : Gain _). entry_of x.entry) n gains) (All-take P n (gained_of gains) h)
+
+-- the last entries go, since those before them and those that were chosen give the value too
+pub thinned_first : {V : Type 0} {below : V → V → Type 0} {bottom top : V} {join : V → V → V} (laws : IsInformationOrder below bottom top join) (all : List (Supported V)) (w : Members) (v : V) (gains : List (Gain V)) (n : ℕ) (after : V)
+    (support : List ℕ) → IsThinned bottom join all w v (gained_of gains) after support → below v (join (merge_of_all bottom join (gained_of (take n gains))) after) → IsThinned bottom join all w v (gained_of (take n gains)) after support
+thinned_first {bottom = bottom} {join = join} laws all w v gains n after support t says =
+    let entry = λ (x : Gain _). entry_of x.entry in
+    let parts : gained_of gains ≡ gained_of (take n gains) ++ gained_of (drop n gains) = ap gained_of (sym (take-append-drop n gains)) ∙ map-append entry (take n gains) (drop n gains) in
+    IsThinned-skip laws all w v (gained_of (take n gains)) (gained_of (drop n gains)) after support (subst (λ es. IsThinned bottom join all w v es after support) parts t) says

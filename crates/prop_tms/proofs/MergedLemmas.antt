@@ -1,7 +1,7 @@
 -- What merged values know, in any order of information.
 use Rattle.std.proofs.Common.{◌≡◌, ◌∙◌, List, [], ◌∷◌, ◌++◌, ap}
 use Rattle.std.specs.List.{AllByRecursion}
-use Rattle.prop_lattice.specs.Laws.{IsInformationOrder}
+use Rattle.prop_lattice.specs.InformationOrder.{IsInformationOrder}
 use Rattle.prop_tms.specs.Beliefs.{merge_of_all}
 use Rattle.prop_tms.specs.declared.supported.Supported.{Supported}
 

@@ -4,7 +4,8 @@ use Rattle.std.specs.List.{list_any}
 use Rattle.std.proofs.lemmas.List.Elements.{filter-append}
 use Rattle.prop_premises.specs.Sets.{Members, is_within}
 use Rattle.prop_tms.specs.Beliefs.{merge_of_all, belief_of, believed_of}
-use Rattle.prop_tms.specs.Values.{entries_of, entries_of_one, is_in_one}
+use Rattle.prop_tms.specs.Values.{entries_of, entries_of_one}
+use Rattle.prop_tms.specs.inner.Values.{is_in_one}
 use Rattle.prop_tms.specs.declared.values.Valued.{Valued}
 
 or_none : (a b : Bool) → (a || b) ≡ false → (a ≡ false) × (b ≡ false)

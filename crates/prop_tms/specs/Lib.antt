@@ -1,4 +1,4 @@
 pub mod Beliefs
-pub mod Gains
 pub mod Kept
 pub mod Values
+pub mod inner

@@ -2,7 +2,8 @@
 ghost use Rattle.std.specs.Prelude.{◌≡◌, not, filter};
 ghost use Rattle.std.specs.List.{list_any};
 ghost use Rattle.prop_premises.specs.Sets.{set_of};
-ghost use Rattle.prop_tms.specs.Values.{entries_of, values_of};
+ghost use Rattle.prop_tms.specs.Values.{entries_of};
+ghost use Rattle.prop_tms.specs.inner.Values.{values_of};
 
 use crate::values::Valued;
 use prop_lattice::Partial;

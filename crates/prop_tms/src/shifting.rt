@@ -3,7 +3,8 @@ ghost use Rattle.std.specs.Prelude.{◌≡◌, ◌≢◌, IsTrue, false};
 ghost use Rattle.std.specs.List.{list_any};
 ghost use Rattle.prop_premises.specs.Sets.{set_of};
 ghost use Rattle.prop_tms.specs.Beliefs.{belief_of};
-ghost use Rattle.prop_tms.specs.Values.{entries_of, is_in_one};
+ghost use Rattle.prop_tms.specs.Values.{entries_of};
+ghost use Rattle.prop_tms.specs.inner.Values.{is_in_one};
 
 use crate::strongest::belief;
 use crate::values::{Valued, is_same};

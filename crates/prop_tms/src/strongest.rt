@@ -1,9 +1,9 @@
 //! What the believed entries say together, and few premises that are enough for it.
-ghost use Rattle.std.specs.Prelude.{◌≡◌, ◌≤◌, [], length, map, option_to_list, All, Contains, IsTrue, IsOk, IfOk, IfSome, IsSomeAnd};
+ghost use Rattle.std.specs.Prelude.{◌≡◌, ◌≤◌, ◌+◌, ℕ, [], length, map, take, option_to_list, All, Contains, IsTrue, IsOk, IfOk, IfSome, IsSomeAnd};
 ghost use Rattle.std.specs.List.{list_any};
 ghost use Rattle.prop_premises.specs.Sets.{Members, set_of, is_within};
 ghost use Rattle.prop_tms.specs.Beliefs.{belief_of, believed_of, merge_of_all, IsLean, IsShort};
-ghost use Rattle.prop_tms.specs.Gains.{AreGains, AreRanked, entry_of, gained_of};
+ghost use Rattle.prop_tms.specs.inner.Gains.{AreGains, AreRanked, entry_of, gained_of};
 ghost use Rattle.prop_tms.specs.Values.{entries_of};
 ghost use Rattle.prop_tms.specs.declared.supported.Supported.{Supported};
 
@@ -23,17 +23,28 @@ pub(crate) fn believes_any(worldview: &Worldview, supports: &[PremiseSet]) -> bo
     supports.iter().any(|support| worldview.believes(support))
 }
 
-/// What the believed entries say together.
-pub(crate) fn belief<V: Partial>(values: &[Valued<V>], worldview: &Worldview) -> V
-    ensures { result ≡ belief_of V.bottom V.join (set_of worldview.now) (entries_of values.now) }
+/// What the believed entries say together with a value. A value that says nothing new is passed by, and its supports are not looked at.
+fn said_with<V: Partial>(values: &[Valued<V>], worldview: &Worldview, first: V) -> V
+    ensures { result ≡ V.join first (belief_of V.bottom V.join (set_of worldview.now) (entries_of values.now)) }
 {
-    let mut merged = V::nothing();
+    let mut merged = first;
     for valued in values {
-        if believes_any(worldview, &valued.supports) {
+        if !merged.implies(valued.value) && believes_any(worldview, &valued.supports) {
             merged = merged.merge(valued.value);
         }
     }
     merged
+}
+
+/// What the believed entries say together. The value added last is looked at first: it often says more than those before it.
+pub(crate) fn belief<V: Partial>(values: &[Valued<V>], worldview: &Worldview) -> V
+    ensures { result ≡ belief_of V.bottom V.join (set_of worldview.now) (entries_of values.now) }
+{
+    let first = match values.last() {
+        Some(newest) if believes_any(worldview, &newest.supports) => newest.value,
+        _ => V::nothing(),
+    };
+    said_with(values, worldview, first)
 }
 
 /// What the entries of the row say together: what those before the last say, with what the last says.
@@ -69,8 +80,30 @@ fn alone<'a, V: Partial>(gains: &[Gain<'a, V>], value: V) -> Option<Entry<'a, V>
     None
 }
 
+/// How many entries from the front of the row are enough for the value, together with another one: with one less they aren't. It looks at
+/// few of them, always at the one in the middle of those that it can't tell yet.
+fn enough<V: Partial>(gains: &[Gain<'_, V>], other: V, value: V) -> usize
+    requires gains { AreGains V.join V.bottom gains.now }
+    requires all { V.below value (V.join (merge_of_all V.bottom V.join (gained_of gains.now)) other) }
+    ensures bound { result ≤ length gains.now }
+    ensures says { V.below value (V.join (merge_of_all V.bottom V.join (gained_of (take result gains.now))) other) }
+    ensures needed { (k : ℕ) → k + 1 ≡ result → ¬ (V.below value (V.join (merge_of_all V.bottom V.join (gained_of (take k gains.now))) other)) }
+{
+    let mut low = 0;
+    let mut high = gains.len();
+    while low < high {
+        let middle = low + (high - low) / 2;
+        if gains[middle].before.merge(other).implies(value) {
+            high = middle;
+        } else {
+            low = middle + 1;
+        }
+    }
+    low
+}
+
 /// The premises of entries of the row that say this together, as all of them do, and of which none can be left out. From the last back,
-/// an entry goes where those before it and those kept say as much; so do all that are left, once those kept say so alone.
+/// an entry goes where those before it and those kept say as much.
 fn thinned<V: Partial>(
     alloc: Global,
     mut gains: Vec<Gain<'_, V>>,
@@ -84,14 +117,11 @@ fn thinned<V: Partial>(
 {
     let mut after = V::nothing();
     let mut support = PremiseSet::empty(alloc);
+    gains.truncate(enough(&gains, after, value));
     while let Some(gain) = gains.pop() {
-        if !gain.before.merge(after).implies(value) {
-            after = gain.entry.value.merge(after);
-            support = gain.entry.support.union(&support)?;
-            if after.implies(value) {
-                return Ok(support);
-            }
-        }
+        after = gain.entry.value.merge(after);
+        support = gain.entry.support.union(&support)?;
+        gains.truncate(enough(&gains, after, value));
     }
     Ok(support)
 }

@@ -4,7 +4,8 @@ ghost use Rattle.std.specs.List.{list_any};
 ghost use Rattle.prop_premises.specs.Sets.{Members, set_of, is_within, is_below, is_at_most_one_of, IsBelow};
 ghost use Rattle.prop_tms.specs.Beliefs.{belief_of, IsLeastBelief, Subsumes, NoneSubsumed, NoneAlike, IsNeedless, Adds, IsLean, IsShort, Trims, AreNeeded, joined_with};
 ghost use Rattle.prop_tms.specs.Kept.{IsGrownBy};
-ghost use Rattle.prop_tms.specs.Values.{entries_of, AreKept};
+ghost use Rattle.prop_tms.specs.Values.{entries_of};
+ghost use Rattle.prop_tms.specs.inner.Values.{AreKept};
 ghost use Rattle.prop_tms.specs.declared.supported.Supported.{Supported};
 
 use crate::purging::drop_resting;

@@ -3,7 +3,8 @@ ghost use Rattle.std.specs.Prelude.{◌≡◌, ◌≢◌, ◌<◌, ◌+◌, ◌^
 ghost use Rattle.std.specs.List.{remove};
 ghost use Rattle.prop_premises.specs.Sets.{set_of, is_at_most_one_of};
 ghost use Rattle.prop_tms.specs.Beliefs.{belief_of, Trims, AreNeeded};
-ghost use Rattle.prop_tms.specs.Values.{entries_of, place_of, AreKept};
+ghost use Rattle.prop_tms.specs.Values.{entries_of};
+ghost use Rattle.prop_tms.specs.inner.Values.{place_of, AreKept};
 ghost use Rattle.prop_tms.specs.declared.values.Valued.{Valued};
 
 use crate::strongest::{belief, believes_any};

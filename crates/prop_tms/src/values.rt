@@ -4,7 +4,8 @@ ghost use Rattle.std.specs.List.{list_any};
 ghost use Rattle.prop_premises.specs.Sets.{set_of, is_within, is_alike, is_below};
 ghost use Rattle.prop_tms.specs.Beliefs.{Subsumes, IsNeedless, joined_with};
 ghost use Rattle.prop_tms.specs.Kept.{IsLeftWithout};
-ghost use Rattle.prop_tms.specs.Values.{entries_of, entries_of_one, values_of, AreApart, NoneBare, NoneBareBut, NoneEmptied, HasRoomOf};
+ghost use Rattle.prop_tms.specs.Values.{entries_of, entries_of_one};
+ghost use Rattle.prop_tms.specs.inner.Values.{values_of, AreApart, NoneBare, NoneBareBut, NoneEmptied, HasRoomOf};
 ghost use Rattle.prop_tms.specs.declared.supported.Supported.{Supported};
 ghost use Rattle.prop_tms.specs.declared.values.Valued.{Valued};
 

@@ -12,11 +12,11 @@ use Rattle.std.proofs.lemmas.List.Quantifiers.{position-Some}
 use Rattle.std.proofs.lemmas.Nat.Bits.{bit_at-zero, bit_at_set_same, bit_at_set_other}
 use Rattle.std.proofs.lemmas.Option.{slice_get-get_or}
 use Rattle.std.proofs.lemmas.Slice.Eq.{bytes_eq-Decides}
-use Rattle.prop_lattice.specs.PartLaws.{same_parts}
-use Rattle.prop_lattice.specs.Parts.{HasBitsOf}
+use Rattle.prop_lattice.specs.laws.PartLaws.{same_parts}
+use Rattle.prop_lattice.specs.laws.Parts.{HasBitsOf}
 use Rattle.prop_lattice.specs.declared.refusal.Refusal.TheVariants.{NotInTheDomain, EmptyValue}
 use Rattle.prop_lattice.specs.Ends.{elements_from}
-use Rattle.prop_sets.specs.ChosenLaws.{bits_where-has, bits_where-passes}
+use Rattle.prop_sets.specs.laws.ChosenLaws.{bits_where-has, bits_where-passes}
 use Rattle.prop_sets.specs.Names.{AreElements}
 use Rattle.prop_sets.proofs.NameLemmas.{position_at}
 use Rattle.prop_language.specs.Names.{is_among}

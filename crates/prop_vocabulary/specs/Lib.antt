@@ -5,4 +5,4 @@ pub mod Pairs
 pub mod Vocabulary
 pub mod Refusing
 pub mod Texts
-pub mod Laws
+pub mod Promises

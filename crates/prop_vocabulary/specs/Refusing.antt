@@ -1,23 +1,17 @@
 -- For what a declaration is refused: each condition by itself, and which of them comes first.
-use Rattle.std.specs.Prelude.{ℕ, List, [], ◌∷◌, Bool, cond, ◌||◌, ◌&&◌, nat_le, nat_lt, Option, Some, None, length, is_some, is_none, unwrap_or}
-use Rattle.prop_lattice.specs.Refusals.{most}
+use Rattle.std.specs.Prelude.{◌≡◌, ◌⊎◌, ℕ, List, [], ◌∷◌, Bool, cond, ◌||◌, ◌&&◌, nat_le, nat_lt, Option, Some, None, length, is_some, is_none, unwrap_or}
+use Rattle.prop_lattice.specs.Refusals.{most, when, first_of}
 use Rattle.prop_lattice.specs.declared.refusal.Limit.TheVariants.{Domains, Elements, Relations, Symbols}
 use Rattle.prop_lattice.specs.declared.refusal.Refusal.{Refusal}
-use Rattle.prop_lattice.specs.declared.refusal.Refusal.TheVariants.{NameTaken, NoSuchDomain, NotInTheDomain, LimitReached}
+use Rattle.prop_lattice.specs.declared.refusal.Refusal.TheVariants.{NameTaken, NoSuchDomain, NotInTheDomain, LimitReached, Memory}
 use Rattle.prop_sets.specs.Names.{has_repeat}
 use Rattle.prop_vocabulary.specs.Names.{number_in}
 use Rattle.prop_vocabulary.specs.Pairs.{is_outside}
 use Rattle.prop_vocabulary.specs.Vocabulary.{Vocabulary, domain_number, elements_of}
 
--- this refusal, where the condition holds
-abbrev pub when : Refusal → Bool → Option Refusal
-when refusal holds = cond holds (Some refusal) None
-
--- the first refusal that there is
-abbrev pub first_of : List (Option Refusal) → Option Refusal
-first_of [] = None
-first_of (None ∷ rest) = first_of rest
-first_of (Some refusal ∷ rest) = Some refusal
+-- what is said where something is not done: why it is refused, or that memory is
+abbrev pub IsReason : Option Refusal → Refusal → Type 0
+IsReason why refusal = (why ≡ Some refusal) ⊎ (refusal ≡ Memory)
 
 -- ---- a domain
 

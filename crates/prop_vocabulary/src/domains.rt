@@ -1,7 +1,7 @@
 //! The domains of a vocabulary.
 ghost use Rattle.std.specs.Prelude.{◌≡◌, ◌<◌, ◌⊎◌, length, None, Some, Err, IfSome, IfErr, OnOk, OnErr, MatchResult};
 ghost use Rattle.prop_sets.specs.Names.{texts_of, AreElements};
-ghost use Rattle.prop_vocabulary.specs.Vocabulary.{domain_number, elements_of, with_domain, IsWhole};
+ghost use Rattle.prop_vocabulary.specs.Vocabulary.{domain_number, elements_of, with_domain};
 ghost use Rattle.prop_vocabulary.specs.Refusing.{domain_refusal};
 
 use crate::growth::push_named;
@@ -12,14 +12,6 @@ use prop_sets::domain::has_repeat;
 use std::alloc::AllocError;
 
 impl Vocabulary {
-    /// How many domains there are, the one of truth among them.
-    pub fn domain_count(&self) -> usize
-        ensures count { result ≡ length self.now.domains }
-        ensures whole { IsWhole self.now }
-    {
-        self.domains.len()
-    }
-
     /// The number of the declared domain with this name.
     pub fn domain_number(&self, name: &str) -> Option<u16>
         ensures number { result ≡ domain_number self.now name.now }
@@ -38,6 +30,15 @@ impl Vocabulary {
         &self.domains[usize::from(number)]
     }
 
+    /// The domain of truth, which has the number 0.
+    pub fn truth(&self) -> &Domain
+        ensures there { 0 < length self.now.domains }
+        ensures elements { result.now ≡ elements_of self.now 0 }
+        ensures apart { AreElements result.now }
+    {
+        &self.domains[0]
+    }
+
     /// Declares a domain with these elements, in order; it has the next number.
     ///
     /// `NameTaken` where a declared domain has the name or an element stands twice; then `LimitReached` where there
@@ -52,16 +53,14 @@ impl Vocabulary {
         ensures why { IfErr result (λ e. (domain_refusal self.old name.now (texts_of elements.now) ≡ Some e) ⊎ (e ≡ Refusal.Memory)) }
     {
         let domain = self.domain_to_declare(name, elements)?;
-        match push_named(
+        push_named(
             self.alloc,
             &mut self.domain_names,
             &mut self.domains,
             name,
             domain,
-        ) {
-            Ok(()) => Ok(()),
-            Err(AllocError) => Err(Refusal::Memory),
-        }
+        )?;
+        Ok(())
     }
 
     /// The domain with these elements, where it may be declared with this name.

@@ -1,7 +1,7 @@
 //! The relations of a vocabulary.
 ghost use Rattle.std.specs.Prelude.{◌≡◌, ◌<◌, ◌⊎◌, length, None, Some, Err, IfSome, IfErr, IfOk, OnOk, OnErr, MatchResult, option_copied};
 ghost use Rattle.prop_sets.specs.Relation.{no_pairs};
-ghost use Rattle.prop_vocabulary.specs.Laws.{HaveJustTheirPairs};
+ghost use Rattle.prop_vocabulary.specs.Promises.{HaveJustTheirPairs};
 ghost use Rattle.prop_vocabulary.specs.Pairs.{texts_of_pairs};
 ghost use Rattle.prop_vocabulary.specs.Vocabulary.{elements_of, side_at, domain_number, relation_named, relation_between, relation_of, with_relation, IsSideOf, HasSides};
 ghost use Rattle.prop_vocabulary.specs.Refusing.{pairs_refusal, relation_refusal};
@@ -43,16 +43,14 @@ impl Vocabulary {
         ensures why { IfErr result (λ e. (relation_refusal self.old name.now from.now to.now (texts_of_pairs pairs.now) ≡ Some e) ⊎ (e ≡ Refusal.Memory)) }
     {
         let relation = self.relation_to_declare(name, from, to, pairs)?;
-        match push_named(
+        push_named(
             self.alloc,
             &mut self.relation_names,
             &mut self.relations,
             name,
             relation,
-        ) {
-            Ok(()) => Ok(()),
-            Err(AllocError) => Err(Refusal::Memory),
-        }
+        )?;
+        Ok(())
     }
 
     /// The relation with these pairs, where it may be declared with this name.
@@ -74,10 +72,7 @@ impl Vocabulary {
         if self.relation_names.len() >= Limit::Relations.most() {
             return Err(Refusal::LimitReached(Limit::Relations));
         }
-        match self.relation_with(first, second, pairs) {
-            Ok(relation) => Ok(relation),
-            Err(AllocError) => Err(Refusal::Memory),
-        }
+        Ok(self.relation_with(first, second, pairs)?)
     }
 
     /// The numbers of two declared domains, where each word of the pairs is an element of its domain. It takes no memory.

@@ -1,7 +1,7 @@
 //! The symbols of a vocabulary.
 ghost use Rattle.std.specs.Prelude.{◌≡◌, ◌<◌, ◌⊎◌, length, take, slice_get, None, Some, Ok, Err, IfSome, IfOk, IfErr, OnOk, OnErr};
 ghost use Rattle.prop_vocabulary.specs.Names.{number_in};
-ghost use Rattle.prop_vocabulary.specs.Vocabulary.{symbol_number, with_symbol, with_first_symbols};
+ghost use Rattle.prop_vocabulary.specs.Vocabulary.{symbol_number, with_symbol, with_first_symbols, IsWhole};
 ghost use Rattle.prop_vocabulary.specs.Refusing.{symbol_refusal};
 
 use crate::vocabulary::Vocabulary;
@@ -11,7 +11,8 @@ use std::alloc::AllocError;
 impl Vocabulary {
     /// How many symbols there are.
     pub fn symbol_count(&self) -> usize
-        ensures { result ≡ length self.now.symbols }
+        ensures count { result ≡ length self.now.symbols }
+        ensures whole { IsWhole self.now }
     {
         self.symbols.len()
     }
@@ -66,10 +67,8 @@ impl Vocabulary {
         if number >= Limit::Symbols.most() {
             return Err(Refusal::LimitReached(Limit::Symbols));
         }
-        match self.symbols.push(self.alloc, name) {
-            Ok(()) => Ok(number as u32),
-            Err(AllocError) => Err(Refusal::Memory),
-        }
+        self.symbols.push(self.alloc, name)?;
+        Ok(number as u32)
     }
 
     /// Takes all symbols back but the first `count`: those that a command made which is then refused. Takes no memory.

@@ -1,5 +1,5 @@
 -- Two sessions that are given the same lines agree.
-use Rattle.std.proofs.Common.{◌≡◌, ◌≢◌, ◌∙◌, ◌⊎◌, ℕ, zero, suc, List, [], ◌∷◌, codes, Option, Some, None, Result, Ok, Err, IsTrue, inl, inr, refl, sym, ap}
+use Rattle.std.proofs.Common.{◌≡◌, ◌≢◌, ◌∙◌, ◌⊎◌, ℕ, zero, suc, List, [], ◌∷◌, codes, Option, Some, None, Result, Ok, Err, IsTrue, inl, inr, refl, sym, ap, subst}
 use Rattle.std.proofs.lemmas.List.Elements.{All-head, All-tail}
 use Rattle.prop_lattice.specs.declared.info.Info.{Info}
 use Rattle.prop_lattice.specs.declared.refusal.Refusal.{Refusal}
@@ -14,7 +14,7 @@ use Rattle.prop_cells.proofs.ProblemLaws.{least_unique}
 use Rattle.prop_vocabulary.specs.Cells.{cell_named}
 use Rattle.prop_language.specs.Commands as commands
 use Rattle.prop_language.specs.Commands.{Command}
-use Rattle.prop_language.specs.Reading.{reading}
+use Rattle.prop_language.proofs.ReadingLaws.{one_reading}
 use Rattle.prop_texts.specs.Texts.{equation, because}
 use Rattle.prop_engine.specs.Answers.{Answer, Text, Refused}
 use Rattle.prop_engine.specs.Transcripts.{Run}
@@ -22,7 +22,7 @@ use Rattle.prop_workbench.specs.Machine.{State, naming, text_at, problem_in, use
 use Rattle.prop_workbench.specs.Refusing.{refusal_of}
 use Rattle.prop_workbench.specs.Effects.{effect}
 use Rattle.prop_workbench.specs.Running.{named_by, Settled, MayEnd, Replies, IsRest, IsValueReply, IsExplainedReply}
-use Rattle.prop_workbench.specs.Steps.{Runs, Lists, Changes, CarriesUnless, Follows}
+use Rattle.prop_workbench.specs.Steps.{Runs, Lists, Changes, CarriesUnless, Follows, Step}
 use Rattle.prop_workbench.specs.Engine.{workbench}
 use Rattle.prop_workbench.specs.Agreeing.{AreAlike, HaveMemory, RunsMeet, AnswersMeet, IsCoreMark, SayOneValue, SettledTextsMeet, SettledIsFree}
 use Rattle.prop_workbench.proofs.NamingLaws.{refusal_alike, effect_alike}
@@ -79,8 +79,12 @@ follows_meet library s t first second (Ok (Some command)) answer other steps oth
 follows_meet library s t first second (Ok (Some command)) answer other steps others e (inl r) (inr q) n m = absurd (m q.answer_is)
 follows_meet library s t first second (Ok (Some command)) answer other steps others e (inr r) q n m = absurd (n r.answer_is)
 
+steps_meet : (library : List Stored) (s t first second : State) (line : List ℕ) (answer other : Answer) (steps others : ℕ) → AreAlike s t → Step library s line answer first steps → Step library t line other second others → answer ≢ Refused Memory → other ≢ Refused Memory → Meet first second answer other
+steps_meet library s t first second line answer other steps others e (read, is_read, r) (also, is_also, q) n m =
+    follows_meet library s t first second read answer other steps others e r (subst (λ (o : Result (Option Command) Refusal). Follows library t o other second others) (one_reading line read also is_read is_also) q) n m
+
 pub answers_meet : (library : List Stored) → AnswersMeet library
-answers_meet library old first second line answer other steps others r q n m = (follows_meet library old old first second (reading line) answer other steps others refl r q n m).1
+answers_meet library old first second line answer other steps others r q n m = (steps_meet library old old first second line answer other steps others refl r q n m).1
 
 -- ---- runs
 
@@ -96,7 +100,7 @@ runs_meet_from library related s t first second [] (a ∷ ls) ks e r q n m = abs
 runs_meet_from library related s t first second (line ∷ lines) [] ks e r q n m = absurd r
 runs_meet_from library related s t first second (line ∷ lines) (a ∷ ls) [] e r q n m = absurd q
 runs_meet_from library related s t first second (line ∷ lines) (a ∷ ls) (b ∷ ks) e (mid, step, rest) (mid', step', rest') n m =
-    runs_meet_from library related mid mid' first second lines ls ks (follows_meet library s t mid mid' (reading line) a b step.steps step'.steps e step.step step'.step (All-head IsNoWant a ls n) (All-head IsNoWant b ks m)).0
+    runs_meet_from library related mid mid' first second lines ls ks (steps_meet library s t mid mid' line a b step.steps step'.steps e step.step step'.step (All-head IsNoWant a ls n) (All-head IsNoWant b ks m)).0
     rest rest' (All-tail IsNoWant a ls n) (All-tail IsNoWant b ks m)
 
 pub runs_meet_all : (library : List Stored) (related : ℕ → Param → List Point → Point → Type 0) → RunsMeet (workbench library related)

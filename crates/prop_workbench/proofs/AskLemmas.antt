@@ -35,9 +35,11 @@ use Rattle.prop_workbench.specs.Machine.{State, problem_in, text_at, worldview_a
 use Rattle.prop_workbench.specs.Refusing.{refusal_of}
 use Rattle.prop_workbench.specs.declared.asking.Question.{Question}
 use Rattle.prop_workbench.specs.declared.asking.Question.TheVariants.{Settle, Worldview, Ask, Why}
-use Rattle.prop_workbench.specs.Questions.{command_of, IsNamed, MaySay, HasRun}
-use Rattle.prop_workbench.specs.Running.{Outcome, Settled, Unsettled, Contradiction, worldview_of, Replies, Explained, IsValue, IsValueReply, IsSettledValue, IsUnsettledValue, IsExplainedReply, IsTooFewToReduce}
-use Rattle.prop_workbench.specs.Sessions.{state_from, library_of, AreKnown}
+use Rattle.prop_workbench.specs.inner.Questions.{command_of, IsNamed, MaySay, HasRun}
+use Rattle.prop_workbench.specs.Running.{Outcome, Settled, Unsettled, Contradiction, worldview_of, Replies, IsValue, IsValueReply, IsSettledValue, IsUnsettledValue, IsExplainedReply, IsTooFewToReduce}
+use Rattle.prop_workbench.specs.inner.Running.{Explained}
+use Rattle.prop_workbench.specs.inner.Carrying.{IsAtRest}
+use Rattle.prop_workbench.specs.Sessions.{state_from, state_of, library_of, AreKnown, IsInOrder}
 use Rattle.prop_workbench.specs.Steps.{Carries, Runs}
 use Rattle.prop_explain.specs.Irreducible.{IsIrreducible}
 use Rattle.prop_texts.specs.Texts.{equation, because, contradiction_text}
@@ -126,7 +128,7 @@ settled_value library names words definitions premises d limit list cell v settl
   value = is_v;
 }
 
-pub unsettled_value : (library : List Stored) (names : CellNames) (words : Vocabulary) (definitions : Definitions) (premises : List Origin) (d : Data) (limit : ℕ) (list : List ℕ) (cell : ℕ) (name : List ℕ) (v : Info) → cell_named names name ≡ Some cell → All (λ k. k < length d.kinds) names.cells →
+unsettled_value : (library : List Stored) (names : CellNames) (words : Vocabulary) (definitions : Definitions) (premises : List Origin) (d : Data) (limit : ℕ) (list : List ℕ) (cell : ℕ) (name : List ℕ) (v : Info) → cell_named names name ≡ Some cell → All (λ k. k < length d.kinds) names.cells →
     IsKept library d → IsWellMade d → v ≡ beliefs (worldview_in premises list) d.contents cell → IsUnsettledValue library (state_from names words definitions premises d limit) list cell v
 unsettled_value library names words definitions premises d limit list cell name v found named kept made is_v =
     let l : cell < length d.kinds = of_named (λ k. k < length d.kinds) names name cell named found in
@@ -135,6 +137,28 @@ unsettled_value library names words definitions premises d limit list cell name 
       entailed = rw is_v (believed_entailed library d (worldview_in premises list) kept cell);
       stated = λ k x m believed here. rw (is_v, ← here) ((made.stated k x m).below (worldview_in premises list) believed);
     }
+
+-- the cell with a name is there
+pub cell_there : {R O : Type 0} {X : Type 0} {F : X → Type 0} {g : _} {value : R → Param → List Info → Info} (s : Session R O X F g) (name : List ℕ) (cell : ℕ) → IsInOrder value s → cell_named s.names name ≡ Some cell → cell < length s.network.cells.kinds
+cell_there s name cell sound named = of_named (λ k. k < length s.network.cells.kinds) s.names name cell sound.named named
+
+-- what a session believes of a cell is its settled value where the network is at rest, and else what is known so far
+pub settled_in : {R O : Type 0} {X : Type 0} {F : X → Type 0} {g : _} (value : R → Param → List Info → Info) (s : Session R O X F g) (cell : ℕ) → IsInOrder value s → IsAtRest value s →
+    IsSettledValue (library_of value s) (state_of s) s.search.list cell (beliefs (set_of s.search.worldview) s.network.cells.contents cell)
+settled_in value s cell sound rest =
+    let same = believes_same s.search sound.at_work.well_made in
+    settled_value (library_of value s) s.names s.words s.definitions s.search.premises s.network.cells s.limit s.search.list cell _ (subst (λ (b : Members). IsSettled (library_of value s) b s.network.cells) same rest) (ap (λ (b : Members). beliefs b s.network.cells.contents cell) same)
+
+pub unsettled_in : {R O : Type 0} {X : Type 0} {F : X → Type 0} {g : _} (value : R → Param → List Info → Info) (s : Session R O X F g) (name : List ℕ) (cell : ℕ) → IsInOrder value s → IsWellMade s.network.cells → cell_named s.names name ≡ Some cell →
+    IsUnsettledValue (library_of value s) (state_of s) s.search.list cell (beliefs (set_of s.search.worldview) s.network.cells.contents cell)
+unsettled_in value s name cell sound made named =
+    unsettled_value (library_of value s) s.names s.words s.definitions s.search.premises s.network.cells s.limit s.search.list cell name _ named sound.named sound.at_work.under_way.kept made
+    (ap (λ (b : Members). beliefs b s.network.cells.contents cell) (believes_same s.search sound.at_work.well_made))
+
+-- and what explains it does so by what is believed with the choices as they stand
+pub explained_in : {R O : Type 0} {X : Type 0} {F : X → Type 0} {g : _} (value : R → Param → List Info → Info) (s : Session R O X F g) (cell : ℕ) (v : Info) (name mark : List ℕ) (answer : Answer) → IsInOrder value s → Explained (library_of value s) (state_of s) (set_of s.search.worldview) cell v name mark answer →
+    Explained (library_of value s) (state_of s) (worldview_in s.search.premises s.search.list) cell v name mark answer
+explained_in value s cell v name mark answer sound explained = subst (λ (b : Members). Explained (library_of value s) (state_of s) b cell v name mark answer) (believes_same s.search sound.at_work.well_made) explained
 
 -- what is answered explains
 pub explained_by : (library : List Stored) (names : CellNames) (words : Vocabulary) (definitions : Definitions) (premises : List Origin) (d : Data) (limit : ℕ) (believed : Members) (cell : ℕ) (v : Info) (name mark support text : List ℕ) (answer : Answer) → v ≡ beliefs believed d.contents cell →
@@ -158,9 +182,6 @@ pub believed_known : (os : List Origin) (ps : List ℕ) → IsPart (set_of ps) (
 believed_known os ps part k d l = believed_below os (get_or ps k d) (part (get_or ps k d) (set_has ps k d l))
 
 -- ---- what a run leaves and tells of itself
-
-pub same_problem : (library library' : List Stored) (d new : Data) → library' ≡ library → new ≡ record d { contents = new.contents } → problem_of library' new ≡ problem_of library d
-same_problem library library' d new same rest = rw same (ap (λ (x : Data). problem_of library x) rest)
 
 -- what was covered still is, with more nogoods between the same choices
 pub cover_kept : (old new : Stand) (m : Members) → new.premises ≡ old.premises → ((n : Members) → IsTrue (has_part old.listed n) → IsTrue (has_part new.listed n)) → IsCovered (search.choices_in old) old.listed m → IsCovered (search.choices_in new) new.listed m

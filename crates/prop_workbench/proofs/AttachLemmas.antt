@@ -4,10 +4,10 @@ use Rattle.std.specs.Prelude.{⊤}
 use Rattle.std.specs.List.{list_any}
 use Rattle.std.specs.Option.{option_map_or, option_and_then}
 use Rattle.std.proofs.lemmas.Bool.{cases_lt, lt-ltb, le-ltb}
-use Rattle.std.proofs.lemmas.List.{length-append, length-map, get_or_append_left, get_or-append-add, get_or-map}
+use Rattle.std.proofs.lemmas.List.{length-append, length-map}
 use Rattle.std.proofs.Math.Seq.{drop-append_seam}
 use Rattle.std.proofs.lemmas.List.Elements.{All-append, All-cons, All-head, All-tail, All-map, All-weaker}
-use Rattle.prop_lattice.specs.Refusals.{most}
+use Rattle.prop_lattice.specs.Refusals.{most, first_of, when}
 use Rattle.prop_lattice.specs.declared.refusal.Limit.TheVariants.{Cells}
 use Rattle.prop_lattice.specs.declared.refusal.Refusal.{Refusal}
 use Rattle.prop_lattice.specs.declared.refusal.Refusal.TheVariants.{NoSuchRelation, NoSuchCell, NoSuchProcedure, WrongCount, WrongKind, WrongParameter, Memory}
@@ -22,20 +22,21 @@ use Rattle.prop_language.specs.Commands as commands
 use Rattle.prop_language.specs.Commands.{By}
 use Rattle.prop_compound.specs.Definitions.{Definitions, used_named, is_miscounted}
 use Rattle.prop_compound.specs.Expansion.{Expansion, expanded}
-use Rattle.prop_compound.specs.Expanding.{expand_refusal, size_refusal, fit_refusal, is_misplaced, is_misgiven, is_param_wrong}
+use Rattle.prop_compound.specs.Expanding.{expand_refusal, size_refusal, fit_refusal, is_kind_wrong, is_param_wrong, are_params_wrong}
 use Rattle.prop_compound.specs.Flattened.{placed_of, expansion_of_flat, IsFlatOver, IsInstanceOver}
+use Rattle.prop_compound.proofs.InPlace.{kind_placed}
 use Rattle.prop_procedures.specs.declared.flat.Placed as flats
 use Rattle.prop_procedures.specs.declared.flat.Flat.{Flat}
-use Rattle.prop_procedures.specs.Flats.{cells_of, param_at}
+use Rattle.prop_procedures.specs.Flats.{cells_of, param_at, cell_placed}
 use Rattle.prop_engine.specs.Answers.{Done, Refused, answer_done}
 use Rattle.prop_vocabulary.specs.Cells.{CellNames, cells_named, is_cell_missing}
-use Rattle.prop_vocabulary.specs.Refusing.{first_of, when}
 use Rattle.prop_vocabulary.specs.Vocabulary.{Vocabulary}
-use Rattle.prop_scheduler.specs.Making.{room_refusal, cell_placed, made_of, with_flat, MayBeMade, MayMake}
+use Rattle.prop_scheduler.specs.Making.{room_refusal, made_of, with_flat, MayBeMade, MayMake}
 use Rattle.prop_workbench.specs.Effects.{inputs_of, output_of, instance_placed, with_use}
 use Rattle.prop_workbench.specs.Machine.{State}
 use Rattle.prop_workbench.specs.Refusing.{refusal_of, is_unknown, given_by, used, use_refusal}
-use Rattle.prop_workbench.specs.Sessions.{state_from, IsSized, AreLocalsOf}
+use Rattle.prop_workbench.specs.Sessions.{state_from}
+use Rattle.prop_compound.specs.Kinds.{IsSized, AreLocalsOf}
 use Rattle.prop_workbench.specs.Steps.{Obeys}
 use Rattle.prop_workbench.proofs.UseLemmas.{kind_of_place, kinds_of_use}
 use Rattle.prop_workbench.proofs.StepLemmas.{first_of-one, obeys, refuses_or_lacks}
@@ -148,26 +149,7 @@ module _ (library : List Stored) (names : CellNames) (words : Vocabulary) (defin
 
 -- ---- the places of a use
 
--- a cell at a place has the kind of the place
-kind_placed : (kinds fresh : List Kinded) (cells : List ℕ) (place : ℕ) → All (λ c. c < length kinds) cells → place < length cells + length fresh →
-    kind_at (kinds ++ fresh) (cell_placed cells (length kinds) place) ≡ kind_at (map (kind_at kinds) cells ++ fresh) place
-kind_placed kinds fresh cells place below l = by (cases_lt place (length cells))
-  where
-    n : length (map (kind_at kinds) cells) ≡ length cells
-    n = length-map cells (kind_at kinds)
-
-    by : (place < length cells) ⊎ (length cells ≤ place) → kind_at (kinds ++ fresh) (cell_placed cells (length kinds) place) ≡ kind_at (map (kind_at kinds) cells ++ fresh) place
-    by (inl h) =
-        let given : cell_placed cells (length kinds) place ≡ get_or cells place 0 = ap (λ (b : Bool). cond b (get_or cells place 0) (length kinds + (place - length cells))) (lt-ltb place (length cells) h) in
-        ap (kind_at (kinds ++ fresh)) given ∙ get_or_append_left kinds fresh span_kind (get_or cells place 0) (below place 0 h)
-        ∙ sym (get_or_append_left (map (kind_at kinds) cells) fresh span_kind place (omega (arith, h, n)) ∙ get_or-map (kind_at kinds) cells place 0 span_kind h)
-    by (inr h) =
-        let behind : cell_placed cells (length kinds) place ≡ length kinds + (place - length cells) = ap (λ (b : Bool). cond b (get_or cells place 0) (length kinds + (place - length cells))) (le-ltb place (length cells) h) in
-        let there : place ≡ length (map (kind_at kinds) cells) + (place - length cells) = omega (arith, h, n) in
-        ap (kind_at (kinds ++ fresh)) behind ∙ get_or-append-add kinds fresh (place - length cells) span_kind
-        ∙ sym (ap (kind_at (map (kind_at kinds) cells ++ fresh)) there ∙ get_or-append-add (map (kind_at kinds) cells) fresh (place - length cells) span_kind)
-
--- and there is such a cell
+-- there is a cell at each place
 there_placed : (kinds fresh : List Kinded) (cells : List ℕ) (place : ℕ) → All (λ c. c < length kinds) cells → place < length cells + length fresh → cell_placed cells (length kinds) place < length (kinds ++ fresh)
 there_placed kinds fresh cells place below l = by (cases_lt place (length cells))
   where
@@ -207,7 +189,7 @@ not_false false e = cc
 
 module _ (library : List Stored) (d : Data) (cells : List ℕ) (flat : Flat) (below : All (λ c. c < length d.kinds) cells) (few : length d.kinds + length flat.fresh.items ≤ most Cells) where
   one_may : (x : flats.Placed) → IsInstanceOver library (length cells + length flat.fresh.items) x →
-      is_misplaced library (map (kind_at d.kinds) cells ++ flat.fresh.items) (placed_of flat.params.items x) ≡ false → is_misgiven library (placed_of flat.params.items x) ≡ false →
+      is_kind_wrong library (map (kind_at d.kinds) cells ++ flat.fresh.items) (placed_of flat.params.items x) ≡ false → is_param_wrong library (placed_of flat.params.items x) ≡ false →
       MayBeMade library (d.kinds ++ flat.fresh.items) flat.params.items cells (length d.kinds) x
   one_may x over placed given =
       let p = over.procedure in
@@ -227,12 +209,12 @@ module _ (library : List Stored) (d : Data) (cells : List ℕ) (flat : Flat) (be
       }
 
   each_may : (xs : List flats.Placed) → All (IsInstanceOver library (length cells + length flat.fresh.items)) xs →
-      list_any (is_misplaced library (map (kind_at d.kinds) cells ++ flat.fresh.items)) (map (placed_of flat.params.items) xs) ≡ false → list_any (is_misgiven library) (map (placed_of flat.params.items) xs) ≡ false →
+      list_any (is_kind_wrong library (map (kind_at d.kinds) cells ++ flat.fresh.items)) (map (placed_of flat.params.items) xs) ≡ false → list_any (is_param_wrong library) (map (placed_of flat.params.items) xs) ≡ false →
       All (MayBeMade library (d.kinds ++ flat.fresh.items) flat.params.items cells (length d.kinds)) xs
   each_may [] over placed given = λ k d l. absurd (omega (arith, l))
   each_may (x ∷ xs) over placed given =
-      let misplaced = or_false (is_misplaced library (map (kind_at d.kinds) cells ++ flat.fresh.items) (placed_of flat.params.items x)) _ placed in
-      let misgiven = or_false (is_misgiven library (placed_of flat.params.items x)) _ given in
+      let misplaced = or_false (is_kind_wrong library (map (kind_at d.kinds) cells ++ flat.fresh.items) (placed_of flat.params.items x)) _ placed in
+      let misgiven = or_false (is_param_wrong library (placed_of flat.params.items x)) _ given in
       All-cons (MayBeMade library (d.kinds ++ flat.fresh.items) flat.params.items cells (length d.kinds)) x xs
       (one_may x (All-head (IsInstanceOver library (length cells + length flat.fresh.items)) x xs over) misplaced.0 misgiven.0)
       (each_may xs (All-tail (IsInstanceOver library (length cells + length flat.fresh.items)) x xs over) misplaced.1 misgiven.1)
@@ -252,7 +234,7 @@ may_make library words definitions d name cells given flat below fits is safe fe
     let e = expansion_of_flat (map (kind_at d.kinds) cells) flat in
     let fit : fit_refusal library e ≡ None = subst (λ (x : Expansion (Option Param)). fit_refusal library x ≡ None) (sym is) (fit_of (when NoSuchProcedure (is_none (used_named library definitions name))) (when WrongCount (is_miscounted library definitions name (length (map (kind_at d.kinds) cells))))
     (size_refusal (length (expanded library words definitions name (map (kind_at d.kinds) cells) given).kinds - length (map (kind_at d.kinds) cells)) (length (expanded library words definitions name (map (kind_at d.kinds) cells) given).placed)) (fit_refusal library (expanded library words definitions name (map (kind_at d.kinds) cells) given)) fits) in
-    let rows = both_none (when WrongKind (list_any (is_misplaced library e.kinds) e.placed)) (when WrongParameter (is_param_wrong library e)) fit in
+    let rows = both_none (when WrongKind (list_any (is_kind_wrong library e.kinds) e.placed)) (when WrongParameter (are_params_wrong library e)) fit in
     each_may library d cells flat below few flat.instances.items safe (holds_not WrongKind _ rows.0) (holds_not WrongParameter _ rows.1)
 
 -- ---- what stays sound

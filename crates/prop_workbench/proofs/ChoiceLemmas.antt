@@ -9,6 +9,7 @@ use Rattle.prop_lattice.specs.declared.info.Info.TheVariants.{Nothing}
 use Rattle.prop_lattice.specs.declared.info.Kind.{Kind}
 use Rattle.prop_lattice.specs.declared.refusal.Refusal.{Refusal}
 use Rattle.prop_lattice.specs.declared.refusal.Refusal.TheVariants.{NotAName, NotANumber, NameTaken, NoSuchCell, WrongKind, NotInTheDomain, EmptyValue, Memory}
+use Rattle.prop_lattice.specs.Refusals.{first_of, when}
 use Rattle.prop_premises.specs.Origins.{premise_number, is_choice}
 use Rattle.prop_procedures.specs.Stored.{Stored}
 use Rattle.prop_procedures.specs.Fitting.{kind_at}
@@ -16,11 +17,10 @@ use Rattle.prop_language.specs.Commands as commands
 use Rattle.prop_language.specs.Commands.{Value}
 use Rattle.prop_values.specs.Values.{Meant, Known}
 use Rattle.prop_vocabulary.specs.Cells.{cell_named}
-use Rattle.prop_vocabulary.specs.Refusing.{first_of, when}
 use Rattle.prop_vocabulary.specs.Texts.{elements_of_kind}
 use Rattle.prop_vocabulary.specs.Vocabulary.{Vocabulary}
 use Rattle.prop_engine.specs.Answers.{Done, answer_done}
-use Rattle.prop_workbench.specs.Choosing.{is_one_refused, values_refusal, meaning_of, Means, meanings_of}
+use Rattle.prop_workbench.specs.inner.Choosing.{is_one_refused, values_refusal, meaning_of, Means, meanings_of}
 use Rattle.prop_workbench.specs.Effects.{chosen}
 use Rattle.prop_workbench.specs.Machine.{State}
 use Rattle.prop_workbench.specs.Refusing.{refusal_of, meaning_at, is_error, value_at, meants_at, both_meant, is_refused_at, choosing_limit_at}

@@ -20,11 +20,12 @@ use Rattle.prop_values.specs.Values.{Meant, Known, Name}
 use Rattle.prop_vocabulary.specs.Names.{number_in}
 use Rattle.prop_vocabulary.specs.Texts.{elements_of_kind}
 use Rattle.prop_vocabulary.specs.Vocabulary.{Vocabulary, IsWhole, with_first_symbols}
-use Rattle.prop_workbench.specs.Choosing.{meaning_of, meanings_of, Means, infos_meant}
-use Rattle.prop_workbench.specs.Effects.{info_meant, with_meants, sides_stated, chosen, MayMean}
+use Rattle.prop_workbench.specs.inner.Choosing.{meaning_of, meanings_of, Means, infos_meant}
+use Rattle.prop_workbench.specs.Effects.{info_meant, with_meants, sides_stated, chosen}
+use Rattle.prop_workbench.specs.inner.Effects.{MayMean}
 use Rattle.prop_workbench.specs.Machine.{State}
 use Rattle.prop_workbench.specs.Refusing.{meaning_at, with_meant, naming_limit, all_naming_limit}
-use Rattle.prop_workbench.specs.Sessions.{IsKnown}
+use Rattle.prop_compound.specs.Kinds.{IsKnown}
 use Rattle.prop_workbench.proofs.TellLemmas.{same_domains}
 use Rattle.prop_workbench.proofs.ValueLemmas.{value_may_be}
 

@@ -3,7 +3,7 @@ use Rattle.std.proofs.Common.{◌≡◌, ◌∙◌, ℕ, suc, Bool, true, false,
 use Rattle.std.specs.List.{AllZip}
 use Rattle.std.proofs.lemmas.Bool.{lt-leb, and_left}
 use Rattle.std.proofs.lemmas.List.Elements.{All-append, All-cons, All-contains, All-weaker, Contains-get_or, Contains-append_left}
-use Rattle.prop_lattice.specs.Refusals.{most}
+use Rattle.prop_lattice.specs.Refusals.{most, first_of, when}
 use Rattle.prop_lattice.specs.declared.info.Info.{Info}
 use Rattle.prop_lattice.specs.declared.refusal.Refusal.{Refusal}
 use Rattle.prop_lattice.specs.declared.refusal.Refusal.TheVariants.{LimitReached, Memory}
@@ -24,7 +24,6 @@ use Rattle.prop_cells.specs.Data.{Data, problem_of}
 use Rattle.prop_cells.specs.Instances.{constraint_of}
 use Rattle.prop_scheduler.specs.Agendas.{Waiting}
 use Rattle.prop_scheduler.specs.Turns.{IsUnderWay}
-use Rattle.prop_vocabulary.specs.Refusing.{first_of, when}
 use Rattle.prop_amb.specs.Refuted.{IsCovered}
 use Rattle.prop_amb.specs.Search.{Stand, IsStand, IsSearch, choices_in}
 use Rattle.prop_amb.specs.Moving.{declared, declare_refusal, IsFresh}

@@ -1,5 +1,5 @@
 -- What is said of a core.
-use Rattle.std.proofs.Common.{◌≡◌, ◌∙◌, ◌<◌, ◌≤◌, ◌+◌, ◌-◌, ◌*◌, ℕ, List, [], ◌∷◌, All, Some, codes, length, ap, arith, subst}
+use Rattle.std.proofs.Common.{◌≡◌, ◌∙◌, ◌<◌, ◌≤◌, ◌+◌, ◌-◌, ◌*◌, ℕ, List, [], ◌∷◌, All, Some, codes, length, ap, arith, refl, subst}
 use Rattle.std.specs.List.{AllByRecursion}
 use Rattle.std.proofs.Math.Nat.{mul-le-mul_right}
 use Rattle.std.proofs.lemmas.List.Elements.{recursion_from_All}
@@ -8,26 +8,32 @@ use Rattle.prop_premises.specs.Sets.{Members, set_of}
 use Rattle.prop_premises.specs.Origins.{Origin}
 use Rattle.prop_premises.specs.ChoiceLists.{lists_count}
 use Rattle.prop_premises.proofs.MergeLemmas.{Rising, rising_from_increasing}
+use Rattle.prop_procedures.specs.declared.shape.Param.{Param}
+use Rattle.prop_procedures.specs.Kept.{stored_of}
 use Rattle.prop_procedures.specs.Stored.{Stored}
 use Rattle.prop_lattice.specs.declared.info.Info.{Info}
 use Rattle.prop_cells.specs.Problems.{Problem}
 use Rattle.prop_cells.specs.Reach.{Explains}
 use Rattle.prop_cells.specs.Data.{Data, beliefs, problem_of}
-use Rattle.prop_scheduler.specs.Turns.{IsSettled}
+use Rattle.prop_scheduler.specs.Turns.{IsUnderWay, IsSettled}
+use Rattle.prop_scheduler.specs.Watching.{IsWatched}
 use Rattle.prop_scheduler.specs.Potential.{most_steps}
 use Rattle.prop_explain.specs.declared.reducing.Core.{Core}
 use Rattle.prop_explain.specs.declared.reducing.Core.TheVariants.{Least, NotReduced}
+use Rattle.prop_explain.proofs.ReducingLaws.{same_problem}
 use Rattle.prop_explain.specs.Irreducible.{IsIrreducible, IfLeast, IfNotReduced, OfCore}
 use Rattle.prop_language.specs.Commands as commands
-use Rattle.prop_texts.specs.Texts.{equation, because}
 use Rattle.prop_vocabulary.specs.Vocabulary.{Vocabulary}
 use Rattle.prop_vocabulary.specs.Cells.{CellNames, cell_named}
 use Rattle.prop_compound.specs.Definitions.{Definitions}
-use Rattle.prop_engine.specs.Answers.{Answer, Says}
-use Rattle.prop_workbench.specs.Machine.{State, problem_in, choices_in, text_at, worldview_at}
-use Rattle.prop_workbench.specs.Questions.{MaySay}
+use Rattle.prop_engine.specs.Answers.{Answer}
+use Rattle.prop_workbench.specs.inner.Carrying.{SaysBecause}
+use Rattle.prop_workbench.specs.Machine.{State, problem_in, choices_in, worldview_at}
+use Rattle.prop_workbench.specs.inner.Questions.{MaySay}
 use Rattle.prop_workbench.specs.Running.{Settled, IsSettledValue, IsTooFewToReduce}
-use Rattle.prop_workbench.specs.Sessions.{state_from, AreKnown}
+use Rattle.prop_workbench.specs.declared.session.Session.{Session}
+use Rattle.prop_workbench.specs.Sessions.{state_from, library_of, AreKnown, IsInOrder}
+use Rattle.prop_workbench.specs.inner.Sessions.{Keeps}
 use Rattle.prop_workbench.proofs.AskLemmas.{may_be_least, may_not_be_reduced, settled_value, worldview_in}
 use Rattle.prop_workbench.proofs.PremiseLemmas.{support_known}
 
@@ -44,6 +50,31 @@ settled_core library names words definitions premises d limit list believed cell
     (settled_value library names words definitions premises d limit list cell e.value rest (explains.0 ∙ ap (λ (b : Members). beliefs b d.contents cell) same), subst (λ (b : Members). Explains (problem_of library d) b cell e.value (set_of e.support)) same explains.1)
 settled_core library names words definitions premises d limit list believed cell (NotReduced e) same rest explains =
     (settled_value library names words definitions premises d limit list cell e.value rest (explains.0 ∙ ap (λ (b : Members). beliefs b d.contents cell) same), subst (λ (b : Members). Explains (problem_of library d) b cell e.value (set_of e.support)) same explains.1)
+
+-- a session keeps what it has to where only what its cells hold, what waits and what is watched has changed, and every instance waits
+pub rested_keeps : {R O : Type 0} {X : Type 0} {F : X → Type 0} {g : _} (value : R → Param → List Info → Info) (s new : Session R O X F g) → IsInOrder value s → new.network.library ≡ s.network.library → new.network.cells ≡ record s.network.cells { contents = new.network.cells.contents } →
+    ((believed : Members) → IsUnderWay (library_of value new) believed new.network.cells new.agenda.line) → ((believed : Members) → IsWatched believed new.network.cells new.agenda.watched) → new.agenda.room ≡ s.agenda.room → new.agenda.cells ≡ s.agenda.cells →
+    Keeps value s (record s { network = new.network; agenda = new.agenda; order = new.order })
+rested_keeps value s new sound same rest under_way watched room cells = record {
+  library = same;
+  sound = record {
+    at_work = record {
+      under_way = under_way (set_of s.search.worldview);
+      well_made = sound.at_work.well_made;
+      search = rw (same_problem (stored_of value s.network.library) (stored_of value new.network.library) s.network.cells new.network.cells (λ i. stored_of value (same i)) rest) sound.at_work.search;
+      known = rw rest sound.at_work.known;
+      roomy = rw (room, rest) sound.at_work.roomy;
+      watched = watched (set_of s.search.worldview);
+      cells = rw (cells, rest) sound.at_work.cells;
+    };
+    sized = rw rest sound.sized;
+    locals = sound.locals;
+    named = rw rest sound.named;
+    defined = rw same sound.defined;
+  };
+  steps = refl;
+  covers = λ m covered. covered;
+}
 
 -- where it isn't reduced, every step of the limit was used
 pub used_up : (core : Core) (steps tries limit : ℕ) → steps ≤ limit → IfNotReduced core (λ v s. tries ≡ limit - steps) → IfNotReduced core (λ v s. steps + tries ≡ limit)
@@ -72,7 +103,7 @@ too_few library s believed cell (NotReduced e) steps known within few (ps, up, e
 -- it may be said as it ended
 pub may_core : (library : List Stored) (s : State) (list name : List ℕ) (cell : ℕ) (core : Core) (answer : Answer) (steps : ℕ) → cell_named s.names name ≡ Some cell →
     OfCore core (λ v ps. IsSettledValue library s list cell v × Explains (problem_in library s) (worldview_at s list) cell v (set_of ps)) → IfLeast core (λ v ps. IsIrreducible (problem_in library s) (set_of ps) cell v) → IfNotReduced core (λ v ps. steps ≡ s.limit) → IfNotReduced core (λ v ps. IsTooFewToReduce library s) →
-    IfLeast core (λ v ps. IsStrictlyIncreasing ps × Says answer (equation name (text_at s cell v) (because s.premises [] ps))) → IfNotReduced core (λ v ps. IsStrictlyIncreasing ps × Says answer (equation name (text_at s cell v) (because s.premises (codes " not reduced") ps))) →
+    IfLeast core (λ v ps. SaysBecause s cell name [] v ps answer) → IfNotReduced core (λ v ps. SaysBecause s cell name (codes " not reduced") v ps answer) →
     MaySay library s (commands.Command.Core name) (Settled list) steps answer
 may_core library s list name cell (Least e) answer steps named settled least spent few says other = may_be_least library s list name cell e.value e.support answer steps named settled.0 says.0 settled.1 least says.1
 may_core library s list name cell (NotReduced e) answer steps named settled least spent few other says = may_not_be_reduced library s list name cell e.value e.support answer steps named settled.0 says.0 settled.1 spent few says.1

@@ -1,5 +1,5 @@
 -- Steps that hold whichever contradictions were named.
-use Rattle.std.proofs.Common.{◌≡◌, ◌∙◌, ℕ, List, [], ◌∷◌, ◌++◌, Option, Some, None, Result, sym, ap, inl, inr, refl}
+use Rattle.std.proofs.Common.{◌≡◌, ◌∙◌, ◌↔◌, ℕ, List, [], ◌∷◌, ◌++◌, Option, Some, None, Result, sym, ap, inl, inr, refl}
 use Rattle.std.proofs.lemmas.List.Elements.{All-weaker, All-push}
 use Rattle.prop_lattice.specs.declared.refusal.Refusal.{Refusal}
 use Rattle.prop_premises.specs.Sets.{Members, set_of}
@@ -10,8 +10,10 @@ use Rattle.prop_language.specs.Commands.{Command}
 use Rattle.prop_engine.specs.Answers.{Answer}
 use Rattle.prop_workbench.specs.Machine.{State, naming, choices_in}
 use Rattle.prop_workbench.specs.Refusing.{refusal_of}
-use Rattle.prop_workbench.specs.Effects.{effect, named_after}
-use Rattle.prop_workbench.specs.Steps.{Shown, Covers, Changes, Carries, CarriesUnless, Obeys, Follows, IsObeyed, IsFollowed}
+use Rattle.prop_workbench.specs.Effects.{effect}
+use Rattle.prop_workbench.specs.inner.Effects.{named_after}
+use Rattle.prop_workbench.specs.Steps.{Shown, Covers, Changes, Carries, CarriesUnless, Obeys, Follows}
+use Rattle.prop_workbench.specs.inner.Steps.{IsObeyed, IsFollowed}
 use Rattle.prop_workbench.proofs.NamingLaws.{refusal_naming, effect_naming}
 
 -- the command runs nothing, lists nothing and forgets nothing
@@ -33,66 +35,21 @@ pub covers_still : (old new : Shown) (named : List (List ℕ)) → KeepsCover ol
 covers_still old new named keeps covers =
     All-weaker (λ m. IsCovered (choices_in old.state) old.learned (set_of m)) (λ m. IsCovered (choices_in new.state) new.learned (set_of m)) (λ m h. keeps (set_of m) h) named covers
 
-changes_carry : (library : List Stored) (s t : State) (command : Command) (answer : Answer) (steps : ℕ) → IsStill command → Changes library s command answer t steps → Carries library s command answer t steps
-changes_carry library s t (commands.Command.Domain name elements) answer steps still r = r
-changes_carry library s t (commands.Command.Relation name from to pairs) answer steps still r = r
-changes_carry library s t (commands.Command.Cell name kind) answer steps still r = r
-changes_carry library s t (commands.Command.Define name params body) answer steps still r = r
-changes_carry library s t (commands.Command.Attach name cells by) answer steps still r = r
-changes_carry library s t (commands.Command.Fix cell value) answer steps still r = r
-changes_carry library s t (commands.Command.Tell premise cell value) answer steps still r = r
-changes_carry library s t (commands.Command.Choose name cell values) answer steps still r = r
-changes_carry library s t (commands.Command.Kick premise) answer steps still r = r
-changes_carry library s t (commands.Command.Bring premise) answer steps still r = r
-changes_carry library s t (commands.Command.Forget premise) answer steps still r = absurd still
-changes_carry library s t (commands.Command.Limit n) answer steps still r = r
-changes_carry library s t commands.Command.Settle answer steps still r = absurd still
-changes_carry library s t (commands.Command.Ask x) answer steps still r = absurd still
-changes_carry library s t (commands.Command.Why x) answer steps still r = absurd still
-changes_carry library s t (commands.Command.Core x) answer steps still r = absurd still
-changes_carry library s t commands.Command.Worldview answer steps still r = absurd still
-changes_carry library s t commands.Command.Nogoods answer steps still r = absurd still
-
-carry_changes : (library : List Stored) (s t : State) (command : Command) (answer : Answer) (steps : ℕ) → IsStill command → Carries library s command answer t steps → Changes library s command answer t steps
-carry_changes library s t (commands.Command.Domain name elements) answer steps still r = r
-carry_changes library s t (commands.Command.Relation name from to pairs) answer steps still r = r
-carry_changes library s t (commands.Command.Cell name kind) answer steps still r = r
-carry_changes library s t (commands.Command.Define name params body) answer steps still r = r
-carry_changes library s t (commands.Command.Attach name cells by) answer steps still r = r
-carry_changes library s t (commands.Command.Fix cell value) answer steps still r = r
-carry_changes library s t (commands.Command.Tell premise cell value) answer steps still r = r
-carry_changes library s t (commands.Command.Choose name cell values) answer steps still r = r
-carry_changes library s t (commands.Command.Kick premise) answer steps still r = r
-carry_changes library s t (commands.Command.Bring premise) answer steps still r = r
-carry_changes library s t (commands.Command.Forget premise) answer steps still r = absurd still
-carry_changes library s t (commands.Command.Limit n) answer steps still r = r
-carry_changes library s t commands.Command.Settle answer steps still r = absurd still
-carry_changes library s t (commands.Command.Ask x) answer steps still r = absurd still
-carry_changes library s t (commands.Command.Why x) answer steps still r = absurd still
-carry_changes library s t (commands.Command.Core x) answer steps still r = absurd still
-carry_changes library s t commands.Command.Worldview answer steps still r = absurd still
-carry_changes library s t commands.Command.Nogoods answer steps still r = absurd still
+-- it is carried out where it changes the state, and the other way around
+still_carries : (library : List Stored) (s t : State) (command : Command) (answer : Answer) (steps : ℕ) → IsStill command → Changes library s command answer t steps ↔ Carries library s command answer t steps
+still_carries library s t (commands.Command.Forget premise) answer steps still = absurd still
+still_carries library s t commands.Command.Settle answer steps still = absurd still
+still_carries library s t (commands.Command.Ask x) answer steps still = absurd still
+still_carries library s t (commands.Command.Why x) answer steps still = absurd still
+still_carries library s t (commands.Command.Core x) answer steps still = absurd still
+still_carries library s t commands.Command.Worldview answer steps still = absurd still
+still_carries library s t commands.Command.Nogoods answer steps still = absurd still
+still_carries library s t command answer steps still = (λ r. r, λ r. r)
 
 -- what was named stays so where nothing is forgotten
 still_named : (s : State) (command : Command) (named : List (List ℕ)) → IsStill command → named_after s command named ≡ named
-still_named s (commands.Command.Domain name elements) named still = refl
-still_named s (commands.Command.Relation name from to pairs) named still = refl
-still_named s (commands.Command.Cell name kind) named still = refl
-still_named s (commands.Command.Define name params body) named still = refl
-still_named s (commands.Command.Attach name cells by) named still = refl
-still_named s (commands.Command.Fix cell value) named still = refl
-still_named s (commands.Command.Tell premise cell value) named still = refl
-still_named s (commands.Command.Choose name cell values) named still = refl
-still_named s (commands.Command.Kick premise) named still = refl
-still_named s (commands.Command.Bring premise) named still = refl
-still_named s (commands.Command.Limit n) named still = refl
-still_named s commands.Command.Settle named still = refl
-still_named s (commands.Command.Ask x) named still = refl
-still_named s (commands.Command.Why x) named still = refl
-still_named s (commands.Command.Core x) named still = refl
-still_named s commands.Command.Worldview named still = refl
-still_named s commands.Command.Nogoods named still = refl
 still_named s (commands.Command.Forget premise) named still = absurd still
+still_named s command named still = refl
 
 changes_named : (library : List Stored) (s t : State) (named : List (List ℕ)) (command : Command) (answer : Answer) (steps : ℕ) → IsStill command → Changes library s command answer t steps → Changes library (naming s named) command answer (naming t named) steps
 changes_named library s t named command answer steps still r = record {
@@ -105,7 +62,7 @@ carries_named : (o : Option Refusal) (library : List Stored) (s t : State) (name
     CarriesUnless o library (naming s named) command answer (naming t named) steps
 carries_named (Some refusal) library s t named command answer steps still r = record { answer_is = r.answer_is; same = ap (λ u. naming u named) r.same; no_steps = r.no_steps }
 carries_named None library s t named command answer steps still r =
-    changes_carry library (naming s named) (naming t named) command answer steps still (changes_named library s t named command answer steps still (carry_changes library s t command answer steps still r))
+    (still_carries library (naming s named) (naming t named) command answer steps still).0 (changes_named library s t named command answer steps still ((still_carries library s t command answer steps still).1 r))
 
 pub obeys_named : (library : List Stored) (s t : State) (named : List (List ℕ)) (command : Command) (answer : Answer) (steps : ℕ) → IsStill command → Obeys library s command answer t steps → Obeys library (naming s named) command answer (naming t named) steps
 obeys_named library s t named command answer steps still (inl c) =

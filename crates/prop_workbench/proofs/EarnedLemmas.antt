@@ -12,7 +12,8 @@ use Rattle.prop_engine.specs.Answers.{Answer, Text, Refused}
 use Rattle.prop_workbench.specs.declared.asking.Question.{Question}
 use Rattle.prop_workbench.specs.declared.asking.Question.TheVariants.{Settle, Worldview, Ask, Why}
 use Rattle.prop_workbench.specs.Machine.{State, problem_in, users_in, choices_in}
-use Rattle.prop_workbench.specs.Questions.{command_of, outcome_of, Picks, HasGone, HasTried, MaySay, Earns}
+use Rattle.prop_workbench.specs.inner.Questions.{command_of, MaySay}
+use Rattle.prop_workbench.specs.Questions.{outcome_of, Picks, HasGone, HasTried, Earns}
 use Rattle.prop_workbench.specs.Sessions.{Work}
 
 -- a refusal is no text

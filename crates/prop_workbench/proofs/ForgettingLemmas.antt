@@ -18,7 +18,8 @@ use Rattle.prop_amb.specs.Refuted.{IsCovered}
 use Rattle.prop_workbench.specs.Machine.{State, naming, choices_in}
 use Rattle.prop_workbench.specs.Refusing.{refusal_of}
 use Rattle.prop_workbench.specs.Effects.{forgetting}
-use Rattle.prop_workbench.specs.Steps.{Shown, Carries, IsObeyed}
+use Rattle.prop_workbench.specs.Steps.{Shown, Carries}
+use Rattle.prop_workbench.specs.inner.Steps.{IsObeyed}
 use Rattle.prop_workbench.proofs.BeliefLemmas.{IsMissing}
 use Rattle.prop_workbench.proofs.StepLemmas.{obeys_done}
 

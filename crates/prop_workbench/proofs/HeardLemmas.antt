@@ -1,17 +1,15 @@
 -- A line that keeps words is heard: it is no silent line.
-use Rattle.std.proofs.Common.{◌≡◌, ℕ, Bool, true, false, cond, not, ◌==◌, List, [], ◌∷◌, Option, Some, None, Result, Ok, Err, nat_lt, length, bytes_eq, ◌⊎◌, inl, inr, refl, sym, subst, arith}
-use Rattle.std.specs.Prelude.{find}
-use Rattle.std.specs.Str.{is_utf8}
+use Rattle.std.proofs.Common.{◌≡◌, ℕ, Bool, true, false, cond, not, ◌==◌, List, [], ◌∷◌, Option, Some, None, Result, Ok, Err, ◌⊎◌, inl, inr, refl, sym, subst, arith}
 use Rattle.std.specs.List.{list_all}
 use Rattle.std.proofs.lemmas.Bool.{eqb-true}
 use Rattle.prop_lattice.specs.declared.refusal.Refusal.{Refusal}
-use Rattle.prop_lattice.specs.declared.refusal.Refusal.TheVariants.{Memory, LineTooLong, NotUtf8, NotAName, NotANumber}
+use Rattle.prop_lattice.specs.declared.refusal.Refusal.TheVariants.{Memory, NotAName, NotANumber}
 use Rattle.prop_procedures.specs.Stored.{Stored}
 use Rattle.prop_language.specs.Commands.{Command}
 use Rattle.prop_language.specs.Tokens.{Token, Word, Open, Close, Semicolon, Equals, Star, tokens, is_blank, front_word}
 use Rattle.prop_language.specs.Names.{is_name}
-use Rattle.prop_language.specs.Forms.{forms}
-use Rattle.prop_language.specs.Reading.{reading, reading_of, command_of, by_form_of, command_in_form, is_silent, without_return, names_in, is_in_range}
+use Rattle.prop_language.specs.Reading.{AskFor, IsReading, AsRead, command_in_range, is_silent, without_return, names_in, is_in_range}
+use Rattle.prop_language.proofs.ReadingLaws.{have_one_reading}
 use Rattle.prop_language.specs.Said.{KeepsWords}
 use Rattle.prop_engine.specs.Answers.{Refused}
 use Rattle.prop_workbench.specs.Machine.{State}
@@ -52,56 +50,31 @@ heard_words text keeps h = by (silent_tokens text h)
     by (inl e) = subst KeepsWords e keeps
     by (inr p) = keeps_no_comment p.0 p.1 (subst KeepsWords p.2 keeps)
 
-form_heard : (o : Option Command) → command_in_form o ≡ Ok None → ⊥
-form_heard None h = cc
-form_heard (Some command) h = by (not (list_all is_name (names_in command))) (not (is_in_range command)) h
+ranged_heard : (command : Command) → Ok None ≡ command_in_range command → ⊥
+ranged_heard command h = by (not (list_all is_name (names_in command))) (not (is_in_range command)) h
   where
-    by : (s t : Bool) → cond s (Err NotAName) (cond t (Err NotANumber) (Ok (Some command))) ≡ Ok None → ⊥
+    by : (s t : Bool) → Ok None ≡ cond s (Err NotAName) (cond t (Err NotANumber) (Ok (Some command))) → ⊥
     by true t e = cc
     by false true e = cc
-    by false false e = let f : Some command ≡ None = cc in cc
+    by false false e = let f : None ≡ Some command = cc in cc
 
-entry_heard : (o : Option (List ℕ × (List Token → Option Command))) (ts : List Token) → by_form_of o ts ≡ Ok None → ⊥
-entry_heard None ts h = cc
-entry_heard (Some form) ts h = form_heard (form.1 ts) h
+asked_heard : (ts : List Token) → AskFor ts (Ok None) → ⊥
+asked_heard ts (inl (command, s, e)) = ranged_heard command e
+asked_heard ts (inr (n, e)) = cc
 
-command_heard : (ts : List Token) → command_of ts ≡ Ok None → ⊥
-command_heard [] h = cc
-command_heard (Word w ∷ ts) h = entry_heard (find (λ form. bytes_eq form.0 w) forms) ts h
-command_heard (Open ∷ ts) h = cc
-command_heard (Close ∷ ts) h = cc
-command_heard (Semicolon ∷ ts) h = cc
-command_heard (Equals ∷ ts) h = cc
-command_heard (Star ∷ ts) h = cc
+pub heard : (line : List ℕ) → KeepsWords (tokens (without_return line)) → IsReading line (Ok None) → ⊥
+heard line keeps (inl (l, e)) = cc
+heard line keeps (inr (l, inl (n, e))) = cc
+heard line keeps (inr (l, inr (inl (u, s, e)))) = heard_words (without_return line) keeps s
+heard line keeps (inr (l, inr (inr (u, s, a)))) = asked_heard (tokens (without_return line)) a
 
-text_heard : (text : List ℕ) → KeepsWords (tokens text) → reading_of text ≡ Ok None → ⊥
-text_heard text keeps h = by (not (is_utf8 text)) (is_silent text) refl h
+-- a line that is refused while it is read, or for want of memory
+pub follows_refused : (line : List ℕ) (refusal : Refusal) → (refusal ≡ Memory) ⊎ IsReading line (Err refusal) → ((refusal ≡ Memory) → KeepsWords (tokens (without_return line))) →
+    AsRead line (λ read. (library : List Stored) (old : State) → Follows library old read (Refused refusal) old 0)
+follows_refused line refusal (inl m) keeps = by (have_one_reading line).0 (have_one_reading line).1
   where
-    by : (s t : Bool) → is_silent text ≡ t → cond s (Err NotUtf8) (cond t (Ok None) (command_of (tokens text))) ≡ Ok None → ⊥
-    by true t e f = cc
-    by false true e f = heard_words text keeps e
-    by false false e f = command_heard (tokens text) f
-
-pub heard : (line : List ℕ) → KeepsWords (tokens (without_return line)) → reading line ≡ Ok None → ⊥
-heard line keeps h = by (nat_lt 4096 (length line)) h
-  where
-    by : (t : Bool) → cond t (Err LineTooLong) (reading_of (without_return line)) ≡ Ok None → ⊥
-    by true e = cc
-    by false e = text_heard (without_return line) keeps e
-
--- want of memory while a line is read
-pub follows_lacking : (library : List Stored) (old : State) (line : List ℕ) → KeepsWords (tokens (without_return line)) → Follows library old (reading line) (Refused Memory) old 0
-follows_lacking library old line keeps = by (reading line) refl
-  where
-    by : (r : Result (Option Command) Refusal) → reading line ≡ r → Follows library old r (Refused Memory) old 0
-    by (Ok None) e = absurd (heard line keeps e)
-    by (Ok (Some command)) e = lacks library old old command 0 refl
-    by (Err refusal) e = inr (record { answer_is = refl; same = refl })
-
--- a line that is refused while it is read
-pub follows_refused : (library : List Stored) (old : State) (line : List ℕ) (refusal : Refusal) → (refusal ≡ Memory) ⊎ (reading line ≡ Err refusal) →
-    ((refusal ≡ Memory) → KeepsWords (tokens (without_return line))) → Follows library old (reading line) (Refused refusal) old 0
-follows_refused library old line refusal (inl m) keeps =
-    subst (λ (r : Refusal). Follows library old (reading line) (Refused r) old 0) (sym m) (follows_lacking library old line (keeps m))
-follows_refused library old line refusal (inr e) keeps =
-    subst (λ (r : Result (Option Command) Refusal). Follows library old r (Refused refusal) old 0) (sym e) (inl (record { answer_is = refl; same = refl; no_steps = refl }))
+    by : (r : Result (Option Command) Refusal) → IsReading line r → AsRead line (λ read. (library : List Stored) (old : State) → Follows library old read (Refused refusal) old 0)
+    by (Ok None) e = absurd (heard line (keeps m) e)
+    by (Ok (Some command)) e = (Ok (Some command), e, λ library old. rw m (lacks library old old command 0 refl))
+    by (Err other) e = (Err other, e, λ library old. inr (record { answer_is = rw m refl; same = refl }))
+follows_refused line refusal (inr e) keeps = (Err refusal, e, λ library old. inl (record { answer_is = refl; same = refl; no_steps = refl }))

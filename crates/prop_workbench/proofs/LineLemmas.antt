@@ -11,12 +11,13 @@ use Rattle.prop_cells.specs.Data.{Data}
 use Rattle.prop_amb.specs.Refuted.{IsCovered}
 use Rattle.prop_language.specs.Commands as commands
 use Rattle.prop_language.specs.Commands.{Command}
-use Rattle.prop_language.specs.Reading.{reading}
 use Rattle.prop_engine.specs.Answers.{Answer, Silent, Done, Text, Refused}
 use Rattle.prop_workbench.specs.Machine.{State, choices_in, worldview_at}
 use Rattle.prop_workbench.specs.Reasons.{IsLeanReply, IsLeanAnswer}
 use Rattle.prop_workbench.specs.Refusing.{refusal_of}
+use Rattle.prop_language.specs.Reading.{IsReading}
 use Rattle.prop_workbench.specs.Steps.{Shown, Covers, Runs, CarriesUnless, Follows, IsStepOf}
+use Rattle.prop_workbench.specs.inner.Steps.{IsFollowed}
 use Rattle.prop_workbench.proofs.PremiseLemmas.{same_set}
 use Rattle.prop_workbench.proofs.StepLemmas.{still_lacks}
 
@@ -25,10 +26,16 @@ pub covers_none : (s : Shown) → Covers s []
 covers_none s = All-nil (λ m. IsCovered (choices_in s.state) s.learned (set_of m))
 
 -- where memory was refused, any number of steps may have been taken
-pub still_lacking : (library : List Stored) (old new : Shown) (line : List ℕ) (answer : Answer) (steps others : ℕ) → answer ≡ Refused Memory → IsStepOf library old line answer new steps → IsStepOf library old line answer new others
-still_lacking library old new line answer steps others e step named covers =
+pub still_lacking : (library : List Stored) (old new : Shown) (read : Result (Option Command) Refusal) (answer : Answer) (steps others : ℕ) → answer ≡ Refused Memory → IsFollowed library read answer steps old new → IsFollowed library read answer others old new
+still_lacking library old new read answer steps others e step named covers =
     let r = step named covers in
-    record { now = r.now; covers = r.covers; step = still_lacks library _ _ (reading line) answer steps others e r.step }
+    record { now = r.now; covers = r.covers; step = still_lacks library _ _ read answer steps others e r.step }
+
+-- a line that is followed as it is read is a step
+pub step_of_read : (library : List Stored) (old new : Shown) (line : List ℕ) (read : Result (Option Command) Refusal) (answer : Answer) (steps : ℕ) → IsReading line read → IsFollowed library read answer steps old new → IsStepOf library old line answer new steps
+step_of_read library old new line read answer steps is_read follows named covers =
+    let r = follows named covers in
+    record { now = r.now; covers = r.covers; step = (read, is_read, r.step) }
 
 -- ---- a text to what asks why leaves the premises
 

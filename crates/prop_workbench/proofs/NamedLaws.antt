@@ -12,7 +12,7 @@ use Rattle.prop_workbench.specs.Machine.{State, naming}
 use Rattle.prop_workbench.specs.Steps.{Shown, Covers}
 use Rattle.prop_workbench.specs.Points.{SaysPoint, IsBorneOut, BearsOut, HoldsPoints}
 use Rattle.prop_workbench.specs.Engine.{workbench, learning}
-use Rattle.prop_workbench.specs.Shown.{ShownRunsAreRuns, ShownTranscripts, ShownFronts}
+use Rattle.prop_workbench.specs.inner.Shown.{ShownTranscripts, ShownPrefixes}
 
 module _ (library : List Stored) (related : ℕ → Param → List Point → Point → Type 0) (s : State) (named : List (List ℕ)) where
   borne_named : (text : List ℕ) (settled unsettled settled_then unsettled_then : List ℕ → (ℕ → Point) → Type 0) → ((list : List ℕ) (points : ℕ → Point) → settled list points → settled_then list points) →
@@ -76,16 +76,12 @@ run_named library related old new (line ∷ lines) (a ∷ ls) (mid, shows, rest)
     let more = run_named library related mid new lines ls rest step.now step.covers in
     (more.0, more.1, (naming mid.state step.now, record { steps = shows.steps; step = step.step; points = λ sound. points_named library related old.state named line a (shows.points sound) }, more.2))
 
-pub shown_runs_are_runs : (library : List Stored) (related : ℕ → Param → List Point → Point → Type 0) → ShownRunsAreRuns library related
-shown_runs_are_runs library related old new lines answers r named covers =
-    let x = run_named library related old new lines answers r named covers in record { now = x.0; covers = x.1; done = x.2 }
-
 pub shown_transcripts : (library : List Stored) (related : ℕ → Param → List Point → Point → Type 0) → ShownTranscripts library related
 shown_transcripts library related old new input output lines refused t named covers =
     let x = run_named library related old new _ t.answers t.run named covers in
     record { now = x.0; covers = x.1; done = record { answers = t.answers; run = x.2; output_is = t.output_is; lines_counted = t.lines_counted; refused_counted = t.refused_counted } }
 
-pub shown_fronts : (library : List Stored) (related : ℕ → Param → List Point → Point → Type 0) → ShownFronts library related
-shown_fronts library related old input output f named covers =
+pub shown_prefixes : (library : List Stored) (related : ℕ → Param → List Point → Point → Type 0) → ShownPrefixes library related
+shown_prefixes library related old input output f named covers =
     let x = shown_transcripts library related old f.new input (output ++ f.rest) f.lines_count f.refused_count f.transcript named covers in
     record { rest = f.rest; lines_count = f.lines_count; refused_count = f.refused_count; new = naming f.new.state x.now; transcript = x.done }

@@ -5,7 +5,8 @@ use Rattle.prop_language.specs.Commands as commands
 use Rattle.prop_language.specs.Commands.{Command}
 use Rattle.prop_workbench.specs.Machine.{State, naming}
 use Rattle.prop_workbench.specs.Refusing.{refusal_of}
-use Rattle.prop_workbench.specs.Effects.{effect, named_after, forgotten_in, without_named}
+use Rattle.prop_workbench.specs.Effects.{effect}
+use Rattle.prop_workbench.specs.inner.Effects.{named_after, forgotten_in, without_named}
 use Rattle.prop_workbench.specs.Agreeing.{AreAlike}
 
 pub refusal_naming : (library : List Stored) (s : State) (named : List (List ℕ)) (command : Command) → refusal_of library (naming s named) command ≡ refusal_of library s command
@@ -64,6 +65,3 @@ effect_alike library s t command e = sym (nothing_named t) ∙ ap (λ u. effect 
   where
     nothing_named : (u : State) → effect library (naming u []) command ≡ naming (effect library u command) []
     nothing_named u = effect_naming library u [] command ∙ ap (λ named. naming (effect library u command) named) (none_after u command)
-
-pub alike_naming : (s t : State) (named others : List (List ℕ)) → AreAlike s t → AreAlike (naming s named) (naming t others)
-alike_naming s t named others e = e

@@ -1,5 +1,5 @@
 -- Each line leaves the premises numbered.
-use Rattle.std.proofs.Common.{◌≡◌, ◌∙◌, ℕ, zero, suc, ◌+◌, ◌<◌, ◌≤◌, IsTrue, Bool, true, false, cond, ◌||◌, ◌⊎◌, List, [], ◌∷◌, ◌++◌, length, Option, Some, None, Result, Ok, Err, is_some, unwrap_or, inl, inr, refl, sym, ap, arith, append-nil, length-append}
+use Rattle.std.proofs.Common.{◌≡◌, ◌∙◌, ℕ, zero, suc, ◌+◌, ◌<◌, ◌≤◌, IsTrue, Bool, true, false, cond, ◌||◌, ◌⊎◌, List, [], ◌∷◌, ◌++◌, length, Option, Some, None, Result, Ok, Err, is_some, unwrap_or, inl, inr, refl, sym, ap, subst, arith, append-nil, length-append}
 use Rattle.std.specs.List.{AllByRecursion}
 use Rattle.std.proofs.lemmas.Bool.{cases_lt, or_cases}
 use Rattle.std.proofs.lemmas.Bool.Decides.{nat_tests}
@@ -15,8 +15,8 @@ use Rattle.prop_procedures.specs.Stored.{Stored}
 use Rattle.prop_values.specs.Values.{Meant}
 use Rattle.prop_language.specs.Commands as commands
 use Rattle.prop_language.specs.Commands.{Command, Value}
-use Rattle.prop_language.specs.Reading.{reading}
-use Rattle.prop_language.proofs.RefusalLaws.{choose_counts}
+use Rattle.prop_language.specs.Reading.{IsReading}
+use Rattle.prop_language.proofs.ReadingLaws.{choose_counts}
 use Rattle.prop_engine.specs.Answers.{Answer}
 use Rattle.prop_workbench.specs.Machine.{State}
 use Rattle.prop_workbench.specs.Refusing.{refusal_of, value_at, both_meant, meants_at}
@@ -24,10 +24,6 @@ use Rattle.prop_workbench.specs.Agreeing.{AreNumbered, StepsKeepNumbers}
 use Rattle.prop_workbench.specs.Steps.{CarriesUnless, Follows}
 
 -- ---- one premise or one choice more
-
-false_true : (b : Bool) → b ≡ false → IsTrue b → ⊥
-false_true true e h = cc
-false_true false e h = cc
 
 none_true : (b : Bool) → (IsTrue b → ⊥) → b ≡ false
 none_true true h = absurd (h refl)
@@ -201,13 +197,13 @@ carried library s t None (commands.Command.Core x) answer steps n few r = rw r.n
 carried library s t None commands.Command.Worldview answer steps n few r = rw r.new_is n
 carried library s t None commands.Command.Nogoods answer steps n few r = rw r.same n
 
-followed : (library : List Stored) (s t : State) (line : List ℕ) (read : Result (Option Command) Refusal) (answer : Answer) (steps : ℕ) → reading line ≡ read → AreNumbered s.premises → Follows library s read answer t steps → AreNumbered t.premises
+followed : (library : List Stored) (s t : State) (line : List ℕ) (read : Result (Option Command) Refusal) (answer : Answer) (steps : ℕ) → IsReading line read → AreNumbered s.premises → Follows library s read answer t steps → AreNumbered t.premises
 followed library s t line (Ok None) answer steps is_read n f = rw f.1 n
 followed library s t line (Err refusal) answer steps is_read n (inl r) = rw r.same n
 followed library s t line (Err refusal) answer steps is_read n (inr l) = rw l.same n
 followed library s t line (Ok (Some command)) answer steps is_read n (inl r) =
-    carried library s t (refusal_of library s command) command answer steps n (λ name cell values e. choose_counts line name cell values (is_read ∙ ap (λ (c : Command). Ok (Some c)) e)) r
+    carried library s t (refusal_of library s command) command answer steps n (λ name cell values e. choose_counts line name cell values (subst (λ (c : Command). IsReading line (Ok (Some c))) e is_read)) r
 followed library s t line (Ok (Some command)) answer steps is_read n (inr l) = rw l.same n
 
 pub steps_keep_numbers : (library : List Stored) → StepsKeepNumbers library
-steps_keep_numbers library old new line answer steps n step = followed library old new line (reading line) answer steps refl n step
+steps_keep_numbers library old new line answer steps n (read, is_read, step) = followed library old new line read answer steps is_read n step

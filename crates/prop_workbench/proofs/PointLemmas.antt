@@ -20,6 +20,7 @@ use Rattle.prop_workbench.specs.Machine.{State, problem_in, choices_in, worldvie
 use Rattle.prop_workbench.specs.Points.{attached_in, Satisfy, SaysPoint, AreRefuted, BearsOut, HoldsPoints}
 use Rattle.prop_workbench.specs.Refusing.{refusal_of}
 use Rattle.prop_workbench.specs.Running.{Outcome, Settled, Unsettled, Contradiction, MayEnd, Contradicts, IsSettledValue, IsUnsettledValue, IsValueReply, IsExplainedReply, Replies}
+use Rattle.prop_language.proofs.ReadingLaws.{one_reading}
 use Rattle.prop_workbench.specs.Steps.{Runs, Obeys, CarriesUnless, Follows, Step}
 use Rattle.prop_texts.specs.Texts.{because}
 use Rattle.prop_workbench.proofs.AgreeLaws.{believed_is_user}
@@ -105,6 +106,6 @@ module _ (library : List Stored) (related : ℕ → Param → List Point → Poi
 
 -- what a step answers says of points no more than is so
 pub step_holds_points : (library : List Stored) (related : ℕ → Param → List Point → Point → Type 0) → AreSoundBy library related → (old : State) → AreFitting library (attached_in old) → IsNumbered old.premises → (line : List ℕ) (answer : Answer) (new : State) (steps : ℕ) → Step library old line answer new steps → HoldsPoints library related old line answer
-step_holds_points library related sound old fit numbered line answer new steps step command text read e =
-    let follows : Follows library old (Ok (Some command)) answer new steps = subst (λ (r : Result (Option Command) Refusal). Follows library old r answer new steps) read step in
+step_holds_points library related sound old fit numbered line answer new steps (read, is_read, step) command text is_command e =
+    let follows : Follows library old (Ok (Some command)) answer new steps = subst (λ (r : Result (Option Command) Refusal). Follows library old r answer new steps) (one_reading line (Ok (Some command)) read is_command is_read) step in
     obeyed library related sound old fit numbered command answer new steps text follows e

@@ -12,7 +12,7 @@ use Rattle.prop_language.specs.Commands.{Command}
 use Rattle.prop_engine.specs.Answers.{Answer, Says, Silent, Done, Text, Refused}
 use Rattle.prop_workbench.specs.declared.asking.Question.{Question}
 use Rattle.prop_workbench.specs.declared.asking.Question.TheVariants.{Settle, Worldview, Ask, Why}
-use Rattle.prop_workbench.specs.Questions.{command_of}
+use Rattle.prop_workbench.specs.inner.Questions.{command_of}
 use Rattle.prop_workbench.specs.Machine.{State, text_at}
 use Rattle.prop_workbench.specs.Reasons.{IsLeanExplanation, IsContradiction, IsLeanReply, IsLeanAnswer}
 use Rattle.prop_workbench.specs.Sessions.{state_from}
@@ -44,12 +44,6 @@ lean_answer believed d s name Silent lean = tt
 lean_answer believed d s name Done lean = tt
 lean_answer believed d s name (Text text) lean = lean text refl
 lean_answer believed d s name (Refused refusal) lean = tt
-
-pub lean_refused : (believed : Members) (d : Data) (s : State) (question : Question) (refusal : Refusal) → IsLeanAnswer believed d s (Ok (Some (command_of question))) (Refused refusal)
-lean_refused believed d s Settle refusal = tt
-lean_refused believed d s Worldview refusal = tt
-lean_refused believed d s (Ask cell name) refusal = tt
-lean_refused believed d s (Why cell name) refusal = tt
 
 pub lean_contradicted : (believed : Members) (d : Data) (s : State) (question : Question) (answer : Answer) → ((text : List ℕ) → answer ≡ Text text → IsContradiction s text) → IsLeanAnswer believed d s (Ok (Some (command_of question))) answer
 lean_contradicted believed d s Settle answer lean = tt

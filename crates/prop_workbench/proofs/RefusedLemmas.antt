@@ -2,6 +2,7 @@
 use Rattle.std.proofs.Common.{◌≡◌, ◌∙◌, ℕ, List, [], ◌∷◌, Some, None, map, length, ◌+◌, ◌-◌, ◌⊎◌, inl, inr}
 use Rattle.prop_lattice.specs.declared.refusal.Refusal.{Refusal}
 use Rattle.prop_lattice.specs.declared.refusal.Refusal.TheVariants.{Memory}
+use Rattle.prop_lattice.specs.Refusals.{first_of}
 use Rattle.prop_procedures.specs.Stored.{Stored}
 use Rattle.prop_procedures.specs.Fitting.{kind_at}
 use Rattle.prop_premises.specs.Origins.{Origin}
@@ -12,7 +13,6 @@ use Rattle.prop_compound.specs.Expanding.{expand_refusal}
 use Rattle.prop_compound.specs.Flattened.{expansion_of_flat}
 use Rattle.prop_procedures.specs.declared.flat.Flat.{Flat}
 use Rattle.prop_vocabulary.specs.Cells.{CellNames}
-use Rattle.prop_vocabulary.specs.Refusing.{first_of}
 use Rattle.prop_vocabulary.specs.Vocabulary.{Vocabulary}
 use Rattle.prop_workbench.specs.Machine.{State}
 use Rattle.prop_scheduler.specs.Making.{room_refusal}

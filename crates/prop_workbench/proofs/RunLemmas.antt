@@ -15,13 +15,15 @@ use Rattle.prop_nogoods.specs.Stores.{AreMinimal}
 use Rattle.prop_workbench.specs.Machine.{State, naming, problem_in, choices_in}
 use Rattle.prop_amb.specs.declared.outcome.Outcome as ends
 use Rattle.prop_amb.specs.declared.outcome.Outcome.TheVariants as ended
-use Rattle.prop_workbench.specs.Questions.{outcome_of, IfContradiction, MaySay}
+use Rattle.prop_workbench.specs.Questions.{outcome_of}
+use Rattle.prop_workbench.specs.inner.Questions.{IfContradiction, MaySay}
 use Rattle.prop_workbench.specs.Refusing.{refusal_of}
 use Rattle.prop_workbench.specs.Running.{Outcome, Settled, Unsettled, Contradiction, named_by, MayEnd, IsRest, IsValue, IsValueReply, IsExplainedReply, Replies}
 use Rattle.prop_procedures.specs.declared.shape.Param.{Param}
 use Rattle.prop_workbench.specs.declared.session.Session.{Session}
-use Rattle.prop_workbench.specs.Sessions.{Keeps}
-use Rattle.prop_workbench.specs.Steps.{Shown, Covers, IsObeyed, Runs, Carries}
+use Rattle.prop_workbench.specs.inner.Sessions.{Keeps}
+use Rattle.prop_workbench.specs.Steps.{Shown, Covers, Runs, Carries}
+use Rattle.prop_workbench.specs.inner.Steps.{IsObeyed}
 use Rattle.prop_workbench.proofs.NamingLaws.{refusal_naming}
 use Rattle.prop_workbench.proofs.StepLemmas.{obeys, refuses}
 use Rattle.prop_workbench.proofs.CoveringLemmas.{KeepsCover, covers_still, covers_more}
@@ -79,32 +81,8 @@ replies_named library s named (commands.Command.Why x) (Unsettled list) steps te
 replies_named library s named (commands.Command.Core x) (Settled list) steps text (inl r) = inl (record { explained = settled_reply_named library s named list x [] text r.explained; least = record { entails = r.least.entails; needed = r.least.needed } })
 replies_named library s named (commands.Command.Core x) (Settled list) steps text (inr r) = inr (settled_reply_named library s named list x (codes " not reduced") text r.0, r.1, r.2)
 replies_named library s named (commands.Command.Core x) (Unsettled list) steps text r = (unsettled_reply_named library s named list x (codes " unsettled") text r.0, r.1)
-replies_named library s named (commands.Command.Domain name elements) (Settled list) steps text r = absurd r
-replies_named library s named (commands.Command.Domain name elements) (Unsettled list) steps text r = absurd r
-replies_named library s named (commands.Command.Relation name from to pairs) (Settled list) steps text r = absurd r
-replies_named library s named (commands.Command.Relation name from to pairs) (Unsettled list) steps text r = absurd r
-replies_named library s named (commands.Command.Cell name kind) (Settled list) steps text r = absurd r
-replies_named library s named (commands.Command.Cell name kind) (Unsettled list) steps text r = absurd r
-replies_named library s named (commands.Command.Define name params body) (Settled list) steps text r = absurd r
-replies_named library s named (commands.Command.Define name params body) (Unsettled list) steps text r = absurd r
-replies_named library s named (commands.Command.Attach name cells by) (Settled list) steps text r = absurd r
-replies_named library s named (commands.Command.Attach name cells by) (Unsettled list) steps text r = absurd r
-replies_named library s named (commands.Command.Fix cell value) (Settled list) steps text r = absurd r
-replies_named library s named (commands.Command.Fix cell value) (Unsettled list) steps text r = absurd r
-replies_named library s named (commands.Command.Tell premise cell value) (Settled list) steps text r = absurd r
-replies_named library s named (commands.Command.Tell premise cell value) (Unsettled list) steps text r = absurd r
-replies_named library s named (commands.Command.Choose name cell values) (Settled list) steps text r = absurd r
-replies_named library s named (commands.Command.Choose name cell values) (Unsettled list) steps text r = absurd r
-replies_named library s named (commands.Command.Kick premise) (Settled list) steps text r = absurd r
-replies_named library s named (commands.Command.Kick premise) (Unsettled list) steps text r = absurd r
-replies_named library s named (commands.Command.Bring premise) (Settled list) steps text r = absurd r
-replies_named library s named (commands.Command.Forget premise) (Settled list) steps text r = absurd r
-replies_named library s named (commands.Command.Bring premise) (Unsettled list) steps text r = absurd r
-replies_named library s named (commands.Command.Forget premise) (Unsettled list) steps text r = absurd r
-replies_named library s named (commands.Command.Limit n) (Settled list) steps text r = absurd r
-replies_named library s named (commands.Command.Limit n) (Unsettled list) steps text r = absurd r
-replies_named library s named commands.Command.Nogoods (Settled list) steps text r = absurd r
-replies_named library s named commands.Command.Nogoods (Unsettled list) steps text r = absurd r
+replies_named library s named command (Settled list) steps text r = absurd r
+replies_named library s named command (Unsettled list) steps text r = absurd r
 
 -- what is named when a run has ended is covered, where a contradiction that ended it is
 abbrev pub IsCoveredEnd : Shown → Outcome → Type 0

@@ -1,11 +1,13 @@
 -- What a search keeps where a belief changes, a statement is made, or a name is taken up.
-use Rattle.std.proofs.Common.{◌≡◌, ◌∙◌, ℕ, zero, suc, Bool, true, false, not, IsTrue, List, [], ◌∷◌, ◌++◌, Contains, All, Some, None, ◌+◌, ◌<◌, ◌==◌, ◌||◌, map, unwrap_or, length, get_or, arith, refl, sym, ap}
+use Rattle.std.proofs.Common.{◌≡◌, ◌∙◌, ℕ, zero, suc, Bool, true, false, not, IsTrue, List, [], ◌∷◌, ◌++◌, Contains, All, Ok, Some, None, ◌+◌, ◌<◌, ◌==◌, ◌||◌, map, unwrap_or, length, get_or, arith, refl, sym, ap}
 use Rattle.std.proofs.lemmas.Bool.Decides.{nat_tests}
 use Rattle.std.proofs.lemmas.List.{length-append}
 use Rattle.std.proofs.lemmas.List.Elements.{All-filter, All-weaker, Contains-get_or, Contains-append_left}
 use Rattle.prop_premises.specs.Sets.{Members, set_of}
-use Rattle.prop_premises.specs.Origins.{Origin, User, Side, believed_in, is_user_at, premise_number, with_belief_at}
+use Rattle.prop_premises.specs.Origins.{Origin, User, Side, believed_in, is_user_at, is_choice, premise_number, with_belief_at}
 use Rattle.prop_premises.proofs.ChoiceLemmas.{choices_of-user, choices_of-with_belief_at}
+use Rattle.prop_lattice.specs.declared.info.Info.{Info}
+use Rattle.prop_procedures.specs.declared.shape.Param.{Param}
 use Rattle.prop_procedures.specs.Stored.{Stored}
 use Rattle.prop_cells.specs.declared.instance.Statement.{Statement}
 use Rattle.prop_cells.specs.Problems.{Extends}
@@ -15,17 +17,21 @@ use Rattle.prop_cells.specs.Forgetting.{forgotten, is_under}
 use Rattle.prop_scheduler.specs.Agendas.{Waiting}
 use Rattle.prop_scheduler.specs.Turns.{IsUnderWay}
 use Rattle.prop_amb.specs.Refuted.{IsCovered}
-use Rattle.prop_amb.specs.Search.{Stand, IsStand, IsSearch, choices_in}
+use Rattle.prop_amb.specs.Search.{Stand, IsStand, IsSearch, choices_in, users_of}
 use Rattle.prop_amb.specs.Moving.{interned}
 use Rattle.prop_amb.proofs.KeepingLaws.{search_extends}
-use Rattle.prop_workbench.specs.Sessions.{IsAtWork}
+use Rattle.prop_workbench.specs.declared.session.Session.{Session}
+use Rattle.prop_workbench.specs.inner.Carrying.{IsDone}
+use Rattle.prop_workbench.specs.Sessions.{state_from, state_of, library_of, IsAtWork, IsInOrder}
+use Rattle.prop_workbench.specs.inner.Sessions.{Keeps}
+use Rattle.prop_workbench.proofs.BeliefLemmas.{belief_command, believed_or_not}
 use Rattle.prop_scheduler.specs.Watching.{IsWatched}
 use Rattle.prop_workbench.proofs.PremiseLemmas.{known_more, under_way_agree, watched_agree}
 
 -- ---- a belief
 
 -- what is believed already, or not, changes nothing
-pub with_belief_same : (os : List Origin) (p : ℕ) (b : Bool) → IsTrue (is_user_at os p) → believed_in os p ≡ b → with_belief_at os p b ≡ os
+with_belief_same : (os : List Origin) (p : ℕ) (b : Bool) → IsTrue (is_user_at os p) → believed_in os p ≡ b → with_belief_at os p b ≡ os
 with_belief_same [] p b u e = cc
 with_belief_same (User name was ∷ os) zero b u e = ap (λ (x : Bool). User name x ∷ os) (sym e)
 with_belief_same (Side name side sides ∷ os) zero b u e = cc
@@ -37,7 +43,7 @@ length-with_belief_at (o ∷ os) zero b = refl
 length-with_belief_at (o ∷ os) (suc p) b = ap suc (length-with_belief_at os p b)
 
 -- a search in which one premise is believed, or not, is at work where it is under way
-pub believing_at_work : (library : List Stored) (old new : Stand) (p : ℕ) (b : Bool) (d : Data) (before after : Waiting) → IsAtWork library old d before → new.premises ≡ with_belief_at old.premises p b → IsStand new →
+believing_at_work : (library : List Stored) (old new : Stand) (p : ℕ) (b : Bool) (d : Data) (before after : Waiting) → IsAtWork library old d before → new.premises ≡ with_belief_at old.premises p b → IsStand new →
     (IsSearch (problem_of library d) old → IsSearch (problem_of library d) new) → IsUnderWay library (set_of new.worldview) d after.line → after.room ≡ before.room → IsWatched (set_of new.worldview) d after.watched → after.cells ≡ before.cells → IsAtWork library new d after
 believing_at_work library old new p b d before after work changed stand search under_way room watch space = record {
   under_way = under_way;
@@ -49,16 +55,48 @@ believing_at_work library old new p b d before after work changed stand search u
   cells = rw space work.cells;
 }
 
-pub believing_covers : (old new : Stand) (p : ℕ) (b : Bool) → new.premises ≡ with_belief_at old.premises p b → new.listed ≡ old.listed → (m : Members) → IsCovered (choices_in old) old.listed m → IsCovered (choices_in new) new.listed m
+believing_covers : (old new : Stand) (p : ℕ) (b : Bool) → new.premises ≡ with_belief_at old.premises p b → new.listed ≡ old.listed → (m : Members) → IsCovered (choices_in old) old.listed m → IsCovered (choices_in new) new.listed m
 believing_covers old new p b changed listed m h = rw (changed, listed, choices_of-with_belief_at old.premises p b) h
 
--- ---- a stand that is as it was
+-- a session in whose search one premise is believed, or not, keeps what it has to, where it is under way again
+pub believing_keeps : {R O : Type 0} {X : Type 0} {F : X → Type 0} {g : _} (value : R → Param → List Info → Info) (s : Session R O X F g) (new : Stand) (after : Waiting) (p : ℕ) (b : Bool) → IsInOrder value s → new.premises ≡ with_belief_at s.search.premises p b → new.listed ≡ s.search.listed → IsStand new →
+    (IsSearch (problem_of (library_of value s) s.network.cells) s.search → IsSearch (problem_of (library_of value s) s.network.cells) new) → IsUnderWay (library_of value s) (set_of new.worldview) s.network.cells after.line → after.room ≡ s.agenda.room →
+    IsWatched (set_of new.worldview) s.network.cells after.watched → after.cells ≡ s.agenda.cells → Keeps value s (record s { search = new; agenda = after })
+believing_keeps value s new after p b sound changed listed stand search under_way room watch space = record {
+  library = refl;
+  sound = record {
+    at_work = believing_at_work (library_of value s) s.search new p b s.network.cells s.agenda after sound.at_work changed stand search under_way room watch space;
+    sized = sound.sized;
+    locals = sound.locals;
+    named = sound.named;
+    defined = sound.defined;
+  };
+  steps = refl;
+  covers = believing_covers s.search new p b changed listed;
+}
 
-pub same_at_work : (library : List Stored) (old new : Stand) (d : Data) (agenda : Waiting) → new ≡ old → IsAtWork library old d agenda → IsAtWork library new d agenda
-same_at_work library old new d agenda e work = rw e work
+-- ---- a search that is as it was
 
-pub same_covers : (old new : Stand) → new ≡ old → (m : Members) → IsCovered (choices_in old) old.listed m → IsCovered (choices_in new) new.listed m
-same_covers old new e m h = rw e h
+-- so is the session, where the network and what waits are so too
+pub back_keeps : {R O : Type 0} {X : Type 0} {F : X → Type 0} {g : _} (value : R → Param → List Info → Info) (s new : Session R O X F g) (stand : Stand) → IsInOrder value s → stand ≡ s.search → new.network.library ≡ s.network.library → new.network.cells ≡ s.network.cells → new.agenda ≡ s.agenda →
+    Keeps value s (record s { search = stand; network = new.network; agenda = new.agenda })
+back_keeps value s new stand sound same library cells agenda = record {
+  library = library;
+  sound = record { at_work = rw (same, library, cells, agenda) sound.at_work; sized = rw cells sound.sized; locals = sound.locals; named = rw cells sound.named; defined = rw library sound.defined };
+  steps = refl;
+  covers = λ m h. rw same h;
+}
+
+pub same_keeps : {R O : Type 0} {X : Type 0} {F : X → Type 0} {g : _} (value : R → Param → List Info → Info) (s : Session R O X F g) (stand : Stand) → IsInOrder value s → stand ≡ s.search → Keeps value s (record s { search = stand })
+same_keeps value s stand sound same = back_keeps value s s stand sound same refl refl refl
+
+-- and a premise is believed in it, or not, that was so already
+pub same_done : {R O : Type 0} {X : Type 0} {F : X → Type 0} {g : _} (value : R → Param → List Info → Info) (s : Session R O X F g) (new : Stand) (b : Bool) (name : List ℕ) (p : ℕ) → new ≡ s.search → premise_number s.search.premises name ≡ Some p → is_choice s.search.premises name ≡ false →
+    IsTrue (is_user_at s.search.premises p) → users_of s.search p ≡ b → IsDone value s (belief_command b name) (Ok tt) (record s { search = new })
+same_done value s new b name p same found free user was =
+    let changed : new.premises ≡ with_belief_at s.search.premises p b = ap (λ (t : Stand). t.premises) same ∙ sym (with_belief_same s.search.premises p b user was) in
+    believed_or_not (library_of value s) (state_of s) (state_from s.names s.words s.definitions new.premises s.network.cells s.limit) b name (Ok tt)
+    (p, found, free, λ i. state_from s.names s.words s.definitions (changed i) s.network.cells s.limit) tt tt
 
 -- ---- one more statement
 

@@ -1,5 +1,5 @@
 -- Steps of the machine from what its parts were tested for.
-use Rattle.std.proofs.Common.{◌≡◌, ◌∙◌, ◌≤◌, arith, ℕ, true, false, length, ◌++◌, ap, List, [], ◌∷◌, Option, Some, None, Result, Ok, Err, ◌⊎◌, inl, inr, refl, sym, subst}
+use Rattle.std.proofs.Common.{◌≡◌, ◌∙◌, ◌≤◌, arith, ℕ, true, false, length, ◌++◌, ap, List, [], ◌∷◌, Option, Some, None, Result, Ok, Err, ◌⊎◌, inl, inr, unwrap_or, refl, sym, subst}
 use Rattle.prop_lattice.specs.declared.refusal.Refusal.{Refusal}
 use Rattle.prop_lattice.specs.declared.refusal.Refusal.TheVariants.{Memory, NameTaken, NoSuchDomain}
 use Rattle.prop_premises.specs.Origins.{Origin}
@@ -7,17 +7,17 @@ use Rattle.prop_procedures.specs.declared.shape.Kinded.{Kinded}
 use Rattle.prop_cells.specs.Data.{Data}
 use Rattle.prop_cells.specs.Refusing.{cell_refusal}
 use Rattle.prop_compound.specs.Definitions.{Definitions}
-use Rattle.prop_compound.specs.Defining.{kind_named}
+use Rattle.prop_compound.specs.Kinds.{kind_named}
 use Rattle.prop_vocabulary.specs.Vocabulary.{Vocabulary}
 use Rattle.prop_workbench.specs.Sessions.{state_from}
-use Rattle.prop_procedures.specs.Stored.{Stored}
+use Rattle.prop_procedures.specs.Stored.{Stored, span_kind}
 use Rattle.prop_language.specs.Commands as commands
 use Rattle.prop_language.specs.Commands.{KindWord, Command}
 use Rattle.std.specs.Prelude.{⊤, OnOk, OnErr, IfErr}
+use Rattle.prop_lattice.specs.Refusals.{first_of}
 use Rattle.prop_engine.specs.Answers.{Answer, Silent, Done, Text, Refused, answer_done}
 use Rattle.prop_workbench.specs.Machine.{State}
-use Rattle.prop_workbench.specs.Refusing.{refusal_of, limit_refusal, is_nowhere}
-use Rattle.prop_vocabulary.specs.Refusing.{first_of}
+use Rattle.prop_workbench.specs.Refusing.{refusal_of, limit_refusal}
 use Rattle.prop_workbench.specs.Steps.{Obeys, Carries, CarriesUnless, Runs, Follows}
 use Rattle.prop_vocabulary.specs.Cells.{CellNames, cell_named, with_cell_name}
 
@@ -51,32 +51,32 @@ obeys_done library old new command (Ok t) fits carries why same = obeys library 
 obeys_done library old new command (Err refusal) fits carries why same = refuses_or_lacks library old new command refusal why same
 
 -- a cell of a new name is refused for the limit alone
-pub cell_rows : (library : List Stored) (s : State) (name : List ℕ) (kind : KindWord) → cell_named s.names name ≡ None → is_nowhere s.words kind ≡ false →
+pub cell_rows : (library : List Stored) (s : State) (name : List ℕ) (kind : KindWord) (made : Kinded) → cell_named s.names name ≡ None → kind_named s.words kind ≡ Some made →
     refusal_of library s (commands.Command.Cell name kind) ≡ limit_refusal s (commands.Command.Cell name kind)
-cell_rows library s name kind none there = rw (none, there) (first_of-one (limit_refusal s (commands.Command.Cell name kind)))
+cell_rows library s name kind made none there = rw (none, there) (first_of-one (limit_refusal s (commands.Command.Cell name kind)))
 
 -- a name that a cell has, and a kind whose domain there is not
 pub cell_taken : (library : List Stored) (s : State) (name : List ℕ) (kind : KindWord) (cell : ℕ) → cell_named s.names name ≡ Some cell → refusal_of library s (commands.Command.Cell name kind) ≡ Some NameTaken
 cell_taken library s name kind cell found = rw found refl
 
-pub cell_nowhere : (library : List Stored) (s : State) (name : List ℕ) (kind : KindWord) → cell_named s.names name ≡ None → is_nowhere s.words kind ≡ true → refusal_of library s (commands.Command.Cell name kind) ≡ Some NoSuchDomain
+pub cell_nowhere : (library : List Stored) (s : State) (name : List ℕ) (kind : KindWord) → cell_named s.names name ≡ None → kind_named s.words kind ≡ None → refusal_of library s (commands.Command.Cell name kind) ≡ Some NoSuchDomain
 cell_nowhere library s name kind none missing = rw (none, missing) refl
 
 -- a cell of a new name is made
 pub cell_made : (library : List Stored) (names names' : CellNames) (words : Vocabulary) (definitions : Definitions) (premises : List Origin) (d new : Data) (limit : ℕ) (name : List ℕ) (kind : KindWord) (made : Kinded) (number : ℕ) →
-    cell_named names name ≡ None → is_nowhere words kind ≡ false → cell_refusal d ≡ None → made ≡ kind_named words kind → names' ≡ with_cell_name names name number → number ≡ length d.kinds →
+    cell_named names name ≡ None → kind_named words kind ≡ Some made → cell_refusal d ≡ None → names' ≡ with_cell_name names name number → number ≡ length d.kinds →
     new ≡ record d { kinds = d.kinds ++ made ∷ []; contents = d.contents ++ [] ∷ [] } →
     Obeys library (state_from names words definitions premises d limit) (commands.Command.Cell name kind) Done (state_from names' words definitions premises new limit) 0
-cell_made library names names' words definitions premises d new limit name kind made number none there fits is_made named counted e =
+cell_made library names names' words definitions premises d new limit name kind made number none there fits named counted e =
     obeys library (state_from names words definitions premises d limit) (state_from names' words definitions premises new limit) (commands.Command.Cell name kind) Done 0
-    (cell_rows library (state_from names words definitions premises d limit) name kind none there ∙ fits)
+    (cell_rows library (state_from names words definitions premises d limit) name kind made none there ∙ fits)
     (record {
       answer_is = refl;
       new_is = λ i. record {
         names = (named ∙ ap (with_cell_name names name) counted) i;
         words = words;
         definitions = definitions;
-        kinds = (ap (λ (x : Data). x.kinds) e ∙ ap (λ (k : Kinded). d.kinds ++ k ∷ []) is_made) i;
+        kinds = (ap (λ (x : Data). x.kinds) e ∙ ap (λ o. d.kinds ++ unwrap_or o span_kind ∷ []) (sym there)) i;
         premises = premises;
         statements = ap (λ (x : Data). x.statements) e i;
         instances = ap (λ (x : Data). x.instances) e i;

@@ -1,7 +1,7 @@
 -- Statements under a premise: what refuses one, and what it makes.
 use Rattle.std.proofs.Common.{◌≡◌, ◌∙◌, ℕ, ◌<◌, ◌≤◌, Bool, true, false, List, [], ◌∷◌, ◌++◌, Option, Some, None, Result, Ok, Err, ◌⊎◌, ◌↔◌, inl, inr, length, unwrap_or, is_some, if◌then◌else◌, nat_le, refl, sym, ap}
 use Rattle.std.proofs.lemmas.Bool.{le-leb, leb-true}
-use Rattle.prop_lattice.specs.Refusals.{most}
+use Rattle.prop_lattice.specs.Refusals.{most, first_of, when}
 use Rattle.prop_lattice.specs.declared.info.Info.{Info}
 use Rattle.prop_lattice.specs.declared.refusal.Refusal.{Refusal}
 use Rattle.prop_lattice.specs.declared.refusal.Refusal.TheVariants.{LimitReached, Memory}
@@ -13,7 +13,6 @@ use Rattle.prop_cells.specs.Refusing.{may_be_stated, state_refusal}
 use Rattle.prop_cells.specs.declared.instance.Statement.{Statement}
 use Rattle.prop_compound.specs.Definitions.{Definitions}
 use Rattle.prop_vocabulary.specs.Cells.{CellNames}
-use Rattle.prop_vocabulary.specs.Refusing.{first_of, when}
 use Rattle.prop_vocabulary.specs.Names.{number_in}
 use Rattle.prop_vocabulary.specs.Vocabulary.{Vocabulary, with_symbol}
 use Rattle.prop_workbench.specs.Effects.{number_given}

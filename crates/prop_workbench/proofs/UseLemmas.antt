@@ -17,7 +17,7 @@ use Rattle.prop_compound.specs.declared.definition.NumberedStep.TheVariants.{Loc
 use Rattle.prop_compound.specs.Definitions.{Definition, Definitions, used_named}
 use Rattle.prop_procedures.specs.Fitting.{kind_at}
 use Rattle.prop_compound.specs.Expansion.{Walk, cell_at, cells_at, param_passed, with_fresh, before, start, steps_expanded, definition_expanded, expanded_in, expanded}
-use Rattle.prop_workbench.specs.Sessions.{IsLocalOf, AreLocalsOf}
+use Rattle.prop_compound.specs.Kinds.{IsLocalOf, AreLocalsOf}
 
 -- ---- kinds
 
@@ -30,7 +30,7 @@ module _ (P : Kinded → Type 0) (span : P span_kind) where
       by (inr h) = subst P (sym (get_or_past kinds cell span_kind h)) span
 
   steps_kinds : (words : Vocabulary) (definition : ℕ → List ℕ → Option Param → Walk → Walk) → ((n : ℕ) (cells : List ℕ) (given : Option Param) (e : Walk) → All P e.kinds → All P (definition n cells given e).kinds) →
-      (given : Option Param) (cells : List ℕ) (steps : List NumberedStep) (e : Walk) → All (IsLocalOf P) steps → All P e.kinds → All P (steps_expanded words definition given cells steps e).kinds
+      (given : Option Param) (cells : List ℕ) (steps : List NumberedStep) (e : Walk) → All (IsLocalOf P) steps → All P e.kinds → All P (steps_expanded (param_passed words) definition given cells steps e).kinds
   steps_kinds words definition keeps given cells [] e locals all = all
   steps_kinds words definition keeps given cells (Local kind ∷ steps) e locals all =
       steps_kinds words definition keeps given (cells ++ length e.kinds ∷ []) steps (with_fresh e kind) (All-tail (IsLocalOf P) (Local kind) steps locals) (All-push P e.kinds kind all (All-head (IsLocalOf P) (Local kind) steps locals))
@@ -42,14 +42,14 @@ module _ (P : Kinded → Type 0) (span : P span_kind) where
   steps_kinds words definition keeps given cells (Use (uses.Definition n) places passing ∷ steps) e locals all =
       steps_kinds words definition keeps given cells steps _ (All-tail (IsLocalOf P) (Use (uses.Definition n) places passing) steps locals) (keeps n (cells_at cells places) (param_passed words given passing) e all)
 
-  either_kinds : (words : Vocabulary) (d : Definition) (earlier : List Definition) → ((n : ℕ) (cells : List ℕ) (given : Option Param) (e : Walk) → All P e.kinds → All P (definition_expanded words earlier n cells given e).kinds) →
+  either_kinds : (words : Vocabulary) (d : Definition) (earlier : List Definition) → ((n : ℕ) (cells : List ℕ) (given : Option Param) (e : Walk) → All P e.kinds → All P (definition_expanded (param_passed words) earlier n cells given e).kinds) →
       All (IsLocalOf P) d.steps → (n : ℕ) (cells : List ℕ) (given : Option Param) (e : Walk) → All P e.kinds → (b : Bool) →
-      All P (cond b (steps_expanded words (definition_expanded words earlier) given cells d.steps e) (definition_expanded words earlier n cells given e)).kinds
-  either_kinds words d earlier rest locals n cells given e all true = steps_kinds words (definition_expanded words earlier) rest given cells d.steps e locals all
+      All P (cond b (steps_expanded (param_passed words) (definition_expanded (param_passed words) earlier) given cells d.steps e) (definition_expanded (param_passed words) earlier n cells given e)).kinds
+  either_kinds words d earlier rest locals n cells given e all true = steps_kinds words (definition_expanded (param_passed words) earlier) rest given cells d.steps e locals all
   either_kinds words d earlier rest locals n cells given e all false = rest n cells given e all
 
   definition_kinds : (words : Vocabulary) (definitions : List Definition) → All (λ d. All (IsLocalOf P) d.steps) definitions → (n : ℕ) (cells : List ℕ) (given : Option Param) (e : Walk) → All P e.kinds →
-      All P (definition_expanded words definitions n cells given e).kinds
+      All P (definition_expanded (param_passed words) definitions n cells given e).kinds
   definition_kinds words [] locals n cells given e all = all
   definition_kinds words (d ∷ earlier) locals n cells given e all =
       either_kinds words d earlier (λ n cells given e. definition_kinds words earlier (All-tail (λ d. All (IsLocalOf P) d.steps) d earlier locals) n cells given e) (All-head (λ d. All (IsLocalOf P) d.steps) d earlier locals) n cells given e
@@ -61,7 +61,7 @@ module _ (P : Kinded → Type 0) (span : P span_kind) where
       subst (All Q) (sym (reverse-append (x ∷ []) xs)) (All-append Q (reverse xs) (x ∷ []) (all_reversed Q xs (All-tail Q x xs all)) (All-cons Q x [] (All-head Q x xs all) (All-nil Q)))
 
   used_kinds : (words : Vocabulary) (definitions : Definitions) → AreLocalsOf P definitions → (o : Option Used) (cells : List ℕ) (given : Option Param) (kinds : List Kinded) → All P kinds →
-      All P (option_map_or (λ used. expanded_in words definitions.definitions used cells given (before definitions.definitions used kinds given)) o (start kinds false)).kinds
+      All P (option_map_or (λ used. expanded_in (param_passed words) definitions.definitions used cells given (before definitions.definitions used kinds given)) o (start kinds false)).kinds
   used_kinds words definitions locals None cells given kinds all = all
   used_kinds words definitions locals (Some (uses.Procedure n)) cells given kinds all = all
   used_kinds words definitions locals (Some (uses.Definition n)) cells given kinds all =

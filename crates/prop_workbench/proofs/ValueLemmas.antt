@@ -14,7 +14,7 @@ use Rattle.prop_lattice.specs.declared.refusal.Refusal.{Refusal}
 use Rattle.prop_lattice.specs.declared.refusal.Refusal.TheVariants.{NotAName, NotANumber, NoSuchCell, WrongKind, NotInTheDomain, EmptyValue, IsAChoice, LimitReached, Memory}
 use Rattle.prop_lattice.specs.declared.refusal.Limit.TheVariants.{Statements}
 use Rattle.prop_lattice.specs.Ends.{AreEnds, AreSome, ends_or_not, some_or_not, span_if, span_from, elements_if, elements_from}
-use Rattle.prop_lattice.specs.Refusals.{most}
+use Rattle.prop_lattice.specs.Refusals.{most, first_of, when}
 use Rattle.prop_premises.specs.Origins.{premise_number}
 use Rattle.prop_procedures.specs.Stored.{Stored}
 use Rattle.prop_procedures.specs.declared.shape.Kinded.{Kinded}
@@ -23,7 +23,7 @@ use Rattle.std.proofs.Math.Nat.{div-eq_of_lt}
 use Rattle.std.specs.Int.{bit_at}
 use Rattle.std.proofs.lemmas.Nat.Bits.{bit_at-zero}
 use Rattle.std.proofs.lemmas.Slice.Eq.{bytes_eq-Decides}
-use Rattle.prop_sets.specs.ChosenLaws.{bits_where-lt, bits_where-has}
+use Rattle.prop_sets.specs.laws.ChosenLaws.{bits_where-lt, bits_where-has}
 use Rattle.prop_procedures.specs.Fitting.{kind_at}
 use Rattle.prop_cells.specs.Refusing.{may_be_stated, state_refusal}
 use Rattle.prop_cells.specs.Data.{Data}
@@ -33,11 +33,12 @@ use Rattle.prop_language.specs.Names.{whole_number, is_name, is_among}
 use Rattle.prop_values.specs.Values.{Meant, Known, Name, known, value_said, span_value, set_value, bits_named, ends_value, bounded_number, halves}
 use Rattle.prop_vocabulary.specs.Texts.{elements_of_kind}
 use Rattle.prop_workbench.specs.Machine.{State}
-use Rattle.prop_workbench.specs.Refusing.{refusal_of, telling_limit, stating_limit, stating_limit_at, meaning_at, is_error, is_choice_told, with_meant}
-use Rattle.prop_vocabulary.specs.Refusing.{first_of, when}
+use Rattle.prop_workbench.specs.Refusing.{refusal_of, telling_limit, stating_limit, stating_limit_at, meaning_at, is_error, with_meant}
+use Rattle.prop_workbench.specs.inner.Refusing.{is_choice_told}
 use Rattle.prop_engine.specs.Answers.{Done, answer_done}
 use Rattle.prop_workbench.specs.Steps.{Obeys, Carries}
-use Rattle.prop_workbench.specs.Effects.{stated, stating, meant_at, words_at, info_at, info_meant, MayMean}
+use Rattle.prop_workbench.specs.Effects.{stated, meant_at, words_at, info_at, info_meant}
+use Rattle.prop_workbench.specs.inner.Effects.{stating, MayMean}
 use Rattle.prop_workbench.proofs.StepLemmas.{first_of-one, obeys, refuses_or_lacks}
 use Rattle.prop_vocabulary.specs.Cells.{cell_named}
 

@@ -1,5 +1,5 @@
 -- What a vocabulary that grows keeps.
-use Rattle.std.proofs.Common.{◌≡◌, ◌∙◌, ℕ, ◌<◌, Bool, true, false, List, [], ◌∷◌, ◌++◌, Option, Some, None, All, length, slice_get, unwrap_or, is_some, if◌then◌else◌, rules, sym, ap, arith}
+use Rattle.std.proofs.Common.{◌≡◌, ◌∙◌, ℕ, ◌<◌, Bool, true, false, List, [], ◌∷◌, ◌++◌, Option, Some, None, All, length, slice_get, unwrap_or, is_some, if◌then◌else◌, rules, refl, sym, ap, arith}
 use Rattle.std.proofs.lemmas.List.{length-append, take_all}
 use Rattle.std.proofs.Math.Seq.{take-append_seam}
 use Rattle.std.proofs.lemmas.Option.{unwrap_or-slice_get}
@@ -13,14 +13,14 @@ use Rattle.prop_vocabulary.specs.Vocabulary.{Vocabulary, with_domain, with_symbo
 use Rattle.std.specs.Borrow.{Bor}
 use Rattle.prop_language.specs.Commands.{Command}
 use Rattle.prop_language.specs.Said.{words}
-use Rattle.prop_language.specs.Reading.{reading}
-use Rattle.prop_language.proofs.RefusalLaws.{reads_what_is_spelled}
+use Rattle.prop_language.specs.Reading.{IsReading}
 use Rattle.std.specs.Prelude.{Ok}
 use Rattle.prop_compound.specs.declared.definition.NumberedStep.{NumberedStep}
 use Rattle.prop_compound.specs.declared.definition.NumberedStep.TheVariants.{Local, Like, Use}
 use Rattle.prop_compound.specs.Definitions.{Definitions}
-use Rattle.prop_language.proofs.RefusalLaws.{choose_counts}
-use Rattle.prop_workbench.specs.Sessions.{IsSized, IsLocalOf, AreLocalsOf, HasElements}
+use Rattle.prop_language.proofs.ReadingLaws.{spelled, choose_counts}
+use Rattle.prop_workbench.specs.inner.Sessions.{HasElements}
+use Rattle.prop_compound.specs.Kinds.{IsSized, IsLocalOf, AreLocalsOf}
 
 -- what is true of kinds, is true of those of locals
 locals_weaker : (P Q : Kinded → Type 0) → ((k : Kinded) → P k → Q k) → (definitions : Definitions) → AreLocalsOf P definitions → AreLocalsOf Q definitions
@@ -79,8 +79,8 @@ some_elements name [] h = absurd h
 some_elements name (e ∷ es) h = omega arith
 
 -- a line that declares a domain names an element
-pub has_elements : (line : List ℕ) (o : Option Command) → reading line ≡ Ok o → HasElements o
-has_elements line (Some (Command.Domain name [])) e = ((reads_what_is_spelled line (Command.Domain name [])).0 e).1.1
+pub has_elements : (line : List ℕ) (o : Option Command) → IsReading line (Ok o) → HasElements o
+has_elements line (Some (Command.Domain name [])) e = (spelled line (Command.Domain name []) e).1 refl
 has_elements line (Some (Command.Domain name (w ∷ ws))) e = tt
 has_elements line (Some (Command.Choose name cell values)) e = choose_counts line name cell values e
 has_elements line None e = tt

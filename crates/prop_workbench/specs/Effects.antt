@@ -1,16 +1,16 @@
 -- What a command that isn't refused does to the state.
-use Rattle.std.specs.Prelude.{◌≡◌, ℕ, suc, IsTrue, List, [], ◌∷◌, ◌++◌, Option, Some, None, true, false, drop, map, length, slice_get, unwrap_or}
+use Rattle.std.specs.Prelude.{ℕ, suc, List, [], ◌∷◌, ◌++◌, Option, Some, None, true, false, drop, map, length, slice_get, unwrap_or}
 use Rattle.std.specs.Result.{result_unwrap_or}
-use Rattle.std.specs.Borrow.{Bor}
-use Rattle.std.specs.Option.{option_map, option_map_or, option_and_then}
+use Rattle.std.specs.Option.{option_map_or, option_and_then}
 use Rattle.prop_lattice.specs.declared.info.Info.{Info}
 use Rattle.prop_lattice.specs.declared.info.Info.TheVariants.{Nothing, Sym}
 use Rattle.prop_lattice.specs.declared.info.Kind.TheVariants as kinds
 use Rattle.prop_premises.specs.Origins.{Origin, premise_number, with_name, with_choice, with_belief_at}
-use Rattle.prop_procedures.specs.declared.shape.Kinded.{Kinded}
-use Rattle.prop_procedures.specs.Stored.{Stored}
+use Rattle.prop_procedures.specs.Flats.{cell_placed}
+use Rattle.prop_procedures.specs.Stored.{Stored, span_kind}
 use Rattle.prop_language.specs.Commands.{Value, Command}
-use Rattle.prop_compound.specs.Defining.{kind_named, with_definition}
+use Rattle.prop_compound.specs.Defining.{with_definition}
+use Rattle.prop_compound.specs.Kinds.{kind_named}
 use Rattle.prop_compound.specs.Expansion.{Placed, Expansion}
 use Rattle.prop_values.specs.Values.{Meant, Known, Name}
 use Rattle.prop_procedures.specs.declared.shape.Param.{Param}
@@ -20,8 +20,6 @@ use Rattle.prop_cells.specs.declared.instance.Statement.{Statement}
 use Rattle.prop_cells.specs.Instances.{Instance}
 use Rattle.prop_cells.specs.Forgetting.{not_under}
 use Rattle.prop_nogoods.specs.Stores.{lacking}
-use Rattle.prop_cells.specs.Refusing.{may_be_stated}
-use Rattle.prop_scheduler.specs.Making.{cell_placed}
 use Rattle.prop_vocabulary.specs.Vocabulary.{Vocabulary, symbol_number, with_domain, with_relation}
 use Rattle.prop_workbench.specs.Machine.{State}
 use Rattle.prop_workbench.specs.Refusing.{value_at, used, with_meant, meants_at}
@@ -80,11 +78,6 @@ words_at s cell value = with_meant s.words (meant_at s cell value)
 abbrev pub number_given : List Origin → List ℕ → ℕ
 number_given premises name = unwrap_or (premise_number premises name) (length premises)
 
--- what is meant may be stated at a cell of the kind
-abbrev pub MayMean : Kinded → Meant → Type 0
-MayMean k (Known info) = IsTrue (may_be_stated k.kind k.size info)
-MayMean k (Name symbol) = k.kind ≡ kinds.Symbol
-
 -- the premises with the one of this name, or as they are
 abbrev pub with_told : List Origin → Option (List ℕ) → List Origin
 with_told premises None = premises
@@ -122,15 +115,6 @@ chosen s name cell meants = record s {
   statements = s.statements ++ sides_stated s.words (length s.premises) cell meants;
 }
 
--- the name of a premise, where one is given
-abbrev pub name_of : Option (Bor (List ℕ)) → Option (List ℕ)
-name_of premise = option_map (λ (name : Bor (List ℕ)). name.now) premise
-
--- the command that states so
-abbrev pub stating : Option (List ℕ) → List ℕ → Value → Command
-stating None cell value = Command.Fix cell value
-stating (Some premise) cell value = Command.Tell premise cell value
-
 -- no statement under p, and no contradiction that was named with it
 abbrev pub forgetting : State → ℕ → State
 forgetting s p = record s { statements = not_under p s.statements; named = lacking s.named p }
@@ -139,7 +123,7 @@ forgetting s p = record s { statements = not_under p s.statements; named = lacki
 abbrev pub effect : List Stored → State → Command → State
 effect library s (Command.Domain name elements) = record s { words = with_domain s.words name elements }
 effect library s (Command.Relation name from to pairs) = record s { words = with_relation s.words name from to pairs }
-effect library s (Command.Cell name kind) = record s { names = with_cell_name s.names name (length s.kinds); kinds = s.kinds ++ kind_named s.words kind ∷ [] }
+effect library s (Command.Cell name kind) = record s { names = with_cell_name s.names name (length s.kinds); kinds = s.kinds ++ unwrap_or (kind_named s.words kind) span_kind ∷ [] }
 effect library s (Command.Define name params steps) =
     record s { definitions = with_definition library s.words s.definitions name params steps }
 effect library s (Command.Attach name cells by) =
@@ -152,17 +136,3 @@ effect library s (Command.Bring premise) = record s { premises = with_belief_at 
 effect library s (Command.Forget premise) = forgetting s (number_given s.premises premise)
 effect library s (Command.Limit steps) = record s { limit = unwrap_or steps 0 }
 effect library s command = s
-
--- the premise that the command forgets, where it forgets one
-abbrev pub forgotten_in : State → Command → Option ℕ
-forgotten_in s (Command.Forget premise) = Some (number_given s.premises premise)
-forgotten_in s command = None
-
--- the named contradictions, without those that hold a premise where one is forgotten
-abbrev pub without_named : Option ℕ → List (List ℕ) → List (List ℕ)
-without_named None named = named
-without_named (Some p) named = lacking named p
-
--- the contradictions that were named, as far as they are known after the command
-abbrev pub named_after : State → Command → List (List ℕ) → List (List ℕ)
-named_after s command named = without_named (forgotten_in s command) named

@@ -9,7 +9,7 @@ use Rattle.prop_procedures.specs.Stored.{Stored}
 use Rattle.prop_cells.specs.Points.{Attached, ArePoints}
 use Rattle.prop_amb.specs.Refuted.{AllBeforeRefuted, IsFirstConsistent}
 use Rattle.prop_language.specs.Commands.{Command}
-use Rattle.prop_language.specs.Reading.{reading}
+use Rattle.prop_language.specs.Reading.{IsReading}
 use Rattle.prop_engine.specs.Answers.{Answer, Text}
 use Rattle.prop_workbench.specs.Machine.{State, problem_in, text_at, users_in, choices_in, worldview_at}
 use Rattle.prop_texts.specs.Texts.{equation, because, contradiction_text, worldview_text}
@@ -58,4 +58,4 @@ BearsOut library related s command text = ⊤
 
 -- points bear out what a line is answered
 abbrev pub HoldsPoints : List Stored → (ℕ → Param → List Point → Point → Type 0) → State → List ℕ → Answer → Type 0
-HoldsPoints library related s line answer = (command : Command) (text : List ℕ) → reading line ≡ Ok (Some command) → answer ≡ Text text → BearsOut library related s command text
+HoldsPoints library related s line answer = (command : Command) (text : List ℕ) → IsReading line (Ok (Some command)) → answer ≡ Text text → BearsOut library related s command text

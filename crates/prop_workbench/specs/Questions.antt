@@ -1,46 +1,19 @@
 -- What a command that runs the network asks, and what may be said to it.
-use Rattle.std.specs.Prelude.{◌≡◌, ◌≢◌, ℕ, ◌+◌, ◌*◌, ◌≤◌, ◌<◌, List, length, Option, Some, Result, Ok, ⊤, ◌⊎◌}
-use Rattle.prop_lattice.specs.declared.info.Info.{Info}
+use Rattle.std.specs.Prelude.{◌≡◌, ◌≢◌, ℕ, ◌+◌, ◌<◌, List, length, Option, Some, Result, Ok, ⊤, ◌⊎◌}
 use Rattle.prop_lattice.specs.declared.refusal.Refusal.{Refusal}
-use Rattle.prop_lattice.specs.declared.refusal.Refusal.TheVariants.{Memory}
-use Rattle.prop_premises.specs.Sets.{set_of}
-use Rattle.prop_procedures.specs.declared.shape.Param.{Param}
 use Rattle.prop_procedures.specs.Stored.{Stored}
-use Rattle.prop_scheduler.specs.Turns.{IsSettled}
 use Rattle.prop_amb.specs.declared.outcome.Outcome as ends
 use Rattle.prop_amb.specs.declared.outcome.Outcome.TheVariants.{Settled, Contradiction, Unsettled}
-use Rattle.prop_amb.specs.Refuted.{IsCovered, IsListRefuted}
-use Rattle.prop_amb.specs.Search as search
+use Rattle.prop_amb.specs.Refuted.{IsListRefuted}
 use Rattle.prop_amb.specs.Going.{Goes, AllWait}
-use Rattle.prop_premises.specs.ChoiceLists.{lists_count}
-use Rattle.prop_scheduler.specs.Potential.{most_steps}
 use Rattle.prop_explain.specs.Trying.{Tries}
 use Rattle.prop_language.specs.Commands as commands
 use Rattle.prop_language.specs.Commands.{Command}
-use Rattle.prop_vocabulary.specs.Cells.{cell_named}
-use Rattle.prop_engine.specs.Answers.{Answer, Text, Refused}
-use Rattle.prop_workbench.specs.declared.asking.Question.{Question}
-use Rattle.prop_workbench.specs.declared.asking.Question.TheVariants.{Settle, Worldview, Ask, Why}
-use Rattle.prop_workbench.specs.declared.session.Session.{Session}
+use Rattle.prop_engine.specs.Answers.{Answer, Text}
 use Rattle.prop_workbench.specs.Machine.{State, problem_in, users_in, choices_in, worldview_at}
-use Rattle.prop_workbench.specs.Reasons.{IsLeanAnswer}
 use Rattle.prop_workbench.specs.Running as running
-use Rattle.prop_workbench.specs.Running.{Outcome, MayEnd, Replies}
-use Rattle.prop_workbench.specs.Sessions.{Work, state_of, library_of}
-
--- the command that asks so
-abbrev pub command_of : Question → Command
-command_of Settle = commands.Command.Settle
-command_of Worldview = commands.Command.Worldview
-command_of (Ask cell name) = commands.Command.Ask name.now
-command_of (Why cell name) = commands.Command.Why name.now
-
--- the cell that is asked for is the one of that name
-abbrev pub IsNamed : State → Question → Type 0
-IsNamed s Settle = ⊤
-IsNamed s Worldview = ⊤
-IsNamed s (Ask cell name) = cell_named s.names name.now ≡ Some cell
-IsNamed s (Why cell name) = cell_named s.names name.now ≡ Some cell
+use Rattle.prop_workbench.specs.Running.{Outcome, Replies}
+use Rattle.prop_workbench.specs.Sessions.{Work}
 
 -- how a run ended, as the machine sees it, where the choices stand on the sides of the list
 abbrev pub outcome_of : List ℕ → ends.Outcome → Outcome
@@ -48,27 +21,9 @@ outcome_of list Settled = running.Settled list
 outcome_of list Unsettled = running.Unsettled list
 outcome_of list (Contradiction premises) = running.Contradiction premises
 
--- where a run ended in a contradiction, its premises
-abbrev pub IfContradiction : ends.Outcome → (List ℕ → Type 0) → Type 0
-IfContradiction (Contradiction premises) P = P premises
-IfContradiction end P = ⊤
-
--- a run of so many steps ended so, and left the session
-pub record HasRun {R O : Type 0} {X : Type 0} {F : X → Type 0} {g : _} (value : R → Param → List Info → Info) (s : Session R O X F g) (end : ends.Outcome) (steps : ℕ) : Type 0 where
-  pub ends : MayEnd (library_of value s) (state_of s) (outcome_of s.search.list end)
-  pub covered : IfContradiction end (λ ps. IsCovered (search.choices_in s.search) s.search.listed (set_of ps))
-  pub settled : end ≡ Settled → IsSettled (library_of value s) (set_of s.search.worldview) s.network.cells
-  pub within : steps ≤ (state_of s).limit
-  pub few : steps < lists_count (choices_in (state_of s)) * (most_steps (problem_in (library_of value s) (state_of s)) + 1)
-  pub spent : end ≡ Unsettled → steps ≡ (state_of s).limit
-
 -- which place an order may pick among how many that wait, and how it goes on
 abbrev pub Picks : Type 0 → Type 1
 Picks O = O → ℕ → ℕ → O → Type 0
-
--- the answer is a text that the machine may reply where a run ended so, or memory was refused
-abbrev pub MaySay : List Stored → State → Command → Outcome → ℕ → Answer → Type 0
-MaySay library s command outcome steps answer = ((text : List ℕ) × Replies library s command outcome steps text × (answer ≡ Text text)) ⊎ (answer ≡ Refused Memory)
 
 -- from the one to the other it took exactly so many steps: each called a waiting procedure that the order picked, or left a choice list that is refuted
 abbrev pub HasGone : {O : Type 0} → Picks O → List Stored → State → Work O → Work O → ℕ → Type 0
@@ -111,8 +66,3 @@ Earns picks library s old new (Ok (Some (commands.Command.Why x))) (Text text) s
 Earns picks library s old new (Ok (Some (commands.Command.Core x))) (Text text) steps = IsEarnedCore picks library s old new x text steps
 Earns picks library s old new (Ok (Some commands.Command.Worldview)) (Text text) steps = IsEarned picks library s old new commands.Command.Worldview text steps
 Earns picks library s old new read answer steps = ⊤
-
--- what an answer rests on: an explanation is lean, and a text is earned
-pub record RestsOn {O : Type 0} (picks : Picks O) (library : List Stored) (s : State) (old new : Work O) (read : Result (Option Command) Refusal) (answer : Answer) (steps : ℕ) : Type 0 where
-  pub lean : IsLeanAnswer (worldview_at s new.list) new.cells s read answer
-  pub earned : Earns picks library s old new read answer steps

@@ -1,28 +1,28 @@
 -- For what a command is refused in a state: each condition by itself, and which of them comes first.
 use Rattle.std.specs.Prelude.{ℕ, List, [], ◌∷◌, Bool, false, ◌+◌, ◌==◌, ◌&&◌, ◌||◌, nat_le, nat_lt, Option, Some, None, Result, Ok, Err, length, is_some, is_none, not, map, ◌-◌}
 use Rattle.std.specs.List.{list_any}
-use Rattle.std.specs.Option.{option_map, option_map_or}
+use Rattle.std.specs.Option.{option_map, option_map_or, option_or}
 use Rattle.prop_lattice.specs.declared.info.Kind.{Kind}
 use Rattle.prop_lattice.specs.declared.refusal.Limit.TheVariants.{Cells, Premises, Choices, Statements}
 use Rattle.prop_lattice.specs.declared.refusal.Refusal.{Refusal}
 use Rattle.prop_lattice.specs.declared.refusal.Refusal.TheVariants.{NotAName, NotANumber, NameTaken, NoSuchDomain, NoSuchRelation, NoSuchCell, NoSuchPremise, WrongKind, NotInTheDomain, EmptyValue, IsAChoice, LimitReached}
-use Rattle.prop_lattice.specs.Refusals.{number_of, most}
+use Rattle.prop_lattice.specs.Refusals.{number_of, most, when, first_of}
 use Rattle.prop_premises.specs.Origins.{premise_number, is_choice, choices_of}
 use Rattle.prop_procedures.specs.declared.shape.Param.{Param}
 use Rattle.prop_procedures.specs.declared.shape.Param.TheVariants as params
 use Rattle.prop_procedures.specs.Stored.{Stored}
-use Rattle.prop_language.specs.Commands.{By, KindWord, Named, Value, Command}
+use Rattle.prop_language.specs.Commands.{By, Value, Command}
 use Rattle.prop_values.specs.Values.{Meant, Known, Name, value_said}
 use Rattle.prop_procedures.specs.Fitting.{kind_at}
-use Rattle.prop_vocabulary.specs.Vocabulary.{Vocabulary, domain_number, relation_named, with_symbol}
+use Rattle.prop_vocabulary.specs.Vocabulary.{Vocabulary, relation_named, with_symbol}
 use Rattle.prop_vocabulary.specs.Texts.{elements_of_kind}
-use Rattle.prop_vocabulary.specs.Refusing.{when, first_of, domain_refusal, relation_refusal, symbol_refusal}
+use Rattle.prop_vocabulary.specs.Refusing.{domain_refusal, relation_refusal, symbol_refusal}
 use Rattle.prop_scheduler.specs.Making.{room_refusal}
 use Rattle.prop_workbench.specs.Machine.{State}
 use Rattle.prop_vocabulary.specs.Cells.{cell_named, cells_named, is_cell_missing}
-use Rattle.prop_cells.specs.Refusing.{or_else}
 use Rattle.prop_compound.specs.Expansion.{Expansion, expanded}
 use Rattle.prop_compound.specs.Expanding.{expand_refusal}
+use Rattle.prop_compound.specs.Kinds.{kind_named}
 use Rattle.prop_compound.specs.Defining.{define_refusal}
 
 -- what the value means at a cell of the kind
@@ -55,12 +55,8 @@ is_taken s (Command.Choose choice cell values) = is_some (premise_number s.premi
 is_taken s command = false
 
 -- a domain is named, of which there is none
-abbrev pub is_nowhere : Vocabulary → KindWord → Bool
-is_nowhere words (Named domain) = is_none (domain_number words domain)
-is_nowhere words kind = false
-
 abbrev pub is_domain_missing : State → Command → Bool
-is_domain_missing s (Command.Cell name kind) = is_nowhere s.words kind
+is_domain_missing s (Command.Cell name kind) = is_none (kind_named s.words kind)
 is_domain_missing s command = false
 
 -- what is given is a relation, of which there is none
@@ -89,11 +85,6 @@ is_premise_missing s (Command.Kick premise) = is_nobody s premise
 is_premise_missing s (Command.Bring premise) = is_nobody s premise
 is_premise_missing s (Command.Forget premise) = is_nobody s premise
 is_premise_missing s command = false
-
--- a choice has the name, where one is given
-abbrev pub is_choice_told : State → Option (List ℕ) → Bool
-is_choice_told s None = false
-is_choice_told s (Some name) = is_choice s.premises name
 
 -- a choice has the name where a premise is asked for
 abbrev pub is_choice_given : State → Command → Bool
@@ -160,7 +151,7 @@ choosing_limit s sides =
 -- the values that are meant are refused, one after another, where one names a new symbol and there are as many as there can be
 abbrev pub all_naming_limit : Vocabulary → List Meant → Option Refusal
 all_naming_limit words [] = None
-all_naming_limit words (meant ∷ more) = or_else (naming_limit words meant) (all_naming_limit (with_meant words meant) more)
+all_naming_limit words (meant ∷ more) = option_or (naming_limit words meant) (all_naming_limit (with_meant words meant) more)
 
 -- what each value means at the cell with the name, where all mean something
 abbrev pub meants_at : State → List ℕ → List Value → Option (List Meant)

@@ -15,8 +15,6 @@ use Rattle.prop_scheduler.specs.Potential.{most_steps}
 use Rattle.prop_nogoods.specs.Stores.{AreMinimal}
 use Rattle.prop_amb.specs.Refuted.{IsRefuted, IsNogood, IsGrounded, IsCovered, IsFirstConsistent, AllBeforeRefuted}
 use Rattle.prop_language.specs.Commands.{Command}
-use Rattle.prop_lattice.specs.declared.refusal.Refusal.TheVariants.{Memory}
-use Rattle.prop_engine.specs.Answers.{Answer, Text, Refused}
 use Rattle.prop_workbench.specs.Machine.{State, problem_in, text_at, users_in, choices_in, worldview_at}
 use Rattle.prop_texts.specs.Texts.{equation, because, contradiction_text, worldview_text, nogoods_text}
 use Rattle.prop_vocabulary.specs.Cells.{cell_named}
@@ -109,11 +107,6 @@ pub record IsExplainedReply (library : List Stored) (s : State) (outcome : Outco
 pub record IsLeastReply (library : List Stored) (s : State) (list name text : List ℕ) : Type 0 where
   pub explained : IsExplainedReply library s (Settled list) name [] text
   pub least : IsIrreducible (problem_in library s) (set_of explained.premises) explained.cell explained.v
-
--- the answer says the value of the cell, the mark, and premises of the worldview that explain it; or memory was refused
-abbrev pub Explained : List Stored → State → Members → ℕ → Info → List ℕ → List ℕ → Answer → Type 0
-Explained library s believed cell v name mark answer =
-    ((ps : List ℕ) × IsStrictlyIncreasing ps × Explains (problem_in library s) believed cell v (set_of ps) × (answer ≡ Text (equation name (text_at s cell v) (because s.premises mark ps)))) ⊎ (answer ≡ Refused Memory)
 
 -- the limit is too small for all lists, and a try of each premise beside, with the most steps that the procedures can take
 abbrev pub IsTooFewToReduce : List Stored → State → Type 0

@@ -28,25 +28,24 @@ pub(crate) enum Question<'a> {
 }
 
 impl<R: Rule + Drop, O: Order + Drop> Session<R, O> {
-    ghost use Rattle.std.specs.Prelude.{◌≡◌, ◌≢◌, ◌<◌, ◌≤◌, ◌+◌, ◌*◌, ◌⊎◌, ℕ, List, [], All, Ok, Some, IfOk, codes, length};
-    ghost use Rattle.std.specs.List.Sorted.{IsStrictlyIncreasing};
+    ghost use Rattle.std.specs.Prelude.{◌≡◌, ◌≢◌, ◌<◌, ◌≤◌, ◌+◌, ◌*◌, ℕ, List, [], All, Some, IfOk, codes, length};
     ghost use Rattle.prop_premises.specs.Sets.{set_of};
     ghost use Rattle.prop_premises.specs.ChoiceLists.{lists_count};
     ghost use Rattle.prop_cells.specs.Data.{beliefs};
-    ghost use Rattle.prop_scheduler.specs.Turns.{IsSettled};
     ghost use Rattle.prop_scheduler.specs.Potential.{most_steps};
     ghost use Rattle.prop_language.specs.Commands as commands;
     ghost use Rattle.prop_explain.specs.Irreducible.{IfLeast, IfNotReduced, OfCore};
     ghost use Rattle.prop_engine.specs.Answers.{answer_of, Says, Text};
-    ghost use Rattle.prop_amb.specs.Refuted.{IsListRefuted};
-    ghost use Rattle.prop_workbench.specs.Machine.{text_at, problem_in, users_in, choices_in};
-    ghost use Rattle.prop_texts.specs.Texts.{equation, because};
+    ghost use Rattle.prop_workbench.specs.Machine.{text_at, problem_in, choices_in};
+    ghost use Rattle.prop_texts.specs.Texts.{equation};
     ghost use Rattle.prop_vocabulary.specs.Cells.{cell_named};
-    ghost use Rattle.prop_workbench.specs.Questions.{command_of, outcome_of, IsNamed, HasRun, HasGone, HasTried, MaySay, RestsOn};
-    ghost use Rattle.prop_workbench.specs.Reasons.{IsLeanExplanation, IsLeanAnswer};
-    ghost use Rattle.prop_workbench.specs.Running.{Settled, Unsettled, Explained};
-    ghost use Rattle.prop_workbench.specs.Sessions.{state_of, shown_of, work_of, library_of, IsInOrder, Keeps, IsMeant};
-    ghost use Rattle.prop_workbench.specs.Steps.{IsObeyed};
+    ghost use Rattle.prop_workbench.specs.inner.Carrying.{IsAnswered, IsAtRest, IsLeanIn, IsUnfinished, MayAnswer, SaysBecause, CountsTries};
+    ghost use Rattle.prop_workbench.specs.inner.Questions.{command_of, IsNamed, HasRun};
+    ghost use Rattle.prop_workbench.specs.Questions.{HasGone};
+    ghost use Rattle.prop_workbench.specs.Reasons.{IsLeanExplanation};
+    ghost use Rattle.prop_workbench.specs.inner.Running.{Explained};
+    ghost use Rattle.prop_workbench.specs.Sessions.{state_of, work_of, library_of, IsInOrder, IsMeant};
+    ghost use Rattle.prop_workbench.specs.inner.Sessions.{Keeps};
 
     /// Runs the network until it settles on the first consistent choices, and tells how that ended and in how many steps.
     fn run_network(&mut self) -> Result<(Outcome, u64), AllocError>
@@ -59,7 +58,7 @@ impl<R: Rule + Drop, O: Order + Drop> Session<R, O> {
         ensures state { state_of self.new ≡ state_of self.old }
         ensures run { IfOk result (λ r. HasRun R.value_of self.new r.0 r.1) }
         ensures gone { IfOk result (λ r. HasGone O.picks (library_of R.value_of self.old) (state_of self.old) (work_of self.old) (work_of self.new) r.1) }
-        ensures left { IfOk result (λ r. r.0 ≡ Outcome.Unsettled → (0 < length self.new.agenda.line) ⊎ IsListRefuted (problem_in (library_of R.value_of self.old) (state_of self.old)) (users_in (state_of self.old)) (choices_in (state_of self.old)) self.new.search.list) }
+        ensures left { IfOk result (λ r. r.0 ≡ Outcome.Unsettled → IsUnfinished R.value_of self.old self.new) }
     {
         let ended = settle(
             self.alloc,
@@ -78,9 +77,7 @@ impl<R: Rule + Drop, O: Order + Drop> Session<R, O> {
         requires means { IsMeant R.value_of self.old }
         requires sound { IsInOrder R.value_of self.old }
         requires named { IsNamed (state_of self.old) question }
-        ensures keeps { Keeps R.value_of self.old self.new }
-        ensures step { IsObeyed (library_of R.value_of self.old) (command_of question.entry) (answer_of result.0) result.1 (shown_of self.old) (shown_of self.new) }
-        ensures rests { RestsOn O.picks (library_of R.value_of self.old) (state_of self.old) (work_of self.old) (work_of self.new) (Ok (Some (command_of question.entry))) (answer_of result.0) result.1 }
+        ensures { IsAnswered O.picks R.value_of self.old (command_of question.entry) (answer_of result.0) result.1 self.new }
     {
         match self.run_network() {
             Ok((end, steps)) => (self.reply_to(question, &end, steps), steps),
@@ -93,8 +90,8 @@ impl<R: Rule + Drop, O: Order + Drop> Session<R, O> {
         requires sound { IsInOrder R.value_of self.now }
         requires named { IsNamed (state_of self.now) question }
         requires run { HasRun R.value_of self.now end.now steps }
-        ensures says { MaySay (library_of R.value_of self.now) (state_of self.now) (command_of question.entry) (outcome_of self.now.search.list end.now) steps (answer_of result) }
-        ensures lean { IsLeanAnswer (set_of self.now.search.worldview) self.now.network.cells (state_of self.now) (Ok (Some (command_of question.entry))) (answer_of result) }
+        ensures says { MayAnswer R.value_of self.now (command_of question.entry) end.now steps (answer_of result) }
+        ensures lean { IsLeanIn self.now (command_of question.entry) (answer_of result) }
     {
         match end {
             Outcome::Settled => self.settled(question),
@@ -109,9 +106,9 @@ impl<R: Rule + Drop, O: Order + Drop> Session<R, O> {
     fn settled(&self, question: Question<'_>) -> Reply
         requires sound { IsInOrder R.value_of self.now }
         requires named { IsNamed (state_of self.now) question }
-        requires rest { IsSettled (library_of R.value_of self.now) (set_of self.now.search.worldview) self.now.network.cells }
-        ensures says { (steps : ℕ) → MaySay (library_of R.value_of self.now) (state_of self.now) (command_of question.entry) (Settled self.now.search.list) steps (answer_of result) }
-        ensures lean { IsLeanAnswer (set_of self.now.search.worldview) self.now.network.cells (state_of self.now) (Ok (Some (command_of question.entry))) (answer_of result) }
+        requires rest { IsAtRest R.value_of self.now }
+        ensures says { (steps : ℕ) → MayAnswer R.value_of self.now (command_of question.entry) Outcome.Settled steps (answer_of result) }
+        ensures lean { IsLeanIn self.now (command_of question.entry) (answer_of result) }
     {
         match question {
             Question::Settle => text_reply(self.alloc, "settled"),
@@ -127,8 +124,8 @@ impl<R: Rule + Drop, O: Order + Drop> Session<R, O> {
     fn unsettled(&self, question: Question<'_>) -> Reply
         requires sound { IsInOrder R.value_of self.now }
         requires named { IsNamed (state_of self.now) question }
-        ensures says { (steps : ℕ) → steps ≡ (state_of self.now).limit → MaySay (library_of R.value_of self.now) (state_of self.now) (command_of question.entry) (Unsettled self.now.search.list) steps (answer_of result) }
-        ensures lean { IsLeanAnswer (set_of self.now.search.worldview) self.now.network.cells (state_of self.now) (Ok (Some (command_of question.entry))) (answer_of result) }
+        ensures says { MayAnswer R.value_of self.now (command_of question.entry) Outcome.Unsettled self.now.limit (answer_of result) }
+        ensures lean { IsLeanIn self.now (command_of question.entry) (answer_of result) }
     {
         let mark = " unsettled";
         self.network.data().well_made();
@@ -143,9 +140,7 @@ impl<R: Rule + Drop, O: Order + Drop> Session<R, O> {
     pub(crate) fn ask(&mut self, name: &str) -> (Reply, u64)
         requires means { IsMeant R.value_of self.old }
         requires sound { IsInOrder R.value_of self.old }
-        ensures keeps { Keeps R.value_of self.old self.new }
-        ensures step { IsObeyed (library_of R.value_of self.old) (commands.Command.Ask name.now) (answer_of result.0) result.1 (shown_of self.old) (shown_of self.new) }
-        ensures rests { RestsOn O.picks (library_of R.value_of self.old) (state_of self.old) (work_of self.old) (work_of self.new) (Ok (Some (commands.Command.Ask name.now))) (answer_of result.0) result.1 }
+        ensures { IsAnswered O.picks R.value_of self.old (commands.Command.Ask name.now) (answer_of result.0) result.1 self.new }
     {
         match self.names.find(name) {
             Some(cell) => self.answered(Question::Ask(cell, name)),
@@ -157,9 +152,7 @@ impl<R: Rule + Drop, O: Order + Drop> Session<R, O> {
     pub(crate) fn why(&mut self, name: &str) -> (Reply, u64)
         requires means { IsMeant R.value_of self.old }
         requires sound { IsInOrder R.value_of self.old }
-        ensures keeps { Keeps R.value_of self.old self.new }
-        ensures step { IsObeyed (library_of R.value_of self.old) (commands.Command.Why name.now) (answer_of result.0) result.1 (shown_of self.old) (shown_of self.new) }
-        ensures rests { RestsOn O.picks (library_of R.value_of self.old) (state_of self.old) (work_of self.old) (work_of self.new) (Ok (Some (commands.Command.Why name.now))) (answer_of result.0) result.1 }
+        ensures { IsAnswered O.picks R.value_of self.old (commands.Command.Why name.now) (answer_of result.0) result.1 self.new }
     {
         match self.names.find(name) {
             Some(cell) => self.answered(Question::Why(cell, name)),
@@ -171,9 +164,7 @@ impl<R: Rule + Drop, O: Order + Drop> Session<R, O> {
     pub(crate) fn core(&mut self, name: &str) -> (Reply, u64)
         requires means { IsMeant R.value_of self.old }
         requires sound { IsInOrder R.value_of self.old }
-        ensures keeps { Keeps R.value_of self.old self.new }
-        ensures step { IsObeyed (library_of R.value_of self.old) (commands.Command.Core name.now) (answer_of result.0) result.1 (shown_of self.old) (shown_of self.new) }
-        ensures rests { RestsOn O.picks (library_of R.value_of self.old) (state_of self.old) (work_of self.old) (work_of self.new) (Ok (Some (commands.Command.Core name.now))) (answer_of result.0) result.1 }
+        ensures { IsAnswered O.picks R.value_of self.old (commands.Command.Core name.now) (answer_of result.0) result.1 self.new }
     {
         match self.names.find(name) {
             Some(cell) => self.core_of(cell, name),
@@ -186,9 +177,7 @@ impl<R: Rule + Drop, O: Order + Drop> Session<R, O> {
         requires means { IsMeant R.value_of self.old }
         requires sound { IsInOrder R.value_of self.old }
         requires named { cell_named self.old.names name.now ≡ Some cell }
-        ensures keeps { Keeps R.value_of self.old self.new }
-        ensures step { IsObeyed (library_of R.value_of self.old) (commands.Command.Core name.now) (answer_of result.0) result.1 (shown_of self.old) (shown_of self.new) }
-        ensures rests { RestsOn O.picks (library_of R.value_of self.old) (state_of self.old) (work_of self.old) (work_of self.new) (Ok (Some (commands.Command.Core name.now))) (answer_of result.0) result.1 }
+        ensures { IsAnswered O.picks R.value_of self.old (commands.Command.Core name.now) (answer_of result.0) result.1 self.new }
     {
         match self.run_network() {
             Ok((end, steps)) => self.core_reply(cell, name, &end, steps),
@@ -204,9 +193,9 @@ impl<R: Rule + Drop, O: Order + Drop> Session<R, O> {
         requires run { HasRun R.value_of self.old end.now steps }
         ensures keeps { Keeps R.value_of self.old self.new }
         ensures state { state_of self.new ≡ state_of self.old }
-        ensures says { MaySay (library_of R.value_of self.old) (state_of self.old) (commands.Command.Core name.now) (outcome_of self.old.search.list end.now) result.1 (answer_of result.0) }
+        ensures says { MayAnswer R.value_of self.old (commands.Command.Core name.now) end.now result.1 (answer_of result.0) }
         ensures within { result.1 ≤ self.old.limit }
-        ensures tried { end.now ≡ Outcome.Settled → (text : List ℕ) → answer_of result.0 ≡ Text text → (tries : ℕ) × (result.1 ≡ steps + tries) × HasTried O.picks (library_of R.value_of self.old) (state_of self.old) (work_of self.old) (work_of self.new) tries }
+        ensures tried { end.now ≡ Outcome.Settled → CountsTries O.picks R.value_of self.old steps (answer_of result.0) result.1 self.new }
         ensures untried { end.now ≢ Outcome.Settled → (work_of self.new ≡ work_of self.old) × (result.1 ≡ steps) }
     {
         match end {
@@ -225,14 +214,14 @@ impl<R: Rule + Drop, O: Order + Drop> Session<R, O> {
         requires means { IsMeant R.value_of self.old }
         requires sound { IsInOrder R.value_of self.old }
         requires named { cell_named self.old.names name.now ≡ Some cell }
-        requires rest { IsSettled (library_of R.value_of self.old) (set_of self.old.search.worldview) self.old.network.cells }
+        requires rest { IsAtRest R.value_of self.old }
         requires within { steps ≤ self.old.limit }
         requires few { steps < lists_count (choices_in (state_of self.old)) * (most_steps (problem_in (library_of R.value_of self.old) (state_of self.old)) + 1) }
         ensures keeps { Keeps R.value_of self.old self.new }
         ensures state { state_of self.new ≡ state_of self.old }
-        ensures says { MaySay (library_of R.value_of self.old) (state_of self.old) (commands.Command.Core name.now) (Settled self.old.search.list) result.1 (answer_of result.0) }
+        ensures says { MayAnswer R.value_of self.old (commands.Command.Core name.now) Outcome.Settled result.1 (answer_of result.0) }
         ensures within { result.1 ≤ self.old.limit }
-        ensures tried { (text : List ℕ) → answer_of result.0 ≡ Text text → (tries : ℕ) × (result.1 ≡ steps + tries) × HasTried O.picks (library_of R.value_of self.old) (state_of self.old) (work_of self.old) (work_of self.new) tries }
+        ensures tried { CountsTries O.picks R.value_of self.old steps (answer_of result.0) result.1 self.new }
     {
         let ended = reduce(
             self.alloc,
@@ -253,8 +242,8 @@ impl<R: Rule + Drop, O: Order + Drop> Session<R, O> {
     fn core_text(&self, cell: usize, name: &str, core: &Core) -> Reply
         requires cell { cell < length self.now.network.cells.kinds }
         requires known { OfCore core.now (λ v s. All (λ p. p < length self.now.search.premises) s) }
-        ensures least { IfLeast core.now (λ v s. IsStrictlyIncreasing s × Says (answer_of result) (equation name.now (text_at (state_of self.now) cell v) (because self.now.search.premises [] s))) }
-        ensures not_reduced { IfNotReduced core.now (λ v s. IsStrictlyIncreasing s × Says (answer_of result) (equation name.now (text_at (state_of self.now) cell v) (because self.now.search.premises (codes " not reduced") s))) }
+        ensures least { IfLeast core.now (λ v s. SaysBecause (state_of self.now) cell name.now [] v s (answer_of result)) }
+        ensures not_reduced { IfNotReduced core.now (λ v s. SaysBecause (state_of self.now) cell name.now (codes " not reduced") v s (answer_of result)) }
     {
         match core {
             Core::Least(why) => self.said_because(cell, name, "", why),
@@ -265,7 +254,7 @@ impl<R: Rule + Drop, O: Order + Drop> Session<R, O> {
     /// The nogoods that were learned.
     pub(crate) fn nogoods(&self) -> Reply
         requires sound { IsInOrder R.value_of self.now }
-        ensures step { IsObeyed (library_of R.value_of self.now) commands.Command.Nogoods (answer_of result) 0 (shown_of self.now) (shown_of self.now) }
+        ensures { IsAnswered O.picks R.value_of self.now commands.Command.Nogoods (answer_of result) 0 self.now }
     {
         nogoods_reply(self.alloc, self.search.premises(), self.search.nogoods())
     }
@@ -309,8 +298,7 @@ impl<R: Rule + Drop, O: Order + Drop> Session<R, O> {
     fn said_because(&self, cell: usize, name: &str, mark: &str, why: &Supported<Info>) -> Reply
         requires cell { cell < length self.now.network.cells.kinds }
         requires known { All (λ p. p < length self.now.search.premises) why.now.support }
-        ensures in_order { IsStrictlyIncreasing why.now.support }
-        ensures says { Says (answer_of result) (equation name.now (text_at (state_of self.now) cell why.now.value) (because self.now.search.premises mark.now why.now.support)) }
+        ensures { SaysBecause (state_of self.now) cell name.now mark.now why.now.value why.now.support (answer_of result) }
     {
         match because(self.alloc, self.search.premises(), mark, &why.support) {
             Ok(mark) => self.value_of(cell, name, why.value, &mark),

@@ -52,7 +52,6 @@ fn kinds_of(alloc: Global, held: &Cells, cells: &[usize]) -> Result<Vec<Kinded>,
 impl<R: Rule + Drop, O: Order + Drop> Session<R, O> {
     ghost use Rattle.std.specs.Prelude.{◌≡◌, ◌<◌, ◌≤◌, ◌+◌, ◌⊎◌, ℕ, All, length, map, None, Some, IfOk, IfErr, OnOk, OnErr};
     ghost use Rattle.prop_lattice.specs.declared.refusal.Refusal.TheVariants.{Memory};
-    ghost use Rattle.prop_engine.specs.Answers.{answer_done};
     ghost use Rattle.prop_language.specs.Commands as commands;
     ghost use Rattle.prop_language.specs.Said.{by_of, words};
     ghost use Rattle.prop_workbench.specs.Refusing.{used, use_refusal, given_by};
@@ -60,14 +59,15 @@ impl<R: Rule + Drop, O: Order + Drop> Session<R, O> {
     ghost use Rattle.prop_compound.specs.Expanding.{expand_refusal};
     ghost use Rattle.prop_compound.specs.Flattened.{expansion_of_flat, IsFlatOver};
     ghost use Rattle.prop_workbench.specs.Effects.{with_use};
-    ghost use Rattle.prop_workbench.specs.Sessions.{state_of, library_of, IsInOrder, Keeps};
-    ghost use Rattle.prop_workbench.specs.Steps.{Obeys};
+    ghost use Rattle.prop_workbench.specs.Sessions.{state_of, library_of, IsInOrder};
+    ghost use Rattle.prop_workbench.specs.inner.Sessions.{Keeps};
+    ghost use Rattle.prop_workbench.specs.inner.Carrying.{IsDone};
 
     /// Puts a procedure or a definition between cells.
     pub(crate) fn attach(&mut self, name: &str, cells: &[&str], by: By) -> Result<(), Refusal>
         requires sound { IsInOrder R.value_of self.old }
         ensures keeps { Keeps R.value_of self.old self.new }
-        ensures step { Obeys (library_of R.value_of self.old) (state_of self.old) (commands.Command.Attach name.now (words cells.now) (by_of by.entry)) (answer_done result) (state_of self.new) 0 }
+        ensures step { IsDone R.value_of self.old (commands.Command.Attach name.now (words cells.now) (by_of by.entry)) result self.new }
     {
         if is_unknown(&self.words, by) {
             return Err(Refusal::NoSuchRelation);

@@ -9,16 +9,16 @@ use std::alloc::AllocError;
 impl<R: Rule + Drop, O: Order + Drop> Session<R, O> {
     ghost use Rattle.std.specs.Prelude.{◌≡◌};
     ghost use Rattle.prop_language.specs.Commands as commands;
-    ghost use Rattle.prop_engine.specs.Answers.{answer_done};
-    ghost use Rattle.prop_workbench.specs.Sessions.{state_of, library_of, IsInOrder, Keeps};
-    ghost use Rattle.prop_workbench.specs.Steps.{Obeys};
+    ghost use Rattle.prop_workbench.specs.Sessions.{IsInOrder};
+    ghost use Rattle.prop_workbench.specs.inner.Sessions.{Keeps};
+    ghost use Rattle.prop_workbench.specs.inner.Carrying.{IsDone};
 
     /// The premise with a name is no longer believed. Where that is a change, every choice stands on its first side again, and of the cells that this
     /// shifts the readers and writers wait.
     pub(crate) fn kick(&mut self, name: &str) -> Result<(), Refusal>
         requires sound { IsInOrder R.value_of self.old }
         ensures keeps { Keeps R.value_of self.old self.new }
-        ensures step { Obeys (library_of R.value_of self.old) (state_of self.old) (commands.Command.Kick name.now) (answer_done result) (state_of self.new) 0 }
+        ensures step { IsDone R.value_of self.old (commands.Command.Kick name.now) result self.new }
     {
         let premise = self.search.premises().find(name)?;
         match self.search.kick(premise) {
@@ -41,7 +41,7 @@ impl<R: Rule + Drop, O: Order + Drop> Session<R, O> {
     pub(crate) fn bring(&mut self, name: &str) -> Result<(), Refusal>
         requires sound { IsInOrder R.value_of self.old }
         ensures keeps { Keeps R.value_of self.old self.new }
-        ensures step { Obeys (library_of R.value_of self.old) (state_of self.old) (commands.Command.Bring name.now) (answer_done result) (state_of self.new) 0 }
+        ensures step { IsDone R.value_of self.old (commands.Command.Bring name.now) result self.new }
     {
         let premise = self.search.premises().find(name)?;
         match self.search.bring(premise) {

@@ -3,10 +3,10 @@ ghost use Rattle.std.specs.Prelude.{◌≡◌, ◌≤◌, ◌⊎◌, ℕ, None, 
 ghost use Rattle.prop_lattice.specs.declared.refusal.Refusal.TheVariants.{Memory};
 ghost use Rattle.prop_language.specs.Said.{value_of};
 ghost use Rattle.prop_vocabulary.specs.Vocabulary.{with_first_symbols};
-ghost use Rattle.prop_workbench.specs.Choosing.{is_one_refused, values_refusal, meaning_of, Means, meanings_of, infos_meant};
+ghost use Rattle.prop_workbench.specs.inner.Choosing.{is_one_refused, values_refusal, meaning_of, Means, meanings_of, infos_meant};
 ghost use Rattle.prop_workbench.specs.Effects.{info_meant, with_meants};
 ghost use Rattle.prop_workbench.specs.Refusing.{meaning_at, is_error, with_meant, naming_limit, all_naming_limit};
-ghost use Rattle.prop_workbench.specs.Sessions.{IsKnown};
+ghost use Rattle.prop_compound.specs.Kinds.{IsKnown};
 
 use crate::session::Session;
 use crate::stating::meaning;
@@ -117,20 +117,21 @@ fn infos_of(
 }
 
 impl<R: Rule + Drop, O: Order + Drop> Session<R, O> {
-    ghost use Rattle.std.specs.Prelude.{◌≡◌, ◌≤◌, ◌<◌, ◌⊎◌, ◌++◌, ◌||◌, ℕ, None, Some, All, IsTrue, false, is_some, OnOk, OnErr, IfOk, IfErr, map, length};
+    ghost use Rattle.std.specs.Prelude.{◌≡◌, ◌≤◌, ◌<◌, ◌⊎◌, ◌++◌, ◌||◌, ℕ, None, Some, All, false, is_some, OnOk, OnErr, IfOk, IfErr, map, length};
     ghost use Rattle.prop_lattice.specs.declared.refusal.Refusal.TheVariants.{Memory};
     ghost use Rattle.prop_premises.specs.Origins.{premise_number, is_choice, with_choice};
     ghost use Rattle.prop_language.specs.Commands as commands;
     ghost use Rattle.prop_language.specs.Said.{value_of};
     ghost use Rattle.prop_procedures.specs.Fitting.{kind_at};
-    ghost use Rattle.prop_cells.specs.Refusing.{may_be_stated};
+    ghost use Rattle.prop_values.specs.Values.{Known};
     ghost use Rattle.prop_cells.specs.Sides.{sides_at};
-    ghost use Rattle.prop_engine.specs.Answers.{answer_done};
-    ghost use Rattle.prop_workbench.specs.Choosing.{Means, meanings_of};
+    ghost use Rattle.prop_workbench.specs.inner.Choosing.{Means, meanings_of};
     ghost use Rattle.prop_workbench.specs.Effects.{chosen};
+    ghost use Rattle.prop_workbench.specs.inner.Effects.{MayMean};
     ghost use Rattle.prop_workbench.specs.Refusing.{choosing_limit, choosing_limit_at};
-    ghost use Rattle.prop_workbench.specs.Sessions.{state_of, library_of, IsInOrder, Keeps};
-    ghost use Rattle.prop_workbench.specs.Steps.{Obeys};
+    ghost use Rattle.prop_workbench.specs.Sessions.{state_of, IsInOrder};
+    ghost use Rattle.prop_workbench.specs.inner.Sessions.{Keeps};
+    ghost use Rattle.prop_workbench.specs.inner.Carrying.{IsDone};
 
     /// A choice with a new name between what the values say at a cell.
     pub(crate) fn choose(
@@ -143,7 +144,7 @@ impl<R: Rule + Drop, O: Order + Drop> Session<R, O> {
         requires some { 2 ≤ length values.now }
         requires few { length values.now ≤ 8 }
         ensures keeps { Keeps R.value_of self.old self.new }
-        ensures step { Obeys (library_of R.value_of self.old) (state_of self.old) (commands.Command.Choose choice.now name.now (map value_of values.now)) (answer_done result) (state_of self.new) 0 }
+        ensures step { IsDone R.value_of self.old (commands.Command.Choose choice.now name.now (map value_of values.now)) result self.new }
     {
         let is_taken = self.is_taken(choice);
         let cell = match self.names.find(name) {
@@ -192,7 +193,6 @@ impl<R: Rule + Drop, O: Order + Drop> Session<R, O> {
             Some(refusal) => return Err(refusal),
             None => {}
         }
-        self.words.domain_count();
         let count = self.words.symbol_count();
         match infos_of(self.alloc, &mut self.words, kind, values) {
             Ok(infos) => match self.choose_between(choice, cell, &infos) {
@@ -229,7 +229,7 @@ impl<R: Rule + Drop, O: Order + Drop> Session<R, O> {
     fn choose_between(&mut self, choice: &str, cell: usize, infos: &[Info]) -> Result<(), Refusal>
         requires sound { IsInOrder R.value_of self.old }
         requires cell { cell < length self.old.network.cells.kinds }
-        requires may { All (λ info. IsTrue (may_be_stated (kind_at self.old.network.cells.kinds cell).kind (kind_at self.old.network.cells.kinds cell).size info)) infos.now }
+        requires may { All (λ info. MayMean (kind_at self.old.network.cells.kinds cell) (Known info)) infos.now }
         requires new { premise_number self.old.search.premises choice.now ≡ None }
         requires free { is_choice self.old.search.premises choice.now ≡ false }
         requires fits { choosing_limit (state_of self.old) (length infos.now) ≡ None }

@@ -1,70 +1,26 @@
 //! The commands that declare domains, relations, cells and definitions.
-ghost use Rattle.std.specs.Prelude.{◌≡◌, ◌<◌, ℕ, length, None, IfSome, true, false};
-ghost use Rattle.prop_language.specs.Said.{kind_of};
-ghost use Rattle.prop_workbench.specs.Refusing.{is_nowhere};
-ghost use Rattle.prop_compound.specs.Defining.{domain_kind, kind_named};
-ghost use Rattle.prop_workbench.specs.Sessions.{IsSized};
-
 use crate::session::Session;
-use prop_compound::{KindWord, Step};
-use prop_lattice::{Kind, Refusal};
-use prop_procedures::fitting::span_kinded;
-use prop_procedures::{Kinded, Rule};
+use prop_compound::{KindWord, Step, kind_named};
+use prop_lattice::Refusal;
+use prop_procedures::Rule;
 use prop_scheduler::{Order, new_cell};
-use prop_vocabulary::Vocabulary;
 use std::alloc::AllocError;
-
-/// The kind of a domain.
-fn domain_kinded(words: &Vocabulary, number: u16) -> Kinded
-    requires { number < length words.now.domains }
-    ensures kind { result ≡ domain_kind words.now number }
-    ensures sized { IsSized words.now result }
-{
-    Kinded {
-        kind: Kind::Set(number),
-        size: words.domain(number).size(),
-    }
-}
-
-/// The kind that a word says, `None` where it names no domain.
-fn kind_named(words: &Vocabulary, word: KindWord) -> Option<Kinded>
-    ensures known { IfSome result (λ kind. kind ≡ kind_named words.now (kind_of word.entry)) }
-    ensures none { result ≡ None → is_nowhere words.now (kind_of word.entry) ≡ true }
-    ensures some { IfSome result (λ kind. is_nowhere words.now (kind_of word.entry) ≡ false) }
-    ensures sized { IfSome result (IsSized words.now) }
-{
-    match word {
-        KindWord::Spans => Some(span_kinded()),
-        KindWord::Truths => {
-            words.domain_count();
-            Some(domain_kinded(words, 0))
-        }
-        KindWord::Symbols => Some(Kinded {
-            kind: Kind::Symbol,
-            size: 0,
-        }),
-        KindWord::Named(name) => {
-            let number = words.domain_number(name)?;
-            Some(domain_kinded(words, number))
-        }
-    }
-}
 
 impl<R: Rule + Drop, O: Order + Drop> Session<R, O> {
     ghost use Rattle.std.specs.Prelude.{◌≡◌, ◌<◌, ◌++◌, ◌∷◌, [], ◌⊎◌, map, All, None, Some, OnOk, OnErr, IfOk, IfErr, ℕ, length};
     ghost use Rattle.prop_lattice.specs.declared.refusal.Refusal.TheVariants.{Memory};
     ghost use Rattle.prop_language.specs.Commands as commands;
     ghost use Rattle.prop_language.specs.Said.{kind_of, words, pairs_of, step_of};
-    ghost use Rattle.prop_engine.specs.Answers.{answer_done};
-    ghost use Rattle.prop_workbench.specs.Sessions.{state_of, library_of, IsInOrder, Keeps, IsMeant};
-    ghost use Rattle.prop_workbench.specs.Steps.{Obeys};
+    ghost use Rattle.prop_workbench.specs.Sessions.{IsInOrder, IsMeant};
+    ghost use Rattle.prop_workbench.specs.inner.Sessions.{Keeps};
+    ghost use Rattle.prop_workbench.specs.inner.Carrying.{IsDone};
 
     /// Declares a domain.
     pub(crate) fn domain(&mut self, name: &str, elements: &[&str]) -> Result<(), Refusal>
         requires sound { IsInOrder R.value_of self.old }
         requires some { 0 < length elements.now }
         ensures keeps { Keeps R.value_of self.old self.new }
-        ensures step { Obeys (library_of R.value_of self.old) (state_of self.old) (commands.Command.Domain name.now (words elements.now)) (answer_done result) (state_of self.new) 0 }
+        ensures step { IsDone R.value_of self.old (commands.Command.Domain name.now (words elements.now)) result self.new }
     {
         self.words.declare_domain(name, elements)
     }
@@ -79,7 +35,7 @@ impl<R: Rule + Drop, O: Order + Drop> Session<R, O> {
     ) -> Result<(), Refusal>
         requires sound { IsInOrder R.value_of self.old }
         ensures keeps { Keeps R.value_of self.old self.new }
-        ensures step { Obeys (library_of R.value_of self.old) (state_of self.old) (commands.Command.Relation name.now from.now to.now (pairs_of pairs.now)) (answer_done result) (state_of self.new) 0 }
+        ensures step { IsDone R.value_of self.old (commands.Command.Relation name.now from.now to.now (pairs_of pairs.now)) result self.new }
     {
         self.words.declare_relation(name, from, to, pairs)
     }
@@ -93,9 +49,8 @@ impl<R: Rule + Drop, O: Order + Drop> Session<R, O> {
     ) -> Result<(), Refusal>
         requires sound { IsInOrder R.value_of self.old }
         ensures keeps { Keeps R.value_of self.old self.new }
-        ensures step { Obeys (library_of R.value_of self.old) (state_of self.old) (commands.Command.Define name.now (words params.now) (map step_of steps.now)) (answer_done result) (state_of self.new) 0 }
+        ensures step { IsDone R.value_of self.old (commands.Command.Define name.now (words params.now) (map step_of steps.now)) result self.new }
     {
-        self.words.domain_count();
         self.definitions.define(
             self.alloc,
             self.network.library(),
@@ -110,7 +65,7 @@ impl<R: Rule + Drop, O: Order + Drop> Session<R, O> {
     pub(crate) fn cell(&mut self, name: &str, kind: KindWord) -> Result<(), Refusal>
         requires sound { IsInOrder R.value_of self.old }
         ensures keeps { Keeps R.value_of self.old self.new }
-        ensures step { Obeys (library_of R.value_of self.old) (state_of self.old) (commands.Command.Cell name.now (kind_of kind.entry)) (answer_done result) (state_of self.new) 0 }
+        ensures step { IsDone R.value_of self.old (commands.Command.Cell name.now (kind_of kind.entry)) result self.new }
     {
         match self.names.find(name) {
             Some(_) => return Err(Refusal::NameTaken),

@@ -12,7 +12,7 @@ use std::io::{Read, Write};
 impl<R: Rule + Drop, O: Order + Drop> Session<R, O> {
     ghost use Rattle.prop_workbench.specs.Sessions.{shown_of, IsSound, IsMeant};
     ghost use Rattle.prop_workbench.specs.Engine.{machine_of};
-    ghost use Rattle.prop_engine.specs.Endings.{Tells, WritesTranscript, WritesFront};
+    ghost use Rattle.prop_engine.specs.Endings.{Tells, WritesTranscript, WritesPrefix};
 
     /// Reads the input to its end, in at most so many reads of at most 4,096 bytes, and writes
     /// the replies to its lines. Each reply is written and passed on before the next line is
@@ -33,8 +33,8 @@ impl<R: Rule + Drop, O: Order + Drop> Session<R, O> {
         // What was written is a transcript of all that the reader had left.
         ensures transcript { IfOk result (λ counts. WritesTranscript (machine_of R.value_of R.related self.old) (Rd.remaining (device reader.old))
             (W.contents (device writer.old)) (W.contents (device writer.new)) counts (shown_of self.old) (shown_of self.new)) }
-        // At a fault it is the front of an allowed one.
-        ensures front { OnErr result (WritesFront (machine_of R.value_of R.related self.old) (Rd.remaining (device reader.old))
+        // At a fault it is the prefix of an allowed one.
+        ensures prefix { OnErr result (WritesPrefix (machine_of R.value_of R.related self.old) (Rd.remaining (device reader.old))
             (W.contents (device writer.old)) (W.contents (device writer.new)) (shown_of self.old)) }
         // Which lines were carried out, by what the reads gave.
         ensures told { (input : List ℕ) × (output : List ℕ)

@@ -9,8 +9,9 @@ use std::alloc::AllocError;
 impl<R: Rule + Drop, O: Order + Drop> Session<R, O> {
     ghost use Rattle.prop_language.specs.Commands as commands;
     ghost use Rattle.prop_engine.specs.Answers.{answer_done};
-    ghost use Rattle.prop_workbench.specs.Sessions.{shown_of, library_of, IsInOrder, Stays};
-    ghost use Rattle.prop_workbench.specs.Steps.{IsObeyed};
+    ghost use Rattle.prop_workbench.specs.Sessions.{shown_of, library_of, IsInOrder};
+    ghost use Rattle.prop_workbench.specs.inner.Sessions.{Stays};
+    ghost use Rattle.prop_workbench.specs.inner.Steps.{IsObeyed};
 
     /// The premise with a name is forgotten: its statements go, and the nogoods that hold it. It keeps its name, its number and whether it is believed.
     /// Every choice stands on its first side again, and every procedure waits.

@@ -3,7 +3,7 @@ ghost use Rattle.prop_procedures.specs.Kept.{stored_of, related_of};
 ghost use Rattle.prop_workbench.specs.Steps.{Shown};
 ghost use Rattle.prop_workbench.specs.Sessions.{shown_of, IsSound, IsMeant};
 ghost use Rattle.prop_workbench.specs.Engine.{learning};
-ghost use Rattle.prop_workbench.specs.MachineLaws.{learning_asks_by_front, learning_is_total};
+ghost use Rattle.prop_workbench.specs.laws.MachineLaws.{learning_asks_by_prefix, learning_is_total};
 
 use crate::session::Session;
 use prop_engine::{Interpreter, Reply};
@@ -27,7 +27,7 @@ impl<R: Rule + Drop, O: Order + Drop> Interpreter for Session<R, O> {
         self.command(line)
     }
 
-    ghost asks_by_front = { λ library. learning_asks_by_front _ _ };
+    ghost asks_by_prefix = { λ library. learning_asks_by_prefix _ _ };
 
     ghost total = { λ library. learning_is_total _ _ };
 }

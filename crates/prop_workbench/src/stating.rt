@@ -5,7 +5,7 @@ ghost use Rattle.prop_language.specs.Said.{value_of};
 ghost use Rattle.prop_values.specs.Said.{meant_of};
 ghost use Rattle.prop_vocabulary.specs.Texts.{elements_of_kind};
 ghost use Rattle.prop_workbench.specs.Refusing.{meaning_at};
-ghost use Rattle.prop_workbench.specs.Sessions.{IsKnown};
+ghost use Rattle.prop_compound.specs.Kinds.{IsKnown};
 
 use crate::session::Session;
 use prop_compound::Value;
@@ -27,30 +27,31 @@ pub(crate) fn meaning<'a>(
     ensures err { IfErr result (λ e. meaning_at words.now kind (value_of value.now) ≡ Err e) }
     ensures few { OnOk result (length (elements_of_kind words.now kind) ≤ 64) }
 {
-    words.domain_count();
     let domain = match kind {
         Kind::Set(number) => words.domain(number),
-        Kind::Span | Kind::Symbol => words.domain(0),
+        Kind::Span | Kind::Symbol => words.truth(),
     };
     read_value(value, kind, domain)
 }
 
 impl<R: Rule + Drop, O: Order + Drop> Session<R, O> {
-    ghost use Rattle.std.specs.Prelude.{◌≡◌, ◌<◌, ◌++◌, ◌∷◌, [], ◌⊎◌, ℕ, IsTrue, false, None, Some, OnOk, OnErr, IfErr, length};
+    ghost use Rattle.std.specs.Prelude.{◌≡◌, ◌<◌, ◌++◌, ◌∷◌, [], ◌⊎◌, ℕ, false, None, Some, OnOk, OnErr, IfErr, length};
     ghost use Rattle.prop_lattice.specs.declared.refusal.Refusal.TheVariants.{Memory};
     ghost use Rattle.prop_premises.specs.Origins.{premise_number, is_choice, with_name};
     ghost use Rattle.prop_language.specs.Commands as commands;
     ghost use Rattle.prop_language.specs.Said.{value_of};
     ghost use Rattle.prop_procedures.specs.Fitting.{kind_at};
-    ghost use Rattle.prop_cells.specs.Refusing.{may_be_stated, state_refusal};
-    ghost use Rattle.prop_engine.specs.Answers.{answer_done};
-    ghost use Rattle.prop_workbench.specs.Effects.{number_given, name_of, stating, stated, info_meant, MayMean};
+    ghost use Rattle.prop_cells.specs.Refusing.{state_refusal};
+    ghost use Rattle.prop_workbench.specs.inner.Effects.{name_of, stating, MayMean};
+    ghost use Rattle.prop_workbench.specs.Effects.{stated, info_meant};
     ghost use Rattle.prop_values.specs.Said.{meant_of};
-    ghost use Rattle.prop_values.specs.Values.{Name};
+    ghost use Rattle.prop_values.specs.Values.{Known, Name};
     ghost use Rattle.prop_vocabulary.specs.Vocabulary.{with_symbol, symbol_number};
-    ghost use Rattle.prop_workbench.specs.Refusing.{telling_limit, statement_limit, stating_limit, is_choice_told, with_meant};
-    ghost use Rattle.prop_workbench.specs.Sessions.{state_of, library_of, IsInOrder, Keeps};
-    ghost use Rattle.prop_workbench.specs.Steps.{Obeys};
+    ghost use Rattle.prop_workbench.specs.Refusing.{telling_limit, statement_limit, stating_limit, with_meant};
+    ghost use Rattle.prop_workbench.specs.inner.Refusing.{is_choice_told};
+    ghost use Rattle.prop_workbench.specs.Sessions.{state_of, IsInOrder};
+    ghost use Rattle.prop_workbench.specs.inner.Sessions.{Keeps};
+    ghost use Rattle.prop_workbench.specs.inner.Carrying.{IsDone};
 
     /// States what a value says at a cell, under the premise with a name or under none.
     pub(crate) fn say(
@@ -61,7 +62,7 @@ impl<R: Rule + Drop, O: Order + Drop> Session<R, O> {
     ) -> Result<(), Refusal>
         requires sound { IsInOrder R.value_of self.old }
         ensures keeps { Keeps R.value_of self.old self.new }
-        ensures step { Obeys (library_of R.value_of self.old) (state_of self.old) (stating (name_of premise.entry) name.now (value_of value.now)) (answer_done result) (state_of self.new) 0 }
+        ensures step { IsDone R.value_of self.old (stating (name_of premise.entry) name.now (value_of value.now)) result self.new }
     {
         let cell = match self.names.find(name) {
             Some(cell) => cell,
@@ -170,7 +171,7 @@ impl<R: Rule + Drop, O: Order + Drop> Session<R, O> {
         requires sound { IsInOrder R.value_of self.old }
         requires told { is_choice_told (state_of self.old) (name_of premise) ≡ false }
         requires cell { cell < length self.old.network.cells.kinds }
-        requires may { IsTrue (may_be_stated (kind_at self.old.network.cells.kinds cell).kind (kind_at self.old.network.cells.kinds cell).size info) }
+        requires may { MayMean (kind_at self.old.network.cells.kinds cell) (Known info) }
         ensures keeps { Keeps R.value_of self.old self.new }
         ensures words { self.new.words ≡ self.old.words }
         ensures fits { OnOk result (statement_limit (state_of self.old) (name_of premise.entry) ≡ None) }
@@ -189,11 +190,11 @@ impl<R: Rule + Drop, O: Order + Drop> Session<R, O> {
         requires sound { IsInOrder R.value_of self.old }
         requires told { is_choice self.old.search.premises premise.now ≡ false }
         requires cell { cell < length self.old.network.cells.kinds }
-        requires may { IsTrue (may_be_stated (kind_at self.old.network.cells.kinds cell).kind (kind_at self.old.network.cells.kinds cell).size info) }
+        requires may { MayMean (kind_at self.old.network.cells.kinds cell) (Known info) }
         ensures keeps { Keeps R.value_of self.old self.new }
         ensures words { self.new.words ≡ self.old.words }
         ensures fits { OnOk result (telling_limit (state_of self.old) premise.now ≡ None) }
-        ensures ok { OnOk result (state_of self.new ≡ record (state_of self.old) { premises = with_name (state_of self.old).premises premise.now; statements = (state_of self.old).statements ++ record { premise = Some (number_given (state_of self.old).premises premise.now); cell = cell; info = info } ∷ [] }) }
+        ensures ok { OnOk result (state_of self.new ≡ stated (state_of self.old) (Some premise.now) cell self.old.words info) }
         ensures err { IfErr result (λ e. (telling_limit (state_of self.old) premise.now ≡ Some e) ⊎ (e ≡ Memory)) }
         ensures err_same { OnErr result (state_of self.new ≡ state_of self.old) }
     {
@@ -231,7 +232,7 @@ impl<R: Rule + Drop, O: Order + Drop> Session<R, O> {
         requires sound { IsInOrder R.value_of self.old }
         requires told { is_choice self.old.search.premises name.now ≡ false }
         requires cell { cell < length self.old.network.cells.kinds }
-        requires may { IsTrue (may_be_stated (kind_at self.old.network.cells.kinds cell).kind (kind_at self.old.network.cells.kinds cell).size info) }
+        requires may { MayMean (kind_at self.old.network.cells.kinds cell) (Known info) }
         requires new { premise_number self.old.search.premises name.now ≡ None }
         ensures keeps { Keeps R.value_of self.old self.new }
         ensures words { self.new.words ≡ self.old.words }

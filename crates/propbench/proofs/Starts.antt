@@ -13,28 +13,31 @@ use Rattle.prop_procedures.specs.declared.library.Library.{Library}
 use Rattle.prop_cells.specs.Points.{AreSoundBy}
 use Rattle.prop_procedures.specs.Kept.{stored_as, stored_of}
 use Rattle.prop_procedures.specs.declared.procedure.Procedure.{Procedure}
-use Rattle.prop_arith.specs.Kit.{in_order, name_of, ins_of, out_of, need_of, value_of, Related}
-use Rattle.prop_arith.specs.KitLaws.{kit_sound}
+use Rattle.prop_arith.specs.Kit.{in_order, form_of}
+use Rattle.prop_arith.specs.Points.{Related}
+use Rattle.prop_arith.specs.Values.{value_of}
+use Rattle.prop_arith.specs.laws.KitLaws.{kit_sound}
 use Rattle.prop_arith.specs.declared.kit.Kit.{Kit}
 use Rattle.prop_arith.specs.declared.kit.Kit.TheVariants.{Add, Sub, Mul, Div, Square, Root, Less, Below, Above, Copy, Alike, Apart, Switch, Not, And, AndBack, Or, OrBack, Image, Coimage}
 use Rattle.prop_engine.specs.declared.outcome.Counts.{Counts}
-use Rattle.prop_engine.specs.Endings.{WritesTranscript, WritesFront}
+use Rattle.prop_engine.specs.Endings.{WritesTranscript, WritesPrefix}
 use Rattle.prop_arith.specs.Prelude.{prelude_lines}
 use Rattle.prop_workbench.specs.Machine.{naming}
 use Rattle.prop_workbench.specs.Steps.{Shown, Covers, new_shown}
 use Rattle.prop_workbench.specs.Loading.{Loads}
 use Rattle.prop_workbench.specs.Engine.{learning}
-use Rattle.prop_workbench.specs.Shown.{IsShown}
-use Rattle.prop_workbench.proofs.NamedLaws.{shown_transcripts, shown_fronts}
+use Rattle.prop_workbench.specs.inner.Shown.{IsShown}
+use Rattle.prop_workbench.proofs.NamedLaws.{shown_transcripts, shown_prefixes}
 use Rattle.propbench.specs.declared.fault.Fault.{Fault}
-use Rattle.propbench.specs.Kits.{stored_kit, kit_library, kit_related, CarriesOut, IsAnsweredAs, IsAnsweredInFrontAs, IsAnswered, IsAnsweredInFront}
+use Rattle.propbench.specs.Kits.{stored_kit, kit_library, kit_related, CarriesOut, IsAnswered, IsAnsweredInPart}
+use Rattle.propbench.specs.inner.Kits.{IsAnsweredAs, IsAnsweredInPartAs}
 
 -- before the session nothing is written
-pub nothing_yet : (left held : Option (List ℕ)) (limit : ℕ) → IsAnsweredInFront left held held limit
+pub nothing_yet : (left held : Option (List ℕ)) (limit : ℕ) → IsAnsweredInPart left held held limit
 nothing_yet left held limit = inl refl
 
 -- each rule has an input, and at most eight
-pub inputs_fit : (rule : Kit) → (1 ≤ length (ins_of rule)) × (length (ins_of rule) ≤ 8)
+pub inputs_fit : (rule : Kit) → (1 ≤ length (form_of rule).ins) × (length (form_of rule).ins ≤ 8)
 inputs_fit Add = (omega arith, omega arith)
 inputs_fit Sub = (omega arith, omega arith)
 inputs_fit Mul = (omega arith, omega arith)
@@ -57,7 +60,7 @@ inputs_fit Image = (omega arith, omega arith)
 inputs_fit Coimage = (omega arith, omega arith)
 
 -- a procedure with the name, the form and the value of a rule
-pub stored_is : {X : Type 0} {F : X → Type 0} {g : _} → (p : Procedure Kit X F g) (k : Kit) → p.name.now ≡ name_of k → p.ins.items ≡ ins_of k → p.out ≡ out_of k → p.need ≡ need_of k → p.rule ≡ k → stored_as value_of p ≡ stored_kit k
+pub stored_is : {X : Type 0} {F : X → Type 0} {g : _} → (p : Procedure Kit X F g) (k : Kit) → p.name.now ≡ (form_of k).name → p.ins.items ≡ (form_of k).ins → p.out ≡ (form_of k).out → p.need ≡ (form_of k).need → p.rule ≡ k → stored_as value_of p ≡ stored_kit k
 stored_is p k n i o d r = rw (n, i, o, d, r) refl
 
 -- one more procedure is that of one more rule
@@ -77,7 +80,7 @@ kit_is_sound n p at = by in_order n p at
   where
     by : (rules : List Kit) (n : ℕ) (p : Stored) → slice_get (map stored_kit rules) n ≡ Some p → IsSound p.value (λ param points point. IsSomeAnd (slice_get rules n) (λ rule. Related rule param points point)) p.ins p.out p.need
     by [] n p at = absurd (none-some p at)
-    by (rule ∷ rest) zero p at = let same : stored_kit rule ≡ p = same_Some (stored_kit rule) p at in rw (← same) (kit_sound rule (ins_of rule) (out_of rule) (need_of rule) (refl, refl, refl))
+    by (rule ∷ rest) zero p at = let same : stored_kit rule ≡ p = same_Some (stored_kit rule) p at in rw (← same) (kit_sound rule (form_of rule).ins (form_of rule).out (form_of rule).need (refl, refl, refl))
     by (rule ∷ rest) (suc k) p at = by rest k p at
 
 -- what the procedures relate is what their rules do
@@ -113,14 +116,14 @@ answered_as library related begun first new (Some input) held held' counts loads
     let shown = shown_transcripts library related first new input output counts.lines counts.refused transcript before.now before.covers in
     (naming first.state before.now, naming new.state shown.now, before.done, (output, appends, shown.done))
 
--- the same of the front of one
-pub answered_in_front_as : (library : List Stored) (related : ℕ → Param → List Point → Point → Type 0) (begun first : Shown) (left held held' : Option (List ℕ)) → Loads library begun prelude_lines first →
-    WritesFront (learning library related) left held held' first → IsAnsweredInFrontAs library related begun left held held'
-answered_in_front_as library related begun first None held held' loads written named covers =
+-- the same of the prefix of one
+pub answered_in_part_as : (library : List Stored) (related : ℕ → Param → List Point → Point → Type 0) (begun first : Shown) (left held held' : Option (List ℕ)) → Loads library begun prelude_lines first →
+    WritesPrefix (learning library related) left held held' first → IsAnsweredInPartAs library related begun left held held'
+answered_in_part_as library related begun first None held held' loads written named covers =
     let before = carried_out library begun first prelude_lines loads named covers in inr (naming first.state before.now, before.done, tt)
-answered_in_front_as library related begun first (Some input) held held' loads (output, appends, front) named covers =
+answered_in_part_as library related begun first (Some input) held held' loads (output, appends, prefix) named covers =
     let before = carried_out library begun first prelude_lines loads named covers in
-    inr (naming first.state before.now, before.done, (output, appends, shown_fronts library related first input output front before.now before.covers))
+    inr (naming first.state before.now, before.done, (output, appends, shown_prefixes library related first input output prefix before.now before.covers))
 
 -- no contradictions are covered by what was learned
 none_covered : (s : Shown) → Covers s []
@@ -136,10 +139,10 @@ answered_by_kit library items s limit left held held' (Ok counts) same listed ru
 answered_by_kit library items s limit left held held' (Err e) same listed ruled begun h = tt
 
 -- the same of what it wrote until it was stopped
-pub answered_in_front_by_kit : {X : Type 0} {F : X → Type 0} {g : _} → (library : Library Kit X F g) (items : List (Procedure Kit X F g)) (s : Shown) (limit : ℕ) (left held held' : Option (List ℕ)) (result : Result Counts Fault) → library.procedures.items ≡ items → map (stored_as value_of) items ≡ kit_library → map (λ p. p.rule) items ≡ in_order → s ≡ new_shown limit → OnErr result (IsAnsweredInFrontAs (stored_of value_of library) (related_of Related library) s left held held') → OnErr result (IsAnsweredInFront left held held' limit)
-answered_in_front_by_kit library items s limit left held held' (Ok counts) same listed ruled begun h = tt
-answered_in_front_by_kit library items s limit left held held' (Err e) same listed ruled begun h =
+pub answered_in_part_by_kit : {X : Type 0} {F : X → Type 0} {g : _} → (library : Library Kit X F g) (items : List (Procedure Kit X F g)) (s : Shown) (limit : ℕ) (left held held' : Option (List ℕ)) (result : Result Counts Fault) → library.procedures.items ≡ items → map (stored_as value_of) items ≡ kit_library → map (λ p. p.rule) items ≡ in_order → s ≡ new_shown limit → OnErr result (IsAnsweredInPartAs (stored_of value_of library) (related_of Related library) s left held held') → OnErr result (IsAnsweredInPart left held held' limit)
+answered_in_part_by_kit library items s limit left held held' (Ok counts) same listed ruled begun h = tt
+answered_in_part_by_kit library items s limit left held held' (Err e) same listed ruled begun h =
     let stored : stored_of value_of library ≡ kit_library = ap (map (stored_as value_of)) same ∙ listed in
     let related : related_of Related library ≡ kit_related = related_by_rules library (ap (map (λ p. p.rule)) same ∙ ruled) in
-    let answered : IsAnsweredInFrontAs kit_library kit_related (new_shown limit) left held held' = subst (λ (P : Type 0). P) (λ i. IsAnsweredInFrontAs (stored i) (related i) (begun i) left held held') h in
+    let answered : IsAnsweredInPartAs kit_library kit_related (new_shown limit) left held held' = subst (λ (P : Type 0). P) (λ i. IsAnsweredInPartAs (stored i) (related i) (begun i) left held held') h in
     answered [] (none_covered (new_shown limit))

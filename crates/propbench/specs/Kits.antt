@@ -3,20 +3,22 @@ use Rattle.std.specs.Prelude.{◌≡◌, ◌⊎◌, ℕ, List, [], ◌∷◌, Op
 use Rattle.prop_lattice.specs.Points.{Point}
 use Rattle.prop_procedures.specs.declared.shape.Param.{Param}
 use Rattle.prop_procedures.specs.Stored.{Stored}
-use Rattle.prop_arith.specs.Kit.{in_order, name_of, ins_of, out_of, need_of, value_of, Related}
+use Rattle.prop_arith.specs.Kit.{in_order, form_of}
+use Rattle.prop_arith.specs.Points.{Related}
+use Rattle.prop_arith.specs.Values.{value_of}
 use Rattle.prop_arith.specs.declared.kit.Kit.{Kit}
 use Rattle.prop_engine.specs.declared.outcome.Counts.{Counts}
 use Rattle.prop_engine.specs.Answers.{Answer}
-use Rattle.prop_workbench.specs.Machine.{State, new_state, naming}
+use Rattle.prop_workbench.specs.Machine.{State, new_state}
 use Rattle.prop_workbench.specs.Engine.{workbench}
-use Rattle.prop_workbench.specs.Steps.{Step, Shown, Covers}
+use Rattle.prop_workbench.specs.Steps.{Step}
 use Rattle.prop_arith.specs.Prelude.{prelude_lines}
 use Rattle.prop_workbench.specs.Loading.{IsNoRefusal}
-use Rattle.prop_engine.specs.Endings.{WritesTranscript, WritesFront}
+use Rattle.prop_engine.specs.Endings.{WritesTranscript, WritesPrefix}
 
 -- the procedure of a rule
 abbrev pub stored_kit : Kit → Stored
-stored_kit rule = record { name = name_of rule; ins = ins_of rule; out = out_of rule; need = need_of rule; value = value_of rule }
+stored_kit rule = record { name = (form_of rule).name; ins = (form_of rule).ins; out = (form_of rule).out; need = (form_of rule).need; value = value_of rule }
 
 -- the procedures of the kit, in order
 abbrev pub kit_library : List Stored
@@ -37,23 +39,14 @@ abbrev pub IsAnsweredBy : List Stored → (ℕ → Param → List Point → Poin
 IsAnsweredBy library related begun left held held' counts =
     (first : State) × (new : State) × CarriesOut library begun prelude_lines first × WritesTranscript (workbench library related) left held held' counts first new
 
--- a writer got nothing, or the front of such a transcript
-abbrev pub IsAnsweredInFrontBy : List Stored → (ℕ → Param → List Point → Point → Type 0) → State → Option (List ℕ) → Option (List ℕ) → Option (List ℕ) → Type 0
-IsAnsweredInFrontBy library related begun left held held' =
-    (held' ≡ held) ⊎ ((first : State) × CarriesOut library begun prelude_lines first × WritesFront (workbench library related) left held held' first)
-
--- the same of a session that shows this state, whichever contradictions were named in it, if what it has learned covers them
-abbrev pub IsAnsweredAs : List Stored → (ℕ → Param → List Point → Point → Type 0) → Shown → Option (List ℕ) → Option (List ℕ) → Option (List ℕ) → Counts → Type 0
-IsAnsweredAs library related begun left held held' counts =
-    (named : List (List ℕ)) → Covers begun named → IsAnsweredBy library related (naming begun.state named) left held held' counts
-
-abbrev pub IsAnsweredInFrontAs : List Stored → (ℕ → Param → List Point → Point → Type 0) → Shown → Option (List ℕ) → Option (List ℕ) → Option (List ℕ) → Type 0
-IsAnsweredInFrontAs library related begun left held held' =
-    (named : List (List ℕ)) → Covers begun named → IsAnsweredInFrontBy library related (naming begun.state named) left held held'
+-- a writer got nothing, or the prefix of such a transcript
+abbrev pub IsAnsweredInPartBy : List Stored → (ℕ → Param → List Point → Point → Type 0) → State → Option (List ℕ) → Option (List ℕ) → Option (List ℕ) → Type 0
+IsAnsweredInPartBy library related begun left held held' =
+    (held' ≡ held) ⊎ ((first : State) × CarriesOut library begun prelude_lines first × WritesPrefix (workbench library related) left held held' first)
 
 -- the same of a session with the kit's procedures that begins without cells, and with no contradictions named
 abbrev pub IsAnswered : Option (List ℕ) → Option (List ℕ) → Option (List ℕ) → ℕ → Counts → Type 0
 IsAnswered left held held' limit counts = IsAnsweredBy kit_library kit_related (new_state limit) left held held' counts
 
-abbrev pub IsAnsweredInFront : Option (List ℕ) → Option (List ℕ) → Option (List ℕ) → ℕ → Type 0
-IsAnsweredInFront left held held' limit = IsAnsweredInFrontBy kit_library kit_related (new_state limit) left held held'
+abbrev pub IsAnsweredInPart : Option (List ℕ) → Option (List ℕ) → Option (List ℕ) → ℕ → Type 0
+IsAnsweredInPart left held held' limit = IsAnsweredInPartBy kit_library kit_related (new_state limit) left held held'

@@ -1,3 +1,4 @@
 pub mod Program
 pub mod Faults
 pub mod Kits
+pub mod inner

@@ -1,6 +1,5 @@
 -- The options of the program, and what their words say.
 use Rattle.std.specs.Prelude.{◌≡◌, ◌⊎◌, ℕ, pos, unsigned_abs, List, Option, Some, None, cond, codes, bytes_eq, true}
-use Rattle.std.specs.Borrow.{Bor}
 use Rattle.std.specs.Option.{option_map}
 use Rattle.clap.specs.declared.parser.matches.Found.{Found}
 use Rattle.clap.specs.Words.{App, Rule, new_app, new_rule, with_rule, HasMatchesOf, first_value, found_of, takes, kind_of}
@@ -20,9 +19,6 @@ value_rule name = record (new_rule name) { long = Some name; action = Some Set; 
 -- the program as the option reader sees it: --limit N, --order ORDER, --seed N
 abbrev pub program : App
 program = with_rule (with_rule (with_rule (new_app (codes "propbench")) (value_rule (codes "limit"))) (value_rule (codes "order"))) (value_rule (codes "seed"))
-
-abbrev pub word_of : Option (Bor (List ℕ)) → Option (List ℕ)
-word_of word = option_map (λ (w : Bor (List ℕ)). w.now) word
 
 -- the number from 0 to the high end that the word is, and the program's own where there is none
 abbrev pub number_given : ℕ → ℕ → Option (List ℕ) → Option ℕ

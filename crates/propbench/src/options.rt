@@ -1,7 +1,8 @@
 //! The options of the program.
 ghost use Rattle.std.specs.Prelude.{◌≡◌, ◌⊎◌, false, IfOk, IfErr, OnErr, map, string_bytes};
 ghost use Rattle.clap.specs.Words.{app_of, found_of, rule_of};
-ghost use Rattle.propbench.specs.Program.{program, value_rule, word_of, number_given, order_given, AreChosen, AreWrong, AreGiven, AreOutOfRange, AreTaken, IsWantOfMemory};
+ghost use Rattle.propbench.specs.Program.{program, value_rule, number_given, order_given, AreChosen, AreWrong, AreGiven, AreOutOfRange, AreTaken, IsWantOfMemory};
+ghost use Rattle.propbench.specs.inner.Program.{word_of};
 
 use crate::chosen::{Options, Pick};
 use clap::error::ErrorKind;

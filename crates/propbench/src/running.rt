@@ -1,10 +1,12 @@
 //! A session with the kit's procedures, over a reader and a writer.
 ghost use Rattle.std.specs.Prelude.{◌≡◌, IfOk, OnErr, map};
-ghost use Rattle.prop_arith.specs.Kit.{value_of, in_order};
+ghost use Rattle.prop_arith.specs.Kit.{in_order};
+ghost use Rattle.prop_arith.specs.Values.{value_of};
 ghost use Rattle.prop_procedures.specs.Kept.{AllMean, stored_as};
 ghost use Rattle.prop_engine.specs.Watched.{device, IsFresh};
 ghost use Rattle.propbench.specs.Faults.{TellsDevices};
-ghost use Rattle.propbench.specs.Kits.{kit_library, kit_related, IsAnswered, IsAnsweredInFront, IsAnsweredAs, IsAnsweredInFrontAs};
+ghost use Rattle.propbench.specs.Kits.{kit_library, kit_related, IsAnswered, IsAnsweredInPart};
+ghost use Rattle.propbench.specs.inner.Kits.{IsAnsweredAs, IsAnsweredInPartAs};
 ghost use Rattle.prop_cells.specs.Points.{AreSoundBy};
 ghost use Rattle.prop_workbench.specs.Sessions.{shown_of, library_of, related_in, IsSound, IsMeant};
 
@@ -33,7 +35,7 @@ pub fn run<Rd: Read, W: Write>(
     requires reader { IsFresh reader.old }
     requires writer { IsFresh writer.old }
     ensures ok { IfOk result (IsAnswered (Rd.remaining (device reader.old)) (W.contents (device writer.old)) (W.contents (device writer.new)) options.limit) }
-    ensures err { OnErr result (IsAnsweredInFront (Rd.remaining (device reader.old)) (W.contents (device writer.old)) (W.contents (device writer.new)) options.limit) }
+    ensures err { OnErr result (IsAnsweredInPart (Rd.remaining (device reader.old)) (W.contents (device writer.old)) (W.contents (device writer.new)) options.limit) }
     ensures devices { TellsDevices result reader.old reader.new writer.old writer.new }
     // So values that satisfy all that is believed lie in each answer.
     ensures points { AreSoundBy kit_library kit_related }
@@ -66,7 +68,7 @@ fn serve<Rd: Read, W: Write>(
     requires listed { map (stored_as value_of) procedures.items ≡ kit_library }
     requires ruled { map (λ p. p.rule) procedures.items ≡ in_order }
     ensures ok { IfOk result (IsAnswered (Rd.remaining (device reader.old)) (W.contents (device writer.old)) (W.contents (device writer.new)) options.limit) }
-    ensures err { OnErr result (IsAnsweredInFront (Rd.remaining (device reader.old)) (W.contents (device writer.old)) (W.contents (device writer.new)) options.limit) }
+    ensures err { OnErr result (IsAnsweredInPart (Rd.remaining (device reader.old)) (W.contents (device writer.old)) (W.contents (device writer.new)) options.limit) }
     ensures devices { TellsDevices result reader.old reader.new writer.old writer.new }
 {
     let Options { limit, order, seed } = options;
@@ -92,7 +94,7 @@ fn serve_in<O: Order + Drop, Rd: Read, W: Write>(
     requires listed { map (stored_as value_of) procedures.items ≡ kit_library }
     requires ruled { map (λ p. p.rule) procedures.items ≡ in_order }
     ensures ok { IfOk result (IsAnswered (Rd.remaining (device reader.old)) (W.contents (device writer.old)) (W.contents (device writer.new)) limit) }
-    ensures err { OnErr result (IsAnsweredInFront (Rd.remaining (device reader.old)) (W.contents (device writer.old)) (W.contents (device writer.new)) limit) }
+    ensures err { OnErr result (IsAnsweredInPart (Rd.remaining (device reader.old)) (W.contents (device writer.old)) (W.contents (device writer.new)) limit) }
     ensures devices { TellsDevices result reader.old reader.new writer.old writer.new }
 {
     let network = Network::new(alloc, Library::new(procedures));
@@ -114,7 +116,7 @@ fn answer<R: Rule + Drop, O: Order + Drop, Rd: Read, W: Write>(
     requires means { IsMeant R.value_of session.old }
     requires sound { IsSound R.value_of session.old }
     ensures ok { IfOk result (IsAnsweredAs (library_of R.value_of session.old) (related_in R.related session.old) (shown_of session.old) (Rd.remaining (device reader.old)) (W.contents (device writer.old)) (W.contents (device writer.new))) }
-    ensures err { OnErr result (IsAnsweredInFrontAs (library_of R.value_of session.old) (related_in R.related session.old) (shown_of session.old) (Rd.remaining (device reader.old)) (W.contents (device writer.old)) (W.contents (device writer.new))) }
+    ensures err { OnErr result (IsAnsweredInPartAs (library_of R.value_of session.old) (related_in R.related session.old) (shown_of session.old) (Rd.remaining (device reader.old)) (W.contents (device writer.old)) (W.contents (device writer.new))) }
     ensures devices { TellsDevices result reader.old reader.new writer.old writer.new }
 {
     match session.load_prelude() {

@@ -4,7 +4,8 @@ ghost use Rattle.prop_lattice.specs.Rank.{IsOf};
 ghost use Rattle.prop_premises.specs.Sets.{is_below};
 ghost use Rattle.prop_procedures.specs.Fitting.{kind_at};
 ghost use Rattle.prop_cells.specs.Data.{IsWellMade, content_of};
-ghost use Rattle.prop_cells.specs.Sides.{sides_at, statements_back, StatesAll};
+ghost use Rattle.prop_cells.specs.Sides.{sides_at, StatesAll};
+ghost use Rattle.prop_cells.specs.inner.Sides.{statements_back};
 
 use super::Cells;
 use crate::contents::drop_from;

@@ -38,9 +38,7 @@ impl<R: Rule + Drop> Network<R> {
         if self.cells.statement_count() > MOST_STATEMENTS - infos.len() {
             return Err(Refusal::LimitReached(Limit::Statements));
         }
-        match self.cells.push_sides(first, cell, infos) {
-            Ok(()) => Ok(()),
-            Err(_) => Err(Refusal::Memory),
-        }
+        self.cells.push_sides(first, cell, infos)?;
+        Ok(())
     }
 }

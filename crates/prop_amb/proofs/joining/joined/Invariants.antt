@@ -1,6 +1,6 @@
 use Rattle.std.proofs.Common.{◌≡◌, ◌+◌, take}
 use Rattle.prop_premises.specs.Sets.{set_of, union, without, IsSame}
-use Rattle.prop_amb.specs.Joined.{others_of}
+use Rattle.prop_amb.specs.inner.Joined.{others_of}
 use Rattle.prop_amb.proofs.joining.joined.Given as goal
 
 abbrev pub invariant-loop-reason : goal.invariant-loop-reason

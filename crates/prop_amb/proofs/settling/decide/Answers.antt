@@ -6,7 +6,7 @@ use Rattle.prop_premises.specs.Sets.{set_of}
 use Rattle.prop_amb.specs.Going.{Passes}
 use Rattle.prop_amb.specs.Resolving.{IsReason}
 use Rattle.prop_amb.specs.Search.{users_of, choices_in}
-use Rattle.prop_amb.specs.Settling.{IsMet}
+use Rattle.prop_amb.specs.inner.Settling.{IsMet}
 use Rattle.prop_amb.proofs.DecidingLaws.{held, goes_later, passes_on, passes_in, are_moved}
 use Rattle.prop_amb.proofs.settling.decide.Goals as goal
 

@@ -1,4 +1,4 @@
-use Rattle.std.proofs.Common.{◌∙◌, ap, Ok, refl, arith}
+use Rattle.std.proofs.Common.{◌∙◌, refl, arith}
 use Rattle.prop_amb.specs.Going.Passes.{none}
 use Rattle.prop_amb.proofs.DecidingLaws.{passes_on, passes_in}
 use Rattle.prop_amb.proofs.settling.pass.Goals as goal
@@ -16,7 +16,7 @@ loop-moves-init c = record {
 pub loop-moves-preserved : goal.loop-moves-preserved
 loop-moves-preserved c =
     let before = c.loop-moves.invariant in
-    let after = c.in_ok-go_on.ensures in
+    let after = c.in_ok-moved.ensures in
     record {
       premises = after.premises ∙ before.premises;
       listed = after.listed ∙ before.listed;
@@ -25,5 +25,5 @@ loop-moves-preserved c =
       few = omega (arith, c.loop-moves-test.true);
       moves = λ problem learned. passes_on (before.moves problem learned)
           (passes_in problem c.args.search.now c.loop-moves.search 1 c.loop-moves.search.list c.go_on.new.search.list before.premises
-          (after.moves (ap Ok c.if-branch.true) problem (before.search problem learned)));
+          ((rw c.in-Some.is at after.moves) problem (before.search problem learned)));
     }

@@ -4,7 +4,7 @@ use Rattle.prop_procedures.specs.Kept.{stored_of}
 use Rattle.prop_cells.specs.Data.{Data, problem_of}
 use Rattle.prop_scheduler.specs.Turns.{IsUnderWay}
 use Rattle.prop_amb.specs.Search.{IsSearch}
-use Rattle.prop_amb.specs.Settling.{IsHeld}
+use Rattle.prop_amb.specs.inner.Settling.{IsHeld}
 use Rattle.prop_amb.specs.declared.outcome.Outcome.{Outcome}
 use Rattle.prop_amb.specs.declared.outcome.Outcome.TheVariants.{Settled, Unsettled}
 use Rattle.prop_amb.specs.declared.settling.Tried.TheVariants.{Quiet, Spent}

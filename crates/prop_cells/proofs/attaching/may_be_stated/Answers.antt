@@ -1,5 +1,5 @@
 use Rattle.std.proofs.Common.{◌≡◌, false}
-use Rattle.prop_cells.specs.Problems.{is_contradiction}
+use Rattle.prop_lattice.specs.Order.{is_contradiction}
 use Rattle.prop_cells.proofs.Refused.{no_contradiction, stated_test}
 use Rattle.prop_cells.proofs.attaching.may_be_stated.Goals as goal
 use Rattle.prop_cells.proofs.attaching.may_be_stated.Goals.{in-Contradiction, in_default}

@@ -1,4 +1,4 @@
-use Rattle.prop_procedures.specs.Kept.{sound_at}
+use Rattle.prop_procedures.specs.inner.Kept.{sound_at}
 use Rattle.prop_cells.proofs.PointLaws.{entailed_holds, points_consistent}
 use Rattle.prop_cells.proofs.laws.points_lie_in_what_is_entailed.Goals as goal
 

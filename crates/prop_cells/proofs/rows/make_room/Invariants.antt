@@ -1,5 +1,5 @@
 use Rattle.std.proofs.Common.{◌≡◌, All, take}
-use Rattle.prop_cells.specs.Rooms.{row_items, HasRoom}
+use Rattle.prop_cells.specs.inner.Rooms.{row_items, HasRoom}
 use Rattle.prop_cells.proofs.rows.make_room.Given as goal
 
 abbrev pub invariant-loop-cell : goal.invariant-loop-cell

@@ -1,6 +1,6 @@
 use Rattle.std.proofs.Common.{◌≡◌, ℕ, ◌==◌, false, take}
 use Rattle.std.specs.List.{list_any}
-use Rattle.prop_cells.specs.Rooms.{row_items, HasRoom, Noted}
+use Rattle.prop_cells.specs.inner.Rooms.{row_items, HasRoom, Noted}
 use Rattle.prop_cells.proofs.rows.note.Given as goal
 
 abbrev pub invariant-loop-i : goal.invariant-loop-i

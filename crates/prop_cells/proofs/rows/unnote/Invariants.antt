@@ -1,5 +1,5 @@
 use Rattle.std.proofs.Common.{take}
-use Rattle.prop_cells.specs.Rooms.{row_items, Unnoted}
+use Rattle.prop_cells.specs.inner.Rooms.{row_items, Unnoted}
 use Rattle.prop_cells.proofs.rows.unnote.Given as goal
 
 abbrev pub invariant-loop-i : goal.invariant-loop-i

@@ -5,9 +5,10 @@ use Rattle.prop_procedures.specs.Fitting.{kind_at}
 use Rattle.prop_procedures.specs.Flats.{param_at}
 use Rattle.prop_compound.specs.declared.definition.Used.TheVariants as uses
 use Rattle.prop_compound.specs.declared.definition.NumberedStep.TheVariants.{Use}
-use Rattle.prop_compound.specs.Expansion.{cell_at, cells_at, definition_expanded}
-use Rattle.prop_compound.specs.Flattened.{walk_of}
-use Rattle.prop_compound.specs.Kept.{all_bare, places_made, IsInScope, IsUseBelow}
+use Rattle.prop_compound.specs.Expansion.{param_passed, cell_at, cells_at, definition_expanded}
+use Rattle.prop_compound.specs.inner.Flattened.{walk_of}
+use Rattle.prop_compound.specs.Kept.{all_bare}
+use Rattle.prop_compound.specs.inner.Kept.{places_made, IsInScope, IsUseBelow}
 use Rattle.prop_compound.proofs.Walking.{Goes, kept_here, begins, params_at, local_goes, like_goes, one_made, use_goes, use_goes_if, scope_here, scope_behind, goes_on, below_all, reach, reach_below}
 use Rattle.prop_compound.proofs.Firsts.{all_here}
 use Rattle.prop_compound.proofs.Placing.{param_still, place_still, none_further, same_further, mid_placed, mid_same, pushed_further, pushed_means, then_further, further_on}
@@ -30,12 +31,12 @@ expand_definition-loop-step-init t c =
 pub expand_step-returns-in-Local-clause-steps : goal.expand_step-returns-in-Local-clause-steps
 expand_step-returns-in-Local-clause-steps t c =
     let walk = c.args.walk.now in
-    local_goes c.args.words.now (definition_expanded c.args.words.now (reverse (all_bare c.args.definitions.now))) (param_at walk.params.items c.args.given) c.args.cells.now.items c.args.step.now (walk_of walk) c.in-Local.kind c.add_local.new.cells.items c.add_local.new.kinds.items c.add_local.result c.in-Local.is c.add_local.ensures.kinds c.add_local.ensures.cells
+    local_goes c.args.words.now (definition_expanded (param_passed c.args.words.now) (reverse (all_bare c.args.definitions.now))) (param_at walk.params.items c.args.given) c.args.cells.now.items c.args.step.now (walk_of walk) c.in-Local.kind c.add_local.new.cells.items c.add_local.new.kinds.items c.add_local.result c.in-Local.is c.add_local.ensures.kinds c.add_local.ensures.cells
 
 pub expand_step-returns-in-Local-clause-places : goal.expand_step-returns-in-Local-clause-places
 expand_step-returns-in-Local-clause-places t c =
     let walk = c.args.walk.now in
-    one_made c.args.words.now (definition_expanded c.args.words.now (reverse (all_bare c.args.definitions.now))) (param_at walk.params.items c.args.given) c.args.cells.now.items c.args.step.now (walk_of walk) c.add_local.result c.add_local.new.cells.items (ap places_made c.in-Local.is) c.add_local.ensures.cells
+    one_made c.args.words.now (definition_expanded (param_passed c.args.words.now) (reverse (all_bare c.args.definitions.now))) (param_at walk.params.items c.args.given) c.args.cells.now.items c.args.step.now (walk_of walk) c.add_local.result c.add_local.new.cells.items (ap places_made c.in-Local.is) c.add_local.ensures.cells
 
 pub expand_step-returns-in_ok-push-in-Procedure-clause-steps : goal.expand_step-returns-in_ok-push-in-Procedure-clause-steps
 expand_step-returns-in_ok-push-in-Procedure-clause-steps t c =
@@ -46,7 +47,7 @@ expand_step-returns-in_ok-push-in-Procedure-clause-steps t c =
     let more = c.in_ok-passed-in-Use.ensures.more in
     let place = c.in_ok-passed-in-Use.passed in
     let chosen = c.in_ok-chosen-in-Use.chosen.items in
-    use_goes words (definition_expanded words (reverse (all_bare c.args.definitions.now))) (param_at old.params.items c.args.given) c.args.cells.now.items c.args.step.now (walk_of old) c.in-Use.used c.in-Use.places c.in-Use.passing c.in-Use.is _ c.in-Procedure.is chosen (c.in_ok-chosen-in-Use.ensures ∙ (λ i. cells_at (c.deref-in-Use.ensures.value i) (c.as_slice.ensures i))) (param_at mid.params.items place) c.in_ok-passed-in-Use.ensures.param (walk_of new)
+    use_goes words (definition_expanded (param_passed words) (reverse (all_bare c.args.definitions.now))) (param_at old.params.items c.args.given) c.args.cells.now.items c.args.step.now (walk_of old) c.in-Use.used c.in-Use.places c.in-Use.passing c.in-Use.is _ c.in-Procedure.is chosen (c.in_ok-chosen-in-Use.ensures ∙ (λ i. cells_at (c.deref-in-Use.ensures.value i) (c.as_slice.ensures i))) (param_at mid.params.items place) c.in_ok-passed-in-Use.ensures.param (walk_of new)
     (pushed_means old mid more.0 more.1 refl refl refl c.requires.placed new c.placed.result refl c.in_ok-push-in-Procedure.ensures.items c.in-Procedure.procedure place chosen refl refl c.placed.ensures.procedure c.placed.ensures.param c.placed.ensures.cells)
 
 pub expand_step-returns-in-Definition-clause-steps : goal.expand_step-returns-in-Definition-clause-steps
@@ -55,13 +56,13 @@ expand_step-returns-in-Definition-clause-steps t c =
     let old = c.args.walk.now in
     let mid = record old { params = c.param_place.new.params } in
     let more = c.in_ok-passed-in-Use.ensures.more in
-    use_goes_if words (definition_expanded words (reverse (all_bare c.args.definitions.now))) (param_at old.params.items c.args.given) c.args.cells.now.items c.args.step.now (walk_of old) c.in-Use.used c.in-Use.places c.in-Use.passing c.in-Use.is c.expand_definition.result _ c.in-Definition.is c.in_ok-chosen-in-Use.chosen.items (c.in_ok-chosen-in-Use.ensures ∙ (λ i. cells_at (c.deref-in-Use.ensures.value i) (c.as_slice.ensures i))) (param_at mid.params.items c.in_ok-passed-in-Use.passed) c.in_ok-passed-in-Use.ensures.param (walk_of mid) (walk_of c.expand_definition.new.walk)
+    use_goes_if words (definition_expanded (param_passed words) (reverse (all_bare c.args.definitions.now))) (param_at old.params.items c.args.given) c.args.cells.now.items c.args.step.now (walk_of old) c.in-Use.used c.in-Use.places c.in-Use.passing c.in-Use.is c.expand_definition.result _ c.in-Definition.is c.in_ok-chosen-in-Use.chosen.items (c.in_ok-chosen-in-Use.ensures ∙ (λ i. cells_at (c.deref-in-Use.ensures.value i) (c.as_slice.ensures i))) (param_at mid.params.items c.in_ok-passed-in-Use.passed) c.in_ok-passed-in-Use.ensures.param (walk_of mid) (walk_of c.expand_definition.new.walk)
     (mid_same old mid more.0 more.1 refl refl refl c.requires.placed) c.expand_definition.ensures.made
 
 pub expand_definition-loop-step-preserved : goal.expand_definition-loop-step-preserved
 expand_definition-loop-step-preserved t c =
     let words = c.args.words.now in
-    let D = definition_expanded words (reverse (all_bare c.args.definitions.now)) in
+    let D = definition_expanded (param_passed words) (reverse (all_bare c.args.definitions.now)) in
     let inv = c.loop-step.invariant in
     let step = c.in_ok-expand_step.ensures in
     let old = c.args.walk.now in
@@ -90,12 +91,12 @@ pub expand_step-returns-in-Like-clause-steps : goal.expand_step-returns-in-Like-
 expand_step-returns-in-Like-clause-steps t c =
     let walk = c.args.walk.now in
     let cell = c.index.ensures ∙ get_or_default c.args.cells.now.items c.in-Like.place c.index.result.now 0 (subst (IsInScope (length c.args.cells.now.items)) c.in-Like.is c.requires.in_scope) in
-    like_goes c.args.words.now (definition_expanded c.args.words.now (reverse (all_bare c.args.definitions.now))) (param_at walk.params.items c.args.given) c.args.cells.now.items c.args.step.now (walk_of walk) c.kind_at-kind.result c.add_local-in-Like.new.cells.items c.add_local-in-Like.new.kinds.items c.add_local-in-Like.result c.in-Like.place c.in-Like.is (c.kind_at-kind.ensures ∙ (λ i. kind_at (c.deref.ensures.value i) (cell i))) c.add_local-in-Like.ensures.kinds c.add_local-in-Like.ensures.cells
+    like_goes c.args.words.now (definition_expanded (param_passed c.args.words.now) (reverse (all_bare c.args.definitions.now))) (param_at walk.params.items c.args.given) c.args.cells.now.items c.args.step.now (walk_of walk) c.kind_at-kind.result c.add_local-in-Like.new.cells.items c.add_local-in-Like.new.kinds.items c.add_local-in-Like.result c.in-Like.place c.in-Like.is (c.kind_at-kind.ensures ∙ (λ i. kind_at (c.deref.ensures.value i) (cell i))) c.add_local-in-Like.ensures.kinds c.add_local-in-Like.ensures.cells
 
 pub expand_step-returns-in-Like-clause-places : goal.expand_step-returns-in-Like-clause-places
 expand_step-returns-in-Like-clause-places t c =
     let walk = c.args.walk.now in
-    one_made c.args.words.now (definition_expanded c.args.words.now (reverse (all_bare c.args.definitions.now))) (param_at walk.params.items c.args.given) c.args.cells.now.items c.args.step.now (walk_of walk) c.add_local-in-Like.result c.add_local-in-Like.new.cells.items (ap places_made c.in-Like.is) c.add_local-in-Like.ensures.cells
+    one_made c.args.words.now (definition_expanded (param_passed c.args.words.now) (reverse (all_bare c.args.definitions.now))) (param_at walk.params.items c.args.given) c.args.cells.now.items c.args.step.now (walk_of walk) c.add_local-in-Like.result c.add_local-in-Like.new.cells.items (ap places_made c.in-Like.is) c.add_local-in-Like.ensures.cells
 
 pub expand_step-returns-in_ok-push-in-Procedure-clause-further : goal.expand_step-returns-in_ok-push-in-Procedure-clause-further
 expand_step-returns-in_ok-push-in-Procedure-clause-further t c =

@@ -3,7 +3,7 @@ use Rattle.std.specs.Prelude.{Option, Result, OnErr, true, false, cond}
 use Rattle.std.specs.Io.KnownBytes.{Appends}
 use Rattle.prop_engine.specs.Answers.{Answer, is_refusal}
 use Rattle.prop_engine.specs.Transcripts.{Machine}
-use Rattle.prop_engine.specs.Progress.{Stops, CountsAnswer, GrowsAtMost, refusals}
+use Rattle.prop_engine.specs.inner.Progress.{Stops, CountsAnswer, GrowsAtMost, refusals}
 use Rattle.prop_engine.specs.declared.outcome.Counts.{Counts}
 use Rattle.prop_engine.proofs.Io.{on_err}
 use Rattle.prop_engine.proofs.Machines.{same_step}
@@ -30,7 +30,7 @@ returns-in_err-answer-clause-err g c =
     let here = at_place c.args.piece.now c.loop-byte.byte-index 10 c.loop-byte-test.true c.if-byte-eq10.true in
     let step : g.M.Interpreter.machine (g.M.Interpreter.setting c.loop-byte.interpreter) (g.M.Interpreter.state c.loop-byte.interpreter) c.loop-byte.pending s.0 (g.M.Interpreter.state c.answer.new.interpreter) = rw (← c.as_slice.ensures) s.1 in
     let step' = same_step g.M.Interpreter.machine _ _ c.loop-byte.invariant.same _ _ _ _ step in
-    let r = feed_stop _ (g.met.M.Interpreter.asks_by_front _) _ _ _ _ _ _ _ _ _ _ _ _ (drop (c.loop-byte.byte-index + 1) c.args.piece.now) c.loop-byte.invariant.so_far step' s.2.0 s.2.1 in
+    let r = feed_stop _ (g.met.M.Interpreter.asks_by_prefix _) _ _ _ _ _ _ _ _ _ _ _ _ (drop (c.loop-byte.byte-index + 1) c.args.piece.now) c.loop-byte.invariant.so_far step' s.2.0 s.2.1 in
     stop_at _ _ _ _ _ _ _ _ _ _ here r
 
 pub returns-clause-ok : goal.returns-clause-ok
@@ -57,7 +57,7 @@ loop-byte-preserved g c =
           rw (w.interpreter-is, w.pending-is, w.writer-is, w.counts-is, w.clear.ensures, next_place piece i 10 c.loop-byte-test.true w.if-byte-eq10.true) record {
             same = w.in_ok-answer.ensures.same ∙ c.loop-byte.invariant.same;
             ready = w.in_ok-answer.ensures.ready;
-            so_far = feed_line _ (g.met.M.Interpreter.asks_by_front _) _ _ _ _ _ _ _ _ _ _ _ _ _ c.loop-byte.invariant.so_far step' s.2.0 s.2.1;
+            so_far = feed_line _ (g.met.M.Interpreter.asks_by_prefix _) _ _ _ _ _ _ _ _ _ _ _ _ _ c.loop-byte.invariant.so_far step' s.2.0 s.2.1;
             bounded = grows _ _ _ _ s.0 c.loop-byte.invariant.bounded s.2.1;
             fresh = λ h. w.in_ok-answer.ensures.fresh (c.loop-byte.invariant.fresh h);
             needed = w.in_ok-answer.ensures.needed ∙ c.loop-byte.invariant.needed;

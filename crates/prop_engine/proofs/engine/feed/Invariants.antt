@@ -1,7 +1,7 @@
 use Rattle.std.proofs.Common.{◌≡◌, take, List, ℕ}
 use Rattle.std.specs.Io.KnownBytes.{Appends}
 use Rattle.prop_engine.specs.Watched.{device, has_flushed_idly, IsFresh}
-use Rattle.prop_engine.specs.Progress.{Advances, GrowsAtMost}
+use Rattle.prop_engine.specs.inner.Progress.{Advances, GrowsAtMost}
 use Rattle.prop_engine.proofs.engine.feed.Given as goal
 
 abbrev pub invariant-loop-byte : goal.invariant-loop-byte

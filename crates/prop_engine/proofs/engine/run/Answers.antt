@@ -52,7 +52,7 @@ returns-in_err-answer-clause-told g c =
     let told : has_stopped c.read.new.self ≡ true = at_end _ _ _ _ c.if-count-eq0.true room c.in-Ok.ensures.stopped in
     let end = c.in-Ok.ensures.bytes.1 c.if-count-eq0.true room in
     told_by _ _ _ _ _ _ _ _ _ _ p.1 (p.2 ∙ c.in_err-answer.ensures.fault.0)
-    (ended_fault _ (g.met.M.Interpreter.asks_by_front _) _ _ _ _ _ _ _ _ _ _ _ s.0 _ c.loop-turn.invariant.so_far (λ e. false≢true (sym c.if-not-is_empty.true ∙ c.is_empty.ensures.1 e)) consumed end told step' s.2.0 s.2.1)
+    (ended_fault _ (g.met.M.Interpreter.asks_by_prefix _) _ _ _ _ _ _ _ _ _ _ _ s.0 _ c.loop-turn.invariant.so_far (λ e. false≢true (sym c.if-not-is_empty.true ∙ c.is_empty.ensures.1 e)) consumed end told step' s.2.0 s.2.1)
 
 pub returns-in_ok-answer-clause-told : goal.returns-in_ok-answer-clause-told
 returns-in_ok-answer-clause-told g c =
@@ -63,7 +63,7 @@ returns-in_ok-answer-clause-told g c =
     let room : 0 < length c.read.new.buffer = omega (arith, c.read.auto.buffer) in
     let told : has_stopped c.read.new.self ≡ true = at_end _ _ _ _ c.if-count-eq0.true room c.in-Ok.ensures.stopped in
     let end = c.in-Ok.ensures.bytes.1 c.if-count-eq0.true room in
-    ended_line _ (g.met.M.Interpreter.asks_by_front _) _ _ _ _ _ _ _ _ _ _ _ s.0 _ _ c.loop-turn.invariant.so_far (λ e. false≢true (sym c.if-not-is_empty.true ∙ c.is_empty.ensures.1 e)) consumed end told step' s.2.0 s.2.1
+    ended_line _ (g.met.M.Interpreter.asks_by_prefix _) _ _ _ _ _ _ _ _ _ _ _ s.0 _ _ c.loop-turn.invariant.so_far (λ e. false≢true (sym c.if-not-is_empty.true ∙ c.is_empty.ensures.1 e)) consumed end told step' s.2.0 s.2.1
 
 pub returns-else-not-is_empty-clause-told : goal.returns-else-not-is_empty-clause-told
 returns-else-not-is_empty-clause-told g c =

@@ -1,7 +1,7 @@
 use Rattle.std.proofs.Common.{◌≤◌, ◌≡◌, ◌*◌, ◌+◌, ◌^◌, ◌-◌, min, max, List, ℕ}
 use Rattle.std.specs.Io.KnownBytes.{Appends, Consumes}
 use Rattle.prop_engine.specs.Watched.{device, has_flushed_idly, calls, widest, narrowest, IsFresh}
-use Rattle.prop_engine.specs.Progress.{Progress}
+use Rattle.prop_engine.specs.inner.Progress.{Progress}
 use Rattle.prop_engine.proofs.engine.run.Given as goal
 
 abbrev pub invariant-loop-turn : goal.invariant-loop-turn

@@ -1,15 +1,15 @@
 use Rattle.std.proofs.Common.{[], ◌∷◌, ◌++◌, sym, ap}
-use Rattle.prop_engine.proofs.Io.{front_of_first, front_of_second, front_of_whole, keeps_appended, appends_more, front_is}
+use Rattle.prop_engine.proofs.Io.{prefix_of_first, prefix_of_second, prefix_of_whole, keeps_appended, appends_more, prefix_is}
 use Rattle.prop_engine.proofs.sending.put_line.Goals as goal
 
 pub returns-in_err-put-clause-err : goal.returns-in_err-put-clause-err
 returns-in_err-put-clause-err g c =
-    front_is _ _ _ _ _ (ap (λ l. l ++ 10 ∷ []) (sym c.as_bytes.ensures.value)) (front_of_first _ _ _ _ c.in_err-put.ensures.err)
+    prefix_is _ _ _ _ _ (ap (λ l. l ++ 10 ∷ []) (sym c.as_bytes.ensures.value)) (prefix_of_first _ _ _ _ c.in_err-put.ensures.err)
 
 pub returns-in_err-put-2-clause-err : goal.returns-in_err-put-2-clause-err
 returns-in_err-put-2-clause-err g c =
-    front_is _ _ _ _ _ (ap (λ l. l ++ 10 ∷ []) (sym c.as_bytes.ensures.value)) (front_of_second _ _ _ _ _ c.in_ok-put.ensures.ok c.in_err-put-2.ensures.err)
+    prefix_is _ _ _ _ _ (ap (λ l. l ++ 10 ∷ []) (sym c.as_bytes.ensures.value)) (prefix_of_second _ _ _ _ _ c.in_ok-put.ensures.ok c.in_err-put-2.ensures.err)
 
 pub returns-clause-err : goal.returns-clause-err
 returns-clause-err g c =
-    front_is _ _ _ _ _ (ap (λ l. l ++ 10 ∷ []) (sym c.as_bytes.ensures.value)) (front_of_whole _ _ _ (keeps_appended _ _ _ _ (appends_more _ _ _ _ _ c.in_ok-put.ensures.ok c.in_ok-put-2.ensures.ok) c.flush.ensures.bytes))
+    prefix_is _ _ _ _ _ (ap (λ l. l ++ 10 ∷ []) (sym c.as_bytes.ensures.value)) (prefix_of_whole _ _ _ (keeps_appended _ _ _ _ (appends_more _ _ _ _ _ c.in_ok-put.ensures.ok c.in_ok-put-2.ensures.ok) c.flush.ensures.bytes))

@@ -1,6 +1,6 @@
 use Rattle.std.proofs.Common.{arith}
 use Rattle.std.proofs.lemmas.Int.{ints, clamps}
-use Rattle.prop_intervals.specs.ClipLaws.{clip_is}
+use Rattle.prop_intervals.specs.laws.ClipLaws.{clip_is}
 use Rattle.prop_host_tests.proofs.host.larger_of.Goals as goal
 
 pub returns : goal.returns

@@ -1,8 +1,8 @@
 use Rattle.std.proofs.Common.{◌∙◌, arith}
 use Rattle.std.proofs.lemmas.List.Elements.{All-push}
 use Rattle.prop_procedures.specs.Both.{either_of}
-use Rattle.prop_procedures.specs.Kept.{AllMean-push}
-use Rattle.prop_arith.specs.Kit.{value_of}
+use Rattle.prop_procedures.specs.inner.Kept.{AllMean-push}
+use Rattle.prop_arith.specs.Values.{value_of}
 use Rattle.prop_host_tests.specs.Host.{value_of as host_value}
 use Rattle.prop_host_tests.proofs.Listed.{IsOfItsRule, is_of_kit, is_of_host, ruled_more, all_ruled, listed}
 use Rattle.prop_host_tests.proofs.session.replies.Goals as goal

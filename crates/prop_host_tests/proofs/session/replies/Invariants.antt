@@ -2,7 +2,7 @@ use Rattle.std.proofs.Common.{◌≡◌, All, map, take}
 use Rattle.prop_procedures.specs.declared.both.Both.TheVariants.{One}
 use Rattle.prop_procedures.specs.Both.{either_of}
 use Rattle.prop_procedures.specs.Kept.{AllMean}
-use Rattle.prop_arith.specs.Kit.{value_of}
+use Rattle.prop_arith.specs.Values.{value_of}
 use Rattle.prop_host_tests.specs.Host.{value_of as host_value}
 use Rattle.prop_host_tests.proofs.Listed.{IsOfItsRule}
 use Rattle.prop_host_tests.proofs.session.replies.Given as goal

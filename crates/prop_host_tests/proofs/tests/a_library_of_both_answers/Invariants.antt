@@ -1,6 +1,6 @@
 use Rattle.prop_procedures.specs.Both.{either_of}
 use Rattle.prop_procedures.specs.Kept.{AllMean}
-use Rattle.prop_arith.specs.Kit.{value_of}
+use Rattle.prop_arith.specs.Values.{value_of}
 use Rattle.prop_host_tests.specs.Host.{value_of as host_value}
 use Rattle.prop_host_tests.proofs.tests.a_library_of_both_answers.Given as goal
 

@@ -1,9 +1,9 @@
 use Rattle.std.proofs.Common.{arith, ◌≡◌, ◌∙◌}
 use Rattle.std.proofs.lemmas.Int.{ints}
-use Rattle.prop_intervals.specs.ClipLaws.{clip_is}
+use Rattle.prop_intervals.specs.laws.ClipLaws.{clip_is}
 use Rattle.prop_intervals.specs.Quotients.{int_div_floor, int_div_ceil}
 use Rattle.prop_intervals.specs.Spans.{least_product, greatest_product, product_of}
-use Rattle.prop_intervals.specs.ProductLaws.{product_narrowest}
+use Rattle.prop_intervals.specs.laws.ProductLaws.{product_narrowest}
 use Rattle.prop_intervals.proofs.WideLemmas.{back_128}
 use Rattle.prop_intervals.proofs.products.mul.Goals as goal
 

@@ -1,6 +1,6 @@
 use Rattle.std.proofs.Common.{rules, ◌≡◌}
 use Rattle.prop_intervals.specs.Spans.{square_of}
-use Rattle.prop_intervals.specs.SquareLaws.{square_narrowest}
+use Rattle.prop_intervals.specs.laws.SquareLaws.{square_narrowest}
 use Rattle.prop_intervals.proofs.products.square.Goals as goal
 
 pub returns-clause-narrowest : goal.returns-clause-narrowest

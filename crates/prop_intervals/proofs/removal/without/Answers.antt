@@ -1,7 +1,7 @@
 use Rattle.std.proofs.Common.{arith, ◌≡◌}
 use Rattle.std.proofs.lemmas.Grind.{common_steps}
 use Rattle.prop_intervals.specs.Comparisons.{without_of}
-use Rattle.prop_intervals.specs.ComparisonLaws.{without_of-narrowest}
+use Rattle.prop_intervals.specs.laws.ComparisonLaws.{without_of-narrowest}
 use Rattle.prop_lattice.specs.declared.info.Info.TheVariants.{Span}
 use Rattle.prop_intervals.proofs.removal.without.Goals as goal
 

@@ -1,7 +1,7 @@
 use Rattle.std.proofs.Common.{arith, rules, ◌≡◌}
 use Rattle.std.proofs.lemmas.Grind.{common_steps}
 use Rattle.prop_intervals.specs.Roots.{root_of}
-use Rattle.prop_intervals.specs.RootLaws.{root_of-narrowest}
+use Rattle.prop_intervals.specs.laws.RootLaws.{root_of-narrowest}
 use Rattle.prop_intervals.proofs.roots.root.Goals as goal
 
 pub returns-in-None-clause-narrowest : goal.returns-in-None-clause-narrowest

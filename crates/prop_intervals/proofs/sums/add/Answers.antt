@@ -1,8 +1,8 @@
 use Rattle.std.proofs.Common.{arith, ◌≡◌}
 use Rattle.std.proofs.lemmas.Int.{ints}
-use Rattle.prop_intervals.specs.ClipLaws.{clip_is}
+use Rattle.prop_intervals.specs.laws.ClipLaws.{clip_is}
 use Rattle.prop_intervals.specs.Spans.{sum_of}
-use Rattle.prop_intervals.specs.SumLaws.{sum_narrowest}
+use Rattle.prop_intervals.specs.laws.SumLaws.{sum_narrowest}
 use Rattle.prop_intervals.proofs.sums.add.Goals as goal
 
 value : (c : goal.After-clipped) → c.clipped.result ≡ sum_of c.args.a c.args.b

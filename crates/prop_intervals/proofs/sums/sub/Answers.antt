@@ -1,8 +1,8 @@
 use Rattle.std.proofs.Common.{arith, ◌≡◌}
 use Rattle.std.proofs.lemmas.Int.{ints}
-use Rattle.prop_intervals.specs.ClipLaws.{clip_is}
+use Rattle.prop_intervals.specs.laws.ClipLaws.{clip_is}
 use Rattle.prop_intervals.specs.Spans.{difference_of}
-use Rattle.prop_intervals.specs.SumLaws.{difference_narrowest}
+use Rattle.prop_intervals.specs.laws.SumLaws.{difference_narrowest}
 use Rattle.prop_intervals.proofs.sums.sub.Goals as goal
 
 value : (c : goal.After-clipped) → c.clipped.result ≡ difference_of c.args.z c.args.x

@@ -1,6 +1,6 @@
 use Rattle.std.proofs.Common.{◌≡◌, length}
 use Rattle.prop_language.specs.Tokens.{tokens}
-use Rattle.prop_language.specs.Parts.{behind_by}
+use Rattle.prop_language.specs.inner.Parts.{behind_by}
 use Rattle.prop_language.proofs.forms.behind_by.Given as goal
 
 abbrev pub invariant-loop-token : goal.invariant-loop-token

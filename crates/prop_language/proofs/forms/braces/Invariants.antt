@@ -1,6 +1,6 @@
 use Rattle.std.proofs.Common.{◌≡◌, ◌≤◌, [], length}
 use Rattle.prop_language.specs.Tokens.{tokens}
-use Rattle.prop_language.specs.Forms.{in_braces}
+use Rattle.prop_language.specs.inner.Forms.{in_braces}
 use Rattle.prop_language.specs.Said.{words}
 use Rattle.prop_language.proofs.forms.braces.Given as goal
 

@@ -1,6 +1,6 @@
 use Rattle.std.proofs.Common.{◌≡◌, false, refl, sym, ◌∙◌, ap, rules}
 use Rattle.prop_language.specs.Tokens.{tokens}
-use Rattle.prop_language.specs.Parts.{are_words}
+use Rattle.prop_language.specs.inner.Parts.{are_words}
 use Rattle.prop_language.proofs.Forming.{no_domain, domain_formed}
 use Rattle.prop_language.proofs.forms.domain_words.Goals as goal
 

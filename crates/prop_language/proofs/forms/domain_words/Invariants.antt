@@ -1,6 +1,6 @@
 use Rattle.std.proofs.Common.{◌≡◌, length}
 use Rattle.prop_language.specs.Tokens.{tokens}
-use Rattle.prop_language.specs.Parts.{are_words}
+use Rattle.prop_language.specs.inner.Parts.{are_words}
 use Rattle.prop_language.proofs.forms.domain_words.Given as goal
 
 abbrev pub invariant-loop-token : goal.invariant-loop-token

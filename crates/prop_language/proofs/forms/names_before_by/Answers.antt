@@ -2,7 +2,7 @@ use Rattle.std.proofs.Common.{◌∷◌}
 use Rattle.std.proofs.lemmas.Result.{err_from_is_err_and}
 use Rattle.prop_language.specs.Tokens.{tokens}
 use Rattle.prop_language.specs.Said.{words}
-use Rattle.prop_language.specs.Parts.{before_by}
+use Rattle.prop_language.specs.inner.Parts.{before_by}
 use Rattle.prop_language.proofs.Forming.{first_refused, name_refused}
 use Rattle.prop_language.proofs.forms.names_before_by.Goals as goal
 

@@ -1,7 +1,7 @@
 use Rattle.std.proofs.lemmas.Result.{err_from_is_err_and}
 use Rattle.prop_language.specs.Tokens.{tokens}
 use Rattle.prop_language.specs.Said.{words}
-use Rattle.prop_language.specs.Parts.{front_words}
+use Rattle.prop_language.specs.inner.Parts.{front_words}
 use Rattle.prop_language.proofs.Forming.{element_refused}
 use Rattle.prop_language.proofs.forms.names_of.Goals as goal
 

@@ -3,7 +3,7 @@ use Rattle.std.specs.List.{list_all}
 use Rattle.prop_language.specs.Tokens.{tokens}
 use Rattle.prop_language.specs.Names.{is_name}
 use Rattle.prop_language.specs.Said.{words}
-use Rattle.prop_language.specs.Parts.{front_words}
+use Rattle.prop_language.specs.inner.Parts.{front_words}
 use Rattle.prop_language.proofs.forms.names_of.Given as goal
 
 abbrev pub invariant-loop-word : goal.invariant-loop-word

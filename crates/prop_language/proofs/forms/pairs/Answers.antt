@@ -3,7 +3,7 @@ use Rattle.std.specs.Prelude.{not}
 use Rattle.std.proofs.lemmas.List.{map-append}
 use Rattle.std.proofs.lemmas.Result.{err_from_is_err_and}
 use Rattle.prop_language.specs.Tokens.{tokens}
-use Rattle.prop_language.specs.Forms.{pairs}
+use Rattle.prop_language.specs.inner.Forms.{pairs}
 use Rattle.prop_language.specs.Said.{pairs_of}
 use Rattle.prop_language.proofs.Forming.{no_pair, none_remain, one_more_remains, no_more_remain}
 use Rattle.prop_language.proofs.forms.pairs.Goals as goal

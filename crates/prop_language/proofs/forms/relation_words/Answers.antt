@@ -1,6 +1,6 @@
 use Rattle.std.proofs.Common.{◌∙◌, ap}
 use Rattle.std.proofs.lemmas.Result.{err_from_is_err_and}
-use Rattle.prop_language.specs.Forms.{relation}
+use Rattle.prop_language.specs.inner.Forms.{relation}
 use Rattle.prop_language.proofs.Forming.{no_relation, no_domains}
 use Rattle.prop_language.proofs.forms.relation_words.Goals as goal
 

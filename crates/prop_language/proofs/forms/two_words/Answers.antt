@@ -1,7 +1,7 @@
 use Rattle.std.proofs.Common.{ap}
 use Rattle.std.proofs.lemmas.Result.{err_from_is_err_and}
 use Rattle.std.specs.Option.{option_and_then}
-use Rattle.prop_language.specs.Parts.{front}
+use Rattle.prop_language.specs.inner.Parts.{front}
 use Rattle.prop_language.proofs.Forming.{lacks_second_word}
 use Rattle.prop_language.proofs.forms.two_words.Goals as goal
 

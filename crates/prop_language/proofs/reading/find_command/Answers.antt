@@ -3,7 +3,7 @@ use Rattle.std.specs.Prelude.{◌&&◌}
 use Rattle.std.specs.List.{list_all}
 use Rattle.std.proofs.lemmas.Bool.{false≢true}
 use Rattle.std.proofs.lemmas.Slice.Eq.{bytes_eq-Decides}
-use Rattle.prop_language.specs.Parts.{word_of, is_worded}
+use Rattle.prop_language.specs.inner.Parts.{word_of, is_worded}
 use Rattle.prop_language.specs.declared.reading.CommandWord.{CommandWord}
 use Rattle.prop_language.proofs.reading.find_command.Goals as goal
 

@@ -1,6 +1,6 @@
 use Rattle.std.proofs.Common.{◌≡◌, map, drop}
 use Rattle.std.specs.Prelude.{find, bytes_eq}
-use Rattle.prop_language.specs.Parts.{form_entry}
+use Rattle.prop_language.specs.inner.Parts.{form_entry}
 use Rattle.prop_language.proofs.reading.find_command.Given as goal
 
 abbrev pub invariant-loop-known : goal.invariant-loop-known

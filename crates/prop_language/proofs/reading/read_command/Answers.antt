@@ -1,7 +1,7 @@
 use Rattle.std.proofs.Common.{◌≡◌, ℕ, List, ◌∷◌, inl, inr, refl}
 use Rattle.prop_language.specs.Tokens.{Token, Word, tokens}
 use Rattle.prop_language.specs.Said.{KeepsWords}
-use Rattle.prop_language.specs.Parts.{KeepsWordsOf, word_of}
+use Rattle.prop_language.specs.inner.Parts.{KeepsWordsOf, word_of}
 use Rattle.prop_language.specs.declared.reading.CommandWord.{CommandWord}
 use Rattle.prop_language.specs.declared.reading.CommandWord.TheVariants.{Domain, Relation, Cell, Define, Attach, Fix, Tell, Choose, Kick, Bring, Forget, Limit, Settle, Ask, Why, Core, Worldview, Nogoods}
 use Rattle.prop_language.proofs.reading.read_command.Goals as goal

@@ -1,7 +1,7 @@
 use Rattle.std.proofs.Common.{inr, Some, None}
 use Rattle.std.proofs.lemmas.Result.{err_from_is_err_and}
 use Rattle.prop_language.specs.Tokens.{tokens}
-use Rattle.prop_language.specs.Parts.{front_words}
+use Rattle.prop_language.specs.inner.Parts.{front_words}
 use Rattle.prop_language.proofs.Forming.{misread}
 use Rattle.prop_language.proofs.StepLaws.{steps_misformed, names_refused, definition_read}
 use Rattle.prop_language.proofs.steps.define.Goals as goal

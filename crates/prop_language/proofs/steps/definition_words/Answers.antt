@@ -1,6 +1,6 @@
 use Rattle.std.proofs.Common.{◌≡◌, None, refl, sym, ◌∙◌, ap, rules}
 use Rattle.prop_language.specs.Tokens.{tokens}
-use Rattle.prop_language.specs.Parts.{body}
+use Rattle.prop_language.specs.inner.Parts.{body}
 use Rattle.prop_language.proofs.StepLaws.{no_body, words_read}
 use Rattle.prop_language.proofs.steps.definition_words.Goals as goal
 use Rattle.prop_language.proofs.steps.definition_words.Goals.{in_default-via-in-Some+in_default, in_default-via-in_default}

@@ -1,6 +1,6 @@
 use Rattle.std.proofs.Common.{◌≡◌, length}
 use Rattle.prop_language.specs.Tokens.{tokens}
-use Rattle.prop_language.specs.Parts.{body}
+use Rattle.prop_language.specs.inner.Parts.{body}
 use Rattle.prop_language.proofs.steps.definition_words.Given as goal
 
 abbrev pub invariant-loop-rest : goal.invariant-loop-rest

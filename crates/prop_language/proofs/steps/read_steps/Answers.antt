@@ -4,7 +4,7 @@ use Rattle.std.specs.Option.{option_map}
 use Rattle.std.proofs.lemmas.Result.{err_from_is_err_and}
 use Rattle.std.proofs.lemmas.Iterator.Consumers.{YieldsList-end, YieldsList-turn}
 use Rattle.std.proofs.lemmas.Iterator.Splits.{YieldsList-from_slice_split}
-use Rattle.prop_language.specs.Parts.{steps_in_range}
+use Rattle.prop_language.specs.inner.Parts.{steps_in_range}
 use Rattle.prop_language.proofs.StepLaws.{all_parts, misformed_among}
 use Rattle.prop_language.proofs.steps.read_steps.Goals as goal
 

@@ -1,7 +1,7 @@
 use Rattle.std.proofs.Common.{◌≡◌, inr}
 use Rattle.std.proofs.lemmas.Result.{err_from_is_err_and}
 use Rattle.prop_language.specs.Tokens.{tokens}
-use Rattle.prop_language.specs.Forms.{step, use_step}
+use Rattle.prop_language.specs.inner.Forms.{step, use_step}
 use Rattle.prop_language.proofs.StepLaws.{local_unnamed, local_named, like_unnamed, like_named, used_local, used_other}
 use Rattle.prop_language.proofs.steps.step.Goals as goal
 use Rattle.prop_language.proofs.steps.step.Goals.{in-Some+in_default-only_two_words+in_default-like_words, in_default}

@@ -1,6 +1,6 @@
 use Rattle.std.proofs.Common.{take}
 use Rattle.std.specs.List.{AllByRecursion}
-use Rattle.prop_language.specs.Parts.{IsInWord}
+use Rattle.prop_language.specs.inner.Parts.{IsInWord}
 use Rattle.prop_language.proofs.tokens.word_len.Given as goal
 
 abbrev pub invariant-loop-i : goal.invariant-loop-i

@@ -1,6 +1,6 @@
 use Rattle.std.proofs.Common.{◌∙◌, ap, set, sym}
 use Rattle.std.proofs.lemmas.List.Edits.{map_over_more}
-use Rattle.prop_nogoods.specs.Endings.{left_of}
+use Rattle.prop_nogoods.specs.inner.Endings.{left_of}
 use Rattle.prop_nogoods.proofs.ending.drop_larger_everywhere.Goals as goal
 
 pub loop-ending-preserved : goal.loop-ending-preserved

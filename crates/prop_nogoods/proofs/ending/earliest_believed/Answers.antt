@@ -2,8 +2,8 @@ use Rattle.std.proofs.Common.{◌≡◌, ◌∙◌, length, take, All, Contains,
 use Rattle.std.proofs.Math.Seq.{take-length}
 use Rattle.std.proofs.lemmas.List.Elements.{All-more}
 use Rattle.prop_premises.specs.Sets.{set_of}
-use Rattle.prop_nogoods.specs.Endings.{Group}
-use Rattle.prop_nogoods.proofs.EndingLemmas.{LacksPart, group_contains, none_of_all}
+use Rattle.prop_nogoods.specs.inner.Endings.{Group}
+use Rattle.prop_nogoods.proofs.EndingLemmas.{EndsBelow, group_contains, all_end_below}
 use Rattle.prop_nogoods.proofs.ending.earliest_believed.Goals as goal
 
 pub returns-in-Some-clause-listed : goal.returns-in-Some-clause-listed
@@ -14,13 +14,13 @@ returns-in-Some-clause-listed c =
 
 pub loop-ending-preserved : goal.loop-ending-preserved
 loop-ending-preserved c =
-    let w = set_of c.args.worldview.now in
-    All-more (LacksPart w) c.args.endings.now c.loop-ending.ending-index c.ending-item.result c.loop-ending-test.true c.loop-ending.invariant
-    (subst (LacksPart w) c.ending-item.is (c.in_default.ensures.none refl))
+    let below = EndsBelow (set_of c.args.worldview.now) c.args.from in
+    All-more below c.args.endings.now c.loop-ending.ending-index c.ending-item.result c.loop-ending-test.true c.loop-ending.invariant
+    (subst below c.ending-item.is (c.in_default.ensures.none refl))
 
 pub returns-clause-none : goal.returns-clause-none
 returns-clause-none c none =
     let gs = c.args.endings.now in
     let w = set_of c.args.worldview.now in
     let end : c.loop-ending.ending-index ≡ length gs = omega (arith, c.loop-ending-test.false, c.loop-ending.auto.ending-index-end) in
-    none_of_all w gs (subst (All (LacksPart w)) (ap (λ n. take n gs) end ∙ take-length gs) c.loop-ending.invariant)
+    all_end_below w c.args.from gs (subst (All (EndsBelow w c.args.from)) (ap (λ n. take n gs) end ∙ take-length gs) c.loop-ending.invariant)

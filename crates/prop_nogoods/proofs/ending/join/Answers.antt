@@ -1,5 +1,5 @@
 use Rattle.std.proofs.Common.{◌≡◌, ◌∙◌, ap, get_or, map}
-use Rattle.prop_nogoods.specs.Endings.{Group, left_of}
+use Rattle.prop_nogoods.specs.inner.Endings.{Group, left_of}
 use Rattle.prop_nogoods.proofs.EndingLemmas.{got_left, left_at, left_room, left_written, sets_of-joined}
 use Rattle.prop_nogoods.proofs.ending.join.Goals as goal
 

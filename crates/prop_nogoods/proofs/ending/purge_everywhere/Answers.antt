@@ -1,6 +1,6 @@
 use Rattle.std.proofs.Common.{◌∙◌, ap, set, sym}
 use Rattle.std.proofs.lemmas.List.Edits.{map_over_more}
-use Rattle.prop_nogoods.specs.Endings.{lacking_of}
+use Rattle.prop_nogoods.specs.inner.Endings.{lacking_of}
 use Rattle.prop_nogoods.proofs.ending.purge_everywhere.Goals as goal
 
 pub loop-ending-preserved : goal.loop-ending-preserved

@@ -1,5 +1,5 @@
 use Rattle.std.proofs.Common.{◌≡◌, ◌++◌, map, take, drop}
-use Rattle.prop_nogoods.specs.Endings.{lacking_of}
+use Rattle.prop_nogoods.specs.inner.Endings.{lacking_of}
 use Rattle.prop_nogoods.proofs.ending.purge_everywhere.Given as goal
 
 abbrev pub invariant-loop-ending : goal.invariant-loop-ending

@@ -1,5 +1,5 @@
 use Rattle.std.proofs.Common.{◌∙◌, ap}
-use Rattle.prop_nogoods.specs.Endings.{Group}
+use Rattle.prop_nogoods.specs.inner.Endings.{Group}
 use Rattle.prop_nogoods.proofs.EndingLemmas.{sets_of-set_same, sets_of-insert_empty}
 use Rattle.prop_nogoods.proofs.ending.room_for.Goals as goal
 

@@ -1,7 +1,7 @@
 use Rattle.std.proofs.Common.{◌≡◌, ◌-◌, arith, subst}
 use Rattle.std.specs.Int.{w64}
 use Rattle.std.proofs.Math.Facts.{Fits-lt-pow}
-use Rattle.prop_premises.specs.Words.{HasFrom}
+use Rattle.prop_premises.specs.inner.Words.{HasFrom}
 use Rattle.prop_premises.proofs.WordLemmas.{HasFrom-word}
 use Rattle.prop_premises.proofs.bits.trimmed_len.Goals as goal
 

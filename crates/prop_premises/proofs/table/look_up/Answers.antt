@@ -1,6 +1,6 @@
 use Rattle.std.proofs.Common.{sym, ◌∙◌, ap}
 use Rattle.std.specs.Map.{lookup}
-use Rattle.prop_premises.specs.Named.{number_of, is_choices}
+use Rattle.prop_premises.specs.inner.Named.{number_of, is_choices}
 use Rattle.prop_premises.proofs.LookupLemmas.{names_it, premise_number-lookup, is_choice-lookup, number_of-none, is_choices-none}
 use Rattle.prop_premises.proofs.table.look_up.Goals as goal
 

@@ -2,7 +2,7 @@ use Rattle.std.proofs.Common.{arith, ◌≡◌, ◌∙◌, ◌++◌, ◌∷◌, 
 use Rattle.std.specs.String.{string_eq}
 use Rattle.std.specs.Map.{lookup}
 use Rattle.indexmap.proofs.CallerLemmas.{insert_entry-new}
-use Rattle.prop_premises.specs.Named.{origins_of, origins_of_kind, places_from}
+use Rattle.prop_premises.specs.inner.Named.{origins_of, origins_of_kind, places_from}
 use Rattle.prop_premises.proofs.TableLemmas.{origins_of-append, places_from-append, numbered-both}
 use Rattle.prop_premises.proofs.LookupLemmas.{names_it, premise_number-lookup, is_choice-lookup, stands_for_nothing}
 use Rattle.prop_premises.proofs.table.push_name.Goals as goal

@@ -1,6 +1,7 @@
 use Rattle.std.proofs.Common.{◌≤◌, ◌∙◌, ◌*◌, ◌+◌, ◌-◌, ap, subst, sym, arith, length, drop, get_or}
 use Rattle.std.proofs.lemmas.List.{length-drop, take_all}
-use Rattle.prop_premises.specs.Words.{numbers_from, IsTrimmed}
+use Rattle.prop_premises.specs.Words.{numbers_from}
+use Rattle.prop_premises.specs.inner.Words.{IsTrimmed}
 use Rattle.prop_premises.proofs.PlaceLemmas.{same_bits_from, dropped_from, IsTrimmed-drop}
 use Rattle.prop_premises.proofs.WordLemmas.{increasing-numbers_from}
 use Rattle.prop_premises.proofs.words.tight.Goals as goal

@@ -1,7 +1,7 @@
 use Rattle.std.proofs.Common.{◌≡◌, ◌++◌}
 use Rattle.prop_procedures.specs.Kept.{stored_of}
 use Rattle.prop_cells.specs.Data.{Data, IsKept}
-use Rattle.prop_cells.specs.Back.{GoesBackTo}
+use Rattle.prop_cells.specs.inner.Back.{GoesBackTo}
 use Rattle.std.specs.Vec.Iter.{into_iter_items}
 use Rattle.prop_scheduler.proofs.making.add_params.Given as goal
 

@@ -1,5 +1,5 @@
 use Rattle.std.proofs.Common.{◌≡◌, map, take}
-use Rattle.prop_scheduler.specs.Making.{cell_placed}
+use Rattle.prop_procedures.specs.Flats.{cell_placed}
 use Rattle.prop_scheduler.proofs.making.cells_placed.Given as goal
 
 abbrev pub invariant-loop-place : goal.invariant-loop-place

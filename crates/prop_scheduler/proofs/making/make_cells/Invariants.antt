@@ -1,7 +1,7 @@
 use Rattle.std.proofs.Common.{◌≡◌, take}
 use Rattle.prop_procedures.specs.Kept.{stored_of}
 use Rattle.prop_cells.specs.Data.{Data, IsKept, IsWellMade}
-use Rattle.prop_cells.specs.Back.{GoesBackTo}
+use Rattle.prop_cells.specs.inner.Back.{GoesBackTo}
 use Rattle.prop_scheduler.specs.Making.{with_fresh_cells}
 use Rattle.prop_scheduler.proofs.making.make_cells.Given as goal
 

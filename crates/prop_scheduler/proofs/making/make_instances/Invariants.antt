@@ -1,7 +1,7 @@
 use Rattle.std.proofs.Common.{◌≡◌, ◌++◌, drop, map, take}
 use Rattle.prop_procedures.specs.Kept.{stored_of}
 use Rattle.prop_cells.specs.Data.{Data, IsKept}
-use Rattle.prop_cells.specs.Back.{GoesBackTo}
+use Rattle.prop_cells.specs.inner.Back.{GoesBackTo}
 use Rattle.prop_scheduler.specs.Making.{made_of}
 use Rattle.prop_scheduler.proofs.making.make_instances.Given as goal
 

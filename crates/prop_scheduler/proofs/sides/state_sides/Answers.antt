@@ -8,7 +8,7 @@ use Rattle.prop_cells.specs.Data.{IsKept, beliefs}
 use Rattle.prop_cells.proofs.Reading.{readers_are, writers_below}
 use Rattle.prop_scheduler.specs.Agendas.{AllAlerted}
 use Rattle.prop_scheduler.proofs.Steps.{all_after_alerts}
-use Rattle.prop_lattice.specs.OrderLaws.{info_laws}
+use Rattle.prop_lattice.specs.laws.OrderLaws.{info_laws}
 use Rattle.prop_scheduler.proofs.UnderWay.{under_way_sides, grown_sides}
 use Rattle.prop_scheduler.proofs.WatchLaws.{watched_at, watched_same, same_but}
 use Rattle.prop_scheduler.proofs.sides.state_sides.Goals as goal

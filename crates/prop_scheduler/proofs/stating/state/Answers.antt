@@ -1,12 +1,13 @@
-use Rattle.std.proofs.Common.{◌<◌, ap, length, arith}
+use Rattle.std.proofs.Common.{◌≡◌, ◌∙◌, ◌<◌, ap, length, arith}
 use Rattle.std.proofs.lemmas.List.Elements.{All-weaker}
+use Rattle.prop_lattice.specs.Order.{merge_of}
 use Rattle.prop_premises.specs.Sets.{set_of}
 use Rattle.prop_procedures.specs.Kept.{stored_of}
 use Rattle.prop_cells.specs.Instances.{readers_of}
-use Rattle.prop_cells.specs.Data.{IsKept}
+use Rattle.prop_cells.specs.Data.{IsKept, beliefs}
 use Rattle.prop_cells.proofs.Reading.{readers_are}
-use Rattle.prop_scheduler.proofs.UnderWay.{under_way_same, under_way_grown, states_merge, states_same}
-use Rattle.prop_scheduler.proofs.WatchLaws.{watched_at, watched_same, same_but}
+use Rattle.prop_scheduler.proofs.UnderWay.{under_way_same, under_way_grown, states_merge, states_same, states_clear}
+use Rattle.prop_scheduler.proofs.WatchLaws.{watched_at, watched_same, watched_clear, same_but}
 use Rattle.prop_scheduler.proofs.stating.state.Goals as goal
 
 pub alert_all-requires : goal.alert_all-requires
@@ -15,12 +16,19 @@ alert_all-requires g c =
     let same = ap (λ d. length d.instances) c.in_ok-state_under.ensures.ok.rest in
     rw c.readers.ensures (All-weaker (λ j. j < length new.instances) (λ j. j < c.args.agenda.now.room) (λ j h. let r = c.requires.room in omega (arith, h, same, r)) (readers_of new.instances c.args.cell) (readers_are new.instances c.args.cell).below)
 
-pub returns-then-says_more-clause-under_way : goal.returns-then-says_more-clause-under_way
-returns-then-says_more-clause-under_way g c =
+pub returns-then-is_contradiction-clause-under_way : goal.returns-then-is_contradiction-clause-under_way
+returns-then-is_contradiction-clause-under_way g c =
     let library = stored_of g.R.Rule.value_of c.args.network.now.library in
     let new = c.state_under.new.self.cells in
     let kept : IsKept library new = rw c.state_under.ensures.same at c.state_under.ensures.kept in
     rw (c.watch.ensures.line, c.state_under.ensures.same) (under_way_grown library (set_of c.args.worldview.now) c.args.network.now.cells new c.args.agenda.now.line c.alert_all.new.self.line c.readers.result.now _ c.requires.under_way kept c.in_ok-state_under.ensures.ok c.alert_all.ensures.alerted c.readers.ensures)
+
+pub returns-else-is_contradiction-clause-under_way : goal.returns-else-is_contradiction-clause-under_way
+returns-else-is_contradiction-clause-under_way g c =
+    let library = stored_of g.R.Rule.value_of c.args.network.now.library in
+    let new = c.state_under.new.self.cells in
+    let kept : IsKept library new = rw c.state_under.ensures.same at c.state_under.ensures.kept in
+    rw c.state_under.ensures.same (under_way_grown library (set_of c.args.worldview.now) c.args.network.now.cells new c.args.agenda.now.line c.alert_all.new.self.line c.readers.result.now _ c.requires.under_way kept c.in_ok-state_under.ensures.ok c.alert_all.ensures.alerted c.readers.ensures)
 
 pub returns-else-says_more-clause-under_way : goal.returns-else-says_more-clause-under_way
 returns-else-says_more-clause-under_way g c =
@@ -32,14 +40,24 @@ returns-else-says_more-clause-under_way g c =
     let same = states_same s old new _ c.in_ok-state_under.ensures.ok (rw c.belief-before.ensures at (c.says_more.ensures c.if-says_more.false)) in
     rw c.state_under.ensures.same (under_way_same library s old new c.args.agenda.now.line _ c.requires.under_way kept c.in_ok-state_under.ensures.ok same)
 
-pub returns-then-says_more-clause-watched : goal.returns-then-says_more-clause-watched
-returns-then-says_more-clause-watched g c =
+pub returns-then-is_contradiction-clause-watched : goal.returns-then-is_contradiction-clause-watched
+returns-then-is_contradiction-clause-watched g c =
     let s = set_of c.args.worldview.now in
     let old = c.args.network.now.cells in
     let new = c.state_under.new.self.cells in
     let merge = states_merge s old new _ c.in_ok-state_under.ensures.ok in
     watched_at s old new c.args.agenda.now.watched c.watch.new.self.watched c.args.cell (ap (λ d. length d.kinds) c.in_ok-state_under.ensures.ok.rest) c.requires.cell merge.1.others
     (rw c.alert_all.ensures.watched at c.watch.ensures.watched) c.requires.watched
+
+pub returns-else-is_contradiction-clause-watched : goal.returns-else-is_contradiction-clause-watched
+returns-else-is_contradiction-clause-watched g c =
+    let s = set_of c.args.worldview.now in
+    let old = c.args.network.now.cells in
+    let new = c.state_under.new.self.cells in
+    let states = c.in_ok-state_under.ensures.ok in
+    let both : c.merge.result ≡ merge_of (beliefs s old.contents c.args.cell) c.args.info = rw c.belief-before.ensures at c.merge.ensures in
+    let clear = states_clear s old new _ states (λ clash. cc (c.is_contradiction.ensures.1 (both ∙ clash), c.if-is_contradiction.false)) in
+    rw c.alert_all.ensures.watched (watched_clear s old new c.args.agenda.now.watched c.args.cell (ap (λ d. length d.kinds) states.rest) (states_merge s old new _ states).1.others clear c.requires.watched)
 
 pub returns-else-says_more-clause-watched : goal.returns-else-says_more-clause-watched
 returns-else-says_more-clause-watched g c =

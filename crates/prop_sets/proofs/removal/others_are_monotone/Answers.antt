@@ -1,4 +1,4 @@
-use Rattle.prop_sets.specs.OtherLaws.{without_monotone}
+use Rattle.prop_sets.specs.laws.OtherLaws.{without_monotone}
 use Rattle.prop_sets.proofs.removal.others_are_monotone.Goals as goal
 
 pub returns : goal.returns

@@ -1,4 +1,4 @@
-use Rattle.prop_sets.specs.OtherLaws.{without_narrowest}
+use Rattle.prop_sets.specs.laws.OtherLaws.{without_narrowest}
 use Rattle.prop_sets.proofs.UnionLemmas.{without_cleared}
 use Rattle.prop_sets.proofs.removal.without.Goals as goal
 

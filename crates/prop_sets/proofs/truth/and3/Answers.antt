@@ -1,5 +1,5 @@
 use Rattle.prop_sets.specs.Truth.{leaves}
-use Rattle.prop_sets.specs.TruthLaws.{and_just}
+use Rattle.prop_sets.specs.laws.TruthLaws.{and_just}
 use Rattle.prop_sets.proofs.TruthLemmas.{and-bits}
 use Rattle.prop_sets.proofs.truth.and3.Goals as goal
 

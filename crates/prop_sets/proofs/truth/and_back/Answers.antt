@@ -1,5 +1,5 @@
 use Rattle.prop_sets.specs.Truth.{leaves}
-use Rattle.prop_sets.specs.TruthLaws.{and_back_just}
+use Rattle.prop_sets.specs.laws.TruthLaws.{and_back_just}
 use Rattle.prop_sets.proofs.TruthLemmas.{and_back-bits}
 use Rattle.prop_sets.proofs.truth.and_back.Goals as goal
 

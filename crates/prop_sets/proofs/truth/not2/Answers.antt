@@ -1,5 +1,5 @@
 use Rattle.prop_sets.specs.Truth.{leaves}
-use Rattle.prop_sets.specs.TruthLaws.{not_just}
+use Rattle.prop_sets.specs.laws.TruthLaws.{not_just}
 use Rattle.prop_sets.proofs.TruthLemmas.{not-bits}
 use Rattle.prop_sets.proofs.truth.not2.Goals as goal
 

@@ -1,5 +1,5 @@
 use Rattle.prop_sets.specs.Truth.{leaves}
-use Rattle.prop_sets.specs.TruthLaws.{or_just}
+use Rattle.prop_sets.specs.laws.TruthLaws.{or_just}
 use Rattle.prop_sets.proofs.TruthLemmas.{or-bits}
 use Rattle.prop_sets.proofs.truth.or3.Goals as goal
 

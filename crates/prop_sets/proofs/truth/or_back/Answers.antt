@@ -1,5 +1,5 @@
 use Rattle.prop_sets.specs.Truth.{leaves}
-use Rattle.prop_sets.specs.TruthLaws.{or_back_just}
+use Rattle.prop_sets.specs.laws.TruthLaws.{or_back_just}
 use Rattle.prop_sets.proofs.TruthLemmas.{or_back-bits}
 use Rattle.prop_sets.proofs.truth.or_back.Goals as goal
 

@@ -1,4 +1,4 @@
-use Rattle.prop_sets.specs.TruthLaws.{and_monotone, and_back_monotone, or_monotone, or_back_monotone, not_monotone}
+use Rattle.prop_sets.specs.laws.TruthLaws.{and_monotone, and_back_monotone, or_monotone, or_back_monotone, not_monotone}
 use Rattle.prop_sets.proofs.truth.truths_are_monotone.Goals as goal
 
 pub returns-clause-and : goal.returns-clause-and

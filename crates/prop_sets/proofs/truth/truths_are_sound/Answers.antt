@@ -1,4 +1,4 @@
-use Rattle.prop_sets.specs.TruthLaws.{and_sound, and_back_sound, or_sound, or_back_sound, not_sound}
+use Rattle.prop_sets.specs.laws.TruthLaws.{and_sound, and_back_sound, or_sound, or_back_sound, not_sound}
 use Rattle.prop_sets.proofs.truth.truths_are_sound.Goals as goal
 
 pub returns-clause-and : goal.returns-clause-and

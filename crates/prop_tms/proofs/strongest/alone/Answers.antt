@@ -1,6 +1,6 @@
 use Rattle.std.proofs.Common.{◌<◌, sym, subst, length, arith}
 use Rattle.std.proofs.lemmas.List.Elements.{All-more}
-use Rattle.prop_tms.specs.Gains.{entry_of, gained_of}
+use Rattle.prop_tms.specs.inner.Gains.{entry_of, gained_of}
 use Rattle.prop_tms.proofs.GainLemmas.{gained_at, gained_of-length, first_is_shortest, not_before}
 use Rattle.prop_tms.proofs.strongest.alone.Goals as goal
 

@@ -1,5 +1,5 @@
 use Rattle.std.proofs.Common.{take, All}
-use Rattle.prop_tms.specs.Gains.{gained_of}
+use Rattle.prop_tms.specs.inner.Gains.{gained_of}
 use Rattle.prop_tms.proofs.strongest.alone.Given as goal
 
 abbrev pub invariant-loop-gain : goal.invariant-loop-gain

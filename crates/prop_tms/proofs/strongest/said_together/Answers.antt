@@ -1,8 +1,8 @@
 use Rattle.std.proofs.Common.{◌≡◌, ◌∙◌, ◌<◌, ℕ, suc, ◌-◌, List, [], ◌∷◌, ◌++◌, length, take, get_or, sym, ap, subst, arith}
 use Rattle.std.proofs.Math.Seq.{take-length, take-suc}
-use Rattle.prop_lattice.specs.Laws.{IsInformationOrder}
+use Rattle.prop_lattice.specs.InformationOrder.{IsInformationOrder}
 use Rattle.prop_tms.specs.Beliefs.{merge_of_all}
-use Rattle.prop_tms.specs.Gains.{AreGains, entry_of, gained_of}
+use Rattle.prop_tms.specs.inner.Gains.{AreGains, entry_of, gained_of}
 use Rattle.prop_tms.specs.declared.gain.Gain.{Gain}
 use Rattle.prop_tms.proofs.LeanLemmas.{AreGains-last, gained_of-push}
 use Rattle.prop_tms.proofs.MergedLemmas.{merge_of_all-push}

@@ -1,101 +1,85 @@
-use Rattle.std.proofs.Common.{◌++◌, ◌∷◌, [], ◌≡◌, ◌∙◌, sym, ap, List, ℕ, All, Contains, IsTrue, arith}
+use Rattle.std.proofs.Common.{◌++◌, ◌∷◌, [], ◌≡◌, ◌≤◌, ◌∙◌, sym, ap, List, All, Contains, IsTrue, length, take, arith}
+use Rattle.std.proofs.Math.Seq.{take-nil}
 use Rattle.std.proofs.lemmas.List.{nil_from_length}
 use Rattle.std.proofs.lemmas.List.Elements.{All-contains, All-contains_itself}
-use Rattle.prop_lattice.specs.Laws.{IsInformationOrder}
-use Rattle.prop_premises.specs.Sets.{Members, set_of, union, is_within, IsSame}
-use Rattle.prop_tms.specs.Gains.{AreGains, entry_of, gained_of}
-use Rattle.prop_tms.specs.declared.gain.Gain.{Gain}
-use Rattle.prop_tms.specs.declared.supported.Supported.{Supported}
-use Rattle.prop_tms.proofs.LeanLemmas.{IsThinned, IsThinned-init, IsLean-thinned, IsLean-early, IsThinned-skip, IsThinned-keep, AreGains-front, AreGains-last, gained_of-push, All-front, All-last}
+use Rattle.prop_premises.specs.Sets.{is_within}
+use Rattle.prop_tms.specs.Beliefs.{merge_of_all}
+use Rattle.prop_tms.specs.inner.Gains.{AreGains, entry_of, gained_of}
+use Rattle.prop_tms.proofs.LeanLemmas.{IsThinned, IsThinned-init, IsLean-thinned, IsThinned-keep, AreGains-front, gained_of-push, All-front, All-last, All-first, first_enough, says_kept, thinned_first}
 use Rattle.prop_tms.proofs.strongest.thinned.Goals as goal
 
 none_left : {X : Type 0} (xs : List X) (x : X) → xs ++ x ∷ [] ≡ [] → ⊥
 none_left [] x e = absurd (cc)
 none_left (y ∷ ys) x e = absurd (cc)
 
--- an entry is kept, since what is before it does not make up for it
-kept : {V : Type 0} {below : V → V → Type 0} {bottom top : V} {join : V → V → V} (laws : IsInformationOrder below bottom top join) (all : List (Supported V)) (w : Members) (v : V) (gains left : List (Gain V)) (gain : Gain V) (after : V)
-    (support more : List ℕ) → gains ≡ left ++ gain ∷ [] → AreGains join bottom gains → All (Contains all) (gained_of gains) → All (λ e. IsTrue (is_within w e.support)) all → IsThinned bottom join all w v (gained_of gains) after support →
-    ¬ (below v (join gain.before after)) → IsSame (set_of more) (union (set_of gain.entry.support.now) (set_of support)) → IsThinned bottom join all w v (gained_of left) (join gain.entry.value after) more
-kept {below = below} {bottom = bottom} {join = join} laws all w v gains left gain after support more items are among believed thinned less same =
-    let e = entry_of gain.entry in
-    let entries : gained_of gains ≡ gained_of left ++ e ∷ [] = ap gained_of items ∙ gained_of-push left gain in
-    let before = AreGains-last laws left gain (rw items at are) in
-    let here = All-last (Contains all) (gained_of left) e (rw entries at among) in
-    IsThinned-keep laws all w v (gained_of left) e after support more (rw entries at thinned) (λ h. less (rw before h)) here
-    (All-contains (λ x. IsTrue (is_within w x.support)) all e believed here) same
-
 pub loop-gain-init : goal.loop-gain-init
-loop-gain-init g c = record {
-  gains = c.requires.gains;
-  none = λ n. n;
-  empty = λ n. c.empty-support.ensures;
-  among = All-contains_itself (gained_of c.args.gains.items);
-  thinned = λ w believed.
-      rw (c.nothing-after.ensures, c.empty-support.ensures) (IsThinned-init g.met.V.Partial.laws (gained_of c.args.gains.items) w c.args.value (gained_of c.args.gains.items) (sym c.requires.value));
-}
-
-pub loop-gain-preserved-else-implies : goal.loop-gain-preserved-else-implies
-loop-gain-preserved-else-implies g c =
+loop-gain-init g c =
     let laws = g.met.V.Partial.laws in
-    let all = gained_of c.args.gains.items in
-    let left = c.pop.new.self.items in
-    let gain = c.in-Some.gain in
-    let invariant = c.loop-gain.invariant in
-    let items = c.in-Some.ensures.items in
-    let needed : ¬ (g.V.Partial.below c.args.value (g.V.Partial.join gain.before c.loop-gain.after)) = λ h. cc (c.implies.ensures.1 (rw c.merge.ensures h), c.if-not-implies.true) in
+    let row = c.args.gains.items in
+    let all = gained_of row in
+    let n = c.enough.result in
+    let after = c.nothing-after.result in
+    let support = c.empty-support.result in
+    let value = c.args.value in
+    let bound : n ≤ length row = rw c.deref.ensures.value at c.enough.ensures.bound in
+    let says : g.V.Partial.below value (g.V.Partial.join (merge_of_all g.V.Partial.bottom g.V.Partial.join (gained_of (take n row))) after) = rw c.deref.ensures.value at c.enough.ensures.says in
     record {
-      gains = AreGains-front laws g.V.Partial.bottom left gain (rw items at invariant.gains);
-      none = λ n. absurd (none_left left gain (sym items ∙ invariant.none n));
-      empty = λ n. absurd (none_left left gain (sym items ∙ invariant.none n));
-      among = All-front (Contains all) (gained_of left) (entry_of gain.entry) (rw (items, gained_of-push left gain) at invariant.among);
+      enough = rw c.truncate.ensures.items (first_enough laws row n after value c.requires.gains bound says (λ k is. rw c.deref.ensures.value at (c.enough.ensures.needed k is)));
+      none = λ none. c.truncate.ensures.items ∙ ap (take n) none ∙ take-nil n;
+      empty = λ none. c.empty-support.ensures;
+      among = rw c.truncate.ensures.items (All-first (Contains all) row n (All-contains_itself all));
       thinned = λ w believed.
-          rw c.merge-after.ensures (kept laws all w c.args.value c.loop-gain.gains.items left gain c.loop-gain.after c.loop-gain.support c.in_ok-support.support items invariant.gains invariant.among believed
-          (invariant.thinned w believed) needed c.in_ok-support.ensures);
+          let start : IsThinned g.V.Partial.bottom g.V.Partial.join all w value all after support = rw (c.nothing-after.ensures, c.empty-support.ensures) (IsThinned-init laws all w value all (sym c.requires.value)) in
+          rw c.truncate.ensures.items (thinned_first laws all w value row n after support start says);
     }
 
-pub returns-then-implies-clause-lean : goal.returns-then-implies-clause-lean
-returns-then-implies-clause-lean g c w believed =
-    let laws = g.met.V.Partial.laws in
-    let all = gained_of c.args.gains.items in
+pub enough-requires-in-Some-clause-gains : goal.enough-requires-in-Some-clause-gains
+enough-requires-in-Some-clause-gains g c =
     let left = c.pop.new.self.items in
-    let gain = c.in-Some.gain in
-    let invariant = c.loop-gain.invariant in
-    let needed : ¬ (g.V.Partial.below c.args.value (g.V.Partial.join gain.before c.loop-gain.after)) = λ h. cc (c.implies.ensures.1 (rw c.merge.ensures h), c.if-not-implies.true) in
-    IsLean-early laws all w c.args.value (gained_of left) (g.V.Partial.join gain.entry.value c.loop-gain.after) c.in_ok-support.support
-    (kept laws all w c.args.value c.loop-gain.gains.items left gain c.loop-gain.after c.loop-gain.support c.in_ok-support.support c.in-Some.ensures.items invariant.gains invariant.among believed
-    (invariant.thinned w believed) needed c.in_ok-support.ensures)
-    (rw c.merge-after.ensures at (c.implies-then-not-implies.ensures.0 c.if-implies.true))
+    rw c.deref-in-Some.ensures.value (AreGains-front g.met.V.Partial.laws g.V.Partial.bottom left c.in-Some.gain (rw c.in-Some.ensures.items at c.loop-gain.invariant.enough.gains))
+
+pub enough-requires-in-Some-clause-all : goal.enough-requires-in-Some-clause-all
+enough-requires-in-Some-clause-all g c =
+    let left = c.pop.new.self.items in
+    let before = rw c.in-Some.ensures.items at c.loop-gain.invariant.enough.says in
+    rw (c.deref-in-Some.ensures.value, c.merge-after.ensures) (says_kept g.met.V.Partial.laws left c.in-Some.gain c.loop-gain.after c.args.value before)
 
 pub loop-gain-preserved : goal.loop-gain-preserved
 loop-gain-preserved g c =
     let laws = g.met.V.Partial.laws in
     let bottom = g.V.Partial.bottom in
     let join = g.V.Partial.join in
+    let value = c.args.value in
     let all = gained_of c.args.gains.items in
     let left = c.pop.new.self.items in
     let gain = c.in-Some.gain in
     let e = entry_of gain.entry in
     let kept = c.loop-gain.invariant in
     let items = c.in-Some.ensures.items in
-    let gains : AreGains join bottom (left ++ gain ∷ []) = rw items at kept.gains in
+    let n = c.enough-in-Some.result in
+    let after = c.merge-after.result in
+    let support = c.in_ok-support.support in
+    let is = c.deref-in-Some.ensures.value in
+    let cut = c.truncate-in-Some.ensures.items in
+    let row : AreGains join bottom left = AreGains-front laws bottom left gain (rw items at kept.enough.gains) in
+    let bound : n ≤ length left = rw is at c.enough-in-Some.ensures.bound in
+    let says : g.V.Partial.below value (join (merge_of_all bottom join (gained_of (take n left))) after) = rw is at c.enough-in-Some.ensures.says in
     let among : All (Contains all) (gained_of left ++ e ∷ []) = rw (items, gained_of-push left gain) at kept.among in
-    let before = AreGains-last laws left gain gains in
-    let reached = rw (c.merge.ensures, before) at (c.implies.ensures.0 c.if-not-implies.false) in
+    let here : Contains all e = All-last (Contains all) (gained_of left) e among in
     record {
-      gains = AreGains-front laws bottom left gain gains;
-      none = λ n. absurd (none_left left gain (sym items ∙ kept.none n));
-      empty = kept.empty;
-      among = All-front (Contains all) (gained_of left) e among;
+      enough = rw cut (first_enough laws left n after value row bound says (λ k m. rw is at (c.enough-in-Some.ensures.needed k m)));
+      none = λ none. absurd (none_left left gain (sym items ∙ kept.none none));
+      empty = λ none. absurd (none_left left gain (sym items ∙ kept.none none));
+      among = rw cut (All-first (Contains all) left n (All-front (Contains all) (gained_of left) e among));
       thinned = λ w believed.
-          let thinned : IsThinned bottom join all w c.args.value (gained_of left ++ e ∷ []) c.loop-gain.after c.loop-gain.support = rw (items, gained_of-push left gain) at (kept.thinned w believed) in
-          IsThinned-skip laws all w c.args.value (gained_of left) e c.loop-gain.after c.loop-gain.support thinned reached;
+          let before : IsThinned bottom join all w value (gained_of left ++ e ∷ []) c.loop-gain.after c.loop-gain.support = rw (items, gained_of-push left gain) at (kept.thinned w believed) in
+          let on = All-contains (λ x. IsTrue (is_within w x.support)) all e believed here in
+          let chosen = IsThinned-keep laws all w value (gained_of left) e c.loop-gain.after c.loop-gain.support support before (kept.enough.needed left gain items) here on c.in_ok-support.ensures in
+          let now : IsThinned bottom join all w value (gained_of left) after support = rw c.merge-after.ensures chosen in
+          rw cut (thinned_first laws all w value left n after support now says);
     }
 
 pub returns-clause-lean : goal.returns-clause-lean
 returns-clause-lean g c w believed =
     let nothing : c.loop-gain.gains.items ≡ [] = nil_from_length c.loop-gain.gains.items (omega (arith, c.in_default.ensures.cases, c.loop-gain.gains.ok.0)) in
     IsLean-thinned g.met.V.Partial.laws (gained_of c.args.gains.items) w c.args.value c.loop-gain.after c.loop-gain.support (rw nothing at (c.loop-gain.invariant.thinned w believed))
-
-pub returns-in_err-support-clause-nothing : goal.returns-in_err-support-clause-nothing
-returns-in_err-support-clause-nothing g c = λ n. absurd (none_left c.pop.new.self.items c.in-Some.gain (sym c.in-Some.ensures.items ∙ c.loop-gain.invariant.none n))

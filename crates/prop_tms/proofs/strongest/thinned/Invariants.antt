@@ -1,12 +1,12 @@
 use Rattle.std.proofs.Common.{◌≡◌, [], All, Contains, IsTrue, vec_len}
 use Rattle.prop_premises.specs.Sets.{Members, is_within}
-use Rattle.prop_tms.specs.Gains.{AreGains, gained_of}
-use Rattle.prop_tms.proofs.LeanLemmas.{IsThinned}
+use Rattle.prop_tms.specs.inner.Gains.{gained_of}
+use Rattle.prop_tms.proofs.LeanLemmas.{AreEnough, IsThinned}
 use Rattle.prop_tms.proofs.strongest.thinned.Given as goal
 
 abbrev pub invariant-loop-gain : goal.invariant-loop-gain
 invariant-loop-gain g l = record {
-  gains : AreGains g.V.Partial.join g.V.Partial.bottom l.gains.items;
+  enough : AreEnough g.V.Partial.below g.V.Partial.bottom g.V.Partial.join l.gains.items l.after l.value;
   none : l.fn.gains.items ≡ [] → l.gains.items ≡ [];
   empty : l.fn.gains.items ≡ [] → l.support ≡ [];
   among : All (Contains (gained_of l.fn.gains.items)) (gained_of l.gains.items);

@@ -3,7 +3,8 @@ use Rattle.std.specs.List.{remove}
 use Rattle.std.proofs.lemmas.List.{get_or-set_same, get_or_default, length-set}
 use Rattle.prop_premises.specs.Sets.{set_of, is_at_most_one_of}
 use Rattle.prop_tms.specs.Beliefs.{belief_of, AreNeeded}
-use Rattle.prop_tms.specs.Values.{entries_of, place_of}
+use Rattle.prop_tms.specs.Values.{entries_of}
+use Rattle.prop_tms.specs.inner.Values.{place_of}
 use Rattle.prop_tms.specs.declared.values.Valued.{Valued}
 use Rattle.prop_tms.proofs.TrimLemmas.{remove_length, trimmed_all, trimmed_at, trimmed_more, trimmed_next, trimmed_none}
 use Rattle.prop_tms.proofs.ValueLemmas.{entry_at, place_end, place_next, place_set, place_within, removed, values_of-set}

@@ -1,7 +1,8 @@
 use Rattle.std.proofs.Common.{◌≡◌, ◌≤◌, ◌<◌, ◌-◌, length, get_or}
 use Rattle.prop_premises.specs.Sets.{set_of}
 use Rattle.prop_tms.specs.Beliefs.{belief_of}
-use Rattle.prop_tms.specs.Values.{entries_of, place_of}
+use Rattle.prop_tms.specs.Values.{entries_of}
+use Rattle.prop_tms.specs.inner.Values.{place_of}
 use Rattle.prop_tms.specs.declared.values.Valued.{Valued}
 use Rattle.prop_tms.proofs.TrimLemmas.{IsTrimmed}
 use Rattle.prop_tms.proofs.trimming.trim.Given as goal

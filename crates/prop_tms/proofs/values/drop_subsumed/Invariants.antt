@@ -1,7 +1,8 @@
 use Rattle.std.proofs.Common.{◌≡◌, ◌<◌, ℕ, false, length, take, drop, get_or}
 use Rattle.prop_tms.specs.Beliefs.{Subsumes}
 use Rattle.prop_tms.specs.Kept.{IsLeftWithout}
-use Rattle.prop_tms.specs.Values.{entries_of, values_of, NoneEmptied, HasRoomOf}
+use Rattle.prop_tms.specs.Values.{entries_of}
+use Rattle.prop_tms.specs.inner.Values.{values_of, NoneEmptied, HasRoomOf}
 use Rattle.prop_tms.specs.declared.values.Valued.{Valued}
 use Rattle.prop_tms.proofs.values.drop_subsumed.Given as goal
 

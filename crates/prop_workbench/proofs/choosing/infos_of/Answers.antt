@@ -1,6 +1,6 @@
 use Rattle.std.proofs.Common.{◌∷◌, [], ◌++◌, ◌+◌, refl, drop, map}
 use Rattle.prop_language.specs.Said.{value_of}
-use Rattle.prop_workbench.specs.Choosing.{meaning_of, meanings_of}
+use Rattle.prop_workbench.specs.inner.Choosing.{meaning_of, meanings_of}
 use Rattle.prop_workbench.proofs.ChoosingLemmas.{IsOnTheWay, at_start, one_on, known_same, mean_here, rest_here, same_meaning}
 use Rattle.prop_workbench.proofs.choosing.infos_of.Goals as goal
 

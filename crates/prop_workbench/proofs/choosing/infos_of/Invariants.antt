@@ -1,6 +1,6 @@
 use Rattle.std.proofs.Common.{drop, map}
 use Rattle.prop_language.specs.Said.{value_of}
-use Rattle.prop_workbench.specs.Choosing.{meanings_of}
+use Rattle.prop_workbench.specs.inner.Choosing.{meanings_of}
 use Rattle.prop_workbench.proofs.ChoosingLemmas.{IsOnTheWay}
 use Rattle.prop_workbench.proofs.choosing.infos_of.Given as goal
 

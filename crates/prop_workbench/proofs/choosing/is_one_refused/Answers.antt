@@ -1,7 +1,7 @@
 use Rattle.std.proofs.Common.{◌≡◌, ◌∙◌, map, refl, sym, arith}
 use Rattle.std.proofs.lemmas.List.{at_drop_all}
 use Rattle.prop_language.specs.Said.{value_of}
-use Rattle.prop_workbench.specs.Choosing.{is_one_refused}
+use Rattle.prop_workbench.specs.inner.Choosing.{is_one_refused}
 use Rattle.prop_workbench.specs.Refusing.{meaning_at, is_error}
 use Rattle.prop_workbench.proofs.ChoosingLemmas.{any_at, rest_here}
 use Rattle.prop_workbench.proofs.choosing.is_one_refused.Goals as goal

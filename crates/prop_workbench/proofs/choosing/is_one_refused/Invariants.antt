@@ -1,6 +1,6 @@
 use Rattle.std.proofs.Common.{◌≡◌, drop, map}
 use Rattle.prop_language.specs.Said.{value_of}
-use Rattle.prop_workbench.specs.Choosing.{is_one_refused}
+use Rattle.prop_workbench.specs.inner.Choosing.{is_one_refused}
 use Rattle.prop_workbench.proofs.choosing.is_one_refused.Given as goal
 
 abbrev pub invariant-loop-value : goal.invariant-loop-value

@@ -6,7 +6,7 @@ use Rattle.prop_workbench.specs.Engine.{learning, machine_of}
 use Rattle.prop_workbench.specs.Sessions.{shown_of, library_of, related_in}
 use Rattle.prop_engine.proofs.Io.{on_err}
 use Rattle.prop_procedures.specs.Kept.{stored_of, related_of}
-use Rattle.propbench.proofs.Starts.{answered_as, answered_in_front_as}
+use Rattle.propbench.proofs.Starts.{answered_as, answered_in_part_as}
 use Rattle.propbench.proofs.running.answer.Goals as goal
 
 pub returns-in-Err-clause-err : goal.returns-in-Err-clause-err
@@ -22,7 +22,7 @@ pub returns-in_err-run_session-clause-err : goal.returns-in_err-run_session-clau
 returns-in_err-run_session-clause-err g c =
     let same = c.load_prelude.ensures.same in
     let machine : machine_of g.R.Rule.value_of g.R.Rule.related c.load_prelude.new.self ≡ learning (library_of g.R.Rule.value_of c.args.session.now) (related_in g.R.Rule.related c.args.session.now) = λ i. learning (stored_of g.R.Rule.value_of (same i)) (related_of g.R.Rule.related (same i)) in
-    on_err _ _ (answered_in_front_as _ _ (shown_of c.args.session.now) (shown_of c.load_prelude.new.self) _ _ _ c.in-Ok.ensures.ok (rw machine at c.in_err-run_session.ensures.front))
+    on_err _ _ (answered_in_part_as _ _ (shown_of c.args.session.now) (shown_of c.load_prelude.new.self) _ _ _ c.in-Ok.ensures.ok (rw machine at c.in_err-run_session.ensures.prefix))
 
 pub run_session-requires-clause-means : goal.run_session-requires-clause-means
 run_session-requires-clause-means g c = rw c.load_prelude.ensures.same c.requires.means

@@ -3,9 +3,10 @@ use Rattle.std.proofs.lemmas.Result.{err_from_is_err_and}
 use Rattle.propbench.specs.Faults.{TellsDevices}
 use Rattle.propbench.proofs.Devices.{told_first}
 use Rattle.prop_engine.proofs.Io.{on_err}
-use Rattle.prop_procedures.specs.Kept.{AllMean-push}
+use Rattle.prop_procedures.specs.inner.Kept.{AllMean-push}
 use Rattle.std.proofs.lemmas.List.{take_all}
-use Rattle.prop_arith.specs.Kit.{in_order, value_of}
+use Rattle.prop_arith.specs.Kit.{in_order}
+use Rattle.prop_arith.specs.Values.{value_of}
 use Rattle.propbench.proofs.Starts.{nothing_yet, stored_is, listed_more, all_listed, ruled_more, kit_is_sound, inputs_fit}
 use Rattle.propbench.proofs.running.run.Goals as goal
 

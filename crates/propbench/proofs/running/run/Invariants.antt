@@ -1,6 +1,6 @@
 use Rattle.std.proofs.Common.{◌≡◌, take, map}
 use Rattle.prop_procedures.specs.Kept.{AllMean, stored_as}
-use Rattle.prop_arith.specs.Kit.{value_of}
+use Rattle.prop_arith.specs.Values.{value_of}
 use Rattle.propbench.specs.Kits.{stored_kit}
 use Rattle.propbench.proofs.running.run.Given as goal
 

@@ -3,7 +3,7 @@ use Rattle.std.proofs.lemmas.Result.{err_from_is_err_and}
 use Rattle.propbench.specs.Faults.{TellsDevices}
 use Rattle.propbench.proofs.Devices.{told_first}
 use Rattle.prop_engine.proofs.Io.{on_err}
-use Rattle.propbench.proofs.Starts.{nothing_yet, answered_by_kit, answered_in_front_by_kit}
+use Rattle.propbench.proofs.Starts.{nothing_yet, answered_by_kit, answered_in_part_by_kit}
 use Rattle.propbench.proofs.running.serve_in.Goals as goal
 
 pub returns-in_err-session-clause-err : goal.returns-in_err-session-clause-err
@@ -20,7 +20,7 @@ returns-clause-ok g c =
 pub returns-clause-err : goal.returns-clause-err
 returns-clause-err g c =
     let same = ap (λ l. l.procedures.items) (c.in_ok-session.ensures.library ∙ c.new-network.ensures.library) ∙ ap (λ p. p.items) c.new.ensures in
-    answered_in_front_by_kit c.in_ok-session.session.network.library c.args.procedures.items _ _ _ _ _ c.answer-counts.result same c.requires.listed c.requires.ruled c.in_ok-session.ensures.state c.answer-counts.ensures.err
+    answered_in_part_by_kit c.in_ok-session.session.network.library c.args.procedures.items _ _ _ _ _ c.answer-counts.result same c.requires.listed c.requires.ruled c.in_ok-session.ensures.state c.answer-counts.ensures.err
 
 pub returns-in_err-session-clause-devices : goal.returns-in_err-session-clause-devices
 returns-in_err-session-clause-devices g c =

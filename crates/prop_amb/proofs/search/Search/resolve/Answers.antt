@@ -1,7 +1,7 @@
 use Rattle.std.proofs.Common.{◌≡◌, ℕ, ◌+◌, ◌-◌, length, subst, ap, arith}
 use Rattle.prop_premises.specs.Sets.{set_of}
 use Rattle.prop_amb.specs.Search.{Stand, IsStand, choices_in}
-use Rattle.prop_amb.specs.Resolving.{IsWithin}
+use Rattle.prop_amb.specs.inner.Resolving.{IsWithin}
 use Rattle.prop_amb.proofs.LookingLaws.{choices_count}
 use Rattle.prop_amb.proofs.ResolvingLaws.{nogood_shown, believed_within, shown_rules_out}
 use Rattle.prop_amb.proofs.search.Search.resolve.Goals as goal

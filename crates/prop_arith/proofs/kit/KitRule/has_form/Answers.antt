@@ -1,5 +1,5 @@
 use Rattle.std.proofs.Common.{rules, ◌≡◌, ◌∙◌, true, false, sym}
-use Rattle.prop_arith.specs.Kit.{ins_of, out_of}
+use Rattle.prop_arith.specs.Kit.{form_of}
 use Rattle.prop_arith.proofs.Shapes.{same_shape, same_shapes}
 use Rattle.prop_arith.proofs.kit.KitRule.has_form.Goals.{then-eq, else-eq}
 use Rattle.prop_arith.proofs.kit.KitRule.has_form.Goals as goal
@@ -8,8 +8,8 @@ pub returns-then-eq-2 : goal.returns-then-eq-2
 returns-then-eq-2 c =
     elim c.if-eq.branch [
       | then-eq w ↦ (
-          let ins : c.args.ins.now ≡ ins_of c.args.self.now = same_shapes _ _ (sym c.eq.ensures ∙ w.if-eq.true) ∙ c.ins.ensures in
-          let out : c.args.out ≡ out_of c.args.self.now = same_shape _ _ (sym w.eq-then-eq.ensures ∙ sym w.value-is ∙ c.if-eq-2.true) ∙ w.out.ensures in
+          let ins : c.args.ins.now ≡ (form_of c.args.self.now).ins = same_shapes _ _ (sym c.eq.ensures ∙ w.if-eq.true) ∙ c.ins.ensures in
+          let out : c.args.out ≡ (form_of c.args.self.now).out = same_shape _ _ (sym w.eq-then-eq.ensures ∙ sym w.value-is ∙ c.if-eq-2.true) ∙ w.out.ensures in
           let told = c.eq-then-eq-2.ensures in
           let need = c.need.ensures in
           search rules

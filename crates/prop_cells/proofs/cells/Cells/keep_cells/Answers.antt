@@ -1,6 +1,6 @@
 use Rattle.std.proofs.Common.{◌≡◌, ◌∙◌, sym, ap, take}
 use Rattle.std.proofs.lemmas.List.{take-map}
-use Rattle.prop_cells.specs.Rooms.{row_items}
+use Rattle.prop_cells.specs.inner.Rooms.{row_items}
 use Rattle.prop_cells.proofs.Backing.{stored_taken}
 use Rattle.prop_cells.proofs.cells.Cells.keep_cells.Goals as goal
 

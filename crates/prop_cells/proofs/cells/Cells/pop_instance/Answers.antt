@@ -1,5 +1,5 @@
 use Rattle.std.proofs.Common.{◌≡◌, ◌++◌, ◌∷◌, []}
-use Rattle.prop_cells.specs.Rooms.{row_items, Unnoted}
+use Rattle.prop_cells.specs.inner.Rooms.{row_items, Unnoted}
 use Rattle.prop_cells.proofs.Backing.{stored_unnoted}
 use Rattle.prop_cells.proofs.cells.Cells.pop_instance.Goals as goal
 

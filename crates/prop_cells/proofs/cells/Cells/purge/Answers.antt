@@ -1,4 +1,4 @@
-use Rattle.prop_cells.specs.Rooms.{row_items}
+use Rattle.prop_cells.specs.inner.Rooms.{row_items}
 use Rattle.prop_cells.proofs.ForgettingLaws.{stored_forgotten, written_back}
 use Rattle.prop_cells.proofs.cells.Cells.purge.Goals as goal
 

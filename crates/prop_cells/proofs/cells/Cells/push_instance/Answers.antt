@@ -1,7 +1,7 @@
 use Rattle.std.proofs.Common.{◌≡◌, ◌∙◌, ◌++◌, ◌∷◌, [], length, ap, arith}
 use Rattle.std.proofs.lemmas.Grind.{common_steps}
 use Rattle.prop_cells.specs.Instances.{IsWithin}
-use Rattle.prop_cells.specs.Rooms.{row_items, Noted}
+use Rattle.prop_cells.specs.inner.Rooms.{row_items, Noted}
 use Rattle.prop_cells.proofs.Making.{stored_instance}
 use Rattle.prop_cells.proofs.cells.Cells.push_instance.Goals as goal
 

@@ -1,5 +1,6 @@
 use Rattle.std.proofs.Common.{◌≡◌, take}
-use Rattle.prop_cells.specs.Sides.{sides_at, statements_back, StatesAll}
+use Rattle.prop_cells.specs.Sides.{sides_at, StatesAll}
+use Rattle.prop_cells.specs.inner.Sides.{statements_back}
 use Rattle.prop_cells.proofs.cells.Cells.push_sides.Given as goal
 
 abbrev pub invariant-loop-i : goal.invariant-loop-i

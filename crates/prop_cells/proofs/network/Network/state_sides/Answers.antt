@@ -17,9 +17,9 @@ push_sides-requires-clause-of_kinds g c =
 pub push_sides-requires-clause-below : goal.push_sides-requires-clause-below
 push_sides-requires-clause-below g c = kept_below (stored_of g.R.Rule.value_of c.args.self.now.library) c.args.self.now.cells c.args.first c.args.cell c.requires.kept c.requires.unnamed
 
-pub returns-in-Ok-clause-kept : goal.returns-in-Ok-clause-kept
-returns-in-Ok-clause-kept g c =
-    states_kept (stored_of g.R.Rule.value_of c.args.self.now.library) (sides_at c.args.first c.args.cell c.args.infos.now) c.args.self.now.cells c.push_sides.new.self c.requires.kept c.in-Ok.ensures.ok
+pub returns-clause-kept : goal.returns-clause-kept
+returns-clause-kept g c =
+    states_kept (stored_of g.R.Rule.value_of c.args.self.now.library) (sides_at c.args.first c.args.cell c.args.infos.now) c.args.self.now.cells c.push_sides.new.self c.requires.kept c.in_ok-push_sides.ensures.ok
 
-pub returns-in-Ok-clause-rest : goal.returns-in-Ok-clause-rest
-returns-in-Ok-clause-rest g c = states_rest (sides_at c.args.first c.args.cell c.args.infos.now) c.args.self.now.cells c.push_sides.new.self c.in-Ok.ensures.ok
+pub returns-clause-rest : goal.returns-clause-rest
+returns-clause-rest g c = states_rest (sides_at c.args.first c.args.cell c.args.infos.now) c.args.self.now.cells c.push_sides.new.self c.in_ok-push_sides.ensures.ok

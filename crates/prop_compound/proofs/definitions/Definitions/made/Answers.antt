@@ -12,6 +12,9 @@ returns-clause-kept g c = c.made_in.ensures.kept
 pub returns-clause-over : goal.returns-clause-over
 returns-clause-over g c = c.made_in.ensures.over
 
+pub returns-clause-locals : goal.returns-clause-locals
+returns-clause-locals g c = c.made_in.ensures.locals
+
 pub returns-clause-fits : goal.returns-clause-fits
 returns-clause-fits g c = c.made_in.ensures.fits
 

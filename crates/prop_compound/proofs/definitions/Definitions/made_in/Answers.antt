@@ -26,6 +26,9 @@ returns-clause-kept g c = c.resolved.ensures.kept
 pub returns-clause-over : goal.returns-clause-over
 returns-clause-over g c = c.resolved.ensures.over
 
+pub returns-clause-locals : goal.returns-clause-locals
+returns-clause-locals g c = c.resolved.ensures.locals
+
 pub returns-clause-fits : goal.returns-clause-fits
 returns-clause-fits g c =
     fits_named (stored_of g.R.Rule.value_of c.args.library.now) c.args.words.now c.args.self.now c.args.said.now.name.now (words c.args.said.now.params.now) (map step_of c.args.said.now.steps.now) c.in_ok-name_all.ensures.new c.resolved.result c.resolved.ensures.fits
@@ -46,6 +49,11 @@ returns-in_err-name_all-clause-kept g c =
 
 pub returns-in_err-name_all-clause-over : goal.returns-in_err-name_all-clause-over
 returns-in_err-name_all-clause-over g c =
+    let p = err_from_is_err_and c.from_residual.result c.from_residual.ensures.1 in
+    no_value _ c.from_residual.result p.0 p.1
+
+pub returns-in_err-name_all-clause-locals : goal.returns-in_err-name_all-clause-locals
+returns-in_err-name_all-clause-locals g c =
     let p = err_from_is_err_and c.from_residual.result c.from_residual.ensures.1 in
     no_value _ c.from_residual.result p.0 p.1
 

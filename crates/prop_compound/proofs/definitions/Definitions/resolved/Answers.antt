@@ -4,7 +4,9 @@ use Rattle.prop_procedures.specs.Kept.{stored_of}
 use Rattle.prop_language.specs.Said.{words, step_of}
 use Rattle.prop_compound.specs.Definitions.{Definitions}
 use Rattle.prop_compound.specs.Defining.{definition_of}
-use Rattle.prop_compound.specs.Kept.{bare, all_bare, IsCounted, IsKept, AreKept, IsUseOver}
+use Rattle.prop_compound.specs.Kinds.{IsSized, IsLocalOf}
+use Rattle.prop_compound.specs.Kept.{bare, all_bare, IsUseOver}
+use Rattle.prop_compound.specs.inner.Kept.{IsCounted, IsKept, AreKept}
 use Rattle.prop_compound.specs.declared.definition.KeptDefinition.{KeptDefinition}
 use Rattle.prop_compound.proofs.Judging.{IsRightly, said_within, said_first, said_behind, refused_words, refused_uses, not_refused, rightly}
 use Rattle.prop_compound.proofs.Resolved.{used_seen, kept_new, same_count, numbered_so, definition_so, steps_over, if_ok, on_ok, or_memory}
@@ -43,7 +45,7 @@ counted-requires-clause-used g c =
     let same = same_count c.self.inside.names c.self.inside.definitions.items definitions c.self.view_is c.self.invariant in
     let right : IsRightly library c.args.words.now definitions params steps =
     rightly library c.args.words.now definitions params steps (take (length c.args.said.now.params.now) c.args.scope.now) (said_first c.args.said.now.params.now c.args.scope.now steps c.requires) c.words_refusal.result c.words_refusal.ensures c.in_default.is c.uses_refusal.result c.uses_refusal.ensures c.in_default-uses_refusal.is in
-    let items = numbered_so library c.args.words.now definitions params steps same right c.args.scope.now c.push_numbered.new.all.items c.requires c.in-Ok.ensures in
+    let items = numbered_so library c.args.words.now definitions params steps same right c.args.scope.now c.push_numbered.new.all.items c.requires c.in-Ok.ensures.steps in
     let seen : definitions.definitions ≡ all_bare c.deref.result.now = ap (λ (d : Definitions). d.definitions) (sym c.self.view_is) ∙ ap all_bare (sym c.deref.ensures.value) in
     used_seen library c.args.words.now definitions params steps same right c.deref.result.now c.push_numbered.new.all.items seen items
 
@@ -56,7 +58,7 @@ returns-in-Ok-clause-definition g c =
     let same = same_count c.self.inside.names c.self.inside.definitions.items definitions c.self.view_is c.self.invariant in
     let right : IsRightly library c.args.words.now definitions params steps =
     rightly library c.args.words.now definitions params steps (take (length c.args.said.now.params.now) c.args.scope.now) (said_first c.args.said.now.params.now c.args.scope.now steps c.requires) c.words_refusal.result c.words_refusal.ensures c.in_default.is c.uses_refusal.result c.uses_refusal.ensures c.in_default-uses_refusal.is in
-    let items = numbered_so library c.args.words.now definitions params steps same right c.args.scope.now c.push_numbered.new.all.items c.requires c.in-Ok.ensures in
+    let items = numbered_so library c.args.words.now definitions params steps same right c.args.scope.now c.push_numbered.new.all.items c.requires c.in-Ok.ensures.steps in
     let count : length c.args.said.now.params.now ≡ length params = sym (length-map c.args.said.now.params.now (λ (w : Bor (List ℕ)). w.now)) in
     let numbered = c.push_numbered.new.all.items in
     let Counted = IsCounted c.deref.result.now (length c.args.said.now.params.now) numbered in
@@ -72,7 +74,7 @@ returns-in-Ok-clause-kept g c =
     let same = same_count c.self.inside.names c.self.inside.definitions.items definitions c.self.view_is c.self.invariant in
     let right : IsRightly library c.args.words.now definitions params steps =
     rightly library c.args.words.now definitions params steps (take (length c.args.said.now.params.now) c.args.scope.now) (said_first c.args.said.now.params.now c.args.scope.now steps c.requires) c.words_refusal.result c.words_refusal.ensures c.in_default.is c.uses_refusal.result c.uses_refusal.ensures c.in_default-uses_refusal.is in
-    let items = numbered_so library c.args.words.now definitions params steps same right c.args.scope.now c.push_numbered.new.all.items c.requires c.in-Ok.ensures in
+    let items = numbered_so library c.args.words.now definitions params steps same right c.args.scope.now c.push_numbered.new.all.items c.requires c.in-Ok.ensures.steps in
     let count : length c.args.said.now.params.now ≡ length params = sym (length-map c.args.said.now.params.now (λ (w : Bor (List ℕ)). w.now)) in
     let numbered = c.push_numbered.new.all.items in
     let Counted = IsCounted c.deref.result.now (length c.args.said.now.params.now) numbered in
@@ -91,12 +93,17 @@ returns-in-Ok-clause-over g c =
     let same = same_count c.self.inside.names c.self.inside.definitions.items definitions c.self.view_is c.self.invariant in
     let right : IsRightly library c.args.words.now definitions params steps =
     rightly library c.args.words.now definitions params steps (take (length c.args.said.now.params.now) c.args.scope.now) (said_first c.args.said.now.params.now c.args.scope.now steps c.requires) c.words_refusal.result c.words_refusal.ensures c.in_default.is c.uses_refusal.result c.uses_refusal.ensures c.in_default-uses_refusal.is in
-    let items = numbered_so library c.args.words.now definitions params steps same right c.args.scope.now c.push_numbered.new.all.items c.requires c.in-Ok.ensures in
+    let items = numbered_so library c.args.words.now definitions params steps same right c.args.scope.now c.push_numbered.new.all.items c.requires c.in-Ok.ensures.steps in
     let count : length c.args.said.now.params.now ≡ length params = sym (length-map c.args.said.now.params.now (λ (w : Bor (List ℕ)). w.now)) in
     let numbered = c.push_numbered.new.all.items in
     let Counted = IsCounted c.deref.result.now (length c.args.said.now.params.now) numbered in
     if_ok Counted (λ (k : KeptDefinition). All (IsUseOver library) k.steps.items)
     (λ k h. steps_over library c.args.words.now definitions params steps same right k numbered items h.steps) c.counted.result c.counted.ensures.counted
+
+pub returns-in-Ok-clause-locals : goal.returns-in-Ok-clause-locals
+returns-in-Ok-clause-locals g c =
+    let locals = All (IsLocalOf (IsSized c.args.words.now)) in
+    if_ok (IsCounted c.deref.result.now (length c.args.said.now.params.now) c.push_numbered.new.all.items) (λ (k : KeptDefinition). locals k.steps.items) (λ k h. subst locals (sym h.steps) c.in-Ok.ensures.locals) c.counted.result c.counted.ensures.counted
 
 pub returns-in-Ok-clause-fits : goal.returns-in-Ok-clause-fits
 returns-in-Ok-clause-fits g c =

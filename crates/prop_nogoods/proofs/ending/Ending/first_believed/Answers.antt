@@ -1,7 +1,29 @@
+use Rattle.std.proofs.Common.{rules, ◌≡◌, None, Some, All, arith}
+use Rattle.std.proofs.lemmas.Bool.Decides.{nat_tests}
 use Rattle.prop_premises.specs.Sets.{set_of}
-use Rattle.prop_nogoods.proofs.EndingLemmas.{none_without_last}
+use Rattle.prop_nogoods.specs.inner.Endings.{EndsSo}
+use Rattle.prop_nogoods.proofs.EndingLemmas.{ends_below, none_without_last, end_below_where_none}
 use Rattle.prop_nogoods.proofs.ending.Ending.first_believed.Goals as goal
+use Rattle.prop_nogoods.proofs.ending.Ending.first_believed.Goals.{then-last-from-via-then-last-from, then-last-from-via-else-last-from+then-not-has}
 
-pub returns-then-not-has-clause-none : goal.returns-then-not-has-clause-none
-returns-then-not-has-clause-none c none =
-    rw (← c.self.view_is) (none_without_last (set_of c.args.worldview.now) c.in-Some.last c.self.inside.nogoods.items (cc) (rw c.in-Some.is at c.self.invariant))
+pub returns-in_err-last-clause-none : goal.returns-in_err-last-clause-none
+returns-in_err-last-clause-none c none =
+    let is : c.self.inside.last ≡ None = search rules in
+    rw (← c.self.view_is) (ends_below (set_of c.args.worldview.now) None c.args.from c.self.inside.nogoods.items (omega arith) (rw is at c.self.invariant))
+
+pub returns-then-last-from-clause-none : goal.returns-then-last-from-clause-none
+returns-then-last-from-clause-none c none =
+    let w = set_of c.args.worldview.now in
+    let sets = c.self.inside.nogoods.items in
+    let is : c.self.inside.last ≡ Some c.in_ok-last.last = search rules in
+    let ends : All (EndsSo (Some c.in_ok-last.last)) sets = rw is at c.self.invariant in
+    rw (← c.self.view_is) (elim c.then-last-from.branch [
+      | then-last-from-via-then-last-from v ↦
+          let early = v.if-last-from.true in
+          ends_below w (Some c.in_ok-last.last) c.args.from sets (grind (arith, nat_tests)) ends
+      | then-last-from-via-else-last-from+then-not-has v ↦
+          end_below_where_none w c.args.from sets (none_without_last w c.in_ok-last.last sets (cc (v.has.ensures, v.if-not-has.true)) (λ k d l. (ends k d l).0))
+    ])
+
+pub returns-clause-listed : goal.returns-clause-listed
+returns-clause-listed c = rw (← c.self.view_is) (rw c.deref.ensures.value at c.first_believed.ensures.listed)

@@ -1,5 +1,5 @@
 use Rattle.std.proofs.lemmas.List.Elements.{All-filter}
-use Rattle.prop_nogoods.specs.Endings.{EndsSo}
+use Rattle.prop_nogoods.specs.inner.Endings.{EndsSo}
 use Rattle.prop_nogoods.proofs.StoreLemmas.{is_without}
 use Rattle.prop_nogoods.proofs.ending.Ending.purge.Goals as goal
 

@@ -12,6 +12,6 @@ returns-else-has c = by (is_within (set_of c.args.worldview.now) c.self.inside.p
 
     by : (b : Bool) → is_within (set_of c.args.worldview.now) c.self.inside.premises ≡ b → c.has.result ≡ is_within (set_of c.args.worldview.now) c.args.self.now
     by true w =
-        let last : set_of c.self.inside.premises c.in-Some.last ≡ true = found c.self.inside.last c.in-Some.is c.self.invariant.2 in
+        let last : set_of c.self.inside.premises c.in-Some.last ≡ true = found c.self.inside.last c.in-Some.is c.self.invariant.2.0 in
         cc (within_has (set_of c.args.worldview.now) c.self.inside.premises c.in-Some.last w last, c.has.ensures)
     by false w = cc (w, c.if-has.false, c.self.view_is)

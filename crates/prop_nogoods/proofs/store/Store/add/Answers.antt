@@ -1,8 +1,9 @@
 use Rattle.std.proofs.Common.{◌≡◌, ◌≤◌, refl, false, length}
 use Rattle.std.specs.List.Sorted.{IsStrictlyIncreasing}
 use Rattle.prop_premises.specs.Sets.{set_of}
-use Rattle.prop_nogoods.specs.Stores.{has_part, staying, HaveSame}
-use Rattle.prop_nogoods.specs.Endings.{sets_of}
+use Rattle.prop_nogoods.specs.Stores.{has_part, staying}
+use Rattle.prop_nogoods.specs.inner.Stores.{HaveSame}
+use Rattle.prop_nogoods.specs.inner.Endings.{sets_of}
 use Rattle.prop_nogoods.proofs.PlaceLemmas.{IsPlace}
 use Rattle.prop_nogoods.proofs.StoreLemmas.{joined, joined_behind, adds_joined, minimal_joined, in_order_joined, by_size_kept, by_size_joined, HaveSame-joined}
 use Rattle.prop_nogoods.proofs.store.Store.add.Goals as goal

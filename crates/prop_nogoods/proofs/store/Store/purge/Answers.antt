@@ -1,4 +1,4 @@
-use Rattle.prop_nogoods.specs.Endings.{sets_of}
+use Rattle.prop_nogoods.specs.inner.Endings.{sets_of}
 use Rattle.prop_nogoods.proofs.EndingLemmas.{lacking_written}
 use Rattle.prop_nogoods.proofs.StoreLemmas.{minimal_lacking, in_order_lacking, by_size_lacking, HaveSame-lacking}
 use Rattle.prop_nogoods.proofs.store.Store.purge.Goals as goal

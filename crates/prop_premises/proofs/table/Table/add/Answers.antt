@@ -1,6 +1,6 @@
 use Rattle.std.proofs.Common.{arith, ◌∙◌, ◌++◌, ◌+◌, ap, sym, length, replicate}
 use Rattle.std.specs.Vec.{vec_len}
-use Rattle.prop_premises.specs.Named.{places_from, width}
+use Rattle.prop_premises.specs.inner.Named.{places_from, width}
 use Rattle.prop_premises.proofs.TableLemmas.{length-places, names_within, resized}
 use Rattle.prop_premises.proofs.table.Table.add.Goals as goal
 

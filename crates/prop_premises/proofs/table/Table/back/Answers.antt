@@ -1,6 +1,6 @@
 use Rattle.std.proofs.Common.{arith, ◌∙◌, ap, sym, length, take}
 use Rattle.std.proofs.lemmas.List.{length-take, take_all}
-use Rattle.prop_premises.specs.Named.{places_from, origins_of}
+use Rattle.prop_premises.specs.inner.Named.{places_from, origins_of}
 use Rattle.prop_premises.proofs.TableLemmas.{length-places}
 use Rattle.prop_premises.proofs.EntryLemmas.{dropped_at}
 use Rattle.prop_premises.proofs.table.Table.back.Goals as goal

@@ -1,7 +1,7 @@
 use Rattle.std.proofs.Common.{arith, ◌∙◌, ◌<◌, ap, sym, subst, length, slice_get, Some, IsTrue}
 use Rattle.std.specs.Option.{option_map}
 use Rattle.prop_premises.specs.Origins.{name_of, is_user_at, premise_number}
-use Rattle.prop_premises.specs.Named.{origins_of}
+use Rattle.prop_premises.specs.inner.Named.{origins_of}
 use Rattle.prop_premises.proofs.TableLemmas.{length-places}
 use Rattle.prop_premises.proofs.EntryLemmas.{told_at, entry_at, name_told, number_told}
 use Rattle.prop_premises.proofs.table.Table.name.Goals as goal

@@ -1,5 +1,5 @@
 use Rattle.std.proofs.Common.{sym, ap, ◌∙◌}
-use Rattle.prop_premises.specs.Named.{user_number}
+use Rattle.prop_premises.specs.inner.Named.{user_number}
 use Rattle.prop_premises.proofs.EntryLemmas.{number_is_user}
 use Rattle.prop_premises.proofs.table.Table.number_of.Goals as goal
 

@@ -1,5 +1,5 @@
 use Rattle.std.proofs.Common.{◌∙◌, ap}
-use Rattle.prop_premises.specs.Words.{numbers_of}
+use Rattle.prop_premises.specs.inner.Words.{numbers_of}
 use Rattle.prop_premises.proofs.WordLemmas.{numbers_from-nil}
 use Rattle.prop_premises.proofs.words.Words.empty.Goals as goal
 

@@ -1,5 +1,5 @@
 use Rattle.std.proofs.Common.{◌∙◌}
-use Rattle.prop_sets.specs.ImageLaws.{coimage_just}
+use Rattle.prop_sets.specs.laws.ImageLaws.{coimage_just}
 use Rattle.prop_sets.proofs.ImageLemmas.{coimage_from_union}
 use Rattle.prop_sets.proofs.rows.Rows.coimage.Goals as goal
 

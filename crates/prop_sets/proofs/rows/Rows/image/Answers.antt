@@ -1,5 +1,5 @@
 use Rattle.std.proofs.Common.{◌∙◌}
-use Rattle.prop_sets.specs.ImageLaws.{image_just}
+use Rattle.prop_sets.specs.laws.ImageLaws.{image_just}
 use Rattle.prop_sets.proofs.ImageLemmas.{image_from_union}
 use Rattle.prop_sets.proofs.rows.Rows.image.Goals as goal
 

@@ -1,4 +1,4 @@
-use Rattle.prop_sets.specs.ImageLaws.{image_monotone, coimage_monotone}
+use Rattle.prop_sets.specs.laws.ImageLaws.{image_monotone, coimage_monotone}
 use Rattle.prop_sets.proofs.rows.Rows.images_are_monotone.Goals as goal
 
 pub returns-clause-image : goal.returns-clause-image

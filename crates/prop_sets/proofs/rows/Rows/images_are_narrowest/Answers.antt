@@ -1,4 +1,4 @@
-use Rattle.prop_sets.specs.ImageLaws.{image_narrowest, coimage_narrowest}
+use Rattle.prop_sets.specs.laws.ImageLaws.{image_narrowest, coimage_narrowest}
 use Rattle.prop_sets.proofs.rows.Rows.images_are_narrowest.Goals as goal
 
 pub returns-clause-image : goal.returns-clause-image

@@ -3,14 +3,10 @@ use Rattle.prop_vocabulary.specs.Vocabulary.{Vocabulary}
 use Rattle.prop_vocabulary.proofs.RefusalLemmas.{domains_room}
 use Rattle.prop_vocabulary.proofs.WholeLemmas.{domain-whole}
 use Rattle.prop_vocabulary.proofs.vocabulary.Vocabulary.declare_domain.Goals as goal
-use Rattle.prop_vocabulary.proofs.vocabulary.Vocabulary.declare_domain.Goals.{in-Ok, in-Err}
 
-pub invariant_of-self : goal.invariant_of-self
-invariant_of-self c =
+pub invariant_of-self-2 : goal.invariant_of-self-2
+invariant_of-self-2 c =
     let old = c.self.inside in
     let v : Vocabulary = record { domain_names = old.domain_names; domains = old.domains.items; relation_names = old.relation_names; relations = old.relations.items; symbols = old.symbols } in
     let room = domains_room v c.args.name.now (texts_of c.args.elements.now) (rw (← c.self.view_is) at c.in_ok-domain.ensures.allowed) in
-    elim c.match-push_named.branch [
-      | in-Ok w ↦ rw (w.in-Ok.ensures.names, w.in-Ok.ensures.things, c.in_ok-domain.ensures.ok.0) (domain-whole v c.args.name.now (texts_of c.args.elements.now) c.self.invariant c.in_ok-domain.ensures.ok.1 room)
-      | in-Err w ↦ rw (w.in-Err.ensures.same_names, w.in-Err.ensures.same_things) c.self.invariant
-    ]
+    rw (c.in_ok-push_named.ensures.names, c.in_ok-push_named.ensures.things, c.in_ok-domain.ensures.ok.0) (domain-whole v c.args.name.now (texts_of c.args.elements.now) c.self.invariant c.in_ok-domain.ensures.ok.1 room)

@@ -1,16 +1,16 @@
 use Rattle.std.proofs.Common.{ap, Ok, Some, subst, sym}
-use Rattle.prop_lattice.specs.declared.refusal.Refusal.TheVariants.{Memory}
 use Rattle.prop_procedures.specs.Kept.{stored_of}
 use Rattle.prop_premises.specs.Sets.{Members}
 use Rattle.prop_workbench.specs.Machine.{State, worldview_at}
 use Rattle.prop_workbench.specs.Reasons.{IsLeanAnswer}
 use Rattle.prop_engine.specs.Answers.{answer_of}
-use Rattle.prop_workbench.specs.Questions.{command_of, outcome_of, IsNamed}
+use Rattle.prop_workbench.specs.inner.Questions.{command_of, IsNamed}
+use Rattle.prop_workbench.specs.Questions.{outcome_of}
 use Rattle.prop_workbench.specs.Sessions.{state_of, shown_of, work_of}
 use Rattle.prop_workbench.proofs.AskLemmas.{believes_same, carries, free}
-use Rattle.prop_workbench.proofs.EarnedLemmas.{earns, earns_refused}
-use Rattle.prop_workbench.proofs.ReasonLemmas.{lean_refused}
-use Rattle.prop_workbench.proofs.RunLemmas.{covered_end, lacks_obeyed, run_obeyed}
+use Rattle.prop_workbench.proofs.AnsweredLemmas.{memory_answered}
+use Rattle.prop_workbench.proofs.EarnedLemmas.{earns}
+use Rattle.prop_workbench.proofs.RunLemmas.{covered_end, run_obeyed}
 use Rattle.prop_workbench.proofs.session.Session.answered.Goals as goal
 
 pub reply_to-requires-clause-sound : goal.reply_to-requires-clause-sound
@@ -22,45 +22,25 @@ reply_to-requires-clause-named g c = subst (λ (t : State). IsNamed t c.args.que
 pub reply_to-requires-clause-run : goal.reply_to-requires-clause-run
 reply_to-requires-clause-run g c = c.in-Ok.ensures.run
 
-pub returns-in-Ok-clause-step : goal.returns-in-Ok-clause-step
-returns-in-Ok-clause-step g c =
+pub returns-in-Ok : goal.returns-in-Ok
+returns-in-Ok g c =
     let s = c.args.self.now in
     let t = c.run_network.new.self in
     let said = c.in-Ok.ensures.run in
-    let library = c.run_network.ensures.keeps.library in
-    let state = c.run_network.ensures.state in
-    run_obeyed (stored_of g.R.Rule.value_of s.network.library) (shown_of s) (shown_of t) (command_of c.args.question) (outcome_of t.search.list c.in-Ok.end) _ c.in-Ok.steps (λ lib u v. carries lib u v c.args.question)
-    (free (stored_of g.R.Rule.value_of s.network.library) (state_of s) c.args.question c.requires.named) state c.run_network.ensures.keeps.covers
-    (covered_end (shown_of t) t.search.list c.in-Ok.end said.covered) (rw (library, state) at said.ends) (rw (library, state) at c.reply_to.ensures.says) (rw (ap (λ (u : State). u.limit) state) at said.within)
-
-pub returns-in-Ok-clause-rests : goal.returns-in-Ok-clause-rests
-returns-in-Ok-clause-rests g c =
-    let s = c.args.self.now in
-    let t = c.run_network.new.self in
+    let library = stored_of g.R.Rule.value_of s.network.library in
     let kept = c.run_network.ensures.keeps in
     let state = c.run_network.ensures.state in
     record {
-      lean = subst (λ (u : State). IsLeanAnswer (worldview_at u t.search.list) t.network.cells u (Ok (Some (command_of c.args.question))) (answer_of c.reply_to.result)) state
-          (subst (λ (b : Members). IsLeanAnswer b t.network.cells (state_of t) (Ok (Some (command_of c.args.question))) (answer_of c.reply_to.result)) (believes_same t.search kept.sound.at_work.well_made) c.reply_to.ensures.lean);
-      earned = earns _ (stored_of g.R.Rule.value_of s.network.library) (state_of s) (work_of s) (work_of t) c.args.question c.in-Ok.end c.in-Ok.steps _ c.in-Ok.ensures.gone c.in-Ok.ensures.left (rw (kept.library, state) at c.reply_to.ensures.says);
+      keeps = kept;
+      step = run_obeyed library (shown_of s) (shown_of t) (command_of c.args.question) (outcome_of t.search.list c.in-Ok.end) _ c.in-Ok.steps (λ lib u v. carries lib u v c.args.question)
+          (free library (state_of s) c.args.question c.requires.named) state kept.covers
+          (covered_end (shown_of t) t.search.list c.in-Ok.end said.covered) (rw (kept.library, state) at said.ends) (rw (kept.library, state) at c.reply_to.ensures.says) (rw (ap (λ (u : State). u.limit) state) at said.within);
+      rests = record {
+        lean = subst (λ (u : State). IsLeanAnswer (worldview_at u t.search.list) t.network.cells u (Ok (Some (command_of c.args.question))) (answer_of c.reply_to.result)) state
+            (subst (λ (b : Members). IsLeanAnswer b t.network.cells (state_of t) (Ok (Some (command_of c.args.question))) (answer_of c.reply_to.result)) (believes_same t.search kept.sound.at_work.well_made) c.reply_to.ensures.lean);
+        earned = earns _ library (state_of s) (work_of s) (work_of t) c.args.question c.in-Ok.end c.in-Ok.steps _ c.in-Ok.ensures.gone c.in-Ok.ensures.left (rw (kept.library, state) at c.reply_to.ensures.says);
+      };
     }
 
-pub returns-in-Err-clause-step : goal.returns-in-Err-clause-step
-returns-in-Err-clause-step g c =
-    let s = c.args.self.now in
-    lacks_obeyed (stored_of g.R.Rule.value_of s.network.library) (shown_of s) (shown_of c.run_network.new.self) (command_of c.args.question) 0 c.run_network.ensures.state c.run_network.ensures.keeps.covers
-
-pub returns-in-Err-clause-rests : goal.returns-in-Err-clause-rests
-returns-in-Err-clause-rests g c =
-    let s = c.args.self.now in
-    let t = c.run_network.new.self in
-    record {
-      lean = lean_refused (worldview_at (state_of s) t.search.list) t.network.cells (state_of s) c.args.question Memory;
-      earned = earns_refused _ (stored_of g.R.Rule.value_of s.network.library) (state_of s) (work_of s) (work_of t) (Ok (Some (command_of c.args.question))) Memory 0;
-    }
-
-pub returns-in-Ok-clause-keeps : goal.returns-in-Ok-clause-keeps
-returns-in-Ok-clause-keeps g c = c.run_network.ensures.keeps
-
-pub returns-in-Err-clause-keeps : goal.returns-in-Err-clause-keeps
-returns-in-Err-clause-keeps g c = c.run_network.ensures.keeps
+pub returns-in-Err : goal.returns-in-Err
+returns-in-Err g c = memory_answered g.O.Order.picks g.R.Rule.value_of c.args.self.now c.run_network.new.self (command_of c.args.question) c.run_network.ensures.keeps c.run_network.ensures.state

@@ -6,7 +6,7 @@ use Rattle.prop_language.specs.Said.{value_of}
 use Rattle.prop_workbench.specs.Sessions.{state_of}
 use Rattle.prop_workbench.proofs.StepLemmas.{refuses}
 use Rattle.prop_workbench.proofs.ChoiceLemmas.{choice_taken, choice_nowhere, choice_refused, values_mean, chosen_or_not}
-use Rattle.prop_workbench.specs.Choosing.{values_refusal}
+use Rattle.prop_workbench.specs.inner.Choosing.{values_refusal}
 use Rattle.prop_workbench.proofs.session.Session.choose.Goals as goal
 
 pub returns-in-None-clause-step : goal.returns-in-None-clause-step

@@ -3,23 +3,13 @@ use Rattle.prop_procedures.specs.Kept.{stored_of}
 use Rattle.prop_amb.specs.Moving.{declared, declare_refusal}
 use Rattle.prop_workbench.specs.Sessions.{state_of}
 use Rattle.prop_workbench.proofs.ChosenLemmas.{declared_fits, declared_under_way, declared_watched, only_memory, chosen_at_work, chosen_covers}
-use Rattle.prop_workbench.proofs.StandingLemmas.{same_at_work, same_covers}
+use Rattle.prop_workbench.proofs.StandingLemmas.{back_keeps, same_keeps}
 use Rattle.prop_workbench.proofs.session.Session.choose_between.Goals as goal
 
 -- ---- there was no memory for the choice
 
 pub returns-in-Err-clause-keeps : goal.returns-in-Err-clause-keeps
-returns-in-Err-clause-keeps g c =
-    let s = c.args.self.now in
-    let library = stored_of g.R.Rule.value_of s.network.library in
-    let sound = c.requires.sound in
-    let same = c.in-Err.ensures.err in
-    record {
-      library = refl;
-      sound = record { at_work = same_at_work library s.search c.declare.new.self s.network.cells s.agenda same sound.at_work; sized = sound.sized; locals = sound.locals; named = sound.named; defined = sound.defined };
-      steps = refl;
-      covers = same_covers s.search c.declare.new.self same;
-    }
+returns-in-Err-clause-keeps g c = same_keeps g.R.Rule.value_of c.args.self.now c.declare.new.self c.requires.sound c.in-Err.ensures.err
 
 pub returns-in-Err-clause-err : goal.returns-in-Err-clause-err
 returns-in-Err-clause-err g c =
@@ -67,19 +57,5 @@ returns-in-Ok-state_sides-clause-keeps g c =
 pub returns-in-Err-state_sides-clause-keeps : goal.returns-in-Err-state_sides-clause-keeps
 returns-in-Err-state_sides-clause-keeps g c =
     let s = c.args.self.now in
-    let library = stored_of g.R.Rule.value_of s.network.library in
-    let sound = c.requires.sound in
-    let cells = c.in-Err-state_sides.ensures.err_same in
-    let same : c.undeclare.new.self ≡ s.search = c.undeclare.ensures.undoes s.search c.args.choice.now sound.at_work.well_made (c.in-Ok.ensures.ok ∙ (λ i. declared s.search c.args.choice.now (sym c.in-Ok.ensures.choice.1 i))) in
-    record {
-      library = c.state_sides.ensures.same;
-      sound = record {
-        at_work = rw (c.state_sides.ensures.same, cells, c.in-Err-state_sides.ensures.err_line) (same_at_work library s.search c.undeclare.new.self s.network.cells s.agenda same sound.at_work);
-        sized = rw cells sound.sized;
-        locals = sound.locals;
-        named = rw cells sound.named;
-        defined = rw c.state_sides.ensures.same sound.defined;
-      };
-      steps = refl;
-      covers = same_covers s.search c.undeclare.new.self same;
-    }
+    back_keeps g.R.Rule.value_of s (record s { network = c.state_sides.new.network; agenda = c.state_sides.new.agenda }) c.undeclare.new.self c.requires.sound
+    (c.undeclare.ensures.undoes s.search c.args.choice.now c.requires.sound.at_work.well_made (c.in-Ok.ensures.ok ∙ (λ i. declared s.search c.args.choice.now (sym c.in-Ok.ensures.choice.1 i)))) c.state_sides.ensures.same c.in-Err-state_sides.ensures.err_same c.in-Err-state_sides.ensures.err_line

@@ -2,7 +2,7 @@ use Rattle.std.proofs.Common.{◌∙◌, map, sym, arith}
 use Rattle.prop_procedures.specs.Fitting.{kind_at}
 use Rattle.prop_procedures.specs.Stored.{span_kind}
 use Rattle.prop_language.specs.Said.{value_of}
-use Rattle.prop_workbench.specs.Choosing.{meanings_of}
+use Rattle.prop_workbench.specs.inner.Choosing.{meanings_of}
 use Rattle.prop_workbench.specs.Sessions.{state_of, state_from}
 use Rattle.prop_workbench.proofs.ChoosingLemmas.{infos_may_be, few_elements, infos_count, chosen_state}
 use Rattle.prop_workbench.proofs.session.Session.choose_said.Goals as goal
@@ -13,7 +13,7 @@ choose_between-requires-clause-may g c =
     let sized = c.requires.sound.sized c.args.cell span_kind c.requires.cell in
     let mean = rw c.requires.kind at c.requires.mean in
     let infos = c.deref.ensures.value ∙ c.in-Ok.ensures.infos in
-    rw (infos, c.requires.kind) (infos_may_be s.words s.words (kind_at s.network.cells.kinds c.args.cell) (map value_of c.args.values.now) sized.1 (few_elements s.words (kind_at s.network.cells.kinds c.args.cell).kind c.domain_count.ensures.whole sized.0) mean)
+    rw (infos, c.requires.kind) (infos_may_be s.words s.words (kind_at s.network.cells.kinds c.args.cell) (map value_of c.args.values.now) sized.1 (few_elements s.words (kind_at s.network.cells.kinds c.args.cell).kind c.symbol_count-count.ensures.whole sized.0) mean)
 
 pub choose_between-requires-clause-fits : goal.choose_between-requires-clause-fits
 choose_between-requires-clause-fits g c =

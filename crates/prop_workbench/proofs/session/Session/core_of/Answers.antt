@@ -1,13 +1,13 @@
-use Rattle.std.proofs.Common.{◌∙◌, ap, Ok, Some}
-use Rattle.prop_lattice.specs.declared.refusal.Refusal.TheVariants.{Memory}
+use Rattle.std.proofs.Common.{◌∙◌, ap}
 use Rattle.prop_procedures.specs.Kept.{stored_of}
 use Rattle.prop_language.specs.Commands as commands
 use Rattle.prop_workbench.specs.Machine.{State}
 use Rattle.prop_workbench.specs.Questions.{outcome_of}
 use Rattle.prop_workbench.specs.Sessions.{state_of, shown_of, work_of}
 use Rattle.prop_workbench.proofs.AskLemmas.{free_core}
-use Rattle.prop_workbench.proofs.EarnedLemmas.{earns_core, earns_refused}
-use Rattle.prop_workbench.proofs.RunLemmas.{covered_end, covered_still, keeps_then, lacks_obeyed, run_obeyed}
+use Rattle.prop_workbench.proofs.AnsweredLemmas.{memory_answered}
+use Rattle.prop_workbench.proofs.EarnedLemmas.{earns_core}
+use Rattle.prop_workbench.proofs.RunLemmas.{covered_end, covered_still, keeps_then, run_obeyed}
 use Rattle.prop_workbench.proofs.session.Session.core_of.Goals as goal
 
 pub core_reply-requires-clause-means : goal.core_reply-requires-clause-means
@@ -22,46 +22,30 @@ core_reply-requires-clause-named g c = rw c.run_network.ensures.names c.requires
 pub core_reply-requires-clause-run : goal.core_reply-requires-clause-run
 core_reply-requires-clause-run g c = c.in-Ok.ensures.run
 
-pub returns-in-Ok-clause-keeps : goal.returns-in-Ok-clause-keeps
-returns-in-Ok-clause-keeps g c = keeps_then g.R.Rule.value_of c.args.self.now c.run_network.new.self c.core_reply.new.self c.run_network.ensures.keeps c.core_reply.ensures.keeps
-
-pub returns-in-Ok-clause-step : goal.returns-in-Ok-clause-step
-returns-in-Ok-clause-step g c =
+pub returns-in-Ok : goal.returns-in-Ok
+returns-in-Ok g c =
     let s = c.args.self.now in
     let t = c.run_network.new.self in
     let u = c.core_reply.new.self in
+    let name = c.args.name.now in
     let said = c.in-Ok.ensures.run in
+    let library = stored_of g.R.Rule.value_of s.network.library in
     let kept = c.run_network.ensures.keeps in
     let then = c.core_reply.ensures.keeps in
     let state = c.run_network.ensures.state in
     let outcome = outcome_of t.search.list c.in-Ok.end in
-    run_obeyed (stored_of g.R.Rule.value_of s.network.library) (shown_of s) (shown_of u) (commands.Command.Core c.args.name.now) outcome _ c.core_reply.result.1 (λ library v w answer steps r. r)
-    (free_core (stored_of g.R.Rule.value_of s.network.library) (state_of s) c.args.name.now c.args.cell c.requires.named) (c.core_reply.ensures.state ∙ state) (λ m covered. then.covers m (kept.covers m covered))
-    (covered_still (shown_of t) (shown_of u) outcome then.covers (covered_end (shown_of t) t.search.list c.in-Ok.end said.covered)) (rw (kept.library, state) at said.ends) (rw (kept.library, state) at c.core_reply.ensures.says)
-    (rw (ap (λ (v : State). v.limit) state) at c.core_reply.ensures.within)
-
-pub returns-in-Ok-clause-rests : goal.returns-in-Ok-clause-rests
-returns-in-Ok-clause-rests g c =
-    let s = c.args.self.now in
-    let t = c.run_network.new.self in
-    let u = c.core_reply.new.self in
-    let kept = c.run_network.ensures.keeps in
-    let state = c.run_network.ensures.state in
     record {
-      lean = tt;
-      earned = earns_core g.O.Order.picks (stored_of g.R.Rule.value_of s.network.library) (state_of s) (work_of s) (work_of t) (work_of u) c.args.name.now c.in-Ok.end c.in-Ok.steps c.core_reply.result.1 _ c.in-Ok.ensures.gone c.in-Ok.ensures.left
-          (rw (kept.library, state) at c.core_reply.ensures.tried) c.core_reply.ensures.untried (rw (kept.library, state) at c.core_reply.ensures.says);
+      keeps = keeps_then g.R.Rule.value_of s t u kept then;
+      step = run_obeyed library (shown_of s) (shown_of u) (commands.Command.Core name) outcome _ c.core_reply.result.1 (λ library v w answer steps r. r)
+          (free_core library (state_of s) name c.args.cell c.requires.named) (c.core_reply.ensures.state ∙ state) (λ m covered. then.covers m (kept.covers m covered))
+          (covered_still (shown_of t) (shown_of u) outcome then.covers (covered_end (shown_of t) t.search.list c.in-Ok.end said.covered)) (rw (kept.library, state) at said.ends) (rw (kept.library, state) at c.core_reply.ensures.says)
+          (rw (ap (λ (v : State). v.limit) state) at c.core_reply.ensures.within);
+      rests = record {
+        lean = tt;
+        earned = earns_core g.O.Order.picks library (state_of s) (work_of s) (work_of t) (work_of u) name c.in-Ok.end c.in-Ok.steps c.core_reply.result.1 _ c.in-Ok.ensures.gone c.in-Ok.ensures.left
+            (rw (kept.library, state) at c.core_reply.ensures.tried) c.core_reply.ensures.untried (rw (kept.library, state) at c.core_reply.ensures.says);
+      };
     }
 
-pub returns-in-Err-clause-step : goal.returns-in-Err-clause-step
-returns-in-Err-clause-step g c =
-    let s = c.args.self.now in
-    lacks_obeyed (stored_of g.R.Rule.value_of s.network.library) (shown_of s) (shown_of c.run_network.new.self) (commands.Command.Core c.args.name.now) 0 c.run_network.ensures.state c.run_network.ensures.keeps.covers
-
-pub returns-in-Err-clause-rests : goal.returns-in-Err-clause-rests
-returns-in-Err-clause-rests g c =
-    let s = c.args.self.now in
-    record { lean = tt; earned = earns_refused g.O.Order.picks (stored_of g.R.Rule.value_of s.network.library) (state_of s) (work_of s) (work_of c.run_network.new.self) (Ok (Some (commands.Command.Core c.args.name.now))) Memory 0 }
-
-pub returns-in-Err-clause-keeps : goal.returns-in-Err-clause-keeps
-returns-in-Err-clause-keeps g c = c.run_network.ensures.keeps
+pub returns-in-Err : goal.returns-in-Err
+returns-in-Err g c = memory_answered g.O.Order.picks g.R.Rule.value_of c.args.self.now c.run_network.new.self (commands.Command.Core c.args.name.now) c.run_network.ensures.keeps c.run_network.ensures.state

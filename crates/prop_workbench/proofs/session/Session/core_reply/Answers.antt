@@ -5,6 +5,7 @@ use Rattle.prop_amb.specs.declared.outcome.Outcome.TheVariants as ended
 use Rattle.prop_workbench.specs.Running.{MayEnd, Contradiction}
 use Rattle.prop_workbench.specs.Sessions.{state_of}
 use Rattle.prop_workbench.proofs.AskLemmas.{may_contradict, believed_known, why_so_far}
+use Rattle.prop_workbench.proofs.SoundLemmas.{unchanged}
 use Rattle.prop_workbench.proofs.session.Session.core_reply.Goals as goal
 
 pub reduced-requires-clause-rest : goal.reduced-requires-clause-rest
@@ -45,7 +46,7 @@ pub returns-in-Settled-clause-untried : goal.returns-in-Settled-clause-untried
 returns-in-Settled-clause-untried g c = λ other. absurd (other c.in-Settled.is)
 
 pub returns-in-Contradiction-clause-keeps : goal.returns-in-Contradiction-clause-keeps
-returns-in-Contradiction-clause-keeps g c = record { library = refl; sound = c.requires.sound; steps = refl; covers = λ m covered. covered }
+returns-in-Contradiction-clause-keeps g c = unchanged c.requires.sound
 
 pub returns-in-Contradiction-clause-says : goal.returns-in-Contradiction-clause-says
 returns-in-Contradiction-clause-says g c =
@@ -62,12 +63,12 @@ pub returns-in-Contradiction-clause-untried : goal.returns-in-Contradiction-clau
 returns-in-Contradiction-clause-untried g c = λ other. (refl, refl)
 
 pub returns-in-Unsettled-clause-keeps : goal.returns-in-Unsettled-clause-keeps
-returns-in-Unsettled-clause-keeps g c = record { library = refl; sound = c.requires.sound; steps = refl; covers = λ m covered. covered }
+returns-in-Unsettled-clause-keeps g c = unchanged c.requires.sound
 
 pub returns-in-Unsettled-clause-says : goal.returns-in-Unsettled-clause-says
 returns-in-Unsettled-clause-says g c =
     let s = c.args.self.now in
-    rw c.in-Unsettled.is (why_so_far (stored_of g.R.Rule.value_of s.network.library) (state_of s) s.search.list c.args.name.now _ c.args.steps (c.unsettled.ensures.says c.args.steps (c.requires.run.spent c.in-Unsettled.is)))
+    rw (c.requires.run.spent c.in-Unsettled.is, c.in-Unsettled.is) (why_so_far (stored_of g.R.Rule.value_of s.network.library) (state_of s) s.search.list c.args.name.now _ s.limit c.unsettled.ensures.says)
 
 pub returns-in-Unsettled-clause-within : goal.returns-in-Unsettled-clause-within
 returns-in-Unsettled-clause-within g c = c.requires.run.within

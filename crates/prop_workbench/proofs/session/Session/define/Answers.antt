@@ -4,7 +4,6 @@ use Rattle.prop_language.specs.Commands as commands
 use Rattle.prop_language.specs.Said.{words, step_of}
 use Rattle.prop_procedures.specs.Kept.{stored_of}
 use Rattle.prop_workbench.specs.Sessions.{state_of}
-use Rattle.prop_workbench.proofs.DefineLemmas.{locals_defined_or_not}
 use Rattle.prop_workbench.proofs.StepLemmas.{obeys_done}
 use Rattle.prop_workbench.proofs.session.Session.define.Goals as goal
 
@@ -16,8 +15,7 @@ returns-clause-keeps g c =
       sound = record {
         at_work = c.requires.sound.at_work;
         sized = c.requires.sound.sized;
-        locals = locals_defined_or_not s.words c.domain_count.ensures.whole (stored_of g.R.Rule.value_of s.network.library) s.definitions c.define.new.self c.args.name.now (words c.args.params.now) (map step_of c.args.steps.now) c.define.result
-            (rw c.library.ensures at c.define.ensures.fits) (rw c.library.ensures at c.define.ensures.ok) c.define.ensures.err_same c.requires.sound.locals;
+        locals = c.define.ensures.locals c.requires.sound.locals;
         named = c.requires.sound.named;
         defined = rw c.library.ensures at c.define.ensures.over;
       };

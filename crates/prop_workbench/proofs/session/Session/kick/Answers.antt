@@ -1,13 +1,12 @@
-use Rattle.std.proofs.Common.{◌≡◌, ◌∙◌, true, false, Some, Ok, refl, sym, ap}
+use Rattle.std.proofs.Common.{◌≡◌, ◌∙◌, true, false, refl, sym, ap}
 use Rattle.std.specs.Prelude.{is_some}
 use Rattle.prop_procedures.specs.Kept.{stored_of}
-use Rattle.prop_premises.specs.Origins.{premise_number, is_choice, with_belief_at}
+use Rattle.prop_premises.specs.Origins.{is_choice, with_belief_at}
 use Rattle.prop_amb.specs.Search.{Stand, users_of}
 use Rattle.prop_amb.specs.Moving.{restarted}
 use Rattle.prop_cells.specs.Data.{problem_of}
-use Rattle.prop_workbench.specs.Sessions.{state_of, state_from}
-use Rattle.prop_workbench.proofs.BeliefLemmas.{believed_or_not, found_free}
-use Rattle.prop_workbench.proofs.StandingLemmas.{with_belief_same, believing_at_work, believing_covers, same_at_work, same_covers}
+use Rattle.prop_workbench.proofs.BeliefLemmas.{found_free}
+use Rattle.prop_workbench.proofs.StandingLemmas.{believing_keeps, same_keeps, same_done}
 use Rattle.prop_workbench.proofs.session.Session.kick.Goals as goal
 
 -- ---- the premise was believed
@@ -16,67 +15,32 @@ pub returns-in-Ok-Some-clause-keeps : goal.returns-in-Ok-Some-clause-keeps
 returns-in-Ok-Some-clause-keeps g c =
     let s = c.args.self.now in
     let p = c.in_ok-premise.premise in
-    let library = stored_of g.R.Rule.value_of s.network.library in
     let new = c.kick.new.self in
     let was : users_of s.search p ≡ true = sym c.in-Ok-Some.ensures.was ∙ ap is_some c.in-Ok-Some.field-0-is in
     let made : new ≡ record (restarted s.search) { premises = with_belief_at s.search.premises p false; worldview = new.worldview } = c.in-Ok-Some.ensures.kicked was in
-    let changed : new.premises ≡ with_belief_at s.search.premises p false = ap (λ (t : Stand). t.premises) made in
-    let listed : new.listed ≡ s.search.listed = ap (λ (t : Stand). t.listed) made in
-    let sound = c.requires.sound in
-    record {
-      library = refl;
-      sound = record {
-        at_work = believing_at_work library s.search new p false s.network.cells s.agenda c.alert_shifted.new.agenda sound.at_work changed c.well_made.ensures (c.kick.ensures.search (problem_of library s.network.cells)) (rw c.worldview.ensures at c.alert_shifted.ensures.under_way) c.alert_shifted.ensures.room (rw c.worldview.ensures at c.alert_shifted.ensures.watched) c.alert_shifted.ensures.cells;
-        sized = sound.sized;
-        locals = sound.locals;
-        named = sound.named;
-        defined = sound.defined;
-      };
-      steps = refl;
-      covers = believing_covers s.search new p false changed listed;
-    }
+    believing_keeps g.R.Rule.value_of s new c.alert_shifted.new.agenda p false c.requires.sound (ap (λ (t : Stand). t.premises) made) (ap (λ (t : Stand). t.listed) made) c.well_made.ensures
+    (c.kick.ensures.search (problem_of (stored_of g.R.Rule.value_of s.network.library) s.network.cells)) (rw c.worldview.ensures at c.alert_shifted.ensures.under_way) c.alert_shifted.ensures.room
+    (rw c.worldview.ensures at c.alert_shifted.ensures.watched) c.alert_shifted.ensures.cells
 
 -- ---- it was not
 
 pub returns-in-Ok-None-clause-keeps : goal.returns-in-Ok-None-clause-keeps
 returns-in-Ok-None-clause-keeps g c =
     let s = c.args.self.now in
-    let library = stored_of g.R.Rule.value_of s.network.library in
-    let was : users_of s.search c.in_ok-premise.premise ≡ false = sym c.in-Ok-None.ensures.was ∙ ap is_some c.in-Ok-None.field-0-is in
-    let same : c.kick.new.self ≡ s.search = (c.kick.ensures.out was).1 in
-    let sound = c.requires.sound in
-    record {
-      library = refl;
-      sound = record { at_work = same_at_work library s.search c.kick.new.self s.network.cells s.agenda same sound.at_work; sized = sound.sized; locals = sound.locals; named = sound.named; defined = sound.defined };
-      steps = refl;
-      covers = same_covers s.search c.kick.new.self same;
-    }
+    let p = c.in_ok-premise.premise in
+    let was : users_of s.search p ≡ false = sym c.in-Ok-None.ensures.was ∙ ap is_some c.in-Ok-None.field-0-is in
+    same_keeps g.R.Rule.value_of s c.kick.new.self c.requires.sound (c.kick.ensures.out was).1
 
 pub returns-in-Ok-None-clause-step : goal.returns-in-Ok-None-clause-step
 returns-in-Ok-None-clause-step g c =
     let s = c.args.self.now in
     let p = c.in_ok-premise.premise in
-    let premises = s.search.premises in
-    let library = stored_of g.R.Rule.value_of s.network.library in
+    let name = c.args.name.now in
     let was : users_of s.search p ≡ false = sym c.in-Ok-None.ensures.was ∙ ap is_some c.in-Ok-None.field-0-is in
-    let same : c.kick.new.self ≡ s.search = (c.kick.ensures.out was).1 in
-    let changed : c.kick.new.self.premises ≡ with_belief_at premises p false = ap (λ (t : Stand). t.premises) same ∙ sym (with_belief_same premises p false (rw c.premises.ensures at c.in_ok-premise.ensures.user) was) in
-    let found : premise_number premises c.args.name.now ≡ Some p = rw c.premises.ensures at c.in_ok-premise.ensures.found in
-    let free : is_choice premises c.args.name.now ≡ false = found_free (is_choice premises c.args.name.now) _ p refl (rw c.premises.ensures at c.in_ok-premise.ensures.choice) in
-    believed_or_not library (state_of s) (state_from s.names s.words s.definitions c.kick.new.self.premises s.network.cells s.limit) false c.args.name.now (Ok tt)
-    (p, found, free, λ i. state_from s.names s.words s.definitions (changed i) s.network.cells s.limit) tt tt
+    let free = found_free (is_choice s.search.premises name) _ p refl (rw c.premises.ensures at c.in_ok-premise.ensures.choice) in
+    same_done g.R.Rule.value_of s c.kick.new.self false name p (c.kick.ensures.out was).1 (rw c.premises.ensures at c.in_ok-premise.ensures.found) free (rw c.premises.ensures at c.in_ok-premise.ensures.user) was
 
 -- ---- memory was refused
 
 pub returns-in-Err-clause-keeps : goal.returns-in-Err-clause-keeps
-returns-in-Err-clause-keeps g c =
-    let s = c.args.self.now in
-    let library = stored_of g.R.Rule.value_of s.network.library in
-    let same : c.kick.new.self ≡ s.search = c.in-Err.ensures.err in
-    let sound = c.requires.sound in
-    record {
-      library = refl;
-      sound = record { at_work = same_at_work library s.search c.kick.new.self s.network.cells s.agenda same sound.at_work; sized = sound.sized; locals = sound.locals; named = sound.named; defined = sound.defined };
-      steps = refl;
-      covers = same_covers s.search c.kick.new.self same;
-    }
+returns-in-Err-clause-keeps g c = same_keeps g.R.Rule.value_of c.args.self.now c.kick.new.self c.requires.sound c.in-Err.ensures.err

@@ -8,6 +8,7 @@ use Rattle.prop_cells.specs.Data.{problem_of}
 use Rattle.prop_workbench.specs.Sessions.{shown_of}
 use Rattle.prop_workbench.proofs.AskLemmas.{nogood_known}
 use Rattle.prop_workbench.proofs.RunLemmas.{nogoods_obeyed}
+use Rattle.prop_workbench.proofs.SoundLemmas.{unchanged}
 use Rattle.prop_workbench.proofs.session.Session.nogoods.Goals as goal
 
 pub nogoods_reply-requires : goal.nogoods_reply-requires
@@ -23,6 +24,8 @@ pub returns : goal.returns
 returns g c =
     let s = c.args.self.now in
     record {
+      keeps = unchanged c.requires.sound;
       step = nogoods_obeyed (stored_of g.R.Rule.value_of s.network.library) (shown_of s) _
           (rw c.nogoods.ensures at c.nogoods_reply.ensures.in_order) c.requires.sound.at_work.search.nogoods c.requires.sound.at_work.well_made.minimal (rw (c.nogoods.ensures, c.premises.ensures) at c.nogoods_reply.ensures.says);
+      rests = record { lean = tt; earned = tt };
     }

@@ -1,17 +1,15 @@
 use Rattle.std.proofs.Common.{◌≡◌, ◌∙◌, ◌<◌, ◌+◌, ap, length, refl, inr, arith, subst, codes, []}
-use Rattle.std.specs.List.Sorted.{IsStrictlyIncreasing}
 use Rattle.prop_premises.specs.Sets.{Members, set_of}
 use Rattle.prop_procedures.specs.Kept.{stored_of}
 use Rattle.prop_cells.specs.Data.{Data, problem_of}
 use Rattle.prop_scheduler.specs.Turns.{IsSettled}
 use Rattle.prop_explain.specs.Irreducible.{IfLeast, IfNotReduced}
-use Rattle.prop_texts.specs.Texts.{equation, because}
-use Rattle.prop_vocabulary.proofs.CellLookups.{of_named}
-use Rattle.prop_engine.specs.Answers.{answer_of, Says}
-use Rattle.prop_workbench.specs.Machine.{State, text_at}
+use Rattle.prop_engine.specs.Answers.{answer_of}
+use Rattle.prop_workbench.specs.inner.Carrying.{SaysBecause}
+use Rattle.prop_workbench.specs.Machine.{State}
 use Rattle.prop_workbench.specs.Sessions.{state_from, state_of}
-use Rattle.prop_workbench.proofs.AskLemmas.{believes_same, same_problem}
-use Rattle.prop_workbench.proofs.CoreLemmas.{core_known, may_core, settled_core, too_few, used_up}
+use Rattle.prop_workbench.proofs.AskLemmas.{believes_same, cell_there}
+use Rattle.prop_workbench.proofs.CoreLemmas.{core_known, rested_keeps, may_core, settled_core, too_few, used_up}
 use Rattle.prop_workbench.proofs.session.Session.reduced.Goals as goal
 
 pub reduce-ended-requires-clause-kept : goal.reduce-ended-requires-clause-kept
@@ -30,17 +28,13 @@ pub reduce-ended-requires-clause-cells : goal.reduce-ended-requires-clause-cells
 reduce-ended-requires-clause-cells g c = c.requires.sound.at_work.cells
 
 pub reduce-ended-requires-clause-cell : goal.reduce-ended-requires-clause-cell
-reduce-ended-requires-clause-cell g c =
-    let s = c.args.self.now in
-    of_named (λ k. k < length s.network.cells.kinds) s.names c.args.name.now c.args.cell c.requires.sound.named c.requires.named
+reduce-ended-requires-clause-cell g c = cell_there c.args.self.now c.args.name.now c.args.cell c.requires.sound c.requires.named
 
 pub reduce-ended-requires-clause-settled : goal.reduce-ended-requires-clause-settled
 reduce-ended-requires-clause-settled g c = rw c.worldview.ensures c.requires.rest
 
 pub core_text-requires-clause-cell : goal.core_text-requires-clause-cell
-core_text-requires-clause-cell g c =
-    let s = c.args.self.now in
-    rw c.reduce-ended.ensures.rest (of_named (λ k. k < length s.network.cells.kinds) s.names c.args.name.now c.args.cell c.requires.sound.named c.requires.named)
+core_text-requires-clause-cell g c = rw c.reduce-ended.ensures.rest (cell_there c.args.self.now c.args.name.now c.args.cell c.requires.sound c.requires.named)
 
 pub core_text-requires-clause-known : goal.core_text-requires-clause-known
 core_text-requires-clause-known g c =
@@ -52,29 +46,7 @@ returns-in-Ok-clause-keeps g c =
     let s = c.args.self.now in
     let e = c.reduce-ended.ensures in
     let t = c.reduce-ended.new in
-    let library = stored_of g.R.Rule.value_of s.network.library in
-    let library' = stored_of g.R.Rule.value_of t.network.library in
-    let sound = c.requires.sound in
-    record {
-      library = e.same;
-      sound = record {
-        at_work = record {
-          under_way = e.under_way (set_of s.search.worldview);
-          well_made = sound.at_work.well_made;
-          search = rw (same_problem library library' s.network.cells t.network.cells (λ i. stored_of g.R.Rule.value_of (e.same i)) e.rest) sound.at_work.search;
-          known = rw e.rest sound.at_work.known;
-          roomy = rw (e.room, e.rest) sound.at_work.roomy;
-          watched = e.watched (set_of s.search.worldview);
-          cells = rw (e.cells, e.rest) sound.at_work.cells;
-        };
-        sized = rw e.rest sound.sized;
-        locals = sound.locals;
-        named = rw e.rest sound.named;
-        defined = rw e.same sound.defined;
-      };
-      steps = refl;
-      covers = λ m covered. covered;
-    }
+    rested_keeps g.R.Rule.value_of s (record s { network = t.network; agenda = t.agenda; order = t.order }) c.requires.sound e.same e.rest e.under_way e.watched e.room e.cells
 
 pub returns-in-Ok-clause-state : goal.returns-in-Ok-clause-state
 returns-in-Ok-clause-state g c =
@@ -96,8 +68,8 @@ returns-in-Ok-clause-says g c =
     (settled_core library s.names s.words s.definitions s.search.premises s.network.cells s.limit s.search.list (set_of s.search.worldview) c.args.cell core believed rest (rw c.worldview.ensures at c.in-Ok.ensures.explains))
     c.in-Ok.ensures.least (used_up core c.args.steps c.in-Ok.tries s.limit c.requires.within c.in-Ok.ensures.spent)
     (too_few library (state_of s) (set_of c.worldview.result.now) c.args.cell core c.args.steps c.requires.sound.at_work.known c.requires.within c.requires.few c.in-Ok.ensures.earned)
-    (subst (λ (t : State). IfLeast core (λ v ps. IsStrictlyIncreasing ps × Says answer (equation name (text_at t c.args.cell v) (because t.premises [] ps)))) state c.core_text.ensures.least)
-    (subst (λ (t : State). IfNotReduced core (λ v ps. IsStrictlyIncreasing ps × Says answer (equation name (text_at t c.args.cell v) (because t.premises (codes " not reduced") ps)))) state c.core_text.ensures.not_reduced)
+    (subst (λ (t : State). IfLeast core (λ v ps. SaysBecause t c.args.cell name [] v ps answer)) state c.core_text.ensures.least)
+    (subst (λ (t : State). IfNotReduced core (λ v ps. SaysBecause t c.args.cell name (codes " not reduced") v ps answer)) state c.core_text.ensures.not_reduced)
 
 pub returns-in-Ok-clause-within : goal.returns-in-Ok-clause-within
 returns-in-Ok-clause-within g c = omega (arith, c.in-Ok.ensures.steps, c.requires.within)
@@ -115,29 +87,7 @@ returns-in-Err-clause-keeps g c =
     let s = c.args.self.now in
     let e = c.reduce-ended.ensures in
     let t = c.reduce-ended.new in
-    let library = stored_of g.R.Rule.value_of s.network.library in
-    let library' = stored_of g.R.Rule.value_of t.network.library in
-    let sound = c.requires.sound in
-    record {
-      library = e.same;
-      sound = record {
-        at_work = record {
-          under_way = e.under_way (set_of s.search.worldview);
-          well_made = sound.at_work.well_made;
-          search = rw (same_problem library library' s.network.cells t.network.cells (λ i. stored_of g.R.Rule.value_of (e.same i)) e.rest) sound.at_work.search;
-          known = rw e.rest sound.at_work.known;
-          roomy = rw (e.room, e.rest) sound.at_work.roomy;
-          watched = e.watched (set_of s.search.worldview);
-          cells = rw (e.cells, e.rest) sound.at_work.cells;
-        };
-        sized = rw e.rest sound.sized;
-        locals = sound.locals;
-        named = rw e.rest sound.named;
-        defined = rw e.same sound.defined;
-      };
-      steps = refl;
-      covers = λ m covered. covered;
-    }
+    rested_keeps g.R.Rule.value_of s (record s { network = t.network; agenda = t.agenda; order = t.order }) c.requires.sound e.same e.rest e.under_way e.watched e.room e.cells
 
 pub returns-in-Err-clause-state : goal.returns-in-Err-clause-state
 returns-in-Err-clause-state g c =

@@ -4,7 +4,8 @@ use Rattle.prop_language.specs.Commands as commands
 use Rattle.prop_language.specs.Said.{pairs_of}
 use Rattle.prop_procedures.specs.Kept.{stored_of}
 use Rattle.prop_vocabulary.specs.Vocabulary.{Vocabulary, with_relation}
-use Rattle.prop_workbench.specs.Sessions.{state_of, IsSized, AreLocalsOf}
+use Rattle.prop_workbench.specs.Sessions.{state_of}
+use Rattle.prop_compound.specs.Kinds.{IsSized, AreLocalsOf}
 use Rattle.prop_workbench.proofs.SoundLemmas.{made_or_not}
 use Rattle.prop_workbench.proofs.StepLemmas.{obeys_done}
 use Rattle.prop_workbench.proofs.WordLemmas.{sized_same, locals_same}

@@ -1,6 +1,6 @@
 use Rattle.prop_premises.specs.Sets.{set_of}
 use Rattle.prop_procedures.specs.Kept.{stored_of}
-use Rattle.prop_workbench.specs.Questions.{command_of}
+use Rattle.prop_workbench.specs.inner.Questions.{command_of}
 use Rattle.prop_workbench.specs.Running.{MayEnd, Contradiction}
 use Rattle.prop_workbench.specs.Sessions.{state_of}
 use Rattle.prop_workbench.proofs.AskLemmas.{may_contradict, believed_known}
@@ -40,7 +40,7 @@ returns-in-Contradiction-clause-lean g c =
     lean_contradicted (set_of s.search.worldview) s.network.cells (state_of s) c.args.question _ (contradiction_said (state_of s) c.in-Contradiction.premises _ (rw c.premises.ensures at c.contradiction_reply.ensures.says))
 
 pub returns-in-Unsettled-clause-says : goal.returns-in-Unsettled-clause-says
-returns-in-Unsettled-clause-says g c = rw c.in-Unsettled.is (c.unsettled.ensures.says c.args.steps (c.requires.run.spent c.in-Unsettled.is))
+returns-in-Unsettled-clause-says g c = rw (c.requires.run.spent c.in-Unsettled.is, c.in-Unsettled.is) c.unsettled.ensures.says
 
 pub returns-in-Unsettled-clause-lean : goal.returns-in-Unsettled-clause-lean
 returns-in-Unsettled-clause-lean g c = c.unsettled.ensures.lean

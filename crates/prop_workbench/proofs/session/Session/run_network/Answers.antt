@@ -1,6 +1,7 @@
 use Rattle.std.proofs.Common.{refl, sym}
 use Rattle.prop_procedures.specs.Kept.{stored_of}
-use Rattle.prop_workbench.proofs.AskLemmas.{same_problem, cover_kept, has_run}
+use Rattle.prop_explain.proofs.ReducingLaws.{same_problem}
+use Rattle.prop_workbench.proofs.AskLemmas.{cover_kept, has_run}
 use Rattle.prop_workbench.proofs.session.Session.run_network.Goals as goal
 
 pub returns-clause-keeps : goal.returns-clause-keeps

@@ -1,36 +1,24 @@
-use Rattle.std.proofs.Common.{◌≡◌, ◌<◌, [], ap, codes, length, refl, inl, subst, Some}
-use Rattle.prop_premises.specs.Sets.{Members, set_of}
+use Rattle.std.proofs.Common.{◌≡◌, [], ap, codes, refl, inl, Some}
+use Rattle.prop_premises.specs.Sets.{set_of}
 use Rattle.prop_procedures.specs.Kept.{stored_of}
 use Rattle.prop_cells.specs.Data.{beliefs}
 use Rattle.prop_language.specs.Commands as commands
 use Rattle.prop_vocabulary.specs.Cells.{cell_named}
-use Rattle.prop_vocabulary.proofs.CellLookups.{of_named}
 use Rattle.prop_texts.specs.Texts.{worldview_text}
-use Rattle.prop_scheduler.specs.Turns.{IsSettled}
-use Rattle.prop_engine.specs.Answers.{answer_of}
-use Rattle.prop_workbench.specs.Running.{Settled, Explained}
+use Rattle.prop_workbench.specs.Running.{Settled}
 use Rattle.prop_workbench.specs.Sessions.{state_of}
-use Rattle.prop_workbench.proofs.AskLemmas.{may_say, may_say_value, may_explain, settled_value, believes_same}
+use Rattle.prop_workbench.proofs.AskLemmas.{may_say, may_say_value, may_explain, cell_there, settled_in, explained_in, believes_same}
 use Rattle.prop_workbench.proofs.ReasonLemmas.{lean_answer}
 use Rattle.prop_workbench.proofs.session.Session.settled.Goals as goal
 
 pub belief-requires-clause-cell : goal.belief-requires-clause-cell
-belief-requires-clause-cell g c =
-    let s = c.args.self.now in
-    let named : cell_named s.names c.in-Ask.name.now ≡ Some c.in-Ask.cell = rw c.in-Ask.is at c.requires.named in
-    of_named (λ k. k < length s.network.cells.kinds) s.names c.in-Ask.name.now c.in-Ask.cell c.requires.sound.named named
+belief-requires-clause-cell g c = cell_there c.args.self.now c.in-Ask.name.now c.in-Ask.cell c.requires.sound (rw c.in-Ask.is at c.requires.named)
 
 pub value_of-requires : goal.value_of-requires
-value_of-requires g c =
-    let s = c.args.self.now in
-    let named : cell_named s.names c.in-Ask.name.now ≡ Some c.in-Ask.cell = rw c.in-Ask.is at c.requires.named in
-    of_named (λ k. k < length s.network.cells.kinds) s.names c.in-Ask.name.now c.in-Ask.cell c.requires.sound.named named
+value_of-requires g c = cell_there c.args.self.now c.in-Ask.name.now c.in-Ask.cell c.requires.sound (rw c.in-Ask.is at c.requires.named)
 
 pub explained-requires-clause-cell : goal.explained-requires-clause-cell
-explained-requires-clause-cell g c =
-    let s = c.args.self.now in
-    let named : cell_named s.names c.in-Why.name.now ≡ Some c.in-Why.cell = rw c.in-Why.is at c.requires.named in
-    of_named (λ k. k < length s.network.cells.kinds) s.names c.in-Why.name.now c.in-Why.cell c.requires.sound.named named
+explained-requires-clause-cell g c = cell_there c.args.self.now c.in-Why.name.now c.in-Why.cell c.requires.sound (rw c.in-Why.is at c.requires.named)
 
 pub belief-requires-clause-sound : goal.belief-requires-clause-sound
 belief-requires-clause-sound g c = c.requires.sound
@@ -55,27 +43,24 @@ returns-in-Worldview-clause-says g c =
 pub returns-in-Ask-clause-says : goal.returns-in-Ask-clause-says
 returns-in-Ask-clause-says g c =
     let s = c.args.self.now in
-    let library = stored_of g.R.Rule.value_of s.network.library in
-    let named : cell_named s.names c.in-Ask.name.now ≡ Some c.in-Ask.cell = rw c.in-Ask.is at c.requires.named in
-    let same = believes_same s.search c.requires.sound.at_work.well_made in
-    let rest = subst (λ (b : Members). IsSettled library b s.network.cells) same c.requires.rest in
-    let v = subst (λ (b : Members). c.belief.result ≡ beliefs b s.network.cells.contents c.in-Ask.cell) same c.belief.ensures in
-    let value = settled_value library s.names s.words s.definitions s.search.premises s.network.cells s.limit s.search.list c.in-Ask.cell c.belief.result rest v in
-    λ steps. rw c.in-Ask.is (may_say_value library (state_of s) (commands.Command.Ask c.in-Ask.name.now) (Settled s.search.list) c.in-Ask.name.now c.in-Ask.cell c.belief.result [] _ steps named value (λ text r. r) c.value_of.ensures)
+    let value = g.R.Rule.value_of in
+    let cell = c.in-Ask.cell in
+    let name = c.in-Ask.name.now in
+    let v = beliefs (set_of s.search.worldview) s.network.cells.contents cell in
+    let named : cell_named s.names name ≡ Some cell = rw c.in-Ask.is at c.requires.named in
+    λ steps. rw c.in-Ask.is (may_say_value (stored_of value s.network.library) (state_of s) (commands.Command.Ask name) (Settled s.search.list) name cell v [] _ steps named
+    (settled_in value s cell c.requires.sound c.requires.rest) (λ text r. r) (rw c.belief.ensures at c.value_of.ensures))
 
 pub returns-in-Why-clause-says : goal.returns-in-Why-clause-says
 returns-in-Why-clause-says g c =
     let s = c.args.self.now in
-    let library = stored_of g.R.Rule.value_of s.network.library in
+    let value = g.R.Rule.value_of in
     let cell = c.in-Why.cell in
     let name = c.in-Why.name.now in
-    let named : cell_named s.names name ≡ Some cell = rw c.in-Why.is at c.requires.named in
-    let same = believes_same s.search c.requires.sound.at_work.well_made in
-    let rest = subst (λ (b : Members). IsSettled library b s.network.cells) same c.requires.rest in
     let v = beliefs (set_of s.search.worldview) s.network.cells.contents cell in
-    let value = settled_value library s.names s.words s.definitions s.search.premises s.network.cells s.limit s.search.list cell v rest (ap (λ (b : Members). beliefs b s.network.cells.contents cell) same) in
-    let explained = subst (λ (b : Members). Explained library (state_of s) b cell v name [] (answer_of c.explained.result)) same c.explained.ensures.explained in
-    λ steps. rw c.in-Why.is (may_explain library (state_of s) (commands.Command.Why name) (Settled s.search.list) name cell v [] _ steps named value (λ text r. r) explained)
+    let named : cell_named s.names name ≡ Some cell = rw c.in-Why.is at c.requires.named in
+    λ steps. rw c.in-Why.is (may_explain (stored_of value s.network.library) (state_of s) (commands.Command.Why name) (Settled s.search.list) name cell v [] _ steps named
+    (settled_in value s cell c.requires.sound c.requires.rest) (λ text r. r) (explained_in value s cell v name [] _ c.requires.sound c.explained.ensures.explained))
 
 pub returns-in-Settle-clause-lean : goal.returns-in-Settle-clause-lean
 returns-in-Settle-clause-lean g c = rw c.in-Settle.is tt
@@ -88,6 +73,5 @@ returns-in-Ask-clause-lean g c = rw c.in-Ask.is tt
 
 pub returns-in-Why-clause-lean : goal.returns-in-Why-clause-lean
 returns-in-Why-clause-lean g c =
-    let s = c.args.self.now in
-    let named : cell_named s.names c.in-Why.name.now ≡ Some c.in-Why.cell = rw c.in-Why.is at c.requires.named in
+    let named : cell_named c.args.self.now.names c.in-Why.name.now ≡ Some c.in-Why.cell = rw c.in-Why.is at c.requires.named in
     rw c.in-Why.is (lean_answer _ _ _ _ _ (λ text e. inl (c.in-Why.cell, named, inl (c.explained.ensures.lean text e))))

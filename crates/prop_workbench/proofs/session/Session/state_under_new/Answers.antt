@@ -3,22 +3,13 @@ use Rattle.prop_procedures.specs.Kept.{stored_of}
 use Rattle.prop_cells.specs.declared.instance.Statement.{Statement}
 use Rattle.prop_cells.specs.Data.{problem_of}
 use Rattle.prop_amb.specs.Moving.{interned}
-use Rattle.prop_workbench.proofs.StandingLemmas.{named_at_work, named_covers, new_number, stated_at_work, stated_kinds, same_covers}
+use Rattle.prop_workbench.proofs.StandingLemmas.{named_at_work, named_covers, new_number, stated_at_work, stated_kinds, back_keeps, same_keeps}
 use Rattle.prop_workbench.proofs.session.Session.state_under_new.Goals as goal
 
 -- ---- the name is refused
 
 pub returns-in-Err-clause-keeps : goal.returns-in-Err-clause-keeps
-returns-in-Err-clause-keeps g c =
-    let s = c.args.self.now in
-    let sound = c.requires.sound in
-    let same : c.intern.new.self ≡ s.search = c.in-Err.ensures.err in
-    record {
-      library = refl;
-      sound = record { at_work = rw same sound.at_work; sized = sound.sized; locals = sound.locals; named = sound.named; defined = sound.defined };
-      steps = refl;
-      covers = same_covers s.search c.intern.new.self same;
-    }
+returns-in-Err-clause-keeps g c = same_keeps g.R.Rule.value_of c.args.self.now c.intern.new.self c.requires.sound c.in-Err.ensures.err
 
 -- ---- the statement is made
 
@@ -66,13 +57,5 @@ returns-in-Ok-state-clause-keeps g c =
 pub returns-in-Err-state-clause-keeps : goal.returns-in-Err-state-clause-keeps
 returns-in-Err-state-clause-keeps g c =
     let s = c.args.self.now in
-    let sound = c.requires.sound in
-    let same : c.take_back.new.self ≡ s.search = c.take_back.ensures.undoes s.search c.args.name.now sound.at_work.well_made c.requires.new c.in-Ok.ensures.ok in
-    let cells = c.in-Err-state.ensures.err_same in
-    let line = c.in-Err-state.ensures.err_line in
-    record {
-      library = c.state.ensures.same;
-      sound = record { at_work = rw (same, c.state.ensures.same, cells, line) sound.at_work; sized = rw cells sound.sized; locals = sound.locals; named = rw cells sound.named; defined = rw c.state.ensures.same sound.defined };
-      steps = refl;
-      covers = same_covers s.search c.take_back.new.self same;
-    }
+    back_keeps g.R.Rule.value_of s (record s { network = c.state.new.network; agenda = c.state.new.agenda }) c.take_back.new.self c.requires.sound
+    (c.take_back.ensures.undoes s.search c.args.name.now c.requires.sound.at_work.well_made c.requires.new c.in-Ok.ensures.ok) c.state.ensures.same c.in-Err-state.ensures.err_same c.in-Err-state.ensures.err_line

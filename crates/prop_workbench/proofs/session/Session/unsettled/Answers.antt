@@ -1,34 +1,23 @@
-use Rattle.std.proofs.Common.{◌≡◌, ◌<◌, ap, codes, length, inl, inr, subst, Some}
-use Rattle.prop_premises.specs.Sets.{Members, set_of}
+use Rattle.std.proofs.Common.{◌≡◌, codes, refl, inl, inr, Some}
+use Rattle.prop_premises.specs.Sets.{set_of}
 use Rattle.prop_procedures.specs.Kept.{stored_of}
 use Rattle.prop_cells.specs.Data.{beliefs}
 use Rattle.prop_language.specs.Commands as commands
 use Rattle.prop_vocabulary.specs.Cells.{cell_named}
-use Rattle.prop_vocabulary.proofs.CellLookups.{of_named}
-use Rattle.prop_engine.specs.Answers.{answer_of}
-use Rattle.prop_workbench.specs.Running.{Unsettled, Explained}
+use Rattle.prop_workbench.specs.Running.{Unsettled}
 use Rattle.prop_workbench.specs.Sessions.{state_of}
-use Rattle.prop_workbench.proofs.AskLemmas.{may_say_unsettled, may_say_value, may_explain, unsettled_value, believes_same}
+use Rattle.prop_workbench.proofs.AskLemmas.{may_say_unsettled, may_say_value, may_explain, cell_there, unsettled_in, explained_in}
 use Rattle.prop_workbench.proofs.ReasonLemmas.{lean_answer, lean_bare}
 use Rattle.prop_workbench.proofs.session.Session.unsettled.Goals as goal
 
 pub belief-requires-clause-cell : goal.belief-requires-clause-cell
-belief-requires-clause-cell g c =
-    let s = c.args.self.now in
-    let named : cell_named s.names c.in-Ask.name.now ≡ Some c.in-Ask.cell = rw c.in-Ask.is at c.requires.named in
-    of_named (λ k. k < length s.network.cells.kinds) s.names c.in-Ask.name.now c.in-Ask.cell c.requires.sound.named named
+belief-requires-clause-cell g c = cell_there c.args.self.now c.in-Ask.name.now c.in-Ask.cell c.requires.sound (rw c.in-Ask.is at c.requires.named)
 
 pub value_of-requires : goal.value_of-requires
-value_of-requires g c =
-    let s = c.args.self.now in
-    let named : cell_named s.names c.in-Ask.name.now ≡ Some c.in-Ask.cell = rw c.in-Ask.is at c.requires.named in
-    of_named (λ k. k < length s.network.cells.kinds) s.names c.in-Ask.name.now c.in-Ask.cell c.requires.sound.named named
+value_of-requires g c = cell_there c.args.self.now c.in-Ask.name.now c.in-Ask.cell c.requires.sound (rw c.in-Ask.is at c.requires.named)
 
 pub explained-requires-clause-cell : goal.explained-requires-clause-cell
-explained-requires-clause-cell g c =
-    let s = c.args.self.now in
-    let named : cell_named s.names c.in-Why.name.now ≡ Some c.in-Why.cell = rw c.in-Why.is at c.requires.named in
-    of_named (λ k. k < length s.network.cells.kinds) s.names c.in-Why.name.now c.in-Why.cell c.requires.sound.named named
+explained-requires-clause-cell g c = cell_there c.args.self.now c.in-Why.name.now c.in-Why.cell c.requires.sound (rw c.in-Why.is at c.requires.named)
 
 pub belief-requires-clause-sound : goal.belief-requires-clause-sound
 belief-requires-clause-sound g c = c.requires.sound
@@ -39,33 +28,29 @@ explained-requires-clause-sound g c = c.requires.sound
 pub returns-in-Settle-clause-says : goal.returns-in-Settle-clause-says
 returns-in-Settle-clause-says g c =
     let s = c.args.self.now in
-    λ steps all. may_say_unsettled (stored_of g.R.Rule.value_of s.network.library) (state_of s) s.search.list c.args.question _ steps c.in-Settle.is all c.text_reply.ensures
+    may_say_unsettled (stored_of g.R.Rule.value_of s.network.library) (state_of s) s.search.list c.args.question _ s.limit c.in-Settle.is refl c.text_reply.ensures
 
 pub returns-in-Ask-clause-says : goal.returns-in-Ask-clause-says
 returns-in-Ask-clause-says g c =
     let s = c.args.self.now in
-    let library = stored_of g.R.Rule.value_of s.network.library in
+    let value = g.R.Rule.value_of in
     let cell = c.in-Ask.cell in
     let name = c.in-Ask.name.now in
+    let v = beliefs (set_of s.search.worldview) s.network.cells.contents cell in
     let named : cell_named s.names name ≡ Some cell = rw c.in-Ask.is at c.requires.named in
-    let same = believes_same s.search c.requires.sound.at_work.well_made in
-    let v = subst (λ (b : Members). c.belief.result ≡ beliefs b s.network.cells.contents cell) same c.belief.ensures in
-    let value = unsettled_value library s.names s.words s.definitions s.search.premises s.network.cells s.limit s.search.list cell name c.belief.result named c.requires.sound.named c.requires.sound.at_work.under_way.kept (rw c.data.ensures at c.well_made.ensures) v in
-    λ steps all. rw c.in-Ask.is (may_say_value library (state_of s) (commands.Command.Ask name) (Unsettled s.search.list) name cell c.belief.result (codes " unsettled") _ steps named value (λ text r. (r, all)) c.value_of.ensures)
+    rw c.in-Ask.is (may_say_value (stored_of value s.network.library) (state_of s) (commands.Command.Ask name) (Unsettled s.search.list) name cell v (codes " unsettled") _ s.limit named
+    (unsettled_in value s name cell c.requires.sound (rw c.data.ensures at c.well_made.ensures) named) (λ text r. (r, refl)) (rw c.belief.ensures at c.value_of.ensures))
 
 pub returns-in-Why-clause-says : goal.returns-in-Why-clause-says
 returns-in-Why-clause-says g c =
     let s = c.args.self.now in
-    let library = stored_of g.R.Rule.value_of s.network.library in
+    let value = g.R.Rule.value_of in
     let cell = c.in-Why.cell in
     let name = c.in-Why.name.now in
-    let named : cell_named s.names name ≡ Some cell = rw c.in-Why.is at c.requires.named in
-    let same = believes_same s.search c.requires.sound.at_work.well_made in
     let v = beliefs (set_of s.search.worldview) s.network.cells.contents cell in
-    let value = unsettled_value library s.names s.words s.definitions s.search.premises s.network.cells s.limit s.search.list cell name v named c.requires.sound.named c.requires.sound.at_work.under_way.kept (rw c.data.ensures at c.well_made.ensures)
-    (ap (λ (b : Members). beliefs b s.network.cells.contents cell) same) in
-    let explained = subst (λ (b : Members). Explained library (state_of s) b cell v name (codes " unsettled") (answer_of c.explained.result)) same c.explained.ensures.explained in
-    λ steps all. rw c.in-Why.is (may_explain library (state_of s) (commands.Command.Why name) (Unsettled s.search.list) name cell v (codes " unsettled") _ steps named value (λ text r. (r, all)) explained)
+    let named : cell_named s.names name ≡ Some cell = rw c.in-Why.is at c.requires.named in
+    rw c.in-Why.is (may_explain (stored_of value s.network.library) (state_of s) (commands.Command.Why name) (Unsettled s.search.list) name cell v (codes " unsettled") _ s.limit named
+    (unsettled_in value s name cell c.requires.sound (rw c.data.ensures at c.well_made.ensures) named) (λ text r. (r, refl)) (explained_in value s cell v name (codes " unsettled") _ c.requires.sound c.explained.ensures.explained))
 
 pub returns-in-Settle-clause-lean : goal.returns-in-Settle-clause-lean
 returns-in-Settle-clause-lean g c = lean_bare (set_of c.args.self.now.search.worldview) c.args.self.now.network.cells (state_of c.args.self.now) c.args.question _ c.in-Settle.is
@@ -75,6 +60,5 @@ returns-in-Ask-clause-lean g c = rw c.in-Ask.is tt
 
 pub returns-in-Why-clause-lean : goal.returns-in-Why-clause-lean
 returns-in-Why-clause-lean g c =
-    let s = c.args.self.now in
-    let named : cell_named s.names c.in-Why.name.now ≡ Some c.in-Why.cell = rw c.in-Why.is at c.requires.named in
+    let named : cell_named c.args.self.now.names c.in-Why.name.now ≡ Some c.in-Why.cell = rw c.in-Why.is at c.requires.named in
     rw c.in-Why.is (lean_answer _ _ _ _ _ (λ text e. inl (c.in-Why.cell, named, inr (c.explained.ensures.lean text e))))

@@ -7,10 +7,11 @@ use Rattle.prop_amb.specs.Search.{IsSearch}
 use Rattle.prop_language.specs.Said.{by_of}
 use Rattle.prop_scheduler.specs.Making.{with_flat}
 use Rattle.prop_workbench.specs.Refusing.{given_by}
-use Rattle.prop_workbench.specs.Sessions.{state_of, state_from, AreKnown, IsSized}
+use Rattle.prop_workbench.specs.Sessions.{state_of, state_from, AreKnown}
+use Rattle.prop_compound.specs.Kinds.{IsSized}
 use Rattle.prop_workbench.proofs.AttachLemmas.{may_make, sized_made, named_made, state_made}
 use Rattle.prop_workbench.proofs.AdditionLemmas.{search_added}
-use Rattle.prop_workbench.proofs.SoundLemmas.{made_or_not}
+use Rattle.prop_workbench.proofs.SoundLemmas.{made_or_not, unchanged}
 use Rattle.prop_workbench.proofs.RefusedLemmas.{unexpanded, no_room, with_room}
 use Rattle.prop_workbench.proofs.session.Session.use_on.Goals as goal
 
@@ -88,7 +89,7 @@ pub expanded-requires-clause-cells : goal.expanded-requires-clause-cells
 expanded-requires-clause-cells g c = c.requires.cells
 
 pub returns-in-Err-clause-keeps : goal.returns-in-Err-clause-keeps
-returns-in-Err-clause-keeps g c = record { library = refl; sound = c.requires.sound; steps = refl; covers = λ m covered. covered }
+returns-in-Err-clause-keeps g c = unchanged c.requires.sound
 
 pub returns-in-Err-clause-err : goal.returns-in-Err-clause-err
 returns-in-Err-clause-err g c =

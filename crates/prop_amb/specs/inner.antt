@@ -1,0 +1,3 @@
+pub mod Joined
+pub mod Resolving
+pub mod Settling

@@ -1,0 +1,10 @@
+pub mod Combined
+pub mod CombinedLaws
+pub mod ArgumentLaws
+pub mod NumberLaws
+pub mod SingleLaws
+pub mod LogicLaws
+pub mod ComparingLaws
+pub mod LinkingLaws
+pub mod KitLaws
+pub mod NarrowestLaws

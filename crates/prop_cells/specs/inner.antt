@@ -1,0 +1,4 @@
+pub mod Data
+pub mod Rooms
+pub mod Back
+pub mod Sides

@@ -1,0 +1,5 @@
+pub mod Expansion
+pub mod Defining
+pub mod Shortcuts
+pub mod Kept
+pub mod Flattened

@@ -1,0 +1,10 @@
+pub mod ClipLaws
+pub mod NarrowestLaws
+pub mod Relations
+pub mod QuotientLaws
+pub mod RootLaws
+pub mod SumLaws
+pub mod ProductLaws
+pub mod SquareLaws
+pub mod DivisionLaws
+pub mod ComparisonLaws

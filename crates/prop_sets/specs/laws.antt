@@ -1,0 +1,5 @@
+pub mod ChosenLaws
+pub mod ImageLaws
+pub mod NarrowestLaws
+pub mod OtherLaws
+pub mod TruthLaws

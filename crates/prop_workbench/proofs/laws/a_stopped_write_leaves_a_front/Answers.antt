@@ -1,6 +1,0 @@
-use Rattle.prop_workbench.specs.MachineLaws.{workbench_is_total}
-use Rattle.prop_engine.proofs.Fronts.{write_front}
-use Rattle.prop_workbench.proofs.laws.a_stopped_write_leaves_a_front.Goals as goal
-
-pub returns : goal.returns
-returns g c = λ old input output new. write_front _ (workbench_is_total _ _) old input output new

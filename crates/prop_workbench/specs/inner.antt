@@ -1,0 +1,9 @@
+pub mod Refusing
+pub mod Effects
+pub mod Questions
+pub mod Carrying
+pub mod Running
+pub mod Steps
+pub mod Sessions
+pub mod Choosing
+pub mod Shown

@@ -1,0 +1,40 @@
+-- What a command that isn't refused does to the state.
+use Rattle.std.specs.Prelude.{◌≡◌, ℕ, IsTrue, List, Option, Some, None}
+use Rattle.std.specs.Borrow.{Bor}
+use Rattle.std.specs.Option.{option_map}
+use Rattle.prop_lattice.specs.declared.info.Kind.TheVariants as kinds
+use Rattle.prop_procedures.specs.declared.shape.Kinded.{Kinded}
+use Rattle.prop_language.specs.Commands.{Value, Command}
+use Rattle.prop_values.specs.Values.{Meant, Known, Name}
+use Rattle.prop_nogoods.specs.Stores.{lacking}
+use Rattle.prop_cells.specs.Refusing.{may_be_stated}
+use Rattle.prop_workbench.specs.Machine.{State}
+use Rattle.prop_workbench.specs.Effects.{number_given}
+
+-- what is meant may be stated at a cell of the kind
+abbrev pub MayMean : Kinded → Meant → Type 0
+MayMean k (Known info) = IsTrue (may_be_stated k.kind k.size info)
+MayMean k (Name symbol) = k.kind ≡ kinds.Symbol
+
+-- the name of a premise, where one is given
+abbrev pub name_of : Option (Bor (List ℕ)) → Option (List ℕ)
+name_of premise = option_map (λ (name : Bor (List ℕ)). name.now) premise
+
+-- the command that states so
+abbrev pub stating : Option (List ℕ) → List ℕ → Value → Command
+stating None cell value = Command.Fix cell value
+stating (Some premise) cell value = Command.Tell premise cell value
+
+-- the premise that the command forgets, where it forgets one
+abbrev pub forgotten_in : State → Command → Option ℕ
+forgotten_in s (Command.Forget premise) = Some (number_given s.premises premise)
+forgotten_in s command = None
+
+-- the named contradictions, without those that hold a premise where one is forgotten
+abbrev pub without_named : Option ℕ → List (List ℕ) → List (List ℕ)
+without_named None named = named
+without_named (Some p) named = lacking named p
+
+-- the contradictions that were named, as far as they are known after the command
+abbrev pub named_after : State → Command → List (List ℕ) → List (List ℕ)
+named_after s command named = without_named (forgotten_in s command) named
