@@ -27,7 +27,7 @@ def text_of(document):
 
 
 def named(text):
-    """The definitions that the tables name, by file and name: in a cell `CRATE FILE: NAME, NAME; FILE: NAME`, files and names in backquotes."""
+    """What the tables name, by file and name, or None for a whole file: in a cell `CRATE FILE: NAME, NAME; FILE`, files and names in backquotes."""
     for cell in re.findall(r"\| (prop\w+ `[^|]*) \|$", text, flags=re.M):
         crate = None
         for part in cell.split("; "):
@@ -35,6 +35,7 @@ def named(text):
             if found:
                 crate = found[1] or crate
                 path = f"crates/{crate}/specs/{found[2]}.antt"
+                yield path, None
                 yield from ((path, name) for name in re.findall(r"`([^`]+)`", found[3] or ""))
 
 
@@ -64,7 +65,7 @@ def cases():
         return f"docs/MEANING.md does not name {'; '.join(lacking)}" if lacking else None
 
     def stale():
-        gone = sorted(f"{path}: {name}" for path, name in rows - all_there.keys())
+        gone = sorted(f"{path}: {name or 'the file'}" for path, name in rows - all_there.keys() - {(path, None) for path, _ in all_there})
         return f"docs/MEANING.md names what there isn't: {'; '.join(gone)}" if gone else None
 
     yield Held("the figure that the documents tell", figure)

@@ -10,10 +10,10 @@ use Rattle.prop_procedures.specs.declared.shape.Param.{Param}
 use Rattle.prop_cells.specs.Instances.{Instance, IsWithin, readers_of, writers_of}
 use Rattle.prop_cells.specs.Data.{Data, Entry, IsWellMade}
 use Rattle.prop_cells.specs.inner.Data.{IsStored}
-use Rattle.prop_cells.specs.inner.Rooms.{Unnoted}
+use Rattle.prop_cells.specs.inner.Rooms.{TakenBack}
 use Rattle.prop_cells.specs.inner.Back.{GoesBackTo}
 use Rattle.prop_cells.proofs.Telling.{told_taken}
-use Rattle.prop_cells.proofs.RowLemmas.{or_none, rows_unnoted, rows_taken, numbers_none}
+use Rattle.prop_cells.proofs.RowLemmas.{or_none, rows_taken_back, rows_taken, numbers_none}
 
 -- ---- back to what was there before
 
@@ -60,17 +60,17 @@ module _ (before d : Data) (h : GoesBackTo before d) where
 
 -- ---- the last instance
 
-pub stored_unnoted : (d : Data) (old_reading old_writing reading writing told : List (List ℕ)) (x : Instance) → Unnoted old_reading reading x.inputs → Unnoted old_writing writing (x.output ∷ []) →
+pub stored_taken_back : (d : Data) (old_reading old_writing reading writing told : List (List ℕ)) (x : Instance) → TakenBack old_reading reading x.inputs → TakenBack old_writing writing (x.output ∷ []) →
     IsStored (record d { instances = d.instances ++ x ∷ [] }) old_reading old_writing told → IsStored d reading writing told
-stored_unnoted d old_reading old_writing reading writing told x read written h = record {
+stored_taken_back d old_reading old_writing reading writing told x read written h = record {
   made = record {
     contents_length = h.made.contents_length;
     within = (All-pop (IsWithin (length d.kinds)) (d.instances ++ x ∷ []) d.instances (Some x) refl h.made.within).0;
     of_kinds = h.made.of_kinds;
     stated = h.made.stated;
   };
-  readers = rows_unnoted (length d.kinds) (λ cell y. list_any (λ input. input == cell) y.inputs) d.instances x x.inputs old_reading reading h.readers read (λ cell. refl);
-  writers = rows_unnoted (length d.kinds) (λ cell y. y.output == cell) d.instances x (x.output ∷ []) old_writing writing h.writers written (λ cell. sym (or_none (x.output == cell)));
+  readers = rows_taken_back (length d.kinds) (λ cell y. list_any (λ input. input == cell) y.inputs) d.instances x x.inputs old_reading reading h.readers read (λ cell. refl);
+  writers = rows_taken_back (length d.kinds) (λ cell y. y.output == cell) d.instances x (x.output ∷ []) old_writing writing h.writers written (λ cell. sym (or_none (x.output == cell)));
   told = record { count = h.told.count; each = h.told.each };
 }
 

@@ -78,11 +78,11 @@ stated_fits d cell info e =
 
 -- ---- attachments
 
-pub stranger_last : (n : ℕ) (ins : List ℕ) (out : ℕ) → list_any (λ cell. nat_le n cell) ins ≡ false → nat_le n out ≡ list_any (λ cell. nat_le n cell) (ins ++ out ∷ [])
-stranger_last n ins out e = sym (list_any-append (λ cell. nat_le n cell) ins (out ∷ []) ∙ ap (λ b. b || (nat_le n out || false)) e ∙ or_none (nat_le n out))
+pub missing_last : (n : ℕ) (ins : List ℕ) (out : ℕ) → list_any (λ cell. nat_le n cell) ins ≡ false → nat_le n out ≡ list_any (λ cell. nat_le n cell) (ins ++ out ∷ [])
+missing_last n ins out e = sym (list_any-append (λ cell. nat_le n cell) ins (out ∷ []) ∙ ap (λ b. b || (nat_le n out || false)) e ∙ or_none (nat_le n out))
 
-pub no_strangers : (kinds : List Kinded) (n : ℕ) (cells : List ℕ) → n ≡ length kinds → false ≡ list_any (λ cell. nat_le n cell) cells → All (λ cell. cell < length kinds) cells
-no_strangers kinds n cells same e k d l =
+pub none_missing_before : (kinds : List Kinded) (n : ℕ) (cells : List ℕ) → n ≡ length kinds → false ≡ list_any (λ cell. nat_le n cell) cells → All (λ cell. cell < length kinds) cells
+none_missing_before kinds n cells same e k d l =
     elim (cases_lt (get_or cells k d) n) [
       | inl h ↦ omega (arith, h, same)
       | inr h ↦ absurd (both_ways (list_any (λ cell. nat_le n cell) cells) (sym e) (list_any_at (λ cell. nat_le n cell) cells k d l (le-leb n (get_or cells k d) h)))
@@ -116,9 +116,9 @@ module _ (library : List Stored) (n : ℕ) (p : Stored) (d : Data) (param : Opti
       none_among cells b same h = sym (h ∙ ap (λ k. list_any (λ cell. nat_le k cell) (ins ++ out ∷ [])) same)
 
   -- once the cells are there and as many as the procedure takes
-  module _ (cells : ℕ) (same : cells ≡ length d.kinds) (strange : false ≡ list_any (λ cell. nat_le cells cell) (ins ++ out ∷ [])) (shapes : List Shape) (shapes_are : shapes ≡ p.ins) where
+  module _ (cells : ℕ) (same : cells ≡ length d.kinds) (missing : false ≡ list_any (λ cell. nat_le cells cell) (ins ++ out ∷ [])) (shapes : List Shape) (shapes_are : shapes ≡ p.ins) where
     there : list_any (λ cell. nat_le (length d.kinds) cell) (ins ++ out ∷ []) ≡ false
-    there = sym (strange ∙ ap (λ k. list_any (λ cell. nat_le k cell) (ins ++ out ∷ [])) same)
+    there = sym (missing ∙ ap (λ k. list_any (λ cell. nat_le k cell) (ins ++ out ∷ [])) same)
 
     pub refused_12 : (length ins ≡ length shapes → ⊥) → Some WrongCount ≡ attach_refusal library d n param ins out
     refused_12 hb =
@@ -151,12 +151,12 @@ module _ (library : List Stored) (n : ℕ) (p : Stored) (d : Data) (param : Opti
   pub tests_passed : attach_refusal library d n param ins out ≡ None →
       (list_any (λ cell. nat_le (length d.kinds) cell) (ins ++ out ∷ []) ≡ false) × (length ins ≡ length p.ins) × (kinds_fit p d.kinds (sides_given d.params param) (ins ++ out ∷ []) ≡ true) × (is_none (param_in p.need d.params param) ≡ false)
   tests_passed h =
-      let strange = list_any (λ cell. nat_le (length d.kinds) cell) (ins ++ out ∷ []) in
+      let missing = list_any (λ cell. nat_le (length d.kinds) cell) (ins ++ out ∷ []) in
       let counted = length ins == length p.ins in
       let right = kinds_fit p d.kinds (sides_given d.params param) (ins ++ out ∷ []) in
       let lacking = is_none (param_in p.need d.params param) in
       let full = nat_le (most Instances) (length d.instances) in
-      let passed = none_in_table strange counted right lacking full (sym (by_table strange counted right lacking full refl refl refl refl refl) ∙ h) in
+      let passed = none_in_table missing counted right lacking full (sym (by_table missing counted right lacking full refl refl refl refl refl) ∙ h) in
       (passed.0, eqb-true (length ins) (length p.ins) passed.1, passed.2, passed.3)
 
   pub attached_is : (given : Param) → param_in p.need d.params param ≡ Some given → attached library d.params n param ins out ≡ instance_of n ins out given ∷ []
@@ -173,7 +173,7 @@ module _ (library : List Stored) (n : ℕ) (p : Stored) (d : Data) (param : Opti
   fitting_made h need need_is params params_are given found x x_is =
       let passed = tests_passed h in
       let given_is : param_in p.need d.params param ≡ Some given = sym (λ i. param_in (need_is i) (params_are i) param) ∙ found in
-      let below = All-pop (λ cell. cell < length d.kinds) (ins ++ out ∷ []) ins (Some out) refl (no_strangers d.kinds (length d.kinds) (ins ++ out ∷ []) refl (sym passed.0)) in (
+      let below = All-pop (λ cell. cell < length d.kinds) (ins ++ out ∷ []) ins (Some out) refl (none_missing_before d.kinds (length d.kinds) (ins ++ out ∷ []) refl (sym passed.0)) in (
         rw x_is (fit_attached library n p d.kinds d.params param given ins out at passed.1 passed.2 given_is),
         rw x_is (record { inputs = below.0; output = below.1 }),
         rw x_is (attached_is given given_is),

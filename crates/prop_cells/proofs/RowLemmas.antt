@@ -9,7 +9,7 @@ use Rattle.std.proofs.lemmas.List.Elements.{All-head, All-tail, All-more, All-we
 use Rattle.std.proofs.lemmas.List.Folds.{list_any_more}
 use Rattle.prop_cells.specs.Instances.{Instance, numbers_from}
 use Rattle.prop_cells.specs.inner.Data.{AreRows}
-use Rattle.prop_cells.specs.inner.Rooms.{row_items, HasRoom, ChangesAt, Noted, Unnoted}
+use Rattle.prop_cells.specs.inner.Rooms.{row_items, HasRoom, ChangesAt, Noted, TakenBack}
 use Rattle.prop_cells.proofs.Lists.{get_or-push_default}
 
 pub or_none : (b : Bool) → (b || false) ≡ b
@@ -62,11 +62,11 @@ rows_noted n number passes instances x cells old new h noted e same =
     ap (λ b. cond b (row ++ number ∷ []) row) (sym (same cell)) ∙ cond_push (passes cell x) number row ∙ ap (λ m. row ++ cond (passes cell x) (m ∷ []) []) last ∙ sym (numbers_push (passes cell) 0 instances x))
 
 -- and where that of the last instance was taken out of them
-pub rows_unnoted : (n : ℕ) (passes : ℕ → Instance → Bool) (instances : List Instance) (x : Instance) (cells : List ℕ) (old new : List (List ℕ)) →
-    AreRows n (λ cell. numbers_from (passes cell) 0 (instances ++ x ∷ [])) old → Unnoted old new cells → ((cell : ℕ) → passes cell x ≡ list_any (λ c. c == cell) cells) →
+pub rows_taken_back : (n : ℕ) (passes : ℕ → Instance → Bool) (instances : List Instance) (x : Instance) (cells : List ℕ) (old new : List (List ℕ)) →
+    AreRows n (λ cell. numbers_from (passes cell) 0 (instances ++ x ∷ [])) old → TakenBack old new cells → ((cell : ℕ) → passes cell x ≡ list_any (λ c. c == cell) cells) →
     AreRows n (λ cell. numbers_from (passes cell) 0 instances) new
-rows_unnoted n passes instances x cells old new h unnoted same =
-    rows_changed n (λ row. take (length row - 1) row) (λ cell. numbers_from (passes cell) 0 (instances ++ x ∷ [])) (λ cell. numbers_from (passes cell) 0 instances) old new cells h unnoted (λ cell.
+rows_taken_back n passes instances x cells old new h was_taken_back same =
+    rows_changed n (λ row. take (length row - 1) row) (λ cell. numbers_from (passes cell) 0 (instances ++ x ∷ [])) (λ cell. numbers_from (passes cell) 0 instances) old new cells h was_taken_back (λ cell.
     let row = numbers_from (passes cell) 0 instances in
     let change : Bool → List ℕ → List ℕ = λ b r. cond b (take (length r - 1) r) r in
     ap (λ b. change b (numbers_from (passes cell) 0 (instances ++ x ∷ []))) (sym (same cell)) ∙ ap (change (passes cell x)) (numbers_push (passes cell) 0 instances x) ∙ cond_pop (passes cell x) (0 + length instances) row)

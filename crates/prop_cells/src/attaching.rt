@@ -23,17 +23,17 @@ pub(crate) fn may_be_stated(kind: Kinded, info: Info) -> bool
 }
 
 /// Whether one of these is the number of no cell.
-fn has_stranger(cells: &[usize], count: usize) -> bool
+fn has_missing(cells: &[usize], count: usize) -> bool
     ensures { result ≡ list_any (λ cell. nat_le count cell) cells.now }
 {
     cells.iter().any(|cell| *cell >= count)
 }
 
 /// Whether an input or the output is the number of no cell.
-pub(crate) fn is_strange(ins: &[usize], out: usize, count: usize) -> bool
+pub(crate) fn is_cell_missing(ins: &[usize], out: usize, count: usize) -> bool
     ensures { result ≡ list_any (λ cell. nat_le count cell) (ins.now ++ out ∷ []) }
 {
-    has_stranger(ins, count) || out >= count
+    has_missing(ins, count) || out >= count
 }
 
 /// Whether the parameter is none that a procedure with this need takes.

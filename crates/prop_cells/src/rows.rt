@@ -1,7 +1,7 @@
 //! Which instances each cell has: a row of numbers for each cell.
 ghost use Rattle.std.specs.Prelude.{◌≡◌, ℕ, ◌<◌, ◌==◌, cond, List, [], ◌∷◌, ◌++◌, length, map, take, All, OnOk, slice_index};
 ghost use Rattle.std.specs.List.{list_any};
-ghost use Rattle.prop_cells.specs.inner.Rooms.{row_items, HasRoom, Noted, Unnoted};
+ghost use Rattle.prop_cells.specs.inner.Rooms.{row_items, HasRoom, Noted, TakenBack};
 
 use std::alloc::AllocError;
 
@@ -40,9 +40,9 @@ pub(crate) fn note(rows: &mut Vec<Vec<usize>>, cells: &[usize], number: usize)
 }
 
 /// Takes the last number out of the rows of these cells, once out of each. It takes no memory.
-pub(crate) fn unnote(rows: &mut Vec<Vec<usize>>, cells: &[usize])
+pub(crate) fn take_back(rows: &mut Vec<Vec<usize>>, cells: &[usize])
     requires { All (λ cell. cell < length rows.old.items) cells.now }
-    ensures { Unnoted (row_items rows.old.items) (row_items rows.new.items) cells.now }
+    ensures { TakenBack (row_items rows.old.items) (row_items rows.new.items) cells.now }
 {
     for i in 0..cells.len() {
         if is_again(cells, i) {

@@ -11,7 +11,7 @@ ghost use Rattle.prop_compound.specs.Expansion.{spare_of, is_spare};
 use crate::definition::{KeptDefinition, NumberedStep, Passing, Used, passes_something};
 use crate::shortening::push_plan;
 use prop_lattice::{Limit, Refusal};
-use std::alloc::{AllocError, Global};
+use std::alloc::Global;
 
 /// Whether some step hands on what the definition itself is given.
 fn is_taking(steps: &[NumberedStep]) -> bool
@@ -120,16 +120,14 @@ pub(crate) fn counted(
     ensures err { IfErr result (λ e. e ≡ Refusal.Memory) }
 {
     let mut plan = Vec::new(alloc);
-    match push_plan(alloc, definitions, &steps, &mut plan) {
-        Ok(()) => Ok(KeptDefinition {
-            params,
-            spare_given: !is_taking(&steps) || has_spare(definitions, &steps, true),
-            spare_bare: has_spare(definitions, &steps, false),
-            fresh: all_fresh(definitions, &steps),
-            instances: all_instances(definitions, &steps),
-            steps,
-            plan,
-        }),
-        Err(AllocError) => Err(Refusal::Memory),
-    }
+    push_plan(alloc, definitions, &steps, &mut plan)?;
+    Ok(KeptDefinition {
+        params,
+        spare_given: !is_taking(&steps) || has_spare(definitions, &steps, true),
+        spare_bare: has_spare(definitions, &steps, false),
+        fresh: all_fresh(definitions, &steps),
+        instances: all_instances(definitions, &steps),
+        steps,
+        plan,
+    })
 }

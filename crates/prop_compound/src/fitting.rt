@@ -146,8 +146,5 @@ pub(crate) fn fitted<R: Rule + Drop>(
         drop(walk);
         return Err(refusal);
     }
-    match flat_behind(alloc, walk, count) {
-        Ok(flat) => Ok(flat),
-        Err(AllocError) => Err(Refusal::Memory),
-    }
+    Ok(flat_behind(alloc, walk, count)?)
 }

@@ -10,7 +10,7 @@ ghost use Rattle.prop_compound.specs.inner.Defining.{IsNameReason};
 use prop_language::Step;
 use prop_lattice::Refusal;
 use prop_vocabulary::Names;
-use std::alloc::{AllocError, Global};
+use std::alloc::Global;
 
 /// Puts one more name last, `NameTaken` where it is there already.
 fn push_new(alloc: Global, scope: &mut Names, name: &str) -> Result<(), Refusal>
@@ -21,10 +21,8 @@ fn push_new(alloc: Global, scope: &mut Names, name: &str) -> Result<(), Refusal>
     if scope.find(name).is_some() {
         return Err(Refusal::NameTaken);
     }
-    match scope.push(alloc, name) {
-        Ok(()) => Ok(()),
-        Err(AllocError) => Err(Refusal::Memory),
-    }
+    scope.push(alloc, name)?;
+    Ok(())
 }
 
 /// Puts the parameters last, `NameTaken` where a name would stand twice.

@@ -74,5 +74,9 @@ module _ {V : Type 0} {below : V → V → Type 0} {bottom top : V} {join : V �
       (join_below a b left (first_below a (join b c)) (laws.transitive b (join b c) left (first_below b c) (second_below a (join b c))))
       (laws.transitive c (join b c) left (second_below b c) (second_below a (join b c))))
 
+  pub join-comm : (a b : V) → join a b ≡ join b a
+  join-comm a b =
+      laws.antisymmetric (join a b) (join b a) (join_below a b (join b a) (second_below b a) (first_below b a)) (join_below b a (join a b) (second_below a b) (first_below a b))
+
   pub bottom-join : (a : V) → join bottom a ≡ a
   bottom-join a = laws.antisymmetric (join bottom a) a (join_below bottom a a (laws.from_bottom a) (laws.reflexive a)) (second_below bottom a)

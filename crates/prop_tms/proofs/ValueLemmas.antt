@@ -7,7 +7,7 @@ use Rattle.std.proofs.lemmas.List.Elements.{All-nil, All-cons, All-head, All-tai
 use Rattle.std.proofs.lemmas.List.Kept.{AllPairs-cons}
 use Rattle.std.proofs.lemmas.List.Quantifiers.{all_pairs_push}
 use Rattle.std.proofs.Math.ListN.{get_or-map}
-use Rattle.std.proofs.Math.Seq.{take-suc-set, take-length}
+use Rattle.std.proofs.Math.Seq.{take-suc-set}
 use Rattle.prop_lattice.specs.InformationOrder.{IsInformationOrder}
 use Rattle.prop_premises.specs.Sets.{Members, set_of, is_within}
 use Rattle.prop_tms.specs.Beliefs.{merge_of_all, belief_of, Subsumes}
@@ -17,7 +17,7 @@ use Rattle.prop_tms.specs.inner.Values.{values_of, place_of, AreApart, NoneBare,
 use Rattle.prop_tms.specs.declared.supported.Supported.{Supported}
 use Rattle.prop_tms.specs.declared.values.Valued.{Valued}
 use Rattle.prop_tms.proofs.KeptLemmas.{contains_cases}
-use Rattle.prop_tms.proofs.MergedLemmas.{first_below, second_below, join_below, merge_of_all-append, join-above, join-assoc, join-bottom, bottom-join}
+use Rattle.prop_tms.proofs.MergedLemmas.{first_below, second_below, join_below, merge_of_all-append, join-above, join-assoc, join-bottom, bottom-join, join-comm}
 
 -- the entries of a value with these supports
 abbrev pub with_value : {V : Type 0} → V → List (List ℕ) → List (Supported V)
@@ -244,14 +244,13 @@ module _ {V : Type 0} {below : V → V → Type 0} {bottom top : V} {join : V �
       by true on = sym (ap (λ v. join first v) (said_more u xs i x true l is on) ∙ join-assoc laws first said x.value ∙ join-above laws (join first said) x.value known)
       by false off = sym (ap (λ v. join first v) (said_more u xs i x false l is off))
 
-  -- what one of them says is said by all together
-  pub said_within : (u : List ℕ → Bool) (xs : List (Valued V)) (x : Valued V) (i : ℕ) → i + 1 ≡ length xs → x ≡ get_or xs i x → list_any u x.supports.items ≡ true → join x.value (said_of u xs) ≡ said_of u xs
-  said_within u xs x i l is on =
-      let all = said_of u xs in
-      let whole : take (i + 1) xs ≡ xs = ap (λ k. take k xs) l ∙ take-length xs in
-      let last : said_of u (take (i + 1) xs) ≡ join (said_of u (take i xs)) x.value = said_more u xs i x true (omega (arith, l)) is on in
-      let known : below x.value all = subst (λ (ys : List (Valued V)). below x.value (said_of u ys)) whole (rw last (second_below laws (said_of u (take i xs)) x.value)) in
-      laws.antisymmetric (join x.value all) all (join_below laws x.value all all known (laws.reflexive all)) (second_below laws x.value all)
+  -- what the last one says, beside what those before it say
+  pub said_beside : (u : List ℕ → Bool) (ys : List (Valued V)) (x : Valued V) (b : Bool) → list_any u x.supports.items ≡ b → join (if b then x.value else bottom) (said_of u ys) ≡ said_of u (ys ++ x ∷ [])
+  said_beside u ys x b at =
+      let said = said_of u ys in
+      let one = said_one u x.value x.supports.items ∙ ap (λ c. if c then x.value else bottom) at in
+      join-comm laws (if b then x.value else bottom) said ∙ ap (λ v. join said v) (sym one) ∙
+      sym (ap (λ es. merge_of_all bottom join (filter (λ e. u e.support) es)) (entries_of-push ys x) ∙ said_both u (entries_of ys) (entries_of_one x))
 
 -- ---- a loop that changes one value after the other
 

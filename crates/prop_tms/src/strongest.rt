@@ -40,11 +40,15 @@ fn said_with<V: Partial>(values: &[Valued<V>], worldview: &Worldview, first: V) 
 pub(crate) fn belief<V: Partial>(values: &[Valued<V>], worldview: &Worldview) -> V
     ensures { result ≡ belief_of V.bottom V.join (set_of worldview.now) (entries_of values.now) }
 {
-    let first = match values.last() {
-        Some(newest) if believes_any(worldview, &newest.supports) => newest.value,
-        _ => V::nothing(),
+    let Some((newest, earlier)) = values.split_last() else {
+        return V::nothing();
     };
-    said_with(values, worldview, first)
+    let first = if believes_any(worldview, &newest.supports) {
+        newest.value
+    } else {
+        V::nothing()
+    };
+    said_with(earlier, worldview, first)
 }
 
 /// What the entries of the row say together: what those before the last say, with what the last says.

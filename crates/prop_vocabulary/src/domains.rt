@@ -9,7 +9,6 @@ use crate::vocabulary::Vocabulary;
 use prop_lattice::{Limit, Refusal};
 use prop_sets::Domain;
 use prop_sets::domain::has_repeat;
-use std::alloc::AllocError;
 
 impl Vocabulary {
     /// The number of the declared domain with this name.

@@ -6,7 +6,6 @@ ghost use Rattle.prop_vocabulary.specs.Refusing.{symbol_refusal};
 
 use crate::vocabulary::Vocabulary;
 use prop_lattice::{Limit, Refusal};
-use std::alloc::AllocError;
 
 impl Vocabulary {
     /// How many symbols there are.

@@ -21,5 +21,5 @@ abbrev pub Noted : List (List ℕ) → List (List ℕ) → List ℕ → ℕ → 
 Noted old new cells number = ChangesAt (λ row. row ++ number ∷ []) old new cells
 
 -- the last number is gone from the rows of these cells
-abbrev pub Unnoted : List (List ℕ) → List (List ℕ) → List ℕ → Type 0
-Unnoted old new cells = ChangesAt (λ row. take (length row - 1) row) old new cells
+abbrev pub TakenBack : List (List ℕ) → List (List ℕ) → List ℕ → Type 0
+TakenBack old new cells = ChangesAt (λ row. take (length row - 1) row) old new cells

@@ -6,6 +6,6 @@ pub returns-then-is_some-clause-why : goal.returns-then-is_some-clause-why
 returns-then-is_some-clause-why c =
     inl (refl, sym (found_any c.args.scope.now c.args.name.now) ∙ sym (c.if-is_some.ensures ∙ ap is_some c.find.ensures.number))
 
-pub returns-in-Ok-clause-new : goal.returns-in-Ok-clause-new
-returns-in-Ok-clause-new c =
+pub returns-clause-new : goal.returns-clause-new
+returns-clause-new c =
     sym (found_any c.args.scope.now c.args.name.now) ∙ sym (c.if-is_some.ensures ∙ ap is_some c.find.ensures.number)

@@ -1,6 +1,6 @@
 use Rattle.std.proofs.Common.{◌≡◌, ◌<◌, ◌∙◌, ◌-◌, length, get_or, take, sym, ap, arith}
 use Rattle.prop_cells.proofs.RowLemmas.{as_many, changed_again, changed_row}
-use Rattle.prop_cells.proofs.rows.unnote.Goals as goal
+use Rattle.prop_cells.proofs.rows.take_back.Goals as goal
 
 pub loop-i-preserved-then-is_again : goal.loop-i-preserved-then-is_again
 loop-i-preserved-then-is_again c =

@@ -1,6 +1,0 @@
-use Rattle.std.proofs.Common.{take}
-use Rattle.prop_cells.specs.inner.Rooms.{row_items, Unnoted}
-use Rattle.prop_cells.proofs.rows.unnote.Given as goal
-
-abbrev pub invariant-loop-i : goal.invariant-loop-i
-invariant-loop-i l = Unnoted (row_items l.initial.rows.items) (row_items l.rows.items) (take l.i l.cells)
