@@ -1,5 +1,5 @@
 -- For what a declaration is refused: each condition by itself, and which of them comes first.
-use Rattle.std.specs.Prelude.{◌≡◌, ◌⊎◌, ℕ, List, [], ◌∷◌, Bool, cond, ◌||◌, ◌&&◌, nat_le, nat_lt, Option, Some, None, length, is_some, is_none, unwrap_or}
+use Rattle.std.specs.Prelude.{◌≡◌, ◌⊎◌, ℕ, List, [], ◌∷◌, Bool, ◌||◌, ◌&&◌, nat_le, nat_lt, Option, Some, length, is_some, is_none, unwrap_or}
 use Rattle.prop_lattice.specs.Refusals.{most, when, first_of}
 use Rattle.prop_lattice.specs.declared.refusal.Limit.TheVariants.{Domains, Elements, Relations, Symbols}
 use Rattle.prop_lattice.specs.declared.refusal.Refusal.{Refusal}

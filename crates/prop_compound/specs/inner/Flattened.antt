@@ -1,8 +1,7 @@
 -- What is handed out for a use: its fresh cells and instances, in one list each; and what is at hand of it while it is made.
-use Rattle.std.specs.Prelude.{◌≡◌, ◌<◌, ℕ, ◌+◌, List, ◌∷◌, ◌++◌, All, IfSome, Option, drop, length, map}
+use Rattle.std.specs.Prelude.{◌≡◌, ◌<◌, ℕ, List, ◌∷◌, ◌++◌, All, IfSome, Option, drop, length, map}
 use Rattle.prop_procedures.specs.declared.shape.Param.{Param}
 use Rattle.prop_procedures.specs.Stored.{Stored}
-use Rattle.prop_procedures.specs.declared.flat.Placed as instances
 use Rattle.prop_procedures.specs.declared.flat.Flat.{Flat}
 use Rattle.prop_procedures.specs.Flats.{param_at}
 use Rattle.prop_vocabulary.specs.Vocabulary.{Vocabulary}
