@@ -6,7 +6,7 @@ use Rattle.prop_lattice.specs.declared.refusal.Refusal.{Refusal}
 use Rattle.prop_lattice.specs.declared.refusal.Refusal.TheVariants.{Memory, NotAName, NotANumber}
 use Rattle.prop_procedures.specs.Stored.{Stored}
 use Rattle.prop_language.specs.Commands.{Command}
-use Rattle.prop_language.specs.Tokens.{Token, Word, Open, Close, Semicolon, Equals, Star, tokens, is_blank, front_word}
+use Rattle.prop_language.specs.Tokens.{Token, Word, tokens, is_blank, front_word}
 use Rattle.prop_language.specs.Names.{is_name}
 use Rattle.prop_language.specs.Reading.{AskFor, IsReading, AsRead, command_in_range, is_silent, without_return, names_in, is_in_range}
 use Rattle.prop_language.proofs.ReadingLaws.{have_one_reading}

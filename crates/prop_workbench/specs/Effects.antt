@@ -4,7 +4,6 @@ use Rattle.std.specs.Result.{result_unwrap_or}
 use Rattle.std.specs.Option.{option_map_or, option_and_then}
 use Rattle.prop_lattice.specs.declared.info.Info.{Info}
 use Rattle.prop_lattice.specs.declared.info.Info.TheVariants.{Nothing, Sym}
-use Rattle.prop_lattice.specs.declared.info.Kind.TheVariants as kinds
 use Rattle.prop_premises.specs.Origins.{Origin, premise_number, with_name, with_choice, with_belief_at}
 use Rattle.prop_procedures.specs.Flats.{cell_placed}
 use Rattle.prop_procedures.specs.Stored.{Stored, span_kind}
