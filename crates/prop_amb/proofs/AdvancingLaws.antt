@@ -104,6 +104,7 @@ pub stand_advanced : (s : Stand) (j : ℕ) (n w : List ℕ) → IsStand s → Ma
     IsStand (record s { list = advanced s.list j; reasons = reasons_advanced s.reasons j n; worldview = w })
 stand_advanced s j n w stand may believes = record {
   numbered = stand.numbered;
+  few = stand.few;
   is_list = advanced_is_list s j stand.is_list may;
   reasoned = advanced_reasoned s.list s.reasons j n stand.reasoned;
   believes = believes;

@@ -1,24 +1,17 @@
 -- A stand stays one as premises of the user's are believed or not, and as the choices go to their first sides.
-use Rattle.std.proofs.Common.{◌≡◌, ℕ, zero, suc, ◌+◌, Bool, List, [], ◌∷◌, ◌++◌, length, take, drop, refl, sym, ap, ◌∙◌, arith}
+use Rattle.std.proofs.Common.{◌≡◌, ◌≤◌, ℕ, zero, suc, ◌+◌, Bool, List, [], ◌∷◌, ◌++◌, length, take, drop, refl, sym, ap, ◌∙◌, arith}
 use Rattle.std.specs.List.{AllZip}
+use Rattle.prop_lattice.specs.Refusals.{most}
+use Rattle.prop_lattice.specs.declared.refusal.Limit.TheVariants.{Premises}
 use Rattle.prop_premises.specs.Sets.{IsSame, set_of}
 use Rattle.prop_premises.specs.declared.choice.Choice.{Choice}
 use Rattle.prop_premises.specs.ChoiceLists.{IsChoiceList, AreOfSides, worldview}
-use Rattle.prop_premises.specs.Origins.{Origin, User, Side, is_user_at, believed_in, with_belief_at, choices_of, IsNumbered}
-use Rattle.prop_premises.proofs.ChoiceLemmas.{choices_of-with_belief_at}
+use Rattle.prop_premises.specs.Origins.{Origin, User, Side, believed_in, with_belief_at, choices_of, IsNumbered}
 use Rattle.prop_premises.proofs.EntryLemmas.{take-front}
 use Rattle.prop_amb.specs.Search.{Stand, IsStand, choices_in}
 use Rattle.prop_amb.specs.Moving.{restarted, first_sides, no_reasons}
 
 -- ---- one belief that changes
-
-pub is_user_at-with_belief_at : (os : List Origin) (p : ℕ) (believed : Bool) (q : ℕ) → is_user_at (with_belief_at os p believed) q ≡ is_user_at os q
-is_user_at-with_belief_at [] p believed q = refl
-is_user_at-with_belief_at (User name was ∷ os) zero believed zero = refl
-is_user_at-with_belief_at (Side name side sides ∷ os) zero believed zero = refl
-is_user_at-with_belief_at (o ∷ os) zero believed (suc q) = refl
-is_user_at-with_belief_at (o ∷ os) (suc p) believed zero = refl
-is_user_at-with_belief_at (o ∷ os) (suc p) believed (suc q) = is_user_at-with_belief_at os p believed q
 
 -- a belief that changes and goes back leaves all as it was
 pub belief_back : (os : List Origin) (p : ℕ) (other : Bool) (was : Bool) → believed_in os p ≡ was → with_belief_at (with_belief_at os p other) p was ≡ os
@@ -27,18 +20,12 @@ belief_back (User name before ∷ os) zero other was e = ap (λ b. User name b �
 belief_back (Side name side sides ∷ os) zero other was e = refl
 belief_back (o ∷ os) (suc p) other was e = ap (λ l. o ∷ l) (belief_back os p other was e)
 
-pub numbered_belief : (os : List Origin) (p : ℕ) (believed : Bool) → IsNumbered os → IsNumbered (with_belief_at os p believed)
-numbered_belief os p believed h = record {
-  in_order = rw (choices_of-with_belief_at os p believed) h.in_order;
-  of_sides = rw (choices_of-with_belief_at os p believed) h.of_sides;
-  users = λ q user. rw (choices_of-with_belief_at os p believed) (h.users q (rw (is_user_at-with_belief_at os p believed q) at user));
-}
-
 -- the choices stay where they stand
-pub stand_believing : (s : Stand) (origins : List Origin) (w : List ℕ) → IsStand s → IsNumbered origins → choices_of origins ≡ choices_in s →
+pub stand_believing : (s : Stand) (origins : List Origin) (w : List ℕ) → IsStand s → IsNumbered origins → length origins ≤ most Premises → choices_of origins ≡ choices_in s →
     IsSame (set_of w) (worldview (believed_in origins) (choices_of origins) s.list) → IsStand (record s { premises = origins; worldview = w })
-stand_believing s origins w stand numbered same believes = record {
+stand_believing s origins w stand numbered few same believes = record {
   numbered = numbered;
+  few = few;
   is_list = rw same stand.is_list;
   reasoned = stand.reasoned;
   believes = believes;
@@ -60,10 +47,11 @@ first_reasoned [] (r ∷ rs) h = absurd h
 first_reasoned (s ∷ l) [] h = absurd h
 first_reasoned (s ∷ l) (r ∷ rs) h = (refl, first_reasoned l rs h.1)
 
-pub stand_restarted : (s : Stand) (origins : List Origin) (w : List ℕ) → IsStand s → IsNumbered origins → choices_of origins ≡ choices_in s →
+pub stand_restarted : (s : Stand) (origins : List Origin) (w : List ℕ) → IsStand s → IsNumbered origins → length origins ≤ most Premises → choices_of origins ≡ choices_in s →
     IsSame (set_of w) (worldview (believed_in origins) (choices_of origins) (first_sides s.list)) → IsStand (record (restarted s) { premises = origins; worldview = w })
-stand_restarted s origins w stand numbered same believes = record {
+stand_restarted s origins w stand numbered few same believes = record {
   numbered = numbered;
+  few = few;
   is_list = rw same (first_is_list (choices_in s) s.list stand.numbered.of_sides stand.is_list);
   reasoned = first_reasoned s.list s.reasons stand.reasoned;
   believes = believes;

@@ -2,13 +2,17 @@
 use Rattle.std.proofs.Common.{◌≡◌, ◌∙◌, ℕ, suc, ◌+◌, ◌-◌, ◌<◌, ◌≤◌, Bool, true, false, cond, ◌||◌, ◌&&◌, ◌==◌, nat_lt, IsTrue, List, [], ◌∷◌, ◌++◌, length, take, filter, refl, sym, ap, arith, inl, inr, length-append}
 use Rattle.std.specs.List.{AllZip, AllByRecursion}
 use Rattle.std.proofs.lemmas.Bool.{or_cases, and_parts, and_left, ltb-true, lt-leb, eqb-true}
+use Rattle.std.proofs.lemmas.List.{length-take}
+use Rattle.prop_lattice.specs.Refusals.{most}
+use Rattle.prop_lattice.specs.declared.refusal.Limit.TheVariants.{Premises}
 use Rattle.prop_premises.specs.Sets.{IsBelow, set_of}
 use Rattle.prop_premises.specs.declared.choice.Choice.{Choice}
 use Rattle.prop_premises.specs.ChoiceLists.{hypothetical, IsSide, is_side_of, hypotheticals_of, is_hypothetical, AreInOrder, AreOfSides}
-use Rattle.prop_premises.specs.Origins.{Origin, User, Side, is_start, with_choice, choices_from, choices_of, IsNumbered}
+use Rattle.prop_premises.specs.Origins.{Origin, User, Side, is_start, with_choice, choices_from, choices_of}
 use Rattle.prop_premises.proofs.ChoiceLemmas.{choices_of-with_choice, choices_of-take}
 use Rattle.prop_premises.proofs.ChangeLemmas.{believed_in-with_choice, length-with_choice, take-with_choice}
 use Rattle.prop_premises.proofs.EntryLemmas.{take-front}
+use Rattle.prop_premises.proofs.NumberingLaws.{numbered_choice}
 use Rattle.prop_premises.proofs.OriginLemmas.{in_range, is_user_at-believed}
 use Rattle.prop_premises.proofs.WorldviewLemmas.{hypotheticals_of-push}
 use Rattle.prop_cells.specs.Problems.{Problem}
@@ -16,7 +20,7 @@ use Rattle.prop_amb.specs.Search.{Stand, IsStand, IsSearch, users_of, choices_in
 use Rattle.prop_amb.specs.Moving.{declared, IsFresh}
 use Rattle.prop_amb.proofs.SearchLaws.{both, taken_is_side}
 use Rattle.prop_amb.proofs.DeclaringLaws.{before_last, search_declared}
-use Rattle.prop_amb.proofs.NamingLaws.{set_of-push, believes_below, lt_true, lt_false, filter_push}
+use Rattle.prop_amb.proofs.NamingLaws.{set_of-push, believes_below, lt_true, lt_false, filter_push, user_taken}
 
 -- ---- what stands before the last choice
 
@@ -34,6 +38,10 @@ below_choice s c stand order e p h = elim (or_cases (users_of s p) (hypothetical
   | inr t ↦ first_below (choices_in s) c p order (taken_is_side (choices_in s) s.list p stand.is_list t)
 ]
 
+all_front : {A : Type 0} (P : A → Type 0) (xs : List A) (x : A) → AllByRecursion P (xs ++ x ∷ []) → AllByRecursion P xs
+all_front P [] x h = tt
+all_front P (y ∷ xs) x h = (h.0, all_front P xs x h.1)
+
 pub all_last : {A : Type 0} (P : A → Type 0) (xs : List A) (x : A) → AllByRecursion P (xs ++ x ∷ []) → P x
 all_last P [] x h = h.0
 all_last P (y ∷ xs) x h = all_last P xs x h.1
@@ -50,13 +58,15 @@ or_assoc : (a b c : Bool) → ((a || b) || c) ≡ (a || (b || c))
 or_assoc true b c = refl
 or_assoc false b c = refl
 
-pub stand_declared : (s : Stand) (name : List ℕ) (sides : ℕ) → IsStand s → 1 ≤ sides → IsNumbered (with_choice s.premises name sides) → IsStand (declared s name sides)
-stand_declared s name sides stand some numbered =
+pub stand_declared : (s : Stand) (name : List ℕ) (sides : ℕ) → IsStand s → 2 ≤ sides → sides ≤ 8 → length s.premises + sides ≤ most Premises → IsStand (declared s name sides)
+stand_declared s name sides stand low high room =
+    let some : 1 ≤ sides = omega (arith, low) in
     let own : Choice = record { first = length s.premises; sides = sides } in
     let same : choices_of (with_choice s.premises name sides) ≡ choices_in s ++ own ∷ [] = choices_of-with_choice s.premises name sides some in
     let number : hypothetical own 1 ≡ length s.premises = omega arith in
     record {
-      numbered = numbered;
+      numbered = numbered_choice s.premises name sides low high stand.numbered;
+      few = omega (arith, room, length-with_choice s.premises name sides);
       is_list = rw same (zip_push IsSide (choices_in s) s.list own 1 stand.is_list (omega arith, some));
       reasoned = zip_push (λ side reasons. length reasons + 1 ≡ side) s.list s.reasons 1 [] stand.reasoned refl;
       believes = λ p.
@@ -67,11 +77,14 @@ stand_declared s name sides stand some numbered =
       minimal = stand.minimal;
     }
 
-pub search_stays : (problem : Problem) (s : Stand) (name : List ℕ) (sides : ℕ) (c : Choice) → IsStand s → 1 ≤ sides → IsNumbered (with_choice s.premises name sides) → c ≡ record { first = length s.premises; sides = sides } →
+pub search_stays : (problem : Problem) (s : Stand) (name : List ℕ) (sides : ℕ) (c : Choice) → IsStand s → 2 ≤ sides → sides ≤ 8 → c ≡ record { first = length s.premises; sides = sides } →
     IsFresh problem c → IsSearch problem s → IsSearch problem (declared s name sides)
-search_stays problem s name sides c stand some numbered is fresh h =
-    search_declared problem s (with_choice s.premises name sides) own (s.worldview ++ length s.premises ∷ []) stand same (believed_in-with_choice s.premises name sides) (rw same at numbered.in_order) apart some (rw is at fresh) h
+search_stays problem s name sides c stand low high is fresh h =
+    search_declared problem s (with_choice s.premises name sides) own (s.worldview ++ length s.premises ∷ []) stand same (believed_in-with_choice s.premises name sides) (rw same at (numbered_choice s.premises name sides low high stand.numbered).in_order) apart some (rw is at fresh) h
   where
+    some : 1 ≤ sides
+    some = omega (arith, low)
+
     own : Choice
     own = record { first = length s.premises; sides = sides }
 
@@ -142,23 +155,45 @@ split_last R (e ∷ es) c (z ∷ zs) h =
 take_front : {A : Type 0} (xs : List A) (x : A) (n : ℕ) → n ≡ length (xs ++ x ∷ []) → take (n - 1) (xs ++ x ∷ []) ≡ xs
 take_front xs x n e = take-front xs (x ∷ []) (n - 1) (omega (arith, e, length-append xs (x ∷ [])))
 
+order_front : (es : List Choice) (c : Choice) → AreInOrder (es ++ c ∷ []) → AreInOrder es
+order_front [] c order = tt
+order_front (d ∷ es) c order = (all_front (λ later. d.first + d.sides ≤ later.first) es c order.0, order_front es c order.1)
+
+-- what is no side of all choices is none of those before the last
+front_apart : (es : List Choice) (c : Choice) (p : ℕ) → is_hypothetical (es ++ c ∷ []) p ≡ false → is_hypothetical es p ≡ false
+front_apart [] c p h = refl
+front_apart (d ∷ es) c p h = by (is_side_of d p) h (λ e. front_apart es c p e)
+  where
+    by : (b : Bool) → (b || is_hypothetical (es ++ c ∷ []) p) ≡ false → (is_hypothetical (es ++ c ∷ []) p ≡ false → is_hypothetical es p ≡ false) → (b || is_hypothetical es p) ≡ false
+    by true e rest = cc
+    by false e rest = rest e
+
 known_or : (a lt e : Bool) → (a ≡ true → lt ≡ true) → (e ≡ true → lt ≡ false) → a ≡ (lt && (a || e))
 known_or true lt e f g = sym (rw (f refl) refl)
 known_or false lt true f g = sym (rw (g refl) refl)
 known_or false true false f g = refl
 known_or false false false f g = refl
 
-pub stand_undeclared : (s : Stand) (c : Choice) (es : List Choice) (list : List ℕ) (reasons : List (List (List ℕ))) (n m : ℕ) → IsStand s → choices_in s ≡ es ++ c ∷ [] → IsNumbered (take c.first s.premises) →
+pub stand_undeclared : (s : Stand) (c : Choice) (es : List Choice) (list : List ℕ) (reasons : List (List (List ℕ))) (n m : ℕ) → IsStand s → choices_in s ≡ es ++ c ∷ [] → c.first ≤ length s.premises →
     list ≡ take (n - 1) s.list → n ≡ length s.list → reasons ≡ take (m - 1) s.reasons → m ≡ length s.reasons →
     IsStand (record { premises = take c.first s.premises; list = list; reasons = reasons; listed = s.listed; worldview = filter (λ p. nat_lt p c.first) s.worldview })
-stand_undeclared s c es list reasons n m stand same numbered l ln r rm = record {
-  numbered = numbered;
+stand_undeclared s c es list reasons n m stand same first l ln r rm = record {
+  numbered = record {
+    in_order = rw now (order_front es c order);
+    of_sides = rw now (all_front (λ (d : Choice). (2 ≤ d.sides) × (d.sides ≤ 8)) es c (rw same at stand.numbered.of_sides));
+    below = λ p h. let b = first_below es c p order (rw now at h) in omega (arith, b, taken);
+    users = λ p u. rw now (front_apart es c p (rw same at (stand.numbered.users p (user_taken s.premises c.first p u))));
+  };
+  few = (let f = stand.few in omega (arith, f, taken, first));
   is_list = rw (now, list_is) a.zip;
   reasoned = rw (list_is, reasons_is) b.zip;
   believes = rw (now, list_is) (believes_below s.premises c.first s.worldview (hypotheticals_of (choices_in s) s.list) (hypotheticals_of es a.front) stand.believes cut);
   minimal = stand.minimal;
 }
   where
+    taken : length (take c.first s.premises) ≡ c.first
+    taken = length-take c.first s.premises ∙ omega (arith, first)
+
     order : AreInOrder (es ++ c ∷ [])
     order = rw same at stand.numbered.in_order
 

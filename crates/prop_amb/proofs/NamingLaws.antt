@@ -2,9 +2,12 @@
 use Rattle.std.proofs.Common.{◌≡◌, ◌∙◌, ℕ, zero, suc, ◌+◌, ◌<◌, ◌≤◌, Bool, true, false, cond, ◌||◌, ◌&&◌, ◌==◌, nat_lt, IsTrue, List, [], ◌∷◌, ◌++◌, length, take, filter, Option, Some, None, is_some, unwrap_or, refl, sym, ap, arith, inl, inr, length-append, append-nil}
 use Rattle.std.proofs.lemmas.Bool.{cases_eq, or_cases}
 use Rattle.std.proofs.lemmas.Bool.Decides.{nat_tests, eqb_tells}
+use Rattle.std.proofs.lemmas.List.{length-take}
 use Rattle.std.proofs.lemmas.List.Folds.{list_any-append}
 use Rattle.std.proofs.lemmas.List.Elements.{filter-append}
 use Rattle.std.proofs.lemmas.Map.Views.{any-filter_same}
+use Rattle.prop_lattice.specs.Refusals.{most}
+use Rattle.prop_lattice.specs.declared.refusal.Limit.TheVariants.{Premises}
 use Rattle.prop_premises.specs.Sets.{Members, IsSame, IsBelow, set_of, union}
 use Rattle.prop_premises.specs.ChoiceLists.{hypotheticals_of, is_hypothetical}
 use Rattle.prop_premises.specs.Origins.{Origin, User, Side, is_believed, is_user_at, is_start, believed_in, premise_number, with_name, choices_from, choices_of, IsNumbered}
@@ -12,6 +15,7 @@ use Rattle.prop_premises.proofs.ChoiceLemmas.{choices_of-user}
 use Rattle.prop_premises.proofs.ChangeLemmas.{believed_in-with_name}
 use Rattle.prop_premises.proofs.EntryLemmas.{take-front}
 use Rattle.prop_premises.proofs.FlagLemmas.{filter-below}
+use Rattle.prop_premises.proofs.NumberingLaws.{numbered_user}
 use Rattle.prop_premises.proofs.OriginLemmas.{in_range, is_user_at-believed, is_user_at-push}
 use Rattle.prop_amb.specs.Search.{Stand, IsStand, users_of, choices_in}
 use Rattle.prop_amb.specs.Moving.{interned}
@@ -101,9 +105,9 @@ believed_push (o ∷ os) name n (suc p) e =
     rw same (believed_push os name (length os) p refl)
 
 -- what is believed has a smaller number than a premise of the user's that is last
-pub below_last : (s : Stand) (origins : List Origin) (n : ℕ) → IsStand s → choices_of origins ≡ choices_in s → IsNumbered origins → ((p : ℕ) → IsTrue (is_hypothetical (choices_of origins) p) → p < length origins) →
+pub below_last : (s : Stand) (origins : List Origin) (n : ℕ) → IsStand s → choices_of origins ≡ choices_in s → IsNumbered origins →
     length s.premises ≤ n → IsTrue (is_user_at origins n) → length origins ≡ n + 1 → IsBelow n (set_of s.worldview)
-below_last s origins n stand same numbered below old user len p h =
+below_last s origins n stand same numbered old user len p h =
     elim (or_cases (users_of s p) (hypotheticals_of (choices_in s) s.list p) (sym (stand.believes p) ∙ h)) [
       | inl b ↦ omega (arith, in_range s.premises p (is_user_at-believed s.premises p b), old)
       | inr t ↦ side (rw (← same) at (taken_is_side (choices_in s) s.list p stand.is_list t))
@@ -112,13 +116,14 @@ below_last s origins n stand same numbered below old user len p h =
     side : IsTrue (is_hypothetical (choices_of origins) p) → p < n
     side t = elim (cases_eq p n) [
       | inl e ↦ absurd (both t (rw e (numbered.users n user)))
-      | inr apart ↦ omega (arith, below p t, len, apart)
+      | inr apart ↦ omega (arith, numbered.below p t, len, apart)
     ]
 
-pub stand_interned : (s : Stand) (name : List ℕ) → IsStand s → IsNumbered (s.premises ++ User name true ∷ []) →
+pub stand_interned : (s : Stand) (name : List ℕ) → IsStand s → length s.premises < most Premises →
     IsStand (record s { premises = s.premises ++ User name true ∷ []; worldview = s.worldview ++ length s.premises ∷ [] })
-stand_interned s name stand numbered = record {
-  numbered = numbered;
+stand_interned s name stand room = record {
+  numbered = numbered_user s.premises name true stand.numbered;
+  few = omega (arith, room, length-append s.premises (User name true ∷ []));
   is_list = rw (choices_of-user s.premises name true) stand.is_list;
   reasoned = stand.reasoned;
   believes = λ p. rw (choices_of-user s.premises name true, set_of-push s.worldview (length s.premises) p, stand.believes p, believed_push s.premises name (length s.premises) p refl)
@@ -134,9 +139,9 @@ stand_interned s name stand numbered = record {
 
 -- as much, where it is known only that there is one premise more
 pub interned_below : (s : Stand) (name : List ℕ) (origins : List Origin) (premise : ℕ) → IsStand s → origins ≡ with_name s.premises name → premise ≡ unwrap_or (premise_number s.premises name) (length s.premises) →
-    (length origins ≡ length s.premises → ⊥) → IsNumbered origins → ((p : ℕ) → IsTrue (is_hypothetical (choices_of origins) p) → p < length origins) → IsBelow premise (set_of s.worldview)
-interned_below s name origins premise stand now number more numbered below =
-    rw (number, new_number s.premises name apart) (below_last s origins (length s.premises) stand (ap choices_of new ∙ choices_of-user s.premises name true) numbered below (omega arith)
+    (length origins ≡ length s.premises → ⊥) → IsBelow premise (set_of s.worldview)
+interned_below s name origins premise stand now number more =
+    rw (number, new_number s.premises name apart) (below_last s origins (length s.premises) stand (ap choices_of new ∙ choices_of-user s.premises name true) (rw new (numbered_user s.premises name true stand.numbered)) (omega arith)
     (rw new (is_user_at-push s.premises name true (length s.premises) refl)) (ap length new ∙ length-append s.premises (User name true ∷ [])))
   where
     apart : length (with_name s.premises name) ≡ length s.premises → ⊥
@@ -146,8 +151,9 @@ interned_below s name origins premise stand now number more numbered below =
     new = now ∙ new_name s.premises name apart
 
 pub interned_stand : (s : Stand) (name : List ℕ) (origins : List Origin) (premise : ℕ) → IsStand s → origins ≡ with_name s.premises name → premise ≡ unwrap_or (premise_number s.premises name) (length s.premises) →
-    (length origins ≡ length s.premises → ⊥) → IsNumbered origins → IsStand (record s { premises = origins; worldview = s.worldview ++ premise ∷ [] })
-interned_stand s name origins premise stand now number more numbered = rw (new, number, new_number s.premises name apart) (stand_interned s name stand (rw new at numbered))
+    (length origins ≡ length s.premises → ⊥) → length origins ≤ most Premises → IsStand (record s { premises = origins; worldview = s.worldview ++ premise ∷ [] })
+interned_stand s name origins premise stand now number more few =
+    rw (new, number, new_number s.premises name apart) (stand_interned s name stand (omega (arith, few, ap length new, length-append s.premises (User name true ∷ []))))
   where
     apart : length (with_name s.premises name) ≡ length s.premises → ⊥
     apart e = more (ap length now ∙ e)
@@ -179,22 +185,24 @@ choices_taken n (Side name side sides ∷ os) (suc p) user len =
 pub choices_of-last : (os : List Origin) (p : ℕ) → IsTrue (is_user_at os p) → length os ≡ p + 1 → choices_of (take p os) ≡ choices_of os
 choices_of-last os p user len = choices_taken 0 os p user len
 
-user_taken : (os : List Origin) (m q : ℕ) → IsTrue (is_user_at (take m os) q) → IsTrue (is_user_at os q)
+pub user_taken : (os : List Origin) (m q : ℕ) → IsTrue (is_user_at (take m os) q) → IsTrue (is_user_at os q)
 user_taken os zero q h = absurd (both h refl)
 user_taken [] (suc m) q h = absurd (both h refl)
 user_taken (o ∷ os) (suc m) zero h = h
 user_taken (o ∷ os) (suc m) (suc q) h = user_taken os m q h
 
-pub stand_taken_back : (s : Stand) (p : ℕ) → IsStand s → ((q : ℕ) → IsTrue (is_hypothetical (choices_in s) q) → q < length s.premises) → IsTrue (is_user_at s.premises p) → length s.premises ≡ p + 1 →
+pub stand_taken_back : (s : Stand) (p : ℕ) → IsStand s → IsTrue (is_user_at s.premises p) → length s.premises ≡ p + 1 →
     IsStand (record s { premises = take p s.premises; worldview = filter (λ q. nat_lt q p) s.worldview })
-stand_taken_back s p stand below user len =
+stand_taken_back s p stand user len =
     let same = choices_of-last s.premises p user len in
     record {
       numbered = record {
         in_order = rw same stand.numbered.in_order;
         of_sides = rw same stand.numbered.of_sides;
+        below = λ q t. let l = side q (rw same at t) in omega (arith, l, taken);
         users = λ q u. rw same (stand.numbered.users q (user_taken s.premises p q u));
       };
+      few = (let f = stand.few in omega (arith, taken, len, f));
       is_list = rw same stand.is_list;
       reasoned = stand.reasoned;
       believes = rw same (believes_below s.premises p s.worldview (hypotheticals_of (choices_in s) s.list) (hypotheticals_of (choices_in s) s.list) stand.believes
@@ -202,10 +210,13 @@ stand_taken_back s p stand below user len =
       minimal = stand.minimal;
     }
   where
+    taken : length (take p s.premises) ≡ p
+    taken = length-take p s.premises ∙ omega (arith, len)
+
     side : (q : ℕ) → IsTrue (is_hypothetical (choices_in s) q) → q < p
     side q t = elim (cases_eq q p) [
       | inl e ↦ absurd (both t (rw e (stand.numbered.users p user)))
-      | inr apart ↦ omega (arith, below q t, len, apart)
+      | inr apart ↦ (let b = stand.numbered.below q t in omega (arith, b, len, apart))
     ]
 
 pub filter_push : (w : List ℕ) (n m : ℕ) → m ≡ n → IsBelow m (set_of w) → filter (λ p. nat_lt p m) (w ++ n ∷ []) ≡ w
@@ -217,13 +228,13 @@ interned_new s name none =
     ap (λ o. cond (is_some o) s (record s { premises = cond (is_some o) s.premises (s.premises ++ User name true ∷ []); worldview = s.worldview ++ length s.premises ∷ [] })) none
 
 -- what was just taken up goes, and all is as it was
-pub taken_back_undoes : (s : Stand) (p : ℕ) (before : Stand) (name : List ℕ) → IsNumbered s.premises → ((q : ℕ) → IsTrue (is_hypothetical (choices_in s) q) → q < length s.premises) →
+pub taken_back_undoes : (s : Stand) (p : ℕ) (before : Stand) (name : List ℕ) → IsNumbered s.premises →
     IsTrue (is_user_at s.premises p) → length s.premises ≡ p + 1 → IsStand before → premise_number before.premises name ≡ None → s ≡ interned before name →
     record s { premises = take p s.premises; worldview = filter (λ q. nat_lt q p) s.worldview } ≡ before
-taken_back_undoes s p before name numbered below user len stand none e =
+taken_back_undoes s p before name numbered user len stand none e =
     ap (λ t. cut t) now ∙ ap (λ os. record before { premises = os; worldview = filter (λ q. nat_lt q p) (before.worldview ++ length before.premises ∷ []) }) (take-front before.premises (User name true ∷ []) p count)
     ∙ ap (λ w. record before { worldview = w }) (filter_push before.worldview (length before.premises) p count
-    (below_last before s.premises p stand (ap (λ t. choices_of t.premises) now ∙ choices_of-user before.premises name true) numbered below (omega (arith, count)) user len))
+    (below_last before s.premises p stand (ap (λ t. choices_of t.premises) now ∙ choices_of-user before.premises name true) numbered (omega (arith, count)) user len))
   where
     cut : Stand → Stand
     cut t = record t { premises = take p t.premises; worldview = filter (λ q. nat_lt q p) t.worldview }

@@ -30,7 +30,6 @@ pub record OnWay {O : Type 0} (picks : O → ℕ → ℕ → O → Type 0) (libr
   pub premises : s.premises ≡ old.premises
   pub listed : (m : Members) → IsTrue (has_part old.listed m) → IsTrue (has_part s.listed m)
   pub search : IsSearch (problem_of library start) s
-  pub stand : IsStand s
   pub rest : d ≡ record start { contents = d.contents }
   pub under_way : IsUnderWay library (set_of s.worldview) d waiting
   pub gone : Goes picks library (users_of old) (choices_in old) old.list start line first steps s.list d waiting order

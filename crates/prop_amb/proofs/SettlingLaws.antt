@@ -105,12 +105,11 @@ module _ {O : Type 0} (picks : O → ℕ → ℕ → O → Type 0) (library : Li
 
   -- ---- the start
 
-  pub at_start : IsStand old → IsSearch (problem_of library start) old → IsUnderWay library (set_of old.worldview) start line → OnWay picks library old start line first old start line first 0
-  at_start stand learned under_way = record {
+  pub at_start : IsSearch (problem_of library start) old → IsUnderWay library (set_of old.worldview) start line → OnWay picks library old start line first old start line first 0
+  at_start learned under_way = record {
     premises = refl;
     listed = λ m t. t;
     search = learned;
-    stand = stand;
     rest = refl;
     under_way = under_way;
     gone = not_gone;
@@ -145,7 +144,7 @@ module _ {O : Type 0} (picks : O → ℕ → ℕ → O → Type 0) (library : Li
         rest = rest_on start d cells way.rest a.rest;
         under_way = subst (λ w. IsUnderWay library (set_of w) cells after) (sym (worldview_in s new a.only)) a.under_way;
         gone = subst (λ l. Goes picks library (users_of old) choices old.list start line first (steps + calls) l cells after next) (sym (ap (λ (x : Stand). x.list) a.only))
-            (goes_on picks library (users_of old) choices old.list start line first steps s.list d waiting order way.gone (set_of s.worldview) calls cells after next (believes_old s way.premises way.stand) a.turns);
+            (goes_on picks library (users_of old) choices old.list start line first steps s.list d waiting order way.gone (set_of s.worldview) calls cells after next believed a.turns);
         further = way.further;
         place = ap (λ (x : Stand). place_of choices x.list) a.only ∙ way.place;
         few = few_within way.further (most_steps problem) steps calls way.few few;
@@ -159,6 +158,9 @@ module _ {O : Type 0} (picks : O → ℕ → ℕ → O → Type 0) (library : Li
         falls = λ same. fall e (ap (λ (x : Stand). x.list) (sym a.only) ∙ same) way.since;
       }
     where
+      believed : set_of s.worldview ≡ worldview (users_of old) choices s.list
+      believed = rw (worldview_in s new a.only, ap (λ (x : Stand). x.list) a.only) at (believes_old new (premises_in s new a.only ∙ way.premises) a.stand)
+
       all : tried ≡ Spent → calls ≡ budget - steps → steps + calls ≡ budget
       all q x = omega (arith, x, within)
 
@@ -183,16 +185,15 @@ module _ {O : Type 0} (picks : O → ℕ → ℕ → O → Type 0) (library : Li
   in_old s same stand = subst (λ (o : List Origin). IsChoiceList (choices_of o) s.list) same stand.is_list
 
   pub after_move : (s : Stand) (d : Data) (waiting : List ℕ) (order : O) (steps budget : ℕ) (tried : Tried) (new : Stand) (after : List ℕ) (moves : ℕ) → OnTry picks library old start line first s d waiting order steps budget tried →
-      (tried ≡ Quiet → ⊥) → new.premises ≡ s.premises → new.listed ≡ s.listed → IsSearch (problem_of library d) new → IsStand new → IsUnderWay library (set_of new.worldview) d after →
+      (tried ≡ Quiet → ⊥) → new.premises ≡ s.premises → new.listed ≡ s.listed → IsSearch (problem_of library d) new → IsUnderWay library (set_of new.worldview) d after →
       1 ≤ moves → IsMove library (users_of s) (choices_in s) d moves s.list new.list waiting after → OnWay picks library old start line first new d after order (steps + moves)
-  after_move s d waiting order steps budget tried new after moves t restless same_premises same_listed learned stand under_way some move =
+  after_move s d waiting order steps budget tried new after moves t restless same_premises same_listed learned under_way some move =
       let move_old : IsMove library (users_of old) choices d moves s.list new.list waiting after = subst (λ (o : List Origin). IsMove library (believed_in o) (choices_of o) d moves s.list new.list waiting after) t.premises move in
       let less : place_of choices s.list + moves ≤ place_of choices new.list = (passed_place choices s.list new.list moves (in_old s t.premises t.stand) move_old.passes).1 in
       record {
         premises = same_premises ∙ t.premises;
         listed = λ m x. rw same_listed (t.listed m x);
         search = subst (λ p. IsSearch p new) (same_in library start d t.rest) learned;
-        stand = stand;
         rest = t.rest;
         under_way = under_way;
         gone = moved steps moves s.list new.list d waiting after order t.gone move_old;

@@ -1,6 +1,8 @@
 -- Where the search for the first consistent list stands, what it keeps, and how long it may take.
 use Rattle.std.specs.Prelude.{◌≡◌, ◌≢◌, ◌≤◌, ◌<◌, ◌⊎◌, ℕ, ◌+◌, ◌-◌, ◌*◌, IsTrue, List, [], length, Option, Some, slice_get, slice_index_or, take, All}
 use Rattle.std.specs.List.{AllZip}
+use Rattle.prop_lattice.specs.Refusals.{most}
+use Rattle.prop_lattice.specs.declared.refusal.Limit.TheVariants.{Premises}
 use Rattle.prop_premises.specs.Sets.{Members, IsSame, set_of}
 use Rattle.prop_premises.specs.Origins.{Origin, believed_in, choices_of, IsNumbered}
 use Rattle.prop_premises.specs.declared.choice.Choice.{Choice}
@@ -28,9 +30,11 @@ users_of s = believed_in s.premises
 abbrev pub choices_in : Stand → List Choice
 choices_in s = choices_of s.premises
 
--- There is one side for each choice and one reason for each side that it left, and what is believed is the worldview of the list.
+-- There are as many premises as there may be at the most, one side for each choice and one reason for each side that it left, and what is believed
+-- is the worldview of the list.
 pub record IsStand (s : Stand) : Type 0 where
   pub numbered : IsNumbered s.premises
+  pub few : length s.premises ≤ most Premises
   pub is_list : IsChoiceList (choices_in s) s.list
   pub reasoned : AllZip (λ side reasons. length reasons + 1 ≡ side) s.list s.reasons
   pub believes : IsSame (set_of s.worldview) (worldview (users_of s) (choices_in s) s.list)

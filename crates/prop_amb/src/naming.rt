@@ -32,7 +32,6 @@ impl Search {
         if self.premises.len() == count {
             return Ok(premise);
         }
-        self.premises.numbered();
         match self.worldview.believe(premise) {
             Ok(()) => Ok(premise),
             Err(AllocError) => {
@@ -51,7 +50,6 @@ impl Search {
         // Where it had just been taken up, all is as before.
         ensures undoes { (before : Stand) (name : List ℕ) → IsStand before → premise_number before.premises name ≡ None → self.old ≡ interned before name → self.new ≡ before }
     {
-        self.premises.numbered();
         self.premises.back(usize::from(premise));
         self.worldview.back(premise);
     }
@@ -104,7 +102,6 @@ impl Search {
         let Ok(choice) = self.premises.hypothetical(name, sides) else {
             return Err(AllocError);
         };
-        self.premises.numbered();
         match self.worldview.believe(choice.first) {
             Ok(()) => {
                 self.list.push(1)?;
@@ -130,7 +127,6 @@ impl Search {
         let _ = self.list.pop();
         let _ = self.reasons.pop();
         self.premises.back(usize::from(choice.first));
-        self.premises.numbered();
         self.worldview.back(choice.first);
     }
 }

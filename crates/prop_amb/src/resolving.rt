@@ -59,8 +59,6 @@ impl Search {
         ensures may { IfOk result (λ r. IfLeaves r (MayAdvance self.now place)) }
         ensures looked { IfOk result (λ r. (problem : Problem) → IsSearch problem self.now → IsWithin self.now (place + 1) (set_of set) → IsShown problem self.now (set_of set) → IsLooked problem self.now place r) }
     {
-        self.premises.numbered();
-        let _numbers = self.premises.len();
         let choice = self.premises.choices()[place];
         let side = self.list[place];
         let premise = choice.first + Premise::from(side - 1);

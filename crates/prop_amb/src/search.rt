@@ -67,16 +67,10 @@ impl Search {
 
     /// What is believed: the believed premises of the user's, and the side on which each choice stands.
     pub fn worldview(&self) -> &Worldview
-        ensures { result.now ≡ self.now.worldview }
+        ensures same { result.now ≡ self.now.worldview }
+        ensures stand { IsStand self.now }
     {
         &self.worldview
-    }
-
-    /// What a search keeps by itself, whatever the problem.
-    pub fn well_made(&self)
-        ensures { IsStand self.now }
-    {
-        let _ = &self.list;
     }
 
     /// Notes a nogood, and answers whether it says more than those noted before.
@@ -85,6 +79,7 @@ impl Search {
     pub fn note(&mut self, nogood: PremiseSet) -> Result<bool, AllocError>
         ensures only { self.new ≡ record self.old { listed = self.new.listed } }
         ensures adds { OnOk result (AddsSet self.old.listed self.new.listed nogood) }
+        ensures stand { IsStand self.new }
         ensures new { IfOk result (λ is_new. is_new ≡ not (has_part self.old.listed (set_of nogood))) }
         ensures known { IsTrue (has_part self.old.listed (set_of nogood)) → (result ≡ Ok false) × (self.new ≡ self.old) }
         ensures err { OnErr result (self.new ≡ self.old) }
@@ -98,6 +93,7 @@ impl Search {
         ensures listed { IfSome result (λ s. Contains self.now.listed s.now) }
         ensures believed { IfSome result (λ s. IsTrue (is_within (set_of self.now.worldview) s.now)) }
         ensures none { result ≡ None → has_part self.now.listed (set_of self.now.worldview) ≡ false }
+        ensures stand { IsStand self.now }
     {
         self.store.blocks(&self.worldview)
     }
@@ -108,6 +104,7 @@ impl Search {
         ensures listed { IfSome result (λ s. Contains self.now.listed s.now) }
         ensures believed { IfSome result (λ s. IsTrue (is_within (set_of self.now.worldview) s.now)) }
         ensures none { result ≡ None → PartsEndBelow self.now.listed (set_of self.now.worldview) from }
+        ensures stand { IsStand self.now }
     {
         self.store.blocks_early(&self.worldview, from)
     }

@@ -73,9 +73,6 @@ fn attempt<R: Rule + Drop, O: Order>(
     ensures falls { IfOk result (λ r. potential (problem_of (stored_of R.value_of network.old.library) network.old.cells) (beliefs (set_of search.old.worldview) network.new.cells.contents) agenda.new.line + r.1 ≤ potential (problem_of (stored_of R.value_of network.old.library) network.old.cells) (beliefs (set_of search.old.worldview) network.old.cells.contents) agenda.old.line) }
     ensures few { IfOk result (λ r. r.1 ≤ most_steps (problem_of (stored_of R.value_of network.old.library) network.old.cells)) }
 {
-    network.data().well_made();
-    let _waiting = agenda.waiting();
-    search.well_made();
     if let Some(nogood) = search.blocked() {
         return Ok((Tried::Refuted(nogood.copy()?), 0));
     }
@@ -85,7 +82,6 @@ fn attempt<R: Rule + Drop, O: Order>(
         Run::Spent => Ok((Tried::Spent, calls)),
         Run::Clash(support) => {
             search.note(support.copy()?)?;
-            search.well_made();
             Ok((Tried::Refuted(support), calls))
         }
     }
@@ -96,12 +92,10 @@ fn attempt<R: Rule + Drop, O: Order>(
 fn go_on(search: &mut Search, from: Premise) -> Result<Option<Premise>, AllocError>
     ensures premises { search.new.premises ≡ search.old.premises }
     ensures listed { search.new.listed ≡ search.old.listed }
-    ensures stand { IsStand search.new }
     ensures search { (problem : Problem) → IsSearch problem search.old → IsSearch problem search.new }
     ensures stays { result ≡ Ok None → search.new ≡ search.old }
     ensures moves { IfOk result (λ r. IfSome r (λ moved. (problem : Problem) → IsSearch problem search.old → Passes problem (users_of search.old) (choices_in search.old) search.old.list 1 search.new.list)) }
 {
-    search.well_made();
     let Some(blocking) = search.blocked_early(from) else {
         return Ok(None);
     };
@@ -111,7 +105,6 @@ fn go_on(search: &mut Search, from: Premise) -> Result<Option<Premise>, AllocErr
         Resolved::Against(place, reason) => {
             let moved = search.premises().choices()[place].first;
             drop(search.advance(place, reason)?);
-            search.well_made();
             Ok(Some(moved))
         }
     }
@@ -125,12 +118,10 @@ fn go_on(search: &mut Search, from: Premise) -> Result<Option<Premise>, AllocErr
 fn pass(search: &mut Search, most: u64) -> Result<u64, AllocError>
     ensures premises { search.new.premises ≡ search.old.premises }
     ensures listed { search.new.listed ≡ search.old.listed }
-    ensures stand { IsStand search.new }
     ensures search { (problem : Problem) → IsSearch problem search.old → IsSearch problem search.new }
     ensures few { IfOk result (λ n. n ≤ most) }
     ensures moves { IfOk result (λ n. (problem : Problem) → IsSearch problem search.old → Passes problem (users_of search.old) (choices_in search.old) search.old.list n search.new.list) }
 {
-    search.well_made();
     let mut moves = 0;
     let mut from = 0;
     while moves < most {
@@ -158,6 +149,7 @@ fn decide<R: Rule + Drop>(
     requires cells { length network.now.cells.kinds ≤ agenda.old.cells }
     requires search { IsSearch (problem_of (stored_of R.value_of network.now.library) network.now.cells) search.old }
     requires under_way { IsUnderWay (stored_of R.value_of network.now.library) (set_of search.old.worldview) network.now.cells agenda.old.line }
+    requires stand { IsStand search.old }
     requires met { IfRefuted tried (IsMet (problem_of (stored_of R.value_of network.now.library) network.now.cells) search.old) }
     ensures premises { search.new.premises ≡ search.old.premises }
     ensures listed { search.new.listed ≡ search.old.listed }
@@ -177,7 +169,6 @@ fn decide<R: Rule + Drop>(
     ensures few { IfOk result (λ r. r.1 ≤ most) }
     ensures moves { IfOk result (λ r. r.0 ≡ None → IsMove (stored_of R.value_of network.now.library) (users_of search.old) (choices_in search.old) network.now.cells r.1 search.old.list search.new.list agenda.old.line agenda.new.line) }
 {
-    search.well_made();
     let nogood = match tried {
         Tried::Quiet => return Ok((Some(Outcome::Settled), 0)),
         Tried::Spent => return Ok((Some(Outcome::Unsettled), 0)),
@@ -190,7 +181,6 @@ fn decide<R: Rule + Drop>(
                 return Ok((Some(Outcome::Unsettled), 0));
             }
             let before = search.advance(place, reason)?;
-            search.well_made();
             let passed = pass(search, most - 1);
             alert_shifted(network, agenda, &before, search.worldview());
             drop(before);
@@ -225,6 +215,7 @@ pub fn settle<R: Rule + Drop, O: Order>(
     ensures premises { search.new.premises ≡ search.old.premises }
     ensures listed { (m : Members) → IsTrue (has_part search.old.listed m) → IsTrue (has_part search.new.listed m) }
     ensures search { IsSearch (problem_of (stored_of R.value_of network.old.library) network.old.cells) search.new }
+    ensures stand { IsStand search.new }
     ensures under_way { IsUnderWay (stored_of R.value_of network.old.library) (set_of search.new.worldview) network.new.cells agenda.new.line }
     ensures settled { IfOk result (λ r. r.0 ≡ Outcome.Settled → IsSettled (stored_of R.value_of network.old.library) (set_of search.new.worldview) network.new.cells) }
     ensures first { IfOk result (λ r. r.0 ≡ Outcome.Settled → IsFirstConsistent (problem_of (stored_of R.value_of network.old.library) network.old.cells) (users_of search.new) (choices_in search.new) search.new.list) }
@@ -241,7 +232,6 @@ pub fn settle<R: Rule + Drop, O: Order>(
     ensures at_rest { IfOk result (λ r. agenda.old.line ≡ [] → IsFree (set_of search.old.worldview) network.old.cells → has_part search.old.listed (set_of search.old.worldview) ≡ false → (r.0 ≡ Outcome.Settled) × (r.1 ≡ 0)) }
     ensures gone { IfOk result (λ r. Goes O.picks (stored_of R.value_of network.old.library) (users_of search.old) (choices_in search.old) search.old.list network.old.cells agenda.old.line order.old r.1 search.new.list network.new.cells agenda.new.line order.new) }
 {
-    search.well_made();
     let mut steps: u64 = 0;
     loop {
         let (tried, calls) = attempt(alloc, search, network, agenda, order, budget - steps)?;

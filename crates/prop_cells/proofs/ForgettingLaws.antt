@@ -200,6 +200,7 @@ module _ (p : ℕ) where
 
   pub kept_forgotten : (library : List Stored) (d : Data) → IsKept library d → IsKept library (forgotten p d)
   kept_forgotten library d h = record {
+    made = made_forgotten d h.made;
     fits = h.fits;
     founded = λ cell. rw (content_forgotten p d.contents cell)
         (left_keeps (λ e. not (set_of e.support p)) (IsFounded (problem_of library d) cell) (IsFounded (problem_of library (forgotten p d)) cell) (still_founded library d cell) (content_of d.contents cell) (h.founded cell));

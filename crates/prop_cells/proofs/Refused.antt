@@ -3,7 +3,7 @@ use Rattle.std.proofs.Common.{◌≡◌, ◌∙◌, ◌<◌, ◌≤◌, ◌^◌,
 use Rattle.std.specs.List.{list_any}
 use Rattle.std.specs.Option.{option_map_or, option_or}
 use Rattle.std.specs.Bool.{Decides}
-use Rattle.std.proofs.lemmas.Bool.{cases_lt, le-leb, lt-leb, eq-eqb, ne_eqb, eqb-true, both_ways}
+use Rattle.std.proofs.lemmas.Bool.{cases_lt, le-leb, lt-leb, leb-false, eq-eqb, ne_eqb, eqb-true, both_ways}
 use Rattle.std.proofs.lemmas.Bool.Decides.{same_from_decides}
 use Rattle.std.proofs.lemmas.List.Elements.{All-pop}
 use Rattle.std.proofs.lemmas.List.Folds.{list_any_at, list_any-append}
@@ -75,6 +75,11 @@ pub stated_fits : (d : Data) (cell : ℕ) (info : Info) → state_refusal d cell
 stated_fits d cell info e =
     let h = none_of_three (nat_le (length d.kinds) cell) (may_be_stated (kind_at d.kinds cell).kind (kind_at d.kinds cell).size info) (nat_le (most Statements) (length d.statements)) NoSuchCell WrongKind (LimitReached Statements) e in
     stated_of_kind (kind_at d.kinds cell).kind (kind_at d.kinds cell).size info h.1
+
+pub stated_within : (d : Data) (cell : ℕ) (info : Info) → state_refusal d cell info ≡ None → cell < length d.kinds
+stated_within d cell info e =
+    let h = none_of_three (nat_le (length d.kinds) cell) (may_be_stated (kind_at d.kinds cell).kind (kind_at d.kinds cell).size info) (nat_le (most Statements) (length d.statements)) NoSuchCell WrongKind (LimitReached Statements) e in
+    leb-false (length d.kinds) cell h.0
 
 -- ---- attachments
 

@@ -7,10 +7,12 @@ use Rattle.std.proofs.Math.Seq.{take-length}
 use Rattle.prop_lattice.specs.declared.info.Info.{Info}
 use Rattle.prop_lattice.specs.declared.info.Info.TheVariants.{Nothing}
 use Rattle.prop_lattice.specs.Order.{Below, merge_of}
+use Rattle.prop_lattice.specs.Rank.{IsOf}
 use Rattle.prop_premises.specs.Sets.{set_of, is_below}
 use Rattle.prop_premises.proofs.WithinLemmas.{within_has, within_from}
 use Rattle.prop_tms.specs.Beliefs.{Subsumes, joined_with}
 use Rattle.prop_tms.proofs.KeptLemmas.{grown_filter}
+use Rattle.prop_procedures.specs.Fitting.{kind_at}
 use Rattle.prop_procedures.specs.Stored.{Stored}
 use Rattle.prop_cells.specs.declared.instance.Statement.{Statement}
 use Rattle.prop_cells.specs.Problems.{Problem}
@@ -51,9 +53,14 @@ states_rest (x ∷ xs) old new h =
     states_rest xs h.0 new h.2 ∙ (λ i. record (h.1.rest i) { statements = (h.1.rest i).statements ++ xs; contents = new.contents }) ∙
     (λ i. record old { statements = append_assoc old.statements (x ∷ []) xs i; contents = new.contents })
 
-pub states_kept : (library : List Stored) (xs : List Statement) (old new : Data) → IsKept library old → StatesAll old new xs → IsKept library new
-states_kept library [] old new kept h = rw h kept
-states_kept library (x ∷ xs) old new kept h = states_kept library xs h.0 new (kept_statement library old h.0 x kept h.1.rest h.1.adds) h.2
+pub states_kept : (library : List Stored) (first cell : ℕ) (infos : List Info) (old new : Data) → cell < length old.kinds → All (IsOf (kind_at old.kinds cell).kind (kind_at old.kinds cell).size) infos →
+    IsKept library old → StatesAll old new (sides_at first cell infos) → IsKept library new
+states_kept library first cell [] old new within of_kind kept h = rw h kept
+states_kept library first cell (info ∷ infos) old new within of_kind kept h =
+    let same : h.0.kinds ≡ old.kinds = ap (λ (d : Data). d.kinds) h.1.rest in
+    let here = All-head (IsOf (kind_at old.kinds cell).kind (kind_at old.kinds cell).size) info infos of_kind in
+    let rest = All-tail (IsOf (kind_at old.kinds cell).kind (kind_at old.kinds cell).size) info infos of_kind in
+    states_kept library (suc first) cell infos h.0 new (rw same within) (rw same rest) (kept_statement library old h.0 (side_at first cell info) within here kept h.1.rest h.1.adds) h.2
 
 -- ---- premises that no statement has
 

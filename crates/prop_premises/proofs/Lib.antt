@@ -15,3 +15,4 @@ pub mod SideLemmas
 pub mod ChangeLemmas
 pub mod WorldviewLemmas
 pub mod BelievedLemmas
+pub mod NumberingLaws

@@ -1,5 +1,5 @@
 -- The numbers of a table of names: the sides of a choice have numbers in a row, and the user's premises the others.
-use Rattle.std.proofs.Common.{◌≡◌, ℕ, zero, suc, ◌+◌, ◌-◌, ◌<◌, ◌≤◌, Bool, true, false, ◌||◌, List, [], ◌∷◌, ◌++◌, length, refl, sym, ap, subst, ◌∙◌, inl, inr, arith, IsTrue, String, string_bytes, length-append}
+use Rattle.std.proofs.Common.{◌≡◌, ℕ, zero, suc, ◌+◌, ◌-◌, ◌<◌, ◌≤◌, Bool, true, false, ◌||◌, List, [], ◌∷◌, ◌++◌, length, refl, sym, ap, subst, ◌∙◌, inl, inr, arith, String, string_bytes, length-append}
 use Rattle.std.specs.List.{AllByRecursion}
 use Rattle.std.specs.Option.{option_map_or}
 use Rattle.std.proofs.lemmas.Bool.{cases_lt}
@@ -134,9 +134,6 @@ numbered es h =
     record {
       in_order = r.in_order;
       of_sides = r.of_sides;
+      below = λ p e. omega (arith, r.below p e);
       users = λ p u. ap (λ k. is_hypothetical (choices_of (origins_of es)) k) (omega arith) ∙ r.user p u;
     }
-
--- the sides of choices are below the length
-pub numbered-below : {A : Type 0} (es : List (String A × Named)) → AreNumberedFrom 0 es → (p : ℕ) → IsTrue (is_hypothetical (choices_of (origins_of es)) p) → p < length (origins_of es)
-numbered-below es h p e = omega (arith, (row 0 es h).below p e)

@@ -1,5 +1,5 @@
 -- Premises in order of number: where each comes from, and which of the user's are believed.
-use Rattle.std.specs.Prelude.{◌≡◌, ℕ, zero, suc, ◌==◌, Bool, true, false, cond, bytes_eq, IsTrue, List, [], ◌∷◌, ◌++◌, position, Option, Some, None, is_some}
+use Rattle.std.specs.Prelude.{◌≡◌, ◌<◌, ℕ, zero, suc, ◌==◌, Bool, true, false, cond, bytes_eq, IsTrue, List, [], ◌∷◌, ◌++◌, length, position, Option, Some, None, is_some}
 use Rattle.std.specs.List.{list_any}
 use Rattle.prop_premises.specs.Sets.{Members}
 use Rattle.prop_premises.specs.declared.choice.Choice.{Choice}
@@ -105,8 +105,9 @@ is_start [] (suc p) = false
 is_start (o ∷ os) zero = starts o
 is_start (o ∷ os) (suc p) = is_start os p
 
--- The sides of a choice have numbers in a row, those of later choices larger ones, and none of them is a premise of the user's.
+-- The sides of a choice have numbers in a row, those of later choices larger ones; each of them is one of these premises, and none is the user's.
 pub record IsNumbered (origins : List Origin) : Type 0 where
   pub in_order : AreInOrder (choices_of origins)
   pub of_sides : AreOfSides (choices_of origins)
+  pub below : (p : ℕ) → IsTrue (is_hypothetical (choices_of origins) p) → p < length origins
   pub users : (p : ℕ) → IsTrue (is_user_at origins p) → is_hypothetical (choices_of origins) p ≡ false

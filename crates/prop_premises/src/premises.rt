@@ -3,7 +3,7 @@ ghost use Rattle.std.specs.Prelude.{◌≡◌, ◌≤◌, ◌<◌, ◌+◌, ◌*
 ghost use Rattle.prop_lattice.specs.Refusals.{most};
 ghost use Rattle.prop_premises.specs.Sets.{Members, set_of, union, without, IsSame};
 ghost use Rattle.prop_premises.specs.Words.{has_bit};
-ghost use Rattle.prop_premises.specs.Origins.{Origin, name_of, is_user_at, premise_number, is_choice, believed_in, with_belief_at, with_name, with_choice, choices_of, side_at, is_start, IsNumbered};
+ghost use Rattle.prop_premises.specs.Origins.{Origin, name_of, is_user_at, premise_number, is_choice, believed_in, with_belief_at, with_name, with_choice, choices_of, side_at, is_start};
 ghost use Rattle.prop_premises.specs.ChoiceLists.{hypotheticals_of, is_hypothetical, worldview, IsChoiceList};
 
 use crate::bits::set_bit;
@@ -243,7 +243,6 @@ impl Premises {
         ensures { IfOk result (λ w. IsSame (set_of w) (worldview (believed_in self.now) (choices_of self.now) sides.now)) }
     {
         let mut words = blank(self.table.alloc(), self.table.len())?;
-        self.table.numbered();
         self.table.set_believed(&mut words);
         set_sides(&mut words, &self.choices, sides);
         Ok(Worldview::from_words(Words::of(words)))
@@ -257,14 +256,5 @@ impl Premises {
         self.table.back(count);
         self.choices
             .retain(|choice| usize::from(choice.first) < count);
-    }
-
-    /// The invariant: the sides of a choice have numbers in a row, those of later choices larger ones, and the other numbers are the user's premises.
-    pub fn numbered(&self)
-        ensures numbered { IsNumbered self.now }
-        ensures below { (p : ℕ) → IsTrue (is_hypothetical (choices_of self.now) p) → p < length self.now }
-        ensures believed { (p : ℕ) → IsTrue (believed_in self.now p) → IsTrue (is_user_at self.now p) }
-    {
-        self.table.numbered();
     }
 }

@@ -84,6 +84,7 @@ impl Table {
     pub(crate) fn len(&self) -> usize
         ensures len { result ≡ length self.now }
         ensures bound { result ≤ 4_096 }
+        ensures below { (p : ℕ) → IsTrue (is_hypothetical (choices_of self.now) p) → p < length self.now }
     {
         self.places.len()
     }
@@ -197,14 +198,5 @@ impl Table {
             self.names.truncate(usize::from(self.places[count]));
             self.places.truncate(count);
         }
-    }
-
-    /// The sides of a choice have numbers in a row, and the user's premises the others.
-    pub(crate) fn numbered(&self)
-        ensures numbered { IsNumbered self.now }
-        ensures below { (p : ℕ) → IsTrue (is_hypothetical (choices_of self.now) p) → p < length self.now }
-        ensures bound { length self.now ≤ 4_096 }
-    {
-        let _names = &self.names;
     }
 }

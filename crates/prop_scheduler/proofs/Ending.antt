@@ -7,7 +7,7 @@ use Rattle.prop_procedures.specs.Stored.{Stored}
 use Rattle.prop_cells.proofs.Adding.{beliefs_of_kinds}
 use Rattle.prop_cells.specs.Problems.{Premises}
 use Rattle.prop_cells.specs.Instances.{constraint_of}
-use Rattle.prop_cells.specs.Data.{Data, IsWellMade, beliefs, problem_of}
+use Rattle.prop_cells.specs.Data.{Data, beliefs, problem_of}
 use Rattle.prop_scheduler.specs.Agendas.{Waiting, IsLine}
 use Rattle.prop_scheduler.specs.Turns.{IsUnderWay, Turns}
 use Rattle.prop_scheduler.specs.Turns.Turns.{none, more}
@@ -23,11 +23,11 @@ no_turns picks library s start line order _ _ _ _ (more n place d new waiting af
     absurd (omega (arith, idle.1, slice_get_within waiting place turn.called turn.waits))
 
 -- a network under way, whose line has no instance twice, can take no more than the most steps
-pub under_way_within : (library : List Stored) (s : Premises) (d : Data) (a : Waiting) → IsWellMade d → IsLine a.line a.room → IsUnderWay library s d a.line →
+pub under_way_within : (library : List Stored) (s : Premises) (d : Data) (a : Waiting) → IsLine a.line a.room → IsUnderWay library s d a.line →
     potential (problem_of library d) (beliefs s d.contents) a.line ≤ most_steps (problem_of library d)
-under_way_within library s d a made line under_way =
+under_way_within library s d a line under_way =
     let n = length-map d.instances (constraint_of library) in
-    most_is_most (problem_of library d) (beliefs s d.contents) a.line (beliefs_of_kinds d made s)
+    most_is_most (problem_of library d) (beliefs s d.contents) a.line (beliefs_of_kinds d under_way.kept.made s)
     (record {
       once = line.once;
       below = All-weaker (λ j. j < length d.instances) (λ j. j < length (map (constraint_of library) d.instances)) (λ j h. omega (arith, h, n)) a.line under_way.line_below;

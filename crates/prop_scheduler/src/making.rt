@@ -205,7 +205,7 @@ fn make_some<R: Rule + Drop>(
     ensures kept { IsKept (stored_of R.value_of network.new.library) network.new.cells }
     ensures ok { OnOk result (network.new.cells ≡ with_flat (stored_of R.value_of network.old.library) network.old.cells cells.now flat) }
     ensures err { IfErr result (λ e. e ≡ Refusal.Memory) }
-    ensures back { IsWellMade network.old.cells → GoesBackTo network.old.cells network.new.cells }
+    ensures back { GoesBackTo network.old.cells network.new.cells }
 {
     let Flat {
         fresh,
@@ -245,7 +245,6 @@ fn make_all<R: Rule + Drop>(
     ensures err { IfErr result (λ e. e ≡ Refusal.Memory) }
     ensures err_same { OnErr result (network.new.cells ≡ network.old.cells) }
 {
-    network.data().well_made();
     let base = Base {
         cell: network.cells(),
         param: network.data().params().len(),

@@ -22,7 +22,7 @@ use Rattle.prop_procedures.specs.declared.shape.Param.{Param}
 use Rattle.prop_procedures.specs.Stored.{Stored, span_kind}
 use Rattle.prop_cells.specs.Problems.{Problem}
 use Rattle.prop_cells.specs.Reach.{Explains}
-use Rattle.prop_cells.specs.Data.{Data, IsKept, IsWellMade, beliefs, problem_of}
+use Rattle.prop_cells.specs.Data.{Data, IsKept, beliefs, problem_of}
 use Rattle.prop_procedures.specs.Fitting.{kind_at}
 use Rattle.prop_cells.proofs.Adding.{beliefs_of_kinds}
 use Rattle.prop_cells.proofs.Founding.{believed_entailed}
@@ -129,13 +129,13 @@ settled_value library names words definitions premises d limit list cell v settl
 }
 
 unsettled_value : (library : List Stored) (names : CellNames) (words : Vocabulary) (definitions : Definitions) (premises : List Origin) (d : Data) (limit : ℕ) (list : List ℕ) (cell : ℕ) (name : List ℕ) (v : Info) → cell_named names name ≡ Some cell → All (λ k. k < length d.kinds) names.cells →
-    IsKept library d → IsWellMade d → v ≡ beliefs (worldview_in premises list) d.contents cell → IsUnsettledValue library (state_from names words definitions premises d limit) list cell v
-unsettled_value library names words definitions premises d limit list cell name v found named kept made is_v =
+    IsKept library d → v ≡ beliefs (worldview_in premises list) d.contents cell → IsUnsettledValue library (state_from names words definitions premises d limit) list cell v
+unsettled_value library names words definitions premises d limit list cell name v found named kept is_v =
     let l : cell < length d.kinds = of_named (λ k. k < length d.kinds) names name cell named found in
     record {
-      of_kind = rw is_v ((beliefs_of_kinds d made (worldview_in premises list)).of_kind cell (kind_at d.kinds cell) (slice_get-get_or d.kinds cell span_kind l));
+      of_kind = rw is_v ((beliefs_of_kinds d kept.made (worldview_in premises list)).of_kind cell (kind_at d.kinds cell) (slice_get-get_or d.kinds cell span_kind l));
       entailed = rw is_v (believed_entailed library d (worldview_in premises list) kept cell);
-      stated = λ k x m believed here. rw (is_v, ← here) ((made.stated k x m).below (worldview_in premises list) believed);
+      stated = λ k x m believed here. rw (is_v, ← here) ((kept.made.stated k x m).below (worldview_in premises list) believed);
     }
 
 -- the cell with a name is there
@@ -149,10 +149,10 @@ settled_in value s cell sound rest =
     let same = believes_same s.search sound.at_work.well_made in
     settled_value (library_of value s) s.names s.words s.definitions s.search.premises s.network.cells s.limit s.search.list cell _ (subst (λ (b : Members). IsSettled (library_of value s) b s.network.cells) same rest) (ap (λ (b : Members). beliefs b s.network.cells.contents cell) same)
 
-pub unsettled_in : {R O : Type 0} {X : Type 0} {F : X → Type 0} {g : _} (value : R → Param → List Info → Info) (s : Session R O X F g) (name : List ℕ) (cell : ℕ) → IsInOrder value s → IsWellMade s.network.cells → cell_named s.names name ≡ Some cell →
+pub unsettled_in : {R O : Type 0} {X : Type 0} {F : X → Type 0} {g : _} (value : R → Param → List Info → Info) (s : Session R O X F g) (name : List ℕ) (cell : ℕ) → IsInOrder value s → cell_named s.names name ≡ Some cell →
     IsUnsettledValue (library_of value s) (state_of s) s.search.list cell (beliefs (set_of s.search.worldview) s.network.cells.contents cell)
-unsettled_in value s name cell sound made named =
-    unsettled_value (library_of value s) s.names s.words s.definitions s.search.premises s.network.cells s.limit s.search.list cell name _ named sound.named sound.at_work.under_way.kept made
+unsettled_in value s name cell sound named =
+    unsettled_value (library_of value s) s.names s.words s.definitions s.search.premises s.network.cells s.limit s.search.list cell name _ named sound.named sound.at_work.under_way.kept
     (ap (λ (b : Members). beliefs b s.network.cells.contents cell) (believes_same s.search sound.at_work.well_made))
 
 -- and what explains it does so by what is believed with the choices as they stand

@@ -63,11 +63,6 @@ SettledTextsMeet library =
 abbrev pub SettledIsFree : List Stored → Type 0
 SettledIsFree library = (s : State) (list premises : List ℕ) → IsNumbered s.premises → MayEnd library s (Settled list) → MayEnd library s (Contradiction premises) → ⊥
 
--- premises are numbered, and each side of a choice is one of them
-pub record AreNumbered (origins : List Origin) : Type 0 where
-  pub numbered : IsNumbered origins
-  pub below : (p : ℕ) → IsTrue (is_hypothetical (choices_of origins) p) → p < length origins
-
 -- each line leaves the premises numbered
 abbrev pub StepsKeepNumbers : List Stored → Type 0
-StepsKeepNumbers library = (old new : State) (line : List ℕ) (answer : Answer) (steps : ℕ) → AreNumbered old.premises → Step library old line answer new steps → AreNumbered new.premises
+StepsKeepNumbers library = (old new : State) (line : List ℕ) (answer : Answer) (steps : ℕ) → IsNumbered old.premises → Step library old line answer new steps → IsNumbered new.premises

@@ -60,16 +60,14 @@ impl<R: Rule + Drop, O: Order + Drop> Session<R, O> {
         ensures gone { IfOk result (λ r. HasGone O.picks (library_of R.value_of self.old) (state_of self.old) (work_of self.old) (work_of self.new) r.1) }
         ensures left { IfOk result (λ r. r.0 ≡ Outcome.Unsettled → IsUnfinished R.value_of self.old self.new) }
     {
-        let ended = settle(
+        settle(
             self.alloc,
             &mut self.search,
             &mut self.network,
             &mut self.agenda,
             &mut self.order,
             self.limit,
-        );
-        self.search.well_made();
-        ended
+        )
     }
 
     /// Runs the network and answers the question, and tells in how many steps.
@@ -128,7 +126,6 @@ impl<R: Rule + Drop, O: Order + Drop> Session<R, O> {
         ensures lean { IsLeanIn self.now (command_of question.entry) (answer_of result) }
     {
         let mark = " unsettled";
-        self.network.data().well_made();
         match question {
             Question::Settle | Question::Worldview => text_reply(self.alloc, "unsettled"),
             Question::Ask(cell, name) => self.value_of(cell, name, self.belief(cell), mark),

@@ -75,10 +75,7 @@ impl<R: Rule + Drop, O: Order + Drop> Session<R, O> {
         if self.names.is_missing(cells) {
             return Err(Refusal::NoSuchCell);
         }
-        let numbers = match self.names.numbers(self.alloc, cells) {
-            Ok(numbers) => numbers,
-            Err(AllocError) => return Err(Refusal::Memory),
-        };
+        let numbers = self.names.numbers(self.alloc, cells)?;
         self.use_on(name, &numbers, by)
     }
 

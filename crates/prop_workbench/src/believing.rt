@@ -4,7 +4,6 @@ use crate::session::Session;
 use prop_lattice::Refusal;
 use prop_procedures::Rule;
 use prop_scheduler::{Order, alert_shifted};
-use std::alloc::AllocError;
 
 impl<R: Rule + Drop, O: Order + Drop> Session<R, O> {
     ghost use Rattle.std.specs.Prelude.{◌≡◌};
@@ -21,20 +20,16 @@ impl<R: Rule + Drop, O: Order + Drop> Session<R, O> {
         ensures step { IsDone R.value_of self.old (commands.Command.Kick name.now) result self.new }
     {
         let premise = self.search.premises().find(name)?;
-        match self.search.kick(premise) {
-            Ok(Some(before)) => {
-                self.search.well_made();
-                alert_shifted(
-                    &self.network,
-                    &mut self.agenda,
-                    &before,
-                    self.search.worldview(),
-                );
-                Ok(())
-            }
-            Ok(None) => Ok(()),
-            Err(AllocError) => Err(Refusal::Memory),
-        }
+        let Some(before) = self.search.kick(premise)? else {
+            return Ok(());
+        };
+        alert_shifted(
+            &self.network,
+            &mut self.agenda,
+            &before,
+            self.search.worldview(),
+        );
+        Ok(())
     }
 
     /// The premise with a name is believed from now on. Where that is a change, of the cells that it shifts the readers and writers wait.
@@ -44,19 +39,15 @@ impl<R: Rule + Drop, O: Order + Drop> Session<R, O> {
         ensures step { IsDone R.value_of self.old (commands.Command.Bring name.now) result self.new }
     {
         let premise = self.search.premises().find(name)?;
-        match self.search.bring(premise) {
-            Ok(Some(before)) => {
-                self.search.well_made();
-                alert_shifted(
-                    &self.network,
-                    &mut self.agenda,
-                    &before,
-                    self.search.worldview(),
-                );
-                Ok(())
-            }
-            Ok(None) => Ok(()),
-            Err(AllocError) => Err(Refusal::Memory),
-        }
+        let Some(before) = self.search.bring(premise)? else {
+            return Ok(());
+        };
+        alert_shifted(
+            &self.network,
+            &mut self.agenda,
+            &before,
+            self.search.worldview(),
+        );
+        Ok(())
     }
 }

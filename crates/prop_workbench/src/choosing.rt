@@ -101,17 +101,10 @@ fn infos_of(
     ensures domains { words.new.domains ≡ words.old.domains }
     ensures back { with_first_symbols words.new (length words.old.symbols) ≡ words.old }
 {
-    let Ok(mut infos) = Vec::with_capacity(alloc, values.len()) else {
-        return Err(Refusal::Memory);
-    };
+    let mut infos = Vec::with_capacity(alloc, values.len())?;
     for value in values {
-        match info_of(words, kind, value) {
-            Ok(info) => match infos.push(info) {
-                Ok(()) => {}
-                Err(_) => return Err(Refusal::Memory),
-            },
-            Err(refusal) => return Err(refusal),
-        }
+        let info = info_of(words, kind, value)?;
+        infos.push(info)?;
     }
     Ok(infos)
 }
@@ -245,7 +238,6 @@ impl<R: Rule + Drop, O: Order + Drop> Session<R, O> {
             Ok(choice) => choice,
             Err(refusal) => return Err(refusal),
         };
-        self.search.well_made();
         match state_sides(
             &mut self.network,
             &mut self.agenda,

@@ -75,10 +75,7 @@ impl<R: Rule + Drop, O: Order + Drop> Session<R, O> {
             Some(kind) => kind,
             None => return Err(Refusal::NoSuchDomain),
         };
-        match self.names.push(self.alloc, name, self.network.cells()) {
-            Ok(()) => {}
-            Err(AllocError) => return Err(Refusal::Memory),
-        }
+        self.names.push(self.alloc, name, self.network.cells())?;
         match new_cell(&mut self.network, &mut self.agenda, kind) {
             Ok(()) => Ok(()),
             Err(refusal) => {

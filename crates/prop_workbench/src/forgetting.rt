@@ -4,7 +4,6 @@ use crate::session::Session;
 use prop_lattice::Refusal;
 use prop_procedures::Rule;
 use prop_scheduler::{Order, wake_all};
-use std::alloc::AllocError;
 
 impl<R: Rule + Drop, O: Order + Drop> Session<R, O> {
     ghost use Rattle.prop_language.specs.Commands as commands;
@@ -21,13 +20,9 @@ impl<R: Rule + Drop, O: Order + Drop> Session<R, O> {
         ensures step { IsObeyed (library_of R.value_of self.old) (commands.Command.Forget name.now) (answer_done result) 0 (shown_of self.old) (shown_of self.new) }
     {
         let premise = self.search.premises().find(name)?;
-        match self.search.forget(premise) {
-            Ok(()) => {
-                self.network.purge(premise);
-                wake_all(&self.network, &mut self.agenda);
-                Ok(())
-            }
-            Err(AllocError) => Err(Refusal::Memory),
-        }
+        self.search.forget(premise)?;
+        self.network.purge(premise);
+        wake_all(&self.network, &mut self.agenda);
+        Ok(())
     }
 }

@@ -245,7 +245,6 @@ impl<R: Rule + Drop, O: Order + Drop> Session<R, O> {
             Ok(premise) => premise,
             Err(refusal) => return Err(refusal),
         };
-        self.search.well_made();
         match state(
             &mut self.network,
             &mut self.agenda,

@@ -41,8 +41,7 @@ impl Cells {
         ensures ok { OnOk result (StatesAll self.old self.new (sides_at first cell infos.now)) }
         ensures err { OnErr result (self.new ≡ self.old) }
     {
-        self.well_made();
-        let count = self.statement_count();
+        let count = self.statements.len();
         for (i, info) in infos.iter().enumerate() {
             let statement = Statement {
                 premise: Some(first + i as Premise),

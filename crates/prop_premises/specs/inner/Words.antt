@@ -1,5 +1,5 @@
 -- Sets of numbers as words of 64 bits: the bit of number p is bit p % 64 of word p / 64.
-use Rattle.std.specs.Prelude.{◌≡◌, ℕ, ◌+◌, ◌-◌, ◌*◌, ◌≤◌, IsTrue, List, length, slice_index}
+use Rattle.std.specs.Prelude.{◌≡◌, ℕ, ◌+◌, ◌*◌, ◌≤◌, IsTrue, List, length, slice_index}
 use Rattle.prop_premises.specs.Words.{has_bit, numbers_from}
 
 -- the numbers whose bits are set, in order

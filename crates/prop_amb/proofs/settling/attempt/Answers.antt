@@ -1,10 +1,10 @@
 use Rattle.std.proofs.Common.{◌≡◌, ap, refl}
 use Rattle.prop_premises.specs.Sets.{set_of}
 use Rattle.prop_procedures.specs.Kept.{stored_of}
-use Rattle.prop_cells.specs.Data.{IsWellMade, problem_of}
+use Rattle.prop_cells.specs.Data.{problem_of}
 use Rattle.prop_scheduler.specs.Turns.Turns.{none}
 use Rattle.prop_amb.proofs.MetLaws.{clash_nogood, met_listed, met_noted}
-use Rattle.prop_amb.proofs.RunLaws.{same_problem, falls_in, few_calls, conflict_in}
+use Rattle.prop_amb.proofs.RunLaws.{same_problem, falls_in, bounded_in, conflict_in}
 use Rattle.prop_amb.proofs.settling.attempt.Goals as goal
 
 pub returns-in-Some-clause-turns : goal.returns-in-Some-clause-turns
@@ -17,38 +17,36 @@ returns-in-Some-clause-refuted g c =
 
 pub returns-in-Quiet-clause-falls : goal.returns-in-Quiet-clause-falls
 returns-in-Quiet-clause-falls g c =
-    falls_in _ _ _ _ _ _ _ (same_problem (stored_of g.R.Rule.value_of) c.args.network.now.library c.run.new.network.library c.args.network.now.cells c.run.new.network.cells c.in_ok-end.ensures.same c.in_ok-end.ensures.rest) (rw c.worldview.ensures at c.in_ok-end.ensures.falls)
+    falls_in _ _ _ _ _ _ _ (same_problem (stored_of g.R.Rule.value_of) c.args.network.now.library c.run.new.network.library c.args.network.now.cells c.run.new.network.cells c.in_ok-end.ensures.same c.in_ok-end.ensures.rest) (rw c.worldview.ensures.same at c.in_ok-end.ensures.falls)
 
 pub returns-in-Quiet-clause-few : goal.returns-in-Quiet-clause-few
 returns-in-Quiet-clause-few g c =
-    let made : IsWellMade c.args.network.now.cells = rw c.data.ensures at c.well_made.ensures in
-    few_calls (stored_of g.R.Rule.value_of c.args.network.now.library) (set_of c.args.search.now.worldview) c.args.network.now.cells c.args.agenda.now _ _ _ made c.waiting-waiting.ensures.line c.requires.under_way (returns-in-Quiet-clause-falls g c)
+    bounded_in _ _ _ (same_problem (stored_of g.R.Rule.value_of) c.args.network.now.library c.run.new.network.library c.args.network.now.cells c.run.new.network.cells c.in_ok-end.ensures.same c.in_ok-end.ensures.rest) c.in_ok-end.ensures.bounded
 
 pub returns-in_ok-note-in-Clash-clause-search : goal.returns-in_ok-note-in-Clash-clause-search
 returns-in_ok-note-in-Clash-clause-search g c =
     let same = same_problem (stored_of g.R.Rule.value_of) c.args.network.now.library c.run.new.network.library c.args.network.now.cells c.run.new.network.cells c.in_ok-end.ensures.same c.in_ok-end.ensures.rest in
     let h = rw c.in-Clash.is at c.in_ok-end.ensures.conflict in
     c.note.ensures.search (problem_of (stored_of g.R.Rule.value_of c.args.network.now.library) c.args.network.now.cells)
-    (rw c.in_ok-copy-in-Clash.ensures (clash_nogood (problem_of (stored_of g.R.Rule.value_of c.args.network.now.library) c.args.network.now.cells) c.args.search.now c.in-Clash.support c.well_made-2.ensures
-    (conflict_in _ _ _ _ _ _ same (ap set_of c.worldview.ensures) refl h)))
+    (rw c.in_ok-copy-in-Clash.ensures (clash_nogood (problem_of (stored_of g.R.Rule.value_of c.args.network.now.library) c.args.network.now.cells) c.args.search.now c.in-Clash.support c.worldview.ensures.stand
+    (conflict_in _ _ _ _ _ _ same (ap set_of c.worldview.ensures.same) refl h)))
     c.requires.search
 
 pub returns-in-Spent-clause-falls : goal.returns-in-Spent-clause-falls
 returns-in-Spent-clause-falls g c =
-    falls_in _ _ _ _ _ _ _ (same_problem (stored_of g.R.Rule.value_of) c.args.network.now.library c.run.new.network.library c.args.network.now.cells c.run.new.network.cells c.in_ok-end.ensures.same c.in_ok-end.ensures.rest) (rw c.worldview.ensures at c.in_ok-end.ensures.falls)
+    falls_in _ _ _ _ _ _ _ (same_problem (stored_of g.R.Rule.value_of) c.args.network.now.library c.run.new.network.library c.args.network.now.cells c.run.new.network.cells c.in_ok-end.ensures.same c.in_ok-end.ensures.rest) (rw c.worldview.ensures.same at c.in_ok-end.ensures.falls)
 
 pub returns-in_ok-note-in-Clash-clause-falls : goal.returns-in_ok-note-in-Clash-clause-falls
 returns-in_ok-note-in-Clash-clause-falls g c =
-    falls_in _ _ _ _ _ _ _ (same_problem (stored_of g.R.Rule.value_of) c.args.network.now.library c.run.new.network.library c.args.network.now.cells c.run.new.network.cells c.in_ok-end.ensures.same c.in_ok-end.ensures.rest) (rw c.worldview.ensures at c.in_ok-end.ensures.falls)
+    falls_in _ _ _ _ _ _ _ (same_problem (stored_of g.R.Rule.value_of) c.args.network.now.library c.run.new.network.library c.args.network.now.cells c.run.new.network.cells c.in_ok-end.ensures.same c.in_ok-end.ensures.rest) (rw c.worldview.ensures.same at c.in_ok-end.ensures.falls)
 
 pub returns-in_ok-note-in-Clash-clause-few : goal.returns-in_ok-note-in-Clash-clause-few
 returns-in_ok-note-in-Clash-clause-few g c =
-    let made : IsWellMade c.args.network.now.cells = rw c.data.ensures at c.well_made.ensures in
-    few_calls (stored_of g.R.Rule.value_of c.args.network.now.library) (set_of c.args.search.now.worldview) c.args.network.now.cells c.args.agenda.now _ _ _ made c.waiting-waiting.ensures.line c.requires.under_way (returns-in_ok-note-in-Clash-clause-falls g c)
+    bounded_in _ _ _ (same_problem (stored_of g.R.Rule.value_of) c.args.network.now.library c.run.new.network.library c.args.network.now.cells c.run.new.network.cells c.in_ok-end.ensures.same c.in_ok-end.ensures.rest) c.in_ok-end.ensures.bounded
 
 pub returns-in_ok-note-in-Clash-clause-refuted : goal.returns-in_ok-note-in-Clash-clause-refuted
 returns-in_ok-note-in-Clash-clause-refuted g c =
     let same = same_problem (stored_of g.R.Rule.value_of) c.args.network.now.library c.run.new.network.library c.args.network.now.cells c.run.new.network.cells c.in_ok-end.ensures.same c.in_ok-end.ensures.rest in
     let h = rw c.in-Clash.is at c.in_ok-end.ensures.conflict in
-    met_noted (problem_of (stored_of g.R.Rule.value_of c.args.network.now.library) c.args.network.now.cells) c.args.search.now c.note.new.self.listed c.in_ok-copy-in-Clash.field-0 c.in-Clash.support c.note.new.self c.well_made-2.ensures
-    (conflict_in _ _ _ _ _ _ same (ap set_of c.worldview.ensures) refl h) c.in_ok-copy-in-Clash.ensures c.in_ok-note-in-Clash.ensures.adds c.in_ok-note-in-Clash.ensures.only
+    met_noted (problem_of (stored_of g.R.Rule.value_of c.args.network.now.library) c.args.network.now.cells) c.args.search.now c.note.new.self.listed c.in_ok-copy-in-Clash.field-0 c.in-Clash.support c.note.new.self c.worldview.ensures.stand
+    (conflict_in _ _ _ _ _ _ same (ap set_of c.worldview.ensures.same) refl h) c.in_ok-copy-in-Clash.ensures c.in_ok-note-in-Clash.ensures.adds c.in_ok-note-in-Clash.ensures.only

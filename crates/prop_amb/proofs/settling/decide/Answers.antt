@@ -14,7 +14,7 @@ pub returns-then-most-eq0-clause-unsettled : goal.returns-then-most-eq0-clause-u
 returns-then-most-eq0-clause-unsettled g c =
     let met = rw c.in-Refuted.is at c.requires.met in
     let may = rw c.in-Against.is at c.in_ok-premises.ensures.may in
-    λ e. inr (c.if-most-eq0.true, held (problem_of (stored_of g.R.Rule.value_of c.args.network.now.library) c.args.network.now.cells) c.args.search.now c.in-Refuted.nogood c.in-Against.place c.well_made.ensures met may)
+    λ e. inr (c.if-most-eq0.true, held (problem_of (stored_of g.R.Rule.value_of c.args.network.now.library) c.args.network.now.cells) c.args.search.now c.in-Refuted.nogood c.in-Against.place c.requires.stand met may)
 
 pub returns-in_err-passed-in-Against-clause-search : goal.returns-in_err-passed-in-Against-clause-search
 returns-in_err-passed-in-Against-clause-search g c =
@@ -47,11 +47,11 @@ returns-in_ok-passed-in-Against-clause-moves g c = λ _.
     rw c.in-Against.is at (c.in_ok-premises.ensures.resolved problem c.requires.search met.nogood met.noted) in
     let learned = c.advance.ensures.search problem reason c.requires.search in
     let first : Passes problem (users_of s) (choices_in s) s.list 1 mid.list =
-    goes_later problem s mid c.in-Refuted.nogood c.in-Against.place c.well_made.ensures met may c.in_ok-before-in-Against.ensures.list in
+    goes_later problem s mid c.in-Refuted.nogood c.in-Against.place c.requires.stand met may c.in_ok-before-in-Against.ensures.list in
     let rest : Passes problem (users_of s) (choices_in s) mid.list more new.list =
     passes_in problem s mid more mid.list new.list c.advance.ensures.premises (c.in_ok-passed-in-Against.ensures.moves problem learned) in
     let e : 1 + more ≡ more + 1 = omega arith in
     let shifted : AreShifted (set_of s.worldview) (set_of new.worldview) d (length d.kinds) c.args.agenda.now.line c.alert_shifted.new.agenda.line =
-    rw (c.worldview.ensures, c.in_ok-before-in-Against.ensures.before) at c.alert_shifted.ensures.shifted in
-    are_moved library d s new (more + 1) c.args.agenda.now.line c.alert_shifted.new.agenda.line c.well_made.ensures c.pass-passed.ensures.stand (c.pass-passed.ensures.premises ∙ c.advance.ensures.premises)
+    rw (c.worldview.ensures.same, c.in_ok-before-in-Against.ensures.before) at c.alert_shifted.ensures.shifted in
+    are_moved library d s new (more + 1) c.args.agenda.now.line c.alert_shifted.new.agenda.line c.requires.stand c.worldview.ensures.stand (c.pass-passed.ensures.premises ∙ c.advance.ensures.premises)
     (subst (λ n. Passes problem (users_of s) (choices_in s) s.list n new.list) e (passes_on first rest)) shifted

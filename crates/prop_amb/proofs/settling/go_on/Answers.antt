@@ -30,7 +30,7 @@ bounds-choices-place c =
     let same = c.choices.ensures ∙ ap choices_of c.premises.ensures in
     omega (arith, below, ap length same)
 
-met : (c : goal.After-well_made-in-Against) (problem : Problem) → IsSearch problem c.args.search.now → IsMet problem c.args.search.now c.in_ok-believed.believed
+met : (c : goal.After-drop) (problem : Problem) → IsSearch problem c.args.search.now → IsMet problem c.args.search.now c.in_ok-believed.believed
 met c problem learned =
     rw c.in_ok-believed.ensures (met_listed problem c.args.search.now c.in-Some.blocking.now learned c.in-Some.ensures.listed c.in-Some.ensures.believed)
 
@@ -44,5 +44,5 @@ returns-clause-search c problem learned =
 pub returns-clause-moves : goal.returns-clause-moves
 returns-clause-moves c = λ problem learned.
     let may = rw c.in-Against.is at c.in_ok-resolve.ensures.may in
-    goes_later problem c.args.search.now c.advance.new.self c.in_ok-believed.believed c.in-Against.place c.well_made.ensures (met c problem learned) may
+    goes_later problem c.args.search.now c.advance.new.self c.in_ok-believed.believed c.in-Against.place c.in-Some.ensures.stand (met c problem learned) may
     c.in_ok-advance-in-Against.ensures.list

@@ -7,7 +7,6 @@ pub loop-moves-init : goal.loop-moves-init
 loop-moves-init c = record {
   premises = refl;
   listed = refl;
-  stand = c.well_made.ensures;
   search = λ problem learned. learned;
   few = omega arith;
   moves = λ problem learned. none;
@@ -20,7 +19,6 @@ loop-moves-preserved c =
     record {
       premises = after.premises ∙ before.premises;
       listed = after.listed ∙ before.listed;
-      stand = after.stand;
       search = λ problem learned. after.search problem (before.search problem learned);
       few = omega (arith, c.loop-moves-test.true);
       moves = λ problem learned. passes_on (before.moves problem learned)

@@ -1,14 +1,13 @@
 use Rattle.std.proofs.Common.{◌≡◌, ◌≤◌, ◌-◌}
 use Rattle.prop_cells.specs.Problems.{Problem}
 use Rattle.prop_amb.specs.Going.{Passes}
-use Rattle.prop_amb.specs.Search.{IsSearch, IsStand, users_of, choices_in}
+use Rattle.prop_amb.specs.Search.{IsSearch, users_of, choices_in}
 use Rattle.prop_amb.proofs.settling.pass.Given as goal
 
 abbrev pub invariant-loop-moves : goal.invariant-loop-moves
 invariant-loop-moves l = record {
   premises : l.search.premises ≡ l.fn.search.premises;
   listed : l.search.listed ≡ l.fn.search.listed;
-  stand : IsStand l.search;
   search : (problem : Problem) → IsSearch problem l.fn.search → IsSearch problem l.search;
   few : l.moves ≤ l.most;
   moves : (problem : Problem) → IsSearch problem l.fn.search → Passes problem (users_of l.fn.search) (choices_in l.fn.search) l.fn.search.list l.moves l.search.list;

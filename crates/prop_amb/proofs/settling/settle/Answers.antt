@@ -34,7 +34,7 @@ loop-tried-init g c = record {
   cells = refl;
   watched = c.requires.watched;
   within = omega arith;
-  way = at_start g.O.Order.picks (stored_of g.R.Rule.value_of c.args.network.now.library) c.args.search.now c.args.network.now.cells c.args.agenda.now.line c.args.order.now c.well_made.ensures c.requires.search c.requires.under_way;
+  way = at_start g.O.Order.picks (stored_of g.R.Rule.value_of c.args.network.now.library) c.args.search.now c.args.network.now.cells c.args.agenda.now.line c.args.order.now c.requires.search c.requires.under_way;
 }
 
 pub attempt-requires-clause-means : goal.attempt-requires-clause-means
@@ -109,6 +109,9 @@ decide-requires-clause-cells g c =
     let count = ap (λ (d : Data). length d.kinds) c.loop-tried.invariant.way.rest in
     let count' = ap (λ (d : Data). length d.kinds) c.attempt.ensures.rest in
     omega (arith, count, count', c.loop-tried.invariant.cells, c.attempt.ensures.cells, c.requires.cells)
+
+pub decide-requires-clause-stand : goal.decide-requires-clause-stand
+decide-requires-clause-stand g c = c.attempt.ensures.stand
 
 pub decide-requires-clause-search : goal.decide-requires-clause-search
 decide-requires-clause-search g c =
@@ -205,6 +208,7 @@ returns-in-Some g c =
       premises = t.premises;
       listed = t.listed;
       search = t.search;
+      stand = t.stand;
       under_way = t.under_way;
       settled = λ e. t.quiet (quiet e);
       first = λ e. first_consistent g.O.Order.picks (stored_of g.R.Rule.value_of c.args.network.now.library) c.args.search.now c.args.network.now.cells c.args.agenda.now.line c.args.order.now c.decide.new.search c.attempt.new.network.cells c.decide.new.agenda.line c.attempt.new.order (c.loop-tried.steps + c.in_ok-tried.calls) c.args.budget c.in_ok-tried.tried t (quiet e);
@@ -268,5 +272,5 @@ loop-tried-preserved g c =
       within = omega (arith, some, c.in_ok-end.ensures.few, x.within);
       way = after_move g.O.Order.picks (stored_of g.R.Rule.value_of c.args.network.now.library) c.args.search.now c.args.network.now.cells c.args.agenda.now.line c.args.order.now c.attempt.new.search c.attempt.new.network.cells c.attempt.new.agenda.line c.attempt.new.order (c.loop-tried.steps + c.in_ok-tried.calls) c.args.budget c.in_ok-tried.tried c.decide.new.search c.decide.new.agenda.line c.in_ok-end.moves x
           (λ q. no_end (c.decide.ensures.quiet q) c.in_ok-end.was c.in-None.is)
-          c.decide.ensures.premises c.decide.ensures.listed (rw both at c.decide.ensures.search) c.decide.ensures.stand (rw both at c.decide.ensures.under_way) some (rw both at (c.in_ok-end.ensures.moves c.in-None.is));
+          c.decide.ensures.premises c.decide.ensures.listed (rw both at c.decide.ensures.search) (rw both at c.decide.ensures.under_way) some (rw both at (c.in_ok-end.ensures.moves c.in-None.is));
     }

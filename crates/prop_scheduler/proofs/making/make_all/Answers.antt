@@ -1,6 +1,6 @@
 use Rattle.std.proofs.Common.{◌≡◌, ◌∙◌, ap, length, subst, sym}
 use Rattle.prop_procedures.specs.Kept.{stored_of}
-use Rattle.prop_cells.specs.Data.{Data, IsKept, IsWellMade}
+use Rattle.prop_cells.specs.Data.{Data, IsKept}
 use Rattle.prop_cells.specs.Back.{taken_back}
 use Rattle.prop_scheduler.proofs.making.make_all.Goals as goal
 
@@ -11,7 +11,7 @@ pub make_some-requires-clause-cell : goal.make_some-requires-clause-cell
 make_some-requires-clause-cell g c = c.cells.ensures.count
 
 pub make_some-requires-clause-param : goal.make_some-requires-clause-param
-make_some-requires-clause-param g c = ap length c.params.ensures ∙ ap (λ (d : Data). length d.params) c.data-2.ensures
+make_some-requires-clause-param g c = ap length c.params.ensures ∙ ap (λ (d : Data). length d.params) c.data.ensures
 
 pub make_some-requires-clause-may : goal.make_some-requires-clause-may
 make_some-requires-clause-may g c = c.requires.may
@@ -22,23 +22,13 @@ make_some-requires-clause-few_cells g c = c.requires.few_cells
 pub make_some-requires-clause-few_instances : goal.make_some-requires-clause-few_instances
 make_some-requires-clause-few_instances g c = c.requires.few_instances
 
-pub back-requires-clause-made : goal.back-requires-clause-made
-back-requires-clause-made g c =
+pub back-requires : goal.back-requires
+back-requires g c =
     let d = c.args.network.now.cells in
     let new = c.make_some.new.network.cells in
-    let well : IsWellMade d = subst IsWellMade c.data.ensures c.well_made.ensures in
-    let count : length c.params.result.now ≡ length d.params = ap length c.params.ensures ∙ ap (λ (d : Data). length d.params) c.data-2.ensures in
-    let back : taken_back c.cells.result (length c.params.result.now) c.instances.result new ≡ d = (λ i. taken_back (c.cells.ensures.count i) (count i) (c.instances.ensures.count i) new) ∙ c.make_some.ensures.back well in
-    subst IsWellMade (sym back) well
-
-pub back-requires-clause-kept : goal.back-requires-clause-kept
-back-requires-clause-kept g c =
-    let d = c.args.network.now.cells in
-    let new = c.make_some.new.network.cells in
-    let well : IsWellMade d = subst IsWellMade c.data.ensures c.well_made.ensures in
-    let count : length c.params.result.now ≡ length d.params = ap length c.params.ensures ∙ ap (λ (d : Data). length d.params) c.data-2.ensures in
-    let back : taken_back c.cells.result (length c.params.result.now) c.instances.result new ≡ d = (λ i. taken_back (c.cells.ensures.count i) (count i) (c.instances.ensures.count i) new) ∙ c.make_some.ensures.back well in
-    subst (IsKept (stored_of g.R.Rule.value_of c.make_some.new.network.library)) (sym back) (rw c.make_some.ensures.same c.requires.kept)
+    let count : length c.params.result.now ≡ length d.params = ap length c.params.ensures ∙ ap (λ (d : Data). length d.params) c.data.ensures in
+    let back : taken_back c.cells.result (length c.params.result.now) c.instances.result new ≡ d = (λ i. taken_back (c.cells.ensures.count i) (count i) (c.instances.ensures.count i) new) ∙ c.make_some.ensures.back in
+    record { kept = subst (IsKept (stored_of g.R.Rule.value_of c.make_some.new.network.library)) (sym back) (rw c.make_some.ensures.same c.requires.kept) }
 
 pub returns-in-Ok-clause-same : goal.returns-in-Ok-clause-same
 returns-in-Ok-clause-same g c = c.make_some.ensures.same
@@ -71,7 +61,6 @@ pub returns-in-Err-clause-err_same : goal.returns-in-Err-clause-err_same
 returns-in-Err-clause-err_same g c =
     let d = c.args.network.now.cells in
     let new = c.make_some.new.network.cells in
-    let well : IsWellMade d = subst IsWellMade c.data.ensures c.well_made.ensures in
-    let count : length c.params.result.now ≡ length d.params = ap length c.params.ensures ∙ ap (λ (d : Data). length d.params) c.data-2.ensures in
-    let back : taken_back c.cells.result (length c.params.result.now) c.instances.result new ≡ d = (λ i. taken_back (c.cells.ensures.count i) (count i) (c.instances.ensures.count i) new) ∙ c.make_some.ensures.back well in
+    let count : length c.params.result.now ≡ length d.params = ap length c.params.ensures ∙ ap (λ (d : Data). length d.params) c.data.ensures in
+    let back : taken_back c.cells.result (length c.params.result.now) c.instances.result new ≡ d = (λ i. taken_back (c.cells.ensures.count i) (count i) (c.instances.ensures.count i) new) ∙ c.make_some.ensures.back in
     c.back.ensures.back ∙ back

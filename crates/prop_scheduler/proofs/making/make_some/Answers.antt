@@ -25,7 +25,7 @@ pub returns-in-Err-clause-err : goal.returns-in-Err-clause-err
 returns-in-Err-clause-err g c = c.in-Err.ensures.err
 
 pub returns-in-Err-clause-back : goal.returns-in-Err-clause-back
-returns-in-Err-clause-back g c = λ well. c.make_cells-made.ensures.back c.args.network.now.cells well (goes_back-same c.args.network.now.cells well)
+returns-in-Err-clause-back g c = c.make_cells-made.ensures.back c.args.network.now.cells c.requires.kept.made (goes_back-same c.args.network.now.cells c.requires.kept.made)
 
 pub add_params-requires : goal.add_params-requires
 add_params-requires g c = record { kept = c.make_cells-made.ensures.kept }
@@ -43,7 +43,7 @@ pub returns-in-Err-add_params-clause-err : goal.returns-in-Err-add_params-clause
 returns-in-Err-add_params-clause-err g c = c.in-Err-add_params.ensures.err
 
 pub returns-in-Err-add_params-clause-back : goal.returns-in-Err-add_params-clause-back
-returns-in-Err-add_params-clause-back g c = λ well. c.add_params.ensures.back c.args.network.now.cells (c.make_cells-made.ensures.back c.args.network.now.cells well (goes_back-same c.args.network.now.cells well))
+returns-in-Err-add_params-clause-back g c = c.add_params.ensures.back c.args.network.now.cells (c.make_cells-made.ensures.back c.args.network.now.cells c.requires.kept.made (goes_back-same c.args.network.now.cells c.requires.kept.made))
 
 pub make_instances-made-requires-clause-kept : goal.make_instances-made-requires-clause-kept
 make_instances-made-requires-clause-kept g c = c.add_params.ensures.kept
@@ -82,4 +82,4 @@ pub returns-clause-err : goal.returns-clause-err
 returns-clause-err g c = c.make_instances-made.ensures.err
 
 pub returns-clause-back : goal.returns-clause-back
-returns-clause-back g c = λ well. c.make_instances-made.ensures.back c.args.network.now.cells (c.add_params.ensures.back c.args.network.now.cells (c.make_cells-made.ensures.back c.args.network.now.cells well (goes_back-same c.args.network.now.cells well)))
+returns-clause-back g c = c.make_instances-made.ensures.back c.args.network.now.cells (c.add_params.ensures.back c.args.network.now.cells (c.make_cells-made.ensures.back c.args.network.now.cells c.requires.kept.made (goes_back-same c.args.network.now.cells c.requires.kept.made)))

@@ -4,7 +4,7 @@ use Rattle.prop_premises.specs.Sets.{set_of}
 use Rattle.prop_procedures.specs.Stored.{Stored}
 use Rattle.prop_procedures.specs.Kept.{stored_of}
 use Rattle.prop_cells.specs.Problems.{Premises}
-use Rattle.prop_cells.specs.Data.{Data, IsWellMade, problem_of}
+use Rattle.prop_cells.specs.Data.{Data, problem_of}
 use Rattle.prop_cells.proofs.Founding.{clash_conflicts}
 use Rattle.prop_scheduler.specs.Turns.{Interrupted, Turn}
 use Rattle.prop_scheduler.specs.Turns.Turns.{none, more}
@@ -319,8 +319,7 @@ returns-then-waiting-eq0-clause-err g c =
 pub returns-then-waiting-eq0-clause-quiet : goal.returns-then-waiting-eq0-clause-quiet
 returns-then-waiting-eq0-clause-quiet g c =
     λ quiet.
-    let made : IsWellMade c.loop-steps.network.cells = rw c.data-then-waiting-eq0.ensures at c.well_made-then-waiting-eq0.ensures in
-    settled (stored_of g.R.Rule.value_of c.loop-steps.network.library) (set_of c.args.worldview.now) c.loop-steps.network.cells c.loop-steps.agenda.line made c.loop-steps.invariant.under_way
+    settled (stored_of g.R.Rule.value_of c.loop-steps.network.library) (set_of c.args.worldview.now) c.loop-steps.network.cells c.loop-steps.agenda.line c.loop-steps.invariant.under_way
     (nil_from_length c.loop-steps.agenda.line (omega (arith, c.loop-steps.invariant.waiting, c.if-waiting-eq0.true))) c.loop-steps.invariant.free
 
 pub returns-then-waiting-eq0-clause-rests : goal.returns-then-waiting-eq0-clause-rests
@@ -424,33 +423,29 @@ returns-clause-falls g c =
 pub returns-clause-earned : goal.returns-clause-earned
 returns-clause-earned g c =
     λ spent.
-    let made : IsWellMade c.args.network.now.cells = rw c.data.ensures at c.well_made.ensures in
     let library = stored_of g.R.Rule.value_of c.args.network.now.library in
-    let most = under_way_within library (set_of c.args.worldview.now) c.args.network.now.cells c.args.agenda.now made c.waiting-waiting.ensures.line c.requires.under_way in
+    let most = under_way_within library (set_of c.args.worldview.now) c.args.network.now.cells c.args.agenda.now c.waiting-waiting.ensures.line c.requires.under_way in
     let same = most_same library (stored_of g.R.Rule.value_of c.loop-steps.network.library) c.args.network.now.cells c.loop-steps.network.cells (ap (stored_of g.R.Rule.value_of) c.loop-steps.invariant.same) c.loop-steps.invariant.rest in
     omega (arith, most, c.loop-steps.invariant.falls, c.loop-steps.invariant.waiting, same)
 
 pub returns-clause-bounded : goal.returns-clause-bounded
 returns-clause-bounded g c =
-    let made : IsWellMade c.args.network.now.cells = rw c.data.ensures at c.well_made.ensures in
     let library = stored_of g.R.Rule.value_of c.args.network.now.library in
-    let most = under_way_within library (set_of c.args.worldview.now) c.args.network.now.cells c.args.agenda.now made c.waiting-waiting.ensures.line c.requires.under_way in
+    let most = under_way_within library (set_of c.args.worldview.now) c.args.network.now.cells c.args.agenda.now c.waiting-waiting.ensures.line c.requires.under_way in
     let same = most_same library (stored_of g.R.Rule.value_of c.loop-steps.network.library) c.args.network.now.cells c.loop-steps.network.cells (ap (stored_of g.R.Rule.value_of) c.loop-steps.invariant.same) c.loop-steps.invariant.rest in
     omega (arith, most, c.loop-steps.invariant.falls, same)
 
 pub returns-then-waiting-eq0-clause-bounded : goal.returns-then-waiting-eq0-clause-bounded
 returns-then-waiting-eq0-clause-bounded g c =
-    let made : IsWellMade c.args.network.now.cells = rw c.data.ensures at c.well_made.ensures in
     let library = stored_of g.R.Rule.value_of c.args.network.now.library in
-    let most = under_way_within library (set_of c.args.worldview.now) c.args.network.now.cells c.args.agenda.now made c.waiting-waiting.ensures.line c.requires.under_way in
+    let most = under_way_within library (set_of c.args.worldview.now) c.args.network.now.cells c.args.agenda.now c.waiting-waiting.ensures.line c.requires.under_way in
     let same = most_same library (stored_of g.R.Rule.value_of c.loop-steps.network.library) c.args.network.now.cells c.loop-steps.network.cells (ap (stored_of g.R.Rule.value_of) c.loop-steps.invariant.same) c.loop-steps.invariant.rest in
     omega (arith, most, c.loop-steps.invariant.falls, same)
 
 pub returns-in-Some-clash-clause-bounded : goal.returns-in-Some-clash-clause-bounded
 returns-in-Some-clash-clause-bounded g c =
-    let made : IsWellMade c.args.network.now.cells = rw c.data.ensures at c.well_made.ensures in
     let library = stored_of g.R.Rule.value_of c.args.network.now.library in
-    let most = under_way_within library (set_of c.args.worldview.now) c.args.network.now.cells c.args.agenda.now made c.waiting-waiting.ensures.line c.requires.under_way in
+    let most = under_way_within library (set_of c.args.worldview.now) c.args.network.now.cells c.args.agenda.now c.waiting-waiting.ensures.line c.requires.under_way in
     let turn : Turn library (set_of c.args.worldview.now) c.pick-place.result c.loop-steps.network.cells c.turn.new.network.cells c.loop-steps.agenda.line c.turn.new.agenda.line = turn_on (stored_of g.R.Rule.value_of) (set_of c.args.worldview.now) c.pick-place.result c.loop-steps.network.cells c.turn.new.network.cells c.loop-steps.agenda.line c.turn.new.agenda.line c.args.network.now.library c.loop-steps.network.library c.loop-steps.invariant.same c.in_ok-clash.ensures.turn in
     let rest = turn_rest library (set_of c.args.worldview.now) c.pick-place.result c.args.network.now.cells c.loop-steps.network.cells c.turn.new.network.cells c.loop-steps.agenda.line c.turn.new.agenda.line turn c.loop-steps.invariant.rest in
     let same = most_same library (stored_of g.R.Rule.value_of c.turn.new.network.library) c.args.network.now.cells c.turn.new.network.cells (ap (stored_of g.R.Rule.value_of) (c.turn.ensures.same ∙ c.loop-steps.invariant.same)) rest in

@@ -1,9 +1,10 @@
 use Rattle.std.proofs.Common.{◌≡◌, ◌∙◌, ap, sym, true, false}
 use Rattle.prop_premises.specs.Origins.{believed_in, with_belief_at, choices_of}
 use Rattle.prop_premises.proofs.ChoiceLemmas.{choices_of-with_belief_at}
+use Rattle.prop_premises.proofs.NumberingLaws.{is_user_at-with_belief_at, length-with_belief_at, numbered_belief}
 use Rattle.prop_amb.proofs.SearchLaws.{or_true_left}
 use Rattle.prop_amb.proofs.KeepingLaws.{search_believing}
-use Rattle.prop_amb.proofs.BelievingLaws.{is_user_at-with_belief_at, belief_back, numbered_belief, stand_believing}
+use Rattle.prop_amb.proofs.BelievingLaws.{belief_back, stand_believing}
 use Rattle.prop_amb.proofs.search.Search.bring.Goals as goal
 
 pub worldview-requires : goal.worldview-requires
@@ -15,6 +16,7 @@ invariant_of-self c =
     let same = ap choices_of c.bring.ensures.only ∙ choices_of-with_belief_at c.self.inside.premises c.args.premise true in
     stand_believing _ c.bring.new.self c.replace.new.dest c.self.invariant
     (rw c.bring.ensures.only (numbered_belief c.self.inside.premises c.args.premise true c.self.invariant.numbered))
+    (rw (c.bring.ensures.only, length-with_belief_at c.self.inside.premises c.args.premise true) c.self.invariant.few)
     same
     (rw c.replace.ensures.after (rw c.deref.ensures.value at c.in-Ok.ensures))
 

@@ -11,6 +11,7 @@ invariant_of-self c =
     let kept = c.self.invariant in
     record {
       numbered = kept.numbered;
+      few = kept.few;
       is_list = kept.is_list;
       reasoned = kept.reasoned;
       believes = kept.believes;

@@ -1,4 +1,4 @@
-use Rattle.std.proofs.Common.{◌∙◌, sym, ap}
+use Rattle.std.proofs.Common.{◌∙◌, sym, ap, arith}
 use Rattle.prop_premises.specs.Origins.{choices_of, believed_in}
 use Rattle.prop_premises.proofs.ChoiceLemmas.{choices_of-with_name}
 use Rattle.prop_premises.proofs.ChangeLemmas.{is_start-with_name}
@@ -10,13 +10,13 @@ pub believe-requires : goal.believe-requires
 believe-requires c =
     let known = c.in_ok-premise.ensures in
     interned_below _ c.args.name.now c.intern.new.self c.in_ok-premise.premise c.self.invariant known.ok known.number
-    (λ e. c.if-len-count.false (c.len.ensures.len ∙ e ∙ sym c.len-count.ensures.len)) c.numbered.ensures.numbered c.numbered.ensures.below
+    (λ e. c.if-len-count.false (c.len.ensures.len ∙ e ∙ sym c.len-count.ensures.len))
 
 pub invariant_of-self-in-Ok : goal.invariant_of-self-in-Ok
 invariant_of-self-in-Ok c =
     let known = c.in_ok-premise.ensures in
     rw c.in-Ok.ensures.ok (interned_stand _ c.args.name.now c.intern.new.self c.in_ok-premise.premise c.self.invariant known.ok known.number
-    (λ e. c.if-len-count.false (c.len.ensures.len ∙ e ∙ sym c.len-count.ensures.len)) c.numbered.ensures.numbered)
+    (λ e. c.if-len-count.false (c.len.ensures.len ∙ e ∙ sym c.len-count.ensures.len)) (omega (arith, c.len.ensures.len, c.len.ensures.bound)))
 
 pub back-requires : goal.back-requires
 back-requires c = rw c.in_ok-premise.ensures.ok (is_start-with_name c.self.inside.premises c.args.name.now c.len-count.result c.len-count.ensures.len)

@@ -1,9 +1,10 @@
 use Rattle.std.proofs.Common.{◌≡◌, ◌∙◌, ap, sym, true, false}
 use Rattle.prop_premises.specs.Origins.{choices_of, with_belief_at}
 use Rattle.prop_premises.proofs.ChoiceLemmas.{choices_of-with_belief_at}
+use Rattle.prop_premises.proofs.NumberingLaws.{is_user_at-with_belief_at, length-with_belief_at, numbered_belief}
 use Rattle.prop_amb.specs.Moving.{no_reasons}
 use Rattle.prop_amb.proofs.KeepingLaws.{search_restarted}
-use Rattle.prop_amb.proofs.BelievingLaws.{is_user_at-with_belief_at, belief_back, numbered_belief, first_is_list, stand_restarted, reasons_forgotten}
+use Rattle.prop_amb.proofs.BelievingLaws.{belief_back, first_is_list, stand_restarted, reasons_forgotten}
 use Rattle.prop_amb.proofs.search.Search.kick.Goals as goal
 
 pub worldview-requires : goal.worldview-requires
@@ -17,6 +18,7 @@ invariant_of-self c =
     rw (reasons_forgotten c.self.inside.reasons.items c.forget.new.reasons c.self.inside.reasons.len c.self.inside.reasons.ok.0 (c.forget.ensures ∙ ap no_reasons c.deref_mut.ensures.value), c.in_ok-list.ensures, c.deref.ensures.value)
     (stand_restarted _ c.kick.new.self c.replace.new.dest c.self.invariant
     (rw c.kick.ensures.only (numbered_belief c.self.inside.premises c.args.premise false c.self.invariant.numbered))
+    (rw (c.kick.ensures.only, length-with_belief_at c.self.inside.premises c.args.premise false) c.self.invariant.few)
     same
     (rw c.replace.ensures.after (rw (c.deref-2.ensures.value, c.in_ok-list.ensures, c.deref.ensures.value) at c.in-Ok.ensures)))
 

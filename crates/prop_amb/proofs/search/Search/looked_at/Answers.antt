@@ -21,8 +21,8 @@ overflow_sub-side c =
 pub overflow_add-premise : goal.overflow_add-premise
 overflow_add-premise c =
     let here = stands_here (the_view c.self.inside) c.args.self.now c.args.place c.choices.result.now (record { first = 0; sides = 0 }) c.index-side.result.now c.self.view_is c.self.invariant c.requires c.choices.ensures c.index-side.ensures in
-    let small = side_small c.args.self.now c.args.place _ c.index-side.result.now here (length c.self.inside.premises) (rw (← c.self.view_is) c.numbered.ensures.below) in
-    omega (arith, small, c.from.ensures, c.len-numbers.ensures.len, c.len-numbers.ensures.bound)
+    let small = side_small c.args.self.now c.args.place _ c.index-side.result.now here (length c.self.inside.premises) (rw (← c.self.view_is) c.self.invariant.numbered.below) in
+    omega (arith, small, c.from.ensures, c.self.invariant.few)
 
 pub returns-then-not-contains-clause-looked : goal.returns-then-not-contains-clause-looked
 returns-then-not-contains-clause-looked c problem h within shown =
@@ -47,10 +47,10 @@ index-requires c =
 pub joined-requires : goal.joined-requires
 joined-requires c =
     let here = stands_here (the_view c.self.inside) c.args.self.now c.args.place c.choices.result.now (record { first = 0; sides = 0 }) c.index-side.result.now c.self.view_is c.self.invariant c.requires c.choices.ensures c.index-side.ensures in
-    let small = side_small c.args.self.now c.args.place _ c.index-side.result.now here (length c.self.inside.premises) (rw (← c.self.view_is) c.numbered.ensures.below) in
+    let small = side_small c.args.self.now c.args.place _ c.index-side.result.now here (length c.self.inside.premises) (rw (← c.self.view_is) c.self.invariant.numbered.below) in
     let kept_at = reasons_here (the_view c.self.inside) c.args.self.now c.args.place c.index.result.now c.self.view_is c.self.invariant c.requires c.index.ensures in
     let count = reasons_before c.args.self.now c.args.place _ c.index-side.result.now here c.index.result.now kept_at in
-    omega (arith, small, count, ap length c.sets-reasons.ensures, c.len-numbers.ensures.len, c.len-numbers.ensures.bound)
+    omega (arith, small, count, ap length c.sets-reasons.ensures, c.self.invariant.few)
 
 pub returns-clause-looked : goal.returns-clause-looked
 returns-clause-looked c problem h within shown =

@@ -13,7 +13,7 @@ worldview-requires c =
 pub invariant_of-self : goal.invariant_of-self
 invariant_of-self c =
     rw (reasons_forgotten c.self.inside.reasons.items c.forget.new.reasons c.self.inside.reasons.len c.self.inside.reasons.ok.0 (c.forget.ensures ∙ ap no_reasons c.deref_mut.ensures.value), c.in_ok-list.ensures, c.deref.ensures.value)
-    (stand_restarted _ c.self.inside.premises c.in_ok-worldview.worldview c.self.invariant c.self.invariant.numbered refl
+    (stand_restarted _ c.self.inside.premises c.in_ok-worldview.worldview c.self.invariant c.self.invariant.numbered c.self.invariant.few refl
     (rw (c.deref-2.ensures.value, c.in_ok-list.ensures, c.deref.ensures.value) at c.in_ok-worldview.ensures))
 
 pub returns-clause-search : goal.returns-clause-search

@@ -8,9 +8,9 @@ back-requires c = rw c.from.ensures (last_start c.self.inside.premises c.args.pr
 pub invariant_of-self : goal.invariant_of-self
 invariant_of-self c =
     rw (c.back.ensures, c.from.ensures, c.back-2.ensures)
-    (stand_taken_back _ c.args.premise c.self.invariant c.numbered.ensures.below (rw (← c.self.view_is) at c.requires.user) (rw (← c.self.view_is) at c.requires.last))
+    (stand_taken_back _ c.args.premise c.self.invariant (rw (← c.self.view_is) at c.requires.user) (rw (← c.self.view_is) at c.requires.last))
 
 pub returns-clause-undoes : goal.returns-clause-undoes
 returns-clause-undoes c before name stand none e =
     rw (c.back.ensures, c.from.ensures, c.back-2.ensures)
-    (taken_back_undoes _ c.args.premise before name c.numbered.ensures.numbered c.numbered.ensures.below (rw (← c.self.view_is) at c.requires.user) (rw (← c.self.view_is) at c.requires.last) stand none (c.self.view_is ∙ e))
+    (taken_back_undoes _ c.args.premise before name c.self.invariant.numbered (rw (← c.self.view_is) at c.requires.user) (rw (← c.self.view_is) at c.requires.last) stand none (c.self.view_is ∙ e))

@@ -1,4 +1,4 @@
-use Rattle.std.proofs.Common.{◌∙◌}
+use Rattle.std.proofs.Common.{◌∙◌, arith}
 use Rattle.prop_amb.proofs.LastChoiceLaws.{last_choice_starts, stand_undeclared, undeclared_undoes}
 use Rattle.prop_amb.proofs.search.Search.undeclare.Goals as goal
 
@@ -9,7 +9,7 @@ pub invariant_of-self : goal.invariant_of-self
 invariant_of-self c =
     rw (c.back.ensures, c.from.ensures, c.back-2.ensures)
     (stand_undeclared _ c.args.choice c.requires.earlier c.pop.new.self.items c.pop-2.new.self.items c.self.inside.list.len c.self.inside.reasons.len c.self.invariant (rw (← c.self.view_is) at c.requires.last)
-    (rw (c.back.ensures, c.from.ensures) at c.numbered.ensures.numbered) c.pop.ensures.rest c.self.inside.list.ok.0 c.pop-2.ensures.rest c.self.inside.reasons.ok.0)
+    (omega (arith, rw (← c.self.view_is) at c.requires.end)) c.pop.ensures.rest c.self.inside.list.ok.0 c.pop-2.ensures.rest c.self.inside.reasons.ok.0)
 
 pub returns-clause-undoes : goal.returns-clause-undoes
 returns-clause-undoes c before name stand e =

@@ -10,3 +10,6 @@ invariant_of-self c =
     let count = c.self.invariant.told.count in
     let told = read_there n.told.items c.args.cell c.index.result.now [] (omega (arith, within, count)) c.index.ensures in
     stored_trim _ c.trim_at.new.contents.items n.told.items (set_of c.args.worldview.now) c.args.cell c.trim_at.ensures.trims (rw told at c.trim_at.ensures.kept) _ _ c.self.invariant
+
+pub returns-clause-made : goal.returns-clause-made
+returns-clause-made c = (invariant_of-self c).made

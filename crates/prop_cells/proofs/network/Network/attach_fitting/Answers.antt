@@ -21,7 +21,7 @@ returns-clause-kept g c =
     let made =
     fitting_made (stored_of g.R.Rule.value_of c.args.self.now.library) c.args.procedure (stored_as g.R.Rule.value_of c.get.result.now) c.args.self.now.cells c.args.param c.args.inputs.items c.args.out c.get.ensures c.requires.fits
     c.need-need.result c.need-need.ensures c.params.result.now c.params.ensures c.in_ok-param.param c.in_ok-param.ensures c.new-x.result c.new-x.ensures in
-    rw c.in_ok-push_instance.ensures.ok (kept_attached (stored_of g.R.Rule.value_of c.args.self.now.library) c.args.self.now.cells c.new-x.result c.requires.kept made.0)
+    rw c.in_ok-push_instance.ensures.ok (kept_attached (stored_of g.R.Rule.value_of c.args.self.now.library) c.args.self.now.cells c.new-x.result c.requires.kept made.1 made.0)
 
 pub returns-clause-ok : goal.returns-clause-ok
 returns-clause-ok g c =

@@ -18,9 +18,9 @@ returns-in-Ok-Some-clause-keeps g c =
     let new = c.bring.new.self in
     let was : users_of s.search p ≡ false = not-true (users_of s.search p) (sym c.in-Ok-Some.ensures.was ∙ ap is_some c.in-Ok-Some.field-0-is) in
     let made : new ≡ record s.search { premises = with_belief_at s.search.premises p true; worldview = new.worldview } = c.in-Ok-Some.ensures.brought was in
-    believing_keeps g.R.Rule.value_of s new c.alert_shifted.new.agenda p true c.requires.sound (ap (λ (t : Stand). t.premises) made) (ap (λ (t : Stand). t.listed) made) c.well_made.ensures
-    (c.bring.ensures.search (problem_of (stored_of g.R.Rule.value_of s.network.library) s.network.cells)) (rw c.worldview.ensures at c.alert_shifted.ensures.under_way) c.alert_shifted.ensures.room
-    (rw c.worldview.ensures at c.alert_shifted.ensures.watched) c.alert_shifted.ensures.cells
+    believing_keeps g.R.Rule.value_of s new c.alert_shifted.new.agenda p true c.requires.sound (ap (λ (t : Stand). t.premises) made) (ap (λ (t : Stand). t.listed) made) c.worldview.ensures.stand
+    (c.bring.ensures.search (problem_of (stored_of g.R.Rule.value_of s.network.library) s.network.cells)) (rw c.worldview.ensures.same at c.alert_shifted.ensures.under_way) c.alert_shifted.ensures.room
+    (rw c.worldview.ensures.same at c.alert_shifted.ensures.watched) c.alert_shifted.ensures.cells
 
 -- ---- it was
 

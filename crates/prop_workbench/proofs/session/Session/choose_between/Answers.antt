@@ -23,13 +23,13 @@ pub state_sides-requires-clause-under_way : goal.state_sides-requires-clause-und
 state_sides-requires-clause-under_way g c =
     let s = c.args.self.now in
     let library = stored_of g.R.Rule.value_of s.network.library in
-    rw c.worldview.ensures (declared_under_way library s.search c.declare.new.self c.args.choice.now (length c.args.infos.now) s.network.cells s.agenda c.requires.sound.at_work c.in-Ok.ensures.ok)
+    rw c.worldview.ensures.same (declared_under_way library s.search c.declare.new.self c.args.choice.now (length c.args.infos.now) s.network.cells s.agenda c.requires.sound.at_work c.in-Ok.ensures.ok)
 
 pub state_sides-requires-clause-watched : goal.state_sides-requires-clause-watched
 state_sides-requires-clause-watched g c =
     let s = c.args.self.now in
     let library = stored_of g.R.Rule.value_of s.network.library in
-    rw c.worldview.ensures (declared_watched library s.search c.declare.new.self c.args.choice.now (length c.args.infos.now) s.network.cells s.agenda c.requires.sound.at_work c.in-Ok.ensures.ok)
+    rw c.worldview.ensures.same (declared_watched library s.search c.declare.new.self c.args.choice.now (length c.args.infos.now) s.network.cells s.agenda c.requires.sound.at_work c.in-Ok.ensures.ok)
 
 pub returns-in-Ok-state_sides-clause-keeps : goal.returns-in-Ok-state_sides-clause-keeps
 returns-in-Ok-state_sides-clause-keeps g c =
@@ -42,7 +42,7 @@ returns-in-Ok-state_sides-clause-keeps g c =
       library = c.state_sides.ensures.same;
       sound = record {
         at_work = rw c.state_sides.ensures.same (chosen_at_work library s.search c.declare.new.self c.args.choice.now (length c.args.infos.now) c.args.cell c.in-Ok.choice c.args.infos.now s.network.cells c.state_sides.new.network.cells s.agenda c.state_sides.new.agenda sound.at_work
-            c.in-Ok.ensures.ok c.in-Ok.ensures.choice.0 refl c.well_made.ensures c.in-Ok.ensures.search rest (rw (c.state_sides.ensures.same, c.worldview.ensures) at c.state_sides.ensures.under_way) c.state_sides.ensures.room (rw c.worldview.ensures at c.state_sides.ensures.watched) c.state_sides.ensures.cells);
+            c.in-Ok.ensures.ok c.in-Ok.ensures.choice.0 refl c.worldview.ensures.stand c.in-Ok.ensures.search rest (rw (c.state_sides.ensures.same, c.worldview.ensures.same) at c.state_sides.ensures.under_way) c.state_sides.ensures.room (rw c.worldview.ensures.same at c.state_sides.ensures.watched) c.state_sides.ensures.cells);
         sized = rw kinds sound.sized;
         locals = sound.locals;
         named = rw kinds sound.named;

@@ -2,7 +2,6 @@ use Rattle.std.proofs.Common.{◌≡◌, ◌≤◌, ◌∙◌, [], ap, sym}
 use Rattle.std.proofs.lemmas.Bool.{false≢true}
 use Rattle.prop_engine.specs.Answers.{answer_of}
 use Rattle.prop_procedures.specs.Kept.{stored_of, related_of}
-use Rattle.prop_cells.specs.Data.{IsWellMade}
 use Rattle.prop_workbench.specs.Machine.{State, naming}
 use Rattle.prop_workbench.specs.Sessions.{state_from, state_of, shown_of, work_of, steps_of}
 use Rattle.prop_workbench.proofs.EarnedLemmas.{earns_none}
@@ -30,19 +29,17 @@ pub returns-then-is_memory-clause-points : goal.returns-then-is_memory-clause-po
 returns-then-is_memory-clause-points g c =
     let s = c.args.self.now in
     let read = c.follow-reply.ensures.read in
-    let made : IsWellMade s.network.cells = rw c.data.ensures at c.well_made.ensures in
     let work = c.requires.sound.in_order.at_work in
     λ sound. step_holds_points (stored_of g.R.Rule.value_of s.network.library) (related_of g.R.Rule.related s.network.library) sound (state_from s.names s.words s.definitions s.search.premises s.network.cells s.limit)
-    (record { fitting = work.under_way.kept.fits; within = made.within }) work.well_made.numbered c.args.line.now _ _ _ (read.0, read.1, (read.2.step [] (covers_none (shown_of s))).step)
+    (record { fitting = work.under_way.kept.fits; within = work.under_way.kept.made.within }) work.well_made.numbered c.args.line.now _ _ _ (read.0, read.1, (read.2.step [] (covers_none (shown_of s))).step)
 
 pub returns-clause-points : goal.returns-clause-points
 returns-clause-points g c =
     let s = c.args.self.now in
     let read = c.follow-reply.ensures.read in
-    let made : IsWellMade s.network.cells = rw c.data.ensures at c.well_made.ensures in
     let work = c.requires.sound.in_order.at_work in
     λ sound. step_holds_points (stored_of g.R.Rule.value_of s.network.library) (related_of g.R.Rule.related s.network.library) sound (state_from s.names s.words s.definitions s.search.premises s.network.cells s.limit)
-    (record { fitting = work.under_way.kept.fits; within = made.within }) work.well_made.numbered c.args.line.now _ _ _ (read.0, read.1, (read.2.step [] (covers_none (shown_of s))).step)
+    (record { fitting = work.under_way.kept.fits; within = work.under_way.kept.made.within }) work.well_made.numbered c.args.line.now _ _ _ (read.0, read.1, (read.2.step [] (covers_none (shown_of s))).step)
 
 pub returns-then-is_memory-clause-sound : goal.returns-then-is_memory-clause-sound
 returns-then-is_memory-clause-sound g c =

@@ -18,9 +18,9 @@ returns-in-Ok-Some-clause-keeps g c =
     let new = c.kick.new.self in
     let was : users_of s.search p ≡ true = sym c.in-Ok-Some.ensures.was ∙ ap is_some c.in-Ok-Some.field-0-is in
     let made : new ≡ record (restarted s.search) { premises = with_belief_at s.search.premises p false; worldview = new.worldview } = c.in-Ok-Some.ensures.kicked was in
-    believing_keeps g.R.Rule.value_of s new c.alert_shifted.new.agenda p false c.requires.sound (ap (λ (t : Stand). t.premises) made) (ap (λ (t : Stand). t.listed) made) c.well_made.ensures
-    (c.kick.ensures.search (problem_of (stored_of g.R.Rule.value_of s.network.library) s.network.cells)) (rw c.worldview.ensures at c.alert_shifted.ensures.under_way) c.alert_shifted.ensures.room
-    (rw c.worldview.ensures at c.alert_shifted.ensures.watched) c.alert_shifted.ensures.cells
+    believing_keeps g.R.Rule.value_of s new c.alert_shifted.new.agenda p false c.requires.sound (ap (λ (t : Stand). t.premises) made) (ap (λ (t : Stand). t.listed) made) c.worldview.ensures.stand
+    (c.kick.ensures.search (problem_of (stored_of g.R.Rule.value_of s.network.library) s.network.cells)) (rw c.worldview.ensures.same at c.alert_shifted.ensures.under_way) c.alert_shifted.ensures.room
+    (rw c.worldview.ensures.same at c.alert_shifted.ensures.watched) c.alert_shifted.ensures.cells
 
 -- ---- it was not
 

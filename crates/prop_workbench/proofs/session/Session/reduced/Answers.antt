@@ -31,7 +31,7 @@ pub reduce-ended-requires-clause-cell : goal.reduce-ended-requires-clause-cell
 reduce-ended-requires-clause-cell g c = cell_there c.args.self.now c.args.name.now c.args.cell c.requires.sound c.requires.named
 
 pub reduce-ended-requires-clause-settled : goal.reduce-ended-requires-clause-settled
-reduce-ended-requires-clause-settled g c = rw c.worldview.ensures c.requires.rest
+reduce-ended-requires-clause-settled g c = rw c.worldview.ensures.same c.requires.rest
 
 pub core_text-requires-clause-cell : goal.core_text-requires-clause-cell
 core_text-requires-clause-cell g c = rw c.reduce-ended.ensures.rest (cell_there c.args.self.now c.args.name.now c.args.cell c.requires.sound c.requires.named)
@@ -60,12 +60,12 @@ returns-in-Ok-clause-says g c =
     let core = c.in-Ok.core in
     let name = c.args.name.now in
     let answer = answer_of c.core_text.result in
-    let same = c.worldview.ensures ∙ refl in
+    let same = c.worldview.ensures.same ∙ refl in
     let believed = believes_same s.search c.requires.sound.at_work.well_made in
     let rest = subst (λ (b : Members). IsSettled library b s.network.cells) believed c.requires.rest in
     let state : state_of (record s { network = c.reduce-ended.new.network }) ≡ state_of s = ap (λ (d : Data). state_from s.names s.words s.definitions s.search.premises d s.limit) c.reduce-ended.ensures.rest in
     may_core library (state_of s) s.search.list name c.args.cell core answer (c.args.steps + c.in-Ok.tries) c.requires.named
-    (settled_core library s.names s.words s.definitions s.search.premises s.network.cells s.limit s.search.list (set_of s.search.worldview) c.args.cell core believed rest (rw c.worldview.ensures at c.in-Ok.ensures.explains))
+    (settled_core library s.names s.words s.definitions s.search.premises s.network.cells s.limit s.search.list (set_of s.search.worldview) c.args.cell core believed rest (rw c.worldview.ensures.same at c.in-Ok.ensures.explains))
     c.in-Ok.ensures.least (used_up core c.args.steps c.in-Ok.tries s.limit c.requires.within c.in-Ok.ensures.spent)
     (too_few library (state_of s) (set_of c.worldview.result.now) c.args.cell core c.args.steps c.requires.sound.at_work.known c.requires.within c.requires.few c.in-Ok.ensures.earned)
     (subst (λ (t : State). IfLeast core (λ v ps. SaysBecause t c.args.cell name [] v ps answer)) state c.core_text.ensures.least)
@@ -79,7 +79,7 @@ returns-in-Ok-clause-tried g c =
     let s = c.args.self.now in
     let e = c.in-Ok.ensures in
     let believed = believes_same s.search c.requires.sound.at_work.well_made in
-    let tries = rw (c.worldview.ensures, believed) at e.tries.1 in
+    let tries = rw (c.worldview.ensures.same, believed) at e.tries.1 in
     λ text is. (c.in-Ok.tries, refl, record { list = refl; line = e.tries.0; tries = tries; all_wait = c.reduce-ended.ensures.all })
 
 pub returns-in-Err-clause-keeps : goal.returns-in-Err-clause-keeps

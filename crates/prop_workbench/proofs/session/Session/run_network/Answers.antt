@@ -7,8 +7,8 @@ use Rattle.prop_workbench.proofs.session.Session.run_network.Goals as goal
 pub returns-clause-keeps : goal.returns-clause-keeps
 returns-clause-keeps g c =
     let s = c.args.self.now in
-    let e = c.settle-ended.ensures in
-    let t = c.settle-ended.new in
+    let e = c.settle.ensures in
+    let t = c.settle.new in
     let library = stored_of g.R.Rule.value_of s.network.library in
     let library' = stored_of g.R.Rule.value_of t.network.library in
     let rest = e.rest in
@@ -17,7 +17,7 @@ returns-clause-keeps g c =
       sound = record {
         at_work = record {
           under_way = rw e.same e.under_way;
-          well_made = c.well_made.ensures;
+          well_made = e.stand;
           search = rw (same_problem library library' s.network.cells t.network.cells (λ i. stored_of g.R.Rule.value_of (e.same i)) rest) e.search;
           known = rw (e.premises, rest) c.requires.sound.at_work.known;
           roomy = rw (e.room, rest) c.requires.sound.at_work.roomy;
@@ -36,9 +36,9 @@ returns-clause-keeps g c =
 pub returns-clause-run : goal.returns-clause-run
 returns-clause-run g c =
     let s = c.args.self.now in
-    let e = c.settle-ended.ensures in
-    let t = c.settle-ended.new in
+    let e = c.settle.ensures in
+    let t = c.settle.new in
     let library = stored_of g.R.Rule.value_of s.network.library in
     let library' = stored_of g.R.Rule.value_of t.network.library in
     let problem = same_problem library library' s.network.cells t.network.cells (λ i. stored_of g.R.Rule.value_of (e.same i)) e.rest in
-    has_run g.R.Rule.value_of _ s.search.list _ c.settle-ended.result (sym problem) c.well_made.ensures e.earlier (rw (← e.same) at e.settled) e.first e.contradiction e.steps e.moves e.spent e.earned
+    has_run g.R.Rule.value_of _ s.search.list _ c.settle.result (sym problem) e.stand e.earlier (rw (← e.same) at e.settled) e.first e.contradiction e.steps e.moves e.spent e.earned

@@ -38,7 +38,7 @@ returns-in-Worldview-clause-says g c =
     let library = stored_of g.R.Rule.value_of s.network.library in
     let same = believes_same s.search c.requires.sound.at_work.well_made in
     λ steps. rw c.in-Worldview.is (may_say library (state_of s) commands.Command.Worldview (Settled s.search.list) (worldview_text s.search.premises (set_of s.search.worldview)) _ steps
-    (ap (worldview_text s.search.premises) same) (rw (c.premises.ensures, c.worldview.ensures) at c.worldview_reply.ensures))
+    (ap (worldview_text s.search.premises) same) (rw (c.premises.ensures, c.worldview.ensures.same) at c.worldview_reply.ensures))
 
 pub returns-in-Ask-clause-says : goal.returns-in-Ask-clause-says
 returns-in-Ask-clause-says g c =

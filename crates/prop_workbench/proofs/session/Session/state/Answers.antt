@@ -6,10 +6,10 @@ use Rattle.prop_workbench.proofs.session.Session.state.Goals as goal
 
 pub state-requires-clause-under_way : goal.state-requires-clause-under_way
 state-requires-clause-under_way g c =
-    rw c.worldview.ensures c.requires.sound.at_work.under_way
+    rw c.worldview.ensures.same c.requires.sound.at_work.under_way
 
 pub state-requires-clause-watched : goal.state-requires-clause-watched
-state-requires-clause-watched g c = rw c.worldview.ensures c.requires.sound.at_work.watched
+state-requires-clause-watched g c = rw c.worldview.ensures.same c.requires.sound.at_work.watched
 
 pub returns-clause-keeps : goal.returns-clause-keeps
 returns-clause-keeps g c =
@@ -22,7 +22,7 @@ returns-clause-keeps g c =
     record {
       library = c.state.ensures.same;
       sound = record {
-        at_work = rw c.state.ensures.same (stated_at_work library s.search s.network.cells c.state.new.network.cells s.agenda c.state.new.agenda statement sound.at_work rest c.requires.known (rw (c.worldview.ensures, c.state.ensures.same) at c.state.ensures.under_way) c.state.ensures.room (rw c.worldview.ensures at c.state.ensures.watched) c.state.ensures.cells);
+        at_work = rw c.state.ensures.same (stated_at_work library s.search s.network.cells c.state.new.network.cells s.agenda c.state.new.agenda statement sound.at_work rest c.requires.known (rw (c.worldview.ensures.same, c.state.ensures.same) at c.state.ensures.under_way) c.state.ensures.room (rw c.worldview.ensures.same at c.state.ensures.watched) c.state.ensures.cells);
         sized = rw kinds sound.sized;
         locals = sound.locals;
         named = rw kinds sound.named;

@@ -17,13 +17,13 @@ pub state-requires-clause-under_way : goal.state-requires-clause-under_way
 state-requires-clause-under_way g c =
     let s = c.args.self.now in
     let library = stored_of g.R.Rule.value_of s.network.library in
-    rw c.worldview.ensures (named_at_work library s.search c.intern.new.self c.args.name.now s.network.cells s.agenda c.requires.sound.at_work c.requires.new c.in-Ok.ensures.ok c.well_made.ensures (c.intern.ensures.search (problem_of library s.network.cells))).under_way
+    rw c.worldview.ensures.same (named_at_work library s.search c.intern.new.self c.args.name.now s.network.cells s.agenda c.requires.sound.at_work c.requires.new c.in-Ok.ensures.ok c.worldview.ensures.stand (c.intern.ensures.search (problem_of library s.network.cells))).under_way
 
 pub state-requires-clause-watched : goal.state-requires-clause-watched
 state-requires-clause-watched g c =
     let s = c.args.self.now in
     let library = stored_of g.R.Rule.value_of s.network.library in
-    rw c.worldview.ensures (named_at_work library s.search c.intern.new.self c.args.name.now s.network.cells s.agenda c.requires.sound.at_work c.requires.new c.in-Ok.ensures.ok c.well_made.ensures (c.intern.ensures.search (problem_of library s.network.cells))).watched
+    rw c.worldview.ensures.same (named_at_work library s.search c.intern.new.self c.args.name.now s.network.cells s.agenda c.requires.sound.at_work c.requires.new c.in-Ok.ensures.ok c.worldview.ensures.stand (c.intern.ensures.search (problem_of library s.network.cells))).watched
 
 pub returns-in-Ok-state-clause-keeps : goal.returns-in-Ok-state-clause-keeps
 returns-in-Ok-state-clause-keeps g c =
@@ -33,16 +33,16 @@ returns-in-Ok-state-clause-keeps g c =
     let library = stored_of g.R.Rule.value_of s.network.library in
     let sound = c.requires.sound in
     let made : new ≡ interned s.search name = c.in-Ok.ensures.ok in
-    let named = named_at_work library s.search new name s.network.cells s.agenda sound.at_work c.requires.new made c.well_made.ensures (c.intern.ensures.search (problem_of library s.network.cells)) in
+    let named = named_at_work library s.search new name s.network.cells s.agenda sound.at_work c.requires.new made c.worldview.ensures.stand (c.intern.ensures.search (problem_of library s.network.cells)) in
     let statement : Statement = record { premise = Some c.in-Ok.premise; cell = c.args.cell; info = c.args.info } in
     let rest = c.in-Ok-state.ensures.ok.rest in
     let kinds : c.state.new.network.cells.kinds ≡ s.network.cells.kinds = stated_kinds s.network.cells c.state.new.network.cells statement rest in
-    let under_way = rw (c.worldview.ensures, c.state.ensures.same) at c.state.ensures.under_way in
+    let under_way = rw (c.worldview.ensures.same, c.state.ensures.same) at c.state.ensures.under_way in
     record {
       library = c.state.ensures.same;
       sound = record {
         at_work = rw c.state.ensures.same (stated_at_work library new s.network.cells c.state.new.network.cells s.agenda c.state.new.agenda statement named rest
-            (new_number s.search new name c.in-Ok.premise c.requires.new made c.in-Ok.ensures.number) under_way c.state.ensures.room (rw c.worldview.ensures at c.state.ensures.watched) c.state.ensures.cells);
+            (new_number s.search new name c.in-Ok.premise c.requires.new made c.in-Ok.ensures.number) under_way c.state.ensures.room (rw c.worldview.ensures.same at c.state.ensures.watched) c.state.ensures.cells);
         sized = rw kinds sound.sized;
         locals = sound.locals;
         named = rw kinds sound.named;

@@ -39,7 +39,7 @@ returns-in-Ask-clause-says g c =
     let v = beliefs (set_of s.search.worldview) s.network.cells.contents cell in
     let named : cell_named s.names name ≡ Some cell = rw c.in-Ask.is at c.requires.named in
     rw c.in-Ask.is (may_say_value (stored_of value s.network.library) (state_of s) (commands.Command.Ask name) (Unsettled s.search.list) name cell v (codes " unsettled") _ s.limit named
-    (unsettled_in value s name cell c.requires.sound (rw c.data.ensures at c.well_made.ensures) named) (λ text r. (r, refl)) (rw c.belief.ensures at c.value_of.ensures))
+    (unsettled_in value s name cell c.requires.sound named) (λ text r. (r, refl)) (rw c.belief.ensures at c.value_of.ensures))
 
 pub returns-in-Why-clause-says : goal.returns-in-Why-clause-says
 returns-in-Why-clause-says g c =
@@ -50,7 +50,7 @@ returns-in-Why-clause-says g c =
     let v = beliefs (set_of s.search.worldview) s.network.cells.contents cell in
     let named : cell_named s.names name ≡ Some cell = rw c.in-Why.is at c.requires.named in
     rw c.in-Why.is (may_explain (stored_of value s.network.library) (state_of s) (commands.Command.Why name) (Unsettled s.search.list) name cell v (codes " unsettled") _ s.limit named
-    (unsettled_in value s name cell c.requires.sound (rw c.data.ensures at c.well_made.ensures) named) (λ text r. (r, refl)) (explained_in value s cell v name (codes " unsettled") _ c.requires.sound c.explained.ensures.explained))
+    (unsettled_in value s name cell c.requires.sound named) (λ text r. (r, refl)) (explained_in value s cell v name (codes " unsettled") _ c.requires.sound c.explained.ensures.explained))
 
 pub returns-in-Settle-clause-lean : goal.returns-in-Settle-clause-lean
 returns-in-Settle-clause-lean g c = lean_bare (set_of c.args.self.now.search.worldview) c.args.self.now.network.cells (state_of c.args.self.now) c.args.question _ c.in-Settle.is
