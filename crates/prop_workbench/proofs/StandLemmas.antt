@@ -6,7 +6,8 @@ use Rattle.prop_amb.specs.Search.{no_stand, IsStand, IsSearch}
 
 pub no_stand_made : IsStand no_stand
 no_stand_made = record {
-  numbered = record { in_order = tt; of_sides = tt; users = λ p u. refl };
+  numbered = record { in_order = tt; of_sides = tt; below = λ p h. cc; users = λ p u. refl };
+  few = omega arith;
   is_list = tt;
   reasoned = tt;
   believes = λ p. refl;

@@ -1,9 +1,8 @@
 -- What any two sessions agree on that are given the same lines, whatever orders they call waiting procedures in.
-use Rattle.std.specs.Prelude.{◌≡◌, ◌≢◌, ◌⊎◌, ◌<◌, IsTrue, ℕ, length, List, [], codes, Some, All}
+use Rattle.std.specs.Prelude.{◌≡◌, ◌≢◌, ◌⊎◌, ℕ, List, [], codes, Some, All}
 use Rattle.prop_lattice.specs.declared.info.Info.{Info}
 use Rattle.prop_lattice.specs.declared.refusal.Refusal.TheVariants.{Memory}
-use Rattle.prop_premises.specs.Origins.{Origin, IsNumbered, choices_of}
-use Rattle.prop_premises.specs.ChoiceLists.{is_hypothetical}
+use Rattle.prop_premises.specs.Origins.{IsNumbered}
 use Rattle.prop_procedures.specs.Stored.{Stored}
 use Rattle.prop_vocabulary.specs.Cells.{cell_named}
 use Rattle.prop_language.specs.Commands.{Command}

@@ -101,10 +101,17 @@ fn infos_of(
     ensures domains { words.new.domains ≡ words.old.domains }
     ensures back { with_first_symbols words.new (length words.old.symbols) ≡ words.old }
 {
-    let mut infos = Vec::with_capacity(alloc, values.len())?;
+    let Ok(mut infos) = Vec::with_capacity(alloc, values.len()) else {
+        return Err(Refusal::Memory);
+    };
     for value in values {
-        let info = info_of(words, kind, value)?;
-        infos.push(info)?;
+        match info_of(words, kind, value) {
+            Ok(info) => match infos.push(info) {
+                Ok(()) => {}
+                Err(_) => return Err(Refusal::Memory),
+            },
+            Err(refusal) => return Err(refusal),
+        }
     }
     Ok(infos)
 }

@@ -4,7 +4,6 @@ use prop_compound::{KindWord, Step, kind_named};
 use prop_lattice::Refusal;
 use prop_procedures::Rule;
 use prop_scheduler::{Order, new_cell};
-use std::alloc::AllocError;
 
 impl<R: Rule + Drop, O: Order + Drop> Session<R, O> {
     ghost use Rattle.std.specs.Prelude.{◌≡◌, ◌<◌, ◌++◌, ◌∷◌, [], ◌⊎◌, map, All, None, Some, OnOk, OnErr, IfOk, IfErr, ℕ, length};

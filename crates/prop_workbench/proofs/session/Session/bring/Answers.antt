@@ -11,36 +11,36 @@ use Rattle.prop_workbench.proofs.session.Session.bring.Goals as goal
 
 -- ---- the premise was not believed
 
-pub returns-in-Ok-Some-clause-keeps : goal.returns-in-Ok-Some-clause-keeps
-returns-in-Ok-Some-clause-keeps g c =
+pub returns-clause-keeps : goal.returns-clause-keeps
+returns-clause-keeps g c =
     let s = c.args.self.now in
     let p = c.in_ok-premise.premise in
     let new = c.bring.new.self in
-    let was : users_of s.search p ≡ false = not-true (users_of s.search p) (sym c.in-Ok-Some.ensures.was ∙ ap is_some c.in-Ok-Some.field-0-is) in
-    let made : new ≡ record s.search { premises = with_belief_at s.search.premises p true; worldview = new.worldview } = c.in-Ok-Some.ensures.brought was in
+    let was : users_of s.search p ≡ false = not-true (users_of s.search p) (sym c.in_ok-before.ensures.was ∙ ap is_some c.in-Some.is) in
+    let made : new ≡ record s.search { premises = with_belief_at s.search.premises p true; worldview = new.worldview } = c.in_ok-before.ensures.brought was in
     believing_keeps g.R.Rule.value_of s new c.alert_shifted.new.agenda p true c.requires.sound (ap (λ (t : Stand). t.premises) made) (ap (λ (t : Stand). t.listed) made) c.worldview.ensures.stand
     (c.bring.ensures.search (problem_of (stored_of g.R.Rule.value_of s.network.library) s.network.cells)) (rw c.worldview.ensures.same at c.alert_shifted.ensures.under_way) c.alert_shifted.ensures.room
     (rw c.worldview.ensures.same at c.alert_shifted.ensures.watched) c.alert_shifted.ensures.cells
 
 -- ---- it was
 
-pub returns-in-Ok-None-clause-keeps : goal.returns-in-Ok-None-clause-keeps
-returns-in-Ok-None-clause-keeps g c =
+pub returns-in_default-clause-keeps : goal.returns-in_default-clause-keeps
+returns-in_default-clause-keeps g c =
     let s = c.args.self.now in
     let p = c.in_ok-premise.premise in
-    let was : users_of s.search p ≡ true = not-false (users_of s.search p) (sym c.in-Ok-None.ensures.was ∙ ap is_some c.in-Ok-None.field-0-is) in
+    let was : users_of s.search p ≡ true = not-false (users_of s.search p) (sym c.in_ok-before.ensures.was ∙ ap is_some c.in_default.is) in
     same_keeps g.R.Rule.value_of s c.bring.new.self c.requires.sound (c.bring.ensures.known was).1
 
-pub returns-in-Ok-None-clause-step : goal.returns-in-Ok-None-clause-step
-returns-in-Ok-None-clause-step g c =
+pub returns-in_default-clause-step : goal.returns-in_default-clause-step
+returns-in_default-clause-step g c =
     let s = c.args.self.now in
     let p = c.in_ok-premise.premise in
     let name = c.args.name.now in
-    let was : users_of s.search p ≡ true = not-false (users_of s.search p) (sym c.in-Ok-None.ensures.was ∙ ap is_some c.in-Ok-None.field-0-is) in
+    let was : users_of s.search p ≡ true = not-false (users_of s.search p) (sym c.in_ok-before.ensures.was ∙ ap is_some c.in_default.is) in
     let free = found_free (is_choice s.search.premises name) _ p refl (rw c.premises.ensures at c.in_ok-premise.ensures.choice) in
     same_done g.R.Rule.value_of s c.bring.new.self true name p (c.bring.ensures.known was).1 (rw c.premises.ensures at c.in_ok-premise.ensures.found) free (rw c.premises.ensures at c.in_ok-premise.ensures.user) was
 
 -- ---- memory was refused
 
-pub returns-in-Err-clause-keeps : goal.returns-in-Err-clause-keeps
-returns-in-Err-clause-keeps g c = same_keeps g.R.Rule.value_of c.args.self.now c.bring.new.self c.requires.sound c.in-Err.ensures.err
+pub returns-in_err-before-clause-keeps : goal.returns-in_err-before-clause-keeps
+returns-in_err-before-clause-keeps g c = same_keeps g.R.Rule.value_of c.args.self.now c.bring.new.self c.requires.sound c.in_err-before.ensures.err
