@@ -6,6 +6,7 @@ use lib.Signed.{mag}
 use Rattle.std.specs.Prelude.{Bool, true, false, int_lt, if◌then◌else◌}
 use Rattle.prop_intervals.specs.Spans.{least_factor}
 use Rattle.std.specs.Int.{int_min, int_max}
+use Rattle.prop_lattice.specs.declared.span.TheConstants.{B}
 use Rattle.prop_lattice.specs.declared.span.Span as spans
 use Rattle.std.proofs.lemmas.Int.{ints, clamps, unsigned_abs-mul, to_z-of_z}
 use Rattle.std.proofs.lemmas.Nat.{mul-le}
@@ -109,7 +110,7 @@ scaled_parts a b k v p e q r k_least k_greatest v_least v_greatest =
 pub opposite_128 : (z a : ℤ) → neg_ℤ (pos (2 ^ 120)) ≤ℤ z → z ≤ℤ pos (2 ^ 120) → z ≡ a → to_z w128 (of_z w128 (pos 0 -ℤ to_z w128 (of_z w128 z))) ≡ neg_ℤ a
 opposite_128 z a h k e = omega (arith, ints)
 
-pub opposite_64 : (z a : ℤ) → z ≡ a → neg_ℤ (pos 1_000_000_000_000_000_000) ≤ℤ a → a ≤ℤ pos 1_000_000_000_000_000_000 → to_z w64 (of_z w64 (pos 0 -ℤ to_z w64 (of_z w64 z))) ≡ neg_ℤ a
+pub opposite_64 : (z a : ℤ) → z ≡ a → neg_ℤ B ≤ℤ a → a ≤ℤ B → to_z w64 (of_z w64 (pos 0 -ℤ to_z w64 (of_z w64 z))) ≡ neg_ℤ a
 opposite_64 z a e h k = omega (arith, ints)
 
 -- ---- the cases of a least factor

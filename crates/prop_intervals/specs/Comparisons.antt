@@ -1,6 +1,7 @@
 -- What comparing spans answers.
 use Rattle.std.specs.Prelude.{◌≢◌, ℕ, ℤ, pos, neg_ℤ, ◌+ℤ◌, ◌-ℤ◌, ◌≤ℤ◌, int_lt, int_le, ◌==◌, if◌then◌else◌}
 use Rattle.std.specs.Ordering.{int_eq}
+use Rattle.prop_lattice.specs.declared.span.TheConstants.{B}
 use Rattle.prop_lattice.specs.Ends.{span_from, elements_from}
 use Rattle.prop_lattice.specs.declared.elements.Elements as sets
 use Rattle.prop_lattice.specs.declared.span.Span as spans
@@ -22,12 +23,12 @@ less_of x y =
 -- the numbers of which t says whether they are less than one of y
 abbrev pub below_of : sets.Elements → spans.Span → Info
 below_of t y =
-    if t.bits == yes_bits then span_from (neg_ℤ (pos 1_000_000_000_000_000_000)) (y.hi -ℤ pos 1) else (if t.bits == no_bits then span_from y.lo (pos 1_000_000_000_000_000_000) else Nothing)
+    if t.bits == yes_bits then span_from (neg_ℤ B) (y.hi -ℤ pos 1) else (if t.bits == no_bits then span_from y.lo B else Nothing)
 
 -- the numbers of which t says whether one of x is less than they are
 abbrev pub above_of : sets.Elements → spans.Span → Info
 above_of t x =
-    if t.bits == yes_bits then span_from (x.lo +ℤ pos 1) (pos 1_000_000_000_000_000_000) else (if t.bits == no_bits then span_from (neg_ℤ (pos 1_000_000_000_000_000_000)) x.hi else Nothing)
+    if t.bits == yes_bits then span_from (x.lo +ℤ pos 1) B else (if t.bits == no_bits then span_from (neg_ℤ B) x.hi else Nothing)
 
 -- v is a number of y other than x
 abbrev pub IsOther : spans.Span → ℤ → ℤ → Type 0

@@ -2,6 +2,7 @@
 use Rattle.std.specs.Prelude.{ℕ, ◌*◌, ℤ, pos, neg_ℤ, ◌*ℤ◌, ◌≤ℤ◌, nat_le, int_le, int_lt, if◌then◌else◌, Option, Some, None}
 use Rattle.std.specs.Int.{int_max, int_min}
 use Rattle.std.proofs.Common.{zero, suc, negsuc}
+use Rattle.prop_lattice.specs.declared.span.TheConstants.{B}
 use Rattle.prop_lattice.specs.Ends.{span_from}
 use Rattle.prop_lattice.specs.declared.span.Span as spans
 use Rattle.prop_lattice.specs.declared.info.Info.{Info}
@@ -26,11 +27,11 @@ greatest_root (negsuc n) = zero
 
 -- the ends of x, and those of the whole range where there is no x
 abbrev pub first_of : Option spans.Span → ℤ
-first_of None = neg_ℤ (pos 1_000_000_000_000_000_000)
+first_of None = neg_ℤ B
 first_of (Some x) = x.lo
 
 abbrev pub last_of : Option spans.Span → ℤ
-last_of None = pos 1_000_000_000_000_000_000
+last_of None = B
 last_of (Some x) = x.hi
 
 -- v is a number of x, or of the whole range where there is no x, and its square is one of y

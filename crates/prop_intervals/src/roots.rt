@@ -1,5 +1,6 @@
 //! Square roots of spans.
 ghost use Rattle.std.specs.Prelude.{◌≡◌, pos, ◌≤ℤ◌};
+ghost use Rattle.prop_lattice.specs.declared.span.TheConstants.{B};
 ghost use Rattle.prop_intervals.specs.Narrowest.{IsNarrowest};
 ghost use Rattle.prop_intervals.specs.Roots.{least_root, greatest_root, span_at_distance, IsRoot, root_of};
 
@@ -25,9 +26,9 @@ pub fn root(y: Span, x: Option<Span>) -> Info
 
 /// The least number, not below zero, whose square is at least `m`.
 fn smallest_root(m: i64) -> i64
-    requires { m ≤ℤ pos 1_000_000_000_000_000_000 }
+    requires { m ≤ℤ B }
     ensures value { result ≡ pos (least_root m) }
-    ensures bound { result ≤ℤ pos 1_000_000_000_000_000_000 }
+    ensures bound { result ≤ℤ B }
 {
     if m <= 0 { 0 } else { (m - 1).isqrt() + 1 }
 }
@@ -35,9 +36,9 @@ fn smallest_root(m: i64) -> i64
 /// The greatest number whose square is at most `m`.
 fn largest_root(m: i64) -> i64
     requires least { pos 0 ≤ℤ m }
-    requires greatest { m ≤ℤ pos 1_000_000_000_000_000_000 }
+    requires greatest { m ≤ℤ B }
     ensures value { result ≡ pos (greatest_root m) }
-    ensures bound { result ≤ℤ pos 1_000_000_000_000_000_000 }
+    ensures bound { result ≤ℤ B }
 {
     m.isqrt()
 }

@@ -1,6 +1,7 @@
 -- What a value on a line says at a cell of a kind.
 use Rattle.std.specs.Prelude.{ℕ, ℤ, pos, neg_ℤ, int_lt, List, [], ◌∷◌, length, slice_index_or, cond, ◌==◌, ◌&&◌, Option, Some, None, Result, Ok, Err}
 use Rattle.std.specs.List.{list_all}
+use Rattle.prop_lattice.specs.declared.span.TheConstants.{B}
 use Rattle.prop_lattice.specs.declared.refusal.Refusal.{Refusal}
 use Rattle.prop_lattice.specs.declared.refusal.Refusal.TheVariants.{NotAName, NotANumber, WrongKind, NotInTheDomain, EmptyValue}
 use Rattle.prop_lattice.specs.declared.info.Info.{Info}
@@ -23,7 +24,7 @@ halves (a ∷ b ∷ bytes) = cond ((a == 46) && (b == 46)) ([], Some bytes) (ont
 
 -- a number of the largest magnitude at most
 abbrev pub bounded_number : List ℕ → Option ℤ
-bounded_number word = number_in (neg_ℤ (pos 1_000_000_000_000_000_000)) (pos 1_000_000_000_000_000_000) word
+bounded_number word = number_in (neg_ℤ B) B word
 
 abbrev pub ends_value : Option ℤ → Option ℤ → Result Info Refusal
 ends_value (Some low) (Some high) = cond (int_lt high low) (Err EmptyValue) (Ok (span_from low high))

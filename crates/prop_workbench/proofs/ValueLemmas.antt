@@ -6,6 +6,7 @@ use Rattle.std.specs.Option.{option_map, option_map_or, option_and_then}
 use Rattle.std.specs.List.{list_all}
 use Rattle.std.proofs.lemmas.Int.{ints}
 use Rattle.std.proofs.lemmas.Bool.{lt-leb}
+use Rattle.prop_lattice.specs.declared.span.TheConstants.{B}
 use Rattle.prop_lattice.specs.declared.info.Info.{Info}
 use Rattle.prop_lattice.specs.declared.info.Info.TheVariants.{Nothing}
 use Rattle.prop_lattice.specs.declared.info.Kind.{Kind}
@@ -102,7 +103,7 @@ within low high z (Some n) h = by (int_le low n && int_le n high) refl h
     by true e f = let same : n ≡ z = cc in rw (← same) (tested e)
     by false e f = cc
 
-span_may_be : (size : ℕ) (low high : ℤ) → neg_ℤ (pos 1_000_000_000_000_000_000) ≤ℤ low → low ≤ℤ high → high ≤ℤ pos 1_000_000_000_000_000_000 → may_be_stated kinds.Span size (span_from low high) ≡ true
+span_may_be : (size : ℕ) (low high : ℤ) → neg_ℤ B ≤ℤ low → low ≤ℤ high → high ≤ℤ B → may_be_stated kinds.Span size (span_from low high) ≡ true
 unfolding span_from
 span_may_be size low high above ordered below = by (ends_or_not low high)
   where
@@ -111,8 +112,8 @@ span_may_be size low high above ordered below = by (ends_or_not low high)
     by (inr f) = absurd (f (above, ordered, below))
 
 ends_may_be : (size : ℕ) (low high : Option ℤ) (info : Info) →
-    ((z : ℤ) → low ≡ Some z → (neg_ℤ (pos 1_000_000_000_000_000_000) ≤ℤ z) × (z ≤ℤ pos 1_000_000_000_000_000_000)) →
-    ((z : ℤ) → high ≡ Some z → (neg_ℤ (pos 1_000_000_000_000_000_000) ≤ℤ z) × (z ≤ℤ pos 1_000_000_000_000_000_000)) →
+    ((z : ℤ) → low ≡ Some z → (neg_ℤ B ≤ℤ z) × (z ≤ℤ B)) →
+    ((z : ℤ) → high ≡ Some z → (neg_ℤ B ≤ℤ z) × (z ≤ℤ B)) →
     ends_value low high ≡ Ok info → may_be_stated kinds.Span size info ≡ true
 ends_may_be size (Some low) (Some high) info l r h = by (int_lt high low) refl h
   where
@@ -125,8 +126,8 @@ ends_may_be size (Some low) (Some high) info l r h = by (int_lt high low) refl h
 ends_may_be size (Some low) None info l r h = cc
 ends_may_be size None high info l r h = cc
 
-bounded : (word : List ℕ) (z : ℤ) → bounded_number word ≡ Some z → (neg_ℤ (pos 1_000_000_000_000_000_000) ≤ℤ z) × (z ≤ℤ pos 1_000_000_000_000_000_000)
-bounded word z h = within (neg_ℤ (pos 1_000_000_000_000_000_000)) (pos 1_000_000_000_000_000_000) z (whole_number word) h
+bounded : (word : List ℕ) (z : ℤ) → bounded_number word ≡ Some z → (neg_ℤ B ≤ℤ z) × (z ≤ℤ B)
+bounded word z h = within (neg_ℤ B) B z (whole_number word) h
 
 span_value_may_be : (size : ℕ) (parts : List ℕ × Option (List ℕ)) (info : Info) → span_value parts ≡ Ok info → may_be_stated kinds.Span size info ≡ true
 span_value_may_be size (word, None) info h = ends_may_be size (bounded_number word) (bounded_number word) info (bounded word) (bounded word) h

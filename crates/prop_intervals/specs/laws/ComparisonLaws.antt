@@ -7,6 +7,7 @@ use Rattle.std.proofs.lemmas.Int.{ints, by_lt_z}
 use Rattle.std.proofs.lemmas.Bool.{cases_lt}
 use Rattle.std.proofs.lemmas.Bool.Decides.{nat_tests}
 use Rattle.std.proofs.lemmas.Nat.{and_le_l}
+use Rattle.prop_lattice.specs.declared.span.TheConstants.{B}
 use Rattle.prop_lattice.specs.Ends.{span_from, elements_from}
 use Rattle.prop_lattice.proofs.EndLemmas.{span_is, elements_from-bits}
 use Rattle.prop_lattice.proofs.PartLemmas.{and_from_part, below_from_shr}
@@ -114,7 +115,7 @@ pub below_monotone : (t t' : sets.Elements) (y y' : spans.Span) → Below (Set t
 below_monotone t t' y y' p q = by (t.bits == yes_bits) refl (t.bits == no_bits) refl (t'.bits == yes_bits) refl (t'.bits == no_bits) refl
   where
     by : (s : Bool) → (t.bits == yes_bits) ≡ s → (r : Bool) → (t.bits == no_bits) ≡ r → (s' : Bool) → (t'.bits == yes_bits) ≡ s' → (r' : Bool) → (t'.bits == no_bits) ≡ r' →
-        Below (if s then span_from (neg_ℤ (pos 1_000_000_000_000_000_000)) (y.hi -ℤ pos 1) else (if r then span_from y.lo (pos 1_000_000_000_000_000_000) else Nothing)) (if s' then span_from (neg_ℤ (pos 1_000_000_000_000_000_000)) (y'.hi -ℤ pos 1) else (if r' then span_from y'.lo (pos 1_000_000_000_000_000_000) else Nothing))
+        Below (if s then span_from (neg_ℤ B) (y.hi -ℤ pos 1) else (if r then span_from y.lo B else Nothing)) (if s' then span_from (neg_ℤ B) (y'.hi -ℤ pos 1) else (if r' then span_from y'.lo B else Nothing))
     by true e r f true e' r' f' = span_from_below _ _ _ _ (omega (arith, ints)) (omega (arith, ints)) (omega (arith, ints)) (omega (arith, ints))
     by true e r f false e' r' f' = absurd (differs e' (yes_stays t t' p (eqb-true t.bits 1 e)))
       where
@@ -131,7 +132,7 @@ below_monotone t t' y y' p q = by (t.bits == yes_bits) refl (t.bits == no_bits) 
 pub below_kind : (size : ℕ) (t : sets.Elements) (y : spans.Span) → IsOf kinds.Span size (below_of t y)
 below_kind size t y = by (t.bits == yes_bits) (t.bits == no_bits)
   where
-    by : (s r : Bool) → IsOf kinds.Span size (if s then span_from (neg_ℤ (pos 1_000_000_000_000_000_000)) (y.hi -ℤ pos 1) else (if r then span_from y.lo (pos 1_000_000_000_000_000_000) else Nothing))
+    by : (s r : Bool) → IsOf kinds.Span size (if s then span_from (neg_ℤ B) (y.hi -ℤ pos 1) else (if r then span_from y.lo B else Nothing))
     by true r = span_from_of_span size _ _
     by false true = span_from_of_span size _ _
     by false false = tt
@@ -139,13 +140,13 @@ below_kind size t y = by (t.bits == yes_bits) (t.bits == no_bits)
 pub below_sound : (t : sets.Elements) (y : spans.Span) (i : ℕ) (v u : ℤ) → HasElement t i → i < 2 → Holds (Span y) (Number v) → IsInRange u → SaysLess u v i → Holds (below_of t y) (Number u)
 below_sound t y i v u h l p q r = by (t.bits == yes_bits) refl (t.bits == no_bits) refl
   where
-    by : (s : Bool) → (t.bits == yes_bits) ≡ s → (o : Bool) → (t.bits == no_bits) ≡ o → Holds (if s then span_from (neg_ℤ (pos 1_000_000_000_000_000_000)) (y.hi -ℤ pos 1) else (if o then span_from y.lo (pos 1_000_000_000_000_000_000) else Nothing)) (Number u)
+    by : (s : Bool) → (t.bits == yes_bits) ≡ s → (o : Bool) → (t.bits == no_bits) ≡ o → Holds (if s then span_from (neg_ℤ B) (y.hi -ℤ pos 1) else (if o then span_from y.lo B else Nothing)) (Number u)
     by true e o f =
         let less = r.0 (yes_element t i (eqb-true t.bits 1 e) h l) in
-        span_from_holds (neg_ℤ (pos 1_000_000_000_000_000_000)) (y.hi -ℤ pos 1) u q.0 (omega (arith, ints)) (omega (arith, ints)) (omega (arith, ints))
+        span_from_holds (neg_ℤ B) (y.hi -ℤ pos 1) u q.0 (omega (arith, ints)) (omega (arith, ints)) (omega (arith, ints))
     by false e true f =
         let element = no_element t i (eqb-true t.bits 2 f) h l in
-        by_lt_z u v (λ k. absurd (omega (arith, r.1 k))) (λ g. span_from_holds y.lo (pos 1_000_000_000_000_000_000) u (omega (arith, ints)) q.1 y.above (omega (arith, ints)))
+        by_lt_z u v (λ k. absurd (omega (arith, r.1 k))) (λ g. span_from_holds y.lo B u (omega (arith, ints)) q.1 y.above (omega (arith, ints)))
     by false e false f = tt
 
 -- ---- the numbers above
@@ -154,7 +155,7 @@ pub above_monotone : (t t' : sets.Elements) (x x' : spans.Span) → Below (Set t
 above_monotone t t' x x' p q = by (t.bits == yes_bits) refl (t.bits == no_bits) refl (t'.bits == yes_bits) refl (t'.bits == no_bits) refl
   where
     by : (s : Bool) → (t.bits == yes_bits) ≡ s → (r : Bool) → (t.bits == no_bits) ≡ r → (s' : Bool) → (t'.bits == yes_bits) ≡ s' → (r' : Bool) → (t'.bits == no_bits) ≡ r' →
-        Below (if s then span_from (x.lo +ℤ pos 1) (pos 1_000_000_000_000_000_000) else (if r then span_from (neg_ℤ (pos 1_000_000_000_000_000_000)) x.hi else Nothing)) (if s' then span_from (x'.lo +ℤ pos 1) (pos 1_000_000_000_000_000_000) else (if r' then span_from (neg_ℤ (pos 1_000_000_000_000_000_000)) x'.hi else Nothing))
+        Below (if s then span_from (x.lo +ℤ pos 1) B else (if r then span_from (neg_ℤ B) x.hi else Nothing)) (if s' then span_from (x'.lo +ℤ pos 1) B else (if r' then span_from (neg_ℤ B) x'.hi else Nothing))
     by true e r f true e' r' f' = span_from_below _ _ _ _ (omega (arith, ints)) (omega (arith, ints)) (omega (arith, ints)) (omega (arith, ints))
     by true e r f false e' r' f' = absurd (differs e' (yes_stays t t' p (eqb-true t.bits 1 e)))
       where
@@ -171,7 +172,7 @@ above_monotone t t' x x' p q = by (t.bits == yes_bits) refl (t.bits == no_bits) 
 pub above_kind : (size : ℕ) (t : sets.Elements) (x : spans.Span) → IsOf kinds.Span size (above_of t x)
 above_kind size t x = by (t.bits == yes_bits) (t.bits == no_bits)
   where
-    by : (s r : Bool) → IsOf kinds.Span size (if s then span_from (x.lo +ℤ pos 1) (pos 1_000_000_000_000_000_000) else (if r then span_from (neg_ℤ (pos 1_000_000_000_000_000_000)) x.hi else Nothing))
+    by : (s r : Bool) → IsOf kinds.Span size (if s then span_from (x.lo +ℤ pos 1) B else (if r then span_from (neg_ℤ B) x.hi else Nothing))
     by true r = span_from_of_span size _ _
     by false true = span_from_of_span size _ _
     by false false = tt
@@ -179,13 +180,13 @@ above_kind size t x = by (t.bits == yes_bits) (t.bits == no_bits)
 pub above_sound : (t : sets.Elements) (x : spans.Span) (i : ℕ) (u v : ℤ) → HasElement t i → i < 2 → Holds (Span x) (Number u) → IsInRange v → SaysLess u v i → Holds (above_of t x) (Number v)
 above_sound t x i u v h l p q r = by (t.bits == yes_bits) refl (t.bits == no_bits) refl
   where
-    by : (s : Bool) → (t.bits == yes_bits) ≡ s → (o : Bool) → (t.bits == no_bits) ≡ o → Holds (if s then span_from (x.lo +ℤ pos 1) (pos 1_000_000_000_000_000_000) else (if o then span_from (neg_ℤ (pos 1_000_000_000_000_000_000)) x.hi else Nothing)) (Number v)
+    by : (s : Bool) → (t.bits == yes_bits) ≡ s → (o : Bool) → (t.bits == no_bits) ≡ o → Holds (if s then span_from (x.lo +ℤ pos 1) B else (if o then span_from (neg_ℤ B) x.hi else Nothing)) (Number v)
     by true e o f =
         let less = r.0 (yes_element t i (eqb-true t.bits 1 e) h l) in
-        span_from_holds (x.lo +ℤ pos 1) (pos 1_000_000_000_000_000_000) v (omega (arith, ints)) q.1 (omega (arith, ints)) (omega (arith, ints))
+        span_from_holds (x.lo +ℤ pos 1) B v (omega (arith, ints)) q.1 (omega (arith, ints)) (omega (arith, ints))
     by false e true f =
         let element = no_element t i (eqb-true t.bits 2 f) h l in
-        by_lt_z u v (λ k. absurd (omega (arith, r.1 k))) (λ g. span_from_holds (neg_ℤ (pos 1_000_000_000_000_000_000)) x.hi v q.0 (omega (arith, ints)) (omega (arith, ints)) x.below)
+        by_lt_z u v (λ k. absurd (omega (arith, r.1 k))) (λ g. span_from_holds (neg_ℤ B) x.hi v q.0 (omega (arith, ints)) (omega (arith, ints)) x.below)
     by false e false f = tt
 
 -- ---- leaving out a number

@@ -1,8 +1,9 @@
 -- What is known of the narrowest information that holds some numbers.
-use Rattle.std.specs.Prelude.{◌≡◌, ℤ, pos, neg_ℤ, ◌≤ℤ◌, ◌⊎◌}
+use Rattle.std.specs.Prelude.{◌≡◌, ℤ, neg_ℤ, ◌≤ℤ◌, ◌⊎◌}
 use Rattle.std.proofs.Common.{inl, inr, arith, sym, subst}
 use Rattle.std.specs.Int.{int_max, int_min}
 use Rattle.std.proofs.lemmas.Int.{ints, clamps}
+use Rattle.prop_lattice.specs.declared.span.TheConstants.{B}
 use Rattle.prop_lattice.specs.Ends.{AreEnds, ends_or_not, span_if, span_from}
 use Rattle.prop_lattice.proofs.EndLemmas.{span_from-none}
 use Rattle.prop_lattice.specs.Order.{Below}
@@ -24,7 +25,7 @@ narrowest_same P Q a p h k = record {
 }
 
 -- a span whose ends are among the numbers
-pub span_narrowest : (P : ℤ → Type 0) (lo hi : ℤ) → neg_ℤ (pos 1_000_000_000_000_000_000) ≤ℤ lo → hi ≤ℤ pos 1_000_000_000_000_000_000 → P lo → P hi → ((v : ℤ) → P v → (lo ≤ℤ v) × (v ≤ℤ hi)) → IsNarrowest P (span_from lo hi)
+pub span_narrowest : (P : ℤ → Type 0) (lo hi : ℤ) → neg_ℤ B ≤ℤ lo → hi ≤ℤ B → P lo → P hi → ((v : ℤ) → P v → (lo ≤ℤ v) × (v ≤ℤ hi)) → IsNarrowest P (span_from lo hi)
 unfolding span_from
 span_narrowest P lo hi above below first last between = by (ends_or_not lo hi)
   where
@@ -46,12 +47,12 @@ pub none_narrowest : (P : ℤ → Type 0) (lo hi : ℤ) → ¬ (AreEnds lo hi) �
 none_narrowest P lo hi f none = subst (IsNarrowest P) (sym (span_from-none lo hi f)) (record { holds = λ v x. absurd (none v x); highest = λ s h. to_top s })
 
 -- a span that needs no cutting off
-pub clip_narrowest : (P : ℤ → Type 0) (lo hi : ℤ) → neg_ℤ (pos 1_000_000_000_000_000_000) ≤ℤ lo → hi ≤ℤ pos 1_000_000_000_000_000_000 → P lo → P hi → ((v : ℤ) → P v → (lo ≤ℤ v) × (v ≤ℤ hi)) → IsNarrowest P (clip lo hi)
+pub clip_narrowest : (P : ℤ → Type 0) (lo hi : ℤ) → neg_ℤ B ≤ℤ lo → hi ≤ℤ B → P lo → P hi → ((v : ℤ) → P v → (lo ≤ℤ v) × (v ≤ℤ hi)) → IsNarrowest P (clip lo hi)
 unfolding clip
 clip_narrowest P lo hi above below first last between = subst (IsNarrowest P) (λ i. span_from (max_same i) (min_same i)) (span_narrowest P lo hi above below first last between)
   where
-    max_same : lo ≡ int_max lo (neg_ℤ (pos 1_000_000_000_000_000_000))
+    max_same : lo ≡ int_max lo (neg_ℤ B)
     max_same = omega (arith, ints, clamps)
 
-    min_same : hi ≡ int_min hi (pos 1_000_000_000_000_000_000)
+    min_same : hi ≡ int_min hi B
     min_same = omega (arith, ints, clamps)

@@ -8,6 +8,7 @@ use Rattle.std.proofs.lemmas.Bool.Decides.{nat_tests}
 use Rattle.std.specs.Prelude.{int_le, int_lt, Option, Some, None}
 use Rattle.std.specs.Int.{int_max, int_min}
 use Rattle.std.proofs.lemmas.Int.{clamps}
+use Rattle.prop_lattice.specs.declared.span.TheConstants.{B}
 use Rattle.prop_lattice.specs.Ends.{span_from}
 use Rattle.prop_lattice.specs.laws.OrderLaws.{to_top}
 use Rattle.prop_lattice.specs.declared.span.Span as spans
@@ -92,7 +93,7 @@ greatest_root-to (negsuc n) v p h = absurd (omega (arith, ints))
 abbrev pub IsAtDistance : ℕ → ℕ → ℤ → ℤ → ℤ → Type 0
 IsAtDistance l g lo hi v = (lo ≤ℤ v) × (v ≤ℤ hi) × (l ≤ unsigned_abs v) × (unsigned_abs v ≤ g)
 
-pub span_at_distance-narrowest : (l g : ℕ) (lo hi : ℤ) → neg_ℤ (pos 1_000_000_000_000_000_000) ≤ℤ lo → hi ≤ℤ pos 1_000_000_000_000_000_000 → IsNarrowest (IsAtDistance l g lo hi) (span_at_distance (pos l) (pos g) lo hi)
+pub span_at_distance-narrowest : (l g : ℕ) (lo hi : ℤ) → neg_ℤ B ≤ℤ lo → hi ≤ℤ B → IsNarrowest (IsAtDistance l g lo hi) (span_at_distance (pos l) (pos g) lo hi)
 span_at_distance-narrowest l g lo hi above below =
     by (int_le (int_max lo (neg_ℤ (pos g))) (int_min hi (neg_ℤ (pos l)))) refl (int_le (int_max lo (pos l)) (int_min hi (pos g))) refl
   where
@@ -103,11 +104,11 @@ span_at_distance-narrowest l g lo hi above below =
     by false e true f = span_narrowest (IsAtDistance l g lo hi) (int_max lo (pos l)) (int_min hi (pos g)) (omega (arith, ints, clamps)) (omega (arith, ints, clamps)) (omega (arith, ints, clamps), omega (arith, ints, clamps), omega (arith, ints, clamps), omega (arith, ints, clamps)) (omega (arith, ints, clamps), omega (arith, ints, clamps), omega (arith, ints, clamps), omega (arith, ints, clamps)) (λ v p. (omega (arith, ints, clamps), omega (arith, ints, clamps)))
     by false e false f = none_narrowest (IsAtDistance l g lo hi) (int_max lo (pos l)) (int_min hi (neg_ℤ (pos l))) (λ h. omega (arith, ints, clamps)) (λ v p. omega (arith, ints, clamps))
 
-pub first_in : (x : Option spans.Span) → neg_ℤ (pos 1_000_000_000_000_000_000) ≤ℤ first_of x
+pub first_in : (x : Option spans.Span) → neg_ℤ B ≤ℤ first_of x
 first_in None = omega (arith, ints)
 first_in (Some x) = x.above
 
-pub last_in : (x : Option spans.Span) → last_of x ≤ℤ pos 1_000_000_000_000_000_000
+pub last_in : (x : Option spans.Span) → last_of x ≤ℤ B
 last_in None = omega (arith, ints)
 last_in (Some x) = x.below
 
