@@ -16,7 +16,7 @@ loop-valued-preserved g c =
     let l = c.loop-valued-test.true in
     elim c.if-not-implies.branch [
       | then-not-implies+then-believes_any t ↦
-          (let some = rw t.deref.ensures.value at t.believes_any.ensures in
+          (let some = rw t.deref.ensures at t.believes_any.ensures in
           let on : list_any u x.supports.items ≡ true = sym some ∙ t.if-believes_any.true in
           rw (t.merged-is, t.merge-merged.ensures, said_more laws u xs i x true l c.valued-item.is on, join-assoc laws, ← c.loop-valued.invariant) refl)
       | else-not-implies t ↦ elim t.else-not-implies.branch [
