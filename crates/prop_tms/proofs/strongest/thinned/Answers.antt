@@ -21,10 +21,10 @@ loop-gain-init g c =
     let after = c.nothing-after.result in
     let support = c.empty-support.result in
     let value = c.args.value in
-    let bound : n ≤ length row = rw c.deref.ensures at c.enough.ensures.bound in
-    let says : g.V.Partial.below value (g.V.Partial.join (merge_of_all g.V.Partial.bottom g.V.Partial.join (gained_of (take n row))) after) = rw c.deref.ensures at c.enough.ensures.says in
+    let bound : n ≤ length row = rw c.deref.ensures.value at c.enough.ensures.bound in
+    let says : g.V.Partial.below value (g.V.Partial.join (merge_of_all g.V.Partial.bottom g.V.Partial.join (gained_of (take n row))) after) = rw c.deref.ensures.value at c.enough.ensures.says in
     record {
-      enough = rw c.truncate.ensures.items (first_enough laws row n after value c.requires.gains bound says (λ k is. rw c.deref.ensures at (c.enough.ensures.needed k is)));
+      enough = rw c.truncate.ensures.items (first_enough laws row n after value c.requires.gains bound says (λ k is. rw c.deref.ensures.value at (c.enough.ensures.needed k is)));
       none = λ none. c.truncate.ensures.items ∙ ap (take n) none ∙ take-nil n;
       empty = λ none. c.empty-support.ensures;
       among = rw c.truncate.ensures.items (All-first (Contains all) row n (All-contains_itself all));
@@ -36,13 +36,13 @@ loop-gain-init g c =
 pub enough-requires-in-Some-clause-gains : goal.enough-requires-in-Some-clause-gains
 enough-requires-in-Some-clause-gains g c =
     let left = c.pop.new.self.items in
-    rw c.deref-in-Some.ensures (AreGains-front g.met.V.Partial.laws g.V.Partial.bottom left c.in-Some.gain (rw c.in-Some.ensures.items at c.loop-gain.invariant.enough.gains))
+    rw c.deref-in-Some.ensures.value (AreGains-front g.met.V.Partial.laws g.V.Partial.bottom left c.in-Some.gain (rw c.in-Some.ensures.items at c.loop-gain.invariant.enough.gains))
 
 pub enough-requires-in-Some-clause-all : goal.enough-requires-in-Some-clause-all
 enough-requires-in-Some-clause-all g c =
     let left = c.pop.new.self.items in
     let before = rw c.in-Some.ensures.items at c.loop-gain.invariant.enough.says in
-    rw (c.deref-in-Some.ensures, c.merge-after.ensures) (says_kept g.met.V.Partial.laws left c.in-Some.gain c.loop-gain.after c.args.value before)
+    rw (c.deref-in-Some.ensures.value, c.merge-after.ensures) (says_kept g.met.V.Partial.laws left c.in-Some.gain c.loop-gain.after c.args.value before)
 
 pub loop-gain-preserved : goal.loop-gain-preserved
 loop-gain-preserved g c =
@@ -59,7 +59,7 @@ loop-gain-preserved g c =
     let n = c.enough-in-Some.result in
     let after = c.merge-after.result in
     let support = c.in_ok-support.support in
-    let is = c.deref-in-Some.ensures in
+    let is = c.deref-in-Some.ensures.value in
     let cut = c.truncate-in-Some.ensures.items in
     let row : AreGains join bottom left = AreGains-front laws bottom left gain (rw items at kept.enough.gains) in
     let bound : n ≤ length left = rw is at c.enough-in-Some.ensures.bound in
