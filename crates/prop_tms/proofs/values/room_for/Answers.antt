@@ -9,33 +9,33 @@ on_err (Err e) p = p
 pub returns-in_err-reserve-clause-same : goal.returns-in_err-reserve-clause-same
 returns-in_err-reserve-clause-same g c =
     let xs = c.args.values.now.items in
-    let old = c.index_mut.result.now in
+    let old = c.index-deref_mut-place.result in
     let l : c.in-Some.place < length xs = rw c.deref.ensures at c.in-Some.ensures.at.0 in
-    entries_of-same xs c.in-Some.place _ old l (ap (λ x. x.value) c.index_mut.ensures.value) (c.in_err-reserve.ensures.items ∙ ap (λ x. x.supports.items) c.index_mut.ensures.value)
+    entries_of-same xs c.in-Some.place _ old l (ap (λ x. x.value) (rw c.deref_mut.ensures.value at c.index-deref_mut-place.is)) (c.in_err-reserve.ensures.items ∙ ap (λ x. x.supports.items) (rw c.deref_mut.ensures.value at c.index-deref_mut-place.is))
 
 pub returns-in_err-reserve-clause-apart : goal.returns-in_err-reserve-clause-apart
 returns-in_err-reserve-clause-apart g c =
     let xs = c.args.values.now.items in
     let l : c.in-Some.place < length xs = rw c.deref.ensures at c.in-Some.ensures.at.0 in
-    subst (AllPairs (λ a b. a ≢ b)) (sym (values_of-set xs c.in-Some.place _ c.index_mut.result.now l (ap (λ x. x.value) c.index_mut.ensures.value))) c.requires.apart
+    subst (AllPairs (λ a b. a ≢ b)) (sym (values_of-set xs c.in-Some.place _ c.index-deref_mut-place.result l (ap (λ x. x.value) (rw c.deref_mut.ensures.value at c.index-deref_mut-place.is)))) c.requires.apart
 
 pub returns-in_err-reserve-clause-err : goal.returns-in_err-reserve-clause-err
 returns-in_err-reserve-clause-err g c =
     let xs = c.args.values.now.items in
     let l : c.in-Some.place < length xs = rw c.deref.ensures at c.in-Some.ensures.at.0 in
-    on_err c.from_residual.result (none_bare-set xs c.in-Some.place _ c.index_mut.result.now l (c.in_err-reserve.ensures.items ∙ ap (λ x. x.supports.items) c.index_mut.ensures.value))
+    on_err c.from_residual.result (none_bare-set xs c.in-Some.place _ c.index-deref_mut-place.result l (c.in_err-reserve.ensures.items ∙ ap (λ x. x.supports.items) (rw c.deref_mut.ensures.value at c.index-deref_mut-place.is)))
 
 pub returns-in-Some-clause-same : goal.returns-in-Some-clause-same
 returns-in-Some-clause-same g c =
     let xs = c.args.values.now.items in
     let l : c.in-Some.place < length xs = rw c.deref.ensures at c.in-Some.ensures.at.0 in
-    entries_of-same xs c.in-Some.place _ c.index_mut.result.now l (ap (λ x. x.value) c.index_mut.ensures.value) (c.in_ok-reserve.ensures.items ∙ ap (λ x. x.supports.items) c.index_mut.ensures.value)
+    entries_of-same xs c.in-Some.place _ c.index-deref_mut-place.result l (ap (λ x. x.value) (rw c.deref_mut.ensures.value at c.index-deref_mut-place.is)) (c.in_ok-reserve.ensures.items ∙ ap (λ x. x.supports.items) (rw c.deref_mut.ensures.value at c.index-deref_mut-place.is))
 
 pub returns-in-Some-clause-apart : goal.returns-in-Some-clause-apart
 returns-in-Some-clause-apart g c =
     let xs = c.args.values.now.items in
     let l : c.in-Some.place < length xs = rw c.deref.ensures at c.in-Some.ensures.at.0 in
-    subst (AllPairs (λ a b. a ≢ b)) (sym (values_of-set xs c.in-Some.place _ c.index_mut.result.now l (ap (λ x. x.value) c.index_mut.ensures.value))) c.requires.apart
+    subst (AllPairs (λ a b. a ≢ b)) (sym (values_of-set xs c.in-Some.place _ c.index-deref_mut-place.result l (ap (λ x. x.value) (rw c.deref_mut.ensures.value at c.index-deref_mut-place.is)))) c.requires.apart
 
 pub returns-clause-same : goal.returns-clause-same
 returns-clause-same g c = rw c.in_ok-push.ensures.ok (entries_of-new c.args.values.now.items _ c.new-supports.ensures.items)
