@@ -1,5 +1,5 @@
 //! Values, each once, with the supports that say so.
-ghost use Rattle.std.specs.Prelude.{◌≡◌, ◌≢◌, ◌↔◌, ◌<◌, ◌≤◌, ◌+◌, ◌^◌, ℕ, [], Any, All, false, not, length, filter, get_or, IsTrue, OnErr, IfOk, IfSome, IfNone};
+ghost use Rattle.std.specs.Prelude.{◌≡◌, ◌≢◌, ◌↔◌, ◌<◌, ◌≤◌, ◌+◌, ◌^◌, ℕ, [], Any, All, false, not, length, filter, get_or, IsTrue, OnOk, OnErr, IfOk, IfSome, IfNone};
 ghost use Rattle.std.specs.List.{list_any};
 ghost use Rattle.smallvec.specs.SmallVec.{HasRoomFor};
 ghost use Rattle.prop_premises.specs.Sets.{set_of, is_within, is_alike, is_below};
@@ -120,6 +120,18 @@ fn find<V: Partial>(values: &[Valued<V>], value: V) -> Option<usize>
         .position(|valued| is_same(valued.value, value))
 }
 
+/// Makes room for one support more of the value at a place. After want of memory nothing has changed.
+fn make_room<V: Partial>(values: &mut [Valued<V>], place: usize) -> Result<(), AllocError>
+    requires { place < length values.old }
+    ensures values { values_of values.new ≡ values_of values.old }
+    ensures same { entries_of values.new ≡ entries_of values.old }
+    ensures bare { NoneBare values.old → NoneBare values.new }
+    ensures others { NoneBare values.old → NoneBareBut place values.new }
+    ensures room { OnOk result ((d : Valued V) → HasRoomFor (get_or values.new place d).supports 1) }
+{
+    values[place].supports.reserve(1)
+}
+
 /// The place of the value, with room for one support more. A new value stands last, with no support yet. After want of memory nothing
 /// has changed.
 pub(crate) fn room_for<V: Partial>(
@@ -135,7 +147,7 @@ pub(crate) fn room_for<V: Partial>(
     ensures err { OnErr result (NoneBare values.old.items → NoneBare values.new.items) }
 {
     if let Some(place) = find(values, value) {
-        values[place].supports.reserve(1)?;
+        make_room(values, place)?;
         return Ok(place);
     }
     let supports = SmallVec::new(*values.allocator());
