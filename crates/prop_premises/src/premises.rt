@@ -11,6 +11,7 @@ use crate::choice::Choice;
 use crate::named::Kind;
 use crate::premise_set::Premise;
 use crate::table::Table;
+use crate::number_set::NumberSet;
 use crate::words::{Words, blank};
 use crate::worldview::Worldview;
 use prop_lattice::{Limit, Refusal};
@@ -245,7 +246,8 @@ impl Premises {
         let mut words = blank(self.table.alloc(), self.table.len())?;
         self.table.set_believed(&mut words);
         set_sides(&mut words, &self.choices, sides);
-        Ok(Worldview::from_words(Words::of(words)))
+        let words = Words::of(words);
+        Ok(Worldview::of_numbers(NumberSet::of_words(words)))
     }
 
     /// Drops the names from number `count` on, where a name starts. It takes no memory.
