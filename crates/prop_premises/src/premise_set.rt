@@ -6,6 +6,7 @@ ghost use Rattle.prop_premises.specs.Sets.{set_of, union, without, is_below, is_
 use crate::numbers::Numbers;
 use crate::words::Words;
 use std::alloc::{AllocError, Global};
+use std::default::MadeWith;
 use std::marker::Model;
 
 /// A premise, by its number. Premises are numbered from 0 on, in the order in which their names first appeared.
@@ -23,6 +24,15 @@ impl Model for PremiseSet {
     ghost view = { λ s. s.numbers };
 
     ghost invariant = { λ s. IsStrictlyIncreasing s.numbers };
+}
+
+/// The set of no premises, so that a few sets can stand in a value itself.
+impl MadeWith<Global> for PremiseSet {
+    ghost is_made_with = { λ s. s ≡ [] };
+
+    fn made_with(alloc: Global) -> PremiseSet {
+        PremiseSet::empty(alloc)
+    }
 }
 
 impl PremiseSet {

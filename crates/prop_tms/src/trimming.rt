@@ -8,7 +8,7 @@ ghost use Rattle.prop_tms.specs.inner.Values.{place_of, AreKept};
 ghost use Rattle.prop_tms.specs.declared.values.Valued.{Valued};
 
 use crate::strongest::{belief, believes_any};
-use crate::values::{Valued, drop_bare};
+use crate::values::{Valued, Values, drop_bare};
 use prop_lattice::Partial;
 use prop_premises::{PremiseSet, Worldview};
 
@@ -77,7 +77,7 @@ fn is_needed<V: Partial>(
 
 /// Drops entries that the worldview does without, from the first on, but for those that rest on nothing or on one told premise alone.
 pub(crate) fn trim<V: Partial>(
-    values: &mut Vec<Valued<V>>,
+    values: &mut Values<V>,
     told: &PremiseSet,
     worldview: &Worldview,
 )

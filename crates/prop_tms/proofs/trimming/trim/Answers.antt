@@ -1,4 +1,4 @@
-use Rattle.std.proofs.Common.{◌≡◌, ◌≢◌, ◌⊎◌, ◌∙◌, ◌<◌, ◌≤◌, ℕ, List, IsTrue, false, vec_len, length, set, get_or, refl, sym, ap, inl, inr, arith, subst}
+use Rattle.std.proofs.Common.{◌≡◌, ◌≢◌, ◌⊎◌, ◌∙◌, ◌<◌, ◌≤◌, ℕ, List, IsTrue, false, length, set, get_or, refl, sym, ap, inl, inr, arith, subst}
 use Rattle.std.specs.List.{remove}
 use Rattle.std.proofs.lemmas.List.{get_or-set_same, get_or_default, length-set}
 use Rattle.prop_premises.specs.Sets.{set_of, is_at_most_one_of}
@@ -12,10 +12,10 @@ use Rattle.prop_tms.proofs.trimming.trim.Goals as goal
 use Rattle.prop_tms.proofs.trimming.trim.Goals.{then-is_at_most_one_of, else-is_at_most_one_of}
 
 -- a value's place, by its two readings
-within : {V : Type 0} (xs : List (Valued V)) (i place n : ℕ) (y x : Valued V) → i < length xs → y ≡ get_or xs i y → x ≡ get_or xs i x → place < n → n ≡ vec_len y.supports → place < length x.supports.items
+within : {V : Type 0} (xs : List (Valued V)) (i place n : ℕ) (y x : Valued V) → i < length xs → y ≡ get_or xs i y → x ≡ get_or xs i x → place < n → n ≡ length y.supports.items → place < length x.supports.items
 within xs i place n y x l at is m len =
     let same = ap (λ (z : Valued _). length z.supports.items) (at ∙ get_or_default xs i y x l ∙ sym is) in
-    omega (arith, m, len, y.supports.ok.0, same)
+    omega (arith, m, len, same)
 
 shorter : (ss rest : List (List ℕ)) (place : ℕ) → place < length ss → rest ≡ remove ss place → place ≤ length rest
 shorter ss rest place l is = let n = remove_length ss place l in let m = ap length is in omega (arith, l, n, m)
@@ -23,7 +23,7 @@ shorter ss rest place l is = let n = remove_length ss place l in let m = ap leng
 pub loop-at-init : goal.loop-at-init
 loop-at-init g c = record {
   at = omega arith;
-  value = rw c.deref.ensures.value at c.belief-value.ensures;
+  value = rw c.deref.ensures at c.belief-value.ensures;
   trimmed = trimmed_none g.met.V.Partial.laws (set_of c.args.told.now) (set_of c.args.worldview.now) c.args.values.now.items c.requires;
 }
 
@@ -44,7 +44,7 @@ loop-place-preserved-then-is_needed g c =
     let last : IsTrue (is_at_most_one_of told s) ⊎ (belief_of g.V.Partial.bottom g.V.Partial.join w (remove (entries_of xs) (place_of xs i place)) ≢ belief_of g.V.Partial.bottom g.V.Partial.join w (entries_of xs)) =
     elim c.if-is_at_most_one_of.branch [
       | then-is_at_most_one_of t ↦ inl (sym c.is_at_most_one_of.ensures ∙ t.if-is_at_most_one_of.true)
-      | else-is_at_most_one_of t ↦ inr ((rw t.deref-else-is_at_most_one_of.ensures.value at t.is_needed.ensures.needed) (sym t.value-is ∙ c.if-is_needed.true))
+      | else-is_at_most_one_of t ↦ inr ((rw t.deref-else-is_at_most_one_of.ensures at t.is_needed.ensures.needed) (sym t.value-is ∙ c.if-is_needed.true))
     ] in
     record {
       at = kept.at;
@@ -100,7 +100,7 @@ loop-place-preserved g c =
       | then-is_at_most_one_of t ↦ cc (t.value-is, c.if-is_needed.false)
       | else-is_at_most_one_of t ↦ (
         sym c.is_at_most_one_of.ensures ∙ t.if-is_at_most_one_of.false,
-        (rw t.deref-else-is_at_most_one_of.ensures.value at t.is_needed.ensures.needless) (sym t.value-is ∙ c.if-is_needed.false),
+        (rw t.deref-else-is_at_most_one_of.ensures at t.is_needed.ensures.needless) (sym t.value-is ∙ c.if-is_needed.false),
       )
     ] in
     let n = length-set xs i y in
@@ -119,7 +119,7 @@ loop-at-preserved g c =
     let kept = c.loop-place.invariant in
     let same = ap (λ (z : Valued _). length z.supports.items) c.index.ensures in
     let le = kept.place y in
-    let end : c.loop-place.place ≡ length y.supports.items = omega (arith, le, same, c.loop-place-test.false, c.len-in-loop-place.ensures, y.supports.ok.0) in
+    let end : c.loop-place.place ≡ length y.supports.items = omega (arith, le, same, c.loop-place-test.false, c.len-in-loop-place.ensures) in
     record {
       at = omega (arith, kept.at);
       value = kept.value;
@@ -129,6 +129,6 @@ loop-at-preserved g c =
 pub returns-clause-needed : goal.returns-clause-needed
 returns-clause-needed g c =
     let xs = c.loop-at.values.items in
-    let le : length xs ≤ c.loop-at.at = omega (arith, c.len.ensures, c.loop-at-test.false, c.loop-at.values.ok.0) in
+    let le : length xs ≤ c.loop-at.at = omega (arith, c.len.ensures, c.loop-at-test.false) in
     let all = trimmed_all g.met.V.Partial.laws (set_of c.args.told.now) (set_of c.args.worldview.now) c.args.values.now.items xs (place_of xs c.loop-at.at 0) (place_end xs c.loop-at.at le) c.loop-at.invariant.trimmed in
     subst (AreNeeded g.V.Partial.bottom g.V.Partial.join (set_of c.args.told.now) (set_of c.args.worldview.now)) (sym c.drop_bare.ensures.same) all

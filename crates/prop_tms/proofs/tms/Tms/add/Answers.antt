@@ -15,13 +15,13 @@ use Rattle.prop_tms.proofs.tms.Tms.add.Goals as goal
 pub returns-then-is_needless-clause-adds : goal.returns-then-is_needless-clause-adds
 returns-then-is_needless-clause-adds g c =
     let e : Supported _ = record { value = c.args.value; support = c.args.support } in
-    let needless : IsNeedless g.V.Partial.below g.V.Partial.bottom c.args.self.now e = rw (← c.self.view_is) (rw c.deref.ensures.value at (c.is_needless.ensures.0 c.if-is_needless.true)) in
+    let needless : IsNeedless g.V.Partial.below g.V.Partial.bottom c.args.self.now e = rw (← c.self.view_is) (rw c.deref.ensures at (c.is_needless.ensures.0 c.if-is_needless.true)) in
     adds_needless g.met.V.Partial.laws c.args.self.now e needless
 
 pub returns-then-is_needless-clause-same : goal.returns-then-is_needless-clause-same
 returns-then-is_needless-clause-same g c =
     let e : Supported _ = record { value = c.args.value; support = c.args.support } in
-    let needless : IsNeedless g.V.Partial.below g.V.Partial.bottom c.args.self.now e = rw (← c.self.view_is) (rw c.deref.ensures.value at (c.is_needless.ensures.0 c.if-is_needless.true)) in
+    let needless : IsNeedless g.V.Partial.below g.V.Partial.bottom c.args.self.now e = rw (← c.self.view_is) (rw c.deref.ensures at (c.is_needless.ensures.0 c.if-is_needless.true)) in
     (λ t. needless, λ n. refl)
 
 -- ---- where memory is refused
@@ -29,13 +29,13 @@ returns-then-is_needless-clause-same g c =
 pub returns-then-count-clause-needless : goal.returns-then-count-clause-needless
 returns-then-count-clause-needless g c =
     let e : Supported _ = record { value = c.args.value; support = c.args.support } in
-    let needed : ¬ (IsNeedless g.V.Partial.below g.V.Partial.bottom (entries_of c.self.inside.values.items) e) = λ n. cc (c.if-is_needless.false, c.is_needless.ensures.1 (rw c.deref.ensures.value n)) in
+    let needed : ¬ (IsNeedless g.V.Partial.below g.V.Partial.bottom (entries_of c.self.inside.values.items) e) = λ n. cc (c.if-is_needless.false, c.is_needless.ensures.1 (rw c.deref.ensures n)) in
     λ n. absurd (needed (rw c.self.view_is n))
 
 pub returns-in_err-place-clause-needless : goal.returns-in_err-place-clause-needless
 returns-in_err-place-clause-needless g c =
     let e : Supported _ = record { value = c.args.value; support = c.args.support } in
-    let needed : ¬ (IsNeedless g.V.Partial.below g.V.Partial.bottom (entries_of c.self.inside.values.items) e) = λ n. cc (c.if-is_needless.false, c.is_needless.ensures.1 (rw c.deref.ensures.value n)) in
+    let needed : ¬ (IsNeedless g.V.Partial.below g.V.Partial.bottom (entries_of c.self.inside.values.items) e) = λ n. cc (c.if-is_needless.false, c.is_needless.ensures.1 (rw c.deref.ensures n)) in
     λ n. absurd (needed (rw c.self.view_is n))
 
 -- there is room for the support
@@ -44,12 +44,12 @@ no_refusal g c =
     let start = c.room_for.new.values.items in
     let mid = c.drop_subsumed-emptied.new.values in
     let i = c.in_ok-place.place in
-    let x = c.index_mut.result.now in
+    let x = c.index-deref_mut-place.result in
     let values = rw c.deref_mut.ensures.value at c.drop_subsumed-emptied.ensures.values in
-    let is : x ≡ get_or mid i x = rw (written_values _ start mid c.room_for.new.values.ok.0 values) at c.index_mut.ensures.value in
+    let is : x ≡ get_or mid i x = rw (c.deref_mut-2.ensures.value, written_values (length start) start mid refl values) at c.index-deref_mut-place.is in
     let l = c.in_ok-place.ensures.place.0 in
     let kept = rw c.deref_mut.ensures.value at c.drop_subsumed-emptied.ensures.room in
-    has_room start mid i x l is (c.in_ok-place.ensures.room x) (kept i x l) c.in_err-push.ensures.full
+    c.in_err-push.ensures.succeeds (has_room start mid i x l is (c.in_ok-place.ensures.room x) (kept i x l))
 
 pub invariant_of-self-in_err-push : goal.invariant_of-self-in_err-push
 invariant_of-self-in_err-push g c = absurd (no_refusal g c)
@@ -76,10 +76,10 @@ drop_emptied-requires-clause-apart g c =
     let start = c.room_for.new.values.items in
     let mid = c.drop_subsumed-emptied.new.values in
     let values = rw c.deref_mut.ensures.value at c.drop_subsumed-emptied.ensures.values in
-    let whole = written_values _ start mid c.room_for.new.values.ok.0 values in
+    let whole = written_values (length start) start mid refl values in
     let i = c.in_ok-place.place in
-    let x = c.index_mut.result.now in
-    let is : x ≡ get_or mid i x = rw whole at c.index_mut.ensures.value in
+    let x = c.index-deref_mut-place.result in
+    let is : x ≡ get_or mid i x = rw (c.deref_mut-2.ensures.value, whole) at c.index-deref_mut-place.is in
     let n = length_values mid start values in
     let l : i < length mid = omega (arith, c.in_ok-place.ensures.place.0, n) in
     rw whole (subst (AllPairs (λ a b. a ≢ b)) (sym (values_of-set mid i _ x l (ap (λ (z : Valued _). z.value) is) ∙ values)) c.in_ok-place.ensures.apart)
@@ -90,10 +90,10 @@ drop_emptied-requires-clause-bare g c left =
     let mid = c.drop_subsumed-emptied.new.values in
     let values = rw c.deref_mut.ensures.value at c.drop_subsumed-emptied.ensures.values in
     let emptied = rw c.deref_mut.ensures.value at c.drop_subsumed-emptied.ensures.emptied in
-    let whole = written_values _ start mid c.room_for.new.values.ok.0 values in
+    let whole = written_values (length start) start mid refl values in
     let n = length_values mid start values in
     let l : c.in_ok-place.place < length mid = omega (arith, c.in_ok-place.ensures.place.0, n) in
-    let some : c.push.new.self.items ≢ [] = λ none. none_pushed c.index_mut.result.now.supports.items c.args.support (sym c.in_ok-push.ensures.items ∙ none) in
+    let some : c.push.new.self.items ≢ [] = λ none. none_pushed c.index-deref_mut-place.result.supports.items c.args.support (sym c.in_ok-push.ensures.ok ∙ none) in
     rw whole (none_bare-push start mid c.in_ok-place.place _ l n some (c.in_ok-place.ensures.others c.self.invariant.bare) (emptied left))
   where
     none_pushed : {X : Type 0} (xs : List X) (x : X) → xs ++ x ∷ [] ≡ [] → ⊥
@@ -111,18 +111,18 @@ grown g c =
     let start = c.room_for.new.values.items in
     let mid = c.drop_subsumed-emptied.new.values in
     let i = c.in_ok-place.place in
-    let x = c.index_mut.result.now in
+    let x = c.index-deref_mut-place.result in
     let y : Valued _ = record { value = x.value; supports = c.push.new.self } in
-    let said : c.joined-value.result ≡ m.value = rw c.deref-3.ensures.value at c.joined-value.ensures in
+    let said : c.joined-value.result ≡ m.value = rw c.deref-3.ensures at c.joined-value.ensures in
     let values = rw c.deref_mut.ensures.value at c.drop_subsumed-emptied.ensures.values in
-    let whole = written_values _ start mid c.room_for.new.values.ok.0 values in
-    let is : x ≡ get_or mid i x = rw whole at c.index_mut.ensures.value in
+    let whole = written_values (length start) start mid refl values in
+    let is : x ≡ get_or mid i x = rw (c.deref_mut-2.ensures.value, whole) at c.index-deref_mut-place.is in
     let left : IsLeftWithout (Subsumes g.V.Partial.below m) (entries_of start) (entries_of mid) = rw (c.deref_mut.ensures.value, said) at c.drop_subsumed-emptied.ensures.kept in
-    grown_all (Subsumes g.V.Partial.below m) old (entries_of c.drop_emptied.new.values.items) m start mid i x y c.in_ok-place.ensures.same c.in_ok-place.ensures.place.0 (c.in_ok-place.ensures.place.1 x ∙ said) left values is refl c.in_ok-push.ensures.items
+    grown_all (Subsumes g.V.Partial.below m) old (entries_of c.drop_emptied.new.values.items) m start mid i x y c.in_ok-place.ensures.same c.in_ok-place.ensures.place.0 (c.in_ok-place.ensures.place.1 x ∙ said) left values is refl c.in_ok-push.ensures.ok
     (rw whole at c.drop_emptied.ensures.same)
 
 needed : (g : Over) (c : goal.After-drop_emptied g) → ¬ (IsNeedless g.V.Partial.below g.V.Partial.bottom (entries_of c.self.inside.values.items) (record { value = c.args.value; support = c.args.support }))
-needed g c = λ n. cc (c.if-is_needless.false, c.is_needless.ensures.1 (rw c.deref.ensures.value n))
+needed g c = λ n. cc (c.if-is_needless.false, c.is_needless.ensures.1 (rw c.deref.ensures n))
 
 subsumed : (g : Over) (c : goal.After-drop_emptied g) → NoneSubsumed g.V.Partial.below (entries_of c.drop_emptied.new.values.items)
 subsumed g c =
@@ -156,7 +156,7 @@ invariant_of-self-2 g c = record {
   apart = c.drop_emptied.ensures.apart;
   bare = c.drop_emptied.ensures.bare;
   counted = (
-      let counted = rw c.deref-2.ensures.value at c.count.ensures in
+      let counted = rw c.deref-2.ensures at c.count.ensures in
       omega (arith, longer g c, c.if-count.false, counted, c.self.invariant.counted)
       );
 }
