@@ -68,6 +68,7 @@ fn subsumes<V: Partial>(valued: &Valued<V>, entry: &Supported<V>) -> bool
 }
 
 /// Whether some entry subsumes this one.
+#[inline]
 fn is_known<V: Partial>(values: &[Valued<V>], entry: &Supported<V>) -> bool
     ensures { IsTrue result ↔ Any (λ x. Subsumes V.below x entry.now) (entries_of values.now) }
 {
@@ -75,6 +76,7 @@ fn is_known<V: Partial>(values: &[Valued<V>], entry: &Supported<V>) -> bool
 }
 
 /// Whether the entry says nothing new.
+#[inline]
 pub(crate) fn is_needless<V: Partial>(values: &[Valued<V>], entry: &Supported<V>) -> bool
     ensures { IsTrue result ↔ IsNeedless V.below V.bottom (entries_of values.now) entry.now }
 {
@@ -111,6 +113,7 @@ pub(crate) fn is_same<V: Partial>(a: V, b: V) -> bool
 }
 
 /// The place of the value; nothing where it isn't there.
+#[inline]
 fn find<V: Partial>(values: &[Valued<V>], value: V) -> Option<usize>
     ensures at { IfSome result (λ at. (at < length values.now) × ((d : Valued V) → (get_or values.now at d).value ≡ value)) }
     ensures new { IfNone result (All (λ x. x.value ≢ value) values.now) }
@@ -121,6 +124,7 @@ fn find<V: Partial>(values: &[Valued<V>], value: V) -> Option<usize>
 }
 
 /// Makes room for one support more of the value at a place. After want of memory nothing has changed.
+#[inline]
 fn make_room<V: Partial>(values: &mut [Valued<V>], place: usize) -> Result<(), AllocError>
     requires { place < length values.old }
     ensures values { values_of values.new ≡ values_of values.old }
@@ -202,6 +206,7 @@ pub(crate) fn drop_bare<V: Partial>(values: &mut Values<V>)
 }
 
 /// Drops the values with no support, where some value was left with none.
+#[inline]
 pub(crate) fn drop_emptied<V: Partial>(values: &mut Values<V>, emptied: bool)
     requires apart { AreApart values.old.items }
     requires bare { emptied ≡ false → NoneBare values.old.items }
