@@ -77,11 +77,7 @@ fn is_needed<V: Partial>(
 
 /// Drops supports that the worldview does without, from the first on, but for those that are empty or one told premise alone. A value may be
 /// left with no support.
-fn drop_needless<V: Partial>(
-    values: &mut [Valued<V>],
-    told: &PremiseSet,
-    worldview: &Worldview,
-)
+fn drop_needless<V: Partial>(values: &mut [Valued<V>], told: &PremiseSet, worldview: &Worldview)
     requires { AreKept V.below values.old }
     ensures trims { Trims V.bottom V.join (set_of told.now) (set_of worldview.now) (entries_of values.old) (entries_of values.new) }
     ensures needed { AreNeeded V.bottom V.join (set_of told.now) (set_of worldview.now) (entries_of values.new) }
@@ -108,11 +104,7 @@ fn drop_needless<V: Partial>(
 }
 
 /// Drops entries that the worldview does without, from the first on, but for those that rest on nothing or on one told premise alone.
-pub(crate) fn trim<V: Partial>(
-    values: &mut Values<V>,
-    told: &PremiseSet,
-    worldview: &Worldview,
-)
+pub(crate) fn trim<V: Partial>(values: &mut Values<V>, told: &PremiseSet, worldview: &Worldview)
     requires { AreKept V.below values.old.items }
     ensures trims { Trims V.bottom V.join (set_of told.now) (set_of worldview.now) (entries_of values.old.items) (entries_of values.new.items) }
     ensures needed { AreNeeded V.bottom V.join (set_of told.now) (set_of worldview.now) (entries_of values.new.items) }

@@ -138,10 +138,7 @@ fn make_room<V: Partial>(values: &mut [Valued<V>], place: usize) -> Result<(), A
 
 /// The place of the value, with room for one support more. A new value stands last, with no support yet. After want of memory nothing
 /// has changed.
-pub(crate) fn room_for<V: Partial>(
-    values: &mut Values<V>,
-    value: V,
-) -> Result<usize, AllocError>
+pub(crate) fn room_for<V: Partial>(values: &mut Values<V>, value: V) -> Result<usize, AllocError>
     requires apart { AreApart values.old.items }
     ensures same { entries_of values.new.items ≡ entries_of values.old.items }
     ensures apart { AreApart values.new.items }

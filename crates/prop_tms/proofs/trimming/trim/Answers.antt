@@ -1,4 +1,4 @@
-use Rattle.std.proofs.Common.{◌≡◌, ◌∙◌, ℕ, List, length, refl, sym, ap, subst, arith}
+use Rattle.std.proofs.Common.{◌≡◌, ◌∙◌, List, length, refl, sym, ap, subst, arith}
 use Rattle.std.specs.List.{refill}
 use Rattle.prop_premises.specs.Sets.{set_of}
 use Rattle.prop_tms.specs.Beliefs.{AreNeeded, NoneSubsumed, NoneAlike}

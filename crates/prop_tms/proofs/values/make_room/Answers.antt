@@ -1,7 +1,4 @@
 use Rattle.std.proofs.Common.{refl}
-use Rattle.std.proofs.lemmas.List.{get_or-set_same}
-use Rattle.smallvec.specs.SmallVec.{HasRoomFor}
-use Rattle.prop_tms.specs.declared.values.Valued.{Valued}
 use Rattle.prop_tms.proofs.ValueLemmas.{entries_of-same, none_bare-set, values_of-set}
 use Rattle.prop_tms.proofs.values.make_room.Goals as goal
 

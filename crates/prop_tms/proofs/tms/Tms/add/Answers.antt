@@ -128,8 +128,7 @@ drop_emptied-requires g c =
     let pushed = pushed_is start mid again i y c.deref_mut-2.ensures.value values in
     let n = length_values mid start values in
     let l : i < length mid = omega (arith, c.in_ok-place.ensures.place.0, n) in
-    let some : y.supports.items ≢ [] = λ none. none_pushed (get_or again i x).supports.items c.args.support (sym c.in_ok-push.ensures.ok ∙ none) in
-    (
+    let some : y.supports.items ≢ [] = λ none. none_pushed (get_or again i x).supports.items c.args.support (sym c.in_ok-push.ensures.ok ∙ none) in (
       search rules,
       (
         subst AreApart (sym pushed) (subst (AllPairs (λ a b. a ≢ b)) (sym (values_of-set mid i y x l (ap (λ (zs : List (Valued _)). (get_or zs i x).value) whole) ∙ values)) c.in_ok-place.ensures.apart),
