@@ -139,7 +139,7 @@ fn sole<'a, V: Partial>(
 {
     let mut found = None;
     for valued in values {
-        for support in &valued.supports {
+        for support in valued.supports.as_slice() {
             if worldview.believes(support) {
                 if found.is_some() {
                     return None;

@@ -14,10 +14,11 @@ use crate::strongest::{belief, sole_support, strongest};
 use crate::supported::Supported;
 use crate::trimming::{count_derived, trim};
 use crate::values::{
-    Valued, count, drop_bare, drop_emptied, drop_from, drop_subsumed, is_needless, joined, room_for,
+    Values, count, drop_bare, drop_emptied, drop_from, drop_subsumed, is_needless, joined, room_for,
 };
 use prop_lattice::Partial;
 use prop_premises::{Premise, PremiseSet, Worldview};
+use smallvec::SmallVec;
 use std::alloc::{AllocError, Global};
 use std::marker::Model;
 
@@ -32,7 +33,7 @@ pub enum Change {
 /// same premises. Each value is kept once, with the supports of its entries.
 #[derive(Drop)]
 pub struct Tms<V: Partial> {
-    values: Vec<Valued<V>>,
+    values: Values<V>,
 }
 
 impl<V: Partial> Model for Tms<V> {
@@ -49,7 +50,7 @@ impl<V: Partial> Tms<V> {
         ensures { result ≡ [] }
     {
         Tms {
-            values: Vec::new(alloc),
+            values: SmallVec::new(alloc),
         }
     }
 
