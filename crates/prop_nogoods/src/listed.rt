@@ -146,6 +146,7 @@ pub(crate) fn drop_holding(listed: &mut Vec<Listed>, premise: Premise)
 }
 
 /// The first listed set of which every premise is believed.
+#[inline]
 pub(crate) fn first_believed<'a>(listed: &'a [Listed], worldview: &Worldview) -> Option<&'a Listed>
     ensures listed { IfSome result (λ s. Contains listed.now s.now) }
     ensures believed { IfSome result (λ s. IsTrue (is_within (set_of worldview.now) s.now)) }
