@@ -3,6 +3,7 @@ ghost use Rattle.std.specs.Prelude.{◌≡◌, ◌<◌, ◌++◌, ◌∷◌, ℕ
 ghost use Rattle.prop_premises.specs.Sets.{set_of, is_within};
 ghost use Rattle.prop_nogoods.specs.Stores.{staying, PartsEndBelow};
 ghost use Rattle.prop_nogoods.specs.inner.Endings.{Group, EndsSo, sets_of, HasRoom, left_of, lacking_of};
+ghost use Rattle.prop_nogoods.specs.inner.Stores.{IsPartOfNone};
 
 use crate::listed::{Listed, drop_holding, drop_larger, first_believed};
 use prop_premises::{Premise, Worldview};
@@ -37,6 +38,7 @@ impl Ending {
     }
 
     /// The premise that each of its nogoods has.
+    #[inline]
     fn last(&self) -> Option<Premise>
         ensures { result ≡ self.now.last }
     {
@@ -117,6 +119,16 @@ fn drop_larger_everywhere(endings: &mut [Ending], nogood: &Listed)
     }
 }
 
+/// Drops the nogoods that this one is part of, at each ending, where there may be some. It takes no memory.
+fn drop_any_larger_everywhere(endings: &mut [Ending], nogood: &Listed, has_larger: bool)
+    requires none { has_larger ≡ false → IsPartOfNone (sets_of endings.old) nogood.now }
+    ensures { endings.new ≡ map (left_of nogood.now) endings.old }
+{
+    if has_larger {
+        drop_larger_everywhere(endings, nogood);
+    }
+}
+
 /// Drops the nogoods that hold the premise, at each ending. It takes no memory.
 pub(crate) fn purge_everywhere(endings: &mut [Ending], premise: Premise)
     ensures { endings.new ≡ map (lacking_of premise) endings.old }
@@ -126,14 +138,20 @@ pub(crate) fn purge_everywhere(endings: &mut [Ending], premise: Premise)
     }
 }
 
-/// Adds the set to those that end with its last premise; the nogoods that it is part of go. After want of memory the nogoods are the same.
-pub(crate) fn join(endings: &mut Vec<Ending>, nogood: &Listed) -> Result<(), AllocError>
+/// Adds the set to those that end with its last premise; the nogoods that it is part of go, where there may be some. After want of memory the
+/// nogoods are the same.
+pub(crate) fn join(
+    endings: &mut Vec<Ending>,
+    nogood: &Listed,
+    has_larger: bool,
+) -> Result<(), AllocError>
+    requires none { has_larger ≡ false → IsPartOfNone (sets_of endings.old.items) nogood.now }
     ensures ok { OnOk result ((place : ℕ) × (sets_of endings.new.items ≡ insert (staying (sets_of endings.old.items) nogood.now) place nogood.now)) }
     ensures err { OnErr result (sets_of endings.new.items ≡ sets_of endings.old.items) }
 {
     let again = nogood.copy()?;
     let place = room_for(endings, nogood.last())?;
-    drop_larger_everywhere(endings, nogood);
+    drop_any_larger_everywhere(endings, nogood, has_larger);
     endings[place].push(again);
     Ok(())
 }
