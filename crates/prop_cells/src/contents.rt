@@ -154,6 +154,14 @@ pub(crate) fn add_to(
 /// How many derived entries a cell may keep that the present worldview does without.
 const MOST_DERIVED: usize = 8;
 
+/// Whether more entries than a cell may keep rest on something else than one of the premises that were told of it.
+#[inline]
+fn has_many_derived(content: &Tms<Info>, told: &PremiseSet) -> bool
+    ensures { result ≡ false → length (filter (λ e. not (is_at_most_one_of (set_of told.now) e.support)) content.now) ≤ 8 }
+{
+    content.len() > MOST_DERIVED && content.derived(told) > MOST_DERIVED
+}
+
 /// Drops entries of a cell that the worldview does without, where there are too many that rest on something else than one of the
 /// premises that were told of it. It takes no memory.
 pub(crate) fn trim_at(
@@ -167,7 +175,7 @@ pub(crate) fn trim_at(
     ensures kept { (e : Entry) → Contains (content_of contents.old.items cell) e → IsTrue (is_at_most_one_of (set_of told.now) e.support) → Contains (content_of contents.new.items cell) e }
     ensures bounded { (length (filter (λ e. not (is_at_most_one_of (set_of told.now) e.support)) (content_of contents.new.items cell)) ≤ 8) ⊎ AreNeeded Info.Nothing merge_of (set_of told.now) (set_of worldview.now) (content_of contents.new.items cell) }
 {
-    if contents[cell].len() > MOST_DERIVED && contents[cell].derived(told) > MOST_DERIVED {
+    if has_many_derived(&contents[cell], told) {
         contents[cell].trim(told, worldview);
     }
 }

@@ -1,18 +1,15 @@
 -- The numbers of one word.
-use Rattle.std.proofs.Common.{◌≡◌, ◌≢◌, ℕ, ◌+◌, ◌-◌, ◌*◌, ◌/◌, ◌%◌, ◌<◌, ◌≤◌, ◌^◌, Bool, true, false, not, ◌||◌, ◌&&◌, ◌==◌, zero, suc, List, [], ◌∷◌, length, get_or, refl, sym, ap, ◌∙◌, arith, inl, inr, ◌⊎◌, nat_eq, bit_or, bit_and, IsTrue, rules}
+use Rattle.std.proofs.Common.{◌≡◌, ◌≢◌, ℕ, ◌+◌, ◌-◌, ◌*◌, ◌/◌, ◌%◌, ◌<◌, ◌≤◌, ◌^◌, Bool, true, false, not, ◌||◌, ◌&&◌, ◌==◌, zero, suc, List, [], ◌∷◌, length, get_or, refl, sym, ap, ◌∙◌, arith, inl, inr, bit_or, bit_and, rules}
 use Rattle.std.specs.Int.{bit_not, w64, trailing_zeros}
-use Rattle.std.specs.List.Sorted.{IsStrictlyIncreasing}
 use Rattle.std.proofs.lemmas.Bool.{cases_eq, cases_lt}
 use Rattle.std.proofs.lemmas.Bool.Decides.{nat_tests}
-use Rattle.prop_premises.specs.Sets.{set_of, union, without, IsSame}
+use Rattle.prop_premises.specs.Sets.{set_of}
 use Rattle.prop_premises.specs.Words.{is_set, has_bit, numbers_from}
-use Rattle.prop_premises.specs.declared.one_word.OneWord.{OneWord}
-use Rattle.prop_premises.specs.inner.NumberSets.{numbers_in}
 use Rattle.prop_premises.specs.inner.Words.{IsTrimmed, IsForm}
 use Rattle.prop_premises.proofs.BitLemmas.{is_set-zero, is_set-or, is_set-and, is_set-not, is_set-pow, pow_fits, lowest}
 use Rattle.prop_premises.proofs.MergeLemmas.{same_increasing}
-use Rattle.prop_premises.proofs.PlaceLemmas.{below_from, above_from, from_in, own_bit}
-use Rattle.prop_premises.proofs.WordLemmas.{has_bit-past, has_bit-same, increasing-numbers_from, or_none, within_words, numbers_from-none}
+use Rattle.prop_premises.proofs.PlaceLemmas.{below_from, above_from, own_bit}
+use Rattle.prop_premises.proofs.WordLemmas.{has_bit-past, has_bit-same, increasing-numbers_from, or_none}
 
 -- a number with the bit i of the word
 pub one_at : (m w i : ℕ) → i < 64 → set_of (numbers_from (64 * m) (w ∷ [])) (64 * m + i) ≡ is_set w i

@@ -103,7 +103,7 @@ impl NumberSet {
     }
 
     /// Whether the number is in the set. It takes no memory.
-    #[inline]
+    #[inline(always)]
     pub(crate) fn has(&self, number: u16) -> bool
         ensures { result ≡ set_of self.now number }
     {
@@ -125,7 +125,7 @@ impl NumberSet {
     }
 
     /// The bits of the numbers from 64 times the place on. It takes no memory.
-    #[inline]
+    #[inline(always)]
     fn word_at(&self, place: usize) -> u64
         ensures { (i : ℕ) → i < 64 → is_set result i ≡ set_of self.now (64 * place + i) }
     {
@@ -136,7 +136,7 @@ impl NumberSet {
     }
 
     /// Whether each number of the set is in the other. It takes no memory.
-    #[inline]
+    #[inline(always)]
     pub(crate) fn is_part_of(&self, other: &NumberSet) -> bool
         ensures { result ≡ is_within (set_of other.now) self.now }
     {

@@ -15,7 +15,7 @@ pub(crate) struct OneWord {
 
 impl OneWord {
     /// Whether the number is one of them.
-    #[inline]
+    #[inline(always)]
     pub(crate) fn has(self, number: u16) -> bool
         ensures { result ≡ set_of (numbers_in self) number }
     {
@@ -46,7 +46,7 @@ impl OneWord {
     }
 
     /// The bits of the numbers from 64 times the place on.
-    #[inline]
+    #[inline(always)]
     pub(crate) fn word_at(self, place: usize) -> u64
         ensures { (i : ℕ) → i < 64 → is_set result i ≡ set_of (numbers_in self) (64 * place + i) }
     {
@@ -54,7 +54,7 @@ impl OneWord {
     }
 
     /// Whether this word, of another set, has the bit of each number.
-    #[inline]
+    #[inline(always)]
     pub(crate) fn is_within_word(self, word: u64) -> bool
         ensures part { result ≡ true → (p : ℕ) → IsTrue (set_of (numbers_in self) p) → (p / 64 ≡ self.place) × IsTrue (is_set word (p % 64)) }
         ensures apart { result ≡ false → (i : ℕ) × (i < 64) × IsTrue (set_of (numbers_in self) (64 * self.place + i)) × (is_set word i ≡ false) }

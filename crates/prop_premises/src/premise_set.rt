@@ -3,8 +3,8 @@ ghost use Rattle.std.specs.Prelude.{◌≡◌, ◌↔◌, ◌≤◌, List, ℕ, 
 ghost use Rattle.std.specs.List.Sorted.{IsStrictlyIncreasing};
 ghost use Rattle.prop_premises.specs.Sets.{set_of, union, without, is_below, is_within, is_alike, is_at_most_one_of, IsSame};
 
-use crate::numbers::Numbers;
 use crate::number_set::NumberSet;
+use crate::numbers::Numbers;
 use std::alloc::{AllocError, Global};
 use std::default::MadeWith;
 use std::marker::Model;
@@ -61,13 +61,15 @@ impl PremiseSet {
         Ok(PremiseSet { numbers })
     }
 
-    /// The premises of another set are in this one too. After want of memory nothing has changed.
+    /// The premises of another set are in this one too. Where they are already it takes no memory; after want of memory nothing has changed.
     #[inline]
     pub fn unite(&mut self, other: &PremiseSet) -> Result<(), AllocError>
         ensures ok { OnOk result (IsSame (set_of self.new) (union (set_of self.old) (set_of other.now))) }
         ensures err { OnErr result (self.new ≡ self.old) }
     {
-        self.numbers = self.numbers.union(&other.numbers)?;
+        if !other.is_subset(self) {
+            self.numbers = self.numbers.union(&other.numbers)?;
+        }
         Ok(())
     }
 

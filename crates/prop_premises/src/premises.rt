@@ -9,9 +9,9 @@ ghost use Rattle.prop_premises.specs.ChoiceLists.{hypotheticals_of, is_hypotheti
 use crate::bits::set_bit;
 use crate::choice::Choice;
 use crate::named::Kind;
+use crate::number_set::NumberSet;
 use crate::premise_set::Premise;
 use crate::table::Table;
-use crate::number_set::NumberSet;
 use crate::words::{Words, blank};
 use crate::worldview::Worldview;
 use prop_lattice::{Limit, Refusal};

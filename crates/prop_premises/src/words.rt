@@ -46,6 +46,9 @@ pub(crate) fn blank(alloc: Global, count: usize) -> Result<SmallVec<u64, 2>, All
     ensures bound { IfOk result (λ w. length w.items ≤ 1_024) }
     ensures bits { IfOk result (λ w. (p : ℕ) → has_bit w.items p ≡ false) }
 {
+    if count <= 2 * BITS {
+        return Ok(SmallVec::from_buf(alloc, [0, 0]));
+    }
     SmallVec::from_elem(alloc, 0, count.div_ceil(BITS))
 }
 
@@ -213,7 +216,7 @@ impl Words {
     }
 
     /// Whether the number is in the set. It takes no memory.
-    #[inline]
+    #[inline(never)]
     pub(crate) fn has(&self, number: u16) -> bool
         ensures { result ≡ set_of self.now number }
     {
@@ -238,7 +241,7 @@ impl Words {
     }
 
     /// The bits of the numbers from 64 times the place on. It takes no memory.
-    #[inline]
+    #[inline(never)]
     pub(crate) fn word_at(&self, place: usize) -> u64
         ensures { (i : ℕ) → i < 64 → is_set result i ≡ set_of self.now (64 * place + i) }
     {

@@ -2,8 +2,8 @@
 ghost use Rattle.std.specs.Prelude.{◌≡◌, List, [], ◌∷◌, ◌++◌, ℕ, nat_lt, filter, IsOk, IfOk, OnOk, OnErr};
 ghost use Rattle.prop_premises.specs.Sets.{set_of, is_within, IsBelow};
 
-use crate::premise_set::{Premise, PremiseSet};
 use crate::number_set::NumberSet;
+use crate::premise_set::{Premise, PremiseSet};
 use std::alloc::{AllocError, Global};
 use std::marker::Model;
 

@@ -1,4 +1,4 @@
-use Rattle.std.proofs.Common.{◌≡◌, ◌∙◌, sym, ap, arith, refl, nat_eq, true}
+use Rattle.std.proofs.Common.{◌≡◌, ap, arith, refl, nat_eq}
 use Rattle.std.proofs.lemmas.Bool.Decides.{nat_tests}
 use Rattle.prop_premises.proofs.OneLemmas.{one_none}
 use Rattle.prop_premises.proofs.WordLemmas.{numbers_from-none}

@@ -1,4 +1,4 @@
-use Rattle.std.proofs.Common.{◌≡◌, ◌≢◌, ◌∙◌, ◌/◌, sym, ap, arith}
+use Rattle.std.proofs.Common.{◌≡◌, ◌≢◌, ◌∙◌, ◌/◌, arith}
 use Rattle.prop_premises.proofs.OneLemmas.{one_without, one_not_there}
 use Rattle.prop_premises.proofs.one_word.OneWord.without.Goals as goal
 

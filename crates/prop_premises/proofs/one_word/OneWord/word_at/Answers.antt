@@ -1,4 +1,4 @@
-use Rattle.std.proofs.Common.{◌≡◌, ◌≢◌, refl, sym}
+use Rattle.std.proofs.Common.{refl}
 use Rattle.prop_premises.proofs.OneLemmas.{one_bits}
 use Rattle.prop_premises.proofs.one_word.OneWord.word_at.Goals as goal
 
