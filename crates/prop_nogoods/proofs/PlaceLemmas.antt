@@ -61,14 +61,14 @@ module _ {X : Type 0} (xs : List X) (i : ℕ) (y : X) (inside : i ≤ length xs)
     ]
   ]
 
-  -- what holds of each pair in order holds with one more between those of which it holds
+  -- what holds of each pair in order holds with one more where it holds of those before it and of those behind
   pub pairs_insert : (R : X → X → Type 0) → AllPairs R xs
-      → ((k : ℕ) (d : X) → k < length xs → R (get_or xs k d) y) → ((k : ℕ) (d : X) → k < length xs → R y (get_or xs k d)) → AllPairs R (insert xs i y)
+      → ((k : ℕ) (d : X) → k < i → R (get_or xs k d) y) → ((k : ℕ) (d : X) → i ≤ k → k < length xs → R y (get_or xs k d)) → AllPairs R (insert xs i y)
   pairs_insert R apart before behind a b d l m = elim (placed a d) [
     | inl p ↦ elim (placed b d) [
       | inl q ↦ both (p.1, q.1) (apart a b d l (omega (arith, q.0, inside)))
       | inr t ↦ elim t [
-        | inl q ↦ both (p.1, q.1) (before a d (omega (arith, p.0, inside)))
+        | inl q ↦ both (p.1, q.1) (before a d p.0)
         | inr q ↦ both (p.1, q.1) (apart a (b - 1) d (omega (arith, p.0, q.0)) (omega (arith, long, m, q.0)))
       ]
     ]
@@ -77,7 +77,7 @@ module _ {X : Type 0} (xs : List X) (i : ℕ) (y : X) (inside : i ≤ length xs)
         | inl q ↦ absurd (omega (arith, p.0, q.0, l))
         | inr t ↦ elim t [
           | inl q ↦ absurd (omega (arith, p.0, q.0, l))
-          | inr q ↦ both (p.1, q.1) (behind (b - 1) d (omega (arith, long, m, q.0)))
+          | inr q ↦ both (p.1, q.1) (behind (b - 1) d (omega (arith, q.0)) (omega (arith, long, m, q.0)))
         ]
       ]
       | inr p ↦ elim (placed b d) [

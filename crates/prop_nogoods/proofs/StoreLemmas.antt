@@ -93,8 +93,8 @@ module _ (old : List (List ℕ)) (n : List ℕ) where
   minimal_joined i inside none apart =
       pairs_insert (staying old n) i n inside (λ a b. (is_within (set_of b) a ≡ false) × (is_within (set_of a) b ≡ false))
       (AllPairs-filter (λ a b. (is_within (set_of b) a ≡ false) × (is_within (set_of a) b ≡ false)) (is_kept n) old apart)
-      (λ k d l. (no_part k d l, no_larger k d l))
-      (λ k d l. (no_larger k d l, no_part k d l))
+      (λ k d l. let there : k < length (staying old n) = omega (arith, l, inside) in (no_part k d there, no_larger k d there))
+      (λ k d l m. (no_larger k d m, no_part k d m))
     where
       no_part : (k : ℕ) (d : List ℕ) → k < length (staying old n) → is_within (set_of n) (get_or (staying old n) k d) ≡ false
       no_part k d l = never (is_within (set_of n) (get_or (staying old n) k d)) (λ t.

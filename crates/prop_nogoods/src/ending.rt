@@ -1,8 +1,9 @@
 //! Nogoods that end with the same premise.
-ghost use Rattle.std.specs.Prelude.{◌≡◌, ◌<◌, ◌++◌, ◌∷◌, ℕ, [], length, get_or, insert, map, vec_capacity, false, All, None, Contains, IsTrue, IfOk, IfSome, OnOk, OnErr};
+ghost use Rattle.std.specs.Prelude.{◌≡◌, ◌<◌, ◌≤◌, ◌++◌, ◌∷◌, ℕ, [], length, get_or, insert, map, nat_lt, vec_capacity, false, All, None, Contains, IsTrue, IfOk, IfSome, OnOk, OnErr};
+ghost use Rattle.std.specs.List.Sorted.{IsPartitionPoint};
 ghost use Rattle.prop_premises.specs.Sets.{set_of, is_within};
 ghost use Rattle.prop_nogoods.specs.Stores.{staying, PartsEndBelow};
-ghost use Rattle.prop_nogoods.specs.inner.Endings.{Group, EndsSo, sets_of, HasRoom, left_of, lacking_of};
+ghost use Rattle.prop_nogoods.specs.inner.Endings.{Group, EndsSo, AreInOrder, end_of, sets_of, HasRoom, left_of, lacking_of};
 ghost use Rattle.prop_nogoods.specs.inner.Stores.{IsPartOfNone};
 
 use crate::listed::{Listed, drop_holding, drop_larger, first_believed};
@@ -45,6 +46,14 @@ impl Ending {
         self.last
     }
 
+    /// Whether its last premise comes before this one. None comes before each premise.
+    #[inline]
+    fn is_before(&self, last: Option<Premise>) -> bool
+        ensures { result ≡ nat_lt (end_of self.now.last) (end_of last) }
+    {
+        self.last < last
+    }
+
     /// Makes room for one nogood more.
     fn make_room(&mut self) -> Result<(), AllocError>
         ensures last { self.new.last ≡ self.old.last }
@@ -58,7 +67,8 @@ impl Ending {
     fn push(&mut self, nogood: Listed)
         requires ends_so { EndsSo self.old.last nogood }
         requires room { HasRoom self.old }
-        ensures { self.new.sets ≡ self.old.sets ++ nogood ∷ [] }
+        ensures last { self.new.last ≡ self.old.last }
+        ensures sets { self.new.sets ≡ self.old.sets ++ nogood ∷ [] }
     {
         drop(self.nogoods.push(nogood));
     }
@@ -92,15 +102,27 @@ impl Ending {
     }
 }
 
+/// The place behind the endings whose last premise comes before this one.
+#[inline]
+fn place_for(endings: &[Ending], last: Option<Premise>) -> usize
+    requires { AreInOrder endings.now }
+    ensures bound { result ≤ length endings.now }
+    ensures between { IsPartitionPoint (λ g. end_of g.last < end_of last) (λ g. end_of last ≤ end_of g.last) endings.now result }
+{
+    endings.partition_point(|ending| ending.is_before(last))
+}
+
 /// The place of the ending with this last premise, with room for one nogood more. One that is missing is added, behind those whose last
 /// premise comes earlier.
 fn room_for(endings: &mut Vec<Ending>, last: Option<Premise>) -> Result<usize, AllocError>
+    requires { AreInOrder endings.old.items }
+    ensures in_order { AreInOrder endings.new.items }
     ensures same { sets_of endings.new.items ≡ sets_of endings.old.items }
     ensures place { IfOk result (λ at. at < length endings.new.items) }
     ensures last { IfOk result (λ at. (d : Group) → (get_or endings.new.items at d).last ≡ last) }
     ensures room { IfOk result (λ at. (d : Group) → HasRoom (get_or endings.new.items at d)) }
 {
-    let place = endings.partition_point(|ending| ending.last() < last);
+    let place = place_for(endings, last);
     if place < endings.len() && endings[place].last() == last {
         endings[place].make_room()?;
     } else {
@@ -145,7 +167,9 @@ pub(crate) fn join(
     nogood: &Listed,
     has_larger: bool,
 ) -> Result<(), AllocError>
+    requires in_order { AreInOrder endings.old.items }
     requires none { has_larger ≡ false → IsPartOfNone (sets_of endings.old.items) nogood.now }
+    ensures in_order { AreInOrder endings.new.items }
     ensures ok { OnOk result ((place : ℕ) × (sets_of endings.new.items ≡ insert (staying (sets_of endings.old.items) nogood.now) place nogood.now)) }
     ensures err { OnErr result (sets_of endings.new.items ≡ sets_of endings.old.items) }
 {
@@ -156,18 +180,21 @@ pub(crate) fn join(
     Ok(())
 }
 
-/// A nogood of which every premise is believed, of the first ending that has one. It passes over endings whose premise has a number below this one,
+/// A nogood of which every premise is believed, of the first ending that has one. It looks at no ending whose premise has a number below this one,
 /// and takes no memory.
 pub(crate) fn earliest_believed<'a>(
     endings: &'a [Ending],
     worldview: &Worldview,
     from: Premise,
 ) -> Option<&'a Listed>
+    requires { AreInOrder endings.now }
     ensures listed { IfSome result (λ s. Contains (sets_of endings.now) s.now) }
     ensures believed { IfSome result (λ s. IsTrue (is_within (set_of worldview.now) s.now)) }
     ensures none { result ≡ None → PartsEndBelow (sets_of endings.now) (set_of worldview.now) from }
 {
-    for ending in endings {
+    let place = place_for(endings, Some(from));
+    let behind = &endings[place..];
+    for ending in behind {
         if let Some(nogood) = ending.first_believed(worldview, from) {
             return Some(nogood);
         }

@@ -102,7 +102,7 @@ impl Listed {
 
     /// Whether each premise of this set is in the other. Of a larger set it is known by the sizes alone, and of most others by the last premise. It takes
     /// no memory.
-    #[inline]
+    #[inline(always)]
     pub(crate) fn is_part_of(&self, other: &Listed) -> bool
         ensures { result ≡ is_within (set_of other.now) self.now }
     {

@@ -2,7 +2,7 @@
 ghost use Rattle.std.specs.Prelude.{◌≡◌, ◌↔◌, ◌≤◌, ◌<◌, ◌+◌, List, ℕ, [], length, not, false, All, None, Ok, Contains, IsTrue, IfOk, IfSome, OnOk, OnErr};
 ghost use Rattle.std.specs.List.Sorted.{IsStrictlyIncreasing, IsPartitionPoint};
 ghost use Rattle.prop_premises.specs.Sets.{set_of, is_within};
-ghost use Rattle.prop_nogoods.specs.inner.Endings.{sets_of};
+ghost use Rattle.prop_nogoods.specs.inner.Endings.{AreInOrder, sets_of};
 ghost use Rattle.prop_nogoods.specs.Stores.{has_part, lacking, with_set, AreMinimal, AreBySize, PartsEndBelow, AddsSet};
 ghost use Rattle.prop_nogoods.specs.inner.Stores.{HaveSame, IsPartOfNone};
 
@@ -28,7 +28,7 @@ impl Model for Store {
 
     ghost view = { λ s. s.nogoods.items };
 
-    ghost invariant = { λ s. AreMinimal s.nogoods.items × All IsStrictlyIncreasing s.nogoods.items × AreBySize s.nogoods.items × HaveSame s.nogoods.items (sets_of s.by_last.items) };
+    ghost invariant = { λ s. AreMinimal s.nogoods.items × All IsStrictlyIncreasing s.nogoods.items × AreBySize s.nogoods.items × HaveSame s.nogoods.items (sets_of s.by_last.items) × AreInOrder s.by_last.items };
 }
 
 /// Whether a listed set is part of this one. It looks at those that are no larger.

@@ -19,6 +19,7 @@ has_larger-has_larger-requires c =
 
 pub join-requires : goal.join-requires
 join-requires c = record {
+  in_order = c.self.invariant.4;
   none = λ e.
       let of_none : IsPartOfNone c.self.inside.nogoods.items c.args.nogood =
       rw (c.deref-2.ensures.value, c.in_ok-reserve.ensures.items, c.new-nogood.ensures) at (c.has_larger-has_larger.ensures e) in
@@ -71,7 +72,7 @@ same c =
     rw (now c, again) (HaveSame-joined c.self.inside.nogoods.items (sets_of c.self.inside.by_last.items) c.args.nogood c.place_of-place.result joins.0 c.self.invariant.3)
 
 pub invariant_of-self-2 : goal.invariant_of-self-2
-invariant_of-self-2 c = (returns-clause-minimal c, returns-clause-in_order c, returns-clause-by_size c, same c)
+invariant_of-self-2 c = (returns-clause-minimal c, returns-clause-in_order c, returns-clause-by_size c, same c, c.in_ok-join.ensures.in_order)
 
 pub returns-clause-joins : goal.returns-clause-joins
 returns-clause-joins c is_new =
