@@ -1,4 +1,4 @@
-use Rattle.std.proofs.Common.{◌≤◌, not, length, filter, arith}
+use Rattle.std.proofs.Common.{not, arith}
 use Rattle.prop_premises.specs.Sets.{set_of, is_at_most_one_of}
 use Rattle.prop_tms.proofs.ValueLemmas.{filter_length}
 use Rattle.prop_cells.specs.Data.{Entry}
