@@ -136,22 +136,6 @@ clash_conflicts library d s support kept clash =
 
 -- ---- one support more
 
-or_kept : (a b : Bool) → (b ≡ true → a ≡ true) → a ≡ (a || b)
-or_kept true b h = refl
-or_kept false true h = h refl
-or_kept false false h = refl
-
-or_led : (a b : Bool) → (a ≡ true → b ≡ true) → b ≡ (a || b)
-or_led true b h = h refl
-or_led false b h = refl
-
--- where one of two sets has all, it is both
-pub first_has_both : (a b : List ℕ) → is_within (set_of a) b ≡ true → IsSame (set_of a) (union (set_of a) (set_of b))
-first_has_both a b on = λ p. or_kept (set_of a p) (set_of b p) (part_of_within (set_of a) b on p)
-
-pub second_has_both : (a b : List ℕ) → is_within (set_of b) a ≡ true → IsSame (set_of b) (union (set_of a) (set_of b))
-second_has_both a b on = λ p. or_led (set_of a p) (set_of b p) (part_of_within (set_of b) a on p)
-
 zip_push : {A B : Type 0} (R : A → B → Type 0) (xs : List A) (ys : List B) (x : A) (y : B) → AllZip R xs ys → R x y → AllZip R (xs ++ x ∷ []) (ys ++ y ∷ [])
 zip_push R [] [] x y h r = (r, tt)
 zip_push R [] (z ∷ ys) x y h r = absurd h

@@ -90,18 +90,21 @@ pub(crate) fn gather(
     Ok(args)
 }
 
-/// The premises of both sets. Where one of them has all it takes no memory.
-fn united(a: PremiseSet, b: PremiseSet) -> Result<PremiseSet, AllocError>
-    ensures both { IfOk result (λ s. IsSame (set_of s) (union (set_of a) (set_of b))) }
-    ensures part { IsTrue (is_within (set_of a) b) ⊎ IsTrue (is_within (set_of b) a) → IsOk result }
+/// Adds the premises of a lean support for a cell. Where just one entry of the cell is believed, its support is not copied.
+fn unite_support(
+    support: &mut PremiseSet,
+    contents: &[Tms<Info>],
+    cell: usize,
+    worldview: &Worldview,
+) -> Result<(), AllocError>
+    requires { cell < length contents.now }
+    ensures { OnOk result ((part : List ℕ) × IsLeanAt (set_of worldview.now) contents.now cell part × IsSame (set_of support.new) (union (set_of support.old) (set_of part))) }
 {
-    if b.is_subset(&a) {
-        Ok(a)
-    } else if a.is_subset(&b) {
-        Ok(b)
-    } else {
-        a.union(&b)
+    if let Some(sole) = contents[cell].sole_support(worldview) {
+        return support.unite(sole);
     }
+    let entry = strongest_of(contents, cell, worldview)?;
+    support.unite(&entry.support)
 }
 
 /// The premises of a lean support for each of these cells.
@@ -116,8 +119,7 @@ pub(crate) fn supports(
 {
     let mut support = PremiseSet::empty(alloc);
     for c in cells {
-        let entry = strongest_of(contents, *c, worldview)?;
-        support = united(support, entry.support)?;
+        unite_support(&mut support, contents, *c, worldview)?;
     }
     Ok(support)
 }
@@ -152,6 +154,14 @@ pub(crate) fn add_to(
 /// How many derived entries a cell may keep that the present worldview does without.
 const MOST_DERIVED: usize = 8;
 
+/// Whether more entries than a cell may keep rest on something else than one of the premises that were told of it.
+#[inline]
+fn has_many_derived(content: &Tms<Info>, told: &PremiseSet) -> bool
+    ensures { result ≡ false → length (filter (λ e. not (is_at_most_one_of (set_of told.now) e.support)) content.now) ≤ 8 }
+{
+    content.len() > MOST_DERIVED && content.derived(told) > MOST_DERIVED
+}
+
 /// Drops entries of a cell that the worldview does without, where there are too many that rest on something else than one of the
 /// premises that were told of it. It takes no memory.
 pub(crate) fn trim_at(
@@ -165,7 +175,7 @@ pub(crate) fn trim_at(
     ensures kept { (e : Entry) → Contains (content_of contents.old.items cell) e → IsTrue (is_at_most_one_of (set_of told.now) e.support) → Contains (content_of contents.new.items cell) e }
     ensures bounded { (length (filter (λ e. not (is_at_most_one_of (set_of told.now) e.support)) (content_of contents.new.items cell)) ≤ 8) ⊎ AreNeeded Info.Nothing merge_of (set_of told.now) (set_of worldview.now) (content_of contents.new.items cell) }
 {
-    if contents[cell].derived(told) > MOST_DERIVED {
+    if has_many_derived(&contents[cell], told) {
         contents[cell].trim(told, worldview);
     }
 }

@@ -8,7 +8,7 @@ use Rattle.std.proofs.lemmas.Bool.Decides.{eqb_tells, leb_tells}
 use Rattle.std.proofs.lemmas.List.{length-map, take-append-drop, take_at}
 use Rattle.std.proofs.lemmas.List.Concat.{flat_map-append}
 use Rattle.std.proofs.lemmas.List.Edits.{insert-append_right}
-use Rattle.std.proofs.lemmas.List.Elements.{All-append, Contains-append_left, Contains-append_right, Contains-get_or, filter-append}
+use Rattle.std.proofs.lemmas.List.Elements.{All-append, All-contains, Contains-append_left, Contains-append_right, Contains-get_or, filter-append}
 use Rattle.std.proofs.lemmas.List.Filters.{length-filter_both}
 use Rattle.std.proofs.lemmas.List.Folds.{flat_map-map, list_any_none}
 use Rattle.prop_premises.proofs.MergeLemmas.{Rising, rising_from_increasing}
@@ -17,7 +17,8 @@ use Rattle.prop_premises.specs.Sets.{Members, set_of, is_within, is_below}
 use Rattle.prop_nogoods.specs.Stores.{has_part, staying, lacking, PartsEndBelow}
 use Rattle.prop_nogoods.specs.inner.Endings.{Group, EndsSo, HasRoom, end_of, sets_of, left_of, lacking_of}
 use Rattle.prop_nogoods.proofs.StoreLaws.{has_part-from}
-use Rattle.prop_nogoods.proofs.StoreLemmas.{is_kept, is_without, never}
+use Rattle.prop_nogoods.specs.inner.Stores.{IsPartOfNone}
+use Rattle.prop_nogoods.proofs.StoreLemmas.{is_kept, is_without, never, staying_all}
 
 -- a group that keeps its nogoods
 pub sets_of-set_same : (gs : List Group) (i : ℕ) (y d : Group) → y.sets ≡ (get_or gs i d).sets → sets_of (set gs i y) ≡ sets_of gs
@@ -38,6 +39,21 @@ sets_of-insert_empty gs i y empty =
 pub sets_of-left : (n : List ℕ) (gs : List Group) → sets_of (map (left_of n) gs) ≡ staying (sets_of gs) n
 sets_of-left n [] = refl
 sets_of-left n (g ∷ gs) = ap (λ xs. staying g.sets n ++ xs) (sets_of-left n gs) ∙ sym (filter-append (is_kept n) g.sets (sets_of gs))
+
+-- where a set is part of none, each group stays as it is
+pub left_all : (n : List ℕ) (gs : List Group) → IsPartOfNone (sets_of gs) n → gs ≡ map (left_of n) gs
+left_all n [] none = refl
+left_all n (g ∷ gs) none =
+    ap (λ xs. record g { sets = xs } ∷ gs) (staying_all g.sets n here) ∙ ap (λ hs. left_of n g ∷ hs) (left_all n gs there)
+  where
+    of : (line : List ℕ) → Contains (sets_of (g ∷ gs)) line → is_within (set_of line) n ≡ false
+    of line c = All-contains (λ m. is_within (set_of m) n ≡ false) (sets_of (g ∷ gs)) line none c
+
+    here : IsPartOfNone g.sets n
+    here k d l = of (get_or g.sets k d) (Contains-append_left g.sets (sets_of gs) (get_or g.sets k d) (Contains-get_or g.sets k d l))
+
+    there : IsPartOfNone (sets_of gs) n
+    there k d l = of (get_or (sets_of gs) k d) (Contains-append_right g.sets (sets_of gs) (get_or (sets_of gs) k d) (Contains-get_or (sets_of gs) k d l))
 
 -- each group without what holds a premise
 pub sets_of-lacking : (p : ℕ) (gs : List Group) → sets_of (map (lacking_of p) gs) ≡ lacking (sets_of gs) p

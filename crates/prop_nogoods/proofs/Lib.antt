@@ -1,4 +1,5 @@
 pub mod EndingLemmas
+pub mod OrderLemmas
 pub mod PlaceLemmas
 pub mod SizeLemmas
 pub mod StoreLaws

@@ -1,11 +1,18 @@
 -- The place of a set in a list in order of size: behind those that are no larger, and before the larger ones.
-use Rattle.std.proofs.Common.{◌≡◌, ◌∙◌, ◌<◌, ◌≤◌, ◌-◌, ◌+◌, ◌⊎◌, ℕ, zero, suc, Bool, true, false, nat_lt, List, [], ◌∷◌, ◌++◌, length, get_or, take, drop, insert, AllPairs, refl, sym, subst, ap, arith, inl, inr}
-use Rattle.std.specs.List.Sorted.{IsPartitionPoint}
+use Rattle.std.proofs.Common.{◌≡◌, ◌∙◌, ◌<◌, ◌≤◌, ◌-◌, ◌+◌, ◌⊎◌, ℕ, zero, suc, Bool, true, false, nat_lt, List, [], ◌∷◌, ◌++◌, length, get_or, get_or-drop, length-drop, take, drop, insert, AllPairs, refl, sym, subst, ap, arith, inl, inr}
+use Rattle.std.specs.List.{list_any}
+use Rattle.std.specs.List.Sorted.{IsStrictlyIncreasing, IsPartitionPoint}
 use Rattle.std.proofs.lemmas.Bool.{leb-true}
 use Rattle.std.proofs.lemmas.Bool.Decides.{eqb_tells, leb_tells}
 use Rattle.std.proofs.lemmas.List.Edits.{get_or-insert_at, get_or-insert_below, get_or-insert_above, length-insert}
-use Rattle.prop_nogoods.specs.Stores.{no_larger, larger}
-use Rattle.prop_nogoods.proofs.SizeLemmas.{is_small, not_small}
+use Rattle.std.proofs.lemmas.List.Folds.{list_any_at}
+use Rattle.std.proofs.lemmas.List.Elements.{Contains-get_or}
+use Rattle.prop_premises.specs.Sets.{set_of, is_within}
+use Rattle.prop_nogoods.specs.Stores.{has_part, no_larger, larger}
+use Rattle.prop_nogoods.specs.inner.Stores.{IsPartOfNone}
+use Rattle.prop_nogoods.proofs.SizeLemmas.{is_small, not_small, part_is_whole}
+use Rattle.prop_nogoods.proofs.StoreLaws.{has_part-from}
+use Rattle.prop_premises.proofs.WithinLemmas.{within_has}
 
 -- where a set is listed behind those that are no larger
 abbrev pub IsPlace : List (List ℕ) → List ℕ → ℕ → Type 0
@@ -17,6 +24,29 @@ place_from listed n i h = (
   λ k d l m. leb-true (length (get_or listed k d)) (length n) (h.0 k d l m),
   λ k d l m. not_small n (get_or listed k d) (h.1 k d l m),
 )
+
+-- a set that no listed one is part of is part of none if it is part of none of those behind its place
+pub part_of_none : (listed : List (List ℕ)) (n : List ℕ) (i : ℕ) → IsStrictlyIncreasing n → IsPlace listed n i → has_part listed (set_of n) ≡ false
+    → list_any (λ line. is_within (set_of line) n) (drop i listed) ≡ false → IsPartOfNone listed n
+part_of_none listed n i up place no_part none k d l = by (is_within (set_of (get_or listed k d)) n) refl
+  where
+    whole : is_within (set_of (get_or listed k d)) n ≡ true → k < i → ⊥
+    whole t below =
+        let line = get_or listed k d in
+        let back = part_is_whole n line up t (place.0 k d (omega arith) below) in
+        let has = has_part-from listed (set_of n) line (Contains-get_or listed k d l) (λ p s. within_has (set_of n) line p back s) in
+        cc (has, no_part)
+
+    behind : is_within (set_of (get_or listed k d)) n ≡ true → i ≤ k → ⊥
+    behind t from =
+        let there : get_or (drop i listed) (k - i) d ≡ get_or listed k d = rw (get_or-drop i listed (k - i) d) (ap (λ j. get_or listed j d) (omega (arith, from))) in
+        let has = list_any_at (λ line. is_within (set_of line) n) (drop i listed) (k - i) d (omega (arith, from, l, length-drop i listed))
+        (rw there t) in
+        cc (has, none)
+
+    by : (b : Bool) → is_within (set_of (get_or listed k d)) n ≡ b → b ≡ false
+    by true t = elim (leb_tells (suc k) i) [ inl e ↦ absurd (whole t e.1) | inr e ↦ absurd (behind t (omega (arith, e.1))) ]
+    by false t = refl
 
 module _ {X : Type 0} (xs : List X) (i : ℕ) (y : X) (inside : i ≤ length xs) where
   placed : (k : ℕ) (d : X)
@@ -31,14 +61,14 @@ module _ {X : Type 0} (xs : List X) (i : ℕ) (y : X) (inside : i ≤ length xs)
     ]
   ]
 
-  -- what holds of each pair in order holds with one more between those of which it holds
+  -- what holds of each pair in order holds with one more where it holds of those before it and of those behind
   pub pairs_insert : (R : X → X → Type 0) → AllPairs R xs
-      → ((k : ℕ) (d : X) → k < length xs → R (get_or xs k d) y) → ((k : ℕ) (d : X) → k < length xs → R y (get_or xs k d)) → AllPairs R (insert xs i y)
+      → ((k : ℕ) (d : X) → k < i → R (get_or xs k d) y) → ((k : ℕ) (d : X) → i ≤ k → k < length xs → R y (get_or xs k d)) → AllPairs R (insert xs i y)
   pairs_insert R apart before behind a b d l m = elim (placed a d) [
     | inl p ↦ elim (placed b d) [
       | inl q ↦ both (p.1, q.1) (apart a b d l (omega (arith, q.0, inside)))
       | inr t ↦ elim t [
-        | inl q ↦ both (p.1, q.1) (before a d (omega (arith, p.0, inside)))
+        | inl q ↦ both (p.1, q.1) (before a d p.0)
         | inr q ↦ both (p.1, q.1) (apart a (b - 1) d (omega (arith, p.0, q.0)) (omega (arith, long, m, q.0)))
       ]
     ]
@@ -47,7 +77,7 @@ module _ {X : Type 0} (xs : List X) (i : ℕ) (y : X) (inside : i ≤ length xs)
         | inl q ↦ absurd (omega (arith, p.0, q.0, l))
         | inr t ↦ elim t [
           | inl q ↦ absurd (omega (arith, p.0, q.0, l))
-          | inr q ↦ both (p.1, q.1) (behind (b - 1) d (omega (arith, long, m, q.0)))
+          | inr q ↦ both (p.1, q.1) (behind (b - 1) d (omega (arith, q.0)) (omega (arith, long, m, q.0)))
         ]
       ]
       | inr p ↦ elim (placed b d) [

@@ -1,16 +1,16 @@
 -- A set is no larger than one that it is part of, so that in a list in order of size the parts of a set stand in front.
-use Rattle.std.proofs.Common.{◌≡◌, ◌∙◌, ◌<◌, ◌≤◌, ◌+◌, ◌||◌, ◌==◌, ℕ, Bool, true, false, Decides, leb, List, length, get_or, get_or-drop, length-drop, take, drop, All, refl, sym, subst, ap, arith, inl, inr}
+use Rattle.std.proofs.Common.{◌≡◌, ◌∙◌, ◌<◌, ◌≤◌, ◌+◌, ◌||◌, ◌==◌, ℕ, zero, suc, ◌∷◌, Bool, true, false, Decides, leb, List, length, get_or, get_or-drop, length-drop, take, drop, All, refl, sym, subst, ap, arith, inl, inr}
 use Rattle.std.specs.Cmp.{IsEquivalence}
 use Rattle.std.specs.List.{list_any, prefix_len}
 use Rattle.std.specs.List.Sorted.{IsStrictlyIncreasing}
 use Rattle.std.proofs.lemmas.Bool.Decides.{eqb_tells, leb_tells}
 use Rattle.std.proofs.lemmas.List.{take-append-drop}
-use Rattle.std.proofs.lemmas.List.Folds.{list_any-append, list_any_none}
+use Rattle.std.proofs.lemmas.List.Folds.{list_any-append, list_any_at, list_any_none}
 use Rattle.std.proofs.lemmas.List.Kept.{AllPairs-from_increasing}
 use Rattle.std.proofs.lemmas.List.Sums.{prefix_len_stops}
 use Rattle.std.proofs.lemmas.Map.Made.{length-le_from_is_member, IsDistinct-from_AllPairs}
 use Rattle.prop_premises.specs.Sets.{set_of, is_within}
-use Rattle.prop_premises.proofs.WithinLemmas.{within_has}
+use Rattle.prop_premises.proofs.WithinLemmas.{within_has, within_from}
 use Rattle.prop_nogoods.specs.Stores.{has_part, AreBySize}
 
 -- the test of `set_of`
@@ -52,6 +52,31 @@ larger_no_part a b up l = by (is_within (set_of b) a) refl
     by : (t : Bool) → is_within (set_of b) a ≡ t → t ≡ false
     by true w = let most = part_no_larger a b up w in absurd (omega (arith, l, most))
     by false w = refl
+
+-- a set that is part of one no larger than it has all of that one
+pub part_is_whole : (a b : List ℕ) → IsStrictlyIncreasing a → is_within (set_of b) a ≡ true → length b ≤ length a → is_within (set_of a) b ≡ true
+part_is_whole a b up w no_larger = within_from (set_of a) b (λ p t. by p t (set_of a p) refl)
+  where
+    apart : (p : ℕ) → set_of a p ≡ false → (i j d : ℕ) → i < j → j < length (p ∷ a) → ¬ (get_or (p ∷ a) i d ≡ get_or (p ∷ a) j d)
+    apart p lacks i zero d l m e = absurd (omega (arith, l))
+    apart p lacks zero (suc j) d l m e =
+        let has : set_of a p ≡ true = list_any_at (is_at p) a j d (omega (arith, m)) (subst (λ q. is_at p q ≡ true) e (at_itself p)) in
+        cc (has, lacks)
+    apart p lacks (suc i) (suc j) d l m e =
+        let below = AllPairs-from_increasing a up i j d (omega (arith, l)) (omega (arith, m)) in absurd (omega (arith, below, e))
+
+    one_of : (p q : ℕ) → set_of b p ≡ true → set_of (p ∷ a) q ≡ true → set_of b q ≡ true
+    one_of p q t m = elim (eqb_tells p q) [
+      | inl e ↦ subst (λ x. set_of b x ≡ true) e.1 t
+      | inr e ↦ within_has (set_of b) a q w (rw e.0 at m)
+    ]
+
+    by : (p : ℕ) → set_of b p ≡ true → (t : Bool) → set_of a p ≡ t → set_of a p ≡ true
+    by p t true e = e
+    by p t false e =
+        let most : length (p ∷ a) ≤ length b =
+        length-le_from_is_member equals (p ∷ a) b (IsDistinct-from_AllPairs at_tells (p ∷ a) (apart p e)) (λ q m. one_of p q t m) in
+        absurd (omega (arith, most, no_larger))
 
 -- no larger than n
 abbrev pub is_small : List ℕ → List ℕ → Bool

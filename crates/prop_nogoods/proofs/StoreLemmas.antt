@@ -1,5 +1,5 @@
 -- A set joins listed ones, none of which is part of it, and those that it is part of go.
-use Rattle.std.proofs.Common.{◌≡◌, ◌∙◌, ◌<◌, ◌≤◌, ◌⊎◌, ℕ, zero, suc, Bool, true, false, not, cond, List, [], ◌∷◌, insert, length, get_or, refl, sym, arith, inl, inr, All, Contains, filter, IsTrue, ◌||◌, Option, None, Some, IfSome, subst}
+use Rattle.std.proofs.Common.{◌≡◌, ◌∙◌, ◌<◌, ◌≤◌, ◌⊎◌, ℕ, zero, suc, Bool, true, false, not, cond, List, [], ◌∷◌, insert, length, get_or, refl, sym, arith, inl, inr, All, Contains, filter, IsTrue, ◌||◌, Option, None, Some, IfSome, subst, ap}
 use Rattle.std.proofs.lemmas.List.Elements.{All-cons, All-contains, All-filter, All-contains_itself, All-get_or, filter_passes, Contains-get_or}
 use Rattle.std.specs.List.{find}
 use Rattle.std.specs.List.Sorted.{IsStrictlyIncreasing}
@@ -9,7 +9,7 @@ use Rattle.std.proofs.lemmas.List.Sorted.{All-permutation, Contains-permutation,
 use Rattle.prop_premises.specs.Sets.{Members, set_of, is_within}
 use Rattle.prop_premises.proofs.WithinLemmas.{within_has}
 use Rattle.prop_nogoods.specs.Stores.{has_part, staying, lacking, with_set, AreMinimal, AreBySize, AddsSet}
-use Rattle.prop_nogoods.specs.inner.Stores.{HaveSame}
+use Rattle.prop_nogoods.specs.inner.Stores.{HaveSame, IsPartOfNone}
 use Rattle.prop_nogoods.proofs.PlaceLemmas.{IsPlace, pairs_insert, insert_behind}
 use Rattle.prop_nogoods.proofs.StoreLaws.{PartOf, part-listed, has_part-from}
 
@@ -93,8 +93,8 @@ module _ (old : List (List ℕ)) (n : List ℕ) where
   minimal_joined i inside none apart =
       pairs_insert (staying old n) i n inside (λ a b. (is_within (set_of b) a ≡ false) × (is_within (set_of a) b ≡ false))
       (AllPairs-filter (λ a b. (is_within (set_of b) a ≡ false) × (is_within (set_of a) b ≡ false)) (is_kept n) old apart)
-      (λ k d l. (no_part k d l, no_larger k d l))
-      (λ k d l. (no_larger k d l, no_part k d l))
+      (λ k d l. let there : k < length (staying old n) = omega (arith, l, inside) in (no_part k d there, no_larger k d there))
+      (λ k d l m. (no_larger k d m, no_part k d m))
     where
       no_part : (k : ℕ) (d : List ℕ) → k < length (staying old n) → is_within (set_of n) (get_or (staying old n) k d) ≡ false
       no_part k d l = never (is_within (set_of n) (get_or (staying old n) k d)) (λ t.
@@ -122,7 +122,17 @@ module _ (old : List (List ℕ)) (n : List ℕ) where
   pub joined_behind : (i : ℕ) → IsPlace (staying old n) n i → joined i ≡ with_set old n
   joined_behind i place = insert_behind n (staying old n) i place
 
+-- where a set is part of none, all stay
+pub staying_all : (listed : List (List ℕ)) (n : List ℕ) → IsPartOfNone listed n → listed ≡ staying listed n
+staying_all [] n none = refl
+staying_all (x ∷ xs) n none = rw (none 0 x (omega arith)) (ap (λ ys. x ∷ ys) (staying_all xs n (λ k d l. none (suc k) d (omega (arith, l)))))
+
 -- ---- two lists of the same sets
+
+-- what is part of no set of one is part of none of the other
+pub part_of_none-same : (a b : List (List ℕ)) (n : List ℕ) → HaveSame a b → IsPartOfNone a n → IsPartOfNone b n
+part_of_none-same a b n same none = λ k d l.
+    All-contains (λ line. is_within (set_of line) n ≡ false) a (get_or b k d) none (same.second (get_or b k d) (Contains-get_or b k d l))
 
 -- a set that joins both is in both, and what stays of one stays of the other
 module _ (a b : List (List ℕ)) (n : List ℕ) (same : (line : List ℕ) → Contains a line → Contains b line) where

@@ -1,8 +1,10 @@
 //! Nogoods that end with the same premise.
-ghost use Rattle.std.specs.Prelude.{◌≡◌, ◌<◌, ◌++◌, ◌∷◌, ℕ, [], length, get_or, insert, map, vec_capacity, false, All, None, Contains, IsTrue, IfOk, IfSome, OnOk, OnErr};
+ghost use Rattle.std.specs.Prelude.{◌≡◌, ◌<◌, ◌≤◌, ◌++◌, ◌∷◌, ℕ, [], length, get_or, insert, map, nat_lt, vec_capacity, false, All, None, Contains, IsTrue, IfOk, IfSome, OnOk, OnErr};
+ghost use Rattle.std.specs.List.Sorted.{IsPartitionPoint};
 ghost use Rattle.prop_premises.specs.Sets.{set_of, is_within};
 ghost use Rattle.prop_nogoods.specs.Stores.{staying, PartsEndBelow};
-ghost use Rattle.prop_nogoods.specs.inner.Endings.{Group, EndsSo, sets_of, HasRoom, left_of, lacking_of};
+ghost use Rattle.prop_nogoods.specs.inner.Endings.{Group, EndsSo, AreInOrder, end_of, sets_of, HasRoom, left_of, lacking_of};
+ghost use Rattle.prop_nogoods.specs.inner.Stores.{IsPartOfNone};
 
 use crate::listed::{Listed, drop_holding, drop_larger, first_believed};
 use prop_premises::{Premise, Worldview};
@@ -37,10 +39,19 @@ impl Ending {
     }
 
     /// The premise that each of its nogoods has.
+    #[inline]
     fn last(&self) -> Option<Premise>
         ensures { result ≡ self.now.last }
     {
         self.last
+    }
+
+    /// Whether its last premise comes before this one. None comes before each premise.
+    #[inline]
+    fn is_before(&self, last: Option<Premise>) -> bool
+        ensures { result ≡ nat_lt (end_of self.now.last) (end_of last) }
+    {
+        self.last < last
     }
 
     /// Makes room for one nogood more.
@@ -56,7 +67,8 @@ impl Ending {
     fn push(&mut self, nogood: Listed)
         requires ends_so { EndsSo self.old.last nogood }
         requires room { HasRoom self.old }
-        ensures { self.new.sets ≡ self.old.sets ++ nogood ∷ [] }
+        ensures last { self.new.last ≡ self.old.last }
+        ensures sets { self.new.sets ≡ self.old.sets ++ nogood ∷ [] }
     {
         drop(self.nogoods.push(nogood));
     }
@@ -90,15 +102,27 @@ impl Ending {
     }
 }
 
+/// The place behind the endings whose last premise comes before this one.
+#[inline]
+fn place_for(endings: &[Ending], last: Option<Premise>) -> usize
+    requires { AreInOrder endings.now }
+    ensures bound { result ≤ length endings.now }
+    ensures between { IsPartitionPoint (λ g. end_of g.last < end_of last) (λ g. end_of last ≤ end_of g.last) endings.now result }
+{
+    endings.partition_point(|ending| ending.is_before(last))
+}
+
 /// The place of the ending with this last premise, with room for one nogood more. One that is missing is added, behind those whose last
 /// premise comes earlier.
 fn room_for(endings: &mut Vec<Ending>, last: Option<Premise>) -> Result<usize, AllocError>
+    requires { AreInOrder endings.old.items }
+    ensures in_order { AreInOrder endings.new.items }
     ensures same { sets_of endings.new.items ≡ sets_of endings.old.items }
     ensures place { IfOk result (λ at. at < length endings.new.items) }
     ensures last { IfOk result (λ at. (d : Group) → (get_or endings.new.items at d).last ≡ last) }
     ensures room { IfOk result (λ at. (d : Group) → HasRoom (get_or endings.new.items at d)) }
 {
-    let place = endings.partition_point(|ending| ending.last() < last);
+    let place = place_for(endings, last);
     if place < endings.len() && endings[place].last() == last {
         endings[place].make_room()?;
     } else {
@@ -117,6 +141,16 @@ fn drop_larger_everywhere(endings: &mut [Ending], nogood: &Listed)
     }
 }
 
+/// Drops the nogoods that this one is part of, at each ending, where there may be some. It takes no memory.
+fn drop_any_larger_everywhere(endings: &mut [Ending], nogood: &Listed, has_larger: bool)
+    requires none { has_larger ≡ false → IsPartOfNone (sets_of endings.old) nogood.now }
+    ensures { endings.new ≡ map (left_of nogood.now) endings.old }
+{
+    if has_larger {
+        drop_larger_everywhere(endings, nogood);
+    }
+}
+
 /// Drops the nogoods that hold the premise, at each ending. It takes no memory.
 pub(crate) fn purge_everywhere(endings: &mut [Ending], premise: Premise)
     ensures { endings.new ≡ map (lacking_of premise) endings.old }
@@ -126,30 +160,41 @@ pub(crate) fn purge_everywhere(endings: &mut [Ending], premise: Premise)
     }
 }
 
-/// Adds the set to those that end with its last premise; the nogoods that it is part of go. After want of memory the nogoods are the same.
-pub(crate) fn join(endings: &mut Vec<Ending>, nogood: &Listed) -> Result<(), AllocError>
+/// Adds the set to those that end with its last premise; the nogoods that it is part of go, where there may be some. After want of memory the
+/// nogoods are the same.
+pub(crate) fn join(
+    endings: &mut Vec<Ending>,
+    nogood: &Listed,
+    has_larger: bool,
+) -> Result<(), AllocError>
+    requires in_order { AreInOrder endings.old.items }
+    requires none { has_larger ≡ false → IsPartOfNone (sets_of endings.old.items) nogood.now }
+    ensures in_order { AreInOrder endings.new.items }
     ensures ok { OnOk result ((place : ℕ) × (sets_of endings.new.items ≡ insert (staying (sets_of endings.old.items) nogood.now) place nogood.now)) }
     ensures err { OnErr result (sets_of endings.new.items ≡ sets_of endings.old.items) }
 {
     let again = nogood.copy()?;
     let place = room_for(endings, nogood.last())?;
-    drop_larger_everywhere(endings, nogood);
+    drop_any_larger_everywhere(endings, nogood, has_larger);
     endings[place].push(again);
     Ok(())
 }
 
-/// A nogood of which every premise is believed, of the first ending that has one. It passes over endings whose premise has a number below this one,
+/// A nogood of which every premise is believed, of the first ending that has one. It looks at no ending whose premise has a number below this one,
 /// and takes no memory.
 pub(crate) fn earliest_believed<'a>(
     endings: &'a [Ending],
     worldview: &Worldview,
     from: Premise,
 ) -> Option<&'a Listed>
+    requires { AreInOrder endings.now }
     ensures listed { IfSome result (λ s. Contains (sets_of endings.now) s.now) }
     ensures believed { IfSome result (λ s. IsTrue (is_within (set_of worldview.now) s.now)) }
     ensures none { result ≡ None → PartsEndBelow (sets_of endings.now) (set_of worldview.now) from }
 {
-    for ending in endings {
+    let place = place_for(endings, Some(from));
+    let behind = &endings[place..];
+    for ending in behind {
         if let Some(nogood) = ending.first_believed(worldview, from) {
             return Some(nogood);
         }

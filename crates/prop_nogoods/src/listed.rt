@@ -4,6 +4,7 @@ ghost use Rattle.std.specs.List.Sorted.{IsStrictlyIncreasing};
 ghost use Rattle.prop_premises.specs.Sets.{set_of, is_within};
 ghost use Rattle.prop_nogoods.specs.Stores.{has_part, staying, lacking, AreBySize};
 ghost use Rattle.prop_nogoods.specs.inner.Endings.{EndsSo};
+ghost use Rattle.prop_nogoods.specs.inner.Stores.{IsPartOfNone};
 
 use prop_premises::{Premise, PremiseSet, Worldview};
 use std::alloc::AllocError;
@@ -45,6 +46,7 @@ impl Listed {
     }
 
     /// How many premises the set has.
+    #[inline]
     pub(crate) fn size(&self) -> usize
         ensures { result ≡ length self.now }
     {
@@ -52,6 +54,7 @@ impl Listed {
     }
 
     /// Its last premise, none where it has no premise.
+    #[inline]
     pub(crate) fn last(&self) -> Option<Premise>
         ensures { EndsSo result self.now }
     {
@@ -71,6 +74,7 @@ impl Listed {
     }
 
     /// The set itself.
+    #[inline]
     pub(crate) fn premises(&self) -> &PremiseSet
         ensures { result.now ≡ self.now }
     {
@@ -98,6 +102,7 @@ impl Listed {
 
     /// Whether each premise of this set is in the other. Of a larger set it is known by the sizes alone, and of most others by the last premise. It takes
     /// no memory.
+    #[inline(always)]
     pub(crate) fn is_part_of(&self, other: &Listed) -> bool
         ensures { result ≡ is_within (set_of other.now) self.now }
     {
@@ -120,6 +125,18 @@ pub(crate) fn drop_larger(listed: &mut Vec<Listed>, nogood: &Listed)
     listed.retain(|larger| !nogood.is_part_of(larger));
 }
 
+/// Drops the listed sets that this one is part of, where there may be some.
+pub(crate) fn drop_any_larger(listed: &mut Vec<Listed>, nogood: &Listed, has_larger: bool)
+    requires none { has_larger ≡ false → IsPartOfNone listed.old.items nogood.now }
+    ensures left { listed.new.items ≡ staying listed.old.items nogood.now }
+    ensures capacity { vec_capacity listed.new ≡ vec_capacity listed.old }
+    ensures len { vec_len listed.new ≤ vec_len listed.old }
+{
+    if has_larger {
+        drop_larger(listed, nogood);
+    }
+}
+
 /// Drops the listed sets that hold the premise.
 pub(crate) fn drop_holding(listed: &mut Vec<Listed>, premise: Premise)
     ensures left { listed.new.items ≡ lacking listed.old.items premise }
@@ -129,6 +146,7 @@ pub(crate) fn drop_holding(listed: &mut Vec<Listed>, premise: Premise)
 }
 
 /// The first listed set of which every premise is believed.
+#[inline]
 pub(crate) fn first_believed<'a>(listed: &'a [Listed], worldview: &Worldview) -> Option<&'a Listed>
     ensures listed { IfSome result (λ s. Contains listed.now s.now) }
     ensures believed { IfSome result (λ s. IsTrue (is_within (set_of worldview.now) s.now)) }

@@ -2,12 +2,12 @@
 ghost use Rattle.std.specs.Prelude.{◌≡◌, ◌↔◌, ◌≤◌, ◌<◌, ◌+◌, List, ℕ, [], length, not, false, All, None, Ok, Contains, IsTrue, IfOk, IfSome, OnOk, OnErr};
 ghost use Rattle.std.specs.List.Sorted.{IsStrictlyIncreasing, IsPartitionPoint};
 ghost use Rattle.prop_premises.specs.Sets.{set_of, is_within};
-ghost use Rattle.prop_nogoods.specs.inner.Endings.{sets_of};
+ghost use Rattle.prop_nogoods.specs.inner.Endings.{AreInOrder, sets_of};
 ghost use Rattle.prop_nogoods.specs.Stores.{has_part, lacking, with_set, AreMinimal, AreBySize, PartsEndBelow, AddsSet};
-ghost use Rattle.prop_nogoods.specs.inner.Stores.{HaveSame};
+ghost use Rattle.prop_nogoods.specs.inner.Stores.{HaveSame, IsPartOfNone};
 
 use crate::ending::{Ending, earliest_believed, join, purge_everywhere};
-use crate::listed::{Listed, drop_holding, drop_larger, first_believed};
+use crate::listed::{Listed, drop_any_larger, drop_holding, first_believed};
 use crate::nogoods::Nogoods;
 use prop_premises::{Premise, PremiseSet, Worldview};
 use std::alloc::{AllocError, Global};
@@ -28,7 +28,7 @@ impl Model for Store {
 
     ghost view = { λ s. s.nogoods.items };
 
-    ghost invariant = { λ s. AreMinimal s.nogoods.items × All IsStrictlyIncreasing s.nogoods.items × AreBySize s.nogoods.items × HaveSame s.nogoods.items (sets_of s.by_last.items) };
+    ghost invariant = { λ s. AreMinimal s.nogoods.items × All IsStrictlyIncreasing s.nogoods.items × AreBySize s.nogoods.items × HaveSame s.nogoods.items (sets_of s.by_last.items) × AreInOrder s.by_last.items };
 }
 
 /// Whether a listed set is part of this one. It looks at those that are no larger.
@@ -50,6 +50,18 @@ fn place_of(listed: &[Listed], nogood: &Listed) -> usize
     ensures between { IsPartitionPoint (λ line. length line ≤ length nogood.now) (λ line. length nogood.now < length line) listed.now result }
 {
     listed.partition_point(|other| other.size() <= nogood.size())
+}
+
+/// Whether this set is part of a listed one, where none is part of it. It looks at those that are larger.
+fn has_larger(listed: &[Listed], nogood: &Listed) -> bool
+    requires by_size { AreBySize listed.now }
+    requires in_order { IsStrictlyIncreasing nogood.now }
+    requires no_part { has_part listed.now (set_of nogood.now) ≡ false }
+    ensures { result ≡ false → IsPartOfNone listed.now nogood.now }
+{
+    let place = place_of(listed, nogood);
+    let behind = &listed[place..];
+    behind.iter().any(|larger| nogood.is_part_of(larger))
 }
 
 impl Store {
@@ -106,8 +118,9 @@ impl Store {
             return Ok(false);
         }
         self.nogoods.reserve(1)?;
-        join(&mut self.by_last, &nogood)?;
-        drop_larger(&mut self.nogoods, &nogood);
+        let has_larger = has_larger(&self.nogoods, &nogood);
+        join(&mut self.by_last, &nogood, has_larger)?;
+        drop_any_larger(&mut self.nogoods, &nogood, has_larger);
         let place = place_of(&self.nogoods, &nogood);
         self.nogoods.insert(place, nogood)?;
         Ok(true)

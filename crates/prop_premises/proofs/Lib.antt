@@ -4,6 +4,7 @@ pub mod FlagLemmas
 pub mod BitLemmas
 pub mod WordLemmas
 pub mod PlaceLemmas
+pub mod OneLemmas
 pub mod OriginLemmas
 pub mod WithinLemmas
 pub mod ChoiceLemmas

@@ -94,3 +94,12 @@ each_of-union P a b both is ha hb p t = elim (or_cases (set_of a p) (set_of b p)
   | inl h ↦ ha p h
   | inr h ↦ hb p h
 ]
+
+-- a set that has all premises of another has those of both
+pub has_both : (a b : List ℕ) → is_within (set_of a) b ≡ true → IsSame (set_of a) (union (set_of a) (set_of b))
+has_both a b w p = by (set_of a p) (set_of b p) (λ h. within_has (set_of a) b p w h)
+  where
+    by : (x y : Bool) → (y ≡ true → x ≡ true) → x ≡ (x || y)
+    by true y h = refl
+    by false true h = h refl
+    by false false h = refl

@@ -89,7 +89,7 @@ pub(crate) fn unite(words: &mut [u64], at: usize, more: &[u64])
 
 /// The word with a number, where the first of the words has this one.
 #[inline]
-fn word_from(first: usize, words: &[u64], number: usize) -> u64
+pub(crate) fn word_from(first: usize, words: &[u64], number: usize) -> u64
     ensures before { number < first → result ≡ 0 }
     ensures from { first ≤ number → result ≡ slice_index words.now (number - first) }
 {

@@ -4,7 +4,9 @@
 mod bits;
 pub mod choice;
 mod named;
+mod number_set;
 pub mod numbers;
+mod one_word;
 pub mod premise_set;
 pub mod premises;
 mod table;

@@ -2,6 +2,7 @@
 ghost use Rattle.std.specs.Iterator.{YieldsFirst, item_count};
 
 use crate::bits::BITS;
+use crate::one_word::OneWord;
 use crate::premise_set::Premise;
 use std::marker::Model;
 
@@ -28,8 +29,9 @@ impl<'a> Model for Numbers<'a> {
 }
 
 impl<'a> Numbers<'a> {
-    ghost use Rattle.std.specs.Prelude.{◌≡◌, ◌≤◌, ◌+◌, ◌*◌, length};
+    ghost use Rattle.std.specs.Prelude.{◌≡◌, ◌<◌, ◌≤◌, ◌+◌, ◌*◌, length};
     ghost use Rattle.prop_premises.specs.Words.{numbers_from};
+    ghost use Rattle.prop_premises.specs.inner.NumberSets.{numbers_in};
 
     /// The numbers of the bits of the words, of which the first has this number.
     pub(crate) fn new(first: usize, words: &'a [u64]) -> Numbers<'a>
@@ -47,6 +49,19 @@ impl<'a> Numbers<'a> {
                 word: 0,
                 rest: words,
             },
+        }
+    }
+
+    /// The numbers of one word.
+    #[inline]
+    pub(crate) fn of_one(one: OneWord) -> Numbers<'a>
+        requires { one.place < 1_024 }
+        ensures { result ≡ numbers_in one }
+    {
+        Numbers {
+            base: (BITS * one.place) as Premise,
+            word: one.word,
+            rest: &[],
         }
     }
 }

@@ -1,11 +1,12 @@
 //! Sets of premises.
-ghost use Rattle.std.specs.Prelude.{◌≡◌, ◌↔◌, ◌≤◌, List, ℕ, [], ◌∷◌, length, IsTrue, IfOk};
+ghost use Rattle.std.specs.Prelude.{◌≡◌, ◌↔◌, ◌≤◌, List, ℕ, [], ◌∷◌, length, IsTrue, IfOk, OnOk, OnErr};
 ghost use Rattle.std.specs.List.Sorted.{IsStrictlyIncreasing};
 ghost use Rattle.prop_premises.specs.Sets.{set_of, union, without, is_below, is_within, is_alike, is_at_most_one_of, IsSame};
 
+use crate::number_set::NumberSet;
 use crate::numbers::Numbers;
-use crate::words::Words;
 use std::alloc::{AllocError, Global};
+use std::default::MadeWith;
 use std::marker::Model;
 
 /// A premise, by its number. Premises are numbered from 0 on, in the order in which their names first appeared.
@@ -14,7 +15,7 @@ pub type Premise = u16;
 /// A set of premises. No call takes memory for sets of which all numbers are below 128.
 #[derive(Drop)]
 pub struct PremiseSet {
-    numbers: Words,
+    numbers: NumberSet,
 }
 
 impl Model for PremiseSet {
@@ -25,13 +26,22 @@ impl Model for PremiseSet {
     ghost invariant = { λ s. IsStrictlyIncreasing s.numbers };
 }
 
+/// The set of no premises, so that a few sets can stand in a value itself.
+impl MadeWith<Global> for PremiseSet {
+    ghost is_made_with = { λ s. s ≡ [] };
+
+    fn made_with(alloc: Global) -> PremiseSet {
+        PremiseSet::empty(alloc)
+    }
+}
+
 impl PremiseSet {
     /// The set of no premises. It takes no memory.
     pub fn empty(alloc: Global) -> PremiseSet
         ensures { result ≡ [] }
     {
         PremiseSet {
-            numbers: Words::empty(alloc),
+            numbers: NumberSet::empty(alloc),
         }
     }
 
@@ -39,8 +49,7 @@ impl PremiseSet {
     pub fn single(alloc: Global, premise: Premise) -> Result<PremiseSet, AllocError>
         ensures { IfOk result (λ s. s ≡ premise ∷ []) }
     {
-        let mut numbers = Words::empty(alloc);
-        numbers.insert(premise)?;
+        let numbers = NumberSet::single(alloc, premise);
         Ok(PremiseSet { numbers })
     }
 
@@ -50,6 +59,18 @@ impl PremiseSet {
     {
         let numbers = self.numbers.union(&other.numbers)?;
         Ok(PremiseSet { numbers })
+    }
+
+    /// The premises of another set are in this one too. Where they are already it takes no memory; after want of memory nothing has changed.
+    #[inline]
+    pub fn unite(&mut self, other: &PremiseSet) -> Result<(), AllocError>
+        ensures ok { OnOk result (IsSame (set_of self.new) (union (set_of self.old) (set_of other.now))) }
+        ensures err { OnErr result (self.new ≡ self.old) }
+    {
+        if !other.is_subset(self) {
+            self.numbers = self.numbers.union(&other.numbers)?;
+        }
+        Ok(())
     }
 
     /// The set, but for one premise.
@@ -105,7 +126,7 @@ impl PremiseSet {
         self.numbers.is_below(bound)
     }
 
-    pub(crate) fn numbers(&self) -> &Words
+    pub(crate) fn numbers(&self) -> &NumberSet
         ensures { result.now ≡ self.now }
     {
         &self.numbers

@@ -9,6 +9,7 @@ ghost use Rattle.prop_premises.specs.ChoiceLists.{hypotheticals_of, is_hypotheti
 use crate::bits::set_bit;
 use crate::choice::Choice;
 use crate::named::Kind;
+use crate::number_set::NumberSet;
 use crate::premise_set::Premise;
 use crate::table::Table;
 use crate::words::{Words, blank};
@@ -245,7 +246,8 @@ impl Premises {
         let mut words = blank(self.table.alloc(), self.table.len())?;
         self.table.set_believed(&mut words);
         set_sides(&mut words, &self.choices, sides);
-        Ok(Worldview::from_words(Words::of(words)))
+        let words = Words::of(words);
+        Ok(Worldview::of_numbers(NumberSet::of_words(words)))
     }
 
     /// Drops the names from number `count` on, where a name starts. It takes no memory.

@@ -1,14 +1,17 @@
 //! Sets of numbers as words of bits.
-ghost use Rattle.std.specs.Prelude.{◌≡◌, ◌↔◌, ◌<◌, ◌≤◌, ◌+◌, ◌*◌, ◌&&◌, ℕ, List, [], ◌∷◌, ◌++◌, false, length, max, nat_lt, filter, IsTrue, IsOk, IfOk, OnOk, OnErr};
+ghost use Rattle.std.specs.Prelude.{◌≡◌, ◌↔◌, ◌<◌, ◌≤◌, ◌+◌, ◌*◌, ◌&&◌, ℕ, List, [], ◌∷◌, ◌++◌, false, length, max, nat_lt, filter, IsTrue, IsOk, IfOk, IfSome, OnOk, OnErr};
 ghost use Rattle.std.specs.List.Sorted.{IsStrictlyIncreasing};
 ghost use Rattle.prop_premises.specs.Sets.{set_of, union, without, is_within, is_below, is_at_most_one_of, IsSame, IsBelow};
-ghost use Rattle.prop_premises.specs.Words.{has_bit, numbers_from};
+ghost use Rattle.prop_premises.specs.Words.{is_set, has_bit, numbers_from};
+ghost use Rattle.prop_premises.specs.inner.NumberSets.{numbers_in};
 ghost use Rattle.prop_premises.specs.inner.Words.{IsTrimmed, IsForm};
 
 use crate::bits::{
     BITS, bit_of, clear, end_of, is_part, leading, place_of, set_bit, trimmed_len, unite, word_at,
+    word_from,
 };
 use crate::numbers::Numbers;
+use crate::one_word::OneWord;
 use smallvec::SmallVec;
 use std::alloc::{AllocError, Global};
 use std::marker::Model;
@@ -43,6 +46,9 @@ pub(crate) fn blank(alloc: Global, count: usize) -> Result<SmallVec<u64, 2>, All
     ensures bound { IfOk result (λ w. length w.items ≤ 1_024) }
     ensures bits { IfOk result (λ w. (p : ℕ) → has_bit w.items p ≡ false) }
 {
+    if count <= 2 * BITS {
+        return Ok(SmallVec::from_buf(alloc, [0, 0]));
+    }
     SmallVec::from_elem(alloc, 0, count.div_ceil(BITS))
 }
 
@@ -166,14 +172,33 @@ fn cut(words: &mut SmallVec<u64, 2>, bound: u16)
 }
 
 impl Words {
-    /// The set of no numbers. It takes no memory.
-    pub(crate) fn empty(alloc: Global) -> Words
-        ensures { result ≡ [] }
+    /// The numbers of one word. It takes no memory.
+    #[inline]
+    pub(crate) fn of_one(alloc: Global, one: OneWord) -> Words
+        requires { one.place < 1_024 }
+        ensures { result ≡ numbers_in one }
     {
+        let mut words = SmallVec::from_buf(alloc, [one.word, 0]);
+        trim(&mut words);
         Words {
-            first: 0,
-            words: SmallVec::new(alloc),
+            first: one.place,
+            words,
         }
+    }
+
+    /// The word, where there is no other.
+    pub(crate) fn only(&self) -> Option<OneWord>
+        ensures place { IfSome result (λ one. one.place < 1_024) }
+        ensures same { IfSome result (λ one. numbers_in one ≡ self.now) }
+        ensures ordered { IsStrictlyIncreasing self.now }
+    {
+        if self.words.len() != 1 {
+            return None;
+        }
+        Some(OneWord {
+            place: self.first,
+            word: self.words[0],
+        })
     }
 
     /// The set of the numbers whose bits are set.
@@ -191,7 +216,7 @@ impl Words {
     }
 
     /// Whether the number is in the set. It takes no memory.
-    #[inline]
+    #[inline(never)]
     pub(crate) fn has(&self, number: u16) -> bool
         ensures { result ≡ set_of self.now number }
     {
@@ -215,15 +240,12 @@ impl Words {
         is_part(self.first, &self.words, other.first, &other.words)
     }
 
-    /// Whether the set has no number, or a single one that is in the other set. It takes no memory.
-    pub(crate) fn is_at_most_one_of(&self, other: &Words) -> bool
-        ensures { result ≡ is_at_most_one_of (set_of other.now) self.now }
+    /// The bits of the numbers from 64 times the place on. It takes no memory.
+    #[inline(never)]
+    pub(crate) fn word_at(&self, place: usize) -> u64
+        ensures { (i : ℕ) → i < 64 → is_set result i ≡ set_of self.now (64 * place + i) }
     {
-        let mut numbers = self.iter();
-        match numbers.next() {
-            Some(first) => other.has(first) && numbers.next().is_none(),
-            None => true,
-        }
+        word_from(self.first, &self.words, place)
     }
 
     /// Whether each number of the set is below the bound. It takes no memory.

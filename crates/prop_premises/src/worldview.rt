@@ -2,15 +2,15 @@
 ghost use Rattle.std.specs.Prelude.{◌≡◌, List, [], ◌∷◌, ◌++◌, ℕ, nat_lt, filter, IsOk, IfOk, OnOk, OnErr};
 ghost use Rattle.prop_premises.specs.Sets.{set_of, is_within, IsBelow};
 
+use crate::number_set::NumberSet;
 use crate::premise_set::{Premise, PremiseSet};
-use crate::words::Words;
 use std::alloc::{AllocError, Global};
 use std::marker::Model;
 
 /// A set of premises that are believed together.
 #[derive(Drop)]
 pub struct Worldview {
-    beliefs: Words,
+    beliefs: NumberSet,
 }
 
 impl Model for Worldview {
@@ -25,7 +25,7 @@ impl Worldview {
         ensures { result ≡ [] }
     {
         Worldview {
-            beliefs: Words::empty(alloc),
+            beliefs: NumberSet::empty(alloc),
         }
     }
 
@@ -39,7 +39,7 @@ impl Worldview {
     }
 
     /// The worldview that believes just these premises.
-    pub(crate) fn from_words(beliefs: Words) -> Worldview
+    pub(crate) fn of_numbers(beliefs: NumberSet) -> Worldview
         ensures { result ≡ beliefs }
     {
         Worldview { beliefs }

@@ -1,5 +1,5 @@
 //! Numbers in a queue, each at most once.
-ghost use Rattle.std.specs.Prelude.{◌≡◌, ℕ, ◌<◌, ◌≤◌, max, List, [], length, OnOk, OnErr, All, slice_get, remove, Some};
+ghost use Rattle.std.specs.Prelude.{◌≡◌, ◌↔◌, ℕ, ◌<◌, ◌≤◌, max, List, [], length, OnOk, OnErr, OnSome, IfSome, IsSome, All, slice_get, slice_index_or, remove, Some};
 ghost use Rattle.std.specs.VecDeque.{deque_capacity};
 ghost use Rattle.prop_scheduler.specs.inner.Agendas.{Queued, IsFlagged};
 ghost use Rattle.prop_scheduler.specs.Agendas.{Alerted, AllAlerted, FirstAlerted, all_alerted, numbers_below, IsLine};
@@ -21,6 +21,21 @@ impl Model for Queue {
     ghost view = { λ a. record { line = a.line.items; room = length a.flags.items } };
 
     ghost invariant = { λ a. IsFlagged a.line.items a.flags.items (deque_capacity a.line) };
+}
+
+/// The number at a place leaves the line. The first one, which leaves most often, is taken off its front.
+#[inline]
+fn leave(line: &mut VecDeque<usize>, place: usize) -> Option<usize>
+    ensures value { IfSome result (λ n. n ≡ slice_index_or line.old.items place n) }
+    ensures items { OnSome result (line.new.items ≡ remove line.old.items place) }
+    ensures variant { IsSome result ↔ (place < length line.old.items) }
+    ensures capacity { deque_capacity line.new ≡ deque_capacity line.old }
+{
+    if place == 0 {
+        line.pop_front()
+    } else {
+        line.remove(place)
+    }
 }
 
 impl Queue {
@@ -55,7 +70,7 @@ impl Queue {
         requires { place < length self.old.line }
         ensures { self.new ≡ record self.old { line = remove self.old.line place } }
     {
-        if let Some(number) = self.line.remove(place) {
+        if let Some(number) = leave(&mut self.line, place) {
             self.flags[number] = false;
         }
     }

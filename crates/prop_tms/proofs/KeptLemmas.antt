@@ -1,9 +1,9 @@
 -- Lists from which some elements were dropped.
 use Rattle.std.proofs.Common.{◌≡◌, ◌<◌, ◌+◌, ◌∙◌, ℕ, zero, suc, Bool, true, false, cond, List, [], ◌∷◌, ◌++◌, length, filter, ap, sym, subst, get_or, refl, arith, inl, inr, ◌⊎◌, Contains, All, AllPairs, Any, IsTrue, ◌↔◌}
 use Rattle.std.specs.Bool.{MatchBool}
-use Rattle.std.specs.List.{items_where_true, HoldsAt, AllWithin}
+use Rattle.std.specs.List.{HoldsAt, AllWithin}
 use Rattle.std.proofs.lemmas.List.{get_or_default}
-use Rattle.std.specs.List.Retain.{IsFiltered, ReturnsInTurn}
+use Rattle.std.specs.List.Retain.{RetainsInTurn}
 use Rattle.std.proofs.lemmas.List.Elements.{filter-append, Contains-append_cases, Contains-append_left, Contains-append_right, Contains-get_or, All-nil, All-cons, All-head, All-tail, All-contains, All-contains_itself}
 use Rattle.std.proofs.lemmas.List.Kept.{AllPairs-cons}
 use Rattle.prop_tms.specs.Kept.{IsLeftWithout, IsGrownBy}
@@ -54,24 +54,18 @@ pairs_insert {X} R (y ∷ front) rear x pairs with_x =
     by z first (inr same) = subst (R y) same (All-head (λ w. R w x × R x w) y (front ++ rear) with_x).0
 
 module _ {X : Type 0} (D : X → Type 0) where
-  in_turn : {F : Type 0} (R : F → X → Bool → F → Type 0) (f : F) → ((x : X) (b : Bool) (f' : F) → R f x b f' → (b ≡ false → D x) × (b ≡ true → ¬ (D x)) × (f' ≡ f)) →
-      (bs : List Bool) (xs : List X) (g : F) → length bs ≡ length xs → ReturnsInTurn R f bs xs g → IsLeftWithout D xs (items_where_true bs xs)
-  in_turn R f h [] [] g len t = refl
-  in_turn R f h [] (x ∷ xs) g len t = absurd (omega (arith, len))
-  in_turn R f h (b ∷ bs) [] g len t = absurd (omega (arith, len))
-  in_turn R f h (true ∷ bs) (x ∷ xs) g len t =
-      let told = h x true t.0 t.1 in
-      let rest = rw told.2 at t.2 in
-      inr (told.1 refl, (items_where_true bs xs, refl, in_turn R f h bs xs g (omega (arith, len)) rest))
-  in_turn R f h (false ∷ bs) (x ∷ xs) g len t =
-      let told = h x false t.0 t.1 in
-      let rest = rw told.2 at t.2 in
-      inl (told.0 refl, in_turn R f h bs xs g (omega (arith, len)) rest)
+  turn : (x y : X) (xs zs ys : List X) (b : Bool) → (b ≡ false → D x) → (b ≡ true → ¬ (D x)) → y ≡ x → IsLeftWithout D xs zs → ys ≡ cond b (y ∷ zs) zs → IsLeftWithout D (x ∷ xs) ys
+  turn x y xs zs ys true goes stays same rest is = inr (stays refl, (zs, is ∙ ap (λ u. u ∷ zs) same, rest))
+  turn x y xs zs ys false goes stays same rest is = inl (goes refl, rw is rest)
 
   -- what `retain` leaves, where the closure says `false` just of what is to go
-  pub left_from_retain : {F : Type 0} (R : F → X → Bool → F → Type 0) (f : F) → ((x : X) (b : Bool) (f' : F) → R f x b f' → (b ≡ false → D x) × (b ≡ true → ¬ (D x)) × (f' ≡ f)) →
-      (xs ys : List X) → IsFiltered R f xs ys → IsLeftWithout D xs ys
-  left_from_retain R f h xs ys t = rw t.4 (in_turn R f h t.0 xs t.1 t.2 t.3)
+  pub left_from_retain : {F : Type 0} (R : F → X → Bool → F → X → Type 0) (f : F) → ((x : X) (b : Bool) (f' : F) (y : X) → R f x b f' y → (b ≡ false → D x) × (b ≡ true → ¬ (D x)) × (f' ≡ f) × (y ≡ x)) →
+      (xs ys : List X) → RetainsInTurn R f xs ys → IsLeftWithout D xs ys
+  left_from_retain R f says [] ys h = h
+  left_from_retain R f says (x ∷ xs) ys h =
+      let said = says x h.0 h.1 h.2 h.3 in
+      let later = subst (λ g. RetainsInTurn R g xs h.4) said.2 h.5 in
+      turn x h.2 xs h.4 ys h.0 said.0 said.1 said.3 (left_from_retain R f says xs h.4 later) h.6
 
   -- what holds of all holds of those that stay
   pub left_all : (P : X → Type 0) (xs ys : List X) → IsLeftWithout D xs ys → All P xs → All P ys

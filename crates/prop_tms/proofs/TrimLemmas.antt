@@ -9,7 +9,7 @@ use Rattle.prop_lattice.specs.InformationOrder.{IsInformationOrder}
 use Rattle.prop_premises.specs.Sets.{Members, is_within, is_alike, is_at_most_one_of}
 use Rattle.prop_tms.specs.Beliefs.{merge_of_all, believed_of, belief_of, Subsumes, NoneSubsumed, NoneAlike, Trims, AreNeeded}
 use Rattle.prop_tms.specs.Values.{entries_of}
-use Rattle.prop_tms.specs.inner.Values.{values_of, place_of, AreApart, NoneBare, AreKept}
+use Rattle.prop_tms.specs.inner.Values.{values_of, place_of, AreKept}
 use Rattle.prop_tms.specs.declared.values.Valued.{Valued}
 use Rattle.prop_tms.specs.declared.supported.Supported.{Supported}
 use Rattle.prop_tms.proofs.KeptLemmas.{contains_here, contains_there, contains_cases}
@@ -223,13 +223,3 @@ module _ {V : Type 0} {below : V → V → Type 0} {bottom top : V} {join : V �
 
   pub trimmed_all : (xs : List (Valued V)) (k : ℕ) → length (entries_of xs) ≤ k → IsTrimmed below bottom join told w old xs k → AreNeeded bottom join told w (entries_of xs)
   trimmed_all xs k le t = all_judged laws w told k (entries_of xs) le t.judged
-
-  -- the values with no support are gone too
-  pub trimmed_kept : (xs ys : List (Valued V)) (k : ℕ) → AreKept below old → IsTrimmed below bottom join told w old xs k → entries_of ys ≡ entries_of xs → AreApart ys → NoneBare ys → AreKept below ys
-  trimmed_kept xs ys k kept t same apart bare = record {
-    subsumed = subst (NoneSubsumed below) (sym same) t.subsumed;
-    alike = subst NoneAlike (sym same) t.alike;
-    apart = apart;
-    bare = bare;
-    counted = (let n = ap length same in omega (arith, n, t.counted, kept.counted));
-  }

@@ -1,5 +1,5 @@
 -- Values with their supports, and the entries that they stand for.
-use Rattle.std.proofs.Common.{◌≡◌, ◌≢◌, ◌∙◌, ◌+◌, ◌<◌, ◌≤◌, ◌||◌, not, ℕ, zero, suc, Bool, true, false, cond, if◌then◌else◌, List, [], ◌∷◌, ◌++◌, length, map, filter, take, drop, get_or, set, slice_get, Some, vec_capacity, vec_len, refl, sym, ap, subst, arith, inl, inr, ◌⊎◌, All, AllPairs, Any, ◌↔◌, append_assoc, append-nil}
+use Rattle.std.proofs.Common.{◌≡◌, ◌≢◌, ◌∙◌, ◌+◌, ◌<◌, ◌≤◌, ◌||◌, not, ℕ, zero, suc, Bool, true, false, cond, if◌then◌else◌, List, [], ◌∷◌, ◌++◌, length, map, filter, take, drop, get_or, set, slice_get, Some, refl, sym, ap, subst, arith, inl, inr, ◌⊎◌, All, AllPairs, Any, ◌↔◌, append_assoc, append-nil}
 use Rattle.std.specs.List.{list_any, remove}
 use Rattle.std.proofs.lemmas.List.{get_or_append_left, get_or_default, length-append, length-set, map-append, take_more, take-set}
 use Rattle.std.proofs.lemmas.Grind.{get_or-set_at}
@@ -8,6 +8,7 @@ use Rattle.std.proofs.lemmas.List.Kept.{AllPairs-cons}
 use Rattle.std.proofs.lemmas.List.Quantifiers.{all_pairs_push}
 use Rattle.std.proofs.Math.ListN.{get_or-map}
 use Rattle.std.proofs.Math.Seq.{take-suc-set}
+use Rattle.smallvec.specs.SmallVec.{HasRoomFor}
 use Rattle.prop_lattice.specs.InformationOrder.{IsInformationOrder}
 use Rattle.prop_premises.specs.Sets.{Members, set_of, is_within}
 use Rattle.prop_tms.specs.Beliefs.{merge_of_all, belief_of, Subsumes}
@@ -573,12 +574,12 @@ pub value_at : {V : Type 0} (xs ys : List (Valued V)) (i : ℕ) (d : Valued V) �
 value_at {V} xs ys i d h = sym (get_or-map (λ (x : Valued V). x.value) xs i d) ∙ ap (λ vs. get_or vs i d.value) h ∙ get_or-map (λ (x : Valued V). x.value) ys i d
 
 -- there is room at a place that was made room at
-pub has_room : {V : Type 0} (start mid : List (Valued V)) (i : ℕ) (x : Valued V) → i < length start → x ≡ get_or mid i x → vec_len (get_or start i x).supports < vec_capacity (get_or start i x).supports →
-    HasRoomOf (get_or mid i x) (get_or start i x) → vec_capacity x.supports ≤ vec_len x.supports → ⊥
-has_room start mid i x l is room kept full =
-    let capacity = ap (λ (z : Valued _). vec_capacity z.supports) is in
-    let len = ap (λ (z : Valued _). vec_len z.supports) is in
-    omega (arith, capacity, len, kept.0, kept.1, room, full)
+pub has_room : {V : Type 0} (start mid : List (Valued V)) (i : ℕ) (x : Valued V) → i < length start → x ≡ get_or mid i x → HasRoomFor (get_or start i x).supports 1 →
+    HasRoomOf (get_or mid i x) (get_or start i x) → HasRoomFor x.supports 1
+has_room start mid i x l is room kept =
+    let capacity = ap (λ (z : Valued _). z.supports.capacity) is in
+    let len = ap (λ (z : Valued _). length z.supports.items) is in
+    omega (arith, capacity, len, kept.0, kept.1, room)
 
 -- an entry joins those that are left
 pub grown_all : {V : Type 0} (D : Supported V → Type 0) (old final : List (Supported V)) (m : Supported V) (start mid : List (Valued V)) (i : ℕ) (x y : Valued V) → entries_of start ≡ old → i < length start →

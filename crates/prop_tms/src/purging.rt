@@ -8,9 +8,10 @@ ghost use Rattle.prop_tms.specs.inner.Values.{values_of};
 use crate::values::Valued;
 use prop_lattice::Partial;
 use prop_premises::{Premise, PremiseSet};
+use smallvec::SmallVec;
 
 /// Drops the supports that hold the premise. Tells whether there were any.
-fn drop_holding(supports: &mut Vec<PremiseSet>, premise: Premise) -> bool
+fn drop_holding(supports: &mut SmallVec<PremiseSet, 1>, premise: Premise) -> bool
     ensures left { supports.new.items ≡ filter (λ s. not (set_of s premise)) supports.old.items }
     ensures went { result ≡ list_any (λ s. set_of s premise) supports.old.items }
 {

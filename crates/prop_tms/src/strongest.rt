@@ -139,7 +139,7 @@ fn sole<'a, V: Partial>(
 {
     let mut found = None;
     for valued in values {
-        for support in &valued.supports {
+        for support in valued.supports.as_slice() {
             if worldview.believes(support) {
                 if found.is_some() {
                     return None;
@@ -200,5 +200,19 @@ pub(crate) fn strongest<V: Partial>(
             Ok(Supported { value, support })
         }
         None => strongest_of_many(alloc, values, worldview),
+    }
+}
+
+/// The support of the only believed entry, where there is just one and it says something.
+#[inline]
+pub(crate) fn sole_support<'a, V: Partial>(
+    values: &'a [Valued<V>],
+    worldview: &Worldview,
+) -> Option<&'a PremiseSet>
+    ensures { IfSome result (λ s. IsLean V.bottom V.join (entries_of values.now) (set_of worldview.now) (belief_of V.bottom V.join (set_of worldview.now) (entries_of values.now)) s.now) }
+{
+    match sole(values, worldview) {
+        Some(Some(entry)) if !V::nothing().implies(entry.value) => Some(entry.support),
+        _ => None,
     }
 }

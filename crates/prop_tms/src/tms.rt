@@ -1,5 +1,5 @@
 //! The entries of one value.
-ghost use Rattle.std.specs.Prelude.{◌≡◌, ◌≢◌, ◌↔◌, ◌≤◌, ◌+◌, false, not, List, [], length, filter, IsTrue, Ok, IsOk, IfOk, OnOk, OnErr};
+ghost use Rattle.std.specs.Prelude.{◌≡◌, ◌≢◌, ◌↔◌, ◌≤◌, ◌+◌, false, not, List, [], length, filter, IsTrue, Ok, IsOk, IfOk, IfSome, OnOk, OnErr};
 ghost use Rattle.std.specs.List.{list_any};
 ghost use Rattle.prop_premises.specs.Sets.{Members, set_of, is_within, is_below, is_at_most_one_of, IsBelow};
 ghost use Rattle.prop_tms.specs.Beliefs.{belief_of, IsLeastBelief, Subsumes, NoneSubsumed, NoneAlike, IsNeedless, Adds, IsLean, IsShort, Trims, AreNeeded, joined_with};
@@ -10,14 +10,15 @@ ghost use Rattle.prop_tms.specs.declared.supported.Supported.{Supported};
 
 use crate::purging::drop_resting;
 use crate::shifting::shifted;
-use crate::strongest::{belief, strongest};
+use crate::strongest::{belief, sole_support, strongest};
 use crate::supported::Supported;
 use crate::trimming::{count_derived, trim};
 use crate::values::{
-    Valued, count, drop_bare, drop_emptied, drop_from, drop_subsumed, is_needless, joined, room_for,
+    Values, count, drop_bare, drop_emptied, drop_from, drop_subsumed, is_needless, joined, room_for,
 };
 use prop_lattice::Partial;
 use prop_premises::{Premise, PremiseSet, Worldview};
+use smallvec::SmallVec;
 use std::alloc::{AllocError, Global};
 use std::marker::Model;
 
@@ -32,7 +33,7 @@ pub enum Change {
 /// same premises. Each value is kept once, with the supports of its entries.
 #[derive(Drop)]
 pub struct Tms<V: Partial> {
-    values: Vec<Valued<V>>,
+    values: Values<V>,
 }
 
 impl<V: Partial> Model for Tms<V> {
@@ -49,7 +50,7 @@ impl<V: Partial> Tms<V> {
         ensures { result ≡ [] }
     {
         Tms {
-            values: Vec::new(alloc),
+            values: SmallVec::new(alloc),
         }
     }
 
@@ -117,6 +118,14 @@ impl<V: Partial> Tms<V> {
         ensures short { IfOk result (λ e. IsShort self.now (set_of worldview.now) e.value e.support) }
     {
         strongest(*self.values.allocator(), &self.values, worldview)
+    }
+
+    /// The support of the only believed entry, where there is just one and it says something: with it alone as much is believed. It takes no memory.
+    #[inline]
+    pub fn sole_support(&self, worldview: &Worldview) -> Option<&PremiseSet>
+        ensures { IfSome result (λ s. IsLean V.bottom V.join self.now (set_of worldview.now) (belief_of V.bottom V.join (set_of worldview.now) self.now) s.now) }
+    {
+        sole_support(&self.values, worldview)
     }
 
     /// How many entries rest on something else than one told premise. It takes no memory.

@@ -1,14 +1,14 @@
 //! Entries that a belief can do without.
-ghost use Rattle.std.specs.Prelude.{◌≡◌, ◌≢◌, ◌<◌, ◌+◌, ◌^◌, IsTrue, false, not, length, filter, get_or};
+ghost use Rattle.std.specs.Prelude.{◌≡◌, ◌≢◌, ◌<◌, ◌≤◌, ◌+◌, ◌^◌, IsTrue, false, not, length, filter, get_or};
 ghost use Rattle.std.specs.List.{remove};
 ghost use Rattle.prop_premises.specs.Sets.{set_of, is_at_most_one_of};
-ghost use Rattle.prop_tms.specs.Beliefs.{belief_of, Trims, AreNeeded};
+ghost use Rattle.prop_tms.specs.Beliefs.{belief_of, NoneSubsumed, NoneAlike, Trims, AreNeeded};
 ghost use Rattle.prop_tms.specs.Values.{entries_of};
-ghost use Rattle.prop_tms.specs.inner.Values.{place_of, AreKept};
+ghost use Rattle.prop_tms.specs.inner.Values.{values_of, place_of, AreKept};
 ghost use Rattle.prop_tms.specs.declared.values.Valued.{Valued};
 
 use crate::strongest::{belief, believes_any};
-use crate::values::{Valued, drop_bare};
+use crate::values::{Valued, Values, drop_bare};
 use prop_lattice::Partial;
 use prop_premises::{PremiseSet, Worldview};
 
@@ -75,16 +75,16 @@ fn is_needed<V: Partial>(
         && !belief_without(values, at, place, worldview).implies(value)
 }
 
-/// Drops entries that the worldview does without, from the first on, but for those that rest on nothing or on one told premise alone.
-pub(crate) fn trim<V: Partial>(
-    values: &mut Vec<Valued<V>>,
-    told: &PremiseSet,
-    worldview: &Worldview,
-)
-    requires { AreKept V.below values.old.items }
-    ensures trims { Trims V.bottom V.join (set_of told.now) (set_of worldview.now) (entries_of values.old.items) (entries_of values.new.items) }
-    ensures needed { AreNeeded V.bottom V.join (set_of told.now) (set_of worldview.now) (entries_of values.new.items) }
-    ensures kept { AreKept V.below values.new.items }
+/// Drops supports that the worldview does without, from the first on, but for those that are empty or one told premise alone. A value may be
+/// left with no support.
+fn drop_needless<V: Partial>(values: &mut [Valued<V>], told: &PremiseSet, worldview: &Worldview)
+    requires { AreKept V.below values.old }
+    ensures trims { Trims V.bottom V.join (set_of told.now) (set_of worldview.now) (entries_of values.old) (entries_of values.new) }
+    ensures needed { AreNeeded V.bottom V.join (set_of told.now) (set_of worldview.now) (entries_of values.new) }
+    ensures subsumed { NoneSubsumed V.below (entries_of values.new) }
+    ensures alike { NoneAlike (entries_of values.new) }
+    ensures values { values_of values.new ≡ values_of values.old }
+    ensures counted { length (entries_of values.new) ≤ length (entries_of values.old) }
 {
     let value = belief(values, worldview);
     let mut at = 0;
@@ -101,5 +101,15 @@ pub(crate) fn trim<V: Partial>(
         }
         at += 1;
     }
+}
+
+/// Drops entries that the worldview does without, from the first on, but for those that rest on nothing or on one told premise alone.
+pub(crate) fn trim<V: Partial>(values: &mut Values<V>, told: &PremiseSet, worldview: &Worldview)
+    requires { AreKept V.below values.old.items }
+    ensures trims { Trims V.bottom V.join (set_of told.now) (set_of worldview.now) (entries_of values.old.items) (entries_of values.new.items) }
+    ensures needed { AreNeeded V.bottom V.join (set_of told.now) (set_of worldview.now) (entries_of values.new.items) }
+    ensures kept { AreKept V.below values.new.items }
+{
+    drop_needless(values, told, worldview);
     drop_bare(values);
 }

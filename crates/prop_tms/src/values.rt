@@ -1,6 +1,7 @@
 //! Values, each once, with the supports that say so.
-ghost use Rattle.std.specs.Prelude.{◌≡◌, ◌≢◌, ◌↔◌, ◌<◌, ◌≤◌, ◌+◌, ◌^◌, ℕ, [], Any, All, false, not, length, filter, get_or, vec_capacity, vec_len, IsTrue, OnErr, IfOk, IfSome, IfNone};
+ghost use Rattle.std.specs.Prelude.{◌≡◌, ◌≢◌, ◌↔◌, ◌<◌, ◌≤◌, ◌+◌, ◌^◌, ℕ, [], Any, All, false, not, length, filter, get_or, IsTrue, OnOk, OnErr, IfOk, IfSome, IfNone};
 ghost use Rattle.std.specs.List.{list_any};
+ghost use Rattle.smallvec.specs.SmallVec.{HasRoomFor};
 ghost use Rattle.prop_premises.specs.Sets.{set_of, is_within, is_alike, is_below};
 ghost use Rattle.prop_tms.specs.Beliefs.{Subsumes, IsNeedless, joined_with};
 ghost use Rattle.prop_tms.specs.Kept.{IsLeftWithout};
@@ -12,14 +13,31 @@ ghost use Rattle.prop_tms.specs.declared.values.Valued.{Valued};
 use crate::supported::Supported;
 use prop_lattice::Partial;
 use prop_premises::PremiseSet;
-use std::alloc::AllocError;
+use smallvec::SmallVec;
+use std::alloc::{AllocError, Global};
+use std::default::MadeWith;
 
-/// A value, and the supports that say so: it is known where all premises of one of them are believed.
+/// A value, and the supports that say so: it is known where all premises of one of them are believed. One support stands in the value itself.
 #[derive(Drop)]
 pub struct Valued<V: Drop> {
     pub value: V,
-    pub supports: Vec<PremiseSet>,
+    pub supports: SmallVec<PremiseSet, 1>,
 }
+
+/// A value that says nothing, with no support, so that the first value of a `Tms` can stand in the `Tms` itself.
+impl<V: Partial> MadeWith<Global> for Valued<V> {
+    ghost is_made_with = { λ x. x.supports.items ≡ [] };
+
+    fn made_with(alloc: Global) -> Valued<V> {
+        Valued {
+            value: V::nothing(),
+            supports: SmallVec::new(alloc),
+        }
+    }
+}
+
+/// Values, the first of which stands in the row itself.
+pub type Values<V> = SmallVec<Valued<V>, 1>;
 
 /// How many supports there are.
 pub(crate) fn count<V: Partial>(values: &[Valued<V>]) -> usize
@@ -50,6 +68,7 @@ fn subsumes<V: Partial>(valued: &Valued<V>, entry: &Supported<V>) -> bool
 }
 
 /// Whether some entry subsumes this one.
+#[inline]
 fn is_known<V: Partial>(values: &[Valued<V>], entry: &Supported<V>) -> bool
     ensures { IsTrue result ↔ Any (λ x. Subsumes V.below x entry.now) (entries_of values.now) }
 {
@@ -57,6 +76,7 @@ fn is_known<V: Partial>(values: &[Valued<V>], entry: &Supported<V>) -> bool
 }
 
 /// Whether the entry says nothing new.
+#[inline]
 pub(crate) fn is_needless<V: Partial>(values: &[Valued<V>], entry: &Supported<V>) -> bool
     ensures { IsTrue result ↔ IsNeedless V.below V.bottom (entries_of values.now) entry.now }
 {
@@ -93,6 +113,7 @@ pub(crate) fn is_same<V: Partial>(a: V, b: V) -> bool
 }
 
 /// The place of the value; nothing where it isn't there.
+#[inline]
 fn find<V: Partial>(values: &[Valued<V>], value: V) -> Option<usize>
     ensures at { IfSome result (λ at. (at < length values.now) × ((d : Valued V) → (get_or values.now at d).value ≡ value)) }
     ensures new { IfNone result (All (λ x. x.value ≢ value) values.now) }
@@ -102,35 +123,45 @@ fn find<V: Partial>(values: &[Valued<V>], value: V) -> Option<usize>
         .position(|valued| is_same(valued.value, value))
 }
 
+/// Makes room for one support more of the value at a place. After want of memory nothing has changed.
+#[inline]
+fn make_room<V: Partial>(values: &mut [Valued<V>], place: usize) -> Result<(), AllocError>
+    requires { place < length values.old }
+    ensures values { values_of values.new ≡ values_of values.old }
+    ensures same { entries_of values.new ≡ entries_of values.old }
+    ensures bare { NoneBare values.old → NoneBare values.new }
+    ensures others { NoneBare values.old → NoneBareBut place values.new }
+    ensures room { OnOk result ((d : Valued V) → HasRoomFor (get_or values.new place d).supports 1) }
+{
+    values[place].supports.reserve(1)
+}
+
 /// The place of the value, with room for one support more. A new value stands last, with no support yet. After want of memory nothing
 /// has changed.
-pub(crate) fn room_for<V: Partial>(
-    values: &mut Vec<Valued<V>>,
-    value: V,
-) -> Result<usize, AllocError>
+pub(crate) fn room_for<V: Partial>(values: &mut Values<V>, value: V) -> Result<usize, AllocError>
     requires apart { AreApart values.old.items }
     ensures same { entries_of values.new.items ≡ entries_of values.old.items }
     ensures apart { AreApart values.new.items }
     ensures place { IfOk result (λ at. (at < length values.new.items) × ((d : Valued V) → (get_or values.new.items at d).value ≡ value)) }
-    ensures room { IfOk result (λ at. (d : Valued V) → vec_len (get_or values.new.items at d).supports < vec_capacity (get_or values.new.items at d).supports) }
+    ensures room { IfOk result (λ at. (d : Valued V) → HasRoomFor (get_or values.new.items at d).supports 1) }
     ensures others { IfOk result (λ at. NoneBare values.old.items → NoneBareBut at values.new.items) }
     ensures err { OnErr result (NoneBare values.old.items → NoneBare values.new.items) }
 {
     if let Some(place) = find(values, value) {
-        values[place].supports.reserve(1)?;
+        make_room(values, place)?;
         return Ok(place);
     }
-    let supports = Vec::with_capacity(*values.allocator(), 1)?;
+    let supports = SmallVec::new(*values.allocator());
     values.push(Valued { value, supports })?;
     Ok(values.len() - 1)
 }
 
 /// Drops the supports that this one is part of, and tells whether it dropped all that there were.
-fn drop_wider(supports: &mut Vec<PremiseSet>, support: &PremiseSet) -> bool
+fn drop_wider(supports: &mut SmallVec<PremiseSet, 1>, support: &PremiseSet) -> bool
     ensures emptied { result ≡ false → supports.new.items ≡ [] → supports.old.items ≡ [] }
     ensures kept { supports.new.items ≡ filter (λ s. not (is_within (set_of s) support.now)) supports.old.items }
-    ensures capacity { vec_capacity supports.new ≡ vec_capacity supports.old }
-    ensures len { vec_len supports.new ≤ vec_len supports.old }
+    ensures capacity { supports.new.capacity ≡ supports.old.capacity }
+    ensures len { length supports.new.items ≤ length supports.old.items }
 {
     let some = !supports.is_empty();
     supports.retain(|wider| !support.is_subset(wider));
@@ -162,7 +193,7 @@ fn is_bare<V: Partial>(valued: &Valued<V>) -> bool
 }
 
 /// Drops the values with no support.
-pub(crate) fn drop_bare<V: Partial>(values: &mut Vec<Valued<V>>)
+pub(crate) fn drop_bare<V: Partial>(values: &mut Values<V>)
     requires { AreApart values.old.items }
     ensures same { entries_of values.new.items ≡ entries_of values.old.items }
     ensures apart { AreApart values.new.items }
@@ -172,7 +203,8 @@ pub(crate) fn drop_bare<V: Partial>(values: &mut Vec<Valued<V>>)
 }
 
 /// Drops the values with no support, where some value was left with none.
-pub(crate) fn drop_emptied<V: Partial>(values: &mut Vec<Valued<V>>, emptied: bool)
+#[inline]
+pub(crate) fn drop_emptied<V: Partial>(values: &mut Values<V>, emptied: bool)
     requires apart { AreApart values.old.items }
     requires bare { emptied ≡ false → NoneBare values.old.items }
     ensures same { entries_of values.new.items ≡ entries_of values.old.items }
@@ -185,7 +217,7 @@ pub(crate) fn drop_emptied<V: Partial>(values: &mut Vec<Valued<V>>, emptied: boo
 }
 
 /// Drops the supports with a premise that has a number of `count` or more.
-fn drop_wanting(supports: &mut Vec<PremiseSet>, count: usize)
+fn drop_wanting(supports: &mut SmallVec<PremiseSet, 1>, count: usize)
     ensures { supports.new.items ≡ filter (λ s. is_below count s) supports.old.items }
 {
     supports.retain(|support| support.is_below(count));

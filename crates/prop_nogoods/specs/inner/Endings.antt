@@ -1,5 +1,5 @@
 -- Groups of nogoods that end with the same premise.
-use Rattle.std.specs.Prelude.{◌<◌, ◌+◌, ℕ, List, length, Option, Some, None, IfSome, IsTrue}
+use Rattle.std.specs.Prelude.{◌<◌, ◌+◌, ℕ, List, length, Option, Some, None, IfSome, IsTrue, All, AllPairs}
 use Rattle.std.specs.List.{flat_map}
 use Rattle.prop_premises.specs.Sets.{set_of, is_below}
 use Rattle.prop_nogoods.specs.Stores.{staying, lacking}
@@ -34,3 +34,12 @@ left_of n g = record g { sets = staying g.sets n }
 -- the group without the nogoods that hold a premise
 abbrev pub lacking_of : ℕ → Group → Group
 lacking_of p g = record g { sets = lacking g.sets p }
+
+-- the nogoods of a group end with its last premise
+abbrev pub EndTogether : Group → Type 0
+EndTogether g = All (EndsSo g.last) g.sets
+
+-- the nogoods of each group end together, and its last premise comes before those of the groups behind it
+pub record AreInOrder (groups : List Group) : Type 0 where
+  pub together : All EndTogether groups
+  pub rise : AllPairs (λ g h. end_of g.last < end_of h.last) groups

@@ -1,5 +1,5 @@
 -- Values, each once, with the supports that say so.
-use Rattle.std.specs.Prelude.{◌≡◌, ◌≢◌, ℕ, ◌+◌, ◌^◌, ◌<◌, ◌≤◌, Bool, not, ◌&&◌, ◌||◌, List, [], length, get_or, map, take, All, AllPairs, vec_capacity, vec_len}
+use Rattle.std.specs.Prelude.{◌≡◌, ◌≢◌, ℕ, ◌+◌, ◌^◌, ◌<◌, ◌≤◌, Bool, not, ◌&&◌, ◌||◌, List, [], length, get_or, map, take, All, AllPairs}
 use Rattle.prop_premises.specs.Sets.{Members, is_within}
 use Rattle.prop_tms.specs.Beliefs.{NoneSubsumed, NoneAlike}
 use Rattle.prop_tms.specs.declared.values.Valued.{Valued}
@@ -38,7 +38,7 @@ place_of xs at place = length (entries_of (take at xs)) + place
 
 -- there is room for as many supports as before
 abbrev pub HasRoomOf : {V : Type 0} → Valued V → Valued V → Type 0
-HasRoomOf new old = (vec_capacity new.supports ≡ vec_capacity old.supports) × (vec_len new.supports ≤ vec_len old.supports)
+HasRoomOf new old = (new.supports.capacity ≡ old.supports.capacity) × (length new.supports.items ≤ length old.supports.items)
 
 -- whether these premises are all in just one of two sets
 abbrev pub is_in_one : Members → Members → List ℕ → Bool

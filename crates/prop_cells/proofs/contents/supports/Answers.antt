@@ -5,5 +5,6 @@ use Rattle.prop_cells.proofs.contents.supports.Goals as goal
 
 pub loop-c-preserved : goal.loop-c-preserved
 loop-c-preserved c =
-    support_more (set_of c.args.worldview.now) c.args.contents.now c.args.cells.now c.loop-c.c-index c.loop-c.support c.in_ok-entry.entry.support c.in_ok-support.support (omega arith)
-    c.loop-c.invariant c.in_ok-entry.ensures.lean c.in_ok-support.ensures.both
+    let united = c.in_ok-unite_support.ensures in
+    support_more (set_of c.args.worldview.now) c.args.contents.now c.args.cells.now c.loop-c.c-index c.loop-c.support united.0 c.unite_support.new.support (omega arith)
+    c.loop-c.invariant united.1 united.2

@@ -4,19 +4,18 @@ use Rattle.prop_premises.specs.Sets.{set_of}
 use Rattle.prop_cells.proofs.Telling.{read_there, trims_at, trim_keeps}
 use Rattle.prop_cells.proofs.contents.trim_at.Goals as goal
 
-pub returns-then-derived-gt-MOST_DERIVED-clause-trims : goal.returns-then-derived-gt-MOST_DERIVED-clause-trims
-returns-then-derived-gt-MOST_DERIVED-clause-trims c =
+pub returns-then-has_many_derived-clause-trims : goal.returns-then-has_many_derived-clause-trims
+returns-then-has_many_derived-clause-trims c =
     trims_at (set_of c.args.worldview.now) (set_of c.args.told.now) c.args.contents.now.items c.args.cell _ _ c.requires c.index_mut.ensures.value c.trim.ensures.trims
 
-pub returns-then-derived-gt-MOST_DERIVED-clause-kept : goal.returns-then-derived-gt-MOST_DERIVED-clause-kept
-returns-then-derived-gt-MOST_DERIVED-clause-kept c =
+pub returns-then-has_many_derived-clause-kept : goal.returns-then-has_many_derived-clause-kept
+returns-then-has_many_derived-clause-kept c =
     trim_keeps (set_of c.args.worldview.now) (set_of c.args.told.now) c.args.contents.now.items c.args.cell _ _ c.requires c.index_mut.ensures.value c.trim.ensures.trims
 
-pub returns-else-derived-gt-MOST_DERIVED-clause-bounded : goal.returns-else-derived-gt-MOST_DERIVED-clause-bounded
-returns-else-derived-gt-MOST_DERIVED-clause-bounded c =
+pub returns-else-has_many_derived-clause-bounded : goal.returns-else-has_many_derived-clause-bounded
+returns-else-has_many_derived-clause-bounded c =
     let here = read_there c.args.contents.now.items c.args.cell c.index.result.now [] c.requires c.index.ensures in
-    let few = rw c.derived.ensures at c.if-derived-gt-MOST_DERIVED.false in
-    inl (rw (← here) few)
+    inl (rw (← here) (c.has_many_derived.ensures c.if-has_many_derived.false))
 
-pub returns-then-derived-gt-MOST_DERIVED-clause-bounded : goal.returns-then-derived-gt-MOST_DERIVED-clause-bounded
-returns-then-derived-gt-MOST_DERIVED-clause-bounded c = inr (rw (get_or-set_same c.args.contents.now.items c.args.cell c.trim.new.self [] c.requires) c.trim.ensures.needed)
+pub returns-then-has_many_derived-clause-bounded : goal.returns-then-has_many_derived-clause-bounded
+returns-then-has_many_derived-clause-bounded c = inr (rw (get_or-set_same c.args.contents.now.items c.args.cell c.trim.new.self [] c.requires) c.trim.ensures.needed)

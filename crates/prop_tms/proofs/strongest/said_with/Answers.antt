@@ -16,12 +16,12 @@ loop-valued-preserved g c =
     let l = c.loop-valued-test.true in
     elim c.if-not-implies.branch [
       | then-not-implies+then-believes_any t ↦
-          (let some = rw t.deref.ensures.value at t.believes_any.ensures in
+          (let some = rw t.deref.ensures at t.believes_any.ensures in
           let on : list_any u x.supports.items ≡ true = sym some ∙ t.if-believes_any.true in
           rw (t.merged-is, t.merge-merged.ensures, said_more laws u xs i x true l c.valued-item.is on, join-assoc laws, ← c.loop-valued.invariant) refl)
       | else-not-implies t ↦ elim t.else-not-implies.branch [
         | else-not-implies-via-then-not-implies+else-believes_any w ↦
-            (let some = rw w.deref.ensures.value at w.believes_any.ensures in
+            (let some = rw w.deref.ensures at w.believes_any.ensures in
             let off : list_any u x.supports.items ≡ false = sym some ∙ w.if-believes_any.false in
             rw (t.merged-is, said_more laws u xs i x false l c.valued-item.is off, ← c.loop-valued.invariant) refl)
         | else-not-implies-via-else-not-implies w ↦

@@ -20,12 +20,12 @@ returns-then-believes_any-2 g c =
     let xs = c.args.values.now in
     let x = c.index-values-at.result in
     let ss = x.supports.items in
-    let first = rw c.deref.ensures.value at c.believes_any.ensures in
+    let first = rw c.deref.ensures at c.believes_any.ensures in
     let some : (list_any (is_within w) (take c.args.place ss) || list_any (is_within w) (drop (suc c.args.place) ss)) ≡ true =
     elim c.if-believes_any.branch [
       | then-believes_any t ↦ or_first (list_any (is_within w) (take c.args.place ss)) (list_any (is_within w) (drop (suc c.args.place) ss)) (sym first ∙ t.if-believes_any.true)
       | else-believes_any t ↦
-          (let second = rw (t.deref-else-believes_any.ensures.value, rest_of ss c.args.place) at t.believes_any-else-believes_any.ensures in
+          (let second = rw (t.deref-else-believes_any.ensures, rest_of ss c.args.place) at t.believes_any-else-believes_any.ensures in
           or_second (list_any (is_within w) (take c.args.place ss)) (list_any (is_within w) (drop (suc c.args.place) ss)) true (sym first ∙ t.if-believes_any.false) (sym second ∙ sym t.value-is ∙ c.if-believes_any-2.true))
     ] in
     let after = rw (rest_of xs c.args.at) at c.belief.ensures in
@@ -38,12 +38,12 @@ returns-else-believes_any-2 g c =
     let xs = c.args.values.now in
     let x = c.index-values-at.result in
     let ss = x.supports.items in
-    let first = rw c.deref.ensures.value at c.believes_any.ensures in
+    let first = rw c.deref.ensures at c.believes_any.ensures in
     let none : (list_any (is_within w) (take c.args.place ss) || list_any (is_within w) (drop (suc c.args.place) ss)) ≡ false =
     elim c.if-believes_any.branch [
       | then-believes_any t ↦ cc (t.value-is, c.if-believes_any-2.false)
       | else-believes_any t ↦
-          (let second = rw (t.deref-else-believes_any.ensures.value, rest_of ss c.args.place) at t.believes_any-else-believes_any.ensures in
+          (let second = rw (t.deref-else-believes_any.ensures, rest_of ss c.args.place) at t.believes_any-else-believes_any.ensures in
           or_second (list_any (is_within w) (take c.args.place ss)) (list_any (is_within w) (drop (suc c.args.place) ss)) false (sym first ∙ t.if-believes_any.false) (sym second ∙ sym t.value-is ∙ c.if-believes_any-2.false))
     ] in
     let after = rw (rest_of xs c.args.at) at c.belief.ensures in

@@ -12,12 +12,12 @@ overflow_add-count g c =
     let more = filtered_more u xs i c.valued-item.result c.loop-valued-test.true c.valued-item.is in
     let less = filter_length (λ e. u e.support) (entries_of (take (i + 1) xs)) in
     let all = entries_of-take xs (i + 1) in
-    let one = rw c.deref.ensures.value at c.derived_in-count.ensures in
+    let one = rw c.deref.ensures at c.derived_in-count.ensures in
     omega (arith, more, less, all, one, c.loop-valued.invariant, c.requires)
 
 pub loop-valued-preserved : goal.loop-valued-preserved
 loop-valued-preserved g c =
     let u : List ℕ → Bool = λ s. not (is_at_most_one_of (set_of c.args.told.now) s) in
     let more = filtered_more u c.args.values.now c.loop-valued.valued-index c.valued-item.result c.loop-valued-test.true c.valued-item.is in
-    let one = rw c.deref.ensures.value at c.derived_in-count.ensures in
+    let one = rw c.deref.ensures at c.derived_in-count.ensures in
     omega (arith, more, one, c.loop-valued.invariant)

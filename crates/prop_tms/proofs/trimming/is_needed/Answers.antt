@@ -16,8 +16,8 @@ returns-else-believes-clause-needless g c off =
     let w = set_of c.args.worldview.now in
     let xs = c.args.values.now in
     let x = c.index-values-at.result in
-    let s = c.index.result.now in
+    let s = c.index-deref-place.result in
     let is = c.index-values-at.is in
     let l : c.args.place < length x.supports.items = subst (λ (y : Valued _). c.args.place < length y.supports.items) (sym is) (c.requires.place x) in
-    let at = entry_at xs c.args.at c.args.place x s c.requires.at is l (rw (← is) at c.index.ensures) in
+    let at = entry_at xs c.args.at c.args.place x s c.requires.at is l (rw (c.deref.ensures, ← is) at c.index-deref-place.is) in
     unbelieved_removed g.met.V.Partial.laws w (entries_of xs) (place_of xs c.args.at c.args.place) _ at (sym c.believes.ensures ∙ off)

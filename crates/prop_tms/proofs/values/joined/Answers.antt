@@ -17,7 +17,7 @@ loop-valued-preserved g c =
     let x = c.valued-item.result in
     let u : List ℕ → Bool = λ s. is_alike s c.args.support.now in
     let l = c.loop-valued-test.true in
-    let has = rw c.deref.ensures.value at c.has_same.ensures in
+    let has = rw c.deref.ensures at c.has_same.ensures in
     elim c.if-has_same.branch [
       | then-has_same t ↦
           (let on : list_any u x.supports.items ≡ true = sym has ∙ t.if-has_same.true in

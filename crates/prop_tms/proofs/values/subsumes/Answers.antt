@@ -7,7 +7,7 @@ returns-then-implies g c =
     let below = g.V.Partial.below in
     let x = c.args.valued.now in
     let e = c.args.entry.now in
-    let has = rw c.deref.ensures.value at c.has_part.ensures in
+    let has = rw c.deref.ensures at c.has_part.ensures in
     (λ t. any_subsumes below x.value x.supports.items e (c.implies.ensures.0 c.if-implies.true) (sym has ∙ t), λ some. has ∙ (subsumes_any below x.value x.supports.items e some).1)
 
 pub returns-else-implies : goal.returns-else-implies

@@ -1,5 +1,4 @@
-use Rattle.std.proofs.Common.{◌≡◌, ◌∙◌, ◌+◌, ◌∷◌, ◌++◌, [], length, subst, sym, arith, append_assoc, length-append}
-use Rattle.prop_premises.specs.Sets.{set_of}
+use Rattle.std.proofs.Common.{◌≡◌, ◌∙◌, ◌+◌, ◌∷◌, ◌++◌, [], length, arith, append_assoc, length-append}
 use Rattle.prop_nogoods.proofs.EndingLemmas.{passed_below, has_middle}
 use Rattle.prop_nogoods.proofs.listed.Listed.new.Goals as goal
 

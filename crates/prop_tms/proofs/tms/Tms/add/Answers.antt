@@ -1,27 +1,44 @@
-use Rattle.std.proofs.Common.{◌≡◌, ◌≢◌, ◌∙◌, ◌+◌, ◌<◌, ◌≤◌, ◌++◌, [], ◌∷◌, List, AllPairs, refl, sym, ap, subst, inr, length, get_or, arith}
+use Rattle.std.proofs.Common.{rules, ◌≡◌, ◌≢◌, ◌∙◌, ◌+◌, ◌*◌, ◌<◌, ◌≤◌, ◌++◌, [], ◌∷◌, List, ℕ, AllPairs, refl, sym, ap, subst, inr, length, get_or, set, drop, arith}
+use Rattle.std.specs.List.{refill}
+use Rattle.std.proofs.lemmas.List.{length-set}
+use Rattle.std.proofs.Math.Nat.{le_of_lt, lt_of_le_of_lt, mul-le-mul_right}
 use Rattle.prop_tms.specs.Beliefs.{Adds, IsNeedless, NoneAlike, NoneSubsumed, Subsumes, joined_with}
 use Rattle.prop_tms.specs.Kept.{IsLeftWithout}
 use Rattle.prop_tms.specs.Values.{entries_of}
+use Rattle.prop_tms.specs.inner.Values.{values_of, AreApart, NoneBare}
 use Rattle.prop_tms.specs.declared.supported.Supported.{Supported}
 use Rattle.prop_tms.specs.declared.values.Valued.{Valued}
 use Rattle.prop_tms.proofs.BeliefLemmas.{adds_joined, adds_needless, needed_joined, none_alike-joined, none_subsumed-joined}
 use Rattle.prop_tms.proofs.KeptLemmas.{insert_length}
-use Rattle.prop_tms.proofs.ValueLemmas.{grown_all, has_room, left_length, length_values, none_bare-push, values_of-set, written_values}
+use Rattle.prop_tms.proofs.ValueLemmas.{grown_all, has_room, left_length, length_values, none_bare-push, values_of-set, written, written_values}
 use Rattle.prop_tms.proofs.tms.Tms.add.Given.{Over}
 use Rattle.prop_tms.proofs.tms.Tms.add.Goals as goal
+
+-- the list, after a whole list was written to it
+again_is : {V : Type 0} (start mid again : List (Valued V)) → again ≡ refill (length start) start mid → values_of mid ≡ values_of start → again ≡ mid
+again_is start mid again is values = is ∙ written_values (length start) start mid refl values
+
+-- the list, after one of its values was written too
+pushed_is : {V : Type 0} (start mid again : List (Valued V)) (i : ℕ) (y : Valued V) → again ≡ refill (length start) start mid → values_of mid ≡ values_of start →
+    refill (length (refill (length start) start mid)) (refill (length start) start mid) (set again i y) ≡ set mid i y
+pushed_is start mid again i y is values =
+    let given = refill (length start) start mid in
+    let n = length-set again i y in
+    let m = ap length is in
+    written (length given) (set again i y) (drop (length (set again i y)) given) (omega (arith, n, m)) ∙ ap (λ zs. set zs i y) (again_is start mid again is values)
 
 -- ---- what says nothing new
 
 pub returns-then-is_needless-clause-adds : goal.returns-then-is_needless-clause-adds
 returns-then-is_needless-clause-adds g c =
     let e : Supported _ = record { value = c.args.value; support = c.args.support } in
-    let needless : IsNeedless g.V.Partial.below g.V.Partial.bottom c.args.self.now e = rw (← c.self.view_is) (rw c.deref.ensures.value at (c.is_needless.ensures.0 c.if-is_needless.true)) in
+    let needless : IsNeedless g.V.Partial.below g.V.Partial.bottom c.args.self.now e = rw (← c.self.view_is) (rw c.deref.ensures at (c.is_needless.ensures.0 c.if-is_needless.true)) in
     adds_needless g.met.V.Partial.laws c.args.self.now e needless
 
 pub returns-then-is_needless-clause-same : goal.returns-then-is_needless-clause-same
 returns-then-is_needless-clause-same g c =
     let e : Supported _ = record { value = c.args.value; support = c.args.support } in
-    let needless : IsNeedless g.V.Partial.below g.V.Partial.bottom c.args.self.now e = rw (← c.self.view_is) (rw c.deref.ensures.value at (c.is_needless.ensures.0 c.if-is_needless.true)) in
+    let needless : IsNeedless g.V.Partial.below g.V.Partial.bottom c.args.self.now e = rw (← c.self.view_is) (rw c.deref.ensures at (c.is_needless.ensures.0 c.if-is_needless.true)) in
     (λ t. needless, λ n. refl)
 
 -- ---- where memory is refused
@@ -29,14 +46,26 @@ returns-then-is_needless-clause-same g c =
 pub returns-then-count-clause-needless : goal.returns-then-count-clause-needless
 returns-then-count-clause-needless g c =
     let e : Supported _ = record { value = c.args.value; support = c.args.support } in
-    let needed : ¬ (IsNeedless g.V.Partial.below g.V.Partial.bottom (entries_of c.self.inside.values.items) e) = λ n. cc (c.if-is_needless.false, c.is_needless.ensures.1 (rw c.deref.ensures.value n)) in
+    let needed : ¬ (IsNeedless g.V.Partial.below g.V.Partial.bottom (entries_of c.self.inside.values.items) e) = λ n. cc (c.if-is_needless.false, c.is_needless.ensures.1 (rw c.deref.ensures n)) in
     λ n. absurd (needed (rw c.self.view_is n))
 
 pub returns-in_err-place-clause-needless : goal.returns-in_err-place-clause-needless
 returns-in_err-place-clause-needless g c =
     let e : Supported _ = record { value = c.args.value; support = c.args.support } in
-    let needed : ¬ (IsNeedless g.V.Partial.below g.V.Partial.bottom (entries_of c.self.inside.values.items) e) = λ n. cc (c.if-is_needless.false, c.is_needless.ensures.1 (rw c.deref.ensures.value n)) in
+    let needed : ¬ (IsNeedless g.V.Partial.below g.V.Partial.bottom (entries_of c.self.inside.values.items) e) = λ n. cc (c.if-is_needless.false, c.is_needless.ensures.1 (rw c.deref.ensures n)) in
     λ n. absurd (needed (rw c.self.view_is n))
+
+pub invariant_of-self : goal.invariant_of-self
+invariant_of-self g c =
+    let same = c.in_err-place.ensures.same in
+    let count = ap length same in
+    record {
+      subsumed = subst (NoneSubsumed g.V.Partial.below) (sym same) c.self.invariant.subsumed;
+      alike = subst NoneAlike (sym same) c.self.invariant.alike;
+      apart = c.in_err-place.ensures.apart;
+      bare = c.in_err-place.ensures.err c.self.invariant.bare;
+      counted = omega (arith, count, c.self.invariant.counted);
+    }
 
 -- there is room for the support
 no_refusal : (g : Over) (c : goal.After-from_residual-in_err-push g) → ⊥
@@ -44,12 +73,12 @@ no_refusal g c =
     let start = c.room_for.new.values.items in
     let mid = c.drop_subsumed-emptied.new.values in
     let i = c.in_ok-place.place in
-    let x = c.index_mut.result.now in
+    let x = c.index-deref_mut-place.result in
     let values = rw c.deref_mut.ensures.value at c.drop_subsumed-emptied.ensures.values in
-    let is : x ≡ get_or mid i x = rw (written_values _ start mid c.room_for.new.values.ok.0 values) at c.index_mut.ensures.value in
+    let is : x ≡ get_or mid i x = rw (c.deref_mut-2.ensures.value, written_values (length start) start mid refl values) at c.index-deref_mut-place.is in
     let l = c.in_ok-place.ensures.place.0 in
     let kept = rw c.deref_mut.ensures.value at c.drop_subsumed-emptied.ensures.room in
-    has_room start mid i x l is (c.in_ok-place.ensures.room x) (kept i x l) c.in_err-push.ensures.full
+    cc (c.in_err-push.ensures.succeeds (rw (← c.index-deref_mut-place.is) (has_room start mid i x l is (c.in_ok-place.ensures.room x) (kept i x l))))
 
 pub invariant_of-self-in_err-push : goal.invariant_of-self-in_err-push
 invariant_of-self-in_err-push g c = absurd (no_refusal g c)
@@ -71,30 +100,41 @@ returns-in_err-push-clause-err g c = absurd (no_refusal g c)
 
 -- ---- the entry, with what those on its premises say
 
-pub drop_emptied-requires-clause-apart : goal.drop_emptied-requires-clause-apart
-drop_emptied-requires-clause-apart g c =
+fits_at : (i n size top : ℕ) → i < n → n * size < top → i * size < top
+fits_at i n size top l h = lt_of_le_of_lt (mul-le-mul_right size (le_of_lt l)) h
+
+pub offset_bounds-deref_mut-place : goal.offset_bounds-deref_mut-place
+offset_bounds-deref_mut-place g c =
     let start = c.room_for.new.values.items in
     let mid = c.drop_subsumed-emptied.new.values in
     let values = rw c.deref_mut.ensures.value at c.drop_subsumed-emptied.ensures.values in
-    let whole = written_values _ start mid c.room_for.new.values.ok.0 values in
-    let i = c.in_ok-place.place in
-    let x = c.index_mut.result.now in
-    let is : x ≡ get_or mid i x = rw whole at c.index_mut.ensures.value in
+    let same = ap length (again_is start mid c.deref_mut-2.result.now c.deref_mut-2.ensures.value values) in
     let n = length_values mid start values in
-    let l : i < length mid = omega (arith, c.in_ok-place.ensures.place.0, n) in
-    rw whole (subst (AllPairs (λ a b. a ≢ b)) (sym (values_of-set mid i _ x l (ap (λ (z : Valued _). z.value) is) ∙ values)) c.in_ok-place.ensures.apart)
+    let l : c.in_ok-place.place < length c.deref_mut-2.result.now = omega (arith, c.in_ok-place.ensures.place.0, n, same) in
+    let fits = fits_at _ _ _ _ l c.deref_mut-2.type_inv.1 in
+    omega (arith, fits)
 
-pub drop_emptied-requires-clause-bare : goal.drop_emptied-requires-clause-bare
-drop_emptied-requires-clause-bare g c left =
+pub drop_emptied-requires : goal.drop_emptied-requires
+drop_emptied-requires g c =
     let start = c.room_for.new.values.items in
     let mid = c.drop_subsumed-emptied.new.values in
+    let again = c.deref_mut-2.result.now in
     let values = rw c.deref_mut.ensures.value at c.drop_subsumed-emptied.ensures.values in
     let emptied = rw c.deref_mut.ensures.value at c.drop_subsumed-emptied.ensures.emptied in
-    let whole = written_values _ start mid c.room_for.new.values.ok.0 values in
+    let i = c.in_ok-place.place in
+    let x = c.index-deref_mut-place.result in
+    let y : Valued _ = record { value = (get_or again i x).value; supports = c.push.new.self } in
+    let whole = again_is start mid again c.deref_mut-2.ensures.value values in
+    let pushed = pushed_is start mid again i y c.deref_mut-2.ensures.value values in
     let n = length_values mid start values in
-    let l : c.in_ok-place.place < length mid = omega (arith, c.in_ok-place.ensures.place.0, n) in
-    let some : c.push.new.self.items ≢ [] = λ none. none_pushed c.index_mut.result.now.supports.items c.args.support (sym c.in_ok-push.ensures.items ∙ none) in
-    rw whole (none_bare-push start mid c.in_ok-place.place _ l n some (c.in_ok-place.ensures.others c.self.invariant.bare) (emptied left))
+    let l : i < length mid = omega (arith, c.in_ok-place.ensures.place.0, n) in
+    let some : y.supports.items ≢ [] = λ none. none_pushed (get_or again i x).supports.items c.args.support (sym c.in_ok-push.ensures.ok ∙ none) in (
+      search rules,
+      (
+        subst AreApart (sym pushed) (subst (AllPairs (λ a b. a ≢ b)) (sym (values_of-set mid i y x l (ap (λ (zs : List (Valued _)). (get_or zs i x).value) whole) ∙ values)) c.in_ok-place.ensures.apart),
+        λ left. subst NoneBare (sym pushed) (none_bare-push start mid i y l n some (c.in_ok-place.ensures.others c.self.invariant.bare) (emptied left)),
+      ),
+    )
   where
     none_pushed : {X : Type 0} (xs : List X) (x : X) → xs ++ x ∷ [] ≡ [] → ⊥
     none_pushed [] x e = absurd (cc)
@@ -111,18 +151,21 @@ grown g c =
     let start = c.room_for.new.values.items in
     let mid = c.drop_subsumed-emptied.new.values in
     let i = c.in_ok-place.place in
-    let x = c.index_mut.result.now in
-    let y : Valued _ = record { value = x.value; supports = c.push.new.self } in
-    let said : c.joined-value.result ≡ m.value = rw c.deref-3.ensures.value at c.joined-value.ensures in
+    let x = c.index-deref_mut-place.result in
+    let again = c.deref_mut-2.result.now in
+    let y : Valued _ = record { value = (get_or again i x).value; supports = c.push.new.self } in
+    let said : c.joined-value.result ≡ m.value = rw c.deref-3.ensures at c.joined-value.ensures in
     let values = rw c.deref_mut.ensures.value at c.drop_subsumed-emptied.ensures.values in
-    let whole = written_values _ start mid c.room_for.new.values.ok.0 values in
-    let is : x ≡ get_or mid i x = rw whole at c.index_mut.ensures.value in
+    let whole = again_is start mid again c.deref_mut-2.ensures.value values in
+    let pushed = pushed_is start mid again i y c.deref_mut-2.ensures.value values in
+    let at = c.index-deref_mut-place.is in
+    let is : x ≡ get_or mid i x = at ∙ ap (λ (zs : List (Valued _)). get_or zs i x) whole in
     let left : IsLeftWithout (Subsumes g.V.Partial.below m) (entries_of start) (entries_of mid) = rw (c.deref_mut.ensures.value, said) at c.drop_subsumed-emptied.ensures.kept in
-    grown_all (Subsumes g.V.Partial.below m) old (entries_of c.drop_emptied.new.values.items) m start mid i x y c.in_ok-place.ensures.same c.in_ok-place.ensures.place.0 (c.in_ok-place.ensures.place.1 x ∙ said) left values is refl c.in_ok-push.ensures.items
-    (rw whole at c.drop_emptied.ensures.same)
+    grown_all (Subsumes g.V.Partial.below m) old (entries_of c.drop_emptied.new.values.items) m start mid i x y c.in_ok-place.ensures.same c.in_ok-place.ensures.place.0 (c.in_ok-place.ensures.place.1 x ∙ said) left values is
+    (sym (ap (λ (z : Valued _). z.value) at)) (rw (← at) at c.in_ok-push.ensures.ok) (c.drop_emptied.ensures.same ∙ ap entries_of pushed)
 
 needed : (g : Over) (c : goal.After-drop_emptied g) → ¬ (IsNeedless g.V.Partial.below g.V.Partial.bottom (entries_of c.self.inside.values.items) (record { value = c.args.value; support = c.args.support }))
-needed g c = λ n. cc (c.if-is_needless.false, c.is_needless.ensures.1 (rw c.deref.ensures.value n))
+needed g c = λ n. cc (c.if-is_needless.false, c.is_needless.ensures.1 (rw c.deref.ensures n))
 
 subsumed : (g : Over) (c : goal.After-drop_emptied g) → NoneSubsumed g.V.Partial.below (entries_of c.drop_emptied.new.values.items)
 subsumed g c =
@@ -156,7 +199,7 @@ invariant_of-self-2 g c = record {
   apart = c.drop_emptied.ensures.apart;
   bare = c.drop_emptied.ensures.bare;
   counted = (
-      let counted = rw c.deref-2.ensures.value at c.count.ensures in
+      let counted = rw c.deref-2.ensures at c.count.ensures in
       omega (arith, longer g c, c.if-count.false, counted, c.self.invariant.counted)
       );
 }

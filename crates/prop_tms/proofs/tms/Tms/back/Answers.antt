@@ -1,4 +1,4 @@
-use Rattle.std.proofs.Common.{◌≡◌, ◌∙◌, false, sym, ap, subst, length, filter, arith}
+use Rattle.std.proofs.Common.{◌≡◌, ◌∙◌, false, refl, sym, ap, subst, length, filter, arith}
 use Rattle.std.proofs.lemmas.List.Kept.{AllPairs-filter}
 use Rattle.prop_premises.specs.Sets.{is_alike, is_below}
 use Rattle.prop_tms.specs.Beliefs.{Subsumes, NoneSubsumed, NoneAlike, belief_of}
@@ -13,7 +13,7 @@ left : (g : Over) (c : goal.After-drop_bare g) → entries_of c.drop_bare.new.va
 left g c =
     let kept = rw c.deref_mut.ensures.value at c.drop_from.ensures.values in
     let gone = rw c.deref_mut.ensures.value at c.drop_from.ensures.left in
-    c.drop_bare.ensures.same ∙ ap entries_of (written_values _ c.self.inside.values.items c.drop_from.new.values c.self.inside.values.ok.0 kept) ∙ gone
+    c.drop_bare.ensures.same ∙ ap entries_of (written_values (length c.self.inside.values.items) c.self.inside.values.items c.drop_from.new.values refl kept) ∙ gone
 
 pub invariant_of-self : goal.invariant_of-self
 invariant_of-self g c =
