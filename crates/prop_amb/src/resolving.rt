@@ -87,7 +87,7 @@ impl Search {
         let list = advanced(*self.list.allocator(), &self.list, place)?;
         let worldview = self.premises.worldview(&list)?;
         advance_reasons(&mut self.reasons, place, reason)?;
-        self.list = list;
+        self.list.copy_from_slice(&list);
         Ok(replace(&mut self.worldview, worldview))
     }
 }

@@ -1,20 +1,9 @@
 use Rattle.std.proofs.Common.{◌≡◌, ◌∙◌, ℕ, ◌+◌, ◌-◌, ◌<◌, List, [], ◌∷◌, ◌++◌, length, take, drop, slice_set, slice_index_or, refl, sym, ap, arith, add-one, length-drop}
 use Rattle.std.proofs.lemmas.List.{take_all}
-use Rattle.std.proofs.Math.ListN.{drop_of_length-le}
 use borrow.Rule.Slice.PartMut.{put_mid}
 use Rattle.prop_amb.specs.Moving.{no_reasons, reasons_advanced}
-use Rattle.prop_amb.proofs.ReasonLaws.{advanced_reasons}
+use Rattle.prop_amb.proofs.ReasonLaws.{put_end, advanced_reasons}
 use Rattle.prop_amb.proofs.reasons.advance_reasons.Goals as goal
-
-append_none : {A : Type 0} (xs : List A) → xs ++ [] ≡ xs
-append_none [] = refl
-append_none (x ∷ xs) = ap (λ l. x ∷ l) (append_none xs)
-
--- the end of a list with other items in its place
-put_end : {A : Type 0} (a : ℕ) (xs ys : List A) → put_mid a (length xs - a) xs ys ≡ take a xs ++ ys
-put_end a xs ys =
-    let none : drop (length xs - a) (drop a xs) ≡ [] = drop_of_length-le (drop a xs) (omega (arith, length-drop a xs)) in
-    ap (λ l. take a xs ++ l) (ap (λ l. ys ++ l) none ∙ append_none ys)
 
 put_advanced : (reasons whole later : List (List (List ℕ))) (each : List (List ℕ)) (j : ℕ) (n : List ℕ) (d : List (List ℕ)) → j < length reasons → each ≡ slice_index_or reasons j d ++ n ∷ [] → whole ≡ slice_set reasons j each →
     later ≡ no_reasons (take (length whole - (j + 1)) (drop (j + 1) whole)) → put_mid (j + 1) (length whole - (j + 1)) whole later ≡ reasons_advanced reasons j n
