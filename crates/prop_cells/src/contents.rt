@@ -91,6 +91,7 @@ pub(crate) fn gather(
 }
 
 /// Adds the premises of a lean support for a cell. Where just one entry of the cell is believed, its support is not copied.
+#[inline]
 fn unite_support(
     support: &mut PremiseSet,
     contents: &[Tms<Info>],

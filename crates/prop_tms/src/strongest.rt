@@ -131,6 +131,7 @@ fn thinned<V: Partial>(
 }
 
 /// The believed entry, if there is any; nothing where there are more than one. It looks at no entry past the second believed one.
+#[inline]
 fn sole<'a, V: Partial>(
     values: &'a [Valued<V>],
     worldview: &Worldview,
