@@ -23,5 +23,6 @@ pub mod ResolvingLaws
 pub mod RunLaws
 pub mod SearchLaws
 pub mod SettlingLaws
+pub mod Shown
 pub mod StandLaws
 pub mod ZipLemmas

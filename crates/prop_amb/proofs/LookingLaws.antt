@@ -8,7 +8,7 @@ use Rattle.prop_cells.specs.Problems.{Problem}
 use Rattle.prop_amb.specs.inner.Joined.{others_of}
 use Rattle.prop_amb.specs.Search.{Stand, IsStand, choices_in, IsSearch}
 use Rattle.prop_amb.specs.Resolving.{IsReason}
-use Rattle.prop_amb.specs.inner.Resolving.{IsShown, IsWithin}
+use Rattle.prop_amb.proofs.Shown.{IsShown, IsWithin}
 use Rattle.prop_amb.proofs.ZipLemmas.{some_same, none_some, zip_both}
 use Rattle.prop_amb.proofs.SearchLaws.{or_true_left, or_true_right, side_is_of}
 use Rattle.prop_amb.proofs.ResolvingLaws.{shown_against, within_less, within_earlier, still_shown}

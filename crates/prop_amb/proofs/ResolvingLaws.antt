@@ -9,7 +9,7 @@ use Rattle.prop_nogoods.specs.Stores.{has_part}
 use Rattle.prop_amb.specs.Refuted.{IsNogood, IsRuledOut}
 use Rattle.prop_amb.specs.inner.Joined.{IsJoined, others_of}
 use Rattle.prop_amb.specs.Search.{Stand, IsStand, users_of, choices_in, IsKept, IsSearch}
-use Rattle.prop_amb.specs.inner.Resolving.{IsShown, IsWithin}
+use Rattle.prop_amb.proofs.Shown.{IsShown, IsWithin}
 use Rattle.prop_amb.proofs.ZipLemmas.{some_same, none_some, zip_both, index_at}
 use Rattle.prop_amb.proofs.StandLaws.{users_no_sides}
 use Rattle.prop_amb.proofs.SearchLaws.{both, or_true_left, or_true_right, side_is_of, takes_own, side_below, listed_covers}

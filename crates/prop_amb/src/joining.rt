@@ -20,7 +20,7 @@ pub(crate) fn joined(
     let mut own = own;
     for reason in reasons {
         let others = reason.without(own)?;
-        joined = joined.union(&others)?;
+        joined.unite(&others)?;
         own += 1;
     }
     Ok(joined)

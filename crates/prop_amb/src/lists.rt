@@ -24,12 +24,12 @@ fn move_on(list: &mut [u8], place: usize)
     list[place + 1..].fill(1);
 }
 
-/// The list with the choice at a place on its next side, and the later ones on their first. For up to 64 choices it takes no memory.
+/// The list with the choice at a place on its next side, and the later ones on their first. For up to 32 choices it takes no memory.
 pub(crate) fn advanced(
     alloc: Global,
     list: &[u8],
     place: usize,
-) -> Result<SmallVec<u8, 64>, AllocError>
+) -> Result<SmallVec<u8, 32>, AllocError>
     requires place { place < length list.now }
     requires more { slice_index_or list.now place 0 < 255 }
     ensures { IfOk result (λ v. v.items ≡ advanced list.now place) }

@@ -7,7 +7,6 @@ ghost use Rattle.prop_amb.specs.Refuted.{IsNogood};
 ghost use Rattle.prop_amb.specs.Search.{choices_in, IsSearch};
 ghost use Rattle.prop_amb.specs.Moving.{advanced, reasons_advanced};
 ghost use Rattle.prop_amb.specs.Resolving.{MayAdvance, IsReason, IsResolved, IfAgainst};
-ghost use Rattle.prop_amb.specs.inner.Resolving.{IsShown, IsWithin, IfLeaves, IsLooked};
 
 use crate::joining::joined;
 use crate::lists::advanced;
@@ -26,15 +25,6 @@ pub enum Resolved {
     RuledOut(PremiseSet),
 }
 
-/// What a refuted set shows of one choice, where it holds no side of a later one.
-#[derive(Drop)]
-enum Looked {
-    /// The choice leaves its side, which isn't its last, for this reason.
-    Leaves(PremiseSet),
-    /// This refuted set holds no side of the choice.
-    Free(PremiseSet),
-}
-
 impl Search {
     /// What a believed nogood shows: the last choice whose side it holds leaves the side. Where that is its last side, the nogood and
     /// the reasons against the other sides, without the sides of the choice, are looked at in its place.
@@ -45,31 +35,18 @@ impl Search {
     {
         let mut set = nogood;
         for place in (0..self.list.len()).rev() {
-            match self.looked_at(place, set)? {
-                Looked::Leaves(reason) => return Ok(Resolved::Against(place, reason)),
-                Looked::Free(rest) => set = rest,
+            let choice = self.premises.choices()[place];
+            let side = self.list[place];
+            let premise = choice.first + Premise::from(side - 1);
+            if set.contains(premise) {
+                if side < choice.sides {
+                    return Ok(Resolved::Against(place, set));
+                }
+                let reasons = self.reasons[place].sets();
+                set = joined(&set, premise, reasons, choice.first)?;
             }
         }
         Ok(Resolved::RuledOut(set))
-    }
-
-    /// What a refuted set shows of the choice at a place, where it holds no side of a later one.
-    fn looked_at(&self, place: usize, set: PremiseSet) -> Result<Looked, AllocError>
-        requires { place < length self.now.list }
-        ensures may { IfOk result (λ r. IfLeaves r (MayAdvance self.now place)) }
-        ensures looked { IfOk result (λ r. (problem : Problem) → IsSearch problem self.now → IsWithin self.now (place + 1) (set_of set) → IsShown problem self.now (set_of set) → IsLooked problem self.now place r) }
-    {
-        let choice = self.premises.choices()[place];
-        let side = self.list[place];
-        let premise = choice.first + Premise::from(side - 1);
-        if !set.contains(premise) {
-            return Ok(Looked::Free(set));
-        }
-        if side < choice.sides {
-            return Ok(Looked::Leaves(set));
-        }
-        let reasons = self.reasons[place].sets();
-        Ok(Looked::Free(joined(&set, premise, reasons, choice.first)?))
     }
 
     /// The choice at a place goes to its next side, and the reason is kept against the side that it leaves. All later choices go to

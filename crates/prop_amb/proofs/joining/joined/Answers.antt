@@ -45,8 +45,8 @@ overflow_add-own c = omega (arith, c.loop-reason.invariant.counted, c.requires, 
 pub loop-reason-preserved : goal.loop-reason-preserved
 loop-reason-preserved c = record {
   counted = omega (arith, c.loop-reason.invariant.counted);
-  same = rw add-one (joined_more (set_of c.args.set.now) (set_of c.loop-reason.joined) (set_of c.in_ok-others.others) (set_of c.in_ok-joined-2.joined) c.args.premise c.args.own c.loop-reason.reason-index c.args.reasons.now c.reason-item.result c.loop-reason-test.true
-      c.loop-reason.invariant.same (λ p. c.in_ok-others.ensures p ∙ at p) c.in_ok-joined-2.ensures);
+  same = rw add-one (joined_more (set_of c.args.set.now) (set_of c.loop-reason.joined) (set_of c.in_ok-others.others) (set_of c.unite.new.self) c.args.premise c.args.own c.loop-reason.reason-index c.args.reasons.now c.reason-item.result c.loop-reason-test.true
+      c.loop-reason.invariant.same (λ p. c.in_ok-others.ensures p ∙ at p) c.in_ok-unite.ensures.ok);
 }
   where
     at : (p : ℕ) → without (set_of c.reason-item.result) c.loop-reason.own p ≡ without (set_of (slice_index_or c.args.reasons.now c.loop-reason.reason-index c.reason-item.result)) (c.args.own + c.loop-reason.reason-index) p

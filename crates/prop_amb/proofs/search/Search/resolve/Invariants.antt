@@ -4,7 +4,7 @@ use Rattle.prop_cells.specs.Problems.{Problem}
 use Rattle.prop_nogoods.specs.Stores.{has_part}
 use Rattle.prop_amb.specs.Refuted.{IsNogood}
 use Rattle.prop_amb.specs.Search.{choices_in, IsSearch}
-use Rattle.prop_amb.specs.inner.Resolving.{IsShown, IsWithin}
+use Rattle.prop_amb.proofs.Shown.{IsShown, IsWithin}
 use Rattle.prop_amb.proofs.search.Search.resolve.Given as goal
 
 abbrev pub invariant-loop-place : goal.invariant-loop-place
