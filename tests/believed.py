@@ -49,31 +49,25 @@ class Held:
         return self.of()
 
 
-def figure():
-    believed = script("tools/believed")
-    found = believed.believed()
-    if sum(found.values()) > MOST:
-        return f"{sum(found.values())} lines are more than {MOST}"
-    told = believed.total(found)
-    return None if told in text_of("docs/TRUST.md") else f"docs/TRUST.md does not tell {told}"
-
-
-def rows():
-    return set(named(text_of("docs/MEANING.md")))
-
-
-def missing():
-    lacking = sorted(f"{path}: {name}" for path, name in script("tools/believed").believed().keys() - rows())
-    return f"docs/MEANING.md does not name {'; '.join(lacking)}" if lacking else None
-
-
-def stale():
-    there = script("tools/believed").Specs().definitions
-    gone = sorted(f"{path}: {name or 'the file'}" for path, name in rows() - there.keys() - {(path, None) for path, _ in there})
-    return f"docs/MEANING.md names what there isn't: {'; '.join(gone)}" if gone else None
-
-
 def cases():
+    believed = script("tools/believed")
+    found, all_there = believed.believed(), believed.Specs().definitions
+    rows = set(named(text_of("docs/MEANING.md")))
+
+    def figure():
+        if sum(found.values()) > MOST:
+            return f"{sum(found.values())} lines are more than {MOST}"
+        told = believed.total(found)
+        return None if told in text_of("docs/TRUST.md") else f"docs/TRUST.md does not tell {told}"
+
+    def missing():
+        lacking = sorted(f"{path}: {name}" for path, name in found.keys() - rows)
+        return f"docs/MEANING.md does not name {'; '.join(lacking)}" if lacking else None
+
+    def stale():
+        gone = sorted(f"{path}: {name or 'the file'}" for path, name in rows - all_there.keys() - {(path, None) for path, _ in all_there})
+        return f"docs/MEANING.md names what there isn't: {'; '.join(gone)}" if gone else None
+
     yield Held("the figure that the documents tell", figure)
     yield Held("each definition of the headline is named", missing)
     yield Held("each name is a definition", stale)

@@ -36,11 +36,14 @@ class Case:
     # What standard error has to hold.
     told: bytes = b""
 
+    def input(self):
+        """What the program is given."""
+        return self.sent() if callable(self.sent) else self.sent
+
     def wrong(self, program):
         """What is wrong with the program's run, or None."""
-        sent = self.sent() if callable(self.sent) else self.sent
         try:
-            ran = subprocess.run([program, *self.options], input=sent, capture_output=True, timeout=SECONDS, check=False)
+            ran = subprocess.run([program, *self.options], input=self.input(), capture_output=True, timeout=SECONDS, check=False)
         except subprocess.TimeoutExpired:
             return NO_END
         return self.wrong_with(ran.returncode, ran.stdout, ran.stderr)
@@ -74,7 +77,7 @@ class ByteByByte(Case):
 
     def wrong(self, program):
         with subprocess.Popen([program], stdin=subprocess.PIPE, stdout=subprocess.PIPE, stderr=subprocess.PIPE, bufsize=0) as ran:
-            for byte in self.sent:
+            for byte in self.input():
                 ran.stdin.write(bytes([byte]))
                 time.sleep(0.001)
             output, told = ran.communicate(timeout=SECONDS)
@@ -87,7 +90,7 @@ class Unheard(Case):
     def wrong(self, program):
         read, write = os.pipe()
         os.close(read)
-        ran = subprocess.run([program], input=self.sent, stdout=write, stderr=subprocess.PIPE, timeout=SECONDS, check=False)
+        ran = subprocess.run([program], input=self.input(), stdout=write, stderr=subprocess.PIPE, timeout=SECONDS, check=False)
         os.close(write)
         return self.wrong_with(ran.returncode, b"", ran.stderr)
 

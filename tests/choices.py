@@ -131,5 +131,13 @@ class Draw(plain.Draw):
         self.act("nogoods")
 
 
+class Limited(Draw):
+    """Draws lines of which many ask, with limits that most runs use up."""
+
+    COMMANDS = [*["tell"] * 3, "kick", "bring", "bring", *["attach"] * 4, *["choose"] * 3, *["limit"] * 4, *["ask"] * 6]
+    QUESTIONS = ["ask", "ask", "why", "core", "settle", "worldview"]
+
+
 def cases():
-    return drawn.drawn(Draw, "choices", SESSIONS)
+    yield from drawn.drawn(Draw, "choices", SESSIONS)
+    yield from drawn.drawn(Limited, "choices and limited", SESSIONS)

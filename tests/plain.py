@@ -5,7 +5,7 @@ Nor does it learn anything of choices: it evaluates their lists one after the ot
 What a procedure answers is written in tests/formulas.py anew, over Python's whole numbers.
 
 An unsettled answer has to follow, and to say all that is stated of its cell. And what was answered before is still said: while no belief is taken
-away and there are no choices, no answer says less of a cell than an earlier one, or than what followed when the session was last settled.
+away, no answer says less of a cell than an earlier one, or than what followed when the session was last settled.
 """
 import random
 import re
@@ -37,7 +37,7 @@ from formulas import (
     text_of,
 )
 
-SESSIONS, ROUNDS = 1000, 200
+SESSIONS, ROUNDS = 1000, 500
 SPANS, TRUTHS, SETS, PREMISES = [f"c{i}" for i in range(5)], ["t0", "t1"], ["d0", "d1", "d2"], [f"p{i}" for i in range(4)]
 CELLS = {"s": SPANS, "t": TRUTHS, "d": SETS}
 DECLARED = [
@@ -66,6 +66,10 @@ PROCEDURES = {
 
 # From this limit on no session is cut short, and the limits that cut.
 ENOUGH, TIGHT = 10**9, [0, 1, 2, 3, 5, 8]
+
+# What is wanted of the premises that an answer names.
+ENOUGH_FOR_IT = " because believed premises that bear on it and are enough"
+REASONS = {"ask": "", "why": ENOUGH_FOR_IT, "core": ENOUGH_FOR_IT}
 
 IS_A_CHOICE, NO_SUCH_PREMISE = Exactly("error 17: is a choice"), Exactly("error 10: no such premise")
 
@@ -162,14 +166,23 @@ def answered(name, arguments):
 class Seen:
     """What the replies told so far."""
 
-    # The sets that they named as contradictions, and what they said of each cell while no belief was taken away.
+    # The sets that they named as contradictions.
     named: list = field(default_factory=list)
+    # What is said at least of each cell where these are believed, since a belief was taken away last.
     least: dict = field(default_factory=dict)
+    under: set = field(default_factory=set)
+
+    def settle(self, worldview, values):
+        """All of this was found in this worldview."""
+        self.under, self.least = worldview, values
 
     def forget(self, premise=""):
         """A belief was taken away, or what stood under a premise: no contradiction that was named with that one has to be covered from now on."""
-        self.least = {}
+        self.settle(set(), {})
         self.named = [it for it in self.named if premise not in it]
+
+    def of(self, cell, worldview):
+        return self.least.get(cell, NOTHING) if self.under <= worldview else NOTHING
 
 
 @dataclass
@@ -202,8 +215,7 @@ class Question:
         worldview = self.plain.worldview()
         if worldview is None:
             return self.is_contradiction(reply, seen)
-        if not self.plain.choices:
-            seen.least = self.plain.values(worldview)
+        seen.settle(worldview, self.plain.values(worldview))
         if self.word not in ("ask", "why", "core"):
             return reply == self.settled(worldview)
         value = self.plain.values(worldview)[self.cell]
@@ -239,18 +251,20 @@ class Question:
             return reply == "unsettled"
         said, _, reason = reply.partition(" because ")
         found = re.fullmatch(rf"{self.cell} = (.+) unsettled", said)
-        if not found or not any(self.follows(info_of(found[1]), reason, seen, worldview) for worldview in self.plain.tried()):
+        tried = self.plain.tried()
+        if not found or not any(self.follows(info_of(found[1]), reason, seen, worldview) for worldview in tried):
             return False
-        if not self.plain.choices:
-            seen.least = {**seen.least, self.cell: info_of(found[1])}
+        if len(tried) == 1:
+            seen.settle(tried[0], {**seen.least, self.cell: info_of(found[1])})
         return True
 
     def follows(self, value, reason, seen, worldview):
-        return is_below(value, self.plain.values(worldview)[self.cell]) and is_below(self.least(seen, worldview), value) and self.is_behind(reason, worldview, value)
+        least, most = self.least(seen, worldview), self.plain.values(worldview)[self.cell]
+        return is_below(least, value) and is_below(value, most) and self.is_behind(reason, worldview, value)
 
     def least(self, seen, worldview):
         """What an answer says at least of the cell: what is stated of it, and what was said before while no belief was taken away."""
-        least = NOTHING if self.plain.choices else seen.least.get(self.cell, NOTHING)
+        least = seen.of(self.cell, worldview)
         for premise, cell, info in self.plain.stated:
             if cell == self.cell and premise in worldview | {None}:
                 least = merged(least, info)
@@ -264,18 +278,21 @@ class Question:
         return premises <= worldview & self.plain.reaching()[self.cell] and is_below(value, self.plain.values(premises)[self.cell])
 
     def wanted(self, seen):
+        return self.whole() if self.plain.limit == ENOUGH else " or ".join([self.whole(), *self.unsettled(seen)])
+
+    def whole(self):
+        """What is wanted where the limit is enough."""
         worldview = self.plain.worldview()
-        settled = "contradiction: and believed premises that clash with every choice list, each of them with others" if worldview is None else self.settled(worldview)
-        reasons = {"why": " because premises that are believed, bear on the cell and are enough", "core": " because such of which none can be left out"}
-        wanted = settled + (reasons.get(self.word, "") if worldview is not None else "")
-        return wanted if self.plain.limit == ENOUGH else f"{wanted}; or {' or '.join(self.unsettled(seen))}"
+        if worldview is None:
+            return "contradiction: believed premises that clash with every choice list, each with others of them"
+        return self.settled(worldview) + REASONS.get(self.word, "") + (", none of which can be left out" if self.word == "core" else "")
 
     def unsettled(self, seen):
         """What may be answered where the limit is used up, for each choice list up to the first that doesn't clash."""
         if self.word in ("settle", "worldview"):
             return ["unsettled"]
         ends = [(self.least(seen, worldview), self.plain.values(worldview)[self.cell]) for worldview in self.plain.tried()]
-        return [f"{self.cell} = V unsettled with V from {text_of(least)} to {text_of(most)}" for least, most in ends]
+        return [f"{self.cell} = V unsettled{REASONS[self.word]}, V from {text_of(least)} to {text_of(most)}" for least, most in ends]
 
 
 class Told(drawn.Told):
@@ -343,7 +360,7 @@ class Draw(drawn.Draw):
     TOLD = Told
     COMMANDS = ["tell", "tell", "tell", "tell", "fix", "fix", "kick", "kick", "bring", "bring", "forget", "attach", "attach", "ask", "ask", "limit"]
     QUESTIONS = ["ask", "why", "core", "core", "settle"]
-    PROCEDURES, LINES = sorted(PROCEDURES), 40
+    PROCEDURES, PLACES, LINES = sorted(PROCEDURES), CELLS, 40
 
     def draw(self):
         for line in DECLARED:
@@ -355,13 +372,13 @@ class Draw(drawn.Draw):
 
     def stated(self):
         """A cell and an information for it."""
-        chance = self.chance
+        chance, places = self.chance, self.PLACES
         if chance.randrange(3) == 0:
-            return chance.choice(TRUTHS), chance.choice([YES, NO])
+            return chance.choice(places["t"]), chance.choice([YES, NO])
         if chance.randrange(3) == 0:
-            return chance.choice(SETS), frozenset(chance.sample(ELEMENTS, chance.choice([1, 2, 3])))
+            return chance.choice(places["d"]), frozenset(chance.sample(ELEMENTS, chance.choice([1, 2, 3])))
         low = chance.randrange(-6, 7)
-        return chance.choice(SPANS), (low, low + chance.choice([0, 1, 5, 20]))
+        return chance.choice(places["s"]), (low, low + chance.choice([0, 1, 5, 20]))
 
     def tell(self):
         cell, info = self.stated()
@@ -384,15 +401,40 @@ class Draw(drawn.Draw):
 
     def attach(self):
         name = self.chance.choice(self.PROCEDURES)
-        self.act("attach", name, [self.chance.choice(CELLS[kind]) for kind in PROCEDURES[name][0]])
+        self.act("attach", name, [self.chance.choice(self.PLACES[kind]) for kind in PROCEDURES[name][0]])
 
     def limit(self):
         self.act("limit", self.chance.choice([*TIGHT, ENOUGH, ENOUGH]))
 
     def ask(self):
-        cell = self.chance.choice(SPANS + TRUTHS + SETS)
+        cell = self.chance.choice(sum(self.PLACES.values(), []))
         self.act("ask", self.chance.choice(self.QUESTIONS), cell)
 
 
+class Limited(Draw):
+    """Draws lines of which many ask, with limits that most runs use up, and statements on few cells of which many hold at once."""
+
+    COMMANDS = [*["tell"] * 6, *["kick", "bring"] * 2, "forget", *["attach"] * 6, *["limit"] * 3, "rest", *["ask"] * 7]
+    QUESTIONS = ["ask", "ask", "ask", "why", "core", "settle"]
+    PROCEDURES = [*Draw.PROCEDURES, *["adder", "subtracter", "multiplier"] * 5]
+    PLACES, LIMITS, LINES = {"s": SPANS[:4], "t": TRUTHS, "d": SETS[:2]}, [0, 1, 1, 2, 2, 3, 5], 60
+
+    def stated(self):
+        cell, info = super().stated()
+        if cell in SPANS:
+            return cell, (-self.chance.randrange(10), self.chance.randrange(10))
+        return cell, dict(zip(TRUTHS, [NO, YES])).get(cell, info)
+
+    def limit(self):
+        self.act("limit", self.chance.choice(self.LIMITS))
+
+    def rest(self):
+        """All that follows is found, and then no more without steps."""
+        self.act("limit", ENOUGH)
+        self.act("ask", "settle", "")
+        self.limit()
+
+
 def cases():
-    return drawn.drawn(Draw, "plain", SESSIONS)
+    yield from drawn.drawn(Draw, "plain", SESSIONS)
+    yield from drawn.drawn(Limited, "plain and limited", SESSIONS)

@@ -53,8 +53,9 @@ def by_itself(run, lines):
     for premise in {line.split()[1] for line in lines if line.startswith("tell ")}:
         kept = [line for line in lines if not line.startswith("tell ") or line.split()[1] == premise]
         answer = run("".join(line + "\n" for line in kept).encode()).decode().splitlines()[-1]
-        value = answer.partition(" = ")[2].removesuffix(" unsettled")
-        found = merged(found, info_of(value or "contradiction"))
+        # (a premise that clashes by itself says nothing here)
+        value = answer.partition(" = ")[2].removesuffix(" unsettled") or NOTHING
+        found = merged(found, info_of(value))
     return found
 
 
@@ -95,8 +96,8 @@ class Spoiled:
 def cases():
     yield Spoiled(bring, plain.Draw, 6, "ask why core settle")
     yield Spoiled(reason, plain.Draw, 4, "why core")
-    yield Spoiled(nothing, steps.Draw, 8, "ask why core")
-    yield Spoiled(alone, steps.Draw, 12, "ask")
+    yield Spoiled(nothing, steps.Draw, 12, "ask why core")
+    yield Spoiled(alone, steps.Draw, 16, "ask")
 
 
 def main(spoil, program, *options):

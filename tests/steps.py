@@ -10,7 +10,7 @@ from dataclasses import dataclass
 import drawn
 import plain
 from drawn import Unending
-from formulas import CLASH, NO, NOTHING, YES, merged, text_of
+from formulas import CLASH, NOTHING, merged, text_of
 
 SESSIONS, MOST_STEPS = 500, 5_000
 
@@ -22,7 +22,6 @@ COMPOUNDS = {
     "not": ("tt", [("inverter", "01"), ("inverter", "10")]),
 }
 KINDS = {name: kinds for name, (kinds, _) in [*plain.PROCEDURES.items(), *COMPOUNDS.items()]}
-LIMITS = [0, 1, 1, 1, 2, 2, 3, 5, 8, 13]
 
 
 class Mixed:
@@ -94,9 +93,9 @@ class Question(plain.Question):
         return f"{self.cell} = {text_of(self.value)} unsettled"
 
     def wanted(self, seen):
-        if self.end != "unsettled" or self.word == "settle":
-            return self.end if self.word == "settle" else super().wanted(seen)
-        return self.said() + ("" if self.word == "ask" else " because premises that are believed, bear on the cell and are enough")
+        if self.end != "unsettled":
+            return self.whole()
+        return self.end if self.word == "settle" else self.said() + plain.REASONS[self.word]
 
 
 class Told(plain.Told):
@@ -129,13 +128,13 @@ class Told(plain.Told):
         self.say(word if word == "settle" else f"{word} {cell}", Question(plainly, word, cell, end, self.machine.values[cell]))
 
 
-class Draw(plain.Draw):
-    """Draws lines that take away no belief, with a limit that most runs use up."""
+class Draw(plain.Limited):
+    """Draws lines that take away no belief."""
 
     TOLD = Told
     COMMANDS = [*["tell"] * 4, "fix", *["attach"] * 5, *["limit"] * 2, *["ask"] * 5]
     QUESTIONS = ["ask", "ask", "ask", "why", "why", "settle"]
-    PROCEDURES, LINES = [*sorted(KINDS), *["adder", "sum", "sum", "same", "subtracter"] * 2], 40
+    PROCEDURES = [*sorted(KINDS), *["adder", "sum", "sum", "same", "multiplier"] * 3]
 
     def draw(self):
         for line in plain.DECLARED:
@@ -144,21 +143,11 @@ class Draw(plain.Draw):
             getattr(self, self.chance.choice(self.COMMANDS))()
         # (what is tried for a core leaves other procedures waiting, so it comes last)
         self.limit()
-        self.act("ask", self.chance.choice(["ask", "why", "core"]), self.chance.choice(plain.SPANS))
-
-    def stated(self):
-        """A cell and an information for it, of which many hold at once."""
-        cell, info = super().stated()
-        if cell in plain.SPANS:
-            return cell, (-self.chance.randrange(10), self.chance.randrange(10))
-        return cell, {plain.TRUTHS[0]: NO, plain.TRUTHS[1]: YES}.get(cell, info)
+        self.act("ask", self.chance.choice(["ask", "why", "core"]), self.chance.choice(self.PLACES["s"]))
 
     def attach(self):
         name = self.chance.choice(self.PROCEDURES)
-        self.act("attach", name, [self.chance.choice(plain.CELLS[kind]) for kind in KINDS[name]])
-
-    def limit(self):
-        self.act("limit", self.chance.choice(LIMITS))
+        self.act("attach", name, [self.chance.choice(self.PLACES[kind]) for kind in KINDS[name]])
 
 
 def cases():
