@@ -135,7 +135,7 @@ class Limited(Draw):
     """Draws lines of which many ask, with limits that most runs use up."""
 
     COMMANDS = [*["tell"] * 3, "kick", "bring", "bring", *["attach"] * 4, *["choose"] * 3, *["limit"] * 4, *["ask"] * 6]
-    QUESTIONS = ["ask", "ask", "why", "core", "settle", "worldview"]
+    QUESTIONS, LIMITS = ["ask", "ask", "why", "core", "settle", "worldview"], plain.Limited.LIMITS
 
 
 def cases():

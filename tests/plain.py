@@ -7,7 +7,6 @@ What a procedure answers is written in tests/formulas.py anew, over Python's who
 An unsettled answer has to follow, and to say all that is stated of its cell. And what was answered before is still said: while no belief is taken
 away, no answer says less of a cell than an earlier one, or than what followed when the session was last settled.
 """
-import random
 import re
 from dataclasses import dataclass, field, replace
 from itertools import product
@@ -64,8 +63,8 @@ PROCEDURES = {
     "imager by differ": ("dd", others),
 }
 
-# From this limit on no session is cut short, and the limits that cut.
-ENOUGH, TIGHT = 10**9, [0, 1, 2, 3, 5, 8]
+# From this limit on no session is cut short.
+ENOUGH = 10**9
 
 # What is wanted of the premises that an answer names.
 ENOUGH_FOR_IT = " because believed premises that bear on it and are enough"
@@ -360,7 +359,8 @@ class Draw(drawn.Draw):
     TOLD = Told
     COMMANDS = ["tell", "tell", "tell", "tell", "fix", "fix", "kick", "kick", "bring", "bring", "forget", "attach", "attach", "ask", "ask", "limit"]
     QUESTIONS = ["ask", "why", "core", "core", "settle"]
-    PROCEDURES, PLACES, LINES = sorted(PROCEDURES), CELLS, 40
+    PROCEDURES, PLACES = sorted(PROCEDURES), CELLS
+    LIMITS, LINES = [0, 1, 2, 3, 5, 8, ENOUGH, ENOUGH], 40
 
     def draw(self):
         for line in DECLARED:
@@ -404,7 +404,7 @@ class Draw(drawn.Draw):
         self.act("attach", name, [self.chance.choice(self.PLACES[kind]) for kind in PROCEDURES[name][0]])
 
     def limit(self):
-        self.act("limit", self.chance.choice([*TIGHT, ENOUGH, ENOUGH]))
+        self.act("limit", self.chance.choice(self.LIMITS))
 
     def ask(self):
         cell = self.chance.choice(sum(self.PLACES.values(), []))
@@ -417,16 +417,14 @@ class Limited(Draw):
     COMMANDS = [*["tell"] * 6, *["kick", "bring"] * 2, "forget", *["attach"] * 6, *["limit"] * 3, "rest", *["ask"] * 7]
     QUESTIONS = ["ask", "ask", "ask", "why", "core", "settle"]
     PROCEDURES = [*Draw.PROCEDURES, *["adder", "subtracter", "multiplier"] * 5]
-    PLACES, LIMITS, LINES = {"s": SPANS[:4], "t": TRUTHS, "d": SETS[:2]}, [0, 1, 1, 2, 2, 3, 5], 60
+    PLACES = {"s": SPANS[:4], "t": TRUTHS, "d": SETS[:2]}
+    LIMITS, LINES = [0, 1, 1, 2, 2, 3, 5], 60
 
     def stated(self):
         cell, info = super().stated()
         if cell in SPANS:
             return cell, (-self.chance.randrange(10), self.chance.randrange(10))
         return cell, dict(zip(TRUTHS, [NO, YES])).get(cell, info)
-
-    def limit(self):
-        self.act("limit", self.chance.choice(self.LIMITS))
 
     def rest(self):
         """All that follows is found, and then no more without steps."""
