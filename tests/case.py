@@ -7,6 +7,7 @@ from dataclasses import dataclass, field, replace
 from typing import Callable, Optional
 
 SECONDS = 60
+NO_END = f"no end in {SECONDS} seconds"
 
 # The orders in which waiting procedures may be called, as options of the program; the first is the one where none is chosen.
 ORDERS = [[], ["--order", "lifo"], ["--order", "mixed", "--seed", "7"]]
@@ -25,22 +26,26 @@ def first_difference(got, wanted):
 
 @dataclass
 class Case:
-    """A session with its wanted output: bytes, or a function that says what is wrong with an output."""
+    """A session, or a function that makes it, with its wanted output: bytes, or a function that says what is wrong with an output."""
 
     name: str
-    sent: bytes
+    sent: bytes | Callable[[], bytes]
     wanted: bytes | Callable[[bytes], Optional[str]]
     options: list = field(default_factory=list)
     status: int = 0
     # What standard error has to hold.
     told: bytes = b""
 
+    def input(self):
+        """What the program is given."""
+        return self.sent() if callable(self.sent) else self.sent
+
     def wrong(self, program):
         """What is wrong with the program's run, or None."""
         try:
-            ran = subprocess.run([program, *self.options], input=self.sent, capture_output=True, timeout=SECONDS, check=False)
+            ran = subprocess.run([program, *self.options], input=self.input(), capture_output=True, timeout=SECONDS, check=False)
         except subprocess.TimeoutExpired:
-            return f"no end in {SECONDS} seconds"
+            return NO_END
         return self.wrong_with(ran.returncode, ran.stdout, ran.stderr)
 
     def wrong_with(self, status, output, told):
@@ -72,7 +77,7 @@ class ByteByByte(Case):
 
     def wrong(self, program):
         with subprocess.Popen([program], stdin=subprocess.PIPE, stdout=subprocess.PIPE, stderr=subprocess.PIPE, bufsize=0) as ran:
-            for byte in self.sent:
+            for byte in self.input():
                 ran.stdin.write(bytes([byte]))
                 time.sleep(0.001)
             output, told = ran.communicate(timeout=SECONDS)
@@ -85,13 +90,9 @@ class Unheard(Case):
     def wrong(self, program):
         read, write = os.pipe()
         os.close(read)
-        ran = subprocess.run([program], input=self.sent, stdout=write, stderr=subprocess.PIPE, timeout=SECONDS, check=False)
+        ran = subprocess.run([program], input=self.input(), stdout=write, stderr=subprocess.PIPE, timeout=SECONDS, check=False)
         os.close(write)
         return self.wrong_with(ran.returncode, b"", ran.stderr)
-
-
-if __name__ == "__main__":
-    sys.exit("tests/run runs the cases")
 
 
 def in_each_order(cases):
@@ -99,3 +100,7 @@ def in_each_order(cases):
     for case in cases:
         for order in [[]] if "--order" in case.options else ORDERS:
             yield replace(case, name=" ".join([case.name, *order]), options=[*case.options, *order])
+
+
+if __name__ == "__main__":
+    sys.exit("tests/run runs the cases")

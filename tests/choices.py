@@ -6,7 +6,9 @@ that takes its sides. The lines cover each contradiction that was named before: 
 import re
 from dataclasses import dataclass
 
+import drawn
 import plain
+from drawn import Exactly
 from formulas import ELEMENTS, NO, YES, text_of
 
 SESSIONS, NAMES = 1000, [f"k{i}" for i in range(4)]
@@ -21,15 +23,14 @@ class Listing:
     """The command `nogoods`, of what a session was told before it."""
 
     plain: plain.Plain
-    named: list
 
-    def is_right(self, reply):
+    def is_right(self, reply, seen):
         head, *lines = reply.split("\n")
         found = [re.fullmatch(r"nogood: (.+)", line) for line in lines]
         if head != f"nogoods {len(lines)}" or None in found:
             return False
         nogoods = [plain.premises_in(it[1]) for it in found]
-        return self.are_least(nogoods) and all(map(self.is_nogood, nogoods)) and all(self.is_covered(it, nogoods) for it in self.named)
+        return self.are_least(nogoods) and all(map(self.is_nogood, nogoods)) and all(self.is_covered(it, nogoods) for it in seen.named)
 
     def are_least(self, nogoods):
         return not any(one <= other for i, one in enumerate(nogoods) for j, other in enumerate(nogoods) if i != j)
@@ -41,10 +42,32 @@ class Listing:
     def is_covered(self, premises, nogoods):
         return all(any(it <= premises | sides for it in nogoods) for sides in self.plain.lists())
 
+    def wanted(self, seen):
+        named = ", and with every list covering " + "; ".join(" ".join(sorted(it)) for it in seen.named) if seen.named else ""
+        return f"sets that clash with every list, each of premises that bear on one cell and none with another in it{named}"
 
-class Session(plain.Session):
-    """Lines that look random, with a few choices among them."""
 
+class Told(plain.Told):
+    """A session with choices."""
+
+    def choose(self, name, cell, infos):
+        line = f"choose {name} {cell} {' or '.join(map(text_of, infos))}"
+        if self.is_choice(name) or name in self.plain.known:
+            return self.say(line, Exactly("error 7: name taken"))
+        sides = [f"{name}={number}" for number in range(1, len(infos) + 1)]
+        self.plain.choices.append(sides)
+        self.plain.known += sides
+        self.plain.stated += [(side, cell, info) for side, info in zip(sides, infos)]
+        self.say(line)
+
+    def nogoods(self):
+        self.say("nogoods", Listing(self.plain.copy()))
+
+
+class Draw(plain.Draw):
+    """Draws lines with a few choices among them."""
+
+    TOLD = Told
     COMMANDS = [
         *["tell"] * 3,
         "fix",
@@ -60,10 +83,13 @@ class Session(plain.Session):
     PROCEDURES = [*sorted(plain.PROCEDURES), *["imager by differ", "inverter", "comparer"] * 3]
     CELLS, LINES = CELLS, 50
 
-    def __init__(self, number):
+    def __init__(self, number, options):
         if number % 2:
             self.CELLS, self.PROCEDURES = FEW_CELLS, FEW_PROCEDURES
-        super().__init__(number)
+        super().__init__(number, options)
+
+    def draw(self):
+        super().draw()
         self.nogoods()
 
     def stated(self):
@@ -79,14 +105,9 @@ class Session(plain.Session):
     def choose(self):
         """A new choice while there are names for one."""
         name, cell = self.chance.choice(NAMES), self.chance.choice(self.CELLS)
-        if self.is_choice(name):
-            return
-        infos = [self.info(cell, [1, 1, 1, 2]) for _ in range(self.chance.choice([2, 2, 3, 3, 4]))]
-        sides = [f"{name}={number}" for number in range(1, len(infos) + 1)]
-        self.plain.choices.append(sides)
-        self.plain.known += sides
-        self.plain.stated += [(side, cell, info) for side, info in zip(sides, infos)]
-        self.say(f"choose {name} {cell} {' or '.join(map(text_of, infos))}")
+        if not self.told.is_choice(name):
+            infos = [self.info(cell, [1, 1, 1, 2]) for _ in range(self.chance.choice([2, 2, 3, 3, 4]))]
+            self.act("choose", name, cell, infos)
 
     def info(self, cell, sizes):
         """An information for the cell; for an element so many of which it is one."""
@@ -97,21 +118,26 @@ class Session(plain.Session):
         low = self.chance.randrange(-6, 7)
         return (low, low + self.chance.choice([0, 0, 1, 5]))
 
-    def is_choice(self, name):
-        return f"{name}=1" in self.plain.known
-
     def refused(self):
         """A line that takes a choice's name for a premise's, or that takes a name twice."""
         premise, choice = self.chance.choice(plain.PREMISES), self.chance.choice(NAMES)
-        line, refusal = self.chance.choice([("kick {}", 17), ("bring {}", 17), ("forget {}", 17), ("tell {} t0 yes", 17), ("choose {} t0 yes or no", 7)])
-        if self.is_choice(choice):
-            self.say(line.format(choice), lambda reply: reply == {17: "error 17: is a choice", 7: "error 7: name taken"}[refusal])
-        elif premise in self.plain.known:
-            self.say(f"choose {premise} t0 yes or no", lambda reply: reply == "error 7: name taken")
+        act = self.chance.choice([("kick", choice), ("bring", choice), ("forget", choice), ("tell", choice, "t0", YES), ("choose", choice, "t0", [YES, NO])])
+        if self.told.is_choice(choice):
+            self.act(*act)
+        elif premise in self.told.plain.known:
+            self.act("choose", premise, "t0", [YES, NO])
 
     def nogoods(self):
-        self.say("nogoods", Listing(self.plain.copy(), self.named).is_right)
+        self.act("nogoods")
+
+
+class Limited(Draw):
+    """Draws lines of which many ask, with limits that most runs use up."""
+
+    COMMANDS = [*["tell"] * 3, "kick", "bring", "bring", *["attach"] * 4, *["choose"] * 3, *["limit"] * 4, *["ask"] * 6]
+    QUESTIONS, LIMITS = ["ask", "ask", "why", "core", "settle", "worldview"], plain.Limited.LIMITS
 
 
 def cases():
-    yield from plain.made(Session, "choices", SESSIONS)
+    yield from drawn.drawn(Draw, "choices", SESSIONS)
+    yield from drawn.drawn(Limited, "choices and limited", SESSIONS)

@@ -1,4 +1,4 @@
-#!/usr/bin/env python3
+#!/usr/bin/python3
 """Cores among many premises: that none of their premises can be left out, and what that takes.
 
 usage: tests/cores.py PROGRAM

@@ -1,6 +1,7 @@
 """Sessions that are made: large ones, command lines, devices that fail."""
 import os
 import re
+from functools import partial
 
 from case import ORDERS, ByteByByte, Case, OnDevices, Unheard
 
@@ -90,16 +91,17 @@ def limits():
         ("symbols", 100_000, [f"cell c{n} symbol" for n in range(101)], lambda n: f"fix c{n // 1_000} s{n}"),
         ("choices", 64, ["cell a span"], lambda n: f"choose k{n} a 1 or 2"),
     ]:
-        yield Case(
-            f"limits: {word}",
-            sent(*before, *map(line, range(most + 1)), line(most), "cell last span", line(0)),
-            lambda output, word=word, most=most, before=before: wrong_at_limit(output.decode().splitlines(), word, most + len(before)),
-        )
+        yield Case(f"limits: {word}", partial(up_to, most, before, line), partial(wrong_at_limit, word, most + len(before)))
 
 
-def wrong_at_limit(replies, word, taken):
+def up_to(most, before, line):
+    """What stands before, so many lines and one too many, twice, a cell, and the first line again."""
+    return sent(*before, *map(line, range(most + 1)), line(most), "cell last span", line(0))
+
+
+def wrong_at_limit(word, taken, output):
     """What is wrong with the replies, of which so many are to be `ok` and the two behind them refusals."""
-    refusal = f"error 16: limit reached: {word}"
+    replies, refusal = output.decode().splitlines(), f"error 16: limit reached: {word}"
     if replies[:taken] != ["ok"] * taken:
         return f"not all of the first {taken} replies are ok"
     if replies[taken : taken + 2] != [refusal, refusal]:

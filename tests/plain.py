@@ -3,13 +3,16 @@
 The evaluation knows no entries, supports or agenda: it merges the believed statements and calls each procedure in turn until nothing changes.
 Nor does it learn anything of choices: it evaluates their lists one after the other, the first sides first.
 What a procedure answers is written in tests/formulas.py anew, over Python's whole numbers.
+
+An unsettled answer has to follow, and to say all that is stated of its cell. And what was answered before is still said: while no belief is taken
+away, no answer says less of a cell than an earlier one, or than what followed when the session was last settled.
 """
-import random
 import re
 from dataclasses import dataclass, field, replace
 from itertools import product
 
-from case import Case
+import drawn
+from drawn import OK, Exactly, Unending
 from formulas import (
     CLASH,
     ELEMENTS,
@@ -33,7 +36,7 @@ from formulas import (
     text_of,
 )
 
-SESSIONS, ROUNDS = 1000, 200
+SESSIONS, ROUNDS = 1000, 500
 SPANS, TRUTHS, SETS, PREMISES = [f"c{i}" for i in range(5)], ["t0", "t1"], ["d0", "d1", "d2"], [f"p{i}" for i in range(4)]
 CELLS = {"s": SPANS, "t": TRUTHS, "d": SETS}
 DECLARED = [
@@ -60,12 +63,14 @@ PROCEDURES = {
     "imager by differ": ("dd", others),
 }
 
-# From this limit on no session is cut short, and the limits that cut.
-ENOUGH, TIGHT = 10**9, [0, 1, 2, 3, 5, 8]
+# From this limit on no session is cut short.
+ENOUGH = 10**9
 
+# What is wanted of the premises that an answer names.
+ENOUGH_FOR_IT = " because believed premises that bear on it and are enough"
+REASONS = {"ask": "", "why": ENOUGH_FOR_IT, "core": ENOUGH_FOR_IT}
 
-class Unending(Exception):
-    """The evaluation takes too many rounds to wait for."""
+IS_A_CHOICE, NO_SUCH_PREMISE = Exactly("error 17: is a choice"), Exactly("error 10: no such premise")
 
 
 @dataclass
@@ -156,6 +161,40 @@ def answered(name, arguments):
     return NOTHING if NOTHING in arguments else PROCEDURES[name][1](*arguments)
 
 
+@dataclass
+class Seen:
+    """What the replies told so far."""
+
+    # The sets that they named as contradictions.
+    named: list = field(default_factory=list)
+    # What is said at least of each cell where these are believed, since a belief was taken away last.
+    least: dict = field(default_factory=dict)
+    under: set = field(default_factory=set)
+
+    def settle(self, worldview, values):
+        """All of this was found in this worldview."""
+        self.under, self.least = worldview, values
+
+    def forget(self, premise=""):
+        """A belief was taken away, or what stood under a premise: no contradiction that was named with that one has to be covered from now on."""
+        self.settle(set(), {})
+        self.named = [it for it in self.named if premise not in it]
+
+    def of(self, cell, worldview):
+        return self.least.get(cell, NOTHING) if self.under <= worldview else NOTHING
+
+
+@dataclass
+class Fewer(Exactly):
+    """The reply to a line that takes a belief away, or what stands under a premise."""
+
+    forgotten: str = ""
+
+    def is_right(self, reply, seen):
+        seen.forget(self.forgotten)
+        return super().is_right(reply, seen)
+
+
 def premises_in(text):
     return set() if text == "no premise" else set(text.split())
 
@@ -167,55 +206,68 @@ class Question:
     plain: Plain
     word: str
     cell: str
-    # The sets that the replies before this one named as contradictions.
-    named: list
 
-    def is_right(self, reply):
+    def is_right(self, reply, seen):
         """Whether the reply says what follows, and names premises that are believed and enough for it."""
         if "unsettled" in reply:
-            return self.plain.limit < ENOUGH and self.is_unsettled(reply)
+            return self.plain.limit < ENOUGH and self.is_unsettled(reply, seen)
         worldview = self.plain.worldview()
         if worldview is None:
-            return self.is_contradiction(reply)
+            return self.is_contradiction(reply, seen)
+        seen.settle(worldview, self.plain.values(worldview))
+        if self.word not in ("ask", "why", "core"):
+            return reply == self.settled(worldview)
+        value = self.plain.values(worldview)[self.cell]
+        said, _, reason = reply.partition(" because ")
+        if self.word == "core" and said == f"{self.settled(worldview)} not reduced":
+            return self.plain.limit < ENOUGH and self.is_behind(reason, worldview, value)
+        return said == self.settled(worldview) and self.is_behind(reason, worldview, value) and (self.word != "core" or self.is_least(reason, value))
+
+    def settled(self, worldview):
+        """What is answered in this worldview, without a reason."""
+        if self.word == "settle":
+            return "settled"
         if self.word == "worldview":
             outside = [it for it in self.plain.known if it not in worldview]
             inside = [it for it in self.plain.known if it in worldview]
-            return reply == "\n".join([" ".join(["in:", *inside]), " ".join(["out:", *outside])])
-        if self.word == "settle":
-            return reply == "settled"
-        value = self.plain.values(worldview)[self.cell]
-        said, _, reason = reply.partition(" because ")
-        settled = f"{self.cell} = {text_of(value)}"
-        if self.word == "core" and said == f"{settled} not reduced":
-            return self.plain.limit < ENOUGH and self.is_behind(reason, worldview, value)
-        return said == settled and self.is_behind(reason, worldview, value) and (self.word != "core" or self.is_least(reason, value))
+            return "\n".join([" ".join(["in:", *inside]), " ".join(["out:", *outside])])
+        return f"{self.cell} = {text_of(self.plain.values(worldview)[self.cell])}"
 
     def is_least(self, reason, value):
         """Whether none of the premises can be left out."""
         premises = premises_in(reason)
         return not any(is_below(value, self.plain.values(premises - {it})[self.cell]) for it in premises)
 
-    def is_contradiction(self, reply):
+    def is_contradiction(self, reply, seen):
         head, _, reason = reply.partition(": ")
         reason = premises_in(reason)
-        self.named.append(reason)
+        seen.named.append(reason)
         return head == "contradiction" and reason <= self.plain.believed and self.plain.refutes(reason) and self.plain.are_at_odds(reason)
 
-    def is_unsettled(self, reply):
-        """Whether all that the reply says is entailed by one choice list, before which every other is refuted."""
+    def is_unsettled(self, reply, seen):
+        """Whether all that the reply says is entailed by one choice list, before which every other is refuted, and is no less than what was said before."""
         if self.word in ("settle", "worldview"):
             return reply == "unsettled"
         said, _, reason = reply.partition(" because ")
         found = re.fullmatch(rf"{self.cell} = (.+) unsettled", said)
-        return bool(found) and any(self.follows(info_of(found[1]), reason, worldview) for worldview in self.plain.tried())
+        tried = self.plain.tried()
+        if not found or not any(self.follows(info_of(found[1]), reason, seen, worldview) for worldview in tried):
+            return False
+        if len(tried) == 1:
+            seen.settle(tried[0], {**seen.least, self.cell: info_of(found[1])})
+        return True
 
-    def follows(self, value, reason, worldview):
-        stated = [info for premise, cell, info in self.plain.stated if cell == self.cell and premise in worldview | {None}]
-        return (
-            is_below(value, self.plain.values(worldview)[self.cell])
-            and all(is_below(info, value) for info in stated)
-            and self.is_behind(reason, worldview, value)
-        )
+    def follows(self, value, reason, seen, worldview):
+        least, most = self.least(seen, worldview), self.plain.values(worldview)[self.cell]
+        return is_below(least, value) and is_below(value, most) and self.is_behind(reason, worldview, value)
+
+    def least(self, seen, worldview):
+        """What an answer says at least of the cell: what is stated of it, and what was said before while no belief was taken away."""
+        least = seen.of(self.cell, worldview)
+        for premise, cell, info in self.plain.stated:
+            if cell == self.cell and premise in worldview | {None}:
+                least = merged(least, info)
+        return least
 
     def is_behind(self, reason, worldview, value):
         """Whether the reason is one where one is asked for: it is believed, bears on the cell, and is enough for the value."""
@@ -224,127 +276,163 @@ class Question:
         premises = premises_in(reason)
         return premises <= worldview & self.plain.reaching()[self.cell] and is_below(value, self.plain.values(premises)[self.cell])
 
+    def wanted(self, seen):
+        return self.whole() if self.plain.limit == ENOUGH else " or ".join([self.whole(), *self.unsettled(seen)])
 
-def replies_of(output):
-    """The replies in an output, each with all its lines."""
-    lines = iter(output.decode().splitlines())
-    for line in lines:
-        counted = re.fullmatch(r"nogoods (\d+)", line)
-        more = int(counted[1]) if counted else line.startswith("in:")
-        yield "\n".join([line, *(next(lines, "") for _ in range(more))])
+    def whole(self):
+        """What is wanted where the limit is enough."""
+        worldview = self.plain.worldview()
+        if worldview is None:
+            return "contradiction: believed premises that clash with every choice list, each with others of them"
+        return self.settled(worldview) + REASONS.get(self.word, "") + (", none of which can be left out" if self.word == "core" else "")
+
+    def unsettled(self, seen):
+        """What may be answered where the limit is used up, for each choice list up to the first that doesn't clash."""
+        if self.word in ("settle", "worldview"):
+            return ["unsettled"]
+        ends = [(self.least(seen, worldview), self.plain.values(worldview)[self.cell]) for worldview in self.plain.tried()]
+        return [f"{self.cell} = V unsettled{REASONS[self.word]}, V from {text_of(least)} to {text_of(most)}" for least, most in ends]
 
 
-class Session:
-    """Lines that look random, with what each of their replies has to be."""
+class Told(drawn.Told):
+    """A session over the cells that are declared."""
 
-    COMMANDS = ["tell", "tell", "tell", "tell", "fix", "fix", "kick", "kick", "bring", "bring", "forget", "attach", "attach", "ask", "ask", "limit"]
-    QUESTIONS = ["ask", "why", "core", "core", "settle"]
-    PROCEDURES, LINES = sorted(PROCEDURES), 40
+    SEEN = Seen
 
-    def __init__(self, number):
-        self.chance, self.plain = random.Random(number), Plain()
-        self.lines, self.checks, self.named = [], [], []
-        for line in DECLARED:
-            self.say(line)
-        for _ in range(self.chance.randrange(self.LINES)):
-            getattr(self, self.chance.choice(self.COMMANDS))()
-        self.say("limit 1000000000")
-        self.plain.limit = ENOUGH
-        self.ask()
+    def __init__(self, options):
+        super().__init__(options)
+        self.plain = Plain()
 
-    def say(self, line, check=lambda reply: reply == "ok"):
-        self.lines.append(line)
-        self.checks.append(check)
-
-    def stated(self):
-        """A cell and an information for it."""
-        chance = self.chance
-        if chance.randrange(3) == 0:
-            return chance.choice(TRUTHS), chance.choice([YES, NO])
-        if chance.randrange(3) == 0:
-            return chance.choice(SETS), frozenset(chance.sample(ELEMENTS, chance.choice([1, 2, 3])))
-        low = chance.randrange(-6, 7)
-        return chance.choice(SPANS), (low, low + chance.choice([0, 1, 5, 20]))
-
-    def tell(self):
-        (cell, info), premise = self.stated(), self.chance.choice(PREMISES)
+    def tell(self, premise, cell, info):
+        line = f"tell {premise} {cell} {text_of(info)}"
+        if self.is_choice(premise):
+            return self.say(line, IS_A_CHOICE)
         self.plain.stated.append((premise, cell, info))
         if premise not in self.plain.known:
             self.plain.known.append(premise)
             self.plain.believed.add(premise)
-        self.say(f"tell {premise} {cell} {text_of(info)}")
+        self.say(line)
+
+    def is_choice(self, name):
+        return f"{name}=1" in self.plain.known
+
+    def fix(self, cell, info):
+        self.plain.stated.append((None, cell, info))
+        self.say(f"fix {cell} {text_of(info)}")
+
+    def of_premise(self, word, premise, reply):
+        """Says a line of the premise alone, and whether it isn't refused."""
+        refusal = IS_A_CHOICE if self.is_choice(premise) else None if premise in self.plain.known else NO_SUCH_PREMISE
+        self.say(f"{word} {premise}", refusal or reply)
+        return not refusal
+
+    def kick(self, premise):
+        if self.of_premise("kick", premise, Fewer("ok")):
+            self.plain.believed.discard(premise)
+
+    def bring(self, premise):
+        if self.of_premise("bring", premise, OK):
+            self.plain.believed.add(premise)
+
+    def forget(self, premise):
+        if self.of_premise("forget", premise, Fewer("ok", premise)):
+            self.plain.stated = [it for it in self.plain.stated if it[0] != premise]
+
+    def attach(self, name, cells):
+        self.plain.attached.append((name, cells[:-1], cells[-1]))
+        word, *by = name.split(" ", 1)
+        self.say(" ".join(["attach", word, *cells, *by]))
+
+    def limit(self, limit):
+        self.plain.limit = limit
+        self.say(f"limit {limit}")
+
+    def ask(self, word, cell):
+        question = Question(self.plain.copy(), word, cell)
+        question.plain.worldview()
+        self.say(word if word in ("settle", "worldview") else f"{word} {cell}", question)
+
+
+class Draw(drawn.Draw):
+    """Draws lines of every kind but of choices."""
+
+    TOLD = Told
+    COMMANDS = ["tell", "tell", "tell", "tell", "fix", "fix", "kick", "kick", "bring", "bring", "forget", "attach", "attach", "ask", "ask", "limit"]
+    QUESTIONS = ["ask", "why", "core", "core", "settle"]
+    PROCEDURES, PLACES = sorted(PROCEDURES), CELLS
+    LIMITS, LINES = [0, 1, 2, 3, 5, 8, ENOUGH, ENOUGH], 40
+
+    def draw(self):
+        for line in DECLARED:
+            self.act("declare", line)
+        for _ in range(self.chance.randrange(self.LINES)):
+            getattr(self, self.chance.choice(self.COMMANDS))()
+        self.act("limit", ENOUGH)
+        self.ask()
+
+    def stated(self):
+        """A cell and an information for it."""
+        chance, places = self.chance, self.PLACES
+        if chance.randrange(3) == 0:
+            return chance.choice(places["t"]), chance.choice([YES, NO])
+        if chance.randrange(3) == 0:
+            return chance.choice(places["d"]), frozenset(chance.sample(ELEMENTS, chance.choice([1, 2, 3])))
+        low = chance.randrange(-6, 7)
+        return chance.choice(places["s"]), (low, low + chance.choice([0, 1, 5, 20]))
+
+    def tell(self):
+        cell, info = self.stated()
+        self.act("tell", self.chance.choice(PREMISES), cell, info)
 
     def fix(self):
         cell, info = self.stated()
         if isinstance(info, tuple):
             info = (info[0] - 15, info[1] + 15)
-        self.plain.stated.append((None, cell, info))
-        self.say(f"fix {cell} {text_of(info)}")
-
-    def believe(self, word, change):
-        premise = self.chance.choice(PREMISES)
-        if premise in self.plain.known:
-            change(premise)
-            self.say(f"{word} {premise}")
-        else:
-            self.say(f"{word} {premise}", lambda reply: reply == "error 10: no such premise")
+        self.act("fix", cell, info)
 
     def kick(self):
-        self.believe("kick", self.plain.believed.discard)
+        self.act("kick", self.chance.choice(PREMISES))
 
     def bring(self):
-        self.believe("bring", self.plain.believed.add)
+        self.act("bring", self.chance.choice(PREMISES))
 
     def forget(self):
-        premise = self.chance.choice(PREMISES)
-        if premise in self.plain.known:
-            self.plain.stated = [it for it in self.plain.stated if it[0] != premise]
-            self.say(f"forget {premise}", lambda reply: self.unname(premise) and reply == "ok")
-        else:
-            self.say(f"forget {premise}", lambda reply: reply == "error 10: no such premise")
-
-    def unname(self, premise):
-        """No contradiction that was named with the premise has to be covered from now on."""
-        self.named[:] = [it for it in self.named if premise not in it]
-        return True
+        self.act("forget", self.chance.choice(PREMISES))
 
     def attach(self):
         name = self.chance.choice(self.PROCEDURES)
-        cells = [self.chance.choice(CELLS[kind]) for kind in PROCEDURES[name][0]]
-        self.plain.attached.append((name, cells[:-1], cells[-1]))
-        word, *by = name.split(" ", 1)
-        self.say(" ".join(["attach", word, *cells, *by]))
+        self.act("attach", name, [self.chance.choice(self.PLACES[kind]) for kind in PROCEDURES[name][0]])
 
     def limit(self):
-        self.plain.limit = self.chance.choice([*TIGHT, ENOUGH, ENOUGH])
-        self.say(f"limit {self.plain.limit}")
+        self.act("limit", self.chance.choice(self.LIMITS))
 
     def ask(self):
-        question = Question(self.plain.copy(), cell=self.chance.choice(SPANS + TRUTHS + SETS), word=self.chance.choice(self.QUESTIONS), named=self.named)
-        question.plain.worldview()
-        self.say(question.word if question.word in ("settle", "worldview") else f"{question.word} {question.cell}", question.is_right)
-
-    def wrong(self, output):
-        """The first reply that is not right, or None."""
-        replies = list(replies_of(output))
-        self.named.clear()
-        if len(replies) != len(self.lines):
-            return f"{len(replies)} replies to {len(self.lines)} lines"
-        for line, reply, check in zip(self.lines, replies, self.checks):
-            if not check(reply):
-                return f"{line!r} is answered by {reply!r}, in\n" + "\n".join(self.lines)
-        return None
+        cell = self.chance.choice(sum(self.PLACES.values(), []))
+        self.act("ask", self.chance.choice(self.QUESTIONS), cell)
 
 
-def made(kind, name, count):
-    """So many sessions of this kind, without those whose evaluation doesn't end."""
-    for number in range(count):
-        try:
-            session = kind(number)
-        except Unending:
-            continue
-        yield Case(f"{name}: random session {number}", "".join(line + "\n" for line in session.lines).encode(), session.wrong)
+class Limited(Draw):
+    """Draws lines of which many ask, with limits that most runs use up, and statements on few cells of which many hold at once."""
+
+    COMMANDS = [*["tell"] * 6, *["kick", "bring"] * 2, "forget", *["attach"] * 6, *["limit"] * 3, "rest", *["ask"] * 7]
+    QUESTIONS = ["ask", "ask", "ask", "why", "core", "settle"]
+    PROCEDURES = [*Draw.PROCEDURES, *["adder", "subtracter", "multiplier"] * 5]
+    PLACES = {"s": SPANS[:4], "t": TRUTHS, "d": SETS[:2]}
+    LIMITS, LINES = [0, 1, 1, 2, 2, 3, 5], 60
+
+    def stated(self):
+        cell, info = super().stated()
+        if cell in SPANS:
+            return cell, (-self.chance.randrange(10), self.chance.randrange(10))
+        return cell, dict(zip(TRUTHS, [NO, YES])).get(cell, info)
+
+    def rest(self):
+        """All that follows is found, and then no more without steps."""
+        self.act("limit", ENOUGH)
+        self.act("ask", "settle", "")
+        self.limit()
 
 
 def cases():
-    yield from made(Session, "plain", SESSIONS)
+    yield from drawn.drawn(Draw, "plain", SESSIONS)
+    yield from drawn.drawn(Limited, "plain and limited", SESSIONS)

@@ -1,4 +1,4 @@
-#!/usr/bin/env python3
+#!/usr/bin/python3
 """Worked sessions in which what they ask the machine for is refused: memory, a read, a write; or whose input is cut.
 
 usage: tests/refusals.py PROGRAM SESSION

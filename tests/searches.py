@@ -1,4 +1,4 @@
-#!/usr/bin/env python3
+#!/usr/bin/python3
 """Puzzles as sessions of choices: that each is solved, and what its search takes.
 
 usage: tests/searches.py PROGRAM [NAME ..]
