@@ -1,7 +1,9 @@
 """One run of the program: what it is given, and what it has to write."""
 import os
+import resource
 import subprocess
 import sys
+import tempfile
 import time
 from dataclasses import dataclass, field, replace
 from typing import Callable, Optional
@@ -70,6 +72,29 @@ class OnDevices(Case):
         os.close(reads)
         os.close(writes)
         return self.wrong_with(ran.returncode, b"", ran.stderr)
+
+
+# How many bytes a file may have that may not grow further.
+FILE_LIMIT = 1_000
+
+
+class OnAFullFile(Case):
+    """A run into a file that may not grow further, under a caller that ignores the signal for it: so does Python, and it hands that on."""
+
+    def wrong(self, program):
+        with tempfile.TemporaryFile() as file:
+            ran = subprocess.run(
+                [program],
+                input=self.input(),
+                stdout=file,
+                stderr=subprocess.PIPE,
+                timeout=SECONDS,
+                check=False,
+                restore_signals=False,
+                preexec_fn=lambda: resource.setrlimit(resource.RLIMIT_FSIZE, (FILE_LIMIT, FILE_LIMIT)),
+            )
+            file.seek(0)
+            return self.wrong_with(ran.returncode, file.read(), ran.stderr)
 
 
 class ByteByByte(Case):

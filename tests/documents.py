@@ -1,8 +1,10 @@
-"""The sessions of the documents: each block of lines that are indented by four spaces and begin with a command.
+"""What the documents show: sessions, which are run, and the code of a host, which has to be there.
 
-The replies to a line stand under it; where none stands there, it is answered `ok`. The blocks of one document are one session. A table
-whose head says Example and Answer has sessions too: see `examples`.
+A session is a block of lines that are indented by four spaces and begin with a command. The replies
+to a line stand under it; where none stands there, it is answered `ok`. The blocks of one document
+are one session. The examples in LANGUAGE's tables are no sessions: they stand among the worked ones.
 """
+import glob
 import os
 import re
 
@@ -40,6 +42,25 @@ def session(text):
 
 def as_bytes(lines):
     return "".join(line + "\n" for line in lines).encode()
+
+
+def stripped(lines):
+    return [line.strip() for line in lines if line.strip()]
+
+
+def code_shown():
+    """What docs/HOSTING.md shows as code that stands nowhere in the crate of the host, or None."""
+    texts = []
+    for path in glob.glob(f"{TOP}/crates/prop_host_tests/**/*", recursive=True):
+        if path.endswith((".rt", ".antt", ".edit")) and "/out/" not in path:
+            with open(path, encoding="utf-8") as it:
+                texts.append("\n".join(stripped(it)))
+    with open(f"{TOP}/docs/HOSTING.md", encoding="utf-8") as it:
+        shown = re.findall(r"(?:^    .*\n)+", it.read(), flags=re.M)
+    for block in (stripped(each.splitlines()) for each in shown):
+        if not any("\n".join(block) in text for text in texts):
+            return f"docs/HOSTING.md shows what crates/prop_host_tests does not have: {block[0]}"
+    return None
 
 
 def cases():

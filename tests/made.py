@@ -3,7 +3,7 @@ import os
 import re
 from functools import partial
 
-from case import ORDERS, ByteByByte, Case, OnDevices, Unheard
+from case import FILE_LIMIT, ORDERS, ByteByByte, Case, OnAFullFile, OnDevices, Unheard
 
 # (a session that says something)
 FIRST = os.path.join(os.path.dirname(os.path.realpath(__file__)), "..", "examples", "first.prop")
@@ -218,6 +218,7 @@ def wrong_in_loop(output):
 def devices():
     yield OnDevices("devices: a reader that fails", "/", "/dev/null", 2, b"propbench: read fault\n")
     yield OnDevices("devices: a writer that is full", FIRST, "/dev/full", 2, b"propbench: write fault\n")
+    yield OnAFullFile("devices: a file that may not grow further", b"ask x\n" * 100, (b"error 9: no such cell\n" * 100)[:FILE_LIMIT], status=2, told=b"propbench: write fault\n")
     yield Unheard("devices: a writer that nobody reads", b"settle\n", b"", status=2, told=b"propbench: write fault\n")
     yield ByteByByte("devices: a reader of one byte at a time", b"cell x span\r\n\nfix x 3..5\nask x\ngo", b"ok\nok\nx = 3..5\nerror 3: unknown command\n")
 

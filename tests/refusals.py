@@ -18,8 +18,9 @@ from case import SECONDS, first_difference
 from transcripts import Transcript
 
 # Stands before the C library: the Nth request for memory, the Nth read of standard input or the Nth write to standard output is refused where
-# REFUSED is mN, rN or wN; with rN a read brings one byte, with nN the Nth write takes nothing, with s1 each write takes a half. With cN the requests for memory are counted, and told on
-# standard error at the end. All else goes to the C library. It needs no header.
+# REFUSED is mN, rN or wN; with rN a read brings one byte, with nN the Nth write takes nothing, with s1 each write takes a half. With aN the Nth read would have to wait, with bN the Nth
+# write; with iN a signal interrupts each read and each write N times before it is carried out. With cN the requests for memory are counted, and told on standard error at the end. All else
+# goes to the C library. It needs no header.
 STANDING_BEFORE = r"""
 typedef unsigned long size;
 void *__libc_malloc(size); void *__libc_realloc(void *, size);
@@ -50,14 +51,28 @@ __attribute__((destructor)) static void tell(void) {
     if (kind == 'c') __write(2, begin, digits + 21 - begin);
 }
 
+/* whether a signal comes before this call is carried out */
+static int is_interrupted(void) {
+    static long tries;
+    is_refused(0);
+    return kind == 'i' && tries++ % (at + 1) != at;
+}
+
 static long failed(int why) { *__errno_location() = why; return -1; }
 
 void *malloc(size n) { is_refused('c'); return is_refused('m') ? (failed(12), (void *)0) : __libc_malloc(n); }
 void *realloc(void *p, size n) { is_refused('c'); return is_refused('m') ? (failed(12), (void *)0) : __libc_realloc(p, n); }
-long read(int f, void *to, size n) { return f == 0 && is_refused('r') ? failed(5) : __read(f, to, kind == 'r' && n ? 1 : n); }
+long read(int f, void *to, size n) {
+    if (f != 0) return __read(f, to, n);
+    if (is_interrupted()) return failed(4);
+    if (is_refused('r')) return failed(5);
+    return is_refused('a') ? failed(11) : __read(f, to, (kind == 'r' || kind == 'a') && n ? 1 : n);
+}
 long write(int f, const void *from, size n) {
     if (f != 1) return __write(f, from, n);
+    if (is_interrupted()) return failed(4);
     if (is_refused('w')) return failed(5);
+    if (is_refused('b')) return failed(11);
     return kind == 'n' && is_refused('n') ? 0 : __write(f, from, kind == 's' && n > 1 ? n / 2 : n);
 }
 """
@@ -152,30 +167,45 @@ def requests(program, lines):
 class EachRead(Refusals):
     """The input comes byte by byte, and each read fails in turn: the lines that came whole have their replies, and no other is carried out."""
 
+    kind = "r"
+
     def numbers(self, program):
         return range(1, len(b"".join(self.session.lines())) + 2)
 
     def wrong_at(self, program, number):
         came = b"".join(self.session.lines())[: number - 1]
         wanted = b"".join(self.session.replies()[: came.count(b"\n")])
-        status, output, told = run(program, self.session.lines(), f"r{number}")
+        status, output, told = run(program, self.session.lines(), f"{self.kind}{number}")
         return first_difference(output, wanted) if (status, told) == (2, b"propbench: read fault\n") else f"the status is {status}, it said {told!r}"
 
 
+class EachReadThatWouldWait(EachRead):
+    """The same where each read in turn would have to wait: it is a fault as any other, and is not tried again."""
+
+    kind = "a"
+
+
 class EachWrite(Refusals):
-    """Each write fails in turn, or takes nothing: the replies before it were written."""
+    """Each write fails in turn, or takes nothing: each reply before it was written, by one write with its line feed, and nothing else. One write more is none."""
 
     kind = "w"
 
     def numbers(self, program):
-        return range(1, len([reply for reply in self.session.replies() if reply]) + 1)
+        return range(1, len(self.spoken()) + 2)
+
+    def spoken(self):
+        """The replies that are no silence."""
+        return [reply for reply in self.session.replies() if reply]
 
     def wrong_at(self, program, number):
-        wanted = b"".join(self.session.replies())
+        spoken = self.spoken()
+        ended = (2, b"propbench: write fault\n") if number <= len(spoken) else (0, b"")
         status, output, told = run(program, self.session.lines(), f"{self.kind}{number}")
-        if (status, told) != (2, b"propbench: write fault\n"):
-            return f"the status is {status}, it said {told!r}"
-        return None if wanted.startswith(output) and len(output) < len(wanted) else f"it wrote {output!r}"
+        return first_difference(output, b"".join(spoken[: number - 1])) if (status, told) == ended else f"the status is {status}, it said {told!r}"
+
+
+class EachWriteThatWouldWait(EachWrite):
+    kind = "b"
 
 
 class EachWriteOfNothing(EachWrite):
@@ -191,6 +221,21 @@ class HalfWrites(Refusals):
     def wrong_at(self, program, number):
         status, output, told = run(program, self.session.lines(), "s1")
         return first_difference(output, b"".join(self.session.replies())) if (status, told) == (0, b"") else f"the status is {status}, it said {told!r}"
+
+
+class Interrupted(Refusals):
+    """A signal interrupts each read and each write, once or often, before it is carried out: all goes its way. One that is interrupted each time is a fault in the end."""
+
+    def numbers(self, program):
+        return [1, 1_000, 65_535, 65_536]
+
+    def wrong_at(self, program, number):
+        lines, replies = self.session.lines()[:2], self.session.replies()[:2]
+        if number == 1:
+            lines, replies = self.session.lines(), self.session.replies()
+        wanted = (0, b"".join(replies), b"") if number < 65_536 else (2, b"", b"propbench: read fault\n")
+        ended = run(program, lines, f"i{number}")
+        return None if ended == wanted else f"it ended with {ended}, wanted {wanted}"
 
 
 class EachCut(Refusals):
@@ -228,7 +273,7 @@ CHOOSING = HUNGRY[1]
 def cases(transcripts):
     by_name = {each.name: each for each in transcripts}
     yield from (EachAllocation(f"refusals: memory, {name}", by_name[name]) for name in HUNGRY)
-    for kind in [EachRead, EachWrite, EachWriteOfNothing, HalfWrites, EachCut]:
+    for kind in [EachRead, EachReadThatWouldWait, EachWrite, EachWriteThatWouldWait, EachWriteOfNothing, HalfWrites, Interrupted, EachCut]:
         yield kind(f"refusals: {kind.__name__}, {CHOOSING}", by_name[CHOOSING])
 
 

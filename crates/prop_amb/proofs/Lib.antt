@@ -3,6 +3,7 @@ pub mod BelievingLaws
 pub mod Blocked
 pub mod Consistent
 pub mod CountLaws
+pub mod CulpritLaws
 pub mod DecidingLaws
 pub mod DeclaringLaws
 pub mod GoingLaws

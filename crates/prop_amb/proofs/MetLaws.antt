@@ -1,19 +1,19 @@
 -- A nogood that is believed with the list on which the choices stand.
-use Rattle.std.proofs.Common.{◌≡◌, ◌∙◌, ℕ, zero, suc, IsTrue, List, [], ◌∷◌, Contains, Some, slice_get, refl, sym, inl, inr, arith}
+use Rattle.std.proofs.Common.{◌≡◌, ◌∙◌, ℕ, zero, suc, IsTrue, false, List, [], ◌∷◌, Contains, Some, slice_get, refl, sym, inl, inr, arith}
 use Rattle.std.proofs.lemmas.List.Elements.{All-contains}
-use Rattle.prop_premises.specs.Sets.{set_of, is_within}
+use Rattle.prop_premises.specs.Sets.{Members, IsPart, set_of, is_within}
 use Rattle.prop_premises.specs.ChoiceLists.{worldview, IsBefore}
 use Rattle.prop_premises.proofs.WithinLemmas.{within_has}
 use Rattle.prop_cells.specs.Problems.{Problem}
 use Rattle.prop_cells.specs.Reach.{IsConflict}
-use Rattle.prop_nogoods.specs.Stores.{AddsSet}
-use Rattle.prop_nogoods.proofs.StoreLaws.{has_part-from}
-use Rattle.prop_amb.specs.Refuted.{IsNogood, IsListRefuted}
+use Rattle.prop_nogoods.specs.Stores.{has_part, AddsSet}
+use Rattle.prop_nogoods.proofs.StoreLaws.{part-listed, has_part-from}
+use Rattle.prop_amb.specs.Refuted.{IsNogood}
 use Rattle.prop_amb.specs.Search.{Stand, IsStand, IsSearch, users_of, choices_in}
 use Rattle.prop_amb.specs.Moving.{advanced}
 use Rattle.prop_amb.specs.inner.Settling.{IsMet}
 use Rattle.prop_amb.proofs.StandLaws.{users_no_sides}
-use Rattle.prop_amb.proofs.SearchLaws.{clash_refuted, refuted_within}
+use Rattle.prop_amb.proofs.SearchLaws.{both, clash_refuted}
 
 -- what is believed is the worldview of the list
 pub believes_worldview : (s : Stand) → IsStand s → set_of s.worldview ≡ worldview (users_of s) (choices_in s) s.list
@@ -32,13 +32,12 @@ pub met_listed : (problem : Problem) (s : Stand) (n : List ℕ) → IsSearch pro
 met_listed problem s n search listed within = record {
   believed = λ p t. within_has (set_of s.worldview) n p within t;
   nogood = All-contains (λ line. IsNogood problem (choices_in s) (set_of line)) s.listed n search.nogoods listed;
-  noted = has_part-from s.listed (set_of n) n listed (λ p t. t);
+  noted = listed;
 }
 
--- with a nogood that is believed the list is refuted
-pub met_refutes : (problem : Problem) (s : Stand) (n : List ℕ) → IsStand s → IsMet problem s n → IsListRefuted problem (users_of s) (choices_in s) s.list
-met_refutes problem s n stand met =
-    refuted_within problem (users_of s) (set_of n) (choices_in s) s.list stand.numbered.in_order stand.is_list (users_no_sides s stand) (λ p t. sym (stand.believes p) ∙ met.believed p t) met.nogood.refuted
+-- it is listed
+pub met_part : (problem : Problem) (s : Stand) (n : List ℕ) → IsMet problem s n → IsTrue (has_part s.listed (set_of n))
+met_part problem s n met = has_part-from s.listed (set_of n) n met.noted (λ p t. t)
 
 -- an advanced list stands later
 pub advanced_later : (list : List ℕ) (j side : ℕ) → slice_get list j ≡ Some side → IsBefore list (advanced list j)
@@ -46,14 +45,23 @@ advanced_later [] j side e = cc
 advanced_later (a ∷ list) zero side e = inl (omega arith)
 advanced_later (a ∷ list) (suc j) side e = inr (refl, advanced_later list j side e)
 
+-- a set that was added is listed, where no part of it was
+added_listed : (old new : List (List ℕ)) (n : List ℕ) (w : Members) → AddsSet old new n → IsPart (set_of n) w → has_part old w ≡ false → Contains new n
+added_listed old new n w adds part unblocked =
+    let its = part-listed new (set_of n) adds.has in
+    elim (adds.only its.line its.listed_in) [
+      | inl was ↦ absurd (both (has_part-from old w its.line was (λ p t. part p (its.is_part p t))) unblocked)
+      | inr same ↦ rw same at its.listed_in
+    ]
+
 -- a clash of a run, once it is noted
 pub met_noted : (problem : Problem) (s : Stand) (listed : List (List ℕ)) (copy n : List ℕ) (new : Stand) → IsStand s → IsConflict problem (set_of s.worldview) (set_of n) → copy ≡ n → AddsSet s.listed new.listed copy →
-    new ≡ record s { listed = new.listed } → IsMet problem new n
-met_noted problem s listed copy n new stand clash same adds only =
+    new ≡ record s { listed = new.listed } → has_part s.listed (set_of s.worldview) ≡ false → IsMet problem new n
+met_noted problem s listed copy n new stand clash same adds only unblocked =
     let nogood = clash_nogood problem s n stand clash in
     let added : AddsSet s.listed new.listed n = rw same at adds in
     record {
       believed = rw only clash.part;
       nogood = rw only nogood;
-      noted = added.has;
+      noted = added_listed s.listed new.listed n (set_of s.worldview) added clash.part unblocked;
     }

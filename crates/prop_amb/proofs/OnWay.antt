@@ -1,14 +1,14 @@
 -- The lists that are tried one after the other: what is known on the way, and what is known of each once it was tried.
-use Rattle.std.proofs.Common.{◌≡◌, ℕ, ◌+◌, ◌*◌, ◌<◌, ◌≤◌, ◌⊎◌, IsTrue, false, List, [], length}
+use Rattle.std.proofs.Common.{◌≡◌, ℕ, ◌+◌, ◌*◌, ◌<◌, ◌≤◌, ◌⊎◌, IsTrue, false, List, []}
 use Rattle.prop_premises.specs.Sets.{Members, set_of}
 use Rattle.prop_premises.specs.ChoiceLists.{place_of}
 use Rattle.prop_procedures.specs.Stored.{Stored}
 use Rattle.prop_cells.specs.Data.{Data, IsFree, beliefs, problem_of}
 use Rattle.prop_nogoods.specs.Stores.{has_part}
-use Rattle.prop_scheduler.specs.Turns.{IsUnderWay, IsSettled, Turns}
+use Rattle.prop_scheduler.specs.Turns.{IsUnderWay, IsSettled}
 use Rattle.prop_scheduler.specs.Potential.{potential, most_steps}
-use Rattle.prop_amb.specs.Search.{Stand, IsStand, IsSearch, users_of, choices_in}
-use Rattle.prop_amb.specs.Going.{Goes}
+use Rattle.prop_amb.specs.Search.{Stand, IsStand, IsSearch, choices_in}
+use Rattle.prop_amb.specs.Going.{work, MayCall, Goes}
 use Rattle.prop_amb.specs.declared.settling.Tried.{Tried}
 use Rattle.prop_amb.specs.declared.settling.Tried.TheVariants.{Quiet, Spent}
 
@@ -32,7 +32,7 @@ pub record OnWay {O : Type 0} (picks : O → ℕ → ℕ → O → Type 0) (libr
   pub search : IsSearch (problem_of library start) s
   pub rest : d ≡ record start { contents = d.contents }
   pub under_way : IsUnderWay library (set_of s.worldview) d waiting
-  pub gone : Goes picks library (users_of old) (choices_in old) old.list start line first steps s.list d waiting order
+  pub gone : Goes picks library (work old start line first) steps (work s d waiting order)
   pub further : ℕ
   pub place : place_of (choices_in old) s.list ≡ place_of (choices_in old) old.list + further
   pub few : steps ≤ further * (most_steps (problem_of library start) + 1)
@@ -46,11 +46,11 @@ pub record Attempted {O : Type 0} (picks : O → ℕ → ℕ → O → Type 0) (
   pub stand : IsStand new
   pub rest : cells ≡ record d { contents = cells.contents }
   pub under_way : IsUnderWay library (set_of s.worldview) cells after
-  pub turns : Turns picks library (set_of s.worldview) d waiting order calls cells after next
+  pub gone : Goes picks library (work s d waiting order) calls (work new cells after next)
   pub quiet : tried ≡ Quiet → IsSettled library (set_of s.worldview) cells
   pub rests : tried ≡ Quiet → after ≡ []
   pub spent : tried ≡ Spent → calls ≡ budget
-  pub leaves : tried ≡ Spent → 0 < length after
+  pub leaves : tried ≡ Spent → MayCall (work new cells after next)
   pub earned : tried ≡ Spent → calls < most_steps (problem_of library d)
   pub steps : calls ≤ budget
   pub at_rest : IsResting s d waiting → (tried ≡ Quiet) × (calls ≡ 0)
@@ -65,14 +65,14 @@ pub record OnTry {O : Type 0} (picks : O → ℕ → ℕ → O → Type 0) (libr
   pub stand : IsStand s
   pub rest : d ≡ record start { contents = d.contents }
   pub under_way : IsUnderWay library (set_of s.worldview) d waiting
-  pub gone : Goes picks library (users_of old) (choices_in old) old.list start line first steps s.list d waiting order
+  pub gone : Goes picks library (work old start line first) steps (work s d waiting order)
   pub further : ℕ
   pub place : place_of (choices_in old) s.list ≡ place_of (choices_in old) old.list + further
   pub few : steps < (further + 1) * (most_steps (problem_of library start) + 1)
   pub quiet : tried ≡ Quiet → IsSettled library (set_of s.worldview) d
   pub rests : tried ≡ Quiet → waiting ≡ []
   pub spent : tried ≡ Spent → steps ≡ budget
-  pub leaves : tried ≡ Spent → 0 < length waiting
+  pub leaves : tried ≡ Spent → MayCall (work s d waiting order)
   pub earned : tried ≡ Spent → budget + 1 < (further + 1) * (most_steps (problem_of library start) + 1)
   pub within : steps ≤ budget
   pub at_rest : IsResting old start line → (tried ≡ Quiet) × (steps ≡ 0)

@@ -115,7 +115,7 @@ others_have own (r ∷ kept) (suc k) p l h other =
     shift : (a b : ℕ) → a + suc b ≡ suc a + b
     shift a b = omega arith
 
-others_from : (own : ℕ) (kept : List (List ℕ)) (p : ℕ) → IsTrue (others_of own kept p) → (k : ℕ) × (k < length kept) × IsTrue (set_of (slice_index_or kept k []) p) × ((own + k == p) ≡ false)
+pub others_from : (own : ℕ) (kept : List (List ℕ)) (p : ℕ) → IsTrue (others_of own kept p) → (k : ℕ) × (k < length kept) × IsTrue (set_of (slice_index_or kept k []) p) × ((own + k == p) ≡ false)
 others_from own [] p h = absurd (both h refl)
 others_from own (r ∷ kept) p h = elim (or_cases (without (set_of r) own p) (others_of (suc own) kept p) h) [
   | inl e ↦ (let x = and_parts (set_of r p) (not (own == p)) e in (0, omega arith, x.0, rw (plus_zero own) (not_true (own == p) x.1)))

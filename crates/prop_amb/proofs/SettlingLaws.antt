@@ -1,29 +1,32 @@
 -- One list after the other: an attempt on the way, a move to a later list, and the end.
 use Rattle.std.proofs.Common.{◌≡◌, ◌∙◌, ℕ, ◌+◌, ◌-◌, ◌*◌, ◌<◌, ◌≤◌, ◌⊎◌, List, length, refl, sym, ap, subst, inl, inr, arith}
 use Rattle.std.proofs.Math.Nat.{mul-le-mul_right, mul-le-mul_left, add-mul}
-use Rattle.prop_premises.specs.Sets.{Members, set_of}
+use Rattle.prop_premises.specs.Sets.{set_of}
 use Rattle.prop_premises.specs.declared.choice.Choice.{Choice}
-use Rattle.prop_premises.specs.Origins.{Origin, believed_in, choices_of}
-use Rattle.prop_premises.specs.ChoiceLists.{IsChoiceList, worldview, place_of, lists_count}
+use Rattle.prop_premises.specs.Origins.{Origin, choices_of}
+use Rattle.prop_premises.specs.ChoiceLists.{IsChoiceList, place_of, lists_count}
 use Rattle.prop_procedures.specs.Stored.{Stored}
 use Rattle.prop_cells.specs.Problems.{Problem, IsConsistent}
 use Rattle.prop_cells.specs.Data.{Data, beliefs, problem_of}
 use Rattle.prop_scheduler.specs.Turns.{IsUnderWay, IsSettled}
 use Rattle.prop_scheduler.specs.Potential.{potential, most_steps}
-use Rattle.prop_amb.specs.Refuted.{IsListRefuted, IsFirstConsistent, IsRuledOut}
-use Rattle.prop_amb.specs.Search.{Stand, IsStand, IsSearch, users_of, choices_in, Moves}
+use Rattle.prop_scheduler.specs.Shifts.{AreShifted}
+use Rattle.prop_amb.specs.Refuted.{IsFirstConsistent, IsRuledOut}
+use Rattle.prop_amb.specs.Search.{Stand, IsStand, IsSearch, users_of, choices_in, believed_with, Moves}
 use Rattle.prop_amb.specs.Settling.{IfContradiction}
-use Rattle.prop_amb.specs.inner.Settling.{IsHeld}
-use Rattle.prop_amb.specs.Going.{Goes, Passes, IsMove}
+use Rattle.prop_amb.specs.Moving.{advanced}
+use Rattle.prop_amb.specs.Culprits.{IsBlamed, MayMove}
+use Rattle.prop_amb.specs.Going.{work, Passes}
 use Rattle.prop_amb.specs.Going.Passes.{none, next as one_more}
 use Rattle.prop_amb.specs.Going.Goes.{none as not_gone, moved}
 use Rattle.prop_amb.specs.declared.outcome.Outcome.{Outcome}
 use Rattle.prop_amb.specs.declared.settling.Tried.{Tried}
 use Rattle.prop_amb.specs.declared.settling.Tried.TheVariants.{Quiet, Spent}
 use Rattle.prop_amb.proofs.Consistent.{settled_consistent}
+use Rattle.prop_amb.proofs.AdvancingLaws.{advanced_is_list}
 use Rattle.prop_amb.proofs.CountLaws.{place_below, earlier_place, few_within, few_in_all}
-use Rattle.prop_amb.proofs.GoingLaws.{goes_on}
-use Rattle.prop_amb.proofs.MetLaws.{believes_worldview}
+use Rattle.prop_amb.proofs.GoingLaws.{goes_then}
+use Rattle.prop_amb.proofs.MetLaws.{believes_worldview, advanced_later}
 use Rattle.prop_amb.proofs.OnWay.{IsResting, IsStart, OnWay, Attempted, OnTry}
 use Rattle.prop_amb.proofs.RunLaws.{same_problem}
 use Rattle.prop_amb.proofs.SearchLaws.{kept_refute}
@@ -49,13 +52,24 @@ moved_few further more most steps moves few some le =
     let rest = mul-le-mul_left {m = 1} {n = most + 1} (moves - 1) (omega arith) in
     omega (arith, few, all, parts, rest, some)
 
+-- a choice that may go on goes on to a later list
+later_of : (s : Stand) (choices : List Choice) (j : ℕ) → choices_in s ≡ choices → IsChoiceList choices s.list → MayMove s j →
+    (IsChoiceList choices (advanced s.list j)) × (place_of choices s.list < place_of choices (advanced s.list j))
+later_of s choices j same is_list may =
+    let further : IsChoiceList choices (advanced s.list j) = subst (λ cs. IsChoiceList cs (advanced s.list j)) same (advanced_is_list s j (rw same is_list) may.leaves.may) in
+    (further, earlier_place choices s.list (advanced s.list j) is_list further (advanced_later s.list j may.leaves.may.side may.leaves.may.side_at))
+
 -- moves go on in the order of the lists
-pub passed_place : {problem : Problem} {believed : Members} (choices : List Choice) (old new : List ℕ) (n : ℕ) → IsChoiceList choices old → Passes problem believed choices old n new → (IsChoiceList choices new) × (place_of choices old + n ≤ place_of choices new)
-passed_place choices old _ _ is_list none = (is_list, omega arith)
-passed_place choices old _ _ is_list (one_more n list later rest refuted after later_is) =
-    let before = passed_place choices old list n is_list rest in
-    let less = earlier_place choices list later before.0 later_is after in
-    (later_is, omega (arith, before.1, less))
+pub passed_place : (old new : Stand) (n : ℕ) → IsChoiceList (choices_in old) old.list → Passes old n new → (choices_in new ≡ choices_in old) × IsChoiceList (choices_in old) new.list × (place_of (choices_in old) old.list + n ≤ place_of (choices_in old) new.list)
+passed_place old _ _ is_list none = (refl, is_list, omega arith)
+passed_place old _ _ is_list (one_more n j s later reason rest may culprits same) =
+    let before = passed_place old s n is_list rest in
+    let choices : choices_in later ≡ choices_in old = ap (λ (x : Stand). choices_in x) same ∙ before.0 in
+    let list : later.list ≡ advanced s.list j = ap (λ (x : Stand). x.list) same in
+    let next = later_of s (choices_in old) j before.0 before.1 may in
+    let is_list' : IsChoiceList (choices_in old) later.list = rw list next.0 in
+    let less : place_of (choices_in old) s.list < place_of (choices_in old) later.list = rw list next.1 in
+    (choices, is_list', omega (arith, before.2, less))
 
 -- cells whose contents alone differ pose one problem
 pub same_in : (library : List Stored) (start d : Data) → d ≡ record start { contents = d.contents } → problem_of library d ≡ problem_of library start
@@ -93,8 +107,8 @@ contradiction_in stored a b start d s new outcome same rest as_was h =
     subst (λ (x : Stand). IfContradiction outcome (λ n. IsRuledOut (problem_of (stored a) start) (users_of x) (choices_in x) x.listed (set_of n))) (sym as_was)
     (subst (λ p. IfContradiction outcome (λ n. IsRuledOut p (users_of s) (choices_in s) s.listed (set_of n))) (same_problem stored a b start d same rest) h)
 
-pub held_in : {L : Type 0} (stored : L → List Stored) (a b : L) (d : Data) (s new : Stand) → b ≡ a → new ≡ s → IsHeld (problem_of (stored b) d) s → IsHeld (problem_of (stored a) d) new
-held_in stored a b d s new same as_was h = subst (λ (x : Stand). IsHeld (problem_of (stored a) d) x) (sym as_was) (subst (λ l. IsHeld (problem_of (stored l) d) s) same h)
+pub blamed_in : (s new : Stand) (outcome : Outcome) → new ≡ s → IfContradiction outcome (λ n. IsBlamed s (set_of n)) → IfContradiction outcome (λ n. IsBlamed new (set_of n))
+blamed_in s new outcome as_was h = subst (λ (x : Stand). IfContradiction outcome (λ n. IsBlamed x (set_of n))) (sym as_was) h
 
 module _ {O : Type 0} (picks : O → ℕ → ℕ → O → Type 0) (library : List Stored) (old : Stand) (start : Data) (line : List ℕ) (first : O) where
   abbrev choices : List Choice
@@ -121,10 +135,6 @@ module _ {O : Type 0} (picks : O → ℕ → ℕ → O → Type 0) (library : Li
 
   -- ---- an attempt
 
-  -- what is believed, in the words of the start
-  believes_old : (s : Stand) → s.premises ≡ old.premises → IsStand s → set_of s.worldview ≡ worldview (users_of old) choices s.list
-  believes_old s same stand = believes_worldview s stand ∙ ap (λ (o : List Origin). worldview (believed_in o) (choices_of o) s.list) same
-
   -- no list further on is the first one
   not_further : (s : Stand) (further : ℕ) → place_of choices s.list ≡ place_of choices old.list + further → 1 ≤ further → s.list ≡ old.list → ⊥
   not_further s further place one same =
@@ -143,8 +153,7 @@ module _ {O : Type 0} (picks : O → ℕ → ℕ → O → Type 0) (library : Li
         stand = a.stand;
         rest = rest_on start d cells way.rest a.rest;
         under_way = subst (λ w. IsUnderWay library (set_of w) cells after) (sym (worldview_in s new a.only)) a.under_way;
-        gone = subst (λ l. Goes picks library (users_of old) choices old.list start line first (steps + calls) l cells after next) (sym (ap (λ (x : Stand). x.list) a.only))
-            (goes_on picks library (users_of old) choices old.list start line first steps s.list d waiting order way.gone (set_of s.worldview) calls cells after next believed a.turns);
+        gone = goes_then way.gone a.gone;
         further = way.further;
         place = ap (λ (x : Stand). place_of choices x.list) a.only ∙ way.place;
         few = few_within way.further (most_steps problem) steps calls way.few few;
@@ -158,9 +167,6 @@ module _ {O : Type 0} (picks : O → ℕ → ℕ → O → Type 0) (library : Li
         falls = λ same. fall e (ap (λ (x : Stand). x.list) (sym a.only) ∙ same) way.since;
       }
     where
-      believed : set_of s.worldview ≡ worldview (users_of old) choices s.list
-      believed = rw (worldview_in s new a.only, ap (λ (x : Stand). x.list) a.only) at (believes_old new (premises_in s new a.only ∙ way.premises) a.stand)
-
       all : tried ≡ Spent → calls ≡ budget - steps → steps + calls ≡ budget
       all q x = omega (arith, x, within)
 
@@ -186,17 +192,16 @@ module _ {O : Type 0} (picks : O → ℕ → ℕ → O → Type 0) (library : Li
 
   pub after_move : (s : Stand) (d : Data) (waiting : List ℕ) (order : O) (steps budget : ℕ) (tried : Tried) (new : Stand) (after : List ℕ) (moves : ℕ) → OnTry picks library old start line first s d waiting order steps budget tried →
       (tried ≡ Quiet → ⊥) → new.premises ≡ s.premises → new.listed ≡ s.listed → IsSearch (problem_of library d) new → IsUnderWay library (set_of new.worldview) d after →
-      1 ≤ moves → IsMove library (users_of s) (choices_in s) d moves s.list new.list waiting after → OnWay picks library old start line first new d after order (steps + moves)
-  after_move s d waiting order steps budget tried new after moves t restless same_premises same_listed learned under_way some move =
-      let move_old : IsMove library (users_of old) choices d moves s.list new.list waiting after = subst (λ (o : List Origin). IsMove library (believed_in o) (choices_of o) d moves s.list new.list waiting after) t.premises move in
-      let less : place_of choices s.list + moves ≤ place_of choices new.list = (passed_place choices s.list new.list moves (in_old s t.premises t.stand) move_old.passes).1 in
+      1 ≤ moves → Passes s moves new → AreShifted (believed_with s) (believed_with new) d (length d.kinds) waiting after → OnWay picks library old start line first new d after order (steps + moves)
+  after_move s d waiting order steps budget tried new after moves t restless same_premises same_listed learned under_way some passes shifted =
+      let less : place_of choices s.list + moves ≤ place_of choices new.list = rw (ap (λ (o : List Origin). choices_of o) t.premises) at (passed_place s new moves t.stand.is_list passes).2 in
       record {
         premises = same_premises ∙ t.premises;
         listed = λ m x. rw same_listed (t.listed m x);
         search = subst (λ p. IsSearch p new) (same_in library start d t.rest) learned;
         rest = t.rest;
         under_way = under_way;
-        gone = moved steps moves s.list new.list d waiting after order t.gone move_old;
+        gone = moved steps moves (work s d waiting order) new after t.gone passes shifted;
         further = place_of choices new.list - place_of choices old.list;
         place = omega (arith, t.place, less);
         few = moved_few t.further (place_of choices new.list - place_of choices old.list) (most_steps problem) steps moves t.few some (omega (arith, t.place, less));
@@ -232,16 +237,13 @@ module _ {O : Type 0} (picks : O → ℕ → ℕ → O → Type 0) (library : Li
     pub spent_earned : tried ≡ Spent → budget + 1 < lists_count (choices_in s) * (most_steps (problem_of library start) + 1)
     spent_earned q = in_all (few_in_all t.further (place_of choices old.list) (lists_count choices) (most_steps problem) (budget + 1) (t.earned q) (omega (arith, below_all, t.place)))
 
-    -- the same where the last list is refuted, and another could be tried
-    pub held_earned : budget ≤ steps → IsHeld (problem_of library d) s → budget + 1 < lists_count (choices_in s) * (most_steps (problem_of library start) + 1)
-    held_earned used h =
-        let is_list : IsChoiceList choices h.later = subst (λ cs. IsChoiceList cs h.later) same_choices h.is_list in
-        let less : place_of choices s.list < place_of choices h.later = earlier_place choices s.list h.later (in_old s t.premises t.stand) is_list h.is_later in
-        let last : place_of choices h.later < lists_count choices = place_below choices h.later is_list in
+    -- the same where a choice may go on to a list that could be tried
+    pub held_earned : budget ≤ steps → (j : ℕ) → MayMove s j → budget + 1 < lists_count (choices_in s) * (most_steps (problem_of library start) + 1)
+    held_earned used j may =
+        let next = later_of s choices j same_choices (in_old s t.premises t.stand) may in
+        let less = next.1 in
+        let last : place_of choices (advanced s.list j) < lists_count choices = place_below choices (advanced s.list j) next.0 in
         let one = one_list_more t.further (most_steps problem) steps t.few in
         let within = t.within in
         let few : budget + 1 < ((t.further + 1) + 1) * (most_steps problem + 1) = omega (arith, one, used) in
         in_all (few_in_all (t.further + 1) (place_of choices old.list) (lists_count choices) (most_steps problem) (budget + 1) few (omega (arith, less, last, t.place)))
-
-    pub held_refuted : IsHeld (problem_of library d) s → IsListRefuted (problem_of library start) (users_of s) (choices_in s) s.list
-    held_refuted h = subst (λ p. IsListRefuted p (users_of s) (choices_in s) s.list) (same_in library start d t.rest) h.refuted

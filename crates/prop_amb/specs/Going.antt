@@ -1,35 +1,67 @@
 -- What settling does, step by step.
-use Rattle.std.specs.Prelude.{ℕ, ◌+◌, ◌<◌, List, length, Contains}
-use Rattle.prop_premises.specs.Sets.{Members}
-use Rattle.prop_premises.specs.declared.choice.Choice.{Choice}
-use Rattle.prop_premises.specs.ChoiceLists.{IsChoiceList, IsBefore, worldview}
+use Rattle.std.specs.Prelude.{◌≡◌, ℕ, ◌+◌, ◌<◌, ◌⊎◌, false, List, length, Contains}
+use Rattle.prop_premises.specs.Sets.{set_of}
 use Rattle.prop_procedures.specs.Stored.{Stored}
-use Rattle.prop_cells.specs.Problems.{Problem}
-use Rattle.prop_cells.specs.Data.{Data, problem_of}
+use Rattle.prop_cells.specs.Data.{Data, IsFree, IsClash}
+use Rattle.prop_nogoods.specs.Stores.{has_part, AddsSet}
 use Rattle.prop_scheduler.specs.Turns.{Turn}
 use Rattle.prop_scheduler.specs.Shifts.{AreShifted}
-use Rattle.prop_amb.specs.Refuted.{IsListRefuted}
+use Rattle.prop_amb.specs.Search.{Stand, believed_with}
+use Rattle.prop_amb.specs.Moving.{advanced, reasons_advanced}
+use Rattle.prop_amb.specs.Culprits.{MayMove, AreCulprits}
 
 -- each of so many instances waits
 abbrev pub AllWait : ℕ → List ℕ → Type 0
 AllWait n line = (j : ℕ) → j < n → Contains line j
 
--- The choices went on to the second list by so many moves, each to a later list from one whose worldview is contradictory.
-pub data Passes (problem : Problem) (believed : Members) (choices : List Choice) (old : List ℕ) : ℕ → List ℕ → Type 0 where
-  none : Passes problem believed choices old 0 old
-  next : (n : ℕ) (list later : List ℕ) → Passes problem believed choices old n list → IsListRefuted problem believed choices list → IsBefore list later → IsChoiceList choices later →
-      Passes problem believed choices old (n + 1) later
+-- the search, the cells, the instances that wait, and the order in which they are called
+pub record Work (O : Type 0) : Type 0 where
+  pub search : Stand
+  pub cells : Data
+  pub line : List ℕ
+  pub order : O
 
--- The choices went on by so many moves, and of the cells that this shifts, from the first list to the last, the readers and writers wait too.
-pub record IsMove (library : List Stored) (believed : Members) (choices : List Choice) (d : Data) (moves : ℕ) (old new : List ℕ) (waiting line : List ℕ) : Type 0 where
-  pub passes : Passes (problem_of library d) believed choices old moves new
-  pub shifted : AreShifted (worldview believed choices old) (worldview believed choices new) d (length d.kinds) waiting line
+abbrev pub work : {O : Type 0} → Stand → Data → List ℕ → O → Work O
+work s d line order = record { search = s; cells = d; line = line; order = order }
 
--- The second list, cells, line and order are reached from the first by as many steps: calls of waiting instances in the worldview of the list,
--- each at the place that the order picks, and moves, which change the list; between two calls there may be several.
-pub data Goes {O : Type 0} (picks : O → ℕ → ℕ → O → Type 0) (library : List Stored) (believed : Members) (choices : List Choice) (first : List ℕ) (start : Data) (line : List ℕ) (order : O) : ℕ → List ℕ → Data → List ℕ → O → Type 0 where
-  none : Goes picks library believed choices first start line order 0 first start line order
-  called : (n place : ℕ) (list : List ℕ) (d new : Data) (waiting after : List ℕ) (before next : O) → Goes picks library believed choices first start line order n list d waiting before → picks before (length waiting) place next →
-      Turn library (worldview believed choices list) place d new waiting after → Goes picks library believed choices first start line order (n + 1) list new after next
-  moved : (n moves : ℕ) (list later : List ℕ) (d : Data) (waiting after : List ℕ) (before : O) → Goes picks library believed choices first start line order n list d waiting before →
-      IsMove library believed choices d moves list later waiting after → Goes picks library believed choices first start line order (n + moves) later d after before
+-- an instance waits, no noted nogood is believed, and no cell is believed to hold a contradiction
+pub record MayCall {O : Type 0} (w : Work O) : Type 0 where
+  pub waits : 0 < length w.line
+  pub unblocked : has_part w.search.listed (believed_with w.search) ≡ false
+  pub free : IsFree (believed_with w.search) w.cells
+
+-- one more step may be taken: a call, or a move of a choice
+abbrev pub MayGoOn : {O : Type 0} → Work O → Type 0
+MayGoOn w = MayCall w ⊎ ((j : ℕ) × MayMove w.search j)
+
+-- The choices went on by so many moves: by each, one that may goes to its next side, for a reason
+-- all of whose premises are culprits, and the later ones to their first.
+pub data Passes (old : Stand) : ℕ → Stand → Type 0 where
+  none : Passes old 0 old
+  next : (n j : ℕ) (s later : Stand) (reason : List ℕ) → Passes old n s →
+      (may : MayMove s j) → AreCulprits s may.nogood (set_of reason) →
+      later ≡ record s {
+        list = advanced s.list j;
+        reasons = reasons_advanced s.reasons j reason;
+        worldview = later.worldview;
+      } → Passes old (n + 1) later
+
+-- The second work is reached from the first by as many steps: calls of waiting instances, each at
+-- the place that the order picks, and moves, between two calls maybe several. After moves the readers
+-- and writers of the cells that they shift wait too. A clash takes no step, and is noted.
+pub data Goes {O : Type 0} (picks : O → ℕ → ℕ → O → Type 0) (library : List Stored) (start : Work O) :
+    ℕ → Work O → Type 0 where
+  none : Goes picks library start 0 start
+  called : (n place : ℕ) (w : Work O) (d : Data) (line : List ℕ) (next : O) →
+      Goes picks library start n w → MayCall w → picks w.order (length w.line) place next →
+      Turn library (believed_with w.search) place w.cells d w.line line →
+      Goes picks library start (n + 1) (record w { cells = d; line = line; order = next })
+  noted : (n : ℕ) (w : Work O) (nogood : List ℕ) (more : List (List ℕ)) →
+      Goes picks library start n w → IsClash (believed_with w.search) w.cells nogood →
+      AddsSet w.search.listed more nogood →
+      Goes picks library start n (record w { search = record w.search { listed = more } })
+  moved : (n moves : ℕ) (w : Work O) (later : Stand) (line : List ℕ) →
+      Goes picks library start n w → Passes w.search moves later →
+      AreShifted (believed_with w.search) (believed_with later)
+      w.cells (length w.cells.kinds) w.line line →
+      Goes picks library start (n + moves) (record w { search = later; line = line })

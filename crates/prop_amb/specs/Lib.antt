@@ -1,3 +1,4 @@
+pub mod Culprits
 pub mod Going
 pub mod Promises
 pub mod Moving

@@ -1,5 +1,5 @@
 -- What a nogood shows of the choices: the side that one of them leaves, or that none of their lists holds.
-use Rattle.std.specs.Prelude.{◌≡◌, ◌<◌, ℕ, Some, slice_get}
+use Rattle.std.specs.Prelude.{◌≡◌, ◌<◌, ℕ, List, Some, slice_get}
 use Rattle.prop_premises.specs.Sets.{Members, set_of}
 use Rattle.prop_premises.specs.declared.choice.Choice.{Choice}
 use Rattle.prop_cells.specs.Problems.{Problem}
@@ -25,6 +25,11 @@ IsReason problem s j n =
 abbrev pub IfAgainst : Resolved → (ℕ → Type 0) → Type 0
 IfAgainst (Against j n) P = P j
 IfAgainst (RuledOut n) P = Unit {0}
+
+-- the premises that make the reason, or with which every list is refuted
+abbrev pub premises_of : Resolved → List ℕ
+premises_of (Against j n) = n
+premises_of (RuledOut n) = n
 
 -- what a nogood shows: a reason against the side of one choice, or believed premises with which every list is refuted
 abbrev pub IsResolved : Problem → Stand → Resolved → Type 0

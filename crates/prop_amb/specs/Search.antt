@@ -30,6 +30,10 @@ users_of s = believed_in s.premises
 abbrev pub choices_in : Stand → List Choice
 choices_in s = choices_of s.premises
 
+-- what is believed with the list on which the choices stand
+abbrev pub believed_with : Stand → Members
+believed_with s = worldview (users_of s) (choices_in s) s.list
+
 -- There are as many premises as there may be at the most, one side for each choice and one reason for each side that it left, and what is believed
 -- is the worldview of the list.
 pub record IsStand (s : Stand) : Type 0 where

@@ -6,7 +6,8 @@ ghost use Rattle.prop_nogoods.specs.Stores.{has_part};
 ghost use Rattle.prop_amb.specs.Refuted.{IsNogood};
 ghost use Rattle.prop_amb.specs.Search.{choices_in, IsSearch};
 ghost use Rattle.prop_amb.specs.Moving.{advanced, reasons_advanced};
-ghost use Rattle.prop_amb.specs.Resolving.{MayAdvance, IsReason, IsResolved, IfAgainst};
+ghost use Rattle.prop_amb.specs.Resolving.{MayAdvance, IsReason, IsResolved, IfAgainst, premises_of};
+ghost use Rattle.prop_amb.specs.Culprits.{AreCulprits, MayLeave};
 
 use crate::joining::joined;
 use crate::lists::advanced;
@@ -30,7 +31,8 @@ impl Search {
     /// the reasons against the other sides, without the sides of the choice, are looked at in its place.
     pub fn resolve(&self, nogood: PremiseSet) -> Result<Resolved, AllocError>
         requires believed { IsPart (set_of nogood) (set_of self.now.worldview) }
-        ensures may { IfOk result (λ r. IfAgainst r (MayAdvance self.now)) }
+        ensures may { IfOk result (λ r. IfAgainst r (MayLeave self.now nogood)) }
+        ensures culprits { IfOk result (λ r. AreCulprits self.now nogood (set_of (premises_of r))) }
         ensures resolved { IfOk result (λ r. (problem : Problem) → IsSearch problem self.now → IsNogood problem (choices_in self.now) (set_of nogood) → IsTrue (has_part self.now.listed (set_of nogood)) → IsResolved problem self.now r) }
     {
         let mut set = nogood;

@@ -4,16 +4,19 @@ ghost use Rattle.prop_premises.specs.Sets.{Members, set_of};
 ghost use Rattle.prop_premises.specs.ChoiceLists.{lists_count};
 ghost use Rattle.prop_procedures.specs.Kept.{AllMean, stored_of};
 ghost use Rattle.prop_cells.specs.Data.{problem_of, beliefs, IsFree};
-ghost use Rattle.prop_scheduler.specs.Turns.{IsUnderWay, IsSettled, Turns};
+ghost use Rattle.prop_scheduler.specs.Turns.{IsUnderWay, IsSettled};
 ghost use Rattle.prop_scheduler.specs.Potential.{potential, most_steps};
 ghost use Rattle.prop_scheduler.specs.Watching.{IsWatched};
+ghost use Rattle.prop_scheduler.specs.Shifts.{AreShifted};
 ghost use Rattle.prop_nogoods.specs.Stores.{has_part};
-ghost use Rattle.prop_amb.specs.Refuted.{IsListRefuted, AllBeforeRefuted, IsFirstConsistent, IsRuledOut};
-ghost use Rattle.prop_amb.specs.Search.{users_of, choices_in, IsStand, IsSearch, AllBeforeBlocked, Moves};
-ghost use Rattle.prop_amb.specs.Going.{Passes, IsMove, Goes};
+ghost use Rattle.prop_amb.specs.Refuted.{AllBeforeRefuted, IsFirstConsistent, IsRuledOut};
+ghost use Rattle.prop_amb.specs.Search.{users_of, choices_in, believed_with, IsStand, IsSearch};
+ghost use Rattle.prop_amb.specs.Search.{AllBeforeBlocked, Moves};
+ghost use Rattle.prop_amb.specs.Culprits.{IsBlamed, MayMove};
+ghost use Rattle.prop_amb.specs.Going.{work, MayCall, MayGoOn, Passes, Goes};
 ghost use Rattle.prop_cells.specs.Problems.{Problem};
 ghost use Rattle.prop_amb.specs.Settling.{IfContradiction};
-ghost use Rattle.prop_amb.specs.inner.Settling.{IfRefuted, IsMet, IsHeld};
+ghost use Rattle.prop_amb.specs.inner.Settling.{IfRefuted, IsMet};
 
 use crate::outcome::Outcome;
 use crate::resolving::Resolved;
@@ -61,12 +64,15 @@ fn attempt<R: Rule + Drop, O: Order>(
     ensures search { IsSearch (problem_of (stored_of R.value_of network.old.library) network.old.cells) search.new }
     ensures stand { IsStand search.new }
     ensures under_way { IsUnderWay (stored_of R.value_of network.old.library) (set_of search.old.worldview) network.new.cells agenda.new.line }
-    ensures turns { IfOk result (λ r. Turns O.picks (stored_of R.value_of network.old.library) (set_of search.old.worldview) network.old.cells agenda.old.line order.old r.1 network.new.cells agenda.new.line order.new) }
+    ensures gone { IfOk result (λ r. Goes O.picks (stored_of R.value_of network.old.library)
+        (work search.old network.old.cells agenda.old.line order.old) r.1
+        (work search.new network.new.cells agenda.new.line order.new)) }
     ensures quiet { IfOk result (λ r. r.0 ≡ Tried.Quiet → IsSettled (stored_of R.value_of network.old.library) (set_of search.old.worldview) network.new.cells) }
     ensures rests { IfOk result (λ r. r.0 ≡ Tried.Quiet → agenda.new.line ≡ []) }
     ensures refuted { IfOk result (λ r. IfRefuted r.0 (IsMet (problem_of (stored_of R.value_of network.old.library) network.old.cells) search.new)) }
     ensures spent { IfOk result (λ r. r.0 ≡ Tried.Spent → r.1 ≡ budget) }
-    ensures left { IfOk result (λ r. r.0 ≡ Tried.Spent → 0 < length agenda.new.line) }
+    ensures left { IfOk result (λ r. r.0 ≡ Tried.Spent →
+        MayCall (work search.new network.new.cells agenda.new.line order.new)) }
     ensures earned { IfOk result (λ r. r.0 ≡ Tried.Spent → r.1 < most_steps (problem_of (stored_of R.value_of network.old.library) network.old.cells)) }
     ensures steps { IfOk result (λ r. r.1 ≤ budget) }
     ensures at_rest { IfOk result (λ r. agenda.old.line ≡ [] → IsFree (set_of search.old.worldview) network.old.cells → has_part search.old.listed (set_of search.old.worldview) ≡ false → (r.0 ≡ Tried.Quiet) × (r.1 ≡ 0)) }
@@ -94,7 +100,7 @@ fn go_on(search: &mut Search, from: Premise) -> Result<Option<Premise>, AllocErr
     ensures listed { search.new.listed ≡ search.old.listed }
     ensures search { (problem : Problem) → IsSearch problem search.old → IsSearch problem search.new }
     ensures stays { result ≡ Ok None → search.new ≡ search.old }
-    ensures moves { IfOk result (λ r. IfSome r (λ moved. (problem : Problem) → IsSearch problem search.old → Passes problem (users_of search.old) (choices_in search.old) search.old.list 1 search.new.list)) }
+    ensures moves { IfOk result (λ r. IfSome r (λ moved. Passes search.old 1 search.new)) }
 {
     let Some(blocking) = search.blocked_early(from) else {
         return Ok(None);
@@ -120,7 +126,7 @@ fn pass(search: &mut Search, most: u64) -> Result<u64, AllocError>
     ensures listed { search.new.listed ≡ search.old.listed }
     ensures search { (problem : Problem) → IsSearch problem search.old → IsSearch problem search.new }
     ensures few { IfOk result (λ n. n ≤ most) }
-    ensures moves { IfOk result (λ n. (problem : Problem) → IsSearch problem search.old → Passes problem (users_of search.old) (choices_in search.old) search.old.list n search.new.list) }
+    ensures moves { IfOk result (λ n. Passes search.old n search.new) }
 {
     let mut moves = 0;
     let mut from = 0;
@@ -164,10 +170,16 @@ fn decide<R: Rule + Drop>(
     ensures quiet { tried ≡ Tried.Quiet → result ≡ Ok (Some Outcome.Settled, 0) }
     ensures settled { IfOk result (λ r. r.0 ≡ Some Outcome.Settled → tried ≡ Tried.Quiet) }
     ensures contradiction { IfOk result (λ r. IfSome r.0 (λ end. IfContradiction end (λ n. IsRuledOut (problem_of (stored_of R.value_of network.now.library) network.now.cells) (users_of search.old) (choices_in search.old) search.old.listed (set_of n)))) }
-    ensures unsettled { IfOk result (λ r. r.0 ≡ Some Outcome.Unsettled → (tried ≡ Tried.Spent) ⊎ ((most ≡ 0) × IsHeld (problem_of (stored_of R.value_of network.now.library) network.now.cells) search.old)) }
+    ensures named { IfOk result (λ r. IfSome r.0 (λ end.
+        IfContradiction end (λ n. IsBlamed search.old (set_of n)))) }
+    ensures unsettled { IfOk result (λ r. r.0 ≡ Some Outcome.Unsettled →
+        (tried ≡ Tried.Spent) ⊎ ((most ≡ 0) × ((j : ℕ) × MayMove search.old j))) }
     ensures some { IfOk result (λ r. r.0 ≡ None → 1 ≤ r.1) }
     ensures few { IfOk result (λ r. r.1 ≤ most) }
-    ensures moves { IfOk result (λ r. r.0 ≡ None → IsMove (stored_of R.value_of network.now.library) (users_of search.old) (choices_in search.old) network.now.cells r.1 search.old.list search.new.list agenda.old.line agenda.new.line) }
+    ensures moves { IfOk result (λ r. r.0 ≡ None → Passes search.old r.1 search.new) }
+    ensures shifted { IfOk result (λ r. r.0 ≡ None →
+        AreShifted (believed_with search.old) (believed_with search.new) network.now.cells
+        (length network.now.cells.kinds) agenda.old.line agenda.new.line) }
 {
     let nogood = match tried {
         Tried::Quiet => return Ok((Some(Outcome::Settled), 0)),
@@ -221,16 +233,20 @@ pub fn settle<R: Rule + Drop, O: Order>(
     ensures first { IfOk result (λ r. r.0 ≡ Outcome.Settled → IsFirstConsistent (problem_of (stored_of R.value_of network.old.library) network.old.cells) (users_of search.new) (choices_in search.new) search.new.list) }
     ensures rests { IfOk result (λ r. r.0 ≡ Outcome.Settled → agenda.new.line ≡ []) }
     ensures contradiction { IfOk result (λ r. IfContradiction r.0 (λ n. IsRuledOut (problem_of (stored_of R.value_of network.old.library) network.old.cells) (users_of search.new) (choices_in search.new) search.new.listed (set_of n))) }
+    ensures named { IfOk result (λ r. IfContradiction r.0 (λ n. IsBlamed search.new (set_of n))) }
     ensures passed { AllBeforeBlocked search.new }
     ensures earlier { AllBeforeRefuted (problem_of (stored_of R.value_of network.old.library) network.old.cells) (users_of search.new) (choices_in search.new) search.new.list }
     ensures spent { IfOk result (λ r. r.0 ≡ Outcome.Unsettled → r.1 ≡ budget) }
     ensures steps { IfOk result (λ r. r.1 ≤ budget) }
     ensures moves { IfOk result (λ r. Moves (problem_of (stored_of R.value_of network.old.library) network.old.cells) (choices_in search.new) search.old.list search.new.list r.1) }
     ensures earned { IfOk result (λ r. r.0 ≡ Outcome.Unsettled → budget + 1 < lists_count (choices_in search.new) * (most_steps (problem_of (stored_of R.value_of network.old.library) network.old.cells) + 1)) }
-    ensures left { IfOk result (λ r. r.0 ≡ Outcome.Unsettled → (0 < length agenda.new.line) ⊎ IsListRefuted (problem_of (stored_of R.value_of network.old.library) network.old.cells) (users_of search.new) (choices_in search.new) search.new.list) }
+    ensures left { IfOk result (λ r. r.0 ≡ Outcome.Unsettled →
+        MayGoOn (work search.new network.new.cells agenda.new.line order.new)) }
     ensures falls { IfOk result (λ r. search.new.list ≡ search.old.list → potential (problem_of (stored_of R.value_of network.old.library) network.old.cells) (beliefs (set_of search.old.worldview) network.new.cells.contents) agenda.new.line + r.1 ≤ potential (problem_of (stored_of R.value_of network.old.library) network.old.cells) (beliefs (set_of search.old.worldview) network.old.cells.contents) agenda.old.line) }
     ensures at_rest { IfOk result (λ r. agenda.old.line ≡ [] → IsFree (set_of search.old.worldview) network.old.cells → has_part search.old.listed (set_of search.old.worldview) ≡ false → (r.0 ≡ Outcome.Settled) × (r.1 ≡ 0)) }
-    ensures gone { IfOk result (λ r. Goes O.picks (stored_of R.value_of network.old.library) (users_of search.old) (choices_in search.old) search.old.list network.old.cells agenda.old.line order.old r.1 search.new.list network.new.cells agenda.new.line order.new) }
+    ensures gone { IfOk result (λ r. Goes O.picks (stored_of R.value_of network.old.library)
+        (work search.old network.old.cells agenda.old.line order.old) r.1
+        (work search.new network.new.cells agenda.new.line order.new)) }
 {
     let mut steps: u64 = 0;
     loop {

@@ -1,14 +1,15 @@
 -- The premises under which something was told of each cell.
-use Rattle.std.proofs.Common.{◌≡◌, ◌≢◌, ◌∙◌, ℕ, ◌<◌, ◌==◌, ◌&&◌, ◌||◌, Bool, true, false, IsTrue, Contains, List, [], ◌∷◌, ◌++◌, length, take, get_or, slice_index_or, slice_set, refl, sym, ap, arith, inl, inr, Option, Some, None, All}
+use Rattle.std.proofs.Common.{◌≡◌, ◌≢◌, ◌∙◌, ℕ, ◌<◌, ◌≤◌, ◌==◌, ◌&&◌, ◌||◌, not, cond, Bool, true, false, IsTrue, Contains, List, [], ◌∷◌, ◌++◌, length, take, get_or, slice_index_or, slice_set, refl, sym, ap, subst, arith, inl, inr, Option, Some, None, All}
 use Rattle.std.proofs.lemmas.Bool.{eqb-true}
 use Rattle.std.proofs.lemmas.Bool.Decides.{eqb_tells}
 use Rattle.std.proofs.lemmas.List.{get_or_default, get_or-set_other, get_or-set_same, get_or-take, length-append, length-set, length-take}
+use Rattle.std.proofs.lemmas.List.Folds.{Any-from_list_any}
 use Rattle.std.proofs.lemmas.List.Elements.{All-weaker, All-push, All-contains, All-contains_itself, All-take}
 use Rattle.prop_lattice.specs.declared.info.Info.TheVariants.{Nothing}
 use Rattle.prop_lattice.specs.Order.{Below, merge_of}
 use Rattle.prop_lattice.specs.laws.OrderLaws.{info_laws}
 use Rattle.prop_lattice.specs.Rank.{IsOf}
-use Rattle.prop_premises.specs.Sets.{set_of, union, is_within, is_at_most_one_of, IsSame}
+use Rattle.prop_premises.specs.Sets.{set_of, union, is_within, is_at_most_one_of, IsSame, IsPart}
 use Rattle.prop_tms.specs.Beliefs.{belief_of, Trims}
 use Rattle.prop_tms.proofs.BeliefLemmas.{belief_below, below_belief}
 use Rattle.prop_tms.proofs.BeliefUses.{belief_of-more}
@@ -16,7 +17,7 @@ use Rattle.prop_procedures.specs.declared.shape.Kinded.{Kinded}
 use Rattle.prop_procedures.specs.Fitting.{kind_at}
 use Rattle.prop_cells.specs.declared.instance.Statement.{Statement}
 use Rattle.prop_cells.specs.Problems.{Premises, is_member}
-use Rattle.prop_cells.specs.Data.{Data, Entry, IsStated, IsWellMade, TrimsAt, beliefs, content_of, support_of}
+use Rattle.prop_cells.specs.Data.{Data, Entry, IsStated, IsWellMade, TrimsAt, beliefs, content_of, derived_of, most_derived, support_of, told_of}
 use Rattle.prop_cells.specs.inner.Data.{IsStored, AreTold}
 use Rattle.prop_cells.proofs.Lists.{get_or-push_default}
 
@@ -91,14 +92,16 @@ told_fewer d contents told count h = record {
 
 -- ---- entries that go
 
-pub trims_at : (s told : Premises) (contents : List (List Entry)) (cell : ℕ) (old new : List Entry) → cell < length contents → old ≡ slice_index_or contents cell old → Trims Nothing merge_of told s old new → TrimsAt s contents (slice_set contents cell new) cell
-trims_at s told contents cell old new l at t =
+pub trims_at : (s told : Premises) (contents : List (List Entry)) (cell : ℕ) (old new : List Entry) → cell < length contents → old ≡ slice_index_or contents cell old → most_derived < length (derived_of told old) → Trims Nothing merge_of told s old new →
+    TrimsAt s told contents (slice_set contents cell new) cell
+trims_at s told contents cell old new l at many t =
     let is : old ≡ content_of contents cell = at ∙ get_or_default contents cell old [] l in
     let now : content_of (slice_set contents cell new) cell ≡ new = get_or-set_same contents cell new [] l in
     record {
       same_length = length-set contents cell new;
       among = rw (now, ← is) t.among;
       belief = ap (belief_of Nothing merge_of s) now ∙ t.belief ∙ ap (belief_of Nothing merge_of s) is;
+      few = λ le. let n = ap (λ es. length (derived_of told es)) is in absurd (omega (arith, n, le, many));
       others = λ c ne. get_or-set_other contents cell c new [] ne;
     }
 
@@ -113,8 +116,39 @@ pub read_there : {X : Type 0} (xs : List X) (i : ℕ) (x d : X) → i < length x
 read_there xs i x d l at = at ∙ get_or_default xs i x d l
 
 -- nothing goes
-pub trims_nothing : (s : Premises) (contents : List (List Entry)) (cell : ℕ) → TrimsAt s contents contents cell
-trims_nothing s contents cell = record { same_length = refl; among = All-contains_itself (content_of contents cell); belief = refl; others = λ c ne. refl }
+pub trims_nothing : (s told : Premises) (contents : List (List Entry)) (cell : ℕ) → TrimsAt s told contents contents cell
+trims_nothing s told contents cell = record { same_length = refl; among = All-contains_itself (content_of contents cell); belief = refl; few = λ le. refl; others = λ c ne. refl }
+
+-- what rests on one of some premises alone rests on one of more
+one_of_more : (s t : Premises) → IsPart s t → (support : List ℕ) → is_at_most_one_of s support ≡ true → is_at_most_one_of t support ≡ true
+one_of_more s t part [] h = refl
+one_of_more s t part (p ∷ ps) h = and_same (s p) (t p) (is_within (set_of (p ∷ [])) ps) (part p) h
+  where
+    and_same : (a b c : Bool) → (a ≡ true → b ≡ true) → (a && c) ≡ true → (b && c) ≡ true
+    and_same true b c f h = rw (f refl) h
+    and_same false b c f h = cc
+
+-- so no fewer are derived where less was told
+pub more_derived : (s t : Premises) → IsPart s t → (entries : List Entry) → length (derived_of t entries) ≤ length (derived_of s entries)
+more_derived s t part [] = omega arith
+more_derived s t part (e ∷ es) = by (is_at_most_one_of s e.support) (is_at_most_one_of t e.support) (one_of_more s t part e.support) (more_derived s t part es)
+  where
+    by : (a b : Bool) → (a ≡ true → b ≡ true) → length (derived_of t es) ≤ length (derived_of s es) →
+        length (cond (not b) (e ∷ derived_of t es) (derived_of t es)) ≤ length (cond (not a) (e ∷ derived_of s es) (derived_of s es))
+    by true true f ih = ih
+    by true false f ih = let no = f refl in cc
+    by false true f ih = omega (arith, ih)
+    by false false f ih = omega (arith, ih)
+
+-- what went where some premises tell of the cell went where no more do
+pub trims_told : (s told fewer : Premises) (old new : List (List Entry)) (cell : ℕ) → IsPart fewer told → TrimsAt s told old new cell → TrimsAt s fewer old new cell
+trims_told s told fewer old new cell part t = record {
+  same_length = t.same_length;
+  among = t.among;
+  belief = t.belief;
+  few = λ le. t.few (let more = more_derived fewer told part (content_of old cell) in omega (arith, le, more));
+  others = t.others;
+}
 
 -- an entry that is believed with the premise of a statement alone rests on nothing or on it
 own_alone : (told : List ℕ) (o : Option ℕ) (support : List ℕ) → ((p : ℕ) → o ≡ Some p → IsTrue (set_of told p)) → is_within (set_of (support_of o)) support ≡ true → is_at_most_one_of (set_of told) support ≡ true
@@ -134,7 +168,28 @@ member_has : (t : Premises) (o : Option ℕ) → IsTrue (is_member t o) → (q :
 member_has t None m q h = cc
 member_has t (Some p) m q h = elim (eqb_tells p q) [ inl e ↦ rw (sym e.1) m | inr e ↦ cc (e.0, h) ]
 
-module _ (d : Data) (contents : List (List Entry)) (told : List (List ℕ)) (s : Premises) (cell : ℕ) (trims : TrimsAt s d.contents contents cell)
+and_parts : (a b : Bool) → (a && b) ≡ true → (a ≡ true) × (b ≡ true)
+and_parts true b h = (refl, h)
+and_parts false b h = cc
+
+or_none : (a : Bool) → (a || false) ≡ true → a ≡ true
+or_none true h = refl
+or_none false h = h
+
+premise_is : (o : Option ℕ) (p : ℕ) → set_of (support_of o) p ≡ true → o ≡ Some p
+premise_is None p h = cc
+premise_is (Some q) p h = ap Some (eqb-true q p (or_none (q == p) h))
+
+-- the premises under which something is stated of a cell are among those that are kept for it
+pub told_part : (d : Data) (told : List (List ℕ)) (cell : ℕ) → AreTold d told → IsPart (told_of d.statements cell) (set_of (slice_index_or told cell []))
+told_part d told cell h p any =
+    let some = Any-from_list_any (λ x. (x.cell == cell) && set_of (support_of x.premise) p) d.statements any in
+    let x : Statement = some.1 in
+    let both = and_parts (x.cell == cell) (set_of (support_of x.premise) p) some.4 in
+    let each : (q : ℕ) → x.premise ≡ Some q → IsTrue (set_of (slice_index_or told x.cell []) q) = subst (λ (y : Statement). (q : ℕ) → y.premise ≡ Some q → IsTrue (set_of (slice_index_or told y.cell []) q)) some.3 (h.each some.0 x some.2) in
+    subst (λ (c : ℕ). IsTrue (set_of (slice_index_or told c []) p)) (eqb-true x.cell cell both.0) (each p (premise_is x.premise p both.1))
+
+module _ (d : Data) (contents : List (List Entry)) (told : List (List ℕ)) (s telling : Premises) (cell : ℕ) (trims : TrimsAt s telling d.contents contents cell)
     (kept : (e : Entry) → Contains (content_of d.contents cell) e → IsTrue (is_at_most_one_of (set_of (slice_index_or told cell [])) e.support) → Contains (content_of contents cell) e) where
   -- what is told of the cell is believed as before
   still_stated : (x : Statement) → ((p : ℕ) → x.premise ≡ Some p → IsTrue (set_of (slice_index_or told x.cell []) p)) → IsStated (length d.kinds) d.contents x → IsStated (length d.kinds) contents x

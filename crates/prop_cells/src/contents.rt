@@ -4,7 +4,7 @@ ghost use Rattle.std.specs.List.{list_any};
 ghost use Rattle.prop_lattice.specs.Order.{merge_of, is_contradiction};
 ghost use Rattle.prop_tms.specs.Beliefs.{AreNeeded};
 ghost use Rattle.prop_premises.specs.Sets.{set_of, union, is_within, is_at_most_one_of, IsSame};
-ghost use Rattle.prop_cells.specs.Data.{beliefs, support_of, IsSupport, IsLeanAt, AddsAt, TrimsAt, Entry, content_of};
+ghost use Rattle.prop_cells.specs.Data.{beliefs, support_of, IsSupport, IsLeanAt, AddsAt, TrimsAt, Entry, content_of, derived_of, most_derived};
 ghost use Rattle.prop_cells.specs.inner.Sides.{StandsAt, entries_below};
 
 use prop_lattice::{Info, Partial};
@@ -158,7 +158,8 @@ const MOST_DERIVED: usize = 8;
 /// Whether more entries than a cell may keep rest on something else than one of the premises that were told of it.
 #[inline]
 fn has_many_derived(content: &Tms<Info>, told: &PremiseSet) -> bool
-    ensures { result ≡ false → length (filter (λ e. not (is_at_most_one_of (set_of told.now) e.support)) content.now) ≤ 8 }
+    ensures few { result ≡ false → length (derived_of (set_of told.now) content.now) ≤ most_derived }
+    ensures many { IsTrue result → most_derived < length (derived_of (set_of told.now) content.now) }
 {
     content.len() > MOST_DERIVED && content.derived(told) > MOST_DERIVED
 }
@@ -172,9 +173,20 @@ pub(crate) fn trim_at(
     worldview: &Worldview,
 )
     requires { cell < length contents.old.items }
-    ensures trims { TrimsAt (set_of worldview.now) contents.old.items contents.new.items cell }
+    ensures trims { TrimsAt
+        (set_of worldview.now)
+        (set_of told.now)
+        contents.old.items
+        contents.new.items
+        cell }
     ensures kept { (e : Entry) → Contains (content_of contents.old.items cell) e → IsTrue (is_at_most_one_of (set_of told.now) e.support) → Contains (content_of contents.new.items cell) e }
-    ensures bounded { (length (filter (λ e. not (is_at_most_one_of (set_of told.now) e.support)) (content_of contents.new.items cell)) ≤ 8) ⊎ AreNeeded Info.Nothing merge_of (set_of told.now) (set_of worldview.now) (content_of contents.new.items cell) }
+    ensures bounded { (length (derived_of (set_of told.now) (content_of contents.new.items cell)) ≤ most_derived)
+        ⊎ AreNeeded
+        Info.Nothing
+        merge_of
+        (set_of told.now)
+        (set_of worldview.now)
+        (content_of contents.new.items cell) }
 {
     if has_many_derived(&contents[cell], told) {
         contents[cell].trim(told, worldview);

@@ -11,6 +11,7 @@ mod Firsts
 pub mod Scoping
 mod Using
 mod Placing
+mod Frames
 mod Zips
 mod Looping
 pub mod InPlace

@@ -1,9 +1,9 @@
 -- What is at hand of a use while it is expanded: more parameters change no instance so far, and each instance is right.
 use Rattle.std.proofs.Common.{◌≡◌, ◌∙◌, ℕ, zero, suc, ◌+◌, ◌<◌, List, [], ◌∷◌, ◌++◌, All, length, map, get_or, Option, Some, None, refl, sym, ap, subst, arith, inl, inr}
-use Rattle.std.specs.Prelude.{slice_get, Result, Ok, Err, OnOk}
+use Rattle.std.specs.Prelude.{slice_get}
 use Rattle.std.specs.Option.{option_map_or}
 use Rattle.std.proofs.lemmas.List.{length-map, length-append, get_or-map, map-append, append-nil, append_assoc}
-use Rattle.std.proofs.lemmas.List.Elements.{All-head, All-tail, All-push, All-weaker}
+use Rattle.std.proofs.lemmas.List.Elements.{All-head, All-tail, All-weaker}
 use Rattle.std.proofs.lemmas.Option.{slice_get_cases}
 use Rattle.prop_procedures.specs.declared.shape.Param.{Param}
 use Rattle.prop_procedures.specs.Stored.{Stored}
@@ -46,19 +46,8 @@ module _ (params params' more : List Param) (grown : params' ≡ params ++ more)
 pub none_further : (walk : walks.Walk) → ArePlaced walk → IsFurther walk walk
 none_further walk h = record { more = []; params = sym (append-nil walk.params.items); placed = h }
 
-pub same_further : {X E : Type 0} (r : Result X E) (old new : walks.Walk) → new.params.items ≡ old.params.items → new.instances.items ≡ old.instances.items → ArePlaced old → OnOk r (IsFurther old new)
-same_further (Ok x) old new p q h = record {
-  more = [];
-  params = p ∙ sym (append-nil old.params.items);
-  placed = rw (p, q) h;
-}
-same_further (Err e) old new p q h = tt
-
 -- parameters are put behind those that are there
 module _ (old mid : walks.Walk) (more : List Param) (grown : mid.params.items ≡ old.params.items ++ more) (same : mid.instances.items ≡ old.instances.items) (kinds : mid.kinds.items ≡ old.kinds.items) (spare : mid.spare ≡ old.spare) (h : ArePlaced old) where
-  pub mid_placed : ArePlaced mid
-  mid_placed = rw same (places_still old.params.items mid.params.items more grown old.instances.items h)
-
   pub mid_same : walk_of mid ≡ walk_of old
   mid_same i = record {
     kinds = kinds i;
@@ -68,13 +57,6 @@ module _ (old mid : walks.Walk) (more : List Param) (grown : mid.params.items �
 
   -- and an instance behind them
   module _ (new : walks.Walk) (x : instances.Placed) (params : new.params.items ≡ mid.params.items) (pushed : new.instances.items ≡ mid.instances.items ++ x ∷ []) where
-    pub pushed_further : IsPlaceIn mid.params.items x.param → IsFurther old new
-    pushed_further there = record {
-      more = more;
-      params = params ∙ grown;
-      placed = rw (params, pushed) (All-push (λ (x : instances.Placed). IsPlaceIn mid.params.items x.param) mid.instances.items x mid_placed there);
-    }
-
     pub pushed_means : (n : ℕ) (place : Option ℕ) (cells : List ℕ) → new.kinds.items ≡ mid.kinds.items → new.spare ≡ mid.spare → x.procedure ≡ n → x.param ≡ place → cells_of x ≡ cells →
         walk_of new ≡ with_placed (walk_of old) (record { procedure = n; given = param_at mid.params.items place; cells = cells })
     pushed_means n place cells k s is_n is_place is_cells =
@@ -84,15 +66,6 @@ module _ (old mid : walks.Walk) (more : List Param) (grown : mid.params.items �
           placed = ((λ j. map (placed_of (params j)) (pushed j)) ∙ map-append (placed_of mid.params.items) mid.instances.items (x ∷ []) ∙ ap (λ z. map (placed_of mid.params.items) mid.instances.items ++ z ∷ []) it) i;
           spare = s i;
         }) ∙ ap (λ e. with_placed e (record { procedure = n; given = param_at mid.params.items place; cells = cells })) mid_same
-
-  -- and then more happened
-  pub then_further : {X E : Type 0} (r : Result X E) (new : walks.Walk) → OnOk r (IsFurther mid new) → OnOk r (IsFurther old new)
-  then_further (Ok x) new f = record {
-    more = more ++ f.more;
-    params = f.params ∙ ap (λ ps. ps ++ f.more) grown ∙ append_assoc old.params.items more f.more;
-    placed = f.placed;
-  }
-  then_further (Err e) new f = f
 
 -- each step goes further
 pub further_on : (old mid new : walks.Walk) → IsFurther old mid → IsFurther mid new → IsFurther old new

@@ -92,7 +92,7 @@ module _ (ks : List KeptDefinition) (kept : AreKept ks) where
   abbrev IsBelow : NumberedStep → Type 0
   IsBelow = IsUseBelow (all_bare ks) (length ks)
 
-  plan_is : (n : ℕ) (k : KeptDefinition) → n < length ks → k ≡ get_or ks n k → plan_of ks n ≡ k.plan.items
+  pub plan_is : (n : ℕ) (k : KeptDefinition) → n < length ks → k ≡ get_or ks n k → plan_of ks n ≡ k.plan.items
   plan_is n k l at = ap (λ o. option_map_or (λ (k : KeptDefinition). k.plan.items) o []) (slice_get_read ks (length ks) n k refl l at)
 
   short_makes : (words : Vocabulary) → (step : NumberedStep) → IsUseBelow (all_bare ks) (length ks) step → (given : Option Param) (cells : List ℕ) (rest : List NumberedStep) (e : Walk) →

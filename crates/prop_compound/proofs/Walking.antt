@@ -1,23 +1,22 @@
 -- Going through the steps of a definition.
-use Rattle.std.proofs.Common.{◌≡◌, ◌∙◌, ℕ, ◌+◌, ◌<◌, ◌≤◌, List, [], ◌∷◌, ◌++◌, length, drop, get_or, subst, refl, sym, ap, arith, inl, inr, Some}
-use Rattle.std.specs.Prelude.{Option, reverse, slice_get, Result, Ok, Err, OnOk}
+use Rattle.std.proofs.Common.{◌≡◌, ◌∙◌, ℕ, ◌+◌, ◌<◌, List, ◌∷◌, length, drop, get_or, subst, refl, sym, ap, arith, inl, inr, Some}
+use Rattle.std.specs.Prelude.{Option, reverse, slice_get}
 use Rattle.std.specs.Option.{option_map, option_map_or}
-use Rattle.std.proofs.lemmas.List.{drop_more, length-map, length-append, length-reverse, get_or-map}
+use Rattle.std.proofs.lemmas.List.{drop_more, length-map, length-reverse, get_or-map}
 use Rattle.std.proofs.lemmas.List.Elements.{All-weaker}
 use Rattle.std.proofs.lemmas.Option.{slice_get_cases, slice_get-map, slice_get_read}
 use Rattle.prop_compound.specs.declared.definition.Passing.{Passing}
 use Rattle.prop_procedures.specs.declared.shape.Param.{Param}
 use Rattle.prop_vocabulary.specs.Vocabulary.{Vocabulary}
-use Rattle.prop_procedures.specs.declared.shape.Kinded.{Kinded}
-use Rattle.prop_procedures.specs.Fitting.{kind_at}
 use Rattle.prop_compound.specs.declared.definition.Used.{Used}
 use Rattle.prop_compound.specs.declared.definition.Used.TheVariants as uses
 use Rattle.prop_compound.specs.declared.definition.KeptDefinition.{KeptDefinition}
 use Rattle.prop_compound.specs.declared.definition.NumberedStep.{NumberedStep}
 use Rattle.prop_compound.specs.declared.definition.NumberedStep.TheVariants.{Local, Like, Use}
 use Rattle.prop_compound.specs.Definitions.{Definition}
-use Rattle.prop_compound.specs.Expansion.{Walk, cell_at, cells_at, param_passed, use_expanded, steps_expanded, definition_expanded}
+use Rattle.prop_compound.specs.Expansion.{Walk, cells_at, param_passed, use_expanded, steps_expanded, definition_expanded}
 use Rattle.prop_compound.specs.Kept.{bare, all_bare}
+use Rattle.prop_compound.specs.inner.Frames.{IsOnCells}
 use Rattle.prop_compound.specs.inner.Kept.{places_made, IsInScope, AreInScope, IsUseBelow, IsKept, AreKept}
 use Rattle.prop_compound.proofs.Latest.{latest_at, latest_of}
 use Rattle.prop_compound.proofs.Unrolling.{Adds, IsEarlier, AreOrdered, unrolled}
@@ -67,37 +66,16 @@ params_at ks n k count l at e =
     let there : slice_get (all_bare ks) n ≡ Some (bare k) = slice_get-map bare ks n ∙ ap (option_map bare) (slice_get_read ks (length ks) n k refl l at) in
     sym (ap (λ o. option_map_or (λ (d : Definition). d.params) o 0) there) ∙ e
 
--- ---- what one step adds, where nothing went wrong
+-- ---- what one step adds
 
 -- what is at hand behind a step makes the same with the further steps as what was at hand before it does with the step too
 module _ (words : Vocabulary) (D : Adds) (given : Option Param) (cells : List ℕ) (step : NumberedStep) (e : Walk) where
   abbrev pub Goes : List ℕ → Walk → Type 0
   Goes cells' e' = (steps : List NumberedStep) → steps_expanded (param_passed words) D given cells (step ∷ steps) e ≡ steps_expanded (param_passed words) D given cells' steps e'
 
-  module _ (kind : Kinded) (cells' : List ℕ) (kinds' : List Kinded) where
-    pub local_goes : {X E : Type 0} (r : Result X E) → step ≡ Local kind → OnOk r (kinds' ≡ e.kinds ++ kind ∷ []) → OnOk r (cells' ≡ cells ++ length e.kinds ∷ []) → OnOk r (Goes cells' (record e { kinds = kinds' }))
-    local_goes (Ok x) s w p = λ steps. ap (λ z. steps_expanded (param_passed words) D given cells (z ∷ steps) e) s ∙ (λ i. steps_expanded (param_passed words) D given (sym p i) steps (record e { kinds = sym w i }))
-    local_goes (Err y) s w p = w
-
-    pub like_goes : {X E : Type 0} (r : Result X E) (place : ℕ) → step ≡ Like place → kind ≡ kind_at e.kinds (cell_at cells place) → OnOk r (kinds' ≡ e.kinds ++ kind ∷ []) → OnOk r (cells' ≡ cells ++ length e.kinds ∷ []) → OnOk r (Goes cells' (record e { kinds = kinds' }))
-    like_goes (Ok x) place s k w p = λ steps. ap (λ z. steps_expanded (param_passed words) D given cells (z ∷ steps) e) s ∙ (λ i. steps_expanded (param_passed words) D given (sym p i) steps (record e { kinds = sym (w ∙ ap (λ z. e.kinds ++ z ∷ []) k) i }))
-    like_goes (Err y) place s k w p = w
-
-  pub one_made : {X E : Type 0} (r : Result X E) (cells' : List ℕ) → places_made step ≡ 1 → OnOk r (cells' ≡ cells ++ length e.kinds ∷ []) → OnOk r (length cells' ≡ length cells + places_made step)
-  one_made (Ok x) cells' s p = omega (arith, s, ap length p, length-append cells (length e.kinds ∷ []))
-  one_made (Err y) cells' s p = p
-
-  module _ (used : Used) (places : List ℕ) (passing : Passing) (s : step ≡ Use used places passing) where
-    pub use_goes : (used' : Used) → used ≡ used' → (chosen : List ℕ) → chosen ≡ cells_at cells places → (p : Option Param) → p ≡ param_passed words given passing → (e' : Walk) → e' ≡ use_expanded D used' chosen p e → Goes cells e'
-    use_goes used' u chosen c p q e' w =
-        λ steps. ap (λ z. steps_expanded (param_passed words) D given cells (z ∷ steps) e) s ∙ ap (steps_expanded (param_passed words) D given cells steps) (sym (w ∙ (λ i. use_expanded D (sym u i) (c i) (q i) e)))
-
-    pub use_goes_if : {X E : Type 0} (r : Result X E) (used' : Used) → used ≡ used' → (chosen : List ℕ) → chosen ≡ cells_at cells places → (p : Option Param) → p ≡ param_passed words given passing → (mid e' : Walk) → mid ≡ e → OnOk r (e' ≡ use_expanded D used' chosen p mid) → OnOk r (Goes cells e')
-    use_goes_if (Ok x) used' u chosen c p q mid e' same w = use_goes used' u chosen c p q e' (w ∙ ap (use_expanded D used' chosen p) same)
-    use_goes_if (Err y) used' u chosen c p q mid e' same w = w
-
-    pub none_made : length cells ≡ length cells + places_made step
-    none_made = omega (arith, ap places_made s)
+  pub use_goes : (used : Used) (places : List ℕ) (passing : Passing) → step ≡ Use used places passing → (used' : Used) → used ≡ used' → (chosen : List ℕ) → chosen ≡ cells_at cells places → (p : Option Param) → p ≡ param_passed words given passing → (e' : Walk) → e' ≡ use_expanded D used' chosen p e → Goes cells e'
+  use_goes used places passing s used' u chosen c p q e' w =
+      λ steps. ap (λ z. steps_expanded (param_passed words) D given cells (z ∷ steps) e) s ∙ ap (steps_expanded (param_passed words) D given cells steps) (sym (w ∙ (λ i. use_expanded D (sym u i) (c i) (q i) e)))
 
 -- going on behind a step
 module _ (all : List NumberedStep) (i : ℕ) (step : NumberedStep) (l : i < length all) (at : step ≡ get_or all i step) where
@@ -114,22 +92,9 @@ module _ (all : List NumberedStep) (i : ℕ) (step : NumberedStep) (l : i < leng
   goes_on words D given cells cells' e e' h =
       sym (h (drop (i + 1) all)) ∙ ap (λ steps. steps_expanded (param_passed words) D given cells steps e) (sym rest_is)
 
--- a use of an earlier definition is of one that there is
-pub below_all : (ds : List Definition) (n m : ℕ) → n ≤ m → (step : NumberedStep) → IsUseBelow ds n step → IsUseBelow ds m step
-below_all ds n m l (Local kind) h = tt
-below_all ds n m l (Like place) h = tt
-below_all ds n m l (Use (uses.Procedure k) cells passing) h = h
-below_all ds n m l (Use (uses.Definition k) cells passing) h = (let b = h.0 in omega (arith, b, l), h.1)
-
--- ---- termination
-
--- one more than the number of the definition that the step uses
-abbrev pub reach : NumberedStep → ℕ
-reach (Use (uses.Definition m) cells passing) = m + 1
-reach step = 0
-
-pub reach_below : (ds : List Definition) (n : ℕ) (step : NumberedStep) → IsUseBelow ds n step → reach step ≤ n
-reach_below ds n (Local kind) h = omega arith
-reach_below ds n (Like place) h = omega arith
-reach_below ds n (Use (uses.Procedure k) cells passing) h = omega arith
-reach_below ds n (Use (uses.Definition m) cells passing) h = let b = h.0 in omega (arith, b)
+-- a use of a procedure is on one cell at least
+pub on_cells : (ds : List Definition) (n : ℕ) (step : NumberedStep) → IsUseBelow ds n step → IsOnCells step
+on_cells ds n (Local kind) h = tt
+on_cells ds n (Like place) h = tt
+on_cells ds n (Use (uses.Procedure k) cells passing) h = h
+on_cells ds n (Use (uses.Definition m) cells passing) h = tt

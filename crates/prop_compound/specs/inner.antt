@@ -3,3 +3,4 @@ pub mod Defining
 pub mod Shortcuts
 pub mod Kept
 pub mod Flattened
+pub mod Frames

@@ -1,11 +1,11 @@
 //! The instances and fresh cells that a use stands for.
-ghost use Rattle.std.specs.Prelude.{◌≡◌, ◌<◌, ◌+◌, ◌∷◌, ◌++◌, [], All, length, slice_get, IfOk, OnOk};
-ghost use Rattle.std.specs.Option.{option_map_or};
+ghost use Rattle.std.specs.Prelude.{◌≡◌, ◌<◌, ◌+◌, ◌∷◌, ◌++◌, [], All, length, IfOk, IfSome, OnOk};
 ghost use Rattle.prop_procedures.specs.Flats.{cells_of};
 ghost use Rattle.prop_compound.specs.Expansion.{cells_at};
-ghost use Rattle.prop_compound.specs.inner.Flattened.{IsAdded, IsStepAdded, IsPlaceIn, ArePlaced, IsFurther};
-ghost use Rattle.prop_compound.specs.Kept.{all_bare};
-ghost use Rattle.prop_compound.specs.inner.Kept.{places_made, IsInScope, IsUseBelow, AreKept};
+ghost use Rattle.prop_compound.specs.inner.Flattened.{IsAdded, IsPlaceIn, ArePlaced, IsFurther};
+ghost use Rattle.prop_compound.specs.inner.Frames.{IsOnCells, IsStepTaken, IsBegun};
+ghost use Rattle.prop_compound.specs.Kept.{all_bare, IsUseThere};
+ghost use Rattle.prop_compound.specs.inner.Kept.{places_made, IsInScope, AreKept};
 
 use crate::definition::{KeptDefinition, NumberedStep, Used};
 use crate::walk::{Walk, kind_at, param_place};
@@ -61,71 +61,103 @@ pub(crate) fn placed(procedure: usize, param: Option<usize>, mut cells: Vec<usiz
     }
 }
 
-/// Adds the cells and instances that a use of the definition with this number stands for, on these cells and given the parameter
-/// at this place.
-#[cycle(expanding)]
+/// A definition under way: its number, its next step, its cells by their places so far, and the place of the parameter that it is
+/// given.
+#[derive(Drop)]
+pub(crate) struct Frame {
+    pub(crate) number: usize,
+    pub(crate) next: usize,
+    pub(crate) cells: Vec<usize>,
+    pub(crate) given: Option<usize>,
+}
+
+/// Takes the next step of a definition under way: adds its cell or its instance, or answers the definition that it uses, before the
+/// first step of that.
+fn take_step(
+    alloc: Global,
+    words: &Vocabulary,
+    step: &NumberedStep,
+    frame: &mut Frame,
+    walk: &mut Walk,
+) -> Result<Option<Frame>, AllocError>
+    requires in_scope { IsInScope (length frame.old.cells.items) step.now }
+    requires on_cells { IsOnCells step.now }
+    requires given { IsPlaceIn walk.old.params.items frame.old.given }
+    requires placed { ArePlaced walk.old }
+    ensures frame { frame.new ≡ record frame.old { cells = frame.new.cells } }
+    ensures places { OnOk result
+        (length frame.new.cells.items ≡ length frame.old.cells.items + places_made step.now) }
+    ensures steps { IfOk result
+        (IsStepTaken words.now step.now frame.old walk.old frame.new walk.new) }
+    ensures used { IfOk result (λ used. IfSome used (IsBegun step.now walk.new)) }
+    ensures further { OnOk result (IsFurther walk.old walk.new) }
+{
+    match step {
+        NumberedStep::Local(kind) => {
+            add_local(*kind, &mut frame.cells, &mut walk.kinds)?;
+            Ok(None)
+        }
+        NumberedStep::Like(place) => {
+            let kind = kind_at(&walk.kinds, frame.cells[*place]);
+            add_local(kind, &mut frame.cells, &mut walk.kinds)?;
+            Ok(None)
+        }
+        NumberedStep::Use(used, places, passing) => {
+            let cells = cells_at(alloc, &frame.cells, places.as_slice())?;
+            let given = param_place(alloc, words, &mut walk.params, frame.given, *passing)?;
+            match *used {
+                Used::Procedure(procedure) => {
+                    walk.instances.push(placed(procedure, given, cells))?;
+                    Ok(None)
+                }
+                Used::Definition(number) => Ok(Some(Frame {
+                    number,
+                    next: 0,
+                    cells,
+                    given,
+                })),
+            }
+        }
+    }
+}
+
+/// Adds the cells and instances that a use of a definition stands for, which is before its first step. While one that it uses is under
+/// way a definition waits in a list, so that no use takes more of the stack than another.
 pub(crate) fn expand_definition(
     alloc: Global,
     definitions: &[KeptDefinition],
     words: &Vocabulary,
-    number: usize,
-    mut cells: Vec<usize>,
-    given: Option<usize>,
+    mut frame: Frame,
     walk: &mut Walk,
 ) -> Result<(), AllocError>
-    requires number { number < length definitions.now }
+    requires there { let count = length frame.cells.items in
+        IsUseThere (all_bare definitions.now) (Used.Definition frame.number) count }
+    requires next { frame.next ≡ 0 }
     requires kept { AreKept definitions.now }
-    requires count { option_map_or (λ d. d.params) (slice_get (all_bare definitions.now) number) 0 ≡ length cells.items }
-    requires given { IsPlaceIn walk.old.params.items given }
+    requires given { IsPlaceIn walk.old.params.items frame.given }
     requires placed { ArePlaced walk.old }
-    ensures made { OnOk result (IsAdded words.now (all_bare definitions.now) (Used.Definition number) cells.items given walk.old walk.new) }
-    ensures further { OnOk result (IsFurther walk.old walk.new) }
+    ensures { let used = Used.Definition frame.number in
+        let cells = frame.cells.items in
+        let definitions = all_bare definitions.now in
+        OnOk result (IsAdded words.now definitions used cells frame.given walk.old walk.new) }
 {
-    let definition = &definitions[number];
-    for step in &definition.plan {
-        expand_step(alloc, definitions, words, step, given, &mut cells, walk)?;
-    }
-    Ok(())
-}
-
-/// Adds the cells and instances that a step of a definition stands for, on the cells of the places so far, where the definition is
-/// given the parameter at this place.
-#[cycle(expanding)]
-fn expand_step(
-    alloc: Global,
-    definitions: &[KeptDefinition],
-    words: &Vocabulary,
-    step: &NumberedStep,
-    given: Option<usize>,
-    cells: &mut Vec<usize>,
-    walk: &mut Walk,
-) -> Result<(), AllocError>
-    requires kept { AreKept definitions.now }
-    requires in_scope { IsInScope (length cells.old.items) step.now }
-    requires used { IsUseBelow (all_bare definitions.now) (length definitions.now) step.now }
-    requires given { IsPlaceIn walk.old.params.items given }
-    requires placed { ArePlaced walk.old }
-    ensures steps { OnOk result (IsStepAdded words.now (all_bare definitions.now) step.now given cells.old.items walk.old cells.new.items walk.new) }
-    ensures places { OnOk result (length cells.new.items ≡ length cells.old.items + places_made step.now) }
-    ensures further { OnOk result (IsFurther walk.old walk.new) }
-{
-    match step {
-        NumberedStep::Local(kind) => add_local(*kind, cells, &mut walk.kinds),
-        NumberedStep::Like(place) => {
-            let kind = kind_at(&walk.kinds, cells[*place]);
-            add_local(kind, cells, &mut walk.kinds)
-        }
-        NumberedStep::Use(used, places, passing) => {
-            let chosen = cells_at(alloc, cells, places.as_slice())?;
-            let passed = param_place(alloc, words, &mut walk.params, given, *passing)?;
-            match *used {
-                Used::Procedure(procedure) => {
-                    walk.instances.push(placed(procedure, passed, chosen))?;
-                    Ok(())
+    let mut waiting = Vec::new(alloc);
+    loop {
+        let plan = &definitions[frame.number].plan;
+        if frame.next < plan.len() {
+            let step = &plan[frame.next];
+            frame.next += 1;
+            match take_step(alloc, words, step, &mut frame, walk)? {
+                Some(used) => {
+                    waiting.push(frame)?;
+                    frame = used;
                 }
-                Used::Definition(earlier) => {
-                    expand_definition(alloc, definitions, words, earlier, chosen, passed, walk)
-                }
+                None => {}
+            }
+        } else {
+            match waiting.pop() {
+                Some(last) => frame = last,
+                None => return Ok(()),
             }
         }
     }

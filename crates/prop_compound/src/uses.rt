@@ -15,7 +15,7 @@ ghost use Rattle.prop_compound.specs.Kept.{IsDefinedOver, IsUseThere};
 
 use crate::definition::Used;
 use crate::definitions::Definitions;
-use crate::expanding::{expand_definition, placed};
+use crate::expanding::{Frame, expand_definition, placed};
 use crate::fitting::fitted;
 use crate::walk::Walk;
 use prop_lattice::{Limit, Refusal};
@@ -126,7 +126,13 @@ impl Definitions {
                 Ok(())
             }
             Used::Definition(number) => {
-                expand_definition(alloc, &self.definitions, words, number, cells, given, walk)
+                let frame = Frame {
+                    number,
+                    next: 0,
+                    cells,
+                    given,
+                };
+                expand_definition(alloc, &self.definitions, words, frame, walk)
             }
         }
     }

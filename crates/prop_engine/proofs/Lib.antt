@@ -5,3 +5,5 @@ pub mod Runs
 pub mod Feeds
 pub mod Pieces
 pub mod Prefixes
+pub mod Refusals
+pub mod Turns

@@ -1,5 +1,5 @@
 -- What a line is answered, and what is written for it.
-use Rattle.std.specs.Prelude.{◌≡◌, ◌⊎◌, ℕ, List, [], ◌∷◌, ◌++◌, codes, Bool, true, false, Result, Ok, Err, string_bytes}
+use Rattle.std.specs.Prelude.{◌≡◌, ◌⊎◌, ℕ, List, [], ◌∷◌, ◌++◌, codes, Bool, true, false, Result, Ok, Err}
 use Rattle.prop_lattice.specs.declared.refusal.Refusal.{Refusal}
 use Rattle.prop_lattice.specs.declared.refusal.Refusal.TheVariants.{Memory}
 use Rattle.prop_lattice.specs.Refusals.{reply_to}
@@ -15,7 +15,7 @@ pub data Answer : Type 0 where
 abbrev pub answer_of : Reply → Answer
 answer_of Reply.Silent = Silent
 answer_of Reply.Done = Done
-answer_of (Reply.Text text) = Text (string_bytes text)
+answer_of (Reply.Text text) = Text text
 answer_of (Reply.Refused refusal) = Refused refusal
 
 -- the answer to a command that is carried out without a word, or refused

@@ -1,7 +1,24 @@
--- What a clause reads of a watched device, and of what one call of it did.
+-- What a clause reads of watched devices, and of what one call of them did.
 use Rattle.std.specs.Prelude.{◌≡◌, ℕ, ◌+◌, ◌-◌, ◌^◌, min, Bool, List, length, Result, ◌==◌, ◌&&◌, not, true, false, Option, ◌++◌, ◌⊎◌}
 use Rattle.std.specs.Io.KnownBytes.{Appends}
 use Rattle.prop_engine.specs.declared.watched.Watched.{Watched}
+use Rattle.prop_engine.specs.declared.watched.Devices.{Devices}
+
+-- the reader of a session
+abbrev pub reader : {Rd W : Type 0} → Devices Rd W → Watched Rd
+reader d = d.reader
+
+-- its writer
+abbrev pub writer : {Rd W : Type 0} → Devices Rd W → Watched W
+writer d = d.writer
+
+-- how many bytes of the reply to the last line that was carried out are not written
+abbrev pub owed : {Rd W : Type 0} → Devices Rd W → ℕ
+owed d = d.owed
+
+-- whether a read came, or a line was carried out, while a reply was to be written or passed on; or a write was asked for more than was owed
+abbrev pub has_gone_ahead : {Rd W : Type 0} → Devices Rd W → Bool
+has_gone_ahead d = d.has_gone_ahead
 
 -- the reader or the writer itself
 abbrev pub device : {T : Type 0} → Watched T → T
@@ -19,7 +36,7 @@ has_stopped w = w.has_stopped
 abbrev pub is_flushed : {T : Type 0} → Watched T → Bool
 is_flushed w = w.is_flushed
 
--- how many reads or writes it was asked for, which stays at the largest u64
+-- how many reads it was asked for, which stays at the largest u64
 abbrev pub calls : {T : Type 0} → Watched T → ℕ
 calls w = w.calls
 
@@ -41,9 +58,18 @@ pub record IsFresh {T : Type 0} (w : Watched T) : Type 0 where
   pub not_stopped : has_stopped w ≡ false
   pub flushed : is_flushed w ≡ true
 
+-- each reply was written whole and passed on
+pub record IsPassedOn {Rd W : Type 0} (d : Devices Rd W) : Type 0 where
+  pub fresh : IsFresh (writer d)
+  pub paid : owed d ≡ 0
+
 -- a call has failed, or has moved none of its bytes
 abbrev pub IsFaulty : {T : Type 0} → Watched T → Type 0
 IsFaulty w = (has_failed w ≡ true) ⊎ (has_stopped w ≡ true)
+
+-- whether a reply is to be written or passed on
+abbrev pub waits : {Rd W : Type 0} → Devices Rd W → Bool
+waits d = not (owed d == 0 && is_flushed (writer d))
 
 -- one more call, as it is counted
 abbrev pub one_more : ℕ → ℕ
@@ -53,6 +79,11 @@ one_more n = min (n + 1) (2 ^ 64 - 1)
 abbrev pub moved_none : {E : Type 0} → Result ℕ E → List ℕ → Bool
 moved_none (Result.Ok n) bytes = (n == 0) && not (length bytes == 0)
 moved_none (Result.Err _) bytes = false
+
+-- how many bytes a write took
+abbrev pub taken : {E : Type 0} → Result ℕ E → ℕ
+taken (Result.Ok n) = n
+taken (Result.Err _) = 0
 
 -- a writer took a prefix of the bytes
 abbrev pub AppendsFront : Option (List ℕ) → Option (List ℕ) → List ℕ → Type 0

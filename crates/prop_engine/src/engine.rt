@@ -2,7 +2,7 @@
 ghost use Rattle.std.specs.Prelude.{◌≡◌, ◌≢◌, ◌↔◌, ◌⊎◌, ℕ, ◌+◌, ◌<◌, ◌≤◌, ◌^◌, List, length, min, max, true, false};
 ghost use Rattle.std.specs.Prelude.{OnOk, OnErr, IfOk, IfErr, MatchResult, IsErrOf};
 ghost use Rattle.std.specs.Io.KnownBytes.{Appends, Consumes};
-ghost use Rattle.prop_engine.specs.Watched.{device, has_failed, has_stopped, has_flushed_idly, calls, widest, narrowest, AppendsFront, IsFaulty, IsFresh};
+ghost use Rattle.prop_engine.specs.Watched.{reader, writer, has_gone_ahead, device, has_failed, has_stopped, has_flushed_idly, calls, widest, narrowest, AppendsFront, IsFaulty, IsFresh, IsPassedOn};
 ghost use Rattle.prop_engine.specs.Answers.{Answer, Silent, text_written};
 ghost use Rattle.prop_engine.specs.inner.Progress.{CountsAnswer, Advances, Stops, GrowsAtMost};
 ghost use Rattle.prop_engine.specs.Endings.{Tells, WritesTranscript, WritesPrefix};
@@ -12,30 +12,38 @@ use crate::outcome::{Counts, EngineFault};
 use crate::pending::Pending;
 use crate::reply::Reply;
 use crate::sending::write_reply;
-use crate::watched::Watched;
+use crate::watched::Devices;
 use std::io::{Read, Write};
 
 /// Carries out a line and writes its reply.
-fn answer<M: Interpreter, W: Write>(
+fn answer<M: Interpreter, Rd: Read, W: Write>(
     interpreter: &mut M,
     line: &[u8],
-    writer: &mut Watched<W>,
+    devices: &mut Devices<Rd, W>,
     counts: &mut Counts,
 ) -> Result<(), EngineFault>
     requires ready { M.is_ready interpreter.old }
+    requires passed_on { IsPassedOn devices.old }
     requires lines { counts.old.lines < 2 ^ 127 }
     requires refused { counts.old.refused < 2 ^ 127 }
     ensures ready { M.is_ready interpreter.new }
     ensures same { M.setting interpreter.new ≡ M.setting interpreter.old }
-    ensures step { (answer : Answer) × M.machine (M.setting interpreter.old) (M.state interpreter.old) line.now answer (M.state interpreter.new) × MatchResult result
-        (λ _. Appends (W.contents (device writer.old)) (W.contents (device writer.new)) (text_written answer) × CountsAnswer counts.old counts.new answer)
-        (λ _. AppendsFront (W.contents (device writer.old)) (W.contents (device writer.new)) (text_written answer) × (answer ≢ Silent)) }
-    ensures fault { IfErr result (λ e. (e ≡ EngineFault.Write) × IsFaulty writer.new) }
-    ensures fresh { OnOk result (IsFresh writer.old → IsFresh writer.new) }
-    ensures needed { has_flushed_idly writer.new ≡ has_flushed_idly writer.old }
+    ensures step { (answer : Answer)
+        × M.machine (M.setting interpreter.old) (M.state interpreter.old) line.now answer
+        (M.state interpreter.new) × MatchResult result
+        (λ _. Appends (W.contents (device (writer devices.old)))
+        (W.contents (device (writer devices.new))) (text_written answer)
+        × CountsAnswer counts.old counts.new answer)
+        (λ _. AppendsFront (W.contents (device (writer devices.old)))
+        (W.contents (device (writer devices.new))) (text_written answer) × (answer ≢ Silent)) }
+    ensures fault { IfErr result (λ e. (e ≡ EngineFault.Write) × IsFaulty (writer devices.new)) }
+    ensures reader { reader devices.new ≡ reader devices.old }
+    ensures in_turn { has_gone_ahead devices.new ≡ has_gone_ahead devices.old }
+    ensures passed_on { OnOk result (IsPassedOn devices.new) }
+    ensures needed { has_flushed_idly (writer devices.new) ≡ has_flushed_idly (writer devices.old) }
 {
-    let reply = interpreter.interpret(line);
-    write_reply(writer, &reply)?;
+    let reply = devices.carry_out(interpreter, line);
+    write_reply(devices, &reply)?;
     counts.lines += 1;
     if let Reply::Refused(_) = reply {
         counts.refused += 1;
@@ -44,30 +52,40 @@ fn answer<M: Interpreter, W: Write>(
 }
 
 /// Takes the next piece of the input.
-fn feed<M: Interpreter, W: Write>(
+fn feed<M: Interpreter, Rd: Read, W: Write>(
     interpreter: &mut M,
     piece: &[u8],
     pending: &mut Pending,
-    writer: &mut Watched<W>,
+    devices: &mut Devices<Rd, W>,
     counts: &mut Counts,
 ) -> Result<(), EngineFault>
     requires ready { M.is_ready interpreter.old }
+    requires passed_on { IsPassedOn devices.old }
     requires lines { counts.old.lines + length piece.now < 2 ^ 127 }
     requires refused { counts.old.refused + length piece.now < 2 ^ 127 }
     ensures ready { M.is_ready interpreter.new }
     ensures same { M.setting interpreter.new ≡ M.setting interpreter.old }
-    ensures ok { OnOk result ((output : List ℕ) × Appends (W.contents (device writer.old)) (W.contents (device writer.new)) output
-        × Advances (M.machine (M.setting interpreter.old)) (M.state interpreter.old) pending.old counts.old piece.now output (M.state interpreter.new) pending.new counts.new) }
-    ensures err { OnErr result ((output : List ℕ) × Appends (W.contents (device writer.old)) (W.contents (device writer.new)) output
-        × Stops (M.machine (M.setting interpreter.old)) (M.state interpreter.old) pending.old counts.old piece.now output (M.state interpreter.new)) }
+    ensures ok { OnOk result ((output : List ℕ) × Appends (W.contents (device (writer devices.old)))
+        (W.contents (device (writer devices.new))) output
+        × Advances (M.machine (M.setting interpreter.old))
+        (M.state interpreter.old) pending.old counts.old piece.now output
+        (M.state interpreter.new) pending.new counts.new) }
+    ensures err { OnErr result
+        ((output : List ℕ) × Appends (W.contents (device (writer devices.old)))
+        (W.contents (device (writer devices.new))) output
+        × Stops (M.machine (M.setting interpreter.old))
+        (M.state interpreter.old) pending.old counts.old piece.now output
+        (M.state interpreter.new)) }
     ensures bounded { OnOk result (GrowsAtMost counts.old counts.new (length piece.now)) }
-    ensures fault { IfErr result (λ e. (e ≡ EngineFault.Write) × IsFaulty writer.new) }
-    ensures fresh { OnOk result (IsFresh writer.old → IsFresh writer.new) }
-    ensures needed { has_flushed_idly writer.new ≡ has_flushed_idly writer.old }
+    ensures fault { IfErr result (λ e. (e ≡ EngineFault.Write) × IsFaulty (writer devices.new)) }
+    ensures reader { reader devices.new ≡ reader devices.old }
+    ensures in_turn { has_gone_ahead devices.new ≡ has_gone_ahead devices.old }
+    ensures passed_on { OnOk result (IsPassedOn devices.new) }
+    ensures needed { has_flushed_idly (writer devices.new) ≡ has_flushed_idly (writer devices.old) }
 {
     for byte in piece {
         if *byte == b'\n' {
-            answer(interpreter, pending.as_slice(), writer, counts)?;
+            answer(interpreter, pending.as_slice(), devices, counts)?;
             pending.clear();
         } else {
             pending.push(*byte);
@@ -81,66 +99,84 @@ fn feed<M: Interpreter, W: Write>(
 /// carried out. It takes no memory beside what the lines take.
 pub fn run_session<M: Interpreter, Rd: Read, W: Write>(
     interpreter: &mut M,
-    reader: &mut Watched<Rd>,
-    writer: &mut Watched<W>,
+    devices: &mut Devices<Rd, W>,
     reads: u64,
 ) -> Result<Counts, EngineFault>
     requires ready { M.is_ready interpreter.old }
-    requires reader { IsFresh reader.old }
-    requires writer { IsFresh writer.old }
+    requires reader { IsFresh (reader devices.old) }
+    requires writer { IsPassedOn devices.old }
     ensures ready { M.is_ready interpreter.new }
     ensures same { M.setting interpreter.new ≡ M.setting interpreter.old }
 
     // What was written is a transcript of all that the reader had left.
-    ensures transcript { IfOk result (λ counts. WritesTranscript (M.machine (M.setting interpreter.old)) (Rd.remaining (device reader.old))
-        (W.contents (device writer.old)) (W.contents (device writer.new)) counts (M.state interpreter.old) (M.state interpreter.new)) }
+    ensures transcript { IfOk result
+        (λ counts. WritesTranscript (M.machine (M.setting interpreter.old))
+        (Rd.remaining (device (reader devices.old)))
+        (W.contents (device (writer devices.old))) (W.contents (device (writer devices.new))) counts
+        (M.state interpreter.old) (M.state interpreter.new)) }
     // At a fault it is the prefix of an allowed one.
-    ensures prefix { OnErr result (WritesPrefix (M.machine (M.setting interpreter.old)) (Rd.remaining (device reader.old))
-        (W.contents (device writer.old)) (W.contents (device writer.new)) (M.state interpreter.old)) }
+    ensures prefix { OnErr result (WritesPrefix (M.machine (M.setting interpreter.old))
+        (Rd.remaining (device (reader devices.old)))
+        (W.contents (device (writer devices.old))) (W.contents (device (writer devices.new)))
+        (M.state interpreter.old)) }
     // Which lines were carried out, by what the reads gave.
     ensures told { (input : List ℕ) × (output : List ℕ)
-        × Consumes (Rd.remaining (device reader.old)) (Rd.remaining (device reader.new)) input
-        × Appends (W.contents (device writer.old)) (W.contents (device writer.new)) output
-        × Tells (M.machine (M.setting interpreter.old)) result (Rd.remaining (device reader.new)) (has_stopped reader.new) (M.state interpreter.old) input output (M.state interpreter.new) }
+        × Consumes (Rd.remaining (device (reader devices.old)))
+        (Rd.remaining (device (reader devices.new))) input
+        × Appends (W.contents (device (writer devices.old)))
+        (W.contents (device (writer devices.new))) output
+        × Tells (M.machine (M.setting interpreter.old)) result
+        (Rd.remaining (device (reader devices.new))) (has_stopped (reader devices.new))
+        (M.state interpreter.old) input output (M.state interpreter.new) }
 
     // When each fault comes.
-    ensures read { IsErrOf result EngineFault.Read ↔ (has_failed reader.new ≡ true) }
-    ensures write { IsErrOf result EngineFault.Write → IsFaulty writer.new }
-    ensures reads { IsErrOf result EngineFault.Reads → (has_stopped reader.new ≡ false) × (calls reader.new ≡ min (calls reader.old + reads) u64.MAX) }
-    // Where no write stopped it, each reply was written whole and passed on.
-    ensures passed_on { IsErrOf result EngineFault.Write ⊎ IsFresh writer.new }
+    ensures read { IsErrOf result EngineFault.Read ↔ (has_failed (reader devices.new) ≡ true) }
+    ensures write { IsErrOf result EngineFault.Write → IsFaulty (writer devices.new) }
+    ensures reads { IsErrOf result EngineFault.Reads → (has_stopped (reader devices.new) ≡ false)
+        × (calls (reader devices.new) ≡ min (calls (reader devices.old) + reads) u64.MAX) }
+    // No read came and no line was carried out before each reply so far was written whole and passed on.
+    ensures in_turn { has_gone_ahead devices.new ≡ has_gone_ahead devices.old }
+    // Where no write stopped it, so was the last.
+    ensures passed_on { IsErrOf result EngineFault.Write ⊎ IsPassedOn devices.new }
     // No flush had nothing to pass on, as one at a silent line would.
-    ensures needed { has_flushed_idly writer.new ≡ has_flushed_idly writer.old }
-    ensures at_most { calls reader.new ≤ calls reader.old + reads }
-    ensures pieces { widest reader.new ≤ max (widest reader.old) 4096 }
-    ensures no_smaller { min (narrowest reader.old) 4096 ≤ narrowest reader.new }
+    ensures needed { has_flushed_idly (writer devices.new) ≡ has_flushed_idly (writer devices.old) }
+    ensures at_most { calls (reader devices.new) ≤ calls (reader devices.old) + reads }
+    ensures pieces { widest (reader devices.new) ≤ max (widest (reader devices.old)) 4096 }
+    ensures no_smaller { min (narrowest (reader devices.old)) 4096 ≤ narrowest
+        (reader devices.new) }
 {
-    run(interpreter, reader, writer, reads)
+    run(interpreter, devices, reads)
 }
 
 fn run<M: Interpreter, Rd: Read, W: Write>(
     interpreter: &mut M,
-    reader: &mut Watched<Rd>,
-    writer: &mut Watched<W>,
+    devices: &mut Devices<Rd, W>,
     reads: u64,
 ) -> Result<Counts, EngineFault>
     requires ready { M.is_ready interpreter.old }
-    requires reader { IsFresh reader.old }
-    requires writer { IsFresh writer.old }
+    requires reader { IsFresh (reader devices.old) }
+    requires writer { IsPassedOn devices.old }
     ensures ready { M.is_ready interpreter.new }
     ensures same { M.setting interpreter.new ≡ M.setting interpreter.old }
     ensures told { (input : List ℕ) × (output : List ℕ)
-        × Consumes (Rd.remaining (device reader.old)) (Rd.remaining (device reader.new)) input
-        × Appends (W.contents (device writer.old)) (W.contents (device writer.new)) output
-        × Tells (M.machine (M.setting interpreter.old)) result (Rd.remaining (device reader.new)) (has_stopped reader.new) (M.state interpreter.old) input output (M.state interpreter.new) }
-    ensures read { IsErrOf result EngineFault.Read ↔ (has_failed reader.new ≡ true) }
-    ensures write { IsErrOf result EngineFault.Write → IsFaulty writer.new }
-    ensures reads { IsErrOf result EngineFault.Reads → (has_stopped reader.new ≡ false) × (calls reader.new ≡ min (calls reader.old + reads) u64.MAX) }
-    ensures passed_on { IsErrOf result EngineFault.Write ⊎ IsFresh writer.new }
-    ensures needed { has_flushed_idly writer.new ≡ has_flushed_idly writer.old }
-    ensures at_most { calls reader.new ≤ calls reader.old + reads }
-    ensures pieces { widest reader.new ≤ max (widest reader.old) 4096 }
-    ensures no_smaller { min (narrowest reader.old) 4096 ≤ narrowest reader.new }
+        × Consumes (Rd.remaining (device (reader devices.old)))
+        (Rd.remaining (device (reader devices.new))) input
+        × Appends (W.contents (device (writer devices.old)))
+        (W.contents (device (writer devices.new))) output
+        × Tells (M.machine (M.setting interpreter.old)) result
+        (Rd.remaining (device (reader devices.new))) (has_stopped (reader devices.new))
+        (M.state interpreter.old) input output (M.state interpreter.new) }
+    ensures read { IsErrOf result EngineFault.Read ↔ (has_failed (reader devices.new) ≡ true) }
+    ensures write { IsErrOf result EngineFault.Write → IsFaulty (writer devices.new) }
+    ensures reads { IsErrOf result EngineFault.Reads → (has_stopped (reader devices.new) ≡ false)
+        × (calls (reader devices.new) ≡ min (calls (reader devices.old) + reads) u64.MAX) }
+    ensures in_turn { has_gone_ahead devices.new ≡ has_gone_ahead devices.old }
+    ensures passed_on { IsErrOf result EngineFault.Write ⊎ IsPassedOn devices.new }
+    ensures needed { has_flushed_idly (writer devices.new) ≡ has_flushed_idly (writer devices.old) }
+    ensures at_most { calls (reader devices.new) ≤ calls (reader devices.old) + reads }
+    ensures pieces { widest (reader devices.new) ≤ max (widest (reader devices.old)) 4096 }
+    ensures no_smaller { min (narrowest (reader devices.old)) 4096 ≤ narrowest
+        (reader devices.new) }
 {
     let mut piece = [0; 4096];
     let mut pending = Pending::new();
@@ -149,13 +185,13 @@ fn run<M: Interpreter, Rd: Read, W: Write>(
         refused: 0,
     };
     for _turn in 0..reads {
-        let count = match reader.read(&mut piece) {
+        let count = match devices.read(&mut piece) {
             Ok(count) => count,
             Err(_) => return Err(EngineFault::Read),
         };
         if count == 0 {
             if !pending.is_empty() {
-                answer(interpreter, pending.as_slice(), writer, &mut counts)?;
+                answer(interpreter, pending.as_slice(), devices, &mut counts)?;
             }
             return Ok(counts);
         }
@@ -163,7 +199,7 @@ fn run<M: Interpreter, Rd: Read, W: Write>(
             interpreter,
             &piece[..count],
             &mut pending,
-            writer,
+            devices,
             &mut counts,
         )?;
     }

@@ -1,9 +1,9 @@
 -- What a run over some premises tells of what they entail.
-use Rattle.std.proofs.Common.{◌≡◌, ◌∙◌, ◌+◌, ◌-◌, ◌*◌, ◌<◌, ◌≤◌, ◌++◌, ◌∷◌, [], ℕ, List, Contains, IsTrue, Option, Some, None, get_or, length, refl, ap, subst, arith}
+use Rattle.std.proofs.Common.{◌≡◌, ◌∙◌, ◌+◌, ◌-◌, ◌*◌, ◌<◌, ◌≤◌, ◌++◌, ◌∷◌, [], ℕ, List, Contains, IsTrue, Option, Some, None, get_or, length, refl, sym, ap, subst, arith}
 use Rattle.prop_lattice.specs.declared.info.Info.{Info}
 use Rattle.prop_lattice.specs.Order.{Below}
 use Rattle.prop_lattice.specs.laws.OrderLaws.{info_laws}
-use Rattle.prop_premises.specs.Sets.{Members, IsPart}
+use Rattle.prop_premises.specs.Sets.{Members, IsPart, set_of, without}
 use Rattle.prop_procedures.specs.Stored.{Stored}
 use Rattle.prop_cells.specs.Problems.{Problem, Assignment, IsSolution, Entails, IsConsistent, is_member}
 use Rattle.prop_cells.specs.Reach.{IsConflict}
@@ -13,9 +13,9 @@ use Rattle.prop_scheduler.specs.Potential.{most_steps}
 use Rattle.prop_scheduler.specs.Turns.{IsSettled, IsUnderWay, Turns}
 use Rattle.prop_scheduler.specs.Watching.{IsWatched}
 use Rattle.prop_explain.specs.inner.Ready.{IsReady, StaysReady}
-use Rattle.prop_explain.specs.Trying.{Tries}
-use Rattle.prop_explain.specs.Trying.Tries.{none, tried}
-use Rattle.prop_explain.proofs.TryingLaws.{few_more}
+use Rattle.prop_explain.specs.Trying.{Tries, TriesOf}
+use Rattle.prop_explain.specs.Trying.TriesOf.{none, tried}
+use Rattle.prop_explain.proofs.TryingLaws.{AreHeld, few_more, held_next, lacks_itself, next_believed, next_held}
 
 -- at rest, what is entailed is below what is believed
 pub settled_below : (library : List Stored) (s : Members) (d : Data) (cell : ℕ) (v : Info) → IsSettled library s d → Entails (problem_of library d) s cell v → Below v (beliefs s d.contents cell)
@@ -78,32 +78,39 @@ stays_then library old middle new before between after first then = record {
   cells = then.cells ∙ first.cells;
 }
 
--- the instances that were called in so many steps, each premise of the list having been tried, and the network that this left
-pub record HasTried {O : Type 0} (picks : O → ℕ → ℕ → O → Type 0) (library : List Stored) (believed : Members) (start : Data) (before : Waiting) (first : O) (budget : ℕ) (ps : List ℕ) (steps : ℕ) (d : Data) (agenda : Waiting) (order : O) : Type 0 where
+-- the instances that were called in so many steps, each premise of the list having been tried and the rest not, and the network that this left
+pub record HasTried {O : Type 0} (picks : O → ℕ → ℕ → O → Type 0) (library : List Stored) (believed : Members) (start : Data) (before : Waiting) (first : O) (budget : ℕ) (ps rest : List ℕ) (s : Members) (steps : ℕ) (d : Data) (agenda : Waiting) (order : O) : Type 0 where
   pub left : StaysReady library start d before agenda
   pub within : steps ≤ budget
   pub few : steps ≤ length ps * most_steps (problem_of library start)
   pub tries : Tries picks library believed start before.line first steps d agenda.line order
+  pub held : AreHeld believed tries.0 s rest
 
--- some of the believed premises are tried, in so many calls
-pub tried_on : {O : Type 0} {picks : O → ℕ → ℕ → O → Type 0} {start d : Data} {line now : List ℕ} {first order next : O} {believed : Members} {steps calls : ℕ} (library : List Stored) (s : Members) (new : Data) (after : List ℕ) → IsPart s believed →
-    Tries picks library believed start line first steps d now order → ((all : List ℕ) × ((j : ℕ) → j < length d.instances → Contains all j) × Turns picks library s d all order calls new after next) → Tries picks library believed start line first (steps + calls) new after next
-tried_on library s new after part tries (all, waits, turns) = tried _ _ s _ new _ all after _ _ part tries waits turns
+-- so many calls, for which every instance waited
+abbrev pub Called : {O : Type 0} → (O → ℕ → ℕ → O → Type 0) → List Stored → Members → Data → O → ℕ → Data → List ℕ → O → Type 0
+Called picks library s d order calls new after next = (all : List ℕ) × ((j : ℕ) → j < length d.instances → Contains all j) × Turns picks library s d all order calls new after next
 
--- one premise more was tried: the network was run with some of the believed ones
-pub one_more : {O : Type 0} {picks : O → ℕ → ℕ → O → Type 0} {new : Data} {before agenda after : Waiting} {first order next : O} {believed s : Members} {budget : ℕ} (library : List Stored) (start d : Data) (ps : List ℕ) (p steps calls : ℕ) → HasTried picks library believed start before first budget ps steps d agenda order → IsPart s believed →
-    StaysReady library d new agenda after → calls ≤ budget - steps → calls ≤ most_steps (problem_of library d) → ((all : List ℕ) × ((j : ℕ) → j < length d.instances → Contains all j) × Turns picks library s d all order calls new after.line next) →
-    HasTried picks library believed start before first budget (ps ++ p ∷ []) (steps + calls) new after next
-one_more library start d ps p steps calls so_far part left within falls turns = record {
+-- without the next premise what is left is tried, in so many calls
+abbrev pub tried_on : {O : Type 0} {picks : O → ℕ → ℕ → O → Type 0} {start d : Data} {line now rest : List ℕ} {first order next : O} {believed s : Members} {steps calls : ℕ} (library : List Stored) (p : ℕ) (less : Members) (new : Data) (after : List ℕ) → less ≡ without s p →
+    (tries : Tries picks library believed start line first steps d now order) → AreHeld believed tries.0 s (p ∷ rest) → IsPart less believed → Called picks library less d order calls new after next → Tries picks library believed start line first (steps + calls) new after next
+tried_on {rest} {s} library p less new after is tries held part called =
+    (less ∷ tries.0, tried tries.0 _ _ less p _ new _ called.0 after _ _ part (next_believed p rest held) (ap (λ (t : Members). t p) is ∙ lacks_itself s p) (next_held p rest held) tries.1 called.1 called.2)
+
+-- one premise more was tried: the network was run without it
+pub one_more : {O : Type 0} {picks : O → ℕ → ℕ → O → Type 0} {new : Data} {before agenda after : Waiting} {first order next : O} {believed s : Members} {budget : ℕ} (library : List Stored) (start d : Data) (ps rest : List ℕ) (p steps calls : ℕ) (less now : Members) → less ≡ without s p → HasTried picks library believed start before first budget ps (p ∷ rest) s steps d agenda order →
+    IsPart less believed → IsPart (set_of rest) now → StaysReady library d new agenda after → calls ≤ budget - steps → calls ≤ most_steps (problem_of library d) → Called picks library less d order calls new after.line next →
+    HasTried picks library believed start before first budget (ps ++ p ∷ []) rest now (steps + calls) new after next
+one_more {believed} library start d ps rest p steps calls less now is so_far part holds left within falls called = record {
   left = stays_then library start d _ _ _ _ so_far.left left;
   within = omega (arith, within, so_far.within);
   few = few_more ps p (most_steps (problem_of library start)) steps calls so_far.few (subst (λ (q : Problem). calls ≤ most_steps q) (same_problem library library start d refl so_far.left.rest) falls);
-  tries = tried_on library _ _ _ part so_far.tries turns;
+  tries = tried_on library p less _ _ is so_far.tries so_far.held part called;
+  held = subst (λ (t : Members). AreHeld believed (t ∷ so_far.tries.0) now rest) (sym is) (held_next p rest so_far.held now holds);
 }
 
 -- what was tried of some premises was tried of more
-pub tries_of_more : {O : Type 0} (picks : O → ℕ → ℕ → O → Type 0) (library : List Stored) (s t : Members) (start : Data) (line : List ℕ) (order : O) (n : ℕ) (new : Data) (after : List ℕ) (next : O) → IsPart s t →
-    Tries picks library s start line order n new after next → Tries picks library t start line order n new after next
-tries_of_more picks library s t start line order n new after next part none = none
-tries_of_more picks library s t start line order n new after next part (tried k m set d last before all behind first following within earlier waits turns) =
-    tried k m set d new before all after first next (λ p h. part p (within p h)) (tries_of_more picks library s t start line order k d before first part earlier) waits turns
+pub tries_of_more : {O : Type 0} (picks : O → ℕ → ℕ → O → Type 0) (library : List Stored) (s t : Members) (start : Data) (line : List ℕ) (order : O) (sets : List Members) (n : ℕ) (new : Data) (after : List ℕ) (next : O) → IsPart s t →
+    TriesOf picks library s start line order sets n new after next → TriesOf picks library t start line order sets n new after next
+tries_of_more picks library s t start line order sets n new after next part none = none
+tries_of_more picks library s t start line order sets n new after next part (tried before_sets k m set p d last before all behind first following within is_believed lacks hold earlier waits turns) =
+    tried before_sets k m set p d new before all after first next (λ q h. part q (within q h)) (part p is_believed) lacks hold (tries_of_more picks library s t start line order before_sets k d before first part earlier) waits turns

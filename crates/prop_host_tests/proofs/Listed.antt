@@ -15,7 +15,7 @@ use Rattle.prop_procedures.specs.declared.library.Library.{Library}
 use Rattle.prop_procedures.specs.Both.{either_of}
 use Rattle.prop_procedures.specs.Rules.{IsSound}
 use Rattle.prop_procedures.specs.Stored.{Stored}
-use Rattle.prop_procedures.specs.Kept.{stored_as, stored_of, related_of}
+use Rattle.prop_procedures.specs.Kept.{stored_as, stored_of}
 use Rattle.prop_arith.specs.Kit.{in_order, form_of}
 use Rattle.prop_arith.specs.Points.{Related}
 use Rattle.prop_arith.specs.Values.{value_of}
@@ -58,15 +58,6 @@ listed {X} {F} {g} items h ruled = by items h ∙ ap (map stored_rule) ruled
     by [] h = refl
     by (p ∷ rest) h = rw (All-head IsOfItsRule p rest h, by rest (All-tail IsOfItsRule p rest h)) refl
 
--- what the procedures relate is what their rules do
-related_by_rules : {X : Type 0} {F : X → Type 0} {g : _} → (library : Library (Both Kit Host) X F g) → map (λ p. p.rule) library.procedures.items ≡ host_rules → related_of (either_of Related host_points) library ≡ host_related
-related_by_rules {X} {F} {g} library e = (λ i n param points point. by library.procedures.items n param points point i) ∙ (λ i n param points point. IsSomeAnd (slice_get (e i) n) (λ rule. either_of Related host_points rule param points point))
-  where
-    by : (items : List (Procedure (Both Kit Host) X F g)) (n : ℕ) (param : Param) (points : List Point) (point : Point) → IsSomeAnd (slice_get items n) (λ p. either_of Related host_points p.rule param points point) ≡ IsSomeAnd (slice_get (map (λ p. p.rule) items) n) (λ rule. either_of Related host_points rule param points point)
-    by [] n param points point = refl
-    by (p ∷ rest) zero param points point = refl
-    by (p ∷ rest) (suc k) param points point = by rest k param points point
-
 -- each rule's answers hold the points that it relates
 pub host_is_sound : AreSoundBy host_library host_related
 host_is_sound n p at = by host_rules n p at
@@ -81,10 +72,9 @@ host_is_sound n p at = by host_rules n p at
     by (rule ∷ rest) (suc k) p at = by rest k p at
 
 -- what a new session with these procedures answered
-pub answered : {X : Type 0} {F : X → Type 0} {g : _} {A E : Type 0} → (library : Library (Both Kit Host) X F g) (items : List (Procedure (Both Kit Host) X F g)) (s new : Shown) (lines : List (List ℕ)) (answers : A → List Answer) (result : Result A E) → library.procedures.items ≡ items → map (stored_as (either_of value_of host_value)) items ≡ host_library → map (λ p. p.rule) items ≡ host_rules → s ≡ new_shown 1_000_000_000 →
-    IfOk result (λ r. Run (learning (stored_of (either_of value_of host_value) library) (related_of (either_of Related host_points) library)) s lines (answers r) new) → IfOk result (λ r. IsAnswered lines (answers r))
-answered library items s new lines answers (Ok r) same listed ruled begun h =
+pub answered : {X : Type 0} {F : X → Type 0} {g : _} {A E : Type 0} → (library : Library (Both Kit Host) X F g) (items : List (Procedure (Both Kit Host) X F g)) (s new : Shown) (lines : List (List ℕ)) (answers : A → List Answer) (result : Result A E) → library.procedures.items ≡ items → map (stored_as (either_of value_of host_value)) items ≡ host_library → s ≡ new_shown 1_000_000_000 →
+    IfOk result (λ r. Run (learning (stored_of (either_of value_of host_value) library)) s lines (answers r) new) → IfOk result (λ r. IsAnswered lines (answers r))
+answered library items s new lines answers (Ok r) same listed begun h =
     let stored : stored_of (either_of value_of host_value) library ≡ host_library = ap (map (stored_as (either_of value_of host_value))) same ∙ listed in
-    let related : related_of (either_of Related host_points) library ≡ host_related = related_by_rules library (ap (map (λ p. p.rule)) same ∙ ruled) in
-    (new, subst (λ (P : Type 0). P) (λ i. Run (learning (stored i) (related i)) (begun i) lines (answers r) new) h)
-answered library items s new lines answers (Err e) same listed ruled begun h = tt
+    (new, subst (λ (P : Type 0). P) (λ i. Run (learning (stored i)) (begun i) lines (answers r) new) h)
+answered library items s new lines answers (Err e) same listed begun h = tt

@@ -39,4 +39,4 @@ host_related n param points point = IsSomeAnd (slice_get host_rules n) (λ rule.
 
 -- a new session with these procedures may give these answers to these lines, one after another
 abbrev pub IsAnswered : List (List ℕ) → List Answer → Type 0
-IsAnswered lines answers = (new : Shown) × Run (learning host_library host_related) (new_shown 1_000_000_000) lines answers new
+IsAnswered lines answers = (new : Shown) × Run (learning host_library) (new_shown 1_000_000_000) lines answers new

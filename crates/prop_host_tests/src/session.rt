@@ -10,7 +10,7 @@ ghost use Rattle.prop_engine.specs.Transcripts.{Run};
 ghost use Rattle.prop_workbench.specs.Engine.{machine_of};
 ghost use Rattle.prop_workbench.specs.Sessions.{shown_of, IsSound, IsMeant};
 ghost use Rattle.prop_host_tests.specs.Host.{value_of as host_value};
-ghost use Rattle.prop_host_tests.specs.Answered.{host_rules, host_library, host_related, IsAnswered};
+ghost use Rattle.prop_host_tests.specs.Answered.{host_library, host_related, IsAnswered};
 
 use crate::host::Host;
 use prop_arith::{KITS, Kit};
@@ -66,7 +66,7 @@ pub fn replies(alloc: Global, lines: &[&str]) -> Result<Vec<Reply>, AllocError>
     serve(alloc, procedures, lines)
 }
 
-/// The procedures' answers hold the points that belong together, so numbers that satisfy all that is believed lie in each answer of the session.
+/// The procedures' answers hold the points that belong together, so numbers that belong together and satisfy all that is believed lie in each answer of the session.
 pub fn answers_hold_points()
     ensures { AreSoundBy host_library host_related }
 {}
@@ -79,7 +79,6 @@ fn serve(
 ) -> Result<Vec<Reply>, AllocError>
     requires means { AllMean (either_of value_of host_value) procedures.items }
     requires listed { map (stored_as (either_of value_of host_value)) procedures.items ≡ host_library }
-    requires ruled { map (λ p. p.rule) procedures.items ≡ host_rules }
     ensures { IfOk result (λ replies. IsAnswered (words lines.now) (map answer_of replies.items)) }
 {
     let network = Network::new(alloc, Library::new(procedures));
@@ -98,7 +97,8 @@ fn carry_out<R: Rule + Drop, O: Order + Drop>(
 ) -> Result<Vec<Reply>, AllocError>
     requires means { IsMeant R.value_of session.old }
     requires sound { IsSound R.value_of session.old }
-    ensures { IfOk result (λ replies. Run (machine_of R.value_of R.related session.old) (shown_of session.old) (words lines.now) (map answer_of replies.items) (shown_of session.new)) }
+    ensures { IfOk result (λ replies. Run (machine_of R.value_of session.old) (shown_of session.old)
+        (words lines.now) (map answer_of replies.items) (shown_of session.new)) }
 {
     let mut replies = Vec::new(alloc);
     for line in lines {

@@ -171,7 +171,7 @@ fn a_session_has_the_rules_of_both(rt: HostRuntime) -> Result<(), AllocError> {
         let text = match reply {
             Reply::Silent => "",
             Reply::Done => "ok",
-            Reply::Text(text) => text.as_str(),
+            Reply::Text(line) => line.text(),
             Reply::Refused(refusal) => refusal.reply(),
         };
         assert_eq!(rt; text, answer, "to {line}");

@@ -10,34 +10,36 @@ use Rattle.prop_cells.specs.Instances.{Instance, IsWithin, constraint_of, reader
 use Rattle.prop_cells.specs.Data.{Data, beliefs}
 use Rattle.prop_cells.proofs.Fixpoint.{All-from_contains, map_agree, meets_same}
 use Rattle.prop_cells.proofs.Reading.{readers_are, writers_cover, writers_below}
-use Rattle.prop_scheduler.specs.Agendas.{AllAlerted}
+use Rattle.prop_scheduler.specs.Agendas.{AllAlerted, all_alerted}
 use Rattle.prop_scheduler.specs.Turns.{IsUnderWay}
 use Rattle.prop_scheduler.specs.Shifts.{IsTouched, AreShifted}
 use Rattle.prop_cells.proofs.Keeping.{All-at}
+use Rattle.prop_scheduler.proofs.Behind.{behind_none, behind_then, behind_kept, behind_only, readers_behind, writers_behind}
 use Rattle.prop_scheduler.proofs.Steps.{from_map}
 
 pub shifted_none : (s t : Premises) (d : Data) (line : List ℕ) → AreShifted s t d 0 line line
-shifted_none s t d line = record { kept = λ j w. w; waits = λ cell l. absurd (omega (arith, l)); only = λ j w. inl w }
+shifted_none s t d line = record { behind = behind_none (IsTouched s t d d) line; waits = λ cell l. absurd (omega (arith, l)) }
 
 -- the next cell is believed as before
 pub shifted_same : (s t : Premises) (d : Data) (n : ℕ) (old new : List ℕ) → AreShifted s t d n old new → beliefs s d.contents n ≡ beliefs t d.contents n → AreShifted s t d (n + 1) old new
 shifted_same s t d n old new h same = record {
-  kept = h.kept;
+  behind = h.behind;
   waits = λ cell l.
       elim (eqb_tells cell n) as (λ _. (beliefs s d.contents cell ≡ beliefs t d.contents cell) ⊎ (All (Contains new) (readers_of d.instances cell) × All (Contains new) (writers_of d.instances cell))) [
         | inl e ↦ inl (rw e.1 same)
         | inr e ↦ h.waits cell (let ne = e.1 in omega (arith, l, ne))
       ];
-  only = h.only;
 }
 
 -- the readers and the writers of the next cell wait too
 pub shifted_more : (s t : Premises) (d : Data) (n : ℕ) (old new mid after : List ℕ) → AreShifted s t d n old new → beliefs s d.contents n ≢ beliefs t d.contents n →
-    AllAlerted new mid (readers_of d.instances n) → AllAlerted mid after (writers_of d.instances n) → AreShifted s t d (n + 1) old after
-shifted_more s t d n old new mid after h shifted read written =
+    AllAlerted new mid (readers_of d.instances n) → AllAlerted mid after (writers_of d.instances n) →
+    mid ≡ all_alerted new (readers_of d.instances n) → after ≡ all_alerted mid (writers_of d.instances n) → AreShifted s t d (n + 1) old after
+shifted_more s t d n old new mid after h shifted read written read_line written_line =
+    let touched = IsTouched s t d d in
     let on : (j : ℕ) → Contains new j → Contains after j = λ j w. written.kept j (read.kept j w) in
     record {
-      kept = λ j w. on j (h.kept j w);
+      behind = behind_then touched old new after h.behind (behind_then touched new mid after (readers_behind s t d d n new mid shifted read_line) (writers_behind s t d d n mid after shifted written_line));
       waits = λ cell l.
           elim (eqb_tells cell n) as (λ _. (beliefs s d.contents cell ≡ beliefs t d.contents cell) ⊎ (All (Contains after) (readers_of d.instances cell) × All (Contains after) (writers_of d.instances cell))) [
             | inl e ↦ inr (rw e.1 (All-weaker (Contains mid) (Contains after) written.kept (readers_of d.instances n) read.alerted, written.alerted))
@@ -46,19 +48,12 @@ shifted_more s t d n old new mid after h shifted read written =
               | inr all ↦ inr (All-weaker (Contains new) (Contains after) on (readers_of d.instances cell) all.0, All-weaker (Contains new) (Contains after) on (writers_of d.instances cell) all.1)
             ]
           ];
-      only = λ j w. elim (written.only j w) as (λ _. Contains old j ⊎ IsTouched s t d j) [
-        | inl w' ↦ elim (read.only j w') as (λ _. Contains old j ⊎ IsTouched s t d j) [
-          | inl w'' ↦ h.only j w''
-          | inr reads ↦ inr (record { cell = n; shifted = shifted; touches = inl reads })
-        ]
-        | inr writes ↦ inr (record { cell = n; shifted = shifted; touches = inr writes })
-      ];
     }
 
 -- the waiting instances stay instances
 pub shifted_below : (s t : Premises) (d : Data) (n : ℕ) (old new : List ℕ) → AreShifted s t d n old new → All (λ j. j < length d.instances) old → All (λ j. j < length d.instances) new
 shifted_below s t d n old new h below =
-    All-from_contains (λ j. j < length d.instances) new (λ j w. elim (h.only j w) as (λ _. j < length d.instances) [
+    All-from_contains (λ j. j < length d.instances) new (λ j w. elim (behind_only (IsTouched s t d d) old new h.behind j w) as (λ _. j < length d.instances) [
       | inl was ↦ All-contains (λ i. i < length d.instances) old j below was
       | inr touched ↦ elim touched.touches as (λ _. j < length d.instances) [
         | inl reads ↦ All-contains (λ i. i < length d.instances) (readers_of d.instances touched.cell) j (readers_are d.instances touched.cell).below reads
@@ -99,7 +94,7 @@ module _ (library : List Stored) (s t : Premises) (d : Data) (old new : List ℕ
       met = λ j c at idle.
           let x = from_map (constraint_of library) d.instances j c at in
           let same : c ≡ constraint_of library x.0 = x.2 in
-          let was : Meets (beliefs s d.contents) (constraint_of library x.0) = subst (λ (q : Constraint). Meets (beliefs s d.contents) q) same (u.met.met j c at (λ w. idle (h.kept j w))) in
+          let was : Meets (beliefs s d.contents) (constraint_of library x.0) = subst (λ (q : Constraint). Meets (beliefs s d.contents) q) same (u.met.met j c at (λ w. idle (behind_kept (IsTouched s t d d) old new h.behind j w))) in
           subst (λ (q : Constraint). Meets (beliefs t d.contents) q) (sym same) (met_still j x.0 x.1 idle was);
     };
   }

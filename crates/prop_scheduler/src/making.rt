@@ -10,6 +10,7 @@ ghost use Rattle.prop_cells.specs.inner.Back.{GoesBackTo};
 ghost use Rattle.prop_cells.specs.Refusing.{cell_refusal};
 ghost use Rattle.prop_scheduler.specs.Making.{room_refusal, made_of, with_fresh_cells, with_flat, MayBeMade, MayMake};
 ghost use Rattle.prop_scheduler.specs.inner.Making.{param_number};
+ghost use Rattle.prop_scheduler.specs.Shifts.{IsBehind, AreStirred};
 ghost use Rattle.prop_scheduler.specs.Turns.{IsUnderWay};
 ghost use Rattle.prop_scheduler.specs.Watching.{IsWatched};
 
@@ -27,6 +28,7 @@ pub fn new_cell<R: Rule + Drop>(
 ) -> Result<(), Refusal>
     requires kept { IsKept (stored_of R.value_of network.old.library) network.old.cells }
     ensures same { network.new.library ≡ network.old.library }
+    ensures line { agenda.new.line ≡ agenda.old.line }
     ensures under_way { (s : Premises) → IsUnderWay (stored_of R.value_of network.old.library) s network.old.cells agenda.old.line → IsUnderWay (stored_of R.value_of network.new.library) s network.new.cells agenda.new.line }
     ensures watched { (s : Premises) → IsWatched s network.old.cells agenda.old.watched → IsWatched s network.new.cells agenda.new.watched }
     ensures room { agenda.new.room ≡ agenda.old.room }
@@ -262,6 +264,7 @@ fn make_all<R: Rule + Drop>(
 /// Makes the instances with these numbers wait.
 fn alert_between(agenda: &mut Agenda, first: usize, end: usize)
     requires { end ≤ agenda.old.room }
+    ensures behind { IsBehind (λ i. first ≤ i) agenda.old.line agenda.new.line }
     ensures before { (i : ℕ) → Contains agenda.old.line i → Contains agenda.new.line i }
     ensures alerted { (i : ℕ) → first ≤ i → i < end → Contains agenda.new.line i }
     ensures below { (n : ℕ) → end ≤ n → All (λ i. i < n) agenda.old.line → All (λ i. i < n) agenda.new.line }
@@ -323,6 +326,8 @@ pub fn make<R: Rule + Drop>(
     ensures ok { OnOk result (network.new.cells ≡ with_flat (stored_of R.value_of network.old.library) network.old.cells cells.now flat) }
     ensures err { IfErr result (λ e. (room_refusal (length network.old.cells.kinds + length flat.fresh.items) (length network.old.cells.instances + length flat.instances.items) ≡ Some e) ⊎ (e ≡ Refusal.Memory)) }
     ensures err_same { OnErr result (network.new.cells ≡ network.old.cells) }
+    ensures stirred { OnOk result ((s t : Premises) → AreStirred s t network.old.cells network.new.cells agenda.old.line agenda.new.line) }
+    ensures err_line { OnErr result (agenda.new.line ≡ agenda.old.line) }
 {
     if let Err(refusal) = make_room(network, agenda, &flat) {
         drop(flat);

@@ -5,6 +5,7 @@ ghost use Rattle.prop_procedures.specs.Fitting.{kind_at};
 ghost use Rattle.prop_procedures.specs.Kept.{stored_of};
 ghost use Rattle.prop_cells.specs.Refusing.{sides_refusal, may_be_stated};
 ghost use Rattle.prop_cells.specs.Sides.{sides_at, StatesAll, AreUnderBelow};
+ghost use Rattle.prop_scheduler.specs.Shifts.{AreStirred};
 ghost use Rattle.prop_scheduler.specs.Turns.{IsUnderWay};
 ghost use Rattle.prop_scheduler.specs.Watching.{IsWatched};
 
@@ -42,6 +43,7 @@ pub fn state_sides<R: Rule + Drop>(
     ensures rest { OnOk result (network.new.cells ≡ record network.old.cells { statements = network.old.cells.statements ++ sides_at first cell infos.now; contents = network.new.cells.contents }) }
     ensures err { IfErr result (λ e. (sides_refusal network.old.cells (length infos.now) ≡ Some e) ⊎ (e ≡ Refusal.Memory)) }
     ensures err_same { OnErr result (network.new.cells ≡ network.old.cells) }
+    ensures stirred { OnOk result (AreStirred (set_of worldview.now) (set_of worldview.now) network.old.cells network.new.cells agenda.old.line agenda.new.line) }
     ensures err_line { OnErr result (agenda.new ≡ agenda.old) }
 {
     let before = network.belief(cell, worldview);

@@ -1,10 +1,11 @@
 //! Statements in a network under way.
-ghost use Rattle.std.specs.Prelude.{◌≡◌, ◌<◌, ◌≤◌, ◌⊎◌, false, None, Some, OnOk, OnErr, IfErr, length};
+ghost use Rattle.std.specs.Prelude.{◌≡◌, ◌<◌, ◌≤◌, ◌⊎◌, true, false, None, Some, OnOk, OnErr, IfErr, length};
 ghost use Rattle.prop_lattice.specs.Order.{Below};
 ghost use Rattle.prop_premises.specs.Sets.{set_of, is_within};
 ghost use Rattle.prop_procedures.specs.Kept.{stored_of};
 ghost use Rattle.prop_cells.specs.Data.{States, support_of};
 ghost use Rattle.prop_cells.specs.Refusing.{state_refusal};
+ghost use Rattle.prop_scheduler.specs.Shifts.{AreStirred};
 ghost use Rattle.prop_scheduler.specs.Turns.{IsUnderWay};
 ghost use Rattle.prop_scheduler.specs.Watching.{IsWatched};
 
@@ -16,7 +17,8 @@ use prop_procedures::Rule;
 
 /// Whether a statement says more than what was believed of its cell before: it has to be believed, and not to follow from that.
 fn says_more(before: Info, premise: Option<Premise>, info: Info, worldview: &Worldview) -> bool
-    ensures { result ≡ false → (is_within (set_of worldview.now) (support_of premise) ≡ false) ⊎ Below info before }
+    ensures less { result ≡ false → (is_within (set_of worldview.now) (support_of premise) ≡ false) ⊎ Below info before }
+    ensures more { result ≡ true → (is_within (set_of worldview.now) (support_of premise) ≡ true) × (Below info before → ⊥) }
 {
     let is_believed = match premise {
         Some(premise) => worldview.has(premise),
@@ -49,6 +51,7 @@ pub fn state<R: Rule + Drop>(
     ensures ok { OnOk result (States network.old.cells network.new.cells (record { premise = premise; cell = cell; info = info })) }
     ensures err { IfErr result (λ e. (state_refusal network.old.cells cell info ≡ Some e) ⊎ (e ≡ Refusal.Memory)) }
     ensures err_same { OnErr result (network.new.cells ≡ network.old.cells) }
+    ensures stirred { OnOk result (AreStirred (set_of worldview.now) (set_of worldview.now) network.old.cells network.new.cells agenda.old.line agenda.new.line) }
     ensures err_line { OnErr result (agenda.new ≡ agenda.old) }
 {
     let before = network.belief(cell, worldview);

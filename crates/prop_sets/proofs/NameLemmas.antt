@@ -149,6 +149,11 @@ pub no_repeat_yet : (names : List (Bor (List ℕ))) (i : ℕ) (d : Bor (List ℕ
 no_repeat_yet names i d l h k =
     ap has_repeat (sym (kept_more names (take i (texts_of names)) i d l refl)) ∙ no_repeat-push (take i (texts_of names)) (get_or names i d).now h (sym (among_before (get_or names i d).now names i) ∙ k)
 
+-- one more is kept, that was not
+pub kept_next : (names kept kept' : List (Bor (List ℕ))) (i : ℕ) (d : Bor (List ℕ)) (was : Bool) → i < length names → kept ≡ take i names → kept' ≡ cond was kept (kept ++ get_or names i d ∷ []) → was ≡ false → kept' ≡ take (i + 1) names
+kept_next names kept kept' i d was l e k f =
+    k ∙ ap (λ b. cond b kept (kept ++ get_or names i d ∷ [])) f ∙ ap (λ ks. ks ++ get_or names i d ∷ []) e ∙ sym (take_more names i d l)
+
 -- bytes that are no text are no name
 pub no_text : {A : Type 0} (keys : List (String A)) (name : List ℕ) → (IsUtf8 name → ⊥) → position (bytes_eq name) (names_of keys) ≡ None
 no_text {A = A} keys name bad = rw (at_end keys, length-names keys) (past (length keys))

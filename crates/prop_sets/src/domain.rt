@@ -36,10 +36,28 @@ fn is_among(name: &str, names: &[&str]) -> bool
     )
 }
 
-/// Whether a name stands twice. It takes no memory.
-pub fn has_repeat(names: &[&str]) -> bool
+/// Whether a name stands twice, each looked up by its hash among those before it.
+fn repeats(alloc: Global, names: &[&str]) -> Result<bool, AllocError>
+    ensures { IfOk result (λ found. found ≡ has_repeat (texts_of names.now)) }
+{
+    let mut before = IndexSet::new(alloc);
+    for name in names {
+        if !before.insert(*name)? {
+            return Ok(true);
+        }
+    }
+    Ok(false)
+}
+
+/// Whether a name stands twice. Of few names each is compared with those before it, and of many too where memory is refused.
+pub fn has_repeat(alloc: Global, names: &[&str]) -> bool
     ensures { result ≡ has_repeat (texts_of names.now) }
 {
+    if MOST < names.len()
+        && let Ok(found) = repeats(alloc, names)
+    {
+        return found;
+    }
     for i in 0..names.len() {
         let before = &names[..i];
         if is_among(names[i], before) {
@@ -74,13 +92,13 @@ fn in_order(alloc: Global, names: &[&str]) -> Result<IndexSet<String>, AllocErro
 impl Domain {
     /// A domain with these elements, in order.
     ///
-    /// A name that stands twice is `NameTaken`, more than 64 of them are `LimitReached`; both are seen before any memory is
-    /// taken. Want of memory is `Memory`.
+    /// A name that stands twice is `NameTaken`, more than 64 of them are `LimitReached`; want of memory is `Memory`, and stands in the
+    /// place of neither.
     pub fn new(alloc: Global, names: &[&str]) -> Result<Domain, Refusal>
         requires { 0 < length names.now }
         ensures { MatchResult result (λ d. (d ≡ texts_of names.now) × AreElements (texts_of names.now)) (IsWhy (texts_of names.now)) }
     {
-        if has_repeat(names) {
+        if has_repeat(alloc, names) {
             return Err(Refusal::NameTaken);
         }
         if names.len() > MOST {

@@ -6,7 +6,6 @@ ghost use Rattle.prop_engine.specs.Answers.{answer_of, Says};
 
 use crate::labels::support_text;
 use prop_engine::Reply;
-use prop_lattice::Refusal;
 use prop_nogoods::Store;
 use prop_premises::Premises;
 use std::alloc::{AllocError, Global};
@@ -33,8 +32,5 @@ pub fn nogoods_reply(alloc: Global, premises: &Premises, store: &Store) -> Reply
     ensures says { Says (answer_of result) (nogoods_text premises.now store.now) }
     ensures in_order { All IsStrictlyIncreasing store.now }
 {
-    match nogoods_text(alloc, premises, store) {
-        Ok(text) => Reply::Text(text),
-        Err(AllocError) => Reply::Refused(Refusal::Memory),
-    }
+    Reply::saying(nogoods_text(alloc, premises, store))
 }

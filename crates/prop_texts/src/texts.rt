@@ -15,20 +15,14 @@ use std::alloc::{AllocError, Global};
 pub fn text_reply(alloc: Global, text: &str) -> Reply
     ensures { Says (answer_of result) text.now }
 {
-    match String::from_str(alloc, text) {
-        Ok(text) => Reply::Text(text),
-        Err(AllocError) => Reply::Refused(Refusal::Memory),
-    }
+    Reply::saying(String::from_str(alloc, text))
 }
 
 /// The reply `X = V` with the mark behind it, or want of memory.
 pub fn value_reply(alloc: Global, name: &str, value: &str, mark: &str) -> Reply
     ensures { Says (answer_of result) (equation name.now value.now mark.now) }
 {
-    match format!(in alloc; "{name} = {value}{mark}") {
-        Ok(text) => Reply::Text(text),
-        Err(AllocError) => Reply::Refused(Refusal::Memory),
-    }
+    Reply::saying(format!(in alloc; "{name} = {value}{mark}"))
 }
 
 /// The reply that names contradictory premises, or want of memory.
@@ -38,10 +32,7 @@ pub fn contradiction_reply(alloc: Global, premises: &Premises, support: &Premise
     ensures in_order { IsStrictlyIncreasing support.now }
 {
     match support_text(alloc, premises, support) {
-        Ok(names) => match format!(in alloc; "contradiction:{names}") {
-            Ok(text) => Reply::Text(text),
-            Err(AllocError) => Reply::Refused(Refusal::Memory),
-        },
+        Ok(names) => Reply::saying(format!(in alloc; "contradiction:{names}")),
         Err(AllocError) => Reply::Refused(Refusal::Memory),
     }
 }
@@ -89,8 +80,5 @@ fn worldview_text(
 pub fn worldview_reply(alloc: Global, premises: &Premises, worldview: &Worldview) -> Reply
     ensures { Says (answer_of result) (worldview_text premises.now (set_of worldview.now)) }
 {
-    match worldview_text(alloc, premises, worldview) {
-        Ok(text) => Reply::Text(text),
-        Err(AllocError) => Reply::Refused(Refusal::Memory),
-    }
+    Reply::saying(worldview_text(alloc, premises, worldview))
 }

@@ -1,7 +1,9 @@
-//! Worked values of informations, sets, premises, supported values, nogoods and spans, by calls of the crates themselves.
+//! Worked values of informations, sets, premises, supported values, nogoods and spans, and sessions over devices that count, by calls of the crates themselves.
 //! They stand apart, so that no crate is proved a second time for its tests. Whole sessions stand in tests/, at the top.
 #![tactic(auto)]
 
+#[cfg(test)]
+mod devices;
 #[cfg(test)]
 mod intervals;
 #[cfg(test)]

@@ -69,7 +69,7 @@ impl Vocabulary {
         ensures refused { IfSome (domain_refusal self.now name.now (texts_of elements.now)) (λ e. result ≡ Err e) }
         ensures allowed { OnOk result (domain_refusal self.now name.now (texts_of elements.now) ≡ None) }
     {
-        if self.domain_names.find(name).is_some() || has_repeat(elements) {
+        if self.domain_names.find(name).is_some() || has_repeat(self.alloc, elements) {
             return Err(Refusal::NameTaken);
         }
         if self.domain_names.len() >= Limit::Domains.most() {

@@ -6,8 +6,6 @@ use Rattle.prop_lattice.specs.declared.refusal.Refusal.{Refusal}
 use Rattle.prop_lattice.specs.declared.refusal.Refusal.TheVariants.{Memory}
 use Rattle.prop_premises.specs.Sets.{set_of}
 use Rattle.prop_premises.specs.Origins.{Origin, User, Side, is_user_at, believed_in}
-use Rattle.prop_lattice.specs.Points.{Point}
-use Rattle.prop_procedures.specs.declared.shape.Param.{Param}
 use Rattle.prop_procedures.specs.Stored.{Stored}
 use Rattle.prop_cells.specs.Problems.{Assignment}
 use Rattle.prop_cells.proofs.ProblemLaws.{least_unique}
@@ -92,19 +90,19 @@ answers_meet library old first second line answer other steps others r q n m = (
 abbrev IsNoWant : Answer → Type 0
 IsNoWant answer = answer ≢ Refused Memory
 
-runs_meet_from : (library : List Stored) (related : ℕ → Param → List Point → Point → Type 0) (s t first second : State) (lines : List (List ℕ)) (answers others : List Answer) → AreAlike s t →
-    Run (workbench library related) s lines answers first → Run (workbench library related) t lines others second → HaveMemory answers → HaveMemory others → AreAlike first second
-runs_meet_from library related s t first second [] [] [] e r q n m = same_alike s t first second e r q
-runs_meet_from library related s t first second [] [] (b ∷ ks) e r q n m = absurd q
-runs_meet_from library related s t first second [] (a ∷ ls) ks e r q n m = absurd r
-runs_meet_from library related s t first second (line ∷ lines) [] ks e r q n m = absurd r
-runs_meet_from library related s t first second (line ∷ lines) (a ∷ ls) [] e r q n m = absurd q
-runs_meet_from library related s t first second (line ∷ lines) (a ∷ ls) (b ∷ ks) e (mid, step, rest) (mid', step', rest') n m =
-    runs_meet_from library related mid mid' first second lines ls ks (steps_meet library s t mid mid' line a b step.steps step'.steps e step.step step'.step (All-head IsNoWant a ls n) (All-head IsNoWant b ks m)).0
+runs_meet_from : (library : List Stored) (s t first second : State) (lines : List (List ℕ)) (answers others : List Answer) → AreAlike s t →
+    Run (workbench library) s lines answers first → Run (workbench library) t lines others second → HaveMemory answers → HaveMemory others → AreAlike first second
+runs_meet_from library s t first second [] [] [] e r q n m = same_alike s t first second e r q
+runs_meet_from library s t first second [] [] (b ∷ ks) e r q n m = absurd q
+runs_meet_from library s t first second [] (a ∷ ls) ks e r q n m = absurd r
+runs_meet_from library s t first second (line ∷ lines) [] ks e r q n m = absurd r
+runs_meet_from library s t first second (line ∷ lines) (a ∷ ls) [] e r q n m = absurd q
+runs_meet_from library s t first second (line ∷ lines) (a ∷ ls) (b ∷ ks) e (mid, step, rest) (mid', step', rest') n m =
+    runs_meet_from library mid mid' first second lines ls ks (steps_meet library s t mid mid' line a b step.steps step'.steps e step.step step'.step (All-head IsNoWant a ls n) (All-head IsNoWant b ks m)).0
     rest rest' (All-tail IsNoWant a ls n) (All-tail IsNoWant b ks m)
 
-pub runs_meet_all : (library : List Stored) (related : ℕ → Param → List Point → Point → Type 0) → RunsMeet (workbench library related)
-runs_meet_all library related old first second lines answers others r q n m = runs_meet_from library related old old first second lines answers others refl r q n m
+pub runs_meet_all : (library : List Stored) → RunsMeet (workbench library)
+runs_meet_all library old first second lines answers others r q n m = runs_meet_from library old old first second lines answers others refl r q n m
 
 -- ---- what settles
 

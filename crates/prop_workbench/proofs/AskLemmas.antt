@@ -21,6 +21,7 @@ use Rattle.prop_workbench.specs.declared.session.Session.{Session}
 use Rattle.prop_procedures.specs.declared.shape.Param.{Param}
 use Rattle.prop_procedures.specs.Stored.{Stored, span_kind}
 use Rattle.prop_cells.specs.Problems.{Problem}
+use Rattle.prop_cells.specs.Points.{AreFitting}
 use Rattle.prop_cells.specs.Reach.{Explains}
 use Rattle.prop_cells.specs.Data.{Data, IsKept, beliefs, problem_of}
 use Rattle.prop_procedures.specs.Fitting.{kind_at}
@@ -44,6 +45,7 @@ use Rattle.prop_workbench.specs.Steps.{Carries, Runs}
 use Rattle.prop_explain.specs.Irreducible.{IsIrreducible}
 use Rattle.prop_texts.specs.Texts.{equation, because, contradiction_text}
 use Rattle.prop_vocabulary.proofs.CellLookups.{of_named}
+use Rattle.prop_workbench.proofs.PointLemmas.{entailed_holds_points, none_satisfy}
 use Rattle.prop_workbench.proofs.PremiseLemmas.{support_known, same_set, set_has}
 use Rattle.prop_vocabulary.specs.Cells.{CellNames, cell_named}
 use Rattle.prop_compound.specs.Definitions.{Definitions}
@@ -119,13 +121,18 @@ pub may_say_unsettled : (library : List Stored) (s : State) (list : List ℕ) (q
 may_say_unsettled library s list question answer steps (inl e) all says = rw e (may_say library s commands.Command.Settle (Unsettled list) (codes "unsettled") answer steps (refl, all) says)
 may_say_unsettled library s list question answer steps (inr e) all says = rw e (may_say library s commands.Command.Worldview (Unsettled list) (codes "unsettled") answer steps (refl, all) says)
 
+-- what is attached to the cells of a network fits
+kept_fits : (library : List Stored) (d : Data) → IsKept library d → AreFitting library (record { kinds = d.kinds; statements = d.statements; instances = d.instances })
+kept_fits library d kept = record { fitting = kept.fits; within = kept.made.within }
+
 -- what is believed of a cell of a network at rest is its settled value
-pub settled_value : (library : List Stored) (names : CellNames) (words : Vocabulary) (definitions : Definitions) (premises : List Origin) (d : Data) (limit : ℕ) (list : List ℕ) (cell : ℕ) (v : Info) → IsSettled library (worldview_in premises list) d → v ≡ beliefs (worldview_in premises list) d.contents cell →
+pub settled_value : (library : List Stored) (names : CellNames) (words : Vocabulary) (definitions : Definitions) (premises : List Origin) (d : Data) (limit : ℕ) (list : List ℕ) (cell : ℕ) (v : Info) → IsKept library d → IsSettled library (worldview_in premises list) d → v ≡ beliefs (worldview_in premises list) d.contents cell →
     IsSettledValue library (state_from names words definitions premises d limit) list cell v
-settled_value library names words definitions premises d limit list cell v settled is_v = record {
+settled_value library names words definitions premises d limit list cell v kept settled is_v = record {
   solution = beliefs (worldview_in premises list) d.contents;
   rest = record { least = settled.least; free = settled.free };
   value = is_v;
+  points = entailed_holds_points library (state_from names words definitions premises d limit) (worldview_in premises list) cell v (kept_fits library d kept) (rw is_v (settled.least.least cell));
 }
 
 unsettled_value : (library : List Stored) (names : CellNames) (words : Vocabulary) (definitions : Definitions) (premises : List Origin) (d : Data) (limit : ℕ) (list : List ℕ) (cell : ℕ) (name : List ℕ) (v : Info) → cell_named names name ≡ Some cell → All (λ k. k < length d.kinds) names.cells →
@@ -136,6 +143,7 @@ unsettled_value library names words definitions premises d limit list cell name 
       of_kind = rw is_v ((beliefs_of_kinds d kept.made (worldview_in premises list)).of_kind cell (kind_at d.kinds cell) (slice_get-get_or d.kinds cell span_kind l));
       entailed = rw is_v (believed_entailed library d (worldview_in premises list) kept cell);
       stated = λ k x m believed here. rw (is_v, ← here) ((kept.made.stated k x m).below (worldview_in premises list) believed);
+      points = entailed_holds_points library (state_from names words definitions premises d limit) (worldview_in premises list) cell v (kept_fits library d kept) (rw is_v (believed_entailed library d (worldview_in premises list) kept cell));
     }
 
 -- the cell with a name is there
@@ -147,7 +155,7 @@ pub settled_in : {R O : Type 0} {X : Type 0} {F : X → Type 0} {g : _} (value :
     IsSettledValue (library_of value s) (state_of s) s.search.list cell (beliefs (set_of s.search.worldview) s.network.cells.contents cell)
 settled_in value s cell sound rest =
     let same = believes_same s.search sound.at_work.well_made in
-    settled_value (library_of value s) s.names s.words s.definitions s.search.premises s.network.cells s.limit s.search.list cell _ (subst (λ (b : Members). IsSettled (library_of value s) b s.network.cells) same rest) (ap (λ (b : Members). beliefs b s.network.cells.contents cell) same)
+    settled_value (library_of value s) s.names s.words s.definitions s.search.premises s.network.cells s.limit s.search.list cell _ sound.at_work.under_way.kept (subst (λ (b : Members). IsSettled (library_of value s) b s.network.cells) same rest) (ap (λ (b : Members). beliefs b s.network.cells.contents cell) same)
 
 pub unsettled_in : {R O : Type 0} {X : Type 0} {F : X → Type 0} {g : _} (value : R → Param → List Info → Info) (s : Session R O X F g) (name : List ℕ) (cell : ℕ) → IsInOrder value s → cell_named s.names name ≡ Some cell →
     IsUnsettledValue (library_of value s) (state_of s) s.search.list cell (beliefs (set_of s.search.worldview) s.network.cells.contents cell)
@@ -194,15 +202,15 @@ few_steps library s before d problem n same stand moves =
     let few = few_in_all moves.further (lists.place_of (search.choices_in s) before) (lists.lists_count (search.choices_in s)) (most_steps problem) n moves.few (omega (arith, moves.place, below)) in
     subst (λ (q : Problem). n < lists.lists_count (search.choices_in s) * (most_steps q + 1)) same few
 
-pub has_run : {R O : Type 0} {X : Type 0} {F : X → Type 0} {g : _} {E : Type 0} (value : R → Param → List Info → Info) (s : Session R O X F g) (before : List ℕ) (problem : Problem) (r : Result (ends.Outcome × ℕ) E) → problem ≡ problem_of (library_of value s) s.network.cells → IsStand s.search →
+pub has_run : {R O : Type 0} {X : Type 0} {F : X → Type 0} {g : _} {E : Type 0} (value : R → Param → List Info → Info) (s : Session R O X F g) (before : List ℕ) (problem : Problem) (r : Result (ends.Outcome × ℕ) E) → problem ≡ problem_of (library_of value s) s.network.cells → IsKept (library_of value s) s.network.cells → IsStand s.search →
     AllBeforeRefuted problem (search.users_of s.search) (search.choices_in s.search) s.search.list →
     IfOk r (λ x. x.0 ≡ ended.Settled → IsSettled (library_of value s) (set_of s.search.worldview) s.network.cells) →
     IfOk r (λ x. x.0 ≡ ended.Settled → IsFirstConsistent problem (search.users_of s.search) (search.choices_in s.search) s.search.list) →
     IfOk r (λ x. settling.IfContradiction x.0 (λ n. IsRuledOut problem (search.users_of s.search) (search.choices_in s.search) s.search.listed (set_of n))) →
     IfOk r (λ x. x.1 ≤ s.limit) → IfOk r (λ x. search.Moves problem (search.choices_in s.search) before s.search.list x.1) → IfOk r (λ x. x.0 ≡ ended.Unsettled → x.1 ≡ s.limit) →
     IfOk r (λ x. x.0 ≡ ended.Unsettled → s.limit + 1 < lists.lists_count (search.choices_in s.search) * (most_steps problem + 1)) → IfOk r (λ x. HasRun value s x.0 x.1)
-has_run value s before problem (Err e) same stand earlier settled first contradiction within moves spent earned = tt
-has_run value s before problem (Ok (ended.Settled, n)) same stand earlier settled first contradiction within moves spent earned =
+has_run value s before problem (Err e) same kept stand earlier settled first contradiction within moves spent earned = tt
+has_run value s before problem (Ok (ended.Settled, n)) same kept stand earlier settled first contradiction within moves spent earned =
     let rest = subst (λ (b : Members). IsSettled (library_of value s) b s.network.cells) (believes_same s.search stand) (settled refl) in
     record {
       ends = record {
@@ -216,7 +224,7 @@ has_run value s before problem (Ok (ended.Settled, n)) same stand earlier settle
       few = few_steps (library_of value s) s.search before s.network.cells problem n same stand moves;
       spent = spent;
     }
-has_run value s before problem (Ok (ended.Unsettled, n)) same stand earlier settled first contradiction within moves spent earned = record {
+has_run value s before problem (Ok (ended.Unsettled, n)) same kept stand earlier settled first contradiction within moves spent earned = record {
   ends = record {
     is_list = stand.is_list;
     earlier = subst (λ (q : Problem). AllBeforeRefuted q (search.users_of s.search) (search.choices_in s.search) s.search.list) same earlier;
@@ -228,10 +236,15 @@ has_run value s before problem (Ok (ended.Unsettled, n)) same stand earlier sett
   few = few_steps (library_of value s) s.search before s.network.cells problem n same stand moves;
   spent = spent;
 }
-has_run value s before problem (Ok (ended.Contradiction ps, n)) same stand earlier settled first contradiction within moves spent earned =
+has_run value s before problem (Ok (ended.Contradiction ps, n)) same kept stand earlier settled first contradiction within moves spent earned =
     let out = subst (λ (q : Problem). IsRuledOut q (search.users_of s.search) (search.choices_in s.search) s.search.listed (set_of ps)) same contradiction in
     record {
-      ends = record { believes = out.believes; refuted = out.refuted; grounded = out.grounded };
+      ends = record {
+        believes = out.believes;
+        refuted = out.refuted;
+        grounded = out.grounded;
+        points = none_satisfy (library_of value s) (state_of s) ps (kept_fits (library_of value s) s.network.cells kept) stand.numbered out.believes out.refuted;
+      };
       covered = out.covered;
       settled = settled;
       within = within;

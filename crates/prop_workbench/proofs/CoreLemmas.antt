@@ -14,7 +14,7 @@ use Rattle.prop_procedures.specs.Stored.{Stored}
 use Rattle.prop_lattice.specs.declared.info.Info.{Info}
 use Rattle.prop_cells.specs.Problems.{Problem}
 use Rattle.prop_cells.specs.Reach.{Explains}
-use Rattle.prop_cells.specs.Data.{Data, beliefs, problem_of}
+use Rattle.prop_cells.specs.Data.{Data, IsKept, beliefs, problem_of}
 use Rattle.prop_scheduler.specs.Turns.{IsUnderWay, IsSettled}
 use Rattle.prop_scheduler.specs.Watching.{IsWatched}
 use Rattle.prop_scheduler.specs.Potential.{most_steps}
@@ -43,13 +43,13 @@ core_known problem n believed cell value (Least e) known explains = support_know
 core_known problem n believed cell value (NotReduced e) known explains = support_known problem n cell e.support known explains.1.related
 
 -- what it says of a network at rest is settled
-pub settled_core : (library : List Stored) (names : CellNames) (words : Vocabulary) (definitions : Definitions) (premises : List Origin) (d : Data) (limit : ℕ) (list : List ℕ) (believed : Members) (cell : ℕ) (core : Core) → believed ≡ worldview_in premises list → IsSettled library (worldview_in premises list) d →
+pub settled_core : (library : List Stored) (names : CellNames) (words : Vocabulary) (definitions : Definitions) (premises : List Origin) (d : Data) (limit : ℕ) (list : List ℕ) (believed : Members) (cell : ℕ) (core : Core) → IsKept library d → believed ≡ worldview_in premises list → IsSettled library (worldview_in premises list) d →
     OfCore core (λ v s. (v ≡ beliefs believed d.contents cell) × Explains (problem_of library d) believed cell v (set_of s)) →
     OfCore core (λ v s. IsSettledValue library (state_from names words definitions premises d limit) list cell v × Explains (problem_of library d) (worldview_in premises list) cell v (set_of s))
-settled_core library names words definitions premises d limit list believed cell (Least e) same rest explains =
-    (settled_value library names words definitions premises d limit list cell e.value rest (explains.0 ∙ ap (λ (b : Members). beliefs b d.contents cell) same), subst (λ (b : Members). Explains (problem_of library d) b cell e.value (set_of e.support)) same explains.1)
-settled_core library names words definitions premises d limit list believed cell (NotReduced e) same rest explains =
-    (settled_value library names words definitions premises d limit list cell e.value rest (explains.0 ∙ ap (λ (b : Members). beliefs b d.contents cell) same), subst (λ (b : Members). Explains (problem_of library d) b cell e.value (set_of e.support)) same explains.1)
+settled_core library names words definitions premises d limit list believed cell (Least e) kept same rest explains =
+    (settled_value library names words definitions premises d limit list cell e.value kept rest (explains.0 ∙ ap (λ (b : Members). beliefs b d.contents cell) same), subst (λ (b : Members). Explains (problem_of library d) b cell e.value (set_of e.support)) same explains.1)
+settled_core library names words definitions premises d limit list believed cell (NotReduced e) kept same rest explains =
+    (settled_value library names words definitions premises d limit list cell e.value kept rest (explains.0 ∙ ap (λ (b : Members). beliefs b d.contents cell) same), subst (λ (b : Members). Explains (problem_of library d) b cell e.value (set_of e.support)) same explains.1)
 
 -- a session keeps what it has to where only what its cells hold, what waits and what is watched has changed, and every instance waits
 pub rested_keeps : {R O : Type 0} {X : Type 0} {F : X → Type 0} {g : _} (value : R → Param → List Info → Info) (s new : Session R O X F g) → IsInOrder value s → new.network.library ≡ s.network.library → new.network.cells ≡ record s.network.cells { contents = new.network.cells.contents } →

@@ -63,7 +63,7 @@ agree_believed s t [] h = refl
 agree_believed s t (e ∷ es) h = rw (h e (contains_here e es), agree_believed s t es (λ x c. h x (contains_there e x es c))) refl
 
 -- entries that rest on known premises say the same to who agrees on these
-agree_beliefs : (library : List Stored) (d : Data) (n : ℕ) (s t : Premises) → IsKept library d → AreKnown n d.statements → ((p : ℕ) → p < n → t p ≡ s p) → beliefs t d.contents ≡ beliefs s d.contents
+pub agree_beliefs : (library : List Stored) (d : Data) (n : ℕ) (s t : Premises) → IsKept library d → AreKnown n d.statements → ((p : ℕ) → p < n → t p ≡ s p) → beliefs t d.contents ≡ beliefs s d.contents
 agree_beliefs library d n s t kept known agree = λ i cell. merge_of_all Nothing merge_of (at cell i)
   where
     at : (cell : ℕ) → believed_of t (content_of d.contents cell) ≡ believed_of s (content_of d.contents cell)

@@ -12,9 +12,10 @@ use Rattle.prop_language.specs.Commands.{Command}
 use Rattle.prop_engine.specs.Answers.{Answer, Says, Silent, Done, Text, Refused}
 use Rattle.prop_workbench.specs.declared.asking.Question.{Question}
 use Rattle.prop_workbench.specs.declared.asking.Question.TheVariants.{Settle, Worldview, Ask, Why}
-use Rattle.prop_workbench.specs.inner.Questions.{command_of}
+use Rattle.prop_workbench.specs.inner.Questions.{command_of, SaysSoFar}
 use Rattle.prop_workbench.specs.Machine.{State, text_at}
 use Rattle.prop_workbench.specs.Reasons.{IsLeanExplanation, IsContradiction, IsLeanReply, IsLeanAnswer}
+use Rattle.prop_amb.specs.Going.{Work}
 use Rattle.prop_workbench.specs.Sessions.{state_from}
 use Rattle.prop_texts.specs.Texts.{equation, because, contradiction_text}
 use Rattle.prop_vocabulary.specs.Cells.{CellNames}
@@ -54,6 +55,11 @@ lean_contradicted believed d s (Why cell name) answer lean = lean_answer believe
 pub lean_bare : (believed : Members) (d : Data) (s : State) (question : Question) (answer : Answer) → (question ≡ Settle) ⊎ (question ≡ Worldview) → IsLeanAnswer believed d s (Ok (Some (command_of question))) answer
 lean_bare believed d s question answer (inl e) = rw e tt
 lean_bare believed d s question answer (inr e) = rw e tt
+
+-- nor does what is said of no cell say what is believed of one
+pub so_far_bare : {O : Type 0} (s : State) (work : Work O) (question : Question) (answer : Answer) → (question ≡ Settle) ⊎ (question ≡ Worldview) → SaysSoFar s work (command_of question) answer
+so_far_bare s work question answer (inl e) = rw e (λ text is. tt)
+so_far_bare s work question answer (inr e) = rw e (λ text is. tt)
 
 -- a refusal explains nothing
 pub lean_read_refused : (believed : Members) (d : Data) (s : State) (read : Result (Option Command) Refusal) (refusal : Refusal) → IsLeanAnswer believed d s read (Refused refusal)

@@ -16,7 +16,8 @@ use Rattle.prop_workbench.specs.Machine.{State, naming, problem_in, choices_in}
 use Rattle.prop_amb.specs.declared.outcome.Outcome as ends
 use Rattle.prop_amb.specs.declared.outcome.Outcome.TheVariants as ended
 use Rattle.prop_workbench.specs.Questions.{outcome_of}
-use Rattle.prop_workbench.specs.inner.Questions.{IfContradiction, MaySay}
+use Rattle.prop_amb.specs.Settling.{IfContradiction}
+use Rattle.prop_workbench.specs.inner.Questions.{MaySay}
 use Rattle.prop_workbench.specs.Refusing.{refusal_of}
 use Rattle.prop_workbench.specs.Running.{Outcome, Settled, Unsettled, Contradiction, named_by, MayEnd, IsRest, IsValue, IsValueReply, IsExplainedReply, Replies}
 use Rattle.prop_procedures.specs.declared.shape.Param.{Param}
@@ -34,11 +35,11 @@ rest_named library s named list a r = record { least = r.least; free = r.free }
 may_end_named : (library : List Stored) (s : State) (named : List (List ℕ)) (outcome : Outcome) → MayEnd library s outcome → MayEnd library (naming s named) outcome
 may_end_named library s named (Settled list) r = record { first = r.first; solution = r.solution; rest = rest_named library s named list r.solution r.rest }
 may_end_named library s named (Unsettled list) r = record { is_list = r.is_list; earlier = r.earlier; few = r.few }
-may_end_named library s named (Contradiction ps) r = record { believes = r.believes; refuted = r.refuted; grounded = r.grounded }
+may_end_named library s named (Contradiction ps) r = record { believes = r.believes; refuted = r.refuted; grounded = r.grounded; points = r.points }
 
 value_named : (library : List Stored) (s : State) (named : List (List ℕ)) (outcome : Outcome) (cell : ℕ) (v : Info) → IsValue library s outcome cell v → IsValue library (naming s named) outcome cell v
-value_named library s named (Settled list) cell v r = record { solution = r.solution; rest = rest_named library s named list r.solution r.rest; value = r.value }
-value_named library s named (Unsettled list) cell v r = record { of_kind = r.of_kind; entailed = r.entailed; stated = r.stated }
+value_named library s named (Settled list) cell v r = record { solution = r.solution; rest = rest_named library s named list r.solution r.rest; value = r.value; points = r.points }
+value_named library s named (Unsettled list) cell v r = record { of_kind = r.of_kind; entailed = r.entailed; stated = r.stated; points = r.points }
 value_named library s named (Contradiction ps) cell v r = absurd r
 
 value_reply_named : (library : List Stored) (s : State) (named : List (List ℕ)) (outcome : Outcome) (name mark text : List ℕ) → IsValueReply library s outcome name mark text → IsValueReply library (naming s named) outcome name mark text

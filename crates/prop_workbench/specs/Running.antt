@@ -16,6 +16,7 @@ use Rattle.prop_nogoods.specs.Stores.{AreMinimal}
 use Rattle.prop_amb.specs.Refuted.{IsRefuted, IsNogood, IsGrounded, IsCovered, IsFirstConsistent, AllBeforeRefuted}
 use Rattle.prop_language.specs.Commands.{Command}
 use Rattle.prop_workbench.specs.Machine.{State, problem_in, text_at, users_in, choices_in, worldview_at}
+use Rattle.prop_workbench.specs.Points.{HoldsPoints, NoneSatisfy}
 use Rattle.prop_texts.specs.Texts.{equation, because, contradiction_text, worldview_text, nogoods_text}
 use Rattle.prop_vocabulary.specs.Cells.{cell_named}
 use Rattle.prop_explain.specs.Irreducible.{IsIrreducible}
@@ -43,11 +44,12 @@ pub record Stops (library : List Stored) (s : State) (list : List ℕ) : Type 0 
   pub earlier : AllBeforeRefuted (problem_in library s) (users_in s) (choices_in s) list
   pub few : s.limit + 1 < lists_count (choices_in s) * (most_steps (problem_in library s) + 1)
 
--- believed premises of the user's that are refuted, each for a reason that lies among them
+-- believed premises of the user's that are refuted, each for a reason that lies among them, and that no points satisfy
 pub record Contradicts (library : List Stored) (s : State) (ps : List ℕ) : Type 0 where
   pub believes : IsPart (set_of ps) (users_in s)
   pub refuted : IsRefuted (problem_in library s) (choices_in s) (set_of ps)
   pub grounded : IsGrounded (problem_in library s) (choices_in s) (set_of ps)
+  pub points : NoneSatisfy library s ps
 
 -- how a run may end
 abbrev pub MayEnd : List Stored → State → Outcome → Type 0
@@ -60,17 +62,20 @@ abbrev pub named_by : Outcome → List (List ℕ) → List (List ℕ)
 named_by (Contradiction ps) named = named ++ ps ∷ []
 named_by outcome named = named
 
--- the information at the cell in the least solution over the worldview of the list
+-- the information at the cell in the least solution over the worldview of the list; points that satisfy that worldview lie in it
 pub record IsSettledValue (library : List Stored) (s : State) (list : List ℕ) (cell : ℕ) (v : Info) : Type 0 where
   pub solution : Assignment
   pub rest : IsRest library s list solution
   pub value : v ≡ solution cell
+  pub points : HoldsPoints library s (worldview_at s list) cell v
 
--- an information of the cell's kind that the worldview of the list entails, and that has all that its statements say of the cell
+-- an information of the cell's kind that the worldview of the list entails, and that has all that its statements say of the cell;
+-- points that satisfy that worldview lie in it
 pub record IsUnsettledValue (library : List Stored) (s : State) (list : List ℕ) (cell : ℕ) (v : Info) : Type 0 where
   pub of_kind : IsOf (kind_at s.kinds cell).kind (kind_at s.kinds cell).size v
   pub entailed : Entails (problem_in library s) (worldview_at s list) cell v
   pub stated : All (λ x. IsTrue (is_member (worldview_at s list) x.premise) → x.cell ≡ cell → Below x.info v) s.statements
+  pub points : HoldsPoints library s (worldview_at s list) cell v
 
 abbrev pub IsValue : List Stored → State → Outcome → ℕ → Info → Type 0
 IsValue library s (Settled list) cell v = IsSettledValue library s list cell v

@@ -39,9 +39,11 @@ impl<R: Rule + Drop, O: Order + Drop> Session<R, O> {
     ghost use Rattle.prop_workbench.specs.Machine.{text_at, problem_in, choices_in};
     ghost use Rattle.prop_texts.specs.Texts.{equation};
     ghost use Rattle.prop_vocabulary.specs.Cells.{cell_named};
-    ghost use Rattle.prop_workbench.specs.inner.Carrying.{IsAnswered, IsAtRest, IsLeanIn, IsUnfinished, MayAnswer, SaysBecause, CountsTries};
-    ghost use Rattle.prop_workbench.specs.inner.Questions.{command_of, IsNamed, HasRun};
-    ghost use Rattle.prop_workbench.specs.Questions.{HasGone};
+    ghost use Rattle.prop_workbench.specs.inner.Carrying.{IsAnswered, IsAtRest, IsLeanIn, MayAnswer, SaysBecause, CountsTries};
+    ghost use Rattle.prop_workbench.specs.inner.Questions.{command_of, IsNamed, HasRun, SaysSoFar};
+    ghost use Rattle.prop_amb.specs.Going.{MayGoOn, Goes};
+    ghost use Rattle.prop_amb.specs.Culprits.{IsBlamed};
+    ghost use Rattle.prop_amb.specs.Settling.{IfContradiction};
     ghost use Rattle.prop_workbench.specs.Reasons.{IsLeanExplanation};
     ghost use Rattle.prop_workbench.specs.inner.Running.{Explained};
     ghost use Rattle.prop_workbench.specs.Sessions.{state_of, work_of, library_of, IsInOrder, IsMeant};
@@ -57,8 +59,10 @@ impl<R: Rule + Drop, O: Order + Drop> Session<R, O> {
         ensures definitions { self.new.definitions ≡ self.old.definitions }
         ensures state { state_of self.new ≡ state_of self.old }
         ensures run { IfOk result (λ r. HasRun R.value_of self.new r.0 r.1) }
-        ensures gone { IfOk result (λ r. HasGone O.picks (library_of R.value_of self.old) (state_of self.old) (work_of self.old) (work_of self.new) r.1) }
-        ensures left { IfOk result (λ r. r.0 ≡ Outcome.Unsettled → IsUnfinished R.value_of self.old self.new) }
+        ensures gone { IfOk result (λ r. Goes O.picks (library_of R.value_of self.old) (work_of self.old) r.1 (work_of self.new)) }
+        ensures left { IfOk result (λ r. r.0 ≡ Outcome.Unsettled → MayGoOn (work_of self.new)) }
+        ensures blamed { IfOk result (λ r.
+            IfContradiction r.0 (λ ps. IsBlamed self.new.search (set_of ps))) }
     {
         settle(
             self.alloc,
@@ -89,6 +93,8 @@ impl<R: Rule + Drop, O: Order + Drop> Session<R, O> {
         requires named { IsNamed (state_of self.now) question }
         requires run { HasRun R.value_of self.now end.now steps }
         ensures says { MayAnswer R.value_of self.now (command_of question.entry) end.now steps (answer_of result) }
+        ensures believed { end.now ≡ Outcome.Unsettled → SaysSoFar (state_of self.now)
+            (work_of self.now) (command_of question.entry) (answer_of result) }
         ensures lean { IsLeanIn self.now (command_of question.entry) (answer_of result) }
     {
         match end {
@@ -123,6 +129,8 @@ impl<R: Rule + Drop, O: Order + Drop> Session<R, O> {
         requires sound { IsInOrder R.value_of self.now }
         requires named { IsNamed (state_of self.now) question }
         ensures says { MayAnswer R.value_of self.now (command_of question.entry) Outcome.Unsettled self.now.limit (answer_of result) }
+        ensures believed { SaysSoFar (state_of self.now) (work_of self.now)
+            (command_of question.entry) (answer_of result) }
         ensures lean { IsLeanIn self.now (command_of question.entry) (answer_of result) }
     {
         let mark = " unsettled";
@@ -191,6 +199,8 @@ impl<R: Rule + Drop, O: Order + Drop> Session<R, O> {
         ensures keeps { Keeps R.value_of self.old self.new }
         ensures state { state_of self.new ≡ state_of self.old }
         ensures says { MayAnswer R.value_of self.old (commands.Command.Core name.now) end.now result.1 (answer_of result.0) }
+        ensures believed { end.now ≡ Outcome.Unsettled → SaysSoFar (state_of self.old)
+            (work_of self.old) (commands.Command.Core name.now) (answer_of result.0) }
         ensures within { result.1 ≤ self.old.limit }
         ensures tried { end.now ≡ Outcome.Settled → CountsTries O.picks R.value_of self.old steps (answer_of result.0) result.1 self.new }
         ensures untried { end.now ≢ Outcome.Settled → (work_of self.new ≡ work_of self.old) × (result.1 ≡ steps) }

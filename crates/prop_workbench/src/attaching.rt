@@ -61,13 +61,16 @@ impl<R: Rule + Drop, O: Order + Drop> Session<R, O> {
     ghost use Rattle.prop_workbench.specs.Effects.{with_use};
     ghost use Rattle.prop_workbench.specs.Sessions.{state_of, library_of, IsInOrder};
     ghost use Rattle.prop_workbench.specs.inner.Sessions.{Keeps};
-    ghost use Rattle.prop_workbench.specs.inner.Carrying.{IsDone};
+    ghost use Rattle.prop_workbench.specs.inner.Carrying.{IsDone, HasLeft, HasStirred};
 
     /// Puts a procedure or a definition between cells.
     pub(crate) fn attach(&mut self, name: &str, cells: &[&str], by: By) -> Result<(), Refusal>
         requires sound { IsInOrder R.value_of self.old }
         ensures keeps { Keeps R.value_of self.old self.new }
         ensures step { IsDone R.value_of self.old (commands.Command.Attach name.now (words cells.now) (by_of by.entry)) result self.new }
+        ensures wakes { HasLeft self.old
+            (commands.Command.Attach name.now (words cells.now) (by_of by.entry))
+            result self.new }
     {
         if is_unknown(&self.words, by) {
             return Err(Refusal::NoSuchRelation);
@@ -88,6 +91,7 @@ impl<R: Rule + Drop, O: Order + Drop> Session<R, O> {
         ensures ok { OnOk result (state_of self.new ≡ with_use (library_of R.value_of self.old) (state_of self.old) cells.now (used (library_of R.value_of self.old) (state_of self.old) name.now cells.now (by_of by.entry))) }
         ensures err { IfErr result (λ e. (use_refusal (library_of R.value_of self.old) (state_of self.old) name.now cells.now (by_of by.entry) ≡ Some e) ⊎ (e ≡ Memory)) }
         ensures err_same { OnErr result (state_of self.new ≡ state_of self.old) }
+        ensures stirred { HasStirred self.old self.old.search.list result self.new }
     {
         match self.expanded(name, cells, by) {
             Ok(flat) => make(self.alloc, &mut self.network, &mut self.agenda, cells, flat),

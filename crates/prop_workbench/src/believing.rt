@@ -10,7 +10,7 @@ impl<R: Rule + Drop, O: Order + Drop> Session<R, O> {
     ghost use Rattle.prop_language.specs.Commands as commands;
     ghost use Rattle.prop_workbench.specs.Sessions.{IsInOrder};
     ghost use Rattle.prop_workbench.specs.inner.Sessions.{Keeps};
-    ghost use Rattle.prop_workbench.specs.inner.Carrying.{IsDone};
+    ghost use Rattle.prop_workbench.specs.inner.Carrying.{IsDone, HasLeft};
 
     /// The premise with a name is no longer believed. Where that is a change, every choice stands on its first side again, and of the cells that this
     /// shifts the readers and writers wait.
@@ -18,6 +18,7 @@ impl<R: Rule + Drop, O: Order + Drop> Session<R, O> {
         requires sound { IsInOrder R.value_of self.old }
         ensures keeps { Keeps R.value_of self.old self.new }
         ensures step { IsDone R.value_of self.old (commands.Command.Kick name.now) result self.new }
+        ensures wakes { HasLeft self.old (commands.Command.Kick name.now) result self.new }
     {
         let premise = self.search.premises().find(name)?;
         let Some(before) = self.search.kick(premise)? else {
@@ -37,6 +38,7 @@ impl<R: Rule + Drop, O: Order + Drop> Session<R, O> {
         requires sound { IsInOrder R.value_of self.old }
         ensures keeps { Keeps R.value_of self.old self.new }
         ensures step { IsDone R.value_of self.old (commands.Command.Bring name.now) result self.new }
+        ensures wakes { HasLeft self.old (commands.Command.Bring name.now) result self.new }
     {
         let premise = self.search.premises().find(name)?;
         let Some(before) = self.search.bring(premise)? else {

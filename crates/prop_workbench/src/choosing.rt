@@ -117,7 +117,7 @@ fn infos_of(
 }
 
 impl<R: Rule + Drop, O: Order + Drop> Session<R, O> {
-    ghost use Rattle.std.specs.Prelude.{◌≡◌, ◌≤◌, ◌<◌, ◌⊎◌, ◌++◌, ◌||◌, ℕ, None, Some, All, false, is_some, OnOk, OnErr, IfOk, IfErr, map, length};
+    ghost use Rattle.std.specs.Prelude.{◌≡◌, ◌≤◌, ◌<◌, ◌⊎◌, ◌++◌, ◌∷◌, [], ◌||◌, ℕ, None, Some, All, false, is_some, OnOk, OnErr, IfOk, IfErr, map, length};
     ghost use Rattle.prop_lattice.specs.declared.refusal.Refusal.TheVariants.{Memory};
     ghost use Rattle.prop_premises.specs.Origins.{premise_number, is_choice, with_choice};
     ghost use Rattle.prop_language.specs.Commands as commands;
@@ -131,7 +131,7 @@ impl<R: Rule + Drop, O: Order + Drop> Session<R, O> {
     ghost use Rattle.prop_workbench.specs.Refusing.{choosing_limit, choosing_limit_at};
     ghost use Rattle.prop_workbench.specs.Sessions.{state_of, IsInOrder};
     ghost use Rattle.prop_workbench.specs.inner.Sessions.{Keeps};
-    ghost use Rattle.prop_workbench.specs.inner.Carrying.{IsDone};
+    ghost use Rattle.prop_workbench.specs.inner.Carrying.{IsDone, HasLeft, HasStirred};
 
     /// A choice with a new name between what the values say at a cell.
     pub(crate) fn choose(
@@ -145,6 +145,9 @@ impl<R: Rule + Drop, O: Order + Drop> Session<R, O> {
         requires few { length values.now ≤ 8 }
         ensures keeps { Keeps R.value_of self.old self.new }
         ensures step { IsDone R.value_of self.old (commands.Command.Choose choice.now name.now (map value_of values.now)) result self.new }
+        ensures wakes { HasLeft self.old
+            (commands.Command.Choose choice.now name.now (map value_of values.now))
+            result self.new }
     {
         let is_taken = self.is_taken(choice);
         let cell = match self.names.find(name) {
@@ -188,6 +191,7 @@ impl<R: Rule + Drop, O: Order + Drop> Session<R, O> {
         ensures ok { OnOk result (state_of self.new ≡ chosen (state_of self.old) choice.now cell (meanings_of self.old.words kind (map value_of values.now))) }
         ensures err { IfErr result (λ e. (choosing_limit_at (state_of self.old) (Some (meanings_of self.old.words kind (map value_of values.now))) ≡ Some e) ⊎ (e ≡ Memory)) }
         ensures err_same { OnErr result (state_of self.new ≡ state_of self.old) }
+        ensures stirred { HasStirred self.old (self.old.search.list ++ 1 ∷ []) result self.new }
     {
         match self.choosing_limit(values.len()) {
             Some(refusal) => return Err(refusal),
@@ -240,6 +244,7 @@ impl<R: Rule + Drop, O: Order + Drop> Session<R, O> {
         ensures ok { OnOk result (state_of self.new ≡ record (state_of self.old) { premises = with_choice self.old.search.premises choice.now (length infos.now); statements = self.old.network.cells.statements ++ sides_at (length self.old.search.premises) cell infos.now }) }
         ensures err { IfErr result (λ e. e ≡ Memory) }
         ensures err_same { OnErr result (state_of self.new ≡ state_of self.old) }
+        ensures stirred { HasStirred self.old (self.old.search.list ++ 1 ∷ []) result self.new }
     {
         let choice = match self.search.declare(choice, infos.len() as u8) {
             Ok(choice) => choice,

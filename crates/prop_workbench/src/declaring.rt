@@ -12,7 +12,7 @@ impl<R: Rule + Drop, O: Order + Drop> Session<R, O> {
     ghost use Rattle.prop_language.specs.Said.{kind_of, words, pairs_of, step_of};
     ghost use Rattle.prop_workbench.specs.Sessions.{IsInOrder, IsMeant};
     ghost use Rattle.prop_workbench.specs.inner.Sessions.{Keeps};
-    ghost use Rattle.prop_workbench.specs.inner.Carrying.{IsDone};
+    ghost use Rattle.prop_workbench.specs.inner.Carrying.{IsDone, HasLeft};
 
     /// Declares a domain.
     pub(crate) fn domain(&mut self, name: &str, elements: &[&str]) -> Result<(), Refusal>
@@ -20,6 +20,9 @@ impl<R: Rule + Drop, O: Order + Drop> Session<R, O> {
         requires some { 0 < length elements.now }
         ensures keeps { Keeps R.value_of self.old self.new }
         ensures step { IsDone R.value_of self.old (commands.Command.Domain name.now (words elements.now)) result self.new }
+        ensures wakes { HasLeft self.old
+            (commands.Command.Domain name.now (words elements.now))
+            result self.new }
     {
         self.words.declare_domain(name, elements)
     }
@@ -35,6 +38,9 @@ impl<R: Rule + Drop, O: Order + Drop> Session<R, O> {
         requires sound { IsInOrder R.value_of self.old }
         ensures keeps { Keeps R.value_of self.old self.new }
         ensures step { IsDone R.value_of self.old (commands.Command.Relation name.now from.now to.now (pairs_of pairs.now)) result self.new }
+        ensures wakes { HasLeft self.old
+            (commands.Command.Relation name.now from.now to.now (pairs_of pairs.now))
+            result self.new }
     {
         self.words.declare_relation(name, from, to, pairs)
     }
@@ -49,6 +55,9 @@ impl<R: Rule + Drop, O: Order + Drop> Session<R, O> {
         requires sound { IsInOrder R.value_of self.old }
         ensures keeps { Keeps R.value_of self.old self.new }
         ensures step { IsDone R.value_of self.old (commands.Command.Define name.now (words params.now) (map step_of steps.now)) result self.new }
+        ensures wakes { HasLeft self.old
+            (commands.Command.Define name.now (words params.now) (map step_of steps.now))
+            result self.new }
     {
         self.definitions.define(
             self.alloc,
@@ -65,6 +74,9 @@ impl<R: Rule + Drop, O: Order + Drop> Session<R, O> {
         requires sound { IsInOrder R.value_of self.old }
         ensures keeps { Keeps R.value_of self.old self.new }
         ensures step { IsDone R.value_of self.old (commands.Command.Cell name.now (kind_of kind.entry)) result self.new }
+        ensures wakes { HasLeft self.old
+            (commands.Command.Cell name.now (kind_of kind.entry))
+            result self.new }
     {
         match self.names.find(name) {
             Some(_) => return Err(Refusal::NameTaken),

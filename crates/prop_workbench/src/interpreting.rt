@@ -1,5 +1,5 @@
 //! A session is what the engine has its lines carried out by.
-ghost use Rattle.prop_procedures.specs.Kept.{stored_of, related_of};
+ghost use Rattle.prop_procedures.specs.Kept.{stored_of};
 ghost use Rattle.prop_workbench.specs.Steps.{Shown};
 ghost use Rattle.prop_workbench.specs.Sessions.{shown_of, IsSound, IsMeant};
 ghost use Rattle.prop_workbench.specs.Engine.{learning};
@@ -19,7 +19,7 @@ impl<R: Rule + Drop, O: Order + Drop> Interpreter for Session<R, O> {
 
     ghost state = { shown_of };
 
-    ghost machine = { λ library. learning (stored_of R.value_of library) (related_of R.related library) };
+    ghost machine = { λ library. learning (stored_of R.value_of library) };
 
     ghost is_ready = { λ s. IsMeant R.value_of s × IsSound R.value_of s };
 
@@ -27,7 +27,7 @@ impl<R: Rule + Drop, O: Order + Drop> Interpreter for Session<R, O> {
         self.command(line)
     }
 
-    ghost asks_by_prefix = { λ library. learning_asks_by_prefix _ _ };
+    ghost asks_by_prefix = { λ library. learning_asks_by_prefix _ };
 
-    ghost total = { λ library. learning_is_total _ _ };
+    ghost total = { λ library. learning_is_total _ };
 }

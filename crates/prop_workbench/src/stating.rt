@@ -51,7 +51,7 @@ impl<R: Rule + Drop, O: Order + Drop> Session<R, O> {
     ghost use Rattle.prop_workbench.specs.inner.Refusing.{is_choice_told};
     ghost use Rattle.prop_workbench.specs.Sessions.{state_of, IsInOrder};
     ghost use Rattle.prop_workbench.specs.inner.Sessions.{Keeps};
-    ghost use Rattle.prop_workbench.specs.inner.Carrying.{IsDone};
+    ghost use Rattle.prop_workbench.specs.inner.Carrying.{IsDone, HasLeft, HasStirred};
 
     /// States what a value says at a cell, under the premise with a name or under none.
     pub(crate) fn say(
@@ -63,6 +63,9 @@ impl<R: Rule + Drop, O: Order + Drop> Session<R, O> {
         requires sound { IsInOrder R.value_of self.old }
         ensures keeps { Keeps R.value_of self.old self.new }
         ensures step { IsDone R.value_of self.old (stating (name_of premise.entry) name.now (value_of value.now)) result self.new }
+        ensures wakes { HasLeft self.old
+            (stating (name_of premise.entry) name.now (value_of value.now))
+            result self.new }
     {
         let cell = match self.names.find(name) {
             Some(cell) => cell,
@@ -105,6 +108,7 @@ impl<R: Rule + Drop, O: Order + Drop> Session<R, O> {
         ensures ok { OnOk result (state_of self.new ≡ stated (state_of self.old) (name_of premise.entry) cell (with_meant self.old.words (meant_of meant.entry)) (info_meant self.old.words (meant_of meant.entry))) }
         ensures err { IfErr result (λ e. (stating_limit (state_of self.old) (name_of premise.entry) (meant_of meant.entry) ≡ Some e) ⊎ (e ≡ Memory)) }
         ensures err_same { OnErr result (state_of self.new ≡ state_of self.old) }
+        ensures stirred { HasStirred self.old self.old.search.list result self.new }
     {
         match meant {
             Meant::Known(info) => self.state_said(premise, cell, info),
@@ -128,6 +132,7 @@ impl<R: Rule + Drop, O: Order + Drop> Session<R, O> {
         ensures ok { OnOk result (state_of self.new ≡ stated (state_of self.old) (name_of premise.entry) cell (with_symbol self.old.words symbol.now) (Info.Sym (symbol_number self.old.words symbol.now))) }
         ensures err { IfErr result (λ e. (stating_limit (state_of self.old) (name_of premise.entry) (Name symbol.now) ≡ Some e) ⊎ (e ≡ Memory)) }
         ensures err_same { OnErr result (state_of self.new ≡ state_of self.old) }
+        ensures stirred { HasStirred self.old self.old.search.list result self.new }
     {
         match self.statement_limit(premise) {
             Some(refusal) => return Err(refusal),
@@ -178,6 +183,7 @@ impl<R: Rule + Drop, O: Order + Drop> Session<R, O> {
         ensures ok { OnOk result (state_of self.new ≡ stated (state_of self.old) (name_of premise.entry) cell self.old.words info) }
         ensures err { IfErr result (λ e. (statement_limit (state_of self.old) (name_of premise.entry) ≡ Some e) ⊎ (e ≡ Memory)) }
         ensures err_same { OnErr result (state_of self.new ≡ state_of self.old) }
+        ensures stirred { HasStirred self.old self.old.search.list result self.new }
     {
         match premise {
             Some(premise) => self.state_told(premise, cell, info),
@@ -197,6 +203,7 @@ impl<R: Rule + Drop, O: Order + Drop> Session<R, O> {
         ensures ok { OnOk result (state_of self.new ≡ stated (state_of self.old) (Some premise.now) cell self.old.words info) }
         ensures err { IfErr result (λ e. (telling_limit (state_of self.old) premise.now ≡ Some e) ⊎ (e ≡ Memory)) }
         ensures err_same { OnErr result (state_of self.new ≡ state_of self.old) }
+        ensures stirred { HasStirred self.old self.old.search.list result self.new }
     {
         match self.search.premises().find(premise) {
             Ok(known) => self.state(Some(known), cell, info),
@@ -215,6 +222,7 @@ impl<R: Rule + Drop, O: Order + Drop> Session<R, O> {
         ensures ok { OnOk result (state_of self.new ≡ record (state_of self.old) { statements = (state_of self.old).statements ++ record { premise = premise; cell = cell; info = info } ∷ [] }) }
         ensures err { IfErr result (λ e. (state_refusal self.old.network.cells cell info ≡ Some e) ⊎ (e ≡ Memory)) }
         ensures err_same { OnErr result (state_of self.new ≡ state_of self.old) }
+        ensures stirred { HasStirred self.old self.old.search.list result self.new }
     {
         state(
             &mut self.network,
@@ -240,6 +248,7 @@ impl<R: Rule + Drop, O: Order + Drop> Session<R, O> {
         ensures ok { OnOk result (state_of self.new ≡ record (state_of self.old) { premises = with_name (state_of self.old).premises name.now; statements = (state_of self.old).statements ++ record { premise = Some (length self.old.search.premises); cell = cell; info = info } ∷ [] }) }
         ensures err { IfErr result (λ e. (telling_limit (state_of self.old) name.now ≡ Some e) ⊎ (e ≡ Memory)) }
         ensures err_same { OnErr result (state_of self.new ≡ state_of self.old) }
+        ensures stirred { HasStirred self.old self.old.search.list result self.new }
     {
         let premise = match self.search.intern(name) {
             Ok(premise) => premise,

@@ -8,7 +8,6 @@ use Rattle.prop_lattice.specs.Points.{Point}
 use Rattle.prop_procedures.specs.declared.shape.Param.{Param}
 use Rattle.prop_procedures.specs.Rules.{IsSound}
 use Rattle.prop_procedures.specs.Stored.{Stored}
-use Rattle.prop_procedures.specs.Kept.{related_of}
 use Rattle.prop_procedures.specs.declared.library.Library.{Library}
 use Rattle.prop_cells.specs.Points.{AreSoundBy}
 use Rattle.prop_procedures.specs.Kept.{stored_as, stored_of}
@@ -83,19 +82,6 @@ kit_is_sound n p at = by in_order n p at
     by (rule ∷ rest) zero p at = let same : stored_kit rule ≡ p = same_Some (stored_kit rule) p at in rw (← same) (kit_sound rule (form_of rule).ins (form_of rule).out (form_of rule).need (refl, refl, refl))
     by (rule ∷ rest) (suc k) p at = by rest k p at
 
--- what the procedures relate is what their rules do
-pub related_by_rules : {X : Type 0} {F : X → Type 0} {g : _} → (library : Library Kit X F g) → map (λ p. p.rule) library.procedures.items ≡ in_order → related_of Related library ≡ kit_related
-related_by_rules {X} {F} {g} library e = (λ i n param points point. by library.procedures.items n param points point i) ∙ (λ i n param points point. IsSomeAnd (slice_get (e i) n) (λ rule. Related rule param points point))
-  where
-    by : (items : List (Procedure Kit X F g)) (n : ℕ) (param : Param) (points : List Point) (point : Point) → IsSomeAnd (slice_get items n) (λ p. Related p.rule param points point) ≡ IsSomeAnd (slice_get (map (λ p. p.rule) items) n) (λ rule. Related rule param points point)
-    by [] n param points point = refl
-    by (p ∷ rest) zero param points point = refl
-    by (p ∷ rest) (suc k) param points point = by rest k param points point
-
--- one more procedure is of one more rule
-pub ruled_more : {X : Type 0} {F : X → Type 0} {g : _} → (items all : List (Procedure Kit X F g)) (p : Procedure Kit X F g) (rules : List Kit) (i : ℕ) (d : Kit) → all ≡ items ++ p ∷ [] → i < length rules → p.rule ≡ get_or rules i d → map (λ q. q.rule) items ≡ take i rules → map (λ q. q.rule) all ≡ take (i + 1) rules
-ruled_more items all p rules i d e h s l = rw (e, map-append (λ q. q.rule) items (p ∷ []), l, s, take_more rules i d h) refl
-
 -- ---- what a session over the kit wrote
 
 -- lines that a session carried out are carried out by the machine, whichever contradictions were named
@@ -107,42 +93,40 @@ carried_out library old new (line ∷ lines) (answer, mid, steps, free, step, re
     record { now = more.now; covers = more.covers; done = (answer, naming mid.state one.now, steps, free, one.step, more.done) }
 
 -- a session that loaded the prelude, and wrote a transcript of what it shows
-pub answered_as : (library : List Stored) (related : ℕ → Param → List Point → Point → Type 0) (begun first new : Shown) (left held held' : Option (List ℕ)) (counts : Counts) → Loads library begun prelude_lines first →
-    WritesTranscript (learning library related) left held held' counts first new → IsAnsweredAs library related begun left held held' counts
-answered_as library related begun first new None held held' counts loads written named covers =
+pub answered_as : (library : List Stored) (begun first new : Shown) (left held held' : Option (List ℕ)) (counts : Counts) → Loads library begun prelude_lines first →
+    WritesTranscript (learning library) left held held' counts first new → IsAnsweredAs library begun left held held' counts
+answered_as library begun first new None held held' counts loads written named covers =
     let before = carried_out library begun first prelude_lines loads named covers in (naming first.state before.now, new.state, before.done, tt)
-answered_as library related begun first new (Some input) held held' counts loads (output, appends, transcript) named covers =
+answered_as library begun first new (Some input) held held' counts loads (output, appends, transcript) named covers =
     let before = carried_out library begun first prelude_lines loads named covers in
-    let shown = shown_transcripts library related first new input output counts.lines counts.refused transcript before.now before.covers in
+    let shown = shown_transcripts library first new input output counts.lines counts.refused transcript before.now before.covers in
     (naming first.state before.now, naming new.state shown.now, before.done, (output, appends, shown.done))
 
 -- the same of the prefix of one
-pub answered_in_part_as : (library : List Stored) (related : ℕ → Param → List Point → Point → Type 0) (begun first : Shown) (left held held' : Option (List ℕ)) → Loads library begun prelude_lines first →
-    WritesPrefix (learning library related) left held held' first → IsAnsweredInPartAs library related begun left held held'
-answered_in_part_as library related begun first None held held' loads written named covers =
+pub answered_in_part_as : (library : List Stored) (begun first : Shown) (left held held' : Option (List ℕ)) → Loads library begun prelude_lines first →
+    WritesPrefix (learning library) left held held' first → IsAnsweredInPartAs library begun left held held'
+answered_in_part_as library begun first None held held' loads written named covers =
     let before = carried_out library begun first prelude_lines loads named covers in inr (naming first.state before.now, before.done, tt)
-answered_in_part_as library related begun first (Some input) held held' loads (output, appends, prefix) named covers =
+answered_in_part_as library begun first (Some input) held held' loads (output, appends, prefix) named covers =
     let before = carried_out library begun first prelude_lines loads named covers in
-    inr (naming first.state before.now, before.done, (output, appends, shown_prefixes library related first input output prefix before.now before.covers))
+    inr (naming first.state before.now, before.done, (output, appends, shown_prefixes library first input output prefix before.now before.covers))
 
 -- no contradictions are covered by what was learned
 none_covered : (s : Shown) → Covers s []
 none_covered s = All-nil _
 
 -- a session whose library has the kit's procedures, from what a new one shows
-pub answered_by_kit : {X : Type 0} {F : X → Type 0} {g : _} → (library : Library Kit X F g) (items : List (Procedure Kit X F g)) (s : Shown) (limit : ℕ) (left held held' : Option (List ℕ)) (result : Result Counts Fault) → library.procedures.items ≡ items → map (stored_as value_of) items ≡ kit_library → map (λ p. p.rule) items ≡ in_order → s ≡ new_shown limit → IfOk result (IsAnsweredAs (stored_of value_of library) (related_of Related library) s left held held') → IfOk result (IsAnswered left held held' limit)
-answered_by_kit library items s limit left held held' (Ok counts) same listed ruled begun h =
+pub answered_by_kit : {X : Type 0} {F : X → Type 0} {g : _} → (library : Library Kit X F g) (items : List (Procedure Kit X F g)) (s : Shown) (limit : ℕ) (left held held' : Option (List ℕ)) (result : Result Counts Fault) → library.procedures.items ≡ items → map (stored_as value_of) items ≡ kit_library → s ≡ new_shown limit → IfOk result (IsAnsweredAs (stored_of value_of library) s left held held') → IfOk result (IsAnswered left held held' limit)
+answered_by_kit library items s limit left held held' (Ok counts) same listed begun h =
     let stored : stored_of value_of library ≡ kit_library = ap (map (stored_as value_of)) same ∙ listed in
-    let related : related_of Related library ≡ kit_related = related_by_rules library (ap (map (λ p. p.rule)) same ∙ ruled) in
-    let answered : IsAnsweredAs kit_library kit_related (new_shown limit) left held held' counts = subst (λ (P : Type 0). P) (λ i. IsAnsweredAs (stored i) (related i) (begun i) left held held' counts) h in
+    let answered : IsAnsweredAs kit_library (new_shown limit) left held held' counts = subst (λ (P : Type 0). P) (λ i. IsAnsweredAs (stored i) (begun i) left held held' counts) h in
     answered [] (none_covered (new_shown limit))
-answered_by_kit library items s limit left held held' (Err e) same listed ruled begun h = tt
+answered_by_kit library items s limit left held held' (Err e) same listed begun h = tt
 
 -- the same of what it wrote until it was stopped
-pub answered_in_part_by_kit : {X : Type 0} {F : X → Type 0} {g : _} → (library : Library Kit X F g) (items : List (Procedure Kit X F g)) (s : Shown) (limit : ℕ) (left held held' : Option (List ℕ)) (result : Result Counts Fault) → library.procedures.items ≡ items → map (stored_as value_of) items ≡ kit_library → map (λ p. p.rule) items ≡ in_order → s ≡ new_shown limit → OnErr result (IsAnsweredInPartAs (stored_of value_of library) (related_of Related library) s left held held') → OnErr result (IsAnsweredInPart left held held' limit)
-answered_in_part_by_kit library items s limit left held held' (Ok counts) same listed ruled begun h = tt
-answered_in_part_by_kit library items s limit left held held' (Err e) same listed ruled begun h =
+pub answered_in_part_by_kit : {X : Type 0} {F : X → Type 0} {g : _} → (library : Library Kit X F g) (items : List (Procedure Kit X F g)) (s : Shown) (limit : ℕ) (left held held' : Option (List ℕ)) (result : Result Counts Fault) → library.procedures.items ≡ items → map (stored_as value_of) items ≡ kit_library → s ≡ new_shown limit → OnErr result (IsAnsweredInPartAs (stored_of value_of library) s left held held') → OnErr result (IsAnsweredInPart left held held' limit)
+answered_in_part_by_kit library items s limit left held held' (Ok counts) same listed begun h = tt
+answered_in_part_by_kit library items s limit left held held' (Err e) same listed begun h =
     let stored : stored_of value_of library ≡ kit_library = ap (map (stored_as value_of)) same ∙ listed in
-    let related : related_of Related library ≡ kit_related = related_by_rules library (ap (map (λ p. p.rule)) same ∙ ruled) in
-    let answered : IsAnsweredInPartAs kit_library kit_related (new_shown limit) left held held' = subst (λ (P : Type 0). P) (λ i. IsAnsweredInPartAs (stored i) (related i) (begun i) left held held') h in
+    let answered : IsAnsweredInPartAs kit_library (new_shown limit) left held held' = subst (λ (P : Type 0). P) (λ i. IsAnsweredInPartAs (stored i) (begun i) left held held') h in
     answered [] (none_covered (new_shown limit))

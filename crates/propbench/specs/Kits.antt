@@ -35,18 +35,18 @@ CarriesOut library old (line ∷ lines) new =
     (answer : Answer) × (mid : State) × (steps : ℕ) × IsNoRefusal answer × Step library old line answer mid steps × CarriesOut library mid lines new
 
 -- a writer got a transcript of all that the reader had left, where that is known, of a session that loaded the prelude in this state
-abbrev pub IsAnsweredBy : List Stored → (ℕ → Param → List Point → Point → Type 0) → State → Option (List ℕ) → Option (List ℕ) → Option (List ℕ) → Counts → Type 0
-IsAnsweredBy library related begun left held held' counts =
-    (first : State) × (new : State) × CarriesOut library begun prelude_lines first × WritesTranscript (workbench library related) left held held' counts first new
+abbrev pub IsAnsweredBy : List Stored → State → Option (List ℕ) → Option (List ℕ) → Option (List ℕ) → Counts → Type 0
+IsAnsweredBy library begun left held held' counts =
+    (first : State) × (new : State) × CarriesOut library begun prelude_lines first × WritesTranscript (workbench library) left held held' counts first new
 
 -- a writer got nothing, or the prefix of such a transcript
-abbrev pub IsAnsweredInPartBy : List Stored → (ℕ → Param → List Point → Point → Type 0) → State → Option (List ℕ) → Option (List ℕ) → Option (List ℕ) → Type 0
-IsAnsweredInPartBy library related begun left held held' =
-    (held' ≡ held) ⊎ ((first : State) × CarriesOut library begun prelude_lines first × WritesPrefix (workbench library related) left held held' first)
+abbrev pub IsAnsweredInPartBy : List Stored → State → Option (List ℕ) → Option (List ℕ) → Option (List ℕ) → Type 0
+IsAnsweredInPartBy library begun left held held' =
+    (held' ≡ held) ⊎ ((first : State) × CarriesOut library begun prelude_lines first × WritesPrefix (workbench library) left held held' first)
 
 -- the same of a session with the kit's procedures that begins without cells, and with no contradictions named
 abbrev pub IsAnswered : Option (List ℕ) → Option (List ℕ) → Option (List ℕ) → ℕ → Counts → Type 0
-IsAnswered left held held' limit counts = IsAnsweredBy kit_library kit_related (new_state limit) left held held' counts
+IsAnswered left held held' limit counts = IsAnsweredBy kit_library (new_state limit) left held held' counts
 
 abbrev pub IsAnsweredInPart : Option (List ℕ) → Option (List ℕ) → Option (List ℕ) → ℕ → Type 0
-IsAnsweredInPart left held held' limit = IsAnsweredInPartBy kit_library kit_related (new_state limit) left held held'
+IsAnsweredInPart left held held' limit = IsAnsweredInPartBy kit_library (new_state limit) left held held'

@@ -9,7 +9,7 @@ mod running;
 use chosen::Options;
 use clap::error::ErrorKind;
 use fault::Fault;
-use prop_workbench::{EngineFault, Watched};
+use prop_workbench::{Devices, EngineFault, Patient};
 use running::run;
 use std::alloc::{AllocError, AllocGlobal};
 use std::env::Env;
@@ -21,9 +21,8 @@ fn main(rt: HostRuntime) -> ExitCode {
         Ok(options) => options,
         Err(status) => return status,
     };
-    let mut reader = Watched::new(rt.stdin());
-    let mut writer = Watched::new(rt.stdout());
-    match run(rt.alloc(), options, &mut reader, &mut writer) {
+    let mut devices = Devices::new(Patient::new(rt.stdin()), Patient::new(rt.stdout()));
+    match run(rt.alloc(), options, &mut devices) {
         Ok(_) => ExitCode::SUCCESS,
         Err(fault) => stopped(&rt, fault),
     }

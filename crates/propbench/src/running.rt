@@ -1,14 +1,13 @@
 //! A session with the kit's procedures, over a reader and a writer.
 ghost use Rattle.std.specs.Prelude.{◌≡◌, IfOk, OnErr, map};
-ghost use Rattle.prop_arith.specs.Kit.{in_order};
 ghost use Rattle.prop_arith.specs.Values.{value_of};
 ghost use Rattle.prop_procedures.specs.Kept.{AllMean, stored_as};
-ghost use Rattle.prop_engine.specs.Watched.{device, IsFresh};
+ghost use Rattle.prop_engine.specs.Watched.{reader, writer, device, IsFresh, IsPassedOn};
 ghost use Rattle.propbench.specs.Faults.{TellsDevices};
 ghost use Rattle.propbench.specs.Kits.{kit_library, kit_related, IsAnswered, IsAnsweredInPart};
 ghost use Rattle.propbench.specs.inner.Kits.{IsAnsweredAs, IsAnsweredInPartAs};
 ghost use Rattle.prop_cells.specs.Points.{AreSoundBy};
-ghost use Rattle.prop_workbench.specs.Sessions.{shown_of, library_of, related_in, IsSound, IsMeant};
+ghost use Rattle.prop_workbench.specs.Sessions.{shown_of, library_of, IsSound, IsMeant};
 
 use crate::chosen::{Options, Pick};
 use crate::fault::Fault;
@@ -17,7 +16,7 @@ use prop_cells::Network;
 use prop_lattice::Info;
 use prop_procedures::{Library, Param, Procedure, Rule, Shape};
 use prop_scheduler::{Fifo, Lifo, Mixed, Order};
-use prop_workbench::{Counts, Session, Watched};
+use prop_workbench::{Counts, Devices, Session};
 use smallvec::SmallVec;
 use std::alloc::{AllocError, Global};
 use std::io::{Read, Write};
@@ -29,15 +28,18 @@ const READS: u64 = 1 << 32;
 pub fn run<Rd: Read, W: Write>(
     alloc: Global,
     options: Options,
-    reader: &mut Watched<Rd>,
-    writer: &mut Watched<W>,
+    devices: &mut Devices<Rd, W>,
 ) -> Result<Counts, Fault>
-    requires reader { IsFresh reader.old }
-    requires writer { IsFresh writer.old }
-    ensures ok { IfOk result (IsAnswered (Rd.remaining (device reader.old)) (W.contents (device writer.old)) (W.contents (device writer.new)) options.limit) }
-    ensures err { OnErr result (IsAnsweredInPart (Rd.remaining (device reader.old)) (W.contents (device writer.old)) (W.contents (device writer.new)) options.limit) }
-    ensures devices { TellsDevices result reader.old reader.new writer.old writer.new }
-    // So values that satisfy all that is believed lie in each answer.
+    requires reader { IsFresh (reader devices.old) }
+    requires writer { IsPassedOn devices.old }
+    ensures ok { IfOk result (IsAnswered (Rd.remaining (device (reader devices.old)))
+        (W.contents (device (writer devices.old)))
+        (W.contents (device (writer devices.new))) options.limit) }
+    ensures err { OnErr result (IsAnsweredInPart (Rd.remaining (device (reader devices.old)))
+        (W.contents (device (writer devices.old)))
+        (W.contents (device (writer devices.new))) options.limit) }
+    ensures devices { TellsDevices result devices.old devices.new }
+    // So values that belong together and satisfy all that is believed lie in each answer.
     ensures points { AreSoundBy kit_library kit_related }
 {
     let mut procedures = Vec::new(alloc);
@@ -51,7 +53,7 @@ pub fn run<Rd: Read, W: Write>(
         )?;
         procedures.push(Procedure::new(rule.name(), ins, rule.out(), rule.need(), rule, call))?;
     }
-    serve(alloc, procedures, options, reader, writer)
+    serve(alloc, procedures, options, devices)
 }
 
 /// Makes a session with the kit's procedures, in the order that was chosen, and runs it.
@@ -59,23 +61,25 @@ fn serve<Rd: Read, W: Write>(
     alloc: Global,
     procedures: Vec<Procedure<Kit>>,
     options: Options,
-    reader: &mut Watched<Rd>,
-    writer: &mut Watched<W>,
+    devices: &mut Devices<Rd, W>,
 ) -> Result<Counts, Fault>
-    requires reader { IsFresh reader.old }
-    requires writer { IsFresh writer.old }
+    requires reader { IsFresh (reader devices.old) }
+    requires writer { IsPassedOn devices.old }
     requires means { AllMean value_of procedures.items }
     requires listed { map (stored_as value_of) procedures.items ≡ kit_library }
-    requires ruled { map (λ p. p.rule) procedures.items ≡ in_order }
-    ensures ok { IfOk result (IsAnswered (Rd.remaining (device reader.old)) (W.contents (device writer.old)) (W.contents (device writer.new)) options.limit) }
-    ensures err { OnErr result (IsAnsweredInPart (Rd.remaining (device reader.old)) (W.contents (device writer.old)) (W.contents (device writer.new)) options.limit) }
-    ensures devices { TellsDevices result reader.old reader.new writer.old writer.new }
+    ensures ok { IfOk result (IsAnswered (Rd.remaining (device (reader devices.old)))
+        (W.contents (device (writer devices.old)))
+        (W.contents (device (writer devices.new))) options.limit) }
+    ensures err { OnErr result (IsAnsweredInPart (Rd.remaining (device (reader devices.old)))
+        (W.contents (device (writer devices.old)))
+        (W.contents (device (writer devices.new))) options.limit) }
+    ensures devices { TellsDevices result devices.old devices.new }
 {
     let Options { limit, order, seed } = options;
     match order {
-        Pick::Fifo => serve_in(alloc, procedures, Fifo, limit, reader, writer),
-        Pick::Lifo => serve_in(alloc, procedures, Lifo, limit, reader, writer),
-        Pick::Mixed => serve_in(alloc, procedures, Mixed::new(seed), limit, reader, writer),
+        Pick::Fifo => serve_in(alloc, procedures, Fifo, limit, devices),
+        Pick::Lifo => serve_in(alloc, procedures, Lifo, limit, devices),
+        Pick::Mixed => serve_in(alloc, procedures, Mixed::new(seed), limit, devices),
     }
 }
 
@@ -85,21 +89,23 @@ fn serve_in<O: Order + Drop, Rd: Read, W: Write>(
     procedures: Vec<Procedure<Kit>>,
     order: O,
     limit: u64,
-    reader: &mut Watched<Rd>,
-    writer: &mut Watched<W>,
+    devices: &mut Devices<Rd, W>,
 ) -> Result<Counts, Fault>
-    requires reader { IsFresh reader.old }
-    requires writer { IsFresh writer.old }
+    requires reader { IsFresh (reader devices.old) }
+    requires writer { IsPassedOn devices.old }
     requires means { AllMean value_of procedures.items }
     requires listed { map (stored_as value_of) procedures.items ≡ kit_library }
-    requires ruled { map (λ p. p.rule) procedures.items ≡ in_order }
-    ensures ok { IfOk result (IsAnswered (Rd.remaining (device reader.old)) (W.contents (device writer.old)) (W.contents (device writer.new)) limit) }
-    ensures err { OnErr result (IsAnsweredInPart (Rd.remaining (device reader.old)) (W.contents (device writer.old)) (W.contents (device writer.new)) limit) }
-    ensures devices { TellsDevices result reader.old reader.new writer.old writer.new }
+    ensures ok { IfOk result (IsAnswered (Rd.remaining (device (reader devices.old)))
+        (W.contents (device (writer devices.old)))
+        (W.contents (device (writer devices.new))) limit) }
+    ensures err { OnErr result (IsAnsweredInPart (Rd.remaining (device (reader devices.old)))
+        (W.contents (device (writer devices.old)))
+        (W.contents (device (writer devices.new))) limit) }
+    ensures devices { TellsDevices result devices.old devices.new }
 {
     let network = Network::new(alloc, Library::new(procedures));
     let mut session = Session::new(alloc, network, order, limit)?;
-    let counts = answer(&mut session, reader, writer);
+    let counts = answer(&mut session, devices);
     // One call in place of the drop of each part, which a proof would go through one by one.
     drop(session);
     counts
@@ -108,21 +114,26 @@ fn serve_in<O: Order + Drop, Rd: Read, W: Write>(
 /// Loads the prelude into a session and runs it.
 fn answer<R: Rule + Drop, O: Order + Drop, Rd: Read, W: Write>(
     session: &mut Session<R, O>,
-    reader: &mut Watched<Rd>,
-    writer: &mut Watched<W>,
+    devices: &mut Devices<Rd, W>,
 ) -> Result<Counts, Fault>
-    requires reader { IsFresh reader.old }
-    requires writer { IsFresh writer.old }
+    requires reader { IsFresh (reader devices.old) }
+    requires writer { IsPassedOn devices.old }
     requires means { IsMeant R.value_of session.old }
     requires sound { IsSound R.value_of session.old }
-    ensures ok { IfOk result (IsAnsweredAs (library_of R.value_of session.old) (related_in R.related session.old) (shown_of session.old) (Rd.remaining (device reader.old)) (W.contents (device writer.old)) (W.contents (device writer.new))) }
-    ensures err { OnErr result (IsAnsweredInPartAs (library_of R.value_of session.old) (related_in R.related session.old) (shown_of session.old) (Rd.remaining (device reader.old)) (W.contents (device writer.old)) (W.contents (device writer.new))) }
-    ensures devices { TellsDevices result reader.old reader.new writer.old writer.new }
+    ensures ok { IfOk result (IsAnsweredAs (library_of R.value_of session.old)
+        (shown_of session.old)
+        (Rd.remaining (device (reader devices.old))) (W.contents (device (writer devices.old)))
+        (W.contents (device (writer devices.new)))) }
+    ensures err { OnErr result (IsAnsweredInPartAs (library_of R.value_of session.old)
+        (shown_of session.old)
+        (Rd.remaining (device (reader devices.old))) (W.contents (device (writer devices.old)))
+        (W.contents (device (writer devices.new)))) }
+    ensures devices { TellsDevices result devices.old devices.new }
 {
     match session.load_prelude() {
         Ok(()) => {}
         // The kit has what the prelude uses: a line of it is refused for want of memory alone.
         Err(_) => return Err(Fault::Memory(AllocError)),
     }
-    Ok(session.run_session(reader, writer, READS)?)
+    Ok(session.run_session(devices, READS)?)
 }

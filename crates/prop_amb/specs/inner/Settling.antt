@@ -1,11 +1,9 @@
 -- How settling ends, and what is known of a list on the way.
-use Rattle.std.specs.Prelude.{ℕ, IsTrue, List}
+use Rattle.std.specs.Prelude.{ℕ, List, Contains}
 use Rattle.prop_premises.specs.Sets.{set_of, IsPart}
-use Rattle.prop_premises.specs.ChoiceLists.{IsChoiceList, IsBefore}
 use Rattle.prop_cells.specs.Problems.{Problem}
-use Rattle.prop_nogoods.specs.Stores.{has_part}
-use Rattle.prop_amb.specs.Refuted.{IsNogood, IsListRefuted}
-use Rattle.prop_amb.specs.Search.{Stand, users_of, choices_in}
+use Rattle.prop_amb.specs.Refuted.{IsNogood}
+use Rattle.prop_amb.specs.Search.{Stand, choices_in}
 use Rattle.prop_amb.specs.declared.settling.Tried.{Tried}
 use Rattle.prop_amb.specs.declared.settling.Tried.TheVariants as tried
 
@@ -19,11 +17,4 @@ IfRefuted tried.Spent P = Unit {0}
 pub record IsMet (problem : Problem) (s : Stand) (n : List ℕ) : Type 0 where
   pub believed : IsPart (set_of n) (set_of s.worldview)
   pub nogood : IsNogood problem (choices_in s) (set_of n)
-  pub noted : IsTrue (has_part s.listed (set_of n))
-
--- the list on which the choices stand is refuted, and there is a later one
-pub record IsHeld (problem : Problem) (s : Stand) : Type 0 where
-  pub refuted : IsListRefuted problem (users_of s) (choices_in s) s.list
-  pub later : List ℕ
-  pub is_list : IsChoiceList (choices_in s) later
-  pub is_later : IsBefore s.list later
+  pub noted : Contains s.listed n

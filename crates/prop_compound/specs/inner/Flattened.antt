@@ -1,16 +1,14 @@
 -- What is handed out for a use: its fresh cells and instances, in one list each; and what is at hand of it while it is made.
-use Rattle.std.specs.Prelude.{◌≡◌, ◌<◌, ℕ, List, ◌∷◌, ◌++◌, All, IfSome, Option, drop, length, map}
+use Rattle.std.specs.Prelude.{◌≡◌, ◌<◌, ℕ, List, ◌++◌, All, IfSome, Option, drop, length, map}
 use Rattle.prop_procedures.specs.declared.shape.Param.{Param}
 use Rattle.prop_procedures.specs.Stored.{Stored}
 use Rattle.prop_procedures.specs.declared.flat.Flat.{Flat}
 use Rattle.prop_procedures.specs.Flats.{param_at}
 use Rattle.prop_vocabulary.specs.Vocabulary.{Vocabulary}
-use Rattle.prop_compound.specs.declared.definition.NumberedStep.{NumberedStep}
 use Rattle.prop_compound.specs.declared.definition.Used.{Used}
 use Rattle.prop_compound.specs.declared.walk.Walk.{Walk}
 use Rattle.prop_compound.specs.Definitions.{Definition}
 use Rattle.prop_compound.specs.Expansion.{Expansion, param_passed, expanded_in}
-use Rattle.prop_compound.specs.inner.Expansion.{steps_in}
 use Rattle.prop_compound.specs.Flattened.{IsInstanceOver, placed_of}
 
 -- ---- while it is made
@@ -27,11 +25,6 @@ walk_of walk = record {
 abbrev pub IsAdded : Vocabulary → List Definition → Used → List ℕ → Option ℕ → Walk → Walk → Type 0
 IsAdded words definitions used cells given old new =
     walk_of new ≡ expanded_in (param_passed words) definitions used cells (param_at old.params.items given) (walk_of old)
-
--- what the step adds was added: what further steps add behind it is what they add together with it
-abbrev pub IsStepAdded : Vocabulary → List Definition → NumberedStep → Option ℕ → List ℕ → Walk → List ℕ → Walk → Type 0
-IsStepAdded words definitions step given cells old cells' new = (steps : List NumberedStep) →
-    steps_in (param_passed words) definitions (param_at old.params.items given) cells (step ∷ steps) (walk_of old) ≡ steps_in (param_passed words) definitions (param_at old.params.items given) cells' steps (walk_of new)
 
 -- the place is one of these parameters', where there is a place
 abbrev pub IsPlaceIn : List Param → Option ℕ → Type 0

@@ -1,5 +1,5 @@
--- What a clause reads of a watched device, and of what one call of it did.
-use Rattle.std.specs.Prelude.{◌≡◌, ◌-◌}
+-- What a call leaves as it was.
+use Rattle.std.specs.Prelude.{◌≡◌}
 use Rattle.prop_engine.specs.declared.watched.Watched.{Watched}
 use Rattle.prop_engine.specs.Watched.{has_failed, has_stopped}
 

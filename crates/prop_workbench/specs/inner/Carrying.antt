@@ -1,5 +1,5 @@
 -- What is promised of the methods that carry out a command.
-use Rattle.std.specs.Prelude.{◌≡◌, ◌<◌, ◌+◌, ◌⊎◌, ℕ, List, Option, Some, Result, Ok, length, ⊤}
+use Rattle.std.specs.Prelude.{◌≡◌, ◌+◌, ℕ, List, Option, Some, Result, Ok, Err, ⊤}
 use Rattle.std.specs.List.Sorted.{IsStrictlyIncreasing}
 use Rattle.prop_lattice.specs.declared.info.Info.{Info}
 use Rattle.prop_lattice.specs.declared.refusal.Refusal.{Refusal}
@@ -7,45 +7,50 @@ use Rattle.prop_premises.specs.Sets.{set_of}
 use Rattle.prop_procedures.specs.declared.shape.Param.{Param}
 use Rattle.prop_scheduler.specs.Turns.{IsSettled}
 use Rattle.prop_amb.specs.declared.outcome.Outcome.{Outcome}
-use Rattle.prop_amb.specs.Refuted.{IsListRefuted}
 use Rattle.prop_language.specs.Commands.{Command}
 use Rattle.prop_engine.specs.Answers.{Answer, Text, Says, answer_done}
 use Rattle.prop_texts.specs.Texts.{equation, because}
 use Rattle.prop_workbench.specs.declared.session.Session.{Session}
-use Rattle.prop_workbench.specs.Machine.{State, text_at, problem_in, users_in, choices_in}
+use Rattle.prop_workbench.specs.Machine.{State, text_at}
 use Rattle.prop_workbench.specs.Questions.{Picks, HasTried, outcome_of}
 use Rattle.prop_workbench.specs.inner.Questions.{RestsOn, MaySay}
 use Rattle.prop_workbench.specs.Reasons.{IsLeanAnswer}
 use Rattle.prop_workbench.specs.Sessions.{state_of, shown_of, work_of, library_of}
 use Rattle.prop_workbench.specs.inner.Sessions.{Keeps, Stays}
 use Rattle.prop_workbench.specs.Steps.{Obeys}
+use Rattle.prop_workbench.specs.Waking.{IsStirred, Wakes}
 use Rattle.prop_workbench.specs.inner.Steps.{IsObeyed, IsFollowed}
 
 -- the command changed the session as the machine says, or was refused; it took no step
 abbrev pub IsDone : {R O : Type 0} {X : Type 0} {F : X → Type 0} {g : _} → (R → Param → List Info → Info) → Session R O X F g → Command → Result ⊤ Refusal → Session R O X F g → Type 0
 IsDone value old command result new = Obeys (library_of value old) (state_of old) command (answer_done result) (state_of new) 0
 
+-- it left the choices and what waits as it may, or as they were where it was refused
+abbrev pub HasLeft : {R O : Type 0} {X : Type 0} {F : X → Type 0} {g : _} → Session R O X F g → Command → Result ⊤ Refusal → Session R O X F g → Type 0
+HasLeft old command result new = Wakes (state_of old) (state_of new) (work_of old) (work_of new) (Ok (Some command)) (answer_done result)
+
+-- the choices stand on the sides of the list, and no more was woken than has to, or all is as it was where it was refused
+abbrev pub HasStirred : {R O : Type 0} {X : Type 0} {F : X → Type 0} {g : _} → Session R O X F g → List ℕ → Result ⊤ Refusal → Session R O X F g → Type 0
+HasStirred old list (Ok done) new = IsStirred (state_of old) (state_of new) list (work_of old) (work_of new)
+HasStirred old list (Err refusal) new = work_of new ≡ work_of old
+
 -- the command is answered so, after so many steps: as the machine may, as the run earned it, and the session keeps what it has to
 pub record IsAnswered {R O : Type 0} {X : Type 0} {F : X → Type 0} {g : _} (picks : Picks O) (value : R → Param → List Info → Info) (old : Session R O X F g) (command : Command) (answer : Answer) (steps : ℕ) (new : Session R O X F g) : Type 0 where
   pub keeps : Keeps value old new
   pub step : IsObeyed (library_of value old) command answer steps (shown_of old) (shown_of new)
-  pub rests : RestsOn picks (library_of value old) (state_of old) (work_of old) (work_of new) (Ok (Some command)) answer steps
+  pub rests : RestsOn picks (library_of value old) (state_of old) (state_of new) (work_of old) (work_of new) (Ok (Some command)) answer steps
 
 -- a line that was read so is answered so; what was covered may go with a premise that is forgotten
 pub record IsCarriedOut {R O : Type 0} {X : Type 0} {F : X → Type 0} {g : _} (picks : Picks O) (value : R → Param → List Info → Info) (old : Session R O X F g) (read : Result (Option Command) Refusal) (answer : Answer) (steps : ℕ) (new : Session R O X F g) : Type 0 where
   pub keeps : Stays value old new
   pub step : IsFollowed (library_of value old) read answer steps (shown_of old) (shown_of new)
-  pub rests : RestsOn picks (library_of value old) (state_of old) (work_of old) (work_of new) read answer steps
+  pub rests : RestsOn picks (library_of value old) (state_of old) (state_of new) (work_of old) (work_of new) read answer steps
 
 -- ---- where the network was run
 
 -- the network is at rest with the choices as they stand
 abbrev pub IsAtRest : {R O : Type 0} {X : Type 0} {F : X → Type 0} {g : _} → (R → Param → List Info → Info) → Session R O X F g → Type 0
 IsAtRest value s = IsSettled (library_of value s) (set_of s.search.worldview) s.network.cells
-
--- from the one to the other the network was run as far as the limit allowed: some procedure still waits, or the choice list is refuted
-abbrev pub IsUnfinished : {R O : Type 0} {X : Type 0} {F : X → Type 0} {g : _} → (R → Param → List Info → Info) → Session R O X F g → Session R O X F g → Type 0
-IsUnfinished value old new = (0 < length new.agenda.line) ⊎ IsListRefuted (problem_in (library_of value old) (state_of old)) (users_in (state_of old)) (choices_in (state_of old)) new.search.list
 
 -- the answer may be given to the command where a run of so many steps ended so, and left the session
 abbrev pub MayAnswer : {R O : Type 0} {X : Type 0} {F : X → Type 0} {g : _} → (R → Param → List Info → Info) → Session R O X F g → Command → Outcome → ℕ → Answer → Type 0

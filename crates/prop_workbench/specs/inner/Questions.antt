@@ -10,6 +10,7 @@ use Rattle.prop_scheduler.specs.Turns.{IsSettled}
 use Rattle.prop_amb.specs.declared.outcome.Outcome as ends
 use Rattle.prop_amb.specs.declared.outcome.Outcome.TheVariants.{Settled, Contradiction, Unsettled}
 use Rattle.prop_amb.specs.Refuted.{IsCovered}
+use Rattle.prop_amb.specs.Settling.{IfContradiction}
 use Rattle.prop_amb.specs.Search as search
 use Rattle.prop_premises.specs.ChoiceLists.{lists_count}
 use Rattle.prop_scheduler.specs.Potential.{most_steps}
@@ -23,10 +24,12 @@ use Rattle.prop_workbench.specs.declared.session.Session.{Session}
 use Rattle.prop_workbench.specs.Machine.{State, problem_in, choices_in, worldview_at}
 use Rattle.prop_workbench.specs.Reasons.{IsLeanAnswer}
 use Rattle.prop_workbench.specs.Running.{Outcome, MayEnd, Replies}
-use Rattle.prop_workbench.specs.Sessions.{Work, state_of, library_of}
+use Rattle.prop_amb.specs.Going.{Work}
+use Rattle.prop_workbench.specs.Sessions.{state_of, library_of}
 use Rattle.prop_workbench.specs.Steps.{Shown}
 use Rattle.prop_workbench.specs.inner.Steps.{IsFollowed}
-use Rattle.prop_workbench.specs.Questions.{Earns, Picks, outcome_of}
+use Rattle.prop_workbench.specs.Waking.{Wakes}
+use Rattle.prop_workbench.specs.Questions.{Earns, Picks, SaysUnsettled, outcome_of}
 
 -- the command that asks so
 abbrev pub command_of : Question → Command
@@ -42,11 +45,6 @@ IsNamed s Worldview = ⊤
 IsNamed s (Ask cell name) = cell_named s.names name.now ≡ Some cell
 IsNamed s (Why cell name) = cell_named s.names name.now ≡ Some cell
 
--- where a run ended in a contradiction, its premises
-abbrev pub IfContradiction : ends.Outcome → (List ℕ → Type 0) → Type 0
-IfContradiction (Contradiction premises) P = P premises
-IfContradiction end P = ⊤
-
 -- a run of so many steps ended so, and left the session
 pub record HasRun {R O : Type 0} {X : Type 0} {F : X → Type 0} {g : _} (value : R → Param → List Info → Info) (s : Session R O X F g) (end : ends.Outcome) (steps : ℕ) : Type 0 where
   pub ends : MayEnd (library_of value s) (state_of s) (outcome_of s.search.list end)
@@ -60,12 +58,17 @@ pub record HasRun {R O : Type 0} {X : Type 0} {F : X → Type 0} {g : _} (value 
 abbrev pub MaySay : List Stored → State → Command → Outcome → ℕ → Answer → Type 0
 MaySay library s command outcome steps answer = ((text : List ℕ) × Replies library s command outcome steps text × (answer ≡ Text text)) ⊎ (answer ≡ Refused Memory)
 
--- what an answer rests on: an explanation is lean, and a text is earned
-pub record RestsOn {O : Type 0} (picks : Picks O) (library : List Stored) (s : State) (old new : Work O) (read : Result (Option Command) Refusal) (answer : Answer) (steps : ℕ) : Type 0 where
-  pub lean : IsLeanAnswer (worldview_at s new.list) new.cells s read answer
+-- where a run was cut short, a text says what is believed
+abbrev pub SaysSoFar : {O : Type 0} → State → Work O → Command → Answer → Type 0
+SaysSoFar s work command answer = (text : List ℕ) → answer ≡ Text text → SaysUnsettled s work command text
+
+-- what an answer rests on: an explanation is lean, a text is earned, and where nothing is run no more wakes than has to
+pub record RestsOn {O : Type 0} (picks : Picks O) (library : List Stored) (s t : State) (old new : Work O) (read : Result (Option Command) Refusal) (answer : Answer) (steps : ℕ) : Type 0 where
+  pub lean : IsLeanAnswer (worldview_at s new.search.list) new.cells s read answer
   pub earned : Earns picks library s old new read answer steps
+  pub wakes : Wakes s t old new read answer
 
 -- what a line is answered that was read so: a step, and what its answer rests on
 pub record Heeds {O : Type 0} (picks : Picks O) (library : List Stored) (old new : Shown) (from to : Work O) (answer : Answer) (steps : ℕ) (read : Result (Option Command) Refusal) : Type 0 where
   pub step : IsFollowed library read answer steps old new
-  pub rests : RestsOn picks library old.state from to read answer steps
+  pub rests : RestsOn picks library old.state new.state from to read answer steps

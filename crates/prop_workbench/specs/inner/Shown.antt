@@ -1,7 +1,5 @@
 -- What a session shows, as what the machine does: it holds whichever contradictions were named, if what was learned covers them.
 use Rattle.std.specs.Prelude.{ℕ, List}
-use Rattle.prop_lattice.specs.Points.{Point}
-use Rattle.prop_procedures.specs.declared.shape.Param.{Param}
 use Rattle.prop_procedures.specs.Stored.{Stored}
 use Rattle.prop_engine.specs.Transcripts.{IsTranscript, IsPrefixOfTranscript}
 use Rattle.prop_workbench.specs.Machine.{State, naming}
@@ -15,12 +13,12 @@ pub record IsShown (goes : State → Type 0) (new : Shown) : Type 0 where
   pub done : goes (naming new.state now)
 
 -- the transcripts of a session are transcripts of the machine, and so are their prefixes
-abbrev pub ShownTranscripts : List Stored → (ℕ → Param → List Point → Point → Type 0) → Type 0
-ShownTranscripts library related =
-    (old new : Shown) (input output : List ℕ) (lines refused : ℕ) → IsTranscript (learning library related) old input output lines refused new → (named : List (List ℕ)) → Covers old named →
-    IsShown (λ s. IsTranscript (workbench library related) (naming old.state named) input output lines refused s) new
+abbrev pub ShownTranscripts : List Stored → Type 0
+ShownTranscripts library =
+    (old new : Shown) (input output : List ℕ) (lines refused : ℕ) → IsTranscript (learning library) old input output lines refused new → (named : List (List ℕ)) → Covers old named →
+    IsShown (λ s. IsTranscript (workbench library) (naming old.state named) input output lines refused s) new
 
-abbrev pub ShownPrefixes : List Stored → (ℕ → Param → List Point → Point → Type 0) → Type 0
-ShownPrefixes library related =
-    (old : Shown) (input output : List ℕ) → IsPrefixOfTranscript (learning library related) old input output → (named : List (List ℕ)) → Covers old named →
-    IsPrefixOfTranscript (workbench library related) (naming old.state named) input output
+abbrev pub ShownPrefixes : List Stored → Type 0
+ShownPrefixes library =
+    (old : Shown) (input output : List ℕ) → IsPrefixOfTranscript (learning library) old input output → (named : List (List ℕ)) → Covers old named →
+    IsPrefixOfTranscript (workbench library) (naming old.state named) input output

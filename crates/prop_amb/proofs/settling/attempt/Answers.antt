@@ -2,13 +2,32 @@ use Rattle.std.proofs.Common.{◌≡◌, ap, refl}
 use Rattle.prop_premises.specs.Sets.{set_of}
 use Rattle.prop_procedures.specs.Kept.{stored_of}
 use Rattle.prop_cells.specs.Data.{problem_of}
-use Rattle.prop_scheduler.specs.Turns.Turns.{none}
+use Rattle.prop_amb.specs.Going.Goes.{none}
+use Rattle.prop_amb.proofs.GoingLaws.{ran, ran_noting, ran_may}
 use Rattle.prop_amb.proofs.MetLaws.{clash_nogood, met_listed, met_noted}
 use Rattle.prop_amb.proofs.RunLaws.{same_problem, falls_in, bounded_in, conflict_in}
 use Rattle.prop_amb.proofs.settling.attempt.Goals as goal
 
-pub returns-in-Some-clause-turns : goal.returns-in-Some-clause-turns
-returns-in-Some-clause-turns g c = none
+pub returns-in-Some-clause-gone : goal.returns-in-Some-clause-gone
+returns-in-Some-clause-gone g c = none
+
+pub returns-in-Quiet-clause-gone : goal.returns-in-Quiet-clause-gone
+returns-in-Quiet-clause-gone g c =
+    ran c.args.search.now c.worldview.result.now c.worldview.ensures.stand c.worldview.ensures.same (c.in_default.ensures.none refl) g.O.Order.picks (stored_of g.R.Rule.value_of c.args.network.now.library) _ _ _ _ _ _ _ c.in_ok-end.ensures.turns
+
+pub returns-in-Spent-clause-gone : goal.returns-in-Spent-clause-gone
+returns-in-Spent-clause-gone g c =
+    ran c.args.search.now c.worldview.result.now c.worldview.ensures.stand c.worldview.ensures.same (c.in_default.ensures.none refl) g.O.Order.picks (stored_of g.R.Rule.value_of c.args.network.now.library) _ _ _ _ _ _ _ c.in_ok-end.ensures.turns
+
+pub returns-in-Spent-clause-left : goal.returns-in-Spent-clause-left
+returns-in-Spent-clause-left g c = λ spent.
+    ran_may c.args.search.now c.worldview.result.now c.worldview.ensures.stand c.worldview.ensures.same (c.in_default.ensures.none refl) _ _ _ (c.in_ok-end.ensures.left c.in-Spent.is) (c.in_ok-end.ensures.free c.in-Spent.is)
+
+pub returns-in_ok-note-in-Clash-clause-gone : goal.returns-in_ok-note-in-Clash-clause-gone
+returns-in_ok-note-in-Clash-clause-gone g c =
+    let clash = rw c.in-Clash.is at c.in_ok-end.ensures.clash in
+    ran_noting c.args.search.now c.worldview.result.now c.worldview.ensures.stand c.worldview.ensures.same (c.in_default.ensures.none refl) g.O.Order.picks (stored_of g.R.Rule.value_of c.args.network.now.library) _ _ _ _ _ _ _ _ _ _ c.in_ok-end.ensures.turns clash c.in_ok-copy-in-Clash.ensures
+    c.in_ok-note-in-Clash.ensures.adds c.in_ok-note-in-Clash.ensures.only
 
 pub returns-in-Some-clause-refuted : goal.returns-in-Some-clause-refuted
 returns-in-Some-clause-refuted g c =
@@ -49,4 +68,4 @@ returns-in_ok-note-in-Clash-clause-refuted g c =
     let same = same_problem (stored_of g.R.Rule.value_of) c.args.network.now.library c.run.new.network.library c.args.network.now.cells c.run.new.network.cells c.in_ok-end.ensures.same c.in_ok-end.ensures.rest in
     let h = rw c.in-Clash.is at c.in_ok-end.ensures.conflict in
     met_noted (problem_of (stored_of g.R.Rule.value_of c.args.network.now.library) c.args.network.now.cells) c.args.search.now c.note.new.self.listed c.in_ok-copy-in-Clash.field-0 c.in-Clash.support c.note.new.self c.worldview.ensures.stand
-    (conflict_in _ _ _ _ _ _ same (ap set_of c.worldview.ensures.same) refl h) c.in_ok-copy-in-Clash.ensures c.in_ok-note-in-Clash.ensures.adds c.in_ok-note-in-Clash.ensures.only
+    (conflict_in _ _ _ _ _ _ same (ap set_of c.worldview.ensures.same) refl h) c.in_ok-copy-in-Clash.ensures c.in_ok-note-in-Clash.ensures.adds c.in_ok-note-in-Clash.ensures.only (c.in_default.ensures.none refl)

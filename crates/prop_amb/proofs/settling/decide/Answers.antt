@@ -1,27 +1,30 @@
-use Rattle.std.proofs.Common.{◌≡◌, ◌∙◌, ◌+◌, inr, length, subst, arith}
-use Rattle.prop_scheduler.specs.Shifts.{AreShifted}
+use Rattle.std.proofs.Common.{◌≡◌, ◌+◌, inr, subst, arith}
 use Rattle.prop_procedures.specs.Kept.{stored_of}
 use Rattle.prop_cells.specs.Data.{problem_of}
 use Rattle.prop_premises.specs.Sets.{set_of}
 use Rattle.prop_amb.specs.Going.{Passes}
 use Rattle.prop_amb.specs.Resolving.{IsReason}
-use Rattle.prop_amb.specs.Search.{users_of, choices_in}
 use Rattle.prop_amb.specs.inner.Settling.{IsMet}
-use Rattle.prop_amb.proofs.DecidingLaws.{held, goes_later, passes_on, passes_in, are_moved}
+use Rattle.prop_amb.proofs.DecidingLaws.{met_moves, met_blames, goes_later, passes_on, are_shifted}
+use Rattle.prop_amb.proofs.MetLaws.{met_part}
 use Rattle.prop_amb.proofs.settling.decide.Goals as goal
 
 pub returns-then-most-eq0-clause-unsettled : goal.returns-then-most-eq0-clause-unsettled
 returns-then-most-eq0-clause-unsettled g c =
-    let met = rw c.in-Refuted.is at c.requires.met in
-    let may = rw c.in-Against.is at c.in_ok-premises.ensures.may in
-    λ e. inr (c.if-most-eq0.true, held (problem_of (stored_of g.R.Rule.value_of c.args.network.now.library) c.args.network.now.cells) c.args.search.now c.in-Refuted.nogood c.in-Against.place c.requires.stand met may)
+    λ e. inr (c.if-most-eq0.true, (c.in-Against.place, met_moves c.args.search.now c.in-Refuted.nogood c.in-Against.place c.requires.stand (rw c.in-Refuted.is at c.requires.met) (rw c.in-Against.is at c.in_ok-premises.ensures.may)))
+
+pub returns-in-RuledOut-clause-contradiction : goal.returns-in-RuledOut-clause-contradiction
+returns-in-RuledOut-clause-contradiction g c =
+    let problem = problem_of (stored_of g.R.Rule.value_of c.args.network.now.library) c.args.network.now.cells in
+    let met : IsMet problem c.args.search.now c.in-Refuted.nogood = rw c.in-Refuted.is at c.requires.met in
+    rw c.in-RuledOut.is at (c.in_ok-premises.ensures.resolved problem c.requires.search met.nogood (met_part problem c.args.search.now c.in-Refuted.nogood met))
 
 pub returns-in_err-passed-in-Against-clause-search : goal.returns-in_err-passed-in-Against-clause-search
 returns-in_err-passed-in-Against-clause-search g c =
     let problem = problem_of (stored_of g.R.Rule.value_of c.args.network.now.library) c.args.network.now.cells in
     let met : IsMet problem c.args.search.now c.in-Refuted.nogood = rw c.in-Refuted.is at c.requires.met in
     let reason : IsReason problem c.args.search.now c.in-Against.place (set_of c.in-Against.reason) =
-    rw c.in-Against.is at (c.in_ok-premises.ensures.resolved problem c.requires.search met.nogood met.noted) in
+    rw c.in-Against.is at (c.in_ok-premises.ensures.resolved problem c.requires.search met.nogood (met_part problem c.args.search.now c.in-Refuted.nogood met)) in
     c.pass-passed.ensures.search problem (c.advance.ensures.search problem reason c.requires.search)
 
 pub returns-in_ok-passed-in-Against-clause-search : goal.returns-in_ok-passed-in-Against-clause-search
@@ -29,29 +32,25 @@ returns-in_ok-passed-in-Against-clause-search g c =
     let problem = problem_of (stored_of g.R.Rule.value_of c.args.network.now.library) c.args.network.now.cells in
     let met : IsMet problem c.args.search.now c.in-Refuted.nogood = rw c.in-Refuted.is at c.requires.met in
     let reason : IsReason problem c.args.search.now c.in-Against.place (set_of c.in-Against.reason) =
-    rw c.in-Against.is at (c.in_ok-premises.ensures.resolved problem c.requires.search met.nogood met.noted) in
+    rw c.in-Against.is at (c.in_ok-premises.ensures.resolved problem c.requires.search met.nogood (met_part problem c.args.search.now c.in-Refuted.nogood met)) in
     c.pass-passed.ensures.search problem (c.advance.ensures.search problem reason c.requires.search)
 
 pub returns-in_ok-passed-in-Against-clause-moves : goal.returns-in_ok-passed-in-Against-clause-moves
 returns-in_ok-passed-in-Against-clause-moves g c = λ _.
-    let library = stored_of g.R.Rule.value_of c.args.network.now.library in
-    let d = c.args.network.now.cells in
-    let problem = problem_of library d in
     let s = c.args.search.now in
-    let mid = c.advance.new.self in
-    let new = c.pass-passed.new.search in
+    let may = met_moves s c.in-Refuted.nogood c.in-Against.place c.requires.stand (rw c.in-Refuted.is at c.requires.met) (rw c.in-Against.is at c.in_ok-premises.ensures.may) in
+    let first : Passes s 1 c.advance.new.self =
+    goes_later s c.advance.new.self c.in-Against.place c.in-Against.reason may (rw c.in-Against.is at c.in_ok-premises.ensures.culprits) c.advance.ensures.premises c.advance.ensures.listed c.in_ok-before-in-Against.ensures.list c.in_ok-before-in-Against.ensures.reasons in
     let more = c.in_ok-passed-in-Against.field-0 in
-    let met : IsMet problem s c.in-Refuted.nogood = rw c.in-Refuted.is at c.requires.met in
-    let may = rw c.in-Against.is at c.in_ok-premises.ensures.may in
-    let reason : IsReason problem s c.in-Against.place (set_of c.in-Against.reason) =
-    rw c.in-Against.is at (c.in_ok-premises.ensures.resolved problem c.requires.search met.nogood met.noted) in
-    let learned = c.advance.ensures.search problem reason c.requires.search in
-    let first : Passes problem (users_of s) (choices_in s) s.list 1 mid.list =
-    goes_later problem s mid c.in-Refuted.nogood c.in-Against.place c.requires.stand met may c.in_ok-before-in-Against.ensures.list in
-    let rest : Passes problem (users_of s) (choices_in s) mid.list more new.list =
-    passes_in problem s mid more mid.list new.list c.advance.ensures.premises (c.in_ok-passed-in-Against.ensures.moves problem learned) in
     let e : 1 + more ≡ more + 1 = omega arith in
-    let shifted : AreShifted (set_of s.worldview) (set_of new.worldview) d (length d.kinds) c.args.agenda.now.line c.alert_shifted.new.agenda.line =
-    rw (c.worldview.ensures.same, c.in_ok-before-in-Against.ensures.before) at c.alert_shifted.ensures.shifted in
-    are_moved library d s new (more + 1) c.args.agenda.now.line c.alert_shifted.new.agenda.line c.requires.stand c.worldview.ensures.stand (c.pass-passed.ensures.premises ∙ c.advance.ensures.premises)
-    (subst (λ n. Passes problem (users_of s) (choices_in s) s.list n new.list) e (passes_on first rest)) shifted
+    subst (λ n. Passes s n c.pass-passed.new.search) e (passes_on first c.in_ok-passed-in-Against.ensures.moves)
+
+pub returns-in_ok-passed-in-Against-clause-shifted : goal.returns-in_ok-passed-in-Against-clause-shifted
+returns-in_ok-passed-in-Against-clause-shifted g c = λ _.
+    are_shifted c.args.network.now.cells c.args.search.now c.pass-passed.new.search c.args.agenda.now.line c.alert_shifted.new.agenda.line c.requires.stand c.worldview.ensures.stand
+    (rw (c.worldview.ensures.same, c.in_ok-before-in-Against.ensures.before) at c.alert_shifted.ensures.shifted)
+
+pub returns-in-RuledOut-clause-named : goal.returns-in-RuledOut-clause-named
+returns-in-RuledOut-clause-named g c =
+    let met : IsMet (problem_of (stored_of g.R.Rule.value_of c.args.network.now.library) c.args.network.now.cells) c.args.search.now c.in-Refuted.nogood = rw c.in-Refuted.is at c.requires.met in
+    met_blames c.args.search.now c.in-Refuted.nogood (set_of c.in-RuledOut.premises) c.requires.stand met (rw c.in-RuledOut.is at c.in_ok-premises.ensures.culprits)

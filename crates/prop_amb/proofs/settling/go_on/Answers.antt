@@ -1,13 +1,14 @@
-use Rattle.std.proofs.Common.{◌∙◌, length, ap, arith}
-use Rattle.prop_premises.specs.Sets.{set_of}
+use Rattle.std.proofs.Common.{◌∙◌, Contains, length, ap, arith}
+use Rattle.prop_premises.specs.Sets.{IsPart, set_of}
 use Rattle.prop_premises.specs.Origins.{choices_of}
 use Rattle.prop_premises.proofs.WithinLemmas.{within_has}
 use Rattle.prop_cells.specs.Problems.{Problem}
 use Rattle.prop_amb.specs.Search.{IsSearch, choices_in}
 use Rattle.prop_amb.specs.Resolving.{IsReason}
+use Rattle.prop_amb.specs.Culprits.{MayLeave}
 use Rattle.prop_amb.specs.inner.Settling.{IsMet}
-use Rattle.prop_amb.proofs.DecidingLaws.{goes_later}
-use Rattle.prop_amb.proofs.MetLaws.{met_listed}
+use Rattle.prop_amb.proofs.DecidingLaws.{may_move, goes_later}
+use Rattle.prop_amb.proofs.MetLaws.{met_listed, met_part}
 use Rattle.prop_amb.proofs.PlaceLemmas.{get_below_length}
 use Rattle.prop_amb.proofs.settling.go_on.Goals as goal
 
@@ -18,15 +19,15 @@ resolve-requires c = record {
 
 pub offset_bounds-choices-place : goal.offset_bounds-choices-place
 offset_bounds-choices-place c =
-    let may = rw c.in-Against.is at c.in_ok-resolve.ensures.may in
-    let below = get_below_length (choices_in c.args.search.now) c.in-Against.place may.choice may.choice_at in
+    let leaves = rw c.in-Against.is at c.in_ok-resolve.ensures.may in
+    let below = get_below_length (choices_in c.args.search.now) c.in-Against.place leaves.may.choice leaves.may.choice_at in
     let same = c.choices.ensures ∙ ap choices_of c.premises.ensures in
     omega (arith, below, c.choices.type_inv, ap length same)
 
 pub bounds-choices-place : goal.bounds-choices-place
 bounds-choices-place c =
-    let may = rw c.in-Against.is at c.in_ok-resolve.ensures.may in
-    let below = get_below_length (choices_in c.args.search.now) c.in-Against.place may.choice may.choice_at in
+    let leaves = rw c.in-Against.is at c.in_ok-resolve.ensures.may in
+    let below = get_below_length (choices_in c.args.search.now) c.in-Against.place leaves.may.choice leaves.may.choice_at in
     let same = c.choices.ensures ∙ ap choices_of c.premises.ensures in
     omega (arith, below, ap length same)
 
@@ -38,11 +39,14 @@ pub returns-clause-search : goal.returns-clause-search
 returns-clause-search c problem learned =
     let here = met c problem learned in
     let reason : IsReason problem c.args.search.now c.in-Against.place (set_of c.in-Against.reason) =
-    rw c.in-Against.is at (c.in_ok-resolve.ensures.resolved problem learned here.nogood here.noted) in
+    rw c.in-Against.is at (c.in_ok-resolve.ensures.resolved problem learned here.nogood (met_part problem c.args.search.now c.in_ok-believed.believed here)) in
     c.advance.ensures.search problem reason learned
 
 pub returns-clause-moves : goal.returns-clause-moves
-returns-clause-moves c = λ problem learned.
-    let may = rw c.in-Against.is at c.in_ok-resolve.ensures.may in
-    goes_later problem c.args.search.now c.advance.new.self c.in_ok-believed.believed c.in-Against.place c.in-Some.ensures.stand (met c problem learned) may
-    c.in_ok-advance-in-Against.ensures.list
+returns-clause-moves c =
+    let s = c.args.search.now in
+    let leaves : MayLeave s c.in_ok-believed.believed c.in-Against.place = rw c.in-Against.is at c.in_ok-resolve.ensures.may in
+    let noted : Contains s.listed c.in_ok-believed.believed = rw c.in_ok-believed.ensures c.in-Some.ensures.listed in
+    let believed : IsPart (set_of c.in_ok-believed.believed) (set_of s.worldview) = λ p t. within_has (set_of s.worldview) c.in-Some.blocking.now p c.in-Some.ensures.believed (rw c.in_ok-believed.ensures at t) in
+    goes_later s c.advance.new.self c.in-Against.place c.in-Against.reason (may_move s c.in_ok-believed.believed c.in-Against.place c.in-Some.ensures.stand noted believed leaves) (rw c.in-Against.is at c.in_ok-resolve.ensures.culprits)
+    c.advance.ensures.premises c.advance.ensures.listed c.in_ok-advance-in-Against.ensures.list c.in_ok-advance-in-Against.ensures.reasons

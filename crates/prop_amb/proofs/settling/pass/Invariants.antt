@@ -1,7 +1,7 @@
 use Rattle.std.proofs.Common.{◌≡◌, ◌≤◌, ◌-◌}
 use Rattle.prop_cells.specs.Problems.{Problem}
 use Rattle.prop_amb.specs.Going.{Passes}
-use Rattle.prop_amb.specs.Search.{IsSearch, users_of, choices_in}
+use Rattle.prop_amb.specs.Search.{IsSearch}
 use Rattle.prop_amb.proofs.settling.pass.Given as goal
 
 abbrev pub invariant-loop-moves : goal.invariant-loop-moves
@@ -10,7 +10,7 @@ invariant-loop-moves l = record {
   listed : l.search.listed ≡ l.fn.search.listed;
   search : (problem : Problem) → IsSearch problem l.fn.search → IsSearch problem l.search;
   few : l.moves ≤ l.most;
-  moves : (problem : Problem) → IsSearch problem l.fn.search → Passes problem (users_of l.fn.search) (choices_in l.fn.search) l.fn.search.list l.moves l.search.list;
+  moves : Passes l.fn.search l.moves l.search;
 }
 
 abbrev pub decreases-loop-moves : goal.decreases-loop-moves

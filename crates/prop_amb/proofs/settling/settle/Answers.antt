@@ -4,14 +4,14 @@ use Rattle.prop_procedures.specs.Kept.{stored_of}
 use Rattle.prop_cells.specs.Data.{Data, problem_of}
 use Rattle.prop_scheduler.specs.Turns.{IsUnderWay}
 use Rattle.prop_amb.specs.Search.{IsSearch}
-use Rattle.prop_amb.specs.inner.Settling.{IsHeld}
+use Rattle.prop_amb.specs.Culprits.{MayMove}
 use Rattle.prop_amb.specs.declared.outcome.Outcome.{Outcome}
 use Rattle.prop_amb.specs.declared.outcome.Outcome.TheVariants.{Settled, Unsettled}
 use Rattle.prop_amb.specs.declared.settling.Tried.TheVariants.{Quiet, Spent}
 use Rattle.prop_amb.proofs.Blocked.{kept_block}
 use Rattle.prop_amb.proofs.OnWay.{Attempted, OnTry}
 use Rattle.prop_amb.proofs.SearchLaws.{kept_refute}
-use Rattle.prop_amb.proofs.SettlingLaws.{count_in, rest_on, premises_in, worldview_in, search_in, search_from, attempted_in, contradiction_in, held_in, at_start, after_try, after_move, ended, first_consistent, all_moves, spent_earned, held_earned, held_refuted}
+use Rattle.prop_amb.proofs.SettlingLaws.{count_in, rest_on, premises_in, worldview_in, search_in, search_from, attempted_in, contradiction_in, blamed_in, at_start, after_try, after_move, ended, first_consistent, all_moves, spent_earned, held_earned}
 use Rattle.prop_amb.proofs.settling.settle.Goals as goal
 
 abbrev end_of : {E : Type 0} → Option Outcome → Result (Option Outcome × ℕ) E → Option Outcome
@@ -176,7 +176,7 @@ returns-in-Some g c =
       stand = c.attempt.ensures.stand;
       rest = c.attempt.ensures.rest;
       under_way = c.attempt.ensures.under_way;
-      turns = c.in_ok-tried.ensures.turns;
+      gone = c.in_ok-tried.ensures.gone;
       quiet = c.in_ok-tried.ensures.quiet;
       rests = c.in_ok-tried.ensures.rests;
       spent = c.in_ok-tried.ensures.spent;
@@ -197,8 +197,8 @@ returns-in-Some g c =
     ended g.O.Order.picks (stored_of g.R.Rule.value_of c.args.network.now.library) c.args.search.now c.args.network.now.cells c.args.agenda.now.line c.args.order.now c.attempt.new.search c.attempt.new.network.cells c.attempt.new.agenda.line c.attempt.new.order (c.loop-tried.steps + c.in_ok-tried.calls) c.args.budget c.in_ok-tried.tried c.decide.new.search c.decide.new.agenda.line x as_was line_as_was in
     let library = stored_of g.R.Rule.value_of c.args.network.now.library in
     let quiet : c.in-Some.outcome ≡ Settled → c.in_ok-tried.tried ≡ Quiet = λ e. c.in_ok-end.ensures.settled (c.in-Some.is ∙ ap Some e) in
-    let unsettled : c.in-Some.outcome ≡ Unsettled → (c.in_ok-tried.tried ≡ Spent) ⊎ ((c.args.budget - (c.loop-tried.steps + c.in_ok-tried.calls) ≡ 0) × IsHeld (problem_of (stored_of g.R.Rule.value_of c.attempt.new.network.library) c.attempt.new.network.cells) c.attempt.new.search) =
-    λ e. c.in_ok-end.ensures.unsettled (c.in-Some.is ∙ ap Some e) in
+    let unsettled : c.in-Some.outcome ≡ Unsettled → (c.in_ok-tried.tried ≡ Spent) ⊎ ((c.args.budget - (c.loop-tried.steps + c.in_ok-tried.calls) ≡ 0) × ((j : ℕ) × MayMove c.decide.new.search j)) =
+    λ e. rw as_was (c.in_ok-end.ensures.unsettled (c.in-Some.is ∙ ap Some e)) in
     record {
       same = both;
       rest = t.rest;
@@ -215,6 +215,7 @@ returns-in-Some g c =
       rests = λ e. t.rests (quiet e);
       contradiction = contradiction_in (stored_of g.R.Rule.value_of) c.args.network.now.library c.attempt.new.network.library c.args.network.now.cells c.attempt.new.network.cells c.attempt.new.search c.decide.new.search c.in-Some.outcome both x.rest as_was
           (rw c.in-Some.is at c.in_ok-end.ensures.contradiction);
+      named = blamed_in c.attempt.new.search c.decide.new.search c.in-Some.outcome as_was (rw c.in-Some.is at c.in_ok-end.ensures.named);
       passed = kept_block (problem_of (stored_of g.R.Rule.value_of c.args.network.now.library) c.args.network.now.cells) c.decide.new.search t.stand t.search.reasons;
       earlier = kept_refute (problem_of (stored_of g.R.Rule.value_of c.args.network.now.library) c.args.network.now.cells) c.decide.new.search t.stand t.search.reasons;
       spent = λ e. elim (unsettled e) [ inl q ↦ t.spent q | inr h ↦ omega (arith, h.0, t.within) ];
@@ -222,12 +223,9 @@ returns-in-Some g c =
       moves = all_moves g.O.Order.picks (stored_of g.R.Rule.value_of c.args.network.now.library) c.args.search.now c.args.network.now.cells c.args.agenda.now.line c.args.order.now c.decide.new.search c.attempt.new.network.cells c.decide.new.agenda.line c.attempt.new.order (c.loop-tried.steps + c.in_ok-tried.calls) c.args.budget c.in_ok-tried.tried t;
       earned = λ e. elim (unsettled e) [
         | inl q ↦ spent_earned g.O.Order.picks (stored_of g.R.Rule.value_of c.args.network.now.library) c.args.search.now c.args.network.now.cells c.args.agenda.now.line c.args.order.now c.decide.new.search c.attempt.new.network.cells c.decide.new.agenda.line c.attempt.new.order (c.loop-tried.steps + c.in_ok-tried.calls) c.args.budget c.in_ok-tried.tried t q
-        | inr h ↦ held_earned g.O.Order.picks (stored_of g.R.Rule.value_of c.args.network.now.library) c.args.search.now c.args.network.now.cells c.args.agenda.now.line c.args.order.now c.decide.new.search c.attempt.new.network.cells c.decide.new.agenda.line c.attempt.new.order (c.loop-tried.steps + c.in_ok-tried.calls) c.args.budget c.in_ok-tried.tried t (omega (arith, h.0)) (held_in (stored_of g.R.Rule.value_of) c.args.network.now.library c.attempt.new.network.library c.attempt.new.network.cells c.attempt.new.search c.decide.new.search both as_was h.1)
+        | inr h ↦ held_earned g.O.Order.picks (stored_of g.R.Rule.value_of c.args.network.now.library) c.args.search.now c.args.network.now.cells c.args.agenda.now.line c.args.order.now c.decide.new.search c.attempt.new.network.cells c.decide.new.agenda.line c.attempt.new.order (c.loop-tried.steps + c.in_ok-tried.calls) c.args.budget c.in_ok-tried.tried t (omega (arith, h.0)) h.1.0 h.1.1
       ];
-      left = λ e. elim (unsettled e) [
-        | inl q ↦ inl (t.leaves q)
-        | inr h ↦ inr (held_refuted g.O.Order.picks (stored_of g.R.Rule.value_of c.args.network.now.library) c.args.search.now c.args.network.now.cells c.args.agenda.now.line c.args.order.now c.decide.new.search c.attempt.new.network.cells c.decide.new.agenda.line c.attempt.new.order (c.loop-tried.steps + c.in_ok-tried.calls) c.args.budget c.in_ok-tried.tried t (held_in (stored_of g.R.Rule.value_of) c.args.network.now.library c.attempt.new.network.library c.attempt.new.network.cells c.attempt.new.search c.decide.new.search both as_was h.1))
-      ];
+      left = λ e. elim (unsettled e) [ inl q ↦ inl (t.leaves q) | inr h ↦ inr h.1 ];
       falls = t.falls;
       at_rest = λ idle free unblocked. (let r : (c.in_ok-tried.tried ≡ Quiet) × (c.loop-tried.steps + c.in_ok-tried.calls ≡ 0) = t.at_rest (record { idle = idle; free = free; unblocked = unblocked }) in (settled_at (c.decide.ensures.quiet r.0) c.in_ok-end.was c.in-Some.is, r.1));
       gone = t.gone;
@@ -248,7 +246,7 @@ loop-tried-preserved g c =
       stand = c.attempt.ensures.stand;
       rest = c.attempt.ensures.rest;
       under_way = c.attempt.ensures.under_way;
-      turns = c.in_ok-tried.ensures.turns;
+      gone = c.in_ok-tried.ensures.gone;
       quiet = c.in_ok-tried.ensures.quiet;
       rests = c.in_ok-tried.ensures.rests;
       spent = c.in_ok-tried.ensures.spent;
@@ -272,5 +270,5 @@ loop-tried-preserved g c =
       within = omega (arith, some, c.in_ok-end.ensures.few, x.within);
       way = after_move g.O.Order.picks (stored_of g.R.Rule.value_of c.args.network.now.library) c.args.search.now c.args.network.now.cells c.args.agenda.now.line c.args.order.now c.attempt.new.search c.attempt.new.network.cells c.attempt.new.agenda.line c.attempt.new.order (c.loop-tried.steps + c.in_ok-tried.calls) c.args.budget c.in_ok-tried.tried c.decide.new.search c.decide.new.agenda.line c.in_ok-end.moves x
           (λ q. no_end (c.decide.ensures.quiet q) c.in_ok-end.was c.in-None.is)
-          c.decide.ensures.premises c.decide.ensures.listed (rw both at c.decide.ensures.search) (rw both at c.decide.ensures.under_way) some (rw both at (c.in_ok-end.ensures.moves c.in-None.is));
+          c.decide.ensures.premises c.decide.ensures.listed (rw both at c.decide.ensures.search) (rw both at c.decide.ensures.under_way) some (c.in_ok-end.ensures.moves c.in-None.is) (c.in_ok-end.ensures.shifted c.in-None.is);
     }

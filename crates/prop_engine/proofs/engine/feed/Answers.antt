@@ -17,7 +17,9 @@ loop-byte-init g c = record {
   ready = c.requires.ready;
   so_far = feed_start _ _ _ _ _;
   bounded = record { lines = omega arith; refused = omega arith };
-  fresh = λ h. h;
+  passed_on = c.requires.passed_on;
+  in_turn = refl;
+  reader = refl;
   needed = refl;
 }
 
@@ -54,21 +56,25 @@ loop-byte-preserved g c =
           let s = w.in_ok-answer.ensures.step in
           let step : g.M.Interpreter.machine (g.M.Interpreter.setting c.loop-byte.interpreter) (g.M.Interpreter.state c.loop-byte.interpreter) c.loop-byte.pending s.0 (g.M.Interpreter.state w.answer.new.interpreter) = rw (← w.as_slice.ensures) s.1 in
           let step' = same_step g.M.Interpreter.machine _ _ c.loop-byte.invariant.same _ _ _ _ step in
-          rw (w.interpreter-is, w.pending-is, w.writer-is, w.counts-is, w.clear.ensures, next_place piece i 10 c.loop-byte-test.true w.if-byte-eq10.true) record {
+          rw (w.interpreter-is, w.pending-is, w.devices-is, w.counts-is, w.clear.ensures, next_place piece i 10 c.loop-byte-test.true w.if-byte-eq10.true) record {
             same = w.in_ok-answer.ensures.same ∙ c.loop-byte.invariant.same;
             ready = w.in_ok-answer.ensures.ready;
             so_far = feed_line _ (g.met.M.Interpreter.asks_by_prefix _) _ _ _ _ _ _ _ _ _ _ _ _ _ c.loop-byte.invariant.so_far step' s.2.0 s.2.1;
             bounded = grows _ _ _ _ s.0 c.loop-byte.invariant.bounded s.2.1;
-            fresh = λ h. w.in_ok-answer.ensures.fresh (c.loop-byte.invariant.fresh h);
+            passed_on = w.in_ok-answer.ensures.passed_on;
+            in_turn = w.in_ok-answer.ensures.in_turn ∙ c.loop-byte.invariant.in_turn;
+            reader = w.in_ok-answer.ensures.reader ∙ c.loop-byte.invariant.reader;
             needed = w.in_ok-answer.ensures.needed ∙ c.loop-byte.invariant.needed;
           }
       | else-byte-eq10 w ↦
-          rw (w.interpreter-is, w.pending-is, w.writer-is, w.counts-is, next_place piece i _ c.loop-byte-test.true refl) record {
+          rw (w.interpreter-is, w.pending-is, w.devices-is, w.counts-is, next_place piece i _ c.loop-byte-test.true refl) record {
             same = c.loop-byte.invariant.same;
             ready = c.loop-byte.invariant.ready;
             so_far = feed_byte _ _ _ _ _ _ _ _ _ _ _ _ c.loop-byte.invariant.so_far w.if-byte-eq10.false w.push.ensures;
             bounded = grows_more _ _ _ c.loop-byte.invariant.bounded;
-            fresh = c.loop-byte.invariant.fresh;
+            passed_on = c.loop-byte.invariant.passed_on;
+            in_turn = c.loop-byte.invariant.in_turn;
+            reader = c.loop-byte.invariant.reader;
             needed = c.loop-byte.invariant.needed;
           }
     ]

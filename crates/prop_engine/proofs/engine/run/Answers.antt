@@ -4,9 +4,10 @@ use Rattle.std.proofs.lemmas.Bool.{false≢true}
 use Rattle.prop_engine.specs.declared.outcome.Counts.{Counts}
 use Rattle.prop_engine.specs.declared.outcome.EngineFault.{EngineFault}
 use Rattle.prop_engine.specs.declared.outcome.EngineFault.TheVariants.{Read, Write, Reads}
-use Rattle.prop_engine.specs.Watched.{has_stopped}
+use Rattle.prop_engine.specs.Watched.{reader, has_failed, has_stopped, is_flushed, calls, widest, narrowest, has_flushed_idly}
 use Rattle.prop_engine.proofs.Io.{not_failed, not_stopped}
 use Rattle.prop_engine.proofs.Machines.{same_step}
+use Rattle.prop_engine.proofs.Turns.{in_turn, still_passed_on}
 use Rattle.prop_engine.proofs.Pieces.{started, read_failed, too_many, at_end, ended_plain, ended_line, ended_fault, fed, feed_fault, same_advance, same_stop, told_by}
 use Rattle.prop_engine.proofs.engine.run.Goals as goal
 
@@ -30,16 +31,19 @@ loop-turn-init g c = record {
   so_far = started _ _ _ _ _ _ c.new-pending.ensures refl refl;
   lines = omega arith;
   refused = omega arith;
-  reader = c.requires.reader;
-  writer = c.requires.writer;
-  calls = omega (arith, c.args.reader.now.in_range);
+  fresh = c.requires.reader;
+  passed_on = c.requires.writer;
+  in_turn = refl;
+  calls = omega (arith, c.args.devices.now.reader.in_range);
   widest = omega arith;
   narrowest = omega arith;
   needed = refl;
 }
 
 pub returns-in-Err-clause-told : goal.returns-in-Err-clause-told
-returns-in-Err-clause-told g c = read_failed _ _ _ _ _ _ _ _ _ _ true c.loop-turn.invariant.so_far c.in-Err.ensures.bytes
+returns-in-Err-clause-told g c =
+    let so_far = rw (← c.in-Err.ensures.writer) at c.loop-turn.invariant.so_far in
+    read_failed _ _ _ _ _ _ _ _ _ _ true so_far c.in-Err.ensures.bytes
 
 pub returns-in_err-answer-clause-told : goal.returns-in_err-answer-clause-told
 returns-in_err-answer-clause-told g c =
@@ -47,64 +51,74 @@ returns-in_err-answer-clause-told g c =
     let s = c.in_err-answer.ensures.step in
     let step : g.M.Interpreter.machine (g.M.Interpreter.setting c.loop-turn.interpreter) (g.M.Interpreter.state c.loop-turn.interpreter) c.loop-turn.pending s.0 (g.M.Interpreter.state c.answer.new.interpreter) = rw (← c.as_slice.ensures) s.1 in
     let step' = same_step g.M.Interpreter.machine _ _ c.loop-turn.invariant.same _ _ _ _ step in
-    let consumed = rw c.if-count-eq0.true at c.in-Ok.ensures.bytes.0 in
+    let so_far = rw (← c.in-Ok.ensures.writer) at c.loop-turn.invariant.so_far in
+    let consumed = rw (c.if-count-eq0.true, ← c.in_err-answer.ensures.reader) at c.in-Ok.ensures.bytes.0 in
     let room : 0 < length c.read.new.buffer = omega (arith, c.read.auto.buffer) in
-    let told : has_stopped c.read.new.self ≡ true = at_end _ _ _ _ c.if-count-eq0.true room c.in-Ok.ensures.stopped in
-    let end = c.in-Ok.ensures.bytes.1 c.if-count-eq0.true room in
+    let told : has_stopped (reader c.answer.new.devices) ≡ true = ap has_stopped c.in_err-answer.ensures.reader ∙ at_end _ _ _ _ c.if-count-eq0.true room c.in-Ok.ensures.stopped in
+    let end = rw (← c.in_err-answer.ensures.reader) at c.in-Ok.ensures.bytes.1 c.if-count-eq0.true room in
     told_by _ _ _ _ _ _ _ _ _ _ p.1 (p.2 ∙ c.in_err-answer.ensures.fault.0)
-    (ended_fault _ (g.met.M.Interpreter.asks_by_prefix _) _ _ _ _ _ _ _ _ _ _ _ s.0 _ c.loop-turn.invariant.so_far (λ e. false≢true (sym c.if-not-is_empty.true ∙ c.is_empty.ensures.1 e)) consumed end told step' s.2.0 s.2.1)
+    (ended_fault _ (g.met.M.Interpreter.asks_by_prefix _) _ _ _ _ _ _ _ _ _ _ _ s.0 _ so_far (λ e. false≢true (sym c.if-not-is_empty.true ∙ c.is_empty.ensures.1 e)) consumed end told step' s.2.0 s.2.1)
 
 pub returns-in_ok-answer-clause-told : goal.returns-in_ok-answer-clause-told
 returns-in_ok-answer-clause-told g c =
     let s = c.in_ok-answer.ensures.step in
     let step : g.M.Interpreter.machine (g.M.Interpreter.setting c.loop-turn.interpreter) (g.M.Interpreter.state c.loop-turn.interpreter) c.loop-turn.pending s.0 (g.M.Interpreter.state c.answer.new.interpreter) = rw (← c.as_slice.ensures) s.1 in
     let step' = same_step g.M.Interpreter.machine _ _ c.loop-turn.invariant.same _ _ _ _ step in
-    let consumed = rw c.if-count-eq0.true at c.in-Ok.ensures.bytes.0 in
+    let so_far = rw (← c.in-Ok.ensures.writer) at c.loop-turn.invariant.so_far in
+    let consumed = rw (c.if-count-eq0.true, ← c.in_ok-answer.ensures.reader) at c.in-Ok.ensures.bytes.0 in
     let room : 0 < length c.read.new.buffer = omega (arith, c.read.auto.buffer) in
-    let told : has_stopped c.read.new.self ≡ true = at_end _ _ _ _ c.if-count-eq0.true room c.in-Ok.ensures.stopped in
-    let end = c.in-Ok.ensures.bytes.1 c.if-count-eq0.true room in
-    ended_line _ (g.met.M.Interpreter.asks_by_prefix _) _ _ _ _ _ _ _ _ _ _ _ s.0 _ _ c.loop-turn.invariant.so_far (λ e. false≢true (sym c.if-not-is_empty.true ∙ c.is_empty.ensures.1 e)) consumed end told step' s.2.0 s.2.1
+    let told : has_stopped (reader c.answer.new.devices) ≡ true = ap has_stopped c.in_ok-answer.ensures.reader ∙ at_end _ _ _ _ c.if-count-eq0.true room c.in-Ok.ensures.stopped in
+    let end = rw (← c.in_ok-answer.ensures.reader) at c.in-Ok.ensures.bytes.1 c.if-count-eq0.true room in
+    ended_line _ (g.met.M.Interpreter.asks_by_prefix _) _ _ _ _ _ _ _ _ _ _ _ s.0 _ _ so_far (λ e. false≢true (sym c.if-not-is_empty.true ∙ c.is_empty.ensures.1 e)) consumed end told step' s.2.0 s.2.1
 
 pub returns-else-not-is_empty-clause-told : goal.returns-else-not-is_empty-clause-told
 returns-else-not-is_empty-clause-told g c =
+    let so_far = rw (← c.in-Ok.ensures.writer) at c.loop-turn.invariant.so_far in
     let consumed = rw c.if-count-eq0.true at c.in-Ok.ensures.bytes.0 in
     let room : 0 < length c.read.new.buffer = omega (arith, c.read.auto.buffer) in
-    let told : has_stopped c.read.new.self ≡ true = at_end _ _ _ _ c.if-count-eq0.true room c.in-Ok.ensures.stopped in
+    let told : has_stopped (reader c.read.new.self) ≡ true = at_end _ _ _ _ c.if-count-eq0.true room c.in-Ok.ensures.stopped in
     let end = c.in-Ok.ensures.bytes.1 c.if-count-eq0.true room in
-    ended_plain _ _ _ _ _ _ _ _ _ _ _ c.loop-turn.invariant.so_far (c.is_empty.ensures.0 c.if-not-is_empty.false) consumed end told
+    ended_plain _ _ _ _ _ _ _ _ _ _ _ so_far (c.is_empty.ensures.0 c.if-not-is_empty.false) consumed end told
 
 pub returns-in_err-feed-clause-told : goal.returns-in_err-feed-clause-told
 returns-in_err-feed-clause-told g c =
     let p = err_from_is_err_and c.from_residual-in_err-feed.result c.from_residual-in_err-feed.ensures.1 in
     let stopped = same_stop g.M.Interpreter.machine _ _ c.loop-turn.invariant.same _ _ _ _ _ _ _ c.in_err-feed.ensures.err in
+    let so_far = rw (← c.in-Ok.ensures.writer) at c.loop-turn.invariant.so_far in
+    let consumed = rw (← c.in_err-feed.ensures.reader) at c.in-Ok.ensures.bytes.0 in
+    let goes_on = ap has_stopped c.in_err-feed.ensures.reader ∙ not_stopped _ _ _ _ c.if-count-eq0.false c.in-Ok.ensures.stopped ∙ c.loop-turn.invariant.fresh.not_stopped in
     told_by _ _ _ _ _ _ _ _ _ _ p.1 (p.2 ∙ c.in_err-feed.ensures.fault.0)
-    (feed_fault _ _ _ _ _ _ _ _ _ _ _ _ _ _ c.loop-turn.invariant.so_far (not_stopped _ _ _ _ c.if-count-eq0.false c.in-Ok.ensures.stopped ∙ c.loop-turn.invariant.reader.not_stopped) c.in-Ok.ensures.bytes.0 stopped)
+    (feed_fault _ _ _ _ _ _ _ _ _ _ _ _ _ _ so_far goes_on consumed stopped)
 
 pub loop-turn-preserved : goal.loop-turn-preserved
 loop-turn-preserved g c =
-    let advanced = same_advance g.M.Interpreter.machine _ _ c.loop-turn.invariant.same _ _ _ _ _ _ _ _ _ c.in_ok-feed.ensures.ok in record {
+    let advanced = same_advance g.M.Interpreter.machine _ _ c.loop-turn.invariant.same _ _ _ _ _ _ _ _ _ c.in_ok-feed.ensures.ok in
+    let same_reader = c.in_ok-feed.ensures.reader in
+    let so_far = rw (← c.in-Ok.ensures.writer) at c.loop-turn.invariant.so_far in
+    let consumed = rw (← same_reader) at c.in-Ok.ensures.bytes.0 in record {
       same = c.in_ok-feed.ensures.same ∙ c.loop-turn.invariant.same;
       ready = c.in_ok-feed.ensures.ready;
-      so_far = fed _ _ _ _ _ _ _ _ _ _ _ _ _ _ _ c.loop-turn.invariant.so_far c.in-Ok.ensures.bytes.0 advanced;
+      so_far = fed _ _ _ _ _ _ _ _ _ _ _ _ _ _ _ so_far consumed advanced;
       lines = omega (arith, c.in_ok-feed.ensures.bounded.lines, c.in-Ok.ensures.bound.0, c.in-Ok.ensures.bound.1, c.loop-turn.invariant.lines, c.read.auto.buffer);
       refused = omega (arith, c.in_ok-feed.ensures.bounded.refused, c.in-Ok.ensures.bound.0, c.in-Ok.ensures.bound.1, c.loop-turn.invariant.refused, c.read.auto.buffer);
-      reader = record {
-        not_failed = not_failed _ _ c.in-Ok.ensures.failed ∙ c.loop-turn.invariant.reader.not_failed;
-        not_stopped = not_stopped _ _ _ _ c.if-count-eq0.false c.in-Ok.ensures.stopped ∙ c.loop-turn.invariant.reader.not_stopped;
-        flushed = c.in-Ok.ensures.flushed ∙ c.loop-turn.invariant.reader.flushed;
+      fresh = record {
+        not_failed = ap has_failed same_reader ∙ not_failed _ _ c.in-Ok.ensures.failed ∙ c.loop-turn.invariant.fresh.not_failed;
+        not_stopped = ap has_stopped same_reader ∙ not_stopped _ _ _ _ c.if-count-eq0.false c.in-Ok.ensures.stopped ∙ c.loop-turn.invariant.fresh.not_stopped;
+        flushed = ap is_flushed same_reader ∙ c.in-Ok.ensures.flushed ∙ c.loop-turn.invariant.fresh.flushed;
       };
-      writer = c.in_ok-feed.ensures.fresh c.loop-turn.invariant.writer;
-      calls = omega (arith, c.in-Ok.ensures.counted, c.loop-turn.invariant.calls);
-      widest = omega (arith, c.in-Ok.ensures.widest, c.loop-turn.invariant.widest);
-      narrowest = omega (arith, c.in-Ok.ensures.narrowest, c.loop-turn.invariant.narrowest);
-      needed = c.in_ok-feed.ensures.needed ∙ c.loop-turn.invariant.needed;
+      passed_on = c.in_ok-feed.ensures.passed_on;
+      in_turn = c.in_ok-feed.ensures.in_turn ∙ in_turn c.loop-turn.devices _ _ c.loop-turn.invariant.passed_on c.in-Ok.ensures.in_turn ∙ c.loop-turn.invariant.in_turn;
+      calls = omega (arith, ap calls same_reader, c.in-Ok.ensures.counted, c.loop-turn.invariant.calls);
+      widest = omega (arith, ap widest same_reader, c.in-Ok.ensures.widest, c.loop-turn.invariant.widest);
+      narrowest = omega (arith, ap narrowest same_reader, c.in-Ok.ensures.narrowest, c.loop-turn.invariant.narrowest);
+      needed = c.in_ok-feed.ensures.needed ∙ ap has_flushed_idly c.in-Ok.ensures.writer ∙ c.loop-turn.invariant.needed;
     }
 
 pub returns-clause-told : goal.returns-clause-told
 returns-clause-told g c = too_many _ _ _ _ _ _ _ _ _ true c.loop-turn.invariant.so_far
 
 pub returns-in-Err-clause-read : goal.returns-in-Err-clause-read
-returns-in-Err-clause-read g c = ((λ h. rw c.loop-turn.invariant.reader.not_failed at c.in-Err.ensures.failed), (λ t. refl))
+returns-in-Err-clause-read g c = ((λ h. rw c.loop-turn.invariant.fresh.not_failed at c.in-Err.ensures.failed), (λ t. refl))
 
 pub returns-in-Err-clause-write : goal.returns-in-Err-clause-write
 returns-in-Err-clause-write g c = λ h. let e : Err Read ≡ Err Write = h in cc
@@ -113,12 +127,12 @@ pub returns-in-Err-clause-reads : goal.returns-in-Err-clause-reads
 returns-in-Err-clause-reads g c = λ h. let e : Err Read ≡ Err Reads = h in cc
 
 pub returns-in-Err-clause-passed_on : goal.returns-in-Err-clause-passed_on
-returns-in-Err-clause-passed_on g c = inr c.loop-turn.invariant.writer
+returns-in-Err-clause-passed_on g c = inr (still_passed_on _ _ c.in-Err.ensures.writer c.in-Err.ensures.owed c.loop-turn.invariant.passed_on)
 
 pub returns-in_err-answer-clause-read : goal.returns-in_err-answer-clause-read
 returns-in_err-answer-clause-read g c =
     let p = err_from_is_err_and c.from_residual.result c.from_residual.ensures.1 in
-    none_failed _ _ (write_is_no_read _ (p.1 ∙ ap Err (p.2 ∙ c.in_err-answer.ensures.fault.0))) (not_failed _ _ c.in-Ok.ensures.failed ∙ c.loop-turn.invariant.reader.not_failed)
+    none_failed _ _ (write_is_no_read _ (p.1 ∙ ap Err (p.2 ∙ c.in_err-answer.ensures.fault.0))) (ap has_failed c.in_err-answer.ensures.reader ∙ not_failed _ _ c.in-Ok.ensures.failed ∙ c.loop-turn.invariant.fresh.not_failed)
 
 pub returns-in_err-answer-clause-write : goal.returns-in_err-answer-clause-write
 returns-in_err-answer-clause-write g c = λ h. c.in_err-answer.ensures.fault.1
@@ -136,7 +150,7 @@ returns-in_err-answer-clause-passed_on g c =
 pub returns-in_err-feed-clause-read : goal.returns-in_err-feed-clause-read
 returns-in_err-feed-clause-read g c =
     let p = err_from_is_err_and c.from_residual-in_err-feed.result c.from_residual-in_err-feed.ensures.1 in
-    none_failed _ _ (write_is_no_read _ (p.1 ∙ ap Err (p.2 ∙ c.in_err-feed.ensures.fault.0))) (not_failed _ _ c.in-Ok.ensures.failed ∙ c.loop-turn.invariant.reader.not_failed)
+    none_failed _ _ (write_is_no_read _ (p.1 ∙ ap Err (p.2 ∙ c.in_err-feed.ensures.fault.0))) (ap has_failed c.in_err-feed.ensures.reader ∙ not_failed _ _ c.in-Ok.ensures.failed ∙ c.loop-turn.invariant.fresh.not_failed)
 
 pub returns-in_err-feed-clause-write : goal.returns-in_err-feed-clause-write
 returns-in_err-feed-clause-write g c = λ h. c.in_err-feed.ensures.fault.1
@@ -152,7 +166,7 @@ returns-in_err-feed-clause-passed_on g c =
     inl (p.1 ∙ ap Err (p.2 ∙ c.in_err-feed.ensures.fault.0))
 
 pub returns-in_ok-answer-clause-read : goal.returns-in_ok-answer-clause-read
-returns-in_ok-answer-clause-read g c = none_failed _ _ (ok_is_none _ _) (not_failed _ _ c.in-Ok.ensures.failed ∙ c.loop-turn.invariant.reader.not_failed)
+returns-in_ok-answer-clause-read g c = none_failed _ _ (ok_is_none _ _) (ap has_failed c.in_ok-answer.ensures.reader ∙ not_failed _ _ c.in-Ok.ensures.failed ∙ c.loop-turn.invariant.fresh.not_failed)
 
 pub returns-in_ok-answer-clause-write : goal.returns-in_ok-answer-clause-write
 returns-in_ok-answer-clause-write g c = λ h. absurd (ok_is_none _ _ h)
@@ -161,10 +175,10 @@ pub returns-in_ok-answer-clause-reads : goal.returns-in_ok-answer-clause-reads
 returns-in_ok-answer-clause-reads g c = λ h. absurd (ok_is_none _ _ h)
 
 pub returns-in_ok-answer-clause-passed_on : goal.returns-in_ok-answer-clause-passed_on
-returns-in_ok-answer-clause-passed_on g c = inr (c.in_ok-answer.ensures.fresh c.loop-turn.invariant.writer)
+returns-in_ok-answer-clause-passed_on g c = inr c.in_ok-answer.ensures.passed_on
 
 pub returns-else-not-is_empty-clause-read : goal.returns-else-not-is_empty-clause-read
-returns-else-not-is_empty-clause-read g c = none_failed _ _ (ok_is_none _ _) (not_failed _ _ c.in-Ok.ensures.failed ∙ c.loop-turn.invariant.reader.not_failed)
+returns-else-not-is_empty-clause-read g c = none_failed _ _ (ok_is_none _ _) (not_failed _ _ c.in-Ok.ensures.failed ∙ c.loop-turn.invariant.fresh.not_failed)
 
 pub returns-else-not-is_empty-clause-write : goal.returns-else-not-is_empty-clause-write
 returns-else-not-is_empty-clause-write g c = λ h. absurd (ok_is_none _ _ h)
@@ -173,16 +187,37 @@ pub returns-else-not-is_empty-clause-reads : goal.returns-else-not-is_empty-clau
 returns-else-not-is_empty-clause-reads g c = λ h. absurd (ok_is_none _ _ h)
 
 pub returns-else-not-is_empty-clause-passed_on : goal.returns-else-not-is_empty-clause-passed_on
-returns-else-not-is_empty-clause-passed_on g c = inr c.loop-turn.invariant.writer
+returns-else-not-is_empty-clause-passed_on g c = inr (still_passed_on _ _ c.in-Ok.ensures.writer c.in-Ok.ensures.owed c.loop-turn.invariant.passed_on)
 
 pub returns-clause-read : goal.returns-clause-read
-returns-clause-read g c = none_failed _ _ (λ h. let e : Err Reads ≡ Err Read = h in cc) c.loop-turn.invariant.reader.not_failed
+returns-clause-read g c = none_failed _ _ (λ h. let e : Err Reads ≡ Err Read = h in cc) c.loop-turn.invariant.fresh.not_failed
 
 pub returns-clause-write : goal.returns-clause-write
 returns-clause-write g c = λ h. let e : Err Reads ≡ Err Write = h in cc
 
 pub returns-clause-passed_on : goal.returns-clause-passed_on
-returns-clause-passed_on g c = inr c.loop-turn.invariant.writer
+returns-clause-passed_on g c = inr c.loop-turn.invariant.passed_on
 
 pub returns-clause-at_most : goal.returns-clause-at_most
 returns-clause-at_most g c = omega (arith, c.loop-turn.invariant.calls, c.loop-turn.auto._turn-end)
+
+pub returns-in-Err-clause-in_turn : goal.returns-in-Err-clause-in_turn
+returns-in-Err-clause-in_turn g c = in_turn c.loop-turn.devices _ _ c.loop-turn.invariant.passed_on c.in-Err.ensures.in_turn ∙ c.loop-turn.invariant.in_turn
+
+pub returns-in_err-answer-clause-in_turn : goal.returns-in_err-answer-clause-in_turn
+returns-in_err-answer-clause-in_turn g c = c.in_err-answer.ensures.in_turn ∙ in_turn c.loop-turn.devices _ _ c.loop-turn.invariant.passed_on c.in-Ok.ensures.in_turn ∙ c.loop-turn.invariant.in_turn
+
+pub returns-in_ok-answer-clause-in_turn : goal.returns-in_ok-answer-clause-in_turn
+returns-in_ok-answer-clause-in_turn g c = c.in_ok-answer.ensures.in_turn ∙ in_turn c.loop-turn.devices _ _ c.loop-turn.invariant.passed_on c.in-Ok.ensures.in_turn ∙ c.loop-turn.invariant.in_turn
+
+pub returns-in_err-feed-clause-in_turn : goal.returns-in_err-feed-clause-in_turn
+returns-in_err-feed-clause-in_turn g c = c.in_err-feed.ensures.in_turn ∙ in_turn c.loop-turn.devices _ _ c.loop-turn.invariant.passed_on c.in-Ok.ensures.in_turn ∙ c.loop-turn.invariant.in_turn
+
+pub returns-else-not-is_empty-clause-in_turn : goal.returns-else-not-is_empty-clause-in_turn
+returns-else-not-is_empty-clause-in_turn g c = in_turn c.loop-turn.devices _ _ c.loop-turn.invariant.passed_on c.in-Ok.ensures.in_turn ∙ c.loop-turn.invariant.in_turn
+
+pub answer-requires-clause-passed_on : goal.answer-requires-clause-passed_on
+answer-requires-clause-passed_on g c = still_passed_on _ _ c.in-Ok.ensures.writer c.in-Ok.ensures.owed c.loop-turn.invariant.passed_on
+
+pub feed-requires-clause-passed_on : goal.feed-requires-clause-passed_on
+feed-requires-clause-passed_on g c = still_passed_on _ _ c.in-Ok.ensures.writer c.in-Ok.ensures.owed c.loop-turn.invariant.passed_on

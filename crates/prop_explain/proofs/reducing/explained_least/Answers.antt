@@ -11,12 +11,18 @@ pub returns-in-AllTried-clause-tries : goal.returns-in-AllTried-clause-tries
 returns-in-AllTried-clause-tries g c =
     let value = g.R.Rule.value_of in
     let new = c.left_of.new in
-    tries_of_more g.O.Order.picks (stored_of value c.args.network.now.library) (set_of c.in_ok-why.why.support) (set_of c.args.worldview.now) c.args.network.now.cells c.args.agenda.now.line c.args.order.now
-    c.in_ok-support.steps new.network.cells new.agenda.line new.order c.in_ok-why.ensures.explains.part c.in_ok-support.ensures.tries
+    let tries = c.in_ok-support.ensures.tries in (
+      tries.0,
+      tries_of_more g.O.Order.picks (stored_of value c.args.network.now.library) (set_of c.in_ok-why.why.support) (set_of c.args.worldview.now) c.args.network.now.cells c.args.agenda.now.line c.args.order.now
+          tries.0 c.in_ok-support.steps new.network.cells new.agenda.line new.order c.in_ok-why.ensures.explains.part tries.1,
+    )
 
 pub returns-clause-tries : goal.returns-clause-tries
 returns-clause-tries g c =
     let value = g.R.Rule.value_of in
     let new = c.left_of.new in
-    tries_of_more g.O.Order.picks (stored_of value c.args.network.now.library) (set_of c.in_ok-why.why.support) (set_of c.args.worldview.now) c.args.network.now.cells c.args.agenda.now.line c.args.order.now
-    c.in_ok-support.steps new.network.cells new.agenda.line new.order c.in_ok-why.ensures.explains.part c.in_ok-support.ensures.tries
+    let tries = c.in_ok-support.ensures.tries in (
+      tries.0,
+      tries_of_more g.O.Order.picks (stored_of value c.args.network.now.library) (set_of c.in_ok-why.why.support) (set_of c.args.worldview.now) c.args.network.now.cells c.args.agenda.now.line c.args.order.now
+          tries.0 c.in_ok-support.steps new.network.cells new.agenda.line new.order c.in_ok-why.ensures.explains.part tries.1,
+    )

@@ -1,10 +1,12 @@
-use Rattle.std.proofs.Common.{◌≡◌, ◌∙◌, ◌∷◌, [], refl, arith, append_assoc}
-use Rattle.prop_premises.specs.Sets.{set_of, without}
+use Rattle.std.proofs.Common.{◌≡◌, ◌∙◌, ◌∷◌, [], List, ℕ, refl, sym, subst, arith, append_assoc}
+use Rattle.std.proofs.lemmas.List.Elements.{All-nil}
+use Rattle.prop_premises.specs.Sets.{Members, set_of, without, IsPart}
+use Rattle.prop_premises.proofs.MergeLemmas.{Rising, rising_from_increasing}
 use Rattle.prop_procedures.specs.Kept.{stored_of}
 use Rattle.prop_cells.specs.Data.{problem_of}
-use Rattle.prop_explain.specs.Trying.Tries.{none}
+use Rattle.prop_explain.specs.Trying.TriesOf.{none}
 use Rattle.prop_explain.proofs.ReducingLaws.{as_ready, consistent_fewer, one_more, same_problem, tried_on}
-use Rattle.prop_explain.proofs.TryingLaws.{none_tried, left_out, stays, less_is_part}
+use Rattle.prop_explain.proofs.TryingLaws.{none_tried, left_out, stays, less_is_part, less_holds, still_left}
 use Rattle.prop_explain.proofs.reducing.left_of.Goals as goal
 
 pub loop-premise-init : goal.loop-premise-init
@@ -12,10 +14,22 @@ loop-premise-init g c =
     let library = stored_of g.R.Rule.value_of c.args.network.now.library in
     let start = c.args.network.now.cells in
     let copied = c.in_ok-support.ensures in
+    let so_far = c.into_iter-premise-iterator.ensures.into_iter_gives ∙ c.iter-premise-items.ensures.all in
     record {
-      so_far = c.into_iter-premise-iterator.ensures.into_iter_gives ∙ c.iter-premise-items.ensures.all;
+      so_far = so_far;
       same = refl;
-      done = record { left = as_ready library start c.args.agenda.now c.requires.ready; within = omega arith; few = omega arith; tries = none };
+      done = record {
+        left = as_ready library start c.args.agenda.now c.requires.ready;
+        within = omega arith;
+        few = omega arith;
+        tries = ([], none);
+        held = record {
+          rising = subst Rising (sym so_far) (rising_from_increasing c.args.why.now.support c.iter-premise-items.ensures.ordered);
+          part = rw so_far (λ p h. h);
+          tried = All-nil _;
+          left = rw (so_far, copied) (λ p h. h);
+        };
+      };
       tried = rw copied (none_tried (problem_of library start) c.args.cell c.args.why.now.value (set_of c.args.why.now.support) c.requires.entails);
       part = rw copied (λ p h. h);
     }
@@ -43,10 +57,12 @@ loop-premise-preserved-in-Enough g c =
     let less_is : set_of c.in_ok-less.less ≡ without (set_of c.loop-premise.support) c.in-Some.premise = λ i p. c.in_ok-less.ensures p i in
     let part = less_is_part (set_of c.loop-premise.support) (set_of c.args.why.now.support) (set_of c.in_ok-less.less) c.in-Some.premise less_is kept.part in
     let problem = same_problem library library start c.loop-premise.network.cells refl kept.done.left.rest in
+    let done = rw c.in-Some.ensures.steps at kept.done in
+    let holds = subst (λ (t : Members). IsPart (set_of c.next.new.self) t) (sym less_is) (less_holds c.in-Some.premise c.next.new.self done.held) in
     record {
       so_far = append_assoc c.loop-premise.yielded (c.in-Some.premise ∷ []) c.next.new.self ∙ (rw c.in-Some.ensures.steps at kept.so_far);
       same = try.same ∙ kept.same;
-      done = one_more library start c.loop-premise.network.cells c.loop-premise.yielded c.in-Some.premise c.loop-premise.steps c.in_ok-tried.calls kept.done part (rw kept.same at try.left) try.steps (rw kept.same at try.falls) (rw kept.same at try.turns);
+      done = one_more library start c.loop-premise.network.cells c.loop-premise.yielded c.next.new.self c.in-Some.premise c.loop-premise.steps c.in_ok-tried.calls (set_of c.in_ok-less.less) (set_of c.in_ok-less.less) less_is done part holds (rw kept.same at try.left) try.steps (rw kept.same at try.falls) (rw kept.same at try.turns);
       tried = rw less_is (left_out (problem_of library start) c.args.cell c.args.why.now.value c.loop-premise.yielded (set_of c.loop-premise.support) c.in-Some.premise kept.tried (rw (kept.same, problem, less_is) at try.enough c.in-Enough.is));
       part = part;
     }
@@ -60,10 +76,11 @@ loop-premise-preserved g c =
     let less_is : set_of c.in_ok-less.less ≡ without (set_of c.loop-premise.support) c.in-Some.premise = λ i p. c.in_ok-less.ensures p i in
     let part = less_is_part (set_of c.loop-premise.support) (set_of c.args.why.now.support) (set_of c.in_ok-less.less) c.in-Some.premise less_is kept.part in
     let problem = same_problem library library start c.loop-premise.network.cells refl kept.done.left.rest in
+    let done = rw c.in-Some.ensures.steps at kept.done in
     record {
       so_far = append_assoc c.loop-premise.yielded (c.in-Some.premise ∷ []) c.next.new.self ∙ (rw c.in-Some.ensures.steps at kept.so_far);
       same = try.same ∙ kept.same;
-      done = one_more library start c.loop-premise.network.cells c.loop-premise.yielded c.in-Some.premise c.loop-premise.steps c.in_ok-tried.calls kept.done part (rw kept.same at try.left) try.steps (rw kept.same at try.falls) (rw kept.same at try.turns);
+      done = one_more library start c.loop-premise.network.cells c.loop-premise.yielded c.next.new.self c.in-Some.premise c.loop-premise.steps c.in_ok-tried.calls (set_of c.in_ok-less.less) (set_of c.loop-premise.support) less_is done part (still_left c.in-Some.premise c.next.new.self done.held) (rw kept.same at try.left) try.steps (rw kept.same at try.falls) (rw kept.same at try.turns);
       tried = stays (problem_of library start) c.args.cell c.args.why.now.value c.loop-premise.yielded (set_of c.loop-premise.support) c.in-Some.premise kept.tried (rw (kept.same, problem, less_is) at try.too_few c.in-TooFew.is);
       part = kept.part;
     }
@@ -73,4 +90,5 @@ returns-in-Spent-clause-tries g c =
     let kept = c.loop-premise.invariant in
     let less_is : set_of c.in_ok-less.less ≡ without (set_of c.loop-premise.support) c.in-Some.premise = λ i p. c.in_ok-less.ensures p i in
     let part = less_is_part (set_of c.loop-premise.support) (set_of c.args.why.now.support) (set_of c.in_ok-less.less) c.in-Some.premise less_is kept.part in
-    tried_on (stored_of g.R.Rule.value_of c.args.network.now.library) _ _ _ part kept.done.tries (rw kept.same at c.in_ok-tried.ensures.turns)
+    let done = rw c.in-Some.ensures.steps at kept.done in
+    tried_on (stored_of g.R.Rule.value_of c.args.network.now.library) c.in-Some.premise (set_of c.in_ok-less.less) _ _ less_is done.tries done.held part (rw kept.same at c.in_ok-tried.ensures.turns)

@@ -19,11 +19,9 @@ loop-rule-preserved c =
 pub serve-requires-clause-means : goal.serve-requires-clause-means
 serve-requires-clause-means c = AllMean-push (either_of value_of host_value) _ _ _ c.in_ok-push-2.ensures.items c.loop-rule.invariant.means c.new-maxer.ensures.means
 
-pub serve-requires-clause-ruled : goal.serve-requires-clause-ruled
-serve-requires-clause-ruled c = all_ruled _ _ _ c.loop-rule.rule-index c.in_ok-push-2.ensures.items (let past = c.loop-rule-test.false in omega (arith, past)) c.new-maxer.ensures.rule c.loop-rule.invariant.ruled
-
 pub serve-requires-clause-listed : goal.serve-requires-clause-listed
 serve-requires-clause-listed c =
     let p = c.new-maxer.ensures in
     let of_host = is_of_host c.new-maxer.result p.name (p.ins ∙ c.in_ok-ins-2.ensures.ok) p.out p.need p.rule in
-    listed _ (rw c.in_ok-push-2.ensures.items (All-push IsOfItsRule _ _ c.loop-rule.invariant.of_rules of_host)) (serve-requires-clause-ruled c)
+    let ruled = all_ruled _ _ _ c.loop-rule.rule-index c.in_ok-push-2.ensures.items (let past = c.loop-rule-test.false in omega (arith, past)) p.rule c.loop-rule.invariant.ruled in
+    listed _ (rw c.in_ok-push-2.ensures.items (All-push IsOfItsRule _ _ c.loop-rule.invariant.of_rules of_host)) ruled

@@ -42,7 +42,7 @@ loop-cell-preserved g c =
           let read : AllAlerted c.loop-cell.agenda.line w.alert_all.new.self.line (readers_of d.instances c.loop-cell.cell) = rw w.readers.ensures at w.alert_all.ensures.alerted in
           let written : AllAlerted w.alert_all.new.self.line w.alert_all-then-shifted.new.self.line (writers_of d.instances c.loop-cell.cell) = rw w.writers.ensures at w.alert_all-then-shifted.ensures.alerted in
           rw w.agenda-is record {
-            shifted = rw w.watch.ensures.line (shifted_more s t d c.loop-cell.cell c.args.agenda.now.line c.loop-cell.agenda.line w.alert_all.new.self.line w.alert_all-then-shifted.new.self.line h.shifted (c.shifted.ensures.shifted w.if-shifted.true) read written);
+            shifted = rw w.watch.ensures.line (shifted_more s t d c.loop-cell.cell c.args.agenda.now.line c.loop-cell.agenda.line w.alert_all.new.self.line w.alert_all-then-shifted.new.self.line h.shifted (c.shifted.ensures.shifted w.if-shifted.true) read written (rw w.readers.ensures at w.alert_all.ensures.line) (rw w.writers.ensures at w.alert_all-then-shifted.ensures.line));
             room = w.watch.ensures.room ∙ w.alert_all-then-shifted.ensures.room ∙ w.alert_all.ensures.room ∙ h.room;
             cells = w.watch.ensures.cells ∙ w.alert_all-then-shifted.ensures.cells ∙ w.alert_all.ensures.cells ∙ h.cells;
             looked = looked_more s t d c.loop-cell.cell c.args.agenda.now.watched c.loop-cell.agenda.watched w.watch.new.self.watched h.looked (let count = c.cells-cell-end.ensures.count in let below = c.loop-cell-test.true in omega (arith, count, below)) (rw (w.alert_all-then-shifted.ensures.watched, w.alert_all.ensures.watched) at w.watch.ensures.watched);

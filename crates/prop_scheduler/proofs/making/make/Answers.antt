@@ -1,8 +1,10 @@
-use Rattle.std.proofs.Common.{◌≡◌, ◌<◌, ◌≤◌, ◌++◌, map, length, ap, arith}
+use Rattle.std.proofs.Common.{◌≡◌, ◌<◌, ◌≤◌, ◌⊎◌, ◌++◌, map, length, ap, arith, inl}
 use Rattle.std.proofs.lemmas.List.{length-append}
 use Rattle.std.proofs.lemmas.List.Elements.{All-weaker}
 use Rattle.prop_procedures.specs.Kept.{stored_of}
 use Rattle.prop_scheduler.specs.Making.{made_of}
+use Rattle.prop_scheduler.specs.Shifts.{IsTouched}
+use Rattle.prop_scheduler.proofs.Behind.{behind_weaker}
 use Rattle.prop_scheduler.proofs.UnderWay.{under_way_made}
 use Rattle.prop_scheduler.proofs.WatchLaws.{watched_fresh}
 use Rattle.prop_scheduler.proofs.making.make.Goals as goal
@@ -34,3 +36,11 @@ returns-clause-watched g c = λ s w.
     let kinds : new.kinds ≡ d.kinds ++ c.args.flat.fresh.items = ap (λ x. x.kinds) is in
     let more : length d.kinds ≤ length new.kinds = rw kinds (let n = length-append d.kinds c.args.flat.fresh.items in omega (arith, n)) in
     rw (c.alert_between.ensures.watched, c.in_default.ensures.watched) (watched_fresh s d new c.args.agenda.now.watched c.args.flat.fresh.items (ap (λ x. x.contents) is) more w)
+
+pub returns-clause-stirred : goal.returns-clause-stirred
+returns-clause-stirred g c = λ s t.
+    let old = c.args.network.now.cells in
+    let new = c.make_all.new.network.cells in
+    let first = c.instances-first.ensures.count in
+    behind_weaker (λ i. c.instances-first.result ≤ i) (λ j. (length old.instances ≤ j) ⊎ IsTouched s t old new j) c.args.agenda.now.line c.alert_between.new.agenda.line (λ j l. inl (omega (arith, l, first)))
+    (rw c.in_default.ensures.line at c.alert_between.ensures.behind)

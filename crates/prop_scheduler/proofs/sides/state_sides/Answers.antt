@@ -1,12 +1,15 @@
-use Rattle.std.proofs.Common.{◌≡◌, ◌<◌, Contains, length, ap, arith, inl, inr}
+use Rattle.std.proofs.Common.{◌≡◌, ◌≢◌, ◌∙◌, ◌<◌, Contains, length, ap, subst, arith, inl, inr}
 use Rattle.std.proofs.lemmas.List.Elements.{All-weaker}
+use Rattle.prop_lattice.specs.declared.info.Info.{Info}
 use Rattle.prop_lattice.specs.Order.{Below}
 use Rattle.prop_premises.specs.Sets.{set_of}
 use Rattle.prop_procedures.specs.Kept.{stored_of}
 use Rattle.prop_cells.specs.Instances.{readers_of, writers_of}
 use Rattle.prop_cells.specs.Data.{IsKept, beliefs}
 use Rattle.prop_cells.proofs.Reading.{readers_are, writers_below}
-use Rattle.prop_scheduler.specs.Agendas.{AllAlerted}
+use Rattle.prop_scheduler.specs.Agendas.{AllAlerted, all_alerted}
+use Rattle.prop_scheduler.specs.Shifts.{IsTouched}
+use Rattle.prop_scheduler.proofs.Behind.{behind_none, behind_then, readers_behind, writers_behind, touched_stirred}
 use Rattle.prop_scheduler.proofs.Steps.{all_after_alerts}
 use Rattle.prop_lattice.specs.laws.OrderLaws.{info_laws}
 use Rattle.prop_scheduler.proofs.UnderWay.{under_way_sides, grown_sides}
@@ -76,3 +79,23 @@ returns-else-not-implies-clause-watched g c =
     let less : Below (beliefs s new.contents c.args.cell) (beliefs s old.contents c.args.cell) = rw (c.belief-after.ensures, c.belief-before.ensures) at (c.implies.ensures.0 c.if-not-implies.false) in
     let here = info_laws.antisymmetric (beliefs s new.contents c.args.cell) (beliefs s old.contents c.args.cell) less (grown.grown c.args.cell) in
     watched_same s old new c.args.agenda.now.watched (omega (arith, kinds)) (same_but s old new c.args.cell here grown.others) c.requires.watched
+
+pub returns-then-not-implies-clause-stirred : goal.returns-then-not-implies-clause-stirred
+returns-then-not-implies-clause-stirred g c =
+    let s = set_of c.args.worldview.now in
+    let old = c.args.network.now.cells in
+    let new = c.state_sides.new.self.cells in
+    let line = c.args.agenda.now.line in
+    let mid = c.alert_all.new.self.line in
+    let after = c.watch.new.self.line in
+    let read : mid ≡ all_alerted line (readers_of new.instances c.args.cell) = rw c.readers.ensures at c.alert_all.ensures.line in
+    let written : c.alert_all-then-not-implies.new.self.line ≡ all_alerted mid (writers_of new.instances c.args.cell) = rw c.writers.ensures at c.alert_all-then-not-implies.ensures.line in
+    let more : beliefs s old.contents c.args.cell ≢ beliefs s new.contents c.args.cell = λ same.
+    let below : Below (beliefs s new.contents c.args.cell) (beliefs s old.contents c.args.cell) = subst (λ (v : Info). Below v (beliefs s old.contents c.args.cell)) same (info_laws.reflexive (beliefs s old.contents c.args.cell)) in
+    let all = c.implies.ensures.1 (rw (c.belief-after.ensures, c.belief-before.ensures) below) in
+    cc (all, c.if-not-implies.true) in
+    touched_stirred s s old new line after
+    (behind_then (IsTouched s s old new) line mid after (readers_behind s s old new c.args.cell line mid more read) (writers_behind s s old new c.args.cell mid after more (c.watch.ensures.line ∙ written)))
+
+pub returns-else-not-implies-clause-stirred : goal.returns-else-not-implies-clause-stirred
+returns-else-not-implies-clause-stirred g c = behind_none _ c.args.agenda.now.line

@@ -1,4 +1,4 @@
-use Rattle.std.proofs.Common.{◌≡◌, ◌∙◌, ◌<◌, ap, length, arith}
+use Rattle.std.proofs.Common.{◌≡◌, ◌≢◌, ◌∙◌, ◌<◌, ap, length, arith}
 use Rattle.std.proofs.lemmas.List.Elements.{All-weaker}
 use Rattle.prop_lattice.specs.Order.{merge_of}
 use Rattle.prop_premises.specs.Sets.{set_of}
@@ -6,6 +6,9 @@ use Rattle.prop_procedures.specs.Kept.{stored_of}
 use Rattle.prop_cells.specs.Instances.{readers_of}
 use Rattle.prop_cells.specs.Data.{IsKept, beliefs}
 use Rattle.prop_cells.proofs.Reading.{readers_are}
+use Rattle.prop_cells.specs.declared.instance.Statement.{Statement}
+use Rattle.prop_scheduler.specs.Agendas.{all_alerted}
+use Rattle.prop_scheduler.proofs.Behind.{behind_none, readers_behind, touched_stirred, states_more}
 use Rattle.prop_scheduler.proofs.UnderWay.{under_way_same, under_way_grown, states_merge, states_same, states_clear}
 use Rattle.prop_scheduler.proofs.WatchLaws.{watched_at, watched_same, watched_clear, same_but}
 use Rattle.prop_scheduler.proofs.stating.state.Goals as goal
@@ -37,7 +40,7 @@ returns-else-says_more-clause-under_way g c =
     let old = c.args.network.now.cells in
     let new = c.state_under.new.self.cells in
     let kept : IsKept library new = rw c.state_under.ensures.same at c.state_under.ensures.kept in
-    let same = states_same s old new _ c.in_ok-state_under.ensures.ok (rw c.belief-before.ensures at (c.says_more.ensures c.if-says_more.false)) in
+    let same = states_same s old new _ c.in_ok-state_under.ensures.ok (rw c.belief-before.ensures at (c.says_more.ensures.less c.if-says_more.false)) in
     rw c.state_under.ensures.same (under_way_same library s old new c.args.agenda.now.line _ c.requires.under_way kept c.in_ok-state_under.ensures.ok same)
 
 pub returns-then-is_contradiction-clause-watched : goal.returns-then-is_contradiction-clause-watched
@@ -66,5 +69,28 @@ returns-else-says_more-clause-watched g c =
     let new = c.state_under.new.self.cells in
     let kinds = ap (λ d. length d.kinds) c.in_ok-state_under.ensures.ok.rest in
     let merge = states_merge s old new _ c.in_ok-state_under.ensures.ok in
-    let here = states_same s old new _ c.in_ok-state_under.ensures.ok (rw c.belief-before.ensures at (c.says_more.ensures c.if-says_more.false)) in
+    let here = states_same s old new _ c.in_ok-state_under.ensures.ok (rw c.belief-before.ensures at (c.says_more.ensures.less c.if-says_more.false)) in
     watched_same s old new c.args.agenda.now.watched (omega (arith, kinds)) (same_but s old new c.args.cell here merge.1.others) c.requires.watched
+
+pub returns-then-is_contradiction-clause-stirred : goal.returns-then-is_contradiction-clause-stirred
+returns-then-is_contradiction-clause-stirred g c =
+    let s = set_of c.args.worldview.now in
+    let old = c.args.network.now.cells in
+    let new = c.state_under.new.self.cells in
+    let line : c.alert_all.new.self.line ≡ all_alerted c.args.agenda.now.line (readers_of new.instances c.args.cell) = rw c.readers.ensures at c.alert_all.ensures.line in
+    let said = c.says_more.ensures.more c.if-says_more.true in
+    let more = states_more s old new (record { premise = c.args.premise; cell = c.args.cell; info = c.args.info }) c.in_ok-state_under.ensures.ok said.0 (rw c.belief-before.ensures at said.1) in
+    touched_stirred s s old new c.args.agenda.now.line c.watch.new.self.line (readers_behind s s old new c.args.cell c.args.agenda.now.line c.watch.new.self.line more (c.watch.ensures.line ∙ line))
+
+pub returns-else-is_contradiction-clause-stirred : goal.returns-else-is_contradiction-clause-stirred
+returns-else-is_contradiction-clause-stirred g c =
+    let s = set_of c.args.worldview.now in
+    let old = c.args.network.now.cells in
+    let new = c.state_under.new.self.cells in
+    let line : c.alert_all.new.self.line ≡ all_alerted c.args.agenda.now.line (readers_of new.instances c.args.cell) = rw c.readers.ensures at c.alert_all.ensures.line in
+    let said = c.says_more.ensures.more c.if-says_more.true in
+    let more = states_more s old new (record { premise = c.args.premise; cell = c.args.cell; info = c.args.info }) c.in_ok-state_under.ensures.ok said.0 (rw c.belief-before.ensures at said.1) in
+    touched_stirred s s old new c.args.agenda.now.line c.alert_all.new.self.line (readers_behind s s old new c.args.cell c.args.agenda.now.line c.alert_all.new.self.line more line)
+
+pub returns-else-says_more-clause-stirred : goal.returns-else-says_more-clause-stirred
+returns-else-says_more-clause-stirred g c = behind_none _ c.args.agenda.now.line

@@ -3,7 +3,7 @@ use Rattle.prop_workbench.proofs.NumberingLaws.{steps_keep_numbers}
 use Rattle.prop_workbench.proofs.laws.two_sessions_agree.Goals as goal
 
 pub returns-clause-states : goal.returns-clause-states
-returns-clause-states g c = runs_meet_all _ _
+returns-clause-states g c = runs_meet_all _
 
 pub returns-clause-answers : goal.returns-clause-answers
 returns-clause-answers g c = answers_meet _

@@ -4,10 +4,8 @@ use Rattle.propbench.specs.Faults.{TellsDevices}
 use Rattle.propbench.proofs.Devices.{told_first}
 use Rattle.prop_engine.proofs.Io.{on_err}
 use Rattle.prop_procedures.specs.inner.Kept.{AllMean-push}
-use Rattle.std.proofs.lemmas.List.{take_all}
-use Rattle.prop_arith.specs.Kit.{in_order}
 use Rattle.prop_arith.specs.Values.{value_of}
-use Rattle.propbench.proofs.Starts.{nothing_yet, stored_is, listed_more, all_listed, ruled_more, kit_is_sound, inputs_fit}
+use Rattle.propbench.proofs.Starts.{nothing_yet, stored_is, listed_more, all_listed, kit_is_sound, inputs_fit}
 use Rattle.propbench.proofs.running.run.Goals as goal
 
 pub returns-in_err-ins-clause-err : goal.returns-in_err-ins-clause-err
@@ -43,14 +41,10 @@ loop-rule-preserved g c =
     let stored = stored_is c.new-in-loop-rule.result _ (p.name ∙ c.name.ensures) (p.ins ∙ c.in_ok-ins.ensures.ok ∙ c.ins.ensures) (p.out ∙ c.out.ensures) (p.need ∙ c.need.ensures) p.rule in record {
       means = AllMean-push value_of _ _ _ c.in_ok-push.ensures.items c.loop-rule.invariant.means p.means;
       listed = listed_more _ _ _ _ _ _ c.in_ok-push.ensures.items c.loop-rule-test.true stored c.loop-rule.invariant.listed;
-      ruled = ruled_more _ _ _ _ _ _ c.in_ok-push.ensures.items c.loop-rule-test.true p.rule c.loop-rule.invariant.ruled;
     }
 
 pub serve-requires-clause-listed : goal.serve-requires-clause-listed
 serve-requires-clause-listed g c = c.loop-rule.invariant.listed ∙ all_listed c.loop-rule.rule-index (let past = c.loop-rule-test.false in omega (arith, past))
-
-pub serve-requires-clause-ruled : goal.serve-requires-clause-ruled
-serve-requires-clause-ruled g c = c.loop-rule.invariant.ruled ∙ take_all c.loop-rule.rule-index in_order (let past = c.loop-rule-test.false in omega (arith, past))
 
 pub serve-requires-clause-means : goal.serve-requires-clause-means
 serve-requires-clause-means g c = c.loop-rule.invariant.means
@@ -67,17 +61,17 @@ returns-clause-points g c = kit_is_sound
 pub returns-in_err-ins-clause-devices : goal.returns-in_err-ins-clause-devices
 returns-in_err-ins-clause-devices g c =
     let p = err_from_is_err_and c.from_residual.result c.from_residual.ensures.1 in
-    subst (λ r. TellsDevices r c.args.reader.now c.args.reader.now c.args.writer.now c.args.writer.now) (sym p.1)
-    (told_first p.0 c.args.reader.now c.args.writer.now p.2 c.requires.reader c.requires.writer)
+    subst (λ r. TellsDevices r c.args.devices.now c.args.devices.now) (sym p.1)
+    (told_first p.0 c.args.devices.now p.2 c.requires.reader c.requires.writer)
 
 pub returns-in_err-call-clause-devices : goal.returns-in_err-call-clause-devices
 returns-in_err-call-clause-devices g c =
     let p = err_from_is_err_and c.from_residual-in_err-call.result c.from_residual-in_err-call.ensures.1 in
-    subst (λ r. TellsDevices r c.args.reader.now c.args.reader.now c.args.writer.now c.args.writer.now) (sym p.1)
-    (told_first p.0 c.args.reader.now c.args.writer.now p.2 c.requires.reader c.requires.writer)
+    subst (λ r. TellsDevices r c.args.devices.now c.args.devices.now) (sym p.1)
+    (told_first p.0 c.args.devices.now p.2 c.requires.reader c.requires.writer)
 
 pub returns-in_err-push-clause-devices : goal.returns-in_err-push-clause-devices
 returns-in_err-push-clause-devices g c =
     let p = err_from_is_err_and c.from_residual-in_err-push.result c.from_residual-in_err-push.ensures.1 in
-    subst (λ r. TellsDevices r c.args.reader.now c.args.reader.now c.args.writer.now c.args.writer.now) (sym p.1)
-    (told_first p.0 c.args.reader.now c.args.writer.now p.2 c.requires.reader c.requires.writer)
+    subst (λ r. TellsDevices r c.args.devices.now c.args.devices.now) (sym p.1)
+    (told_first p.0 c.args.devices.now p.2 c.requires.reader c.requires.writer)

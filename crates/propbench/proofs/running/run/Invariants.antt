@@ -8,5 +8,4 @@ abbrev pub invariant-loop-rule : goal.invariant-loop-rule
 invariant-loop-rule g l = record {
   means : AllMean value_of l.procedures.items;
   listed : map (stored_as value_of) l.procedures.items ≡ map stored_kit (take l.rule-index l.rule-items);
-  ruled : map (λ p. p.rule) l.procedures.items ≡ take l.rule-index l.rule-items;
 }

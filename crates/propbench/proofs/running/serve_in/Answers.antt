@@ -15,15 +15,15 @@ answer-counts-requires-clause-means g c = rw (c.in_ok-session.ensures.library, c
 pub returns-clause-ok : goal.returns-clause-ok
 returns-clause-ok g c =
     let same = ap (λ l. l.procedures.items) (c.in_ok-session.ensures.library ∙ c.new-network.ensures.library) ∙ ap (λ p. p.items) c.new.ensures in
-    answered_by_kit c.in_ok-session.session.network.library c.args.procedures.items _ _ _ _ _ c.answer-counts.result same c.requires.listed c.requires.ruled c.in_ok-session.ensures.state c.answer-counts.ensures.ok
+    answered_by_kit c.in_ok-session.session.network.library c.args.procedures.items _ _ _ _ _ c.answer-counts.result same c.requires.listed c.in_ok-session.ensures.state c.answer-counts.ensures.ok
 
 pub returns-clause-err : goal.returns-clause-err
 returns-clause-err g c =
     let same = ap (λ l. l.procedures.items) (c.in_ok-session.ensures.library ∙ c.new-network.ensures.library) ∙ ap (λ p. p.items) c.new.ensures in
-    answered_in_part_by_kit c.in_ok-session.session.network.library c.args.procedures.items _ _ _ _ _ c.answer-counts.result same c.requires.listed c.requires.ruled c.in_ok-session.ensures.state c.answer-counts.ensures.err
+    answered_in_part_by_kit c.in_ok-session.session.network.library c.args.procedures.items _ _ _ _ _ c.answer-counts.result same c.requires.listed c.in_ok-session.ensures.state c.answer-counts.ensures.err
 
 pub returns-in_err-session-clause-devices : goal.returns-in_err-session-clause-devices
 returns-in_err-session-clause-devices g c =
     let p = err_from_is_err_and c.from_residual.result c.from_residual.ensures.1 in
-    subst (λ r. TellsDevices r c.args.reader.now c.args.reader.now c.args.writer.now c.args.writer.now) (sym p.1)
-    (told_first p.0 c.args.reader.now c.args.writer.now p.2 c.requires.reader c.requires.writer)
+    subst (λ r. TellsDevices r c.args.devices.now c.args.devices.now) (sym p.1)
+    (told_first p.0 c.args.devices.now p.2 c.requires.reader c.requires.writer)

@@ -1,4 +1,4 @@
-use Rattle.std.proofs.Common.{◌≡◌, ◌∙◌, refl, sym, ap, map}
+use Rattle.std.proofs.Common.{◌++◌, ◌∷◌, [], ◌≡◌, ◌∙◌, refl, sym, ap, map}
 use Rattle.prop_procedures.specs.Fitting.{kind_at}
 use Rattle.prop_procedures.specs.Kept.{stored_of}
 use Rattle.prop_language.specs.Commands as commands
@@ -7,6 +7,7 @@ use Rattle.prop_workbench.specs.Sessions.{state_of}
 use Rattle.prop_workbench.proofs.StepLemmas.{refuses}
 use Rattle.prop_workbench.proofs.ChoiceLemmas.{choice_taken, choice_nowhere, choice_refused, values_mean, chosen_or_not}
 use Rattle.prop_workbench.specs.inner.Choosing.{values_refusal}
+use Rattle.prop_workbench.proofs.WakingLemmas.{left_stirred}
 use Rattle.prop_workbench.proofs.session.Session.choose.Goals as goal
 
 pub returns-in-None-clause-step : goal.returns-in-None-clause-step
@@ -47,3 +48,8 @@ returns-in-None-first_refusal-clause-step g c =
     let kind : c.kind-kind.result ≡ kind_at s.network.cells.kinds c.in-Some.cell = c.kind-kind.ensures ∙ ap (λ d. kind_at d.kinds c.in-Some.cell) c.data.ensures in
     chosen_or_not library (state_of s) (state_of c.choose_said.new.self) c.args.choice.now c.args.name.now (map value_of c.args.values.now) c.in-Some.cell c.kind-kind.result.kind c.is_taken-is_taken.result (sym c.in-Some.ensures.number) (ap (λ k. k.kind) kind)
     c.is_taken-is_taken.ensures (sym c.in-None-first_refusal.ensures) c.choose_said.result c.choose_said.ensures.fits c.choose_said.ensures.ok c.choose_said.ensures.err c.choose_said.ensures.err_same
+
+pub returns-in-None-first_refusal-clause-wakes : goal.returns-in-None-first_refusal-clause-wakes
+returns-in-None-first_refusal-clause-wakes g c =
+    let s = c.args.self.now in
+    left_stirred s c.choose_said.new.self (commands.Command.Choose c.args.choice.now c.args.name.now (map value_of c.args.values.now)) (s.search.list ++ 1 ∷ []) c.choose_said.result c.choose_said.ensures.stirred (λ h. h) (λ e h. h)

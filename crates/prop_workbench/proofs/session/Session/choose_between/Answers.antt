@@ -4,6 +4,11 @@ use Rattle.prop_amb.specs.Moving.{declared, declare_refusal}
 use Rattle.prop_workbench.specs.Sessions.{state_of}
 use Rattle.prop_workbench.proofs.ChosenLemmas.{declared_fits, declared_under_way, declared_watched, only_memory, chosen_at_work, chosen_covers}
 use Rattle.prop_workbench.proofs.StandingLemmas.{back_keeps, same_keeps}
+use Rattle.prop_premises.specs.Sets.{set_of}
+use Rattle.prop_amb.specs.Search.{Stand}
+use Rattle.prop_workbench.specs.Sessions.{work_of}
+use Rattle.prop_workbench.proofs.AskLemmas.{believes_same}
+use Rattle.prop_workbench.proofs.WakingLemmas.{stirred_from, declared_beliefs}
 use Rattle.prop_workbench.proofs.session.Session.choose_between.Goals as goal
 
 -- ---- there was no memory for the choice
@@ -59,3 +64,29 @@ returns-in-Err-state_sides-clause-keeps g c =
     let s = c.args.self.now in
     back_keeps g.R.Rule.value_of s (record s { network = c.state_sides.new.network; agenda = c.state_sides.new.agenda }) c.undeclare.new.self c.requires.sound
     (c.undeclare.ensures.undoes s.search c.args.choice.now c.requires.sound.at_work.well_made (c.in-Ok.ensures.ok ∙ (λ i. declared s.search c.args.choice.now (sym c.in-Ok.ensures.choice.1 i)))) c.state_sides.ensures.same c.in-Err-state_sides.ensures.err_same c.in-Err-state_sides.ensures.err_line
+
+-- ---- what waits then
+
+pub returns-in-Err-clause-stirred : goal.returns-in-Err-clause-stirred
+returns-in-Err-clause-stirred g c = λ i. record (work_of c.args.self.now) { search = c.in-Err.ensures.err i }
+
+pub returns-in-Ok-state_sides-clause-stirred : goal.returns-in-Ok-state_sides-clause-stirred
+returns-in-Ok-state_sides-clause-stirred g c =
+    let s = c.args.self.now in
+    let new = c.declare.new.self in
+    let d = s.network.cells in
+    let work = c.requires.sound.at_work in
+    let made : new ≡ declared s.search c.args.choice.now (length c.args.infos.now) = c.in-Ok.ensures.ok in
+    let same = declared_beliefs (stored_of g.R.Rule.value_of s.network.library) s.search new c.args.choice.now (length c.args.infos.now) d work.under_way.kept work.known made in
+    let line = stirred_from (set_of s.search.worldview) (set_of new.worldview) (set_of new.worldview) d c.state_sides.new.network.cells s.agenda.line c.state_sides.new.agenda.line same (rw c.worldview.ensures.same at c.in-Ok-state_sides.ensures.stirred) in
+    record {
+      list_is = ap (λ (t : Stand). t.list) made;
+      order = refl;
+      line = rw (believes_same s.search work.well_made, believes_same new c.worldview.ensures.stand) at line;
+    }
+
+pub returns-in-Err-state_sides-clause-stirred : goal.returns-in-Err-state_sides-clause-stirred
+returns-in-Err-state_sides-clause-stirred g c =
+    let s = c.args.self.now in
+    let undone = c.undeclare.ensures.undoes s.search c.args.choice.now c.requires.sound.at_work.well_made (c.in-Ok.ensures.ok ∙ (λ i. declared s.search c.args.choice.now (sym c.in-Ok.ensures.choice.1 i))) in
+    λ i. record (work_of s) { search = undone i; cells = c.in-Err-state_sides.ensures.err_same i; line = (c.in-Err-state_sides.ensures.err_line i).line }

@@ -1,13 +1,12 @@
 use Rattle.std.proofs.Common.{◌≡◌, ◌≤◌, ◌∙◌, [], ap, sym}
 use Rattle.std.proofs.lemmas.Bool.{false≢true}
 use Rattle.prop_engine.specs.Answers.{answer_of}
-use Rattle.prop_procedures.specs.Kept.{stored_of, related_of}
+use Rattle.prop_procedures.specs.Kept.{stored_of}
 use Rattle.prop_workbench.specs.Machine.{State, naming}
-use Rattle.prop_workbench.specs.Sessions.{state_from, state_of, shown_of, work_of, steps_of}
+use Rattle.prop_workbench.specs.Sessions.{state_of, shown_of, work_of, steps_of}
 use Rattle.prop_workbench.proofs.EarnedLemmas.{earns_none}
 use Rattle.prop_workbench.proofs.LineLemmas.{covers_none, still_lacking, step_of_read, lean_after}
 use Rattle.prop_workbench.proofs.StepLemmas.{lacking_same, steps_within}
-use Rattle.prop_workbench.proofs.PointLemmas.{step_holds_points}
 use Rattle.prop_workbench.proofs.session.Session.command.Goals as goal
 
 pub returns-then-is_memory-clause-step : goal.returns-then-is_memory-clause-step
@@ -24,22 +23,6 @@ returns-clause-step g c =
     let s = c.args.self.now in
     let read = c.follow-reply.ensures.read in
     step_of_read (stored_of g.R.Rule.value_of s.network.library) (shown_of s) (shown_of c.follow-reply.new.self) c.args.line.now read.0 (answer_of c.follow-reply.result.0) c.follow-reply.result.1 read.1 read.2.step
-
-pub returns-then-is_memory-clause-points : goal.returns-then-is_memory-clause-points
-returns-then-is_memory-clause-points g c =
-    let s = c.args.self.now in
-    let read = c.follow-reply.ensures.read in
-    let work = c.requires.sound.in_order.at_work in
-    λ sound. step_holds_points (stored_of g.R.Rule.value_of s.network.library) (related_of g.R.Rule.related s.network.library) sound (state_from s.names s.words s.definitions s.search.premises s.network.cells s.limit)
-    (record { fitting = work.under_way.kept.fits; within = work.under_way.kept.made.within }) work.well_made.numbered c.args.line.now _ _ _ (read.0, read.1, (read.2.step [] (covers_none (shown_of s))).step)
-
-pub returns-clause-points : goal.returns-clause-points
-returns-clause-points g c =
-    let s = c.args.self.now in
-    let read = c.follow-reply.ensures.read in
-    let work = c.requires.sound.in_order.at_work in
-    λ sound. step_holds_points (stored_of g.R.Rule.value_of s.network.library) (related_of g.R.Rule.related s.network.library) sound (state_from s.names s.words s.definitions s.search.premises s.network.cells s.limit)
-    (record { fitting = work.under_way.kept.fits; within = work.under_way.kept.made.within }) work.well_made.numbered c.args.line.now _ _ _ (read.0, read.1, (read.2.step [] (covers_none (shown_of s))).step)
 
 pub returns-then-is_memory-clause-sound : goal.returns-then-is_memory-clause-sound
 returns-then-is_memory-clause-sound g c =
@@ -72,6 +55,16 @@ pub returns-clause-earned : goal.returns-clause-earned
 returns-clause-earned g c =
     let read = c.follow-reply.ensures.read in
     (read.0, read.1, read.2.rests.earned)
+
+pub returns-then-is_memory-clause-wakes : goal.returns-then-is_memory-clause-wakes
+returns-then-is_memory-clause-wakes g c =
+    let read = c.follow-reply.ensures.read in
+    (read.0, read.1, read.2.rests.wakes)
+
+pub returns-clause-wakes : goal.returns-clause-wakes
+returns-clause-wakes g c =
+    let read = c.follow-reply.ensures.read in
+    (read.0, read.1, read.2.rests.wakes)
 
 pub returns-then-is_memory-clause-lean : goal.returns-then-is_memory-clause-lean
 returns-then-is_memory-clause-lean g c =

@@ -1,8 +1,11 @@
-use Rattle.std.proofs.Common.{◌∙◌, ap}
+use Rattle.std.proofs.Common.{◌≡◌, ◌∙◌, ap, subst}
 use Rattle.prop_procedures.specs.Kept.{stored_of}
+use Rattle.prop_amb.specs.declared.outcome.Outcome.TheVariants.{Unsettled}
 use Rattle.prop_language.specs.Commands as commands
+use Rattle.prop_engine.specs.Answers.{answer_of}
 use Rattle.prop_workbench.specs.Machine.{State}
 use Rattle.prop_workbench.specs.Questions.{outcome_of}
+use Rattle.prop_workbench.specs.inner.Questions.{SaysSoFar}
 use Rattle.prop_workbench.specs.Sessions.{state_of, shown_of, work_of}
 use Rattle.prop_workbench.proofs.AskLemmas.{free_core}
 use Rattle.prop_workbench.proofs.AnsweredLemmas.{memory_answered}
@@ -34,6 +37,7 @@ returns-in-Ok g c =
     let then = c.core_reply.ensures.keeps in
     let state = c.run_network.ensures.state in
     let outcome = outcome_of t.search.list c.in-Ok.end in
+    let believed = subst (λ (v : State). c.in-Ok.end ≡ Unsettled → SaysSoFar v (work_of t) (commands.Command.Core name) (answer_of c.core_reply.result.0)) state in
     record {
       keeps = keeps_then g.R.Rule.value_of s t u kept then;
       step = run_obeyed library (shown_of s) (shown_of u) (commands.Command.Core name) outcome _ c.core_reply.result.1 (λ library v w answer steps r. r)
@@ -42,10 +46,11 @@ returns-in-Ok g c =
           (rw (ap (λ (v : State). v.limit) state) at c.core_reply.ensures.within);
       rests = record {
         lean = tt;
-        earned = earns_core g.O.Order.picks library (state_of s) (work_of s) (work_of t) (work_of u) name c.in-Ok.end c.in-Ok.steps c.core_reply.result.1 _ c.in-Ok.ensures.gone c.in-Ok.ensures.left
+        wakes = tt;
+        earned = earns_core g.O.Order.picks library (state_of s) (work_of s) (work_of t) (work_of u) name c.in-Ok.end c.in-Ok.steps c.core_reply.result.1 _ c.in-Ok.ensures.gone c.in-Ok.ensures.left (believed c.core_reply.ensures.believed) c.in-Ok.ensures.blamed
             (rw (kept.library, state) at c.core_reply.ensures.tried) c.core_reply.ensures.untried (rw (kept.library, state) at c.core_reply.ensures.says);
       };
     }
 
 pub returns-in-Err : goal.returns-in-Err
-returns-in-Err g c = memory_answered g.O.Order.picks g.R.Rule.value_of c.args.self.now c.run_network.new.self (commands.Command.Core c.args.name.now) c.run_network.ensures.keeps c.run_network.ensures.state
+returns-in-Err g c = memory_answered g.O.Order.picks g.R.Rule.value_of c.args.self.now c.run_network.new.self (commands.Command.Core c.args.name.now) c.run_network.ensures.keeps c.run_network.ensures.state tt

@@ -78,3 +78,12 @@ returns-in-Unsettled-clause-tried g c = λ e. let f : ended.Unsettled ≡ ended.
 
 pub returns-in-Unsettled-clause-untried : goal.returns-in-Unsettled-clause-untried
 returns-in-Unsettled-clause-untried g c = λ other. (refl, refl)
+
+pub returns-in-Settled-clause-believed : goal.returns-in-Settled-clause-believed
+returns-in-Settled-clause-believed g c = λ e. let f : ended.Settled ≡ ended.Unsettled = sym c.in-Settled.is ∙ e in cc
+
+pub returns-in-Contradiction-clause-believed : goal.returns-in-Contradiction-clause-believed
+returns-in-Contradiction-clause-believed g c = λ e. let f : ended.Contradiction c.in-Contradiction.premises ≡ ended.Unsettled = sym c.in-Contradiction.is ∙ e in cc
+
+pub returns-in-Unsettled-clause-believed : goal.returns-in-Unsettled-clause-believed
+returns-in-Unsettled-clause-believed g c = λ e. c.unsettled.ensures.believed

@@ -5,6 +5,7 @@ use Rattle.prop_workbench.specs.Machine.{naming}
 use Rattle.prop_workbench.specs.Sessions.{state_of, shown_of, work_of}
 use Rattle.prop_workbench.proofs.CoveringLemmas.{refused_followed}
 use Rattle.prop_workbench.proofs.AnsweredLemmas.{refusal_rests}
+use Rattle.prop_workbench.proofs.WakingLemmas.{wakes_refused}
 use Rattle.prop_workbench.proofs.SoundLemmas.{stays, unchanged}
 use Rattle.prop_workbench.proofs.HeardLemmas.{follows_refused}
 use Rattle.prop_workbench.proofs.WordLemmas.{has_elements}
@@ -19,7 +20,7 @@ returns-in-Err-clause-read g c =
       refused.1,
       record {
         step = refused_followed library (shown_of s) (shown_of s) refused.0 (Refused c.in-Err.refusal) 0 (λ m covered. covered) (λ named. refused.2 library (naming (state_of s) named));
-        rests = refusal_rests g.O.Order.picks library (state_of s) (work_of s) (work_of s) refused.0 c.in-Err.refusal 0;
+        rests = refusal_rests g.O.Order.picks library (state_of s) (state_of s) (work_of s) (work_of s) refused.0 c.in-Err.refusal 0 (wakes_refused (state_of s) (state_of s) (work_of s) refused.0 c.in-Err.refusal);
       },
     )
 

@@ -10,7 +10,7 @@ use Rattle.prop_cells.specs.Forgetting.{forgotten}
 use Rattle.prop_cells.proofs.ForgettingLaws.{forgets_data}
 use Rattle.prop_amb.specs.Search.{Stand}
 use Rattle.prop_amb.specs.Moving.{restarted}
-use Rattle.prop_workbench.specs.Sessions.{state_of, state_from, shown_of}
+use Rattle.prop_workbench.specs.Sessions.{state_of, state_from, shown_of, work_of}
 use Rattle.prop_workbench.proofs.BeliefLemmas.{found_free}
 use Rattle.prop_workbench.proofs.StandingLemmas.{forgotten_at_work}
 use Rattle.prop_workbench.proofs.ForgettingLemmas.{forget_obeyed, forget_refused, missing_from}
@@ -73,3 +73,22 @@ returns-in_err-forget-clause-step g c =
     let s = c.args.self.now in
     let told = err_from_is_err_and c.from_residual-in_err-forget.result c.from_residual-in_err-forget.ensures.1 in
     rw c.in_err-forget.ensures.err (forget_refused (stored_of g.R.Rule.value_of s.network.library) (shown_of s) c.args.name.now c.from_residual-in_err-forget.result Memory (told.1 ∙ ap Err told.2) (inr refl))
+
+-- ---- what waits then
+
+pub returns-clause-wakes : goal.returns-clause-wakes
+returns-clause-wakes g c =
+    let s = c.args.self.now in
+    let new = c.forget.new.self in
+    let made : new ≡ record (restarted s.search) { listed = lacking s.search.listed c.in_ok-premise.premise; worldview = new.worldview } = c.in_ok-forget.ensures.ok in
+    (ap (λ (t : Stand). t.list) made, refl)
+
+pub returns-in_err-premise-clause-wakes : goal.returns-in_err-premise-clause-wakes
+returns-in_err-premise-clause-wakes g c =
+    let told = err_from_is_err_and c.from_residual.result c.from_residual.ensures.1 in
+    rw (told.1 ∙ ap Err told.2) refl
+
+pub returns-in_err-forget-clause-wakes : goal.returns-in_err-forget-clause-wakes
+returns-in_err-forget-clause-wakes g c =
+    let told = err_from_is_err_and c.from_residual-in_err-forget.result c.from_residual-in_err-forget.ensures.1 in
+    rw (told.1 ∙ ap Err told.2) (λ i. record (work_of c.args.self.now) { search = c.in_err-forget.ensures.err i })

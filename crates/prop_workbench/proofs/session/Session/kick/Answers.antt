@@ -1,12 +1,18 @@
-use Rattle.std.proofs.Common.{◌≡◌, ◌∙◌, true, false, refl, sym, ap}
+use Rattle.std.proofs.Common.{◌≡◌, ◌∙◌, Some, Err, true, false, refl, sym, ap}
 use Rattle.std.specs.Prelude.{is_some}
 use Rattle.prop_procedures.specs.Kept.{stored_of}
-use Rattle.prop_premises.specs.Origins.{is_choice, with_belief_at}
+use Rattle.prop_premises.specs.Origins.{premise_number, is_choice, with_belief_at}
 use Rattle.prop_amb.specs.Search.{Stand, users_of}
 use Rattle.prop_amb.specs.Moving.{restarted}
 use Rattle.prop_cells.specs.Data.{problem_of}
 use Rattle.prop_workbench.proofs.BeliefLemmas.{found_free}
 use Rattle.prop_workbench.proofs.StandingLemmas.{believing_keeps, same_keeps, same_done}
+use Rattle.std.proofs.lemmas.Result.{err_from_is_err_and}
+use Rattle.prop_premises.specs.Sets.{set_of}
+use Rattle.prop_scheduler.proofs.Behind.{touched_stirred}
+use Rattle.prop_workbench.specs.Sessions.{state_of, work_of}
+use Rattle.prop_workbench.proofs.AskLemmas.{believes_same}
+use Rattle.prop_workbench.proofs.WakingLemmas.{still_stirred}
 use Rattle.prop_workbench.proofs.session.Session.kick.Goals as goal
 
 -- ---- the premise was believed
@@ -44,3 +50,37 @@ returns-in_default-clause-step g c =
 
 pub returns-in_err-before-clause-keeps : goal.returns-in_err-before-clause-keeps
 returns-in_err-before-clause-keeps g c = same_keeps g.R.Rule.value_of c.args.self.now c.kick.new.self c.requires.sound c.in_err-before.ensures.err
+
+-- ---- what waits then
+
+pub returns-clause-wakes : goal.returns-clause-wakes
+returns-clause-wakes g c =
+    let s = c.args.self.now in
+    let p = c.in_ok-premise.premise in
+    let d = s.network.cells in
+    let new = c.kick.new.self in
+    let was : users_of s.search p ≡ true = sym c.in_ok-before.ensures.was ∙ ap is_some c.in-Some.is in
+    let made : new ≡ record (restarted s.search) { premises = with_belief_at s.search.premises p false; worldview = new.worldview } = c.in_ok-before.ensures.kicked was in
+    let found : premise_number s.search.premises c.args.name.now ≡ Some p = rw c.premises.ensures at c.in_ok-premise.ensures.found in
+    let before : c.in-Some.before ≡ s.search.worldview = rw c.in-Some.is at c.in_ok-before.ensures.before in
+    let stirred = touched_stirred (set_of c.in-Some.before) (set_of c.worldview.result.now) d d s.agenda.line c.alert_shifted.new.agenda.line c.alert_shifted.ensures.shifted.behind in
+    let line = rw (before, c.worldview.ensures.same, believes_same s.search c.requires.sound.at_work.well_made, believes_same new c.worldview.ensures.stand) at stirred in
+    rw (found, was) record { list_is = ap (λ (t : Stand). t.list) made; order = refl; line = line }
+
+pub returns-in_default-clause-wakes : goal.returns-in_default-clause-wakes
+returns-in_default-clause-wakes g c =
+    let s = c.args.self.now in
+    let p = c.in_ok-premise.premise in
+    let was : users_of s.search p ≡ false = sym c.in_ok-before.ensures.was ∙ ap is_some c.in_default.is in
+    let found : premise_number s.search.premises c.args.name.now ≡ Some p = rw c.premises.ensures at c.in_ok-premise.ensures.found in
+    rw (found, was, (c.kick.ensures.out was).1) (still_stirred (state_of s) (state_of s) (work_of s))
+
+pub returns-in_err-before-clause-wakes : goal.returns-in_err-before-clause-wakes
+returns-in_err-before-clause-wakes g c =
+    let told = err_from_is_err_and c.from_residual-in_err-before.result c.from_residual-in_err-before.ensures.1 in
+    rw (told.1 ∙ ap Err told.2) (λ i. record (work_of c.args.self.now) { search = c.in_err-before.ensures.err i })
+
+pub returns-in_err-premise-clause-wakes : goal.returns-in_err-premise-clause-wakes
+returns-in_err-premise-clause-wakes g c =
+    let told = err_from_is_err_and c.from_residual.result c.from_residual.ensures.1 in
+    rw (told.1 ∙ ap Err told.2) refl

@@ -5,9 +5,10 @@ use Rattle.prop_premises.specs.Origins.{choices_of}
 use Rattle.prop_amb.specs.Refuted.{IsNogood}
 use Rattle.prop_procedures.specs.Kept.{stored_of}
 use Rattle.prop_cells.specs.Data.{problem_of}
-use Rattle.prop_workbench.specs.Sessions.{shown_of}
+use Rattle.prop_workbench.specs.Sessions.{state_of, shown_of, work_of}
 use Rattle.prop_workbench.proofs.AskLemmas.{nogood_known}
 use Rattle.prop_workbench.proofs.RunLemmas.{nogoods_obeyed}
+use Rattle.prop_workbench.proofs.WakingLemmas.{wakes_nogoods}
 use Rattle.prop_workbench.proofs.SoundLemmas.{unchanged}
 use Rattle.prop_workbench.proofs.session.Session.nogoods.Goals as goal
 
@@ -27,5 +28,5 @@ returns g c =
       keeps = unchanged c.requires.sound;
       step = nogoods_obeyed (stored_of g.R.Rule.value_of s.network.library) (shown_of s) _
           (rw c.nogoods.ensures at c.nogoods_reply.ensures.in_order) c.requires.sound.at_work.search.nogoods c.requires.sound.at_work.well_made.minimal (rw (c.nogoods.ensures, c.premises.ensures) at c.nogoods_reply.ensures.says);
-      rests = record { lean = tt; earned = tt };
+      rests = record { lean = tt; earned = tt; wakes = wakes_nogoods (state_of s) (work_of s) _ };
     }

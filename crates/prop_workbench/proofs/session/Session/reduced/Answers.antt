@@ -65,7 +65,7 @@ returns-in-Ok-clause-says g c =
     let rest = subst (λ (b : Members). IsSettled library b s.network.cells) believed c.requires.rest in
     let state : state_of (record s { network = c.reduce-ended.new.network }) ≡ state_of s = ap (λ (d : Data). state_from s.names s.words s.definitions s.search.premises d s.limit) c.reduce-ended.ensures.rest in
     may_core library (state_of s) s.search.list name c.args.cell core answer (c.args.steps + c.in-Ok.tries) c.requires.named
-    (settled_core library s.names s.words s.definitions s.search.premises s.network.cells s.limit s.search.list (set_of s.search.worldview) c.args.cell core believed rest (rw c.worldview.ensures.same at c.in-Ok.ensures.explains))
+    (settled_core library s.names s.words s.definitions s.search.premises s.network.cells s.limit s.search.list (set_of s.search.worldview) c.args.cell core c.requires.sound.at_work.under_way.kept believed rest (rw c.worldview.ensures.same at c.in-Ok.ensures.explains))
     c.in-Ok.ensures.least (used_up core c.args.steps c.in-Ok.tries s.limit c.requires.within c.in-Ok.ensures.spent)
     (too_few library (state_of s) (set_of c.worldview.result.now) c.args.cell core c.args.steps c.requires.sound.at_work.known c.requires.within c.requires.few c.in-Ok.ensures.earned)
     (subst (λ (t : State). IfLeast core (λ v ps. SaysBecause t c.args.cell name [] v ps answer)) state c.core_text.ensures.least)
@@ -80,7 +80,7 @@ returns-in-Ok-clause-tried g c =
     let e = c.in-Ok.ensures in
     let believed = believes_same s.search c.requires.sound.at_work.well_made in
     let tries = rw (c.worldview.ensures.same, believed) at e.tries.1 in
-    λ text is. (c.in-Ok.tries, refl, record { list = refl; line = e.tries.0; tries = tries; all_wait = c.reduce-ended.ensures.all })
+    λ text is. (c.in-Ok.tries, refl, record { search = refl; line = e.tries.0; tries = tries; all_wait = c.reduce-ended.ensures.all })
 
 pub returns-in-Err-clause-keeps : goal.returns-in-Err-clause-keeps
 returns-in-Err-clause-keeps g c =

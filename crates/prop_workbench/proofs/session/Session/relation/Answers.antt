@@ -4,11 +4,12 @@ use Rattle.prop_language.specs.Commands as commands
 use Rattle.prop_language.specs.Said.{pairs_of}
 use Rattle.prop_procedures.specs.Kept.{stored_of}
 use Rattle.prop_vocabulary.specs.Vocabulary.{Vocabulary, with_relation}
-use Rattle.prop_workbench.specs.Sessions.{state_of}
+use Rattle.prop_workbench.specs.Sessions.{state_of, work_of}
 use Rattle.prop_compound.specs.Kinds.{IsSized, AreLocalsOf}
 use Rattle.prop_workbench.proofs.SoundLemmas.{made_or_not}
 use Rattle.prop_workbench.proofs.StepLemmas.{obeys_done}
 use Rattle.prop_workbench.proofs.WordLemmas.{sized_same, locals_same}
+use Rattle.prop_workbench.proofs.WakingLemmas.{left_by, still_stirred}
 use Rattle.prop_workbench.proofs.session.Session.relation.Goals as goal
 
 pub returns-clause-keeps : goal.returns-clause-keeps
@@ -35,3 +36,9 @@ returns-clause-step g c =
     obeys_done (stored_of g.R.Rule.value_of s.network.library) (state_of s) _ (commands.Command.Relation c.args.name.now c.args.from.now c.args.to.now (pairs_of c.args.pairs.now)) c.declare_relation.result c.declare_relation.ensures.allowed
     (on_ok_weaker c.declare_relation.result (λ e. record { answer_is = refl; new_is = λ i. record (state_of s) { words = e i }; no_steps = refl }) c.declare_relation.ensures.ok) c.declare_relation.ensures.why
     (on_err_weaker c.declare_relation.result (λ e i. record (state_of s) { words = e i }) c.declare_relation.ensures.err)
+
+pub returns-clause-wakes : goal.returns-clause-wakes
+returns-clause-wakes g c =
+    let s = c.args.self.now in
+    let new = record s { words = c.declare_relation.new.self } in
+    left_by s new (commands.Command.Relation c.args.name.now c.args.from.now c.args.to.now (pairs_of c.args.pairs.now)) c.declare_relation.result (still_stirred (state_of s) (state_of new) (work_of s)) (λ e. refl)

@@ -1,3 +1,5 @@
+use Rattle.std.proofs.Common.{◌≡◌, ◌∙◌, sym}
+use Rattle.prop_amb.specs.declared.outcome.Outcome.TheVariants as ended
 use Rattle.prop_premises.specs.Sets.{set_of}
 use Rattle.prop_procedures.specs.Kept.{stored_of}
 use Rattle.prop_workbench.specs.inner.Questions.{command_of}
@@ -44,3 +46,12 @@ returns-in-Unsettled-clause-says g c = rw (c.requires.run.spent c.in-Unsettled.i
 
 pub returns-in-Unsettled-clause-lean : goal.returns-in-Unsettled-clause-lean
 returns-in-Unsettled-clause-lean g c = c.unsettled.ensures.lean
+
+pub returns-in-Settled-clause-believed : goal.returns-in-Settled-clause-believed
+returns-in-Settled-clause-believed g c = λ e. let f : ended.Settled ≡ ended.Unsettled = sym c.in-Settled.is ∙ e in cc
+
+pub returns-in-Contradiction-clause-believed : goal.returns-in-Contradiction-clause-believed
+returns-in-Contradiction-clause-believed g c = λ e. let f : ended.Contradiction c.in-Contradiction.premises ≡ ended.Unsettled = sym c.in-Contradiction.is ∙ e in cc
+
+pub returns-in-Unsettled-clause-believed : goal.returns-in-Unsettled-clause-believed
+returns-in-Unsettled-clause-believed g c = λ e. c.unsettled.ensures.believed

@@ -1,4 +1,5 @@
 use Rattle.std.proofs.Common.{◌≡◌, ◌<◌, Ok, Err, refl, sym, length}
+use Rattle.prop_lattice.specs.declared.refusal.Refusal.TheVariants.{NoSuchCell, IsAChoice}
 use Rattle.prop_procedures.specs.Kept.{stored_of}
 use Rattle.prop_procedures.specs.Stored.{span_kind}
 use Rattle.prop_procedures.specs.Fitting.{kind_at}
@@ -11,6 +12,7 @@ use Rattle.prop_vocabulary.proofs.CellLookups.{of_named}
 use Rattle.prop_vocabulary.specs.Texts.{elements_of_kind}
 use Rattle.prop_workbench.proofs.StepLemmas.{refuses}
 use Rattle.prop_workbench.proofs.ValueLemmas.{value_refused, value_may_be}
+use Rattle.prop_workbench.proofs.WakingLemmas.{left_stating}
 use Rattle.prop_workbench.proofs.session.Session.say.Goals as goal
 
 pub returns-in-Err-clause-step : goal.returns-in-Err-clause-step
@@ -31,3 +33,23 @@ state_meant-requires-clause-may g c =
     let few = rw (← kind) at c.in-Ok.ensures.few in
     value_may_be (kind_at s.network.cells.kinds c.in-Some.cell) (elements_of_kind s.words (kind_at s.network.cells.kinds c.in-Some.cell).kind) (value_of c.args.value.now) (meant_of c.in-Ok.meant)
     (c.requires.sound.sized c.in-Some.cell span_kind below).1 few said
+
+pub returns-in-None-clause-wakes : goal.returns-in-None-clause-wakes
+returns-in-None-clause-wakes g c =
+    let s = c.args.self.now in
+    left_stating s s (name_of c.args.premise) c.args.name.now (value_of c.args.value.now) (Err NoSuchCell) refl
+
+pub returns-in-Err-clause-wakes : goal.returns-in-Err-clause-wakes
+returns-in-Err-clause-wakes g c =
+    let s = c.args.self.now in
+    left_stating s s (name_of c.args.premise) c.args.name.now (value_of c.args.value.now) (Err c.in-Err.refusal) refl
+
+pub returns-then-is_choice-clause-wakes : goal.returns-then-is_choice-clause-wakes
+returns-then-is_choice-clause-wakes g c =
+    let s = c.args.self.now in
+    left_stating s s (name_of c.args.premise) c.args.name.now (value_of c.args.value.now) (Err IsAChoice) refl
+
+pub returns-clause-wakes : goal.returns-clause-wakes
+returns-clause-wakes g c =
+    let s = c.args.self.now in
+    left_stating s c.state_meant.new.self (name_of c.args.premise) c.args.name.now (value_of c.args.value.now) c.state_meant.result c.state_meant.ensures.stirred

@@ -1,7 +1,10 @@
-use Rattle.std.proofs.Common.{◌≡◌, refl}
+use Rattle.std.proofs.Common.{◌≡◌, ◌∙◌, Err, refl, ap}
+use Rattle.std.proofs.lemmas.Result.{err_from_is_err_and}
 use Rattle.prop_procedures.specs.Kept.{stored_of}
 use Rattle.prop_cells.specs.declared.instance.Statement.{Statement}
 use Rattle.prop_workbench.proofs.StandingLemmas.{stated_at_work, stated_kinds}
+use Rattle.prop_workbench.proofs.AskLemmas.{believes_same}
+use Rattle.prop_workbench.specs.Sessions.{work_of}
 use Rattle.prop_workbench.proofs.session.Session.state.Goals as goal
 
 pub state-requires-clause-under_way : goal.state-requires-clause-under_way
@@ -43,3 +46,14 @@ returns-in_err-state-clause-keeps g c =
       steps = refl;
       covers = λ m h. h;
     }
+
+pub returns-clause-stirred : goal.returns-clause-stirred
+returns-clause-stirred g c =
+    let s = c.args.self.now in
+    record { list_is = refl; order = refl; line = rw (c.worldview.ensures.same, believes_same s.search c.requires.sound.at_work.well_made) at c.in_ok-state.ensures.stirred }
+
+pub returns-in_err-state-clause-stirred : goal.returns-in_err-state-clause-stirred
+returns-in_err-state-clause-stirred g c =
+    let s = c.args.self.now in
+    let told = err_from_is_err_and c.from_residual.result c.from_residual.ensures.1 in
+    rw (told.1 ∙ ap Err told.2) (λ i. record (work_of s) { cells = c.in_err-state.ensures.err_same i; line = (c.in_err-state.ensures.err_line i).line })

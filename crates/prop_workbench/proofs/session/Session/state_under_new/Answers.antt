@@ -1,9 +1,14 @@
-use Rattle.std.proofs.Common.{◌≡◌, Some, refl}
+use Rattle.std.proofs.Common.{◌≡◌, ◌∙◌, Some, refl, ap}
+use Rattle.prop_premises.specs.Sets.{set_of}
 use Rattle.prop_procedures.specs.Kept.{stored_of}
 use Rattle.prop_cells.specs.declared.instance.Statement.{Statement}
 use Rattle.prop_cells.specs.Data.{problem_of}
 use Rattle.prop_amb.specs.Moving.{interned}
-use Rattle.prop_workbench.proofs.StandingLemmas.{named_at_work, named_covers, new_number, stated_at_work, stated_kinds, back_keeps, same_keeps}
+use Rattle.prop_workbench.proofs.StandingLemmas.{named_at_work, named_covers, new_number, new_stand, stated_at_work, stated_kinds, back_keeps, same_keeps}
+use Rattle.prop_amb.specs.Search.{Stand}
+use Rattle.prop_workbench.specs.Sessions.{work_of}
+use Rattle.prop_workbench.proofs.AskLemmas.{believes_same}
+use Rattle.prop_workbench.proofs.WakingLemmas.{stirred_from, named_beliefs}
 use Rattle.prop_workbench.proofs.session.Session.state_under_new.Goals as goal
 
 -- ---- the name is refused
@@ -59,3 +64,29 @@ returns-in-Err-state-clause-keeps g c =
     let s = c.args.self.now in
     back_keeps g.R.Rule.value_of s (record s { network = c.state.new.network; agenda = c.state.new.agenda }) c.take_back.new.self c.requires.sound
     (c.take_back.ensures.undoes s.search c.args.name.now c.requires.sound.at_work.well_made c.requires.new c.in-Ok.ensures.ok) c.state.ensures.same c.in-Err-state.ensures.err_same c.in-Err-state.ensures.err_line
+
+-- ---- what waits then
+
+pub returns-in-Err-clause-stirred : goal.returns-in-Err-clause-stirred
+returns-in-Err-clause-stirred g c = λ i. record (work_of c.args.self.now) { search = c.in-Err.ensures.err i }
+
+pub returns-in-Ok-state-clause-stirred : goal.returns-in-Ok-state-clause-stirred
+returns-in-Ok-state-clause-stirred g c =
+    let s = c.args.self.now in
+    let new = c.intern.new.self in
+    let d = s.network.cells in
+    let work = c.requires.sound.at_work in
+    let made : new ≡ interned s.search c.args.name.now = c.in-Ok.ensures.ok in
+    let same = named_beliefs (stored_of g.R.Rule.value_of s.network.library) s.search new c.args.name.now d work.under_way.kept work.known c.requires.new made in
+    let line = stirred_from (set_of s.search.worldview) (set_of new.worldview) (set_of new.worldview) d c.state.new.network.cells s.agenda.line c.state.new.agenda.line same (rw c.worldview.ensures.same at c.in-Ok-state.ensures.stirred) in
+    record {
+      list_is = ap (λ (t : Stand). t.list) (made ∙ new_stand s.search c.args.name.now c.requires.new);
+      order = refl;
+      line = rw (believes_same s.search work.well_made, believes_same new c.worldview.ensures.stand) at line;
+    }
+
+pub returns-in-Err-state-clause-stirred : goal.returns-in-Err-state-clause-stirred
+returns-in-Err-state-clause-stirred g c =
+    let s = c.args.self.now in
+    let undone = c.take_back.ensures.undoes s.search c.args.name.now c.requires.sound.at_work.well_made c.requires.new c.in-Ok.ensures.ok in
+    λ i. record (work_of s) { search = undone i; cells = c.in-Err-state.ensures.err_same i; line = (c.in-Err-state.ensures.err_line i).line }

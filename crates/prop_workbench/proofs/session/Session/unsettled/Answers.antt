@@ -1,13 +1,16 @@
-use Rattle.std.proofs.Common.{◌≡◌, codes, refl, inl, inr, Some}
-use Rattle.prop_premises.specs.Sets.{set_of}
+use Rattle.std.proofs.Common.{◌≡◌, ◌∙◌, List, ℕ, codes, refl, ap, inl, inr, Some}
+use Rattle.prop_lattice.specs.declared.info.Info.{Info}
+use Rattle.prop_premises.specs.Sets.{Members, set_of}
 use Rattle.prop_procedures.specs.Kept.{stored_of}
 use Rattle.prop_cells.specs.Data.{beliefs}
 use Rattle.prop_language.specs.Commands as commands
 use Rattle.prop_vocabulary.specs.Cells.{cell_named}
+use Rattle.prop_texts.specs.Texts.{equation, because}
+use Rattle.prop_workbench.specs.Machine.{text_at}
 use Rattle.prop_workbench.specs.Running.{Unsettled}
-use Rattle.prop_workbench.specs.Sessions.{state_of}
-use Rattle.prop_workbench.proofs.AskLemmas.{may_say_unsettled, may_say_value, may_explain, cell_there, unsettled_in, explained_in}
-use Rattle.prop_workbench.proofs.ReasonLemmas.{lean_answer, lean_bare}
+use Rattle.prop_workbench.specs.Sessions.{state_of, work_of}
+use Rattle.prop_workbench.proofs.AskLemmas.{believes_same, may_say_unsettled, may_say_value, may_explain, cell_there, unsettled_in, explained_in}
+use Rattle.prop_workbench.proofs.ReasonLemmas.{the_text, lean_answer, lean_bare, so_far_bare}
 use Rattle.prop_workbench.proofs.session.Session.unsettled.Goals as goal
 
 pub belief-requires-clause-cell : goal.belief-requires-clause-cell
@@ -62,3 +65,26 @@ pub returns-in-Why-clause-lean : goal.returns-in-Why-clause-lean
 returns-in-Why-clause-lean g c =
     let named : cell_named c.args.self.now.names c.in-Why.name.now ≡ Some c.in-Why.cell = rw c.in-Why.is at c.requires.named in
     rw c.in-Why.is (lean_answer _ _ _ _ _ (λ text e. inl (c.in-Why.cell, named, inr (c.explained.ensures.lean text e))))
+
+pub returns-in-Settle-clause-believed : goal.returns-in-Settle-clause-believed
+returns-in-Settle-clause-believed g c = so_far_bare (state_of c.args.self.now) (work_of c.args.self.now) c.args.question _ c.in-Settle.is
+
+pub returns-in-Ask-clause-believed : goal.returns-in-Ask-clause-believed
+returns-in-Ask-clause-believed g c =
+    let s = c.args.self.now in
+    let cell = c.in-Ask.cell in
+    let name = c.in-Ask.name.now in
+    let named : cell_named s.names name ≡ Some cell = rw c.in-Ask.is at c.requires.named in
+    let says = λ (b : Members). equation name (text_at (state_of s) cell (beliefs b s.network.cells.contents cell)) (codes " unsettled") in
+    rw c.in-Ask.is (λ (text : List ℕ) is. (cell, named, the_text _ (says (set_of s.search.worldview)) text (rw c.belief.ensures at c.value_of.ensures) is ∙ ap says (believes_same s.search c.requires.sound.at_work.well_made)))
+
+pub returns-in-Why-clause-believed : goal.returns-in-Why-clause-believed
+returns-in-Why-clause-believed g c =
+    let s = c.args.self.now in
+    let cell = c.in-Why.cell in
+    let name = c.in-Why.name.now in
+    let named : cell_named s.names name ≡ Some cell = rw c.in-Why.is at c.requires.named in
+    rw c.in-Why.is (λ (text : List ℕ) is.
+    let lean = c.explained.ensures.lean text is in
+    let says = λ (b : Members). equation name (text_at (state_of s) cell (beliefs b s.network.cells.contents cell)) (because s.search.premises (codes " unsettled") lean.premises) in
+    (lean.premises, (cell, named, lean.text_is ∙ ap says (believes_same s.search c.requires.sound.at_work.well_made))))
