@@ -42,7 +42,7 @@ def deep():
     yield OnSmallStack(name, made.sent(*lines, "fix a 7", "ask b"), made.answered(len(lines) + 1, "b = 7"))
     # (cells take what memory is left)
     lines[-1:-1] = [f"cell c{n} span" for n in range(CELLS)]
-    for kilobytes in range(3_800, 5_000, 100):
+    for kilobytes in range(4_000, 5_000, 100):
         yield OnSmallStack(f"{name}, and {kilobytes} kB in all", made.sent(*lines), lambda output: wrong_where_refused(output, len(lines)), memory=kilobytes)
 
 
