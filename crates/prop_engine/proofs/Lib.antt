@@ -2,6 +2,7 @@ pub mod Io
 pub mod Lines
 pub mod Machines
 pub mod Runs
+pub mod Simulating
 pub mod Feeds
 pub mod Pieces
 pub mod Prefixes

@@ -19,17 +19,15 @@ use Rattle.prop_amb.specs.Going.{Work}
 use Rattle.prop_workbench.specs.Sessions.{state_of, shown_of, work_of, library_of, IsInOrder}
 use Rattle.prop_workbench.specs.inner.Sessions.{Keeps}
 use Rattle.prop_workbench.specs.inner.Carrying.{IsDone, HasLeft, IsAnswered, IsCarriedOut}
+use Rattle.prop_workbench.specs.laws.RefusalLaws.{lean_refused, earns_refused, wakes_refused}
 use Rattle.prop_workbench.proofs.CoveringLemmas.{IsStill, still_obeyed}
-use Rattle.prop_workbench.proofs.EarnedLemmas.{earns_refused}
-use Rattle.prop_workbench.proofs.ReasonLemmas.{lean_read_refused}
 use Rattle.prop_workbench.proofs.RunLemmas.{lacks_obeyed, refused_obeyed}
-use Rattle.prop_workbench.proofs.WakingLemmas.{wakes_refused}
 use Rattle.prop_workbench.proofs.SoundLemmas.{stays, unchanged}
 
 -- a refusal rests on nothing
 pub refusal_rests : {O : Type 0} (picks : Picks O) (library : List Stored) (s t : State) (old new : Work O) (read : Result (Option Command) Refusal) (refusal : Refusal) (steps : ℕ) → Wakes s t old new read (Refused refusal) → RestsOn picks library s t old new read (Refused refusal) steps
 refusal_rests picks library s t old new read refusal steps wakes = record {
-  lean = lean_read_refused (worldview_at s new.search.list) new.cells s read refusal;
+  lean = lean_refused (worldview_at s new.search.list) new.cells s read refusal;
   earned = earns_refused picks library s old new read refusal steps;
   wakes = wakes;
 }

@@ -1,5 +1,5 @@
 -- A text is earned by the calls that it counts.
-use Rattle.std.proofs.Common.{◌≡◌, ◌≢◌, ℕ, ◌+◌, List, Option, Some, None, Result, Ok, Err, inl, inr, refl, arith}
+use Rattle.std.proofs.Common.{◌≡◌, ◌≢◌, ℕ, ◌+◌, List, Option, Some, Result, Ok, inl, inr, refl, arith}
 use Rattle.prop_lattice.specs.declared.refusal.Refusal.{Refusal}
 use Rattle.prop_lattice.specs.declared.refusal.Refusal.TheVariants.{Memory}
 use Rattle.prop_procedures.specs.Stored.{Stored}
@@ -17,19 +17,9 @@ use Rattle.prop_workbench.specs.declared.asking.Question.TheVariants.{Settle, Wo
 use Rattle.prop_workbench.specs.Machine.{State}
 use Rattle.prop_workbench.specs.inner.Questions.{command_of, MaySay, SaysSoFar}
 use Rattle.prop_workbench.specs.Questions.{outcome_of, Picks, HasTried, Earns}
+use Rattle.prop_workbench.specs.laws.RefusalLaws.{earns_refused}
 
--- a refusal is no text
-pub earns_refused : {O : Type 0} (picks : Picks O) (library : List Stored) (s : State) (old new : Work O) (read : Result (Option Command) Refusal) (refusal : Refusal) (steps : ℕ) → Earns picks library s old new read (Refused refusal) steps
-earns_refused picks library s old new (Err e) refusal steps = tt
-earns_refused picks library s old new (Ok None) refusal steps = tt
-earns_refused picks library s old new (Ok (Some commands.Command.Settle)) refusal steps = tt
-earns_refused picks library s old new (Ok (Some (commands.Command.Ask x))) refusal steps = tt
-earns_refused picks library s old new (Ok (Some (commands.Command.Why x))) refusal steps = tt
-earns_refused picks library s old new (Ok (Some (commands.Command.Core x))) refusal steps = tt
-earns_refused picks library s old new (Ok (Some commands.Command.Worldview)) refusal steps = tt
-earns_refused picks library s old new (Ok (Some command)) refusal steps = tt
-
--- the same, where it is known that the answer is that memory was refused
+-- a refusal for want of memory is no text
 pub earns_none : {O : Type 0} (picks : Picks O) (library : List Stored) (s : State) (old new : Work O) (read : Result (Option Command) Refusal) (answer : Answer) (steps : ℕ) → answer ≡ Refused Memory → Earns picks library s old new read answer steps
 earns_none picks library s old new read answer steps e = rw e (earns_refused picks library s old new read Memory steps)
 

@@ -1,14 +1,12 @@
 -- What an answer names, from the text that was made for it.
-use Rattle.std.proofs.Common.{◌≡◌, ◌∙◌, ◌⊎◌, ℕ, List, Option, Some, None, Result, Ok, Err, inl, inr, refl, sym}
+use Rattle.std.proofs.Common.{◌≡◌, ◌∙◌, ◌⊎◌, ℕ, List, Some, Ok, inl, inr, refl, sym}
 use Rattle.prop_lattice.specs.declared.info.Info.{Info}
 use Rattle.prop_lattice.specs.declared.refusal.Refusal.TheVariants.{Memory}
 use Rattle.prop_premises.specs.Sets.{Members}
 use Rattle.prop_premises.specs.Origins.{Origin}
 use Rattle.prop_cells.specs.Data.{Data, beliefs, IsLeanAt}
 use Rattle.prop_vocabulary.specs.Vocabulary.{Vocabulary}
-use Rattle.prop_lattice.specs.declared.refusal.Refusal.{Refusal}
 use Rattle.prop_language.specs.Commands as commands
-use Rattle.prop_language.specs.Commands.{Command}
 use Rattle.prop_engine.specs.Answers.{Answer, Says, Silent, Done, Text, Refused}
 use Rattle.prop_workbench.specs.declared.asking.Question.{Question}
 use Rattle.prop_workbench.specs.declared.asking.Question.TheVariants.{Settle, Worldview, Ask, Why}
@@ -60,10 +58,3 @@ lean_bare believed d s question answer (inr e) = rw e tt
 pub so_far_bare : {O : Type 0} (s : State) (work : Work O) (question : Question) (answer : Answer) → (question ≡ Settle) ⊎ (question ≡ Worldview) → SaysSoFar s work (command_of question) answer
 so_far_bare s work question answer (inl e) = rw e (λ text is. tt)
 so_far_bare s work question answer (inr e) = rw e (λ text is. tt)
-
--- a refusal explains nothing
-pub lean_read_refused : (believed : Members) (d : Data) (s : State) (read : Result (Option Command) Refusal) (refusal : Refusal) → IsLeanAnswer believed d s read (Refused refusal)
-lean_read_refused believed d s (Err e) refusal = tt
-lean_read_refused believed d s (Ok None) refusal = tt
-lean_read_refused believed d s (Ok (Some (commands.Command.Why name))) refusal = tt
-lean_read_refused believed d s (Ok (Some command)) refusal = tt

@@ -1,5 +1,5 @@
 -- What a command that runs nothing leaves of the choices and of what waits.
-use Rattle.std.proofs.Common.{◌≡◌, ◌∙◌, ◌≤◌, ◌<◌, ◌⊎◌, ◌++◌, ◌∷◌, ℕ, List, [], Option, Some, None, Result, Ok, Err, OnOk, OnErr, length, refl, sym, ap, inl, inr}
+use Rattle.std.proofs.Common.{◌≡◌, ◌∙◌, ◌≤◌, ◌⊎◌, ◌++◌, ◌∷◌, ℕ, List, [], Option, Some, None, Result, Ok, Err, OnOk, OnErr, length, refl, ap, inl, inr}
 use Rattle.std.specs.Prelude.{⊤}
 use Rattle.prop_lattice.specs.declared.refusal.Refusal.{Refusal}
 use Rattle.prop_premises.specs.Sets.{set_of}
@@ -62,18 +62,7 @@ left_stating old new (Some premise) cell value r stirred = left_stirred old new 
 pub left_refused : {R O : Type 0} {X : Type 0} {F : X → Type 0} {g : _} (old new : Session R O X F g) (command : Command) (r : Result ⊤ Refusal) (e : Refusal) → r ≡ Err e → Wakes (state_of old) (state_of new) (work_of old) (work_of new) (Ok (Some command)) (Refused e) → HasLeft old command r new
 left_refused old new command r e is refused = rw is refused
 
--- a refusal leaves all as it was
-pub wakes_refused : {O : Type 0} (s t : State) (work : Work O) (read : Result (Option Command) Refusal) (refusal : Refusal) → Wakes s t work work read (Refused refusal)
-wakes_refused s t work (Err e) refusal = refl
-wakes_refused s t work (Ok None) refusal = refl
-wakes_refused s t work (Ok (Some commands.Command.Settle)) refusal = tt
-wakes_refused s t work (Ok (Some (commands.Command.Ask x))) refusal = tt
-wakes_refused s t work (Ok (Some (commands.Command.Why x))) refusal = tt
-wakes_refused s t work (Ok (Some (commands.Command.Core x))) refusal = tt
-wakes_refused s t work (Ok (Some commands.Command.Worldview)) refusal = tt
-wakes_refused s t work (Ok (Some command)) refusal = refl
-
--- nor does the list of nogoods change anything
+-- the list of nogoods changes nothing
 pub wakes_nogoods : {O : Type 0} (s : State) (work : Work O) (answer : Answer) → Wakes s s work work (Ok (Some commands.Command.Nogoods)) answer
 wakes_nogoods s work Silent = refl
 wakes_nogoods s work Done = still_stirred s s work

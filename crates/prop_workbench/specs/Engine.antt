@@ -1,14 +1,22 @@
 -- The workbench, as a machine that a session is.
-use Rattle.std.specs.Prelude.{ℕ, List}
+use Rattle.std.specs.Prelude.{ℕ, List, []}
 use Rattle.prop_lattice.specs.declared.info.Info.{Info}
 use Rattle.prop_procedures.specs.declared.shape.Param.{Param}
 use Rattle.prop_procedures.specs.Stored.{Stored}
+use Rattle.prop_cells.specs.Data.{no_data}
+use Rattle.prop_amb.specs.Search.{no_stand}
+use Rattle.prop_amb.specs.Going.{Work}
 use Rattle.prop_engine.specs.Answers.{Answer}
 use Rattle.prop_engine.specs.Transcripts.{Machine}
 use Rattle.prop_workbench.specs.declared.session.Session.{Session}
 use Rattle.prop_workbench.specs.Machine.{State}
-use Rattle.prop_workbench.specs.Steps.{Step, Shown, IsStepOf}
-use Rattle.prop_workbench.specs.Sessions.{library_of}
+use Rattle.prop_workbench.specs.Steps.{Step, Shown, new_shown, IsStepOf}
+use Rattle.prop_language.specs.Reading.{AsRead}
+use Rattle.prop_premises.specs.Sets.{set_of}
+use Rattle.prop_workbench.specs.Reasons.{IsLeanAnswer}
+use Rattle.prop_workbench.specs.Questions.{Picks, Earns}
+use Rattle.prop_workbench.specs.Waking.{Wakes}
+use Rattle.prop_workbench.specs.Sessions.{library_of, shown_of, work_of}
 
 -- the line may be given this answer, after some number of steps
 pub record Gives (library : List Stored) (old : State) (line : List ℕ) (answer : Answer) (new : State) : Type 0 where
@@ -28,6 +36,35 @@ workbench library = Gives library
 abbrev pub learning : List Stored → Machine Shown
 learning library = Shows library
 
--- the machine that a session is
+-- what a session shows, as a machine
 abbrev pub machine_of : {R O : Type 0} {X : Type 0} {F : X → Type 0} {g : _} → (R → Param → List Info → Info) → Session R O X F g → Machine Shown
 machine_of value s = learning (library_of value s)
+
+-- where a session stands: what it shows, and the work behind it
+pub record Standing (O : Type 0) : Type 0 where
+  pub shown : Shown
+  pub work : Work O
+
+abbrev pub standing_of : {R O : Type 0} {X : Type 0} {F : X → Type 0} {g : _} → Session R O X F g → Standing O
+standing_of s = record { shown = shown_of s; work = work_of s }
+
+-- where a new session stands, which calls procedures in this order
+abbrev pub new_standing : {O : Type 0} → ℕ → O → Standing O
+new_standing limit order = record { shown = new_shown limit; work = record { search = no_stand; cells = no_data; line = []; order = order } }
+
+-- A line takes a session from where it stands to where it stands then, by a step of the machine. Its text is earned by just so many
+-- steps, each call at the place that the order picks, its explanation is lean, and where it runs nothing it wakes no more than it has to.
+pub record Works {O : Type 0} (picks : Picks O) (library : List Stored) (old : Standing O) (line : List ℕ) (answer : Answer) (new : Standing O) : Type 0 where
+  pub steps : ℕ
+  pub step : IsStepOf library old.shown line answer new.shown steps
+  pub lean : AsRead line (λ read. IsLeanAnswer (set_of new.work.search.worldview) new.work.cells old.shown.state read answer)
+  pub earned : AsRead line (λ read. Earns picks library old.shown.state old.work new.work read answer steps)
+  pub wakes : AsRead line (λ read. Wakes old.shown.state new.shown.state old.work new.work read answer)
+
+-- the workbench with the work that a session does in this order, as a machine
+abbrev pub working : {O : Type 0} → Picks O → List Stored → Machine (Standing O)
+working picks library = Works picks library
+
+-- the machine that a session is
+abbrev pub working_of : {R O : Type 0} {X : Type 0} {F : X → Type 0} {g : _} → Picks O → (R → Param → List Info → Info) → Session R O X F g → Machine (Standing O)
+working_of picks value s = working picks (library_of value s)

@@ -10,8 +10,8 @@ use prop_scheduler::Order;
 use std::io::{Read, Write};
 
 impl<R: Rule + Drop, O: Order + Drop> Session<R, O> {
-    ghost use Rattle.prop_workbench.specs.Sessions.{shown_of, IsSound, IsMeant};
-    ghost use Rattle.prop_workbench.specs.Engine.{machine_of};
+    ghost use Rattle.prop_workbench.specs.Sessions.{IsSound, IsMeant};
+    ghost use Rattle.prop_workbench.specs.Engine.{standing_of, working_of};
     ghost use Rattle.prop_engine.specs.Endings.{Tells, WritesTranscript, WritesPrefix};
 
     /// Reads the input to its end, in at most so many reads of at most 4,096 bytes, and writes
@@ -31,25 +31,25 @@ impl<R: Rule + Drop, O: Order + Drop> Session<R, O> {
 
         // What was written is a transcript of all that the reader had left.
         ensures transcript { IfOk result
-            (λ counts. WritesTranscript (machine_of R.value_of self.old)
+            (λ counts. WritesTranscript (working_of O.picks R.value_of self.old)
             (Rd.remaining (device (reader devices.old)))
             (W.contents (device (writer devices.old)))
-            (W.contents (device (writer devices.new))) counts (shown_of self.old)
-            (shown_of self.new)) }
+            (W.contents (device (writer devices.new))) counts (standing_of self.old)
+            (standing_of self.new)) }
         // At a fault it is the prefix of an allowed one.
-        ensures prefix { OnErr result (WritesPrefix (machine_of R.value_of self.old)
+        ensures prefix { OnErr result (WritesPrefix (working_of O.picks R.value_of self.old)
             (Rd.remaining (device (reader devices.old)))
             (W.contents (device (writer devices.old))) (W.contents (device (writer devices.new)))
-            (shown_of self.old)) }
+            (standing_of self.old)) }
         // Which lines were carried out, by what the reads gave.
         ensures told { (input : List ℕ) × (output : List ℕ)
             × Consumes (Rd.remaining (device (reader devices.old)))
             (Rd.remaining (device (reader devices.new))) input
             × Appends (W.contents (device (writer devices.old)))
             (W.contents (device (writer devices.new))) output
-            × Tells (machine_of R.value_of self.old) result
+            × Tells (working_of O.picks R.value_of self.old) result
             (Rd.remaining (device (reader devices.new))) (has_stopped (reader devices.new))
-            (shown_of self.old) input output (shown_of self.new) }
+            (standing_of self.old) input output (standing_of self.new) }
 
         // When each fault comes.
         ensures read { IsErrOf result EngineFault.Read ↔ (has_failed (reader devices.new) ≡ true) }

@@ -4,8 +4,6 @@ use Rattle.std.proofs.lemmas.List.{take_more, take_all, map-append}
 use Rattle.std.proofs.lemmas.List.Elements.{All-nil}
 use Rattle.std.specs.Prelude.{Option, Some, None, slice_get, IsSomeAnd, Result, Ok, Err, IfOk, OnErr}
 use Rattle.std.proofs.lemmas.Option.{none-some, same_Some}
-use Rattle.prop_lattice.specs.Points.{Point}
-use Rattle.prop_procedures.specs.declared.shape.Param.{Param}
 use Rattle.prop_procedures.specs.Rules.{IsSound}
 use Rattle.prop_procedures.specs.Stored.{Stored}
 use Rattle.prop_procedures.specs.declared.library.Library.{Library}
@@ -24,12 +22,18 @@ use Rattle.prop_arith.specs.Prelude.{prelude_lines}
 use Rattle.prop_workbench.specs.Machine.{naming}
 use Rattle.prop_workbench.specs.Steps.{Shown, Covers, new_shown}
 use Rattle.prop_workbench.specs.Loading.{Loads}
-use Rattle.prop_workbench.specs.Engine.{learning}
+use Rattle.prop_workbench.specs.Engine.{Standing, new_standing, workbench, learning, working}
+use Rattle.prop_workbench.specs.Questions.{Picks}
+use Rattle.prop_workbench.proofs.LoadLemmas.{loads_seen}
+use Rattle.prop_workbench.proofs.WorkLemmas.{works_shows}
+use Rattle.prop_engine.proofs.Simulating.{writing_seen, prefix_seen}
+use Rattle.prop_scheduler.specs.Orders.{picks_first, picks_last, picks_mixed}
 use Rattle.prop_workbench.specs.inner.Shown.{IsShown}
 use Rattle.prop_workbench.proofs.NamedLaws.{shown_transcripts, shown_prefixes}
 use Rattle.propbench.specs.declared.fault.Fault.{Fault}
-use Rattle.propbench.specs.Kits.{stored_kit, kit_library, kit_related, CarriesOut, IsAnswered, IsAnsweredInPart}
-use Rattle.propbench.specs.inner.Kits.{IsAnsweredAs, IsAnsweredInPartAs}
+use Rattle.propbench.specs.declared.chosen.Pick.{Pick}
+use Rattle.propbench.specs.declared.chosen.Pick.TheVariants.{Fifo, Lifo, Mixed}
+use Rattle.propbench.specs.Kits.{stored_kit, kit_library, kit_related, IsAnswered, IsAnsweredBy, IsAnsweredInPart, IsAnsweredInPartBy, IsWorked, IsWorkedBy}
 
 -- before the session nothing is written
 pub nothing_yet : (left held : Option (List ℕ)) (limit : ℕ) → IsAnsweredInPart left held held limit
@@ -85,16 +89,16 @@ kit_is_sound n p at = by in_order n p at
 -- ---- what a session over the kit wrote
 
 -- lines that a session carried out are carried out by the machine, whichever contradictions were named
-carried_out : (library : List Stored) (old new : Shown) (lines : List (List ℕ)) → Loads library old lines new → (named : List (List ℕ)) → Covers old named → IsShown (λ s. CarriesOut library (naming old.state named) lines s) new
+carried_out : (library : List Stored) (old new : Shown) (lines : List (List ℕ)) → Loads (learning library) old lines new → (named : List (List ℕ)) → Covers old named → IsShown (λ s. Loads (workbench library) (naming old.state named) lines s) new
 carried_out library old new [] same named covers = record { now = named; covers = rw same covers; done = rw same refl }
-carried_out library old new (line ∷ lines) (answer, mid, steps, free, step, rest) named covers =
-    let one = step named covers in
+carried_out library old new (line ∷ lines) (answer, mid, free, shows, rest) named covers =
+    let one = shows.step named covers in
     let more = carried_out library mid new lines rest one.now one.covers in
-    record { now = more.now; covers = more.covers; done = (answer, naming mid.state one.now, steps, free, one.step, more.done) }
+    record { now = more.now; covers = more.covers; done = (answer, naming mid.state one.now, free, record { steps = shows.steps; step = one.step }, more.done) }
 
--- a session that loaded the prelude, and wrote a transcript of what it shows
-pub answered_as : (library : List Stored) (begun first new : Shown) (left held held' : Option (List ℕ)) (counts : Counts) → Loads library begun prelude_lines first →
-    WritesTranscript (learning library) left held held' counts first new → IsAnsweredAs library begun left held held' counts
+-- what a session showed that loaded the prelude, and wrote a transcript
+answered_as : (library : List Stored) (begun first new : Shown) (left held held' : Option (List ℕ)) (counts : Counts) → Loads (learning library) begun prelude_lines first → WritesTranscript (learning library) left held held' counts first new →
+    (named : List (List ℕ)) → Covers begun named → IsAnsweredBy (workbench library) (naming begun.state named) left held held' counts
 answered_as library begun first new None held held' counts loads written named covers =
     let before = carried_out library begun first prelude_lines loads named covers in (naming first.state before.now, new.state, before.done, tt)
 answered_as library begun first new (Some input) held held' counts loads (output, appends, transcript) named covers =
@@ -103,8 +107,8 @@ answered_as library begun first new (Some input) held held' counts loads (output
     (naming first.state before.now, naming new.state shown.now, before.done, (output, appends, shown.done))
 
 -- the same of the prefix of one
-pub answered_in_part_as : (library : List Stored) (begun first : Shown) (left held held' : Option (List ℕ)) → Loads library begun prelude_lines first →
-    WritesPrefix (learning library) left held held' first → IsAnsweredInPartAs library begun left held held'
+answered_in_part_as : (library : List Stored) (begun first : Shown) (left held held' : Option (List ℕ)) → Loads (learning library) begun prelude_lines first → WritesPrefix (learning library) left held held' first →
+    (named : List (List ℕ)) → Covers begun named → IsAnsweredInPartBy (workbench library) (naming begun.state named) left held held'
 answered_in_part_as library begun first None held held' loads written named covers =
     let before = carried_out library begun first prelude_lines loads named covers in inr (naming first.state before.now, before.done, tt)
 answered_in_part_as library begun first (Some input) held held' loads (output, appends, prefix) named covers =
@@ -115,18 +119,37 @@ answered_in_part_as library begun first (Some input) held held' loads (output, a
 none_covered : (s : Shown) → Covers s []
 none_covered s = All-nil _
 
--- a session whose library has the kit's procedures, from what a new one shows
-pub answered_by_kit : {X : Type 0} {F : X → Type 0} {g : _} → (library : Library Kit X F g) (items : List (Procedure Kit X F g)) (s : Shown) (limit : ℕ) (left held held' : Option (List ℕ)) (result : Result Counts Fault) → library.procedures.items ≡ items → map (stored_as value_of) items ≡ kit_library → s ≡ new_shown limit → IfOk result (IsAnsweredAs (stored_of value_of library) s left held held') → IfOk result (IsAnswered left held held' limit)
-answered_by_kit library items s limit left held held' (Ok counts) same listed begun h =
+-- a session over the kit, as the machine, which knows nothing of its work
+module _ {O : Type 0} (picks : Picks O) (order : O) (limit : ℕ) (left held held' : Option (List ℕ)) where
+  loads_shown : (first : Standing O) → Loads (working picks kit_library) (new_standing limit order) prelude_lines first → Loads (learning kit_library) (new_shown limit) prelude_lines first.shown
+  loads_shown first loads = loads_seen (working picks kit_library) (learning kit_library) (λ (s : Standing O). s.shown) (works_shows picks kit_library) (new_standing limit order) first prelude_lines loads
+
+  pub answered_by_work : (counts : Counts) → IsWorkedBy picks order limit left held held' counts → IsAnswered left held held' limit counts
+  answered_by_work counts (first, new, loads, written) = answered_as kit_library (new_shown limit) first.shown new.shown left held held' counts (loads_shown first loads)
+      (writing_seen (working picks kit_library) (learning kit_library) (λ (s : Standing O). s.shown) (works_shows picks kit_library) left held held' counts first new written) [] (none_covered (new_shown limit))
+
+  pub answered_in_part_by_work : IsAnsweredInPartBy (working picks kit_library) (new_standing limit order) left held held' → IsAnsweredInPart left held held' limit
+  answered_in_part_by_work (inl nothing) = inl nothing
+  answered_in_part_by_work (inr (first, loads, written)) = answered_in_part_as kit_library (new_shown limit) first.shown left held held' (loads_shown first loads)
+      (prefix_seen (working picks kit_library) (learning kit_library) (λ (s : Standing O). s.shown) (works_shows picks kit_library) left held held' first written) [] (none_covered (new_shown limit))
+
+-- what is known of it in the order that was chosen
+pub worked_answered : (pick : Pick) (seed limit : ℕ) (left held held' : Option (List ℕ)) (result : Result Counts Fault) → IfOk result (IsWorked pick seed limit left held held') → IfOk result (IsAnswered left held held' limit)
+worked_answered pick seed limit left held held' (Err e) h = tt
+worked_answered Fifo seed limit left held held' (Ok counts) h = answered_by_work picks_first (record {}) limit left held held' counts h
+worked_answered Lifo seed limit left held held' (Ok counts) h = answered_by_work picks_last (record {}) limit left held held' counts h
+worked_answered Mixed seed limit left held held' (Ok counts) h = answered_by_work picks_mixed (record { number = seed }) limit left held held' counts h
+
+-- a session whose library has the kit's procedures, from where a new one stands
+pub worked_by_kit : {O : Type 0} {X : Type 0} {F : X → Type 0} {g : _} → (picks : Picks O) (order : O) (library : Library Kit X F g) (items : List (Procedure Kit X F g)) (begun : Standing O) (limit : ℕ) (left held held' : Option (List ℕ)) (result : Result Counts Fault) → library.procedures.items ≡ items → map (stored_as value_of) items ≡ kit_library → begun ≡ new_standing limit order → IfOk result (IsAnsweredBy (working picks (stored_of value_of library)) begun left held held') → IfOk result (IsWorkedBy picks order limit left held held')
+worked_by_kit picks order library items begun limit left held held' (Ok counts) same listed new h =
     let stored : stored_of value_of library ≡ kit_library = ap (map (stored_as value_of)) same ∙ listed in
-    let answered : IsAnsweredAs kit_library (new_shown limit) left held held' counts = subst (λ (P : Type 0). P) (λ i. IsAnsweredAs (stored i) (begun i) left held held' counts) h in
-    answered [] (none_covered (new_shown limit))
-answered_by_kit library items s limit left held held' (Err e) same listed begun h = tt
+    subst (λ (P : Type 0). P) (λ i. IsAnsweredBy (working picks (stored i)) (new i) left held held' counts) h
+worked_by_kit picks order library items begun limit left held held' (Err e) same listed new h = tt
 
 -- the same of what it wrote until it was stopped
-pub answered_in_part_by_kit : {X : Type 0} {F : X → Type 0} {g : _} → (library : Library Kit X F g) (items : List (Procedure Kit X F g)) (s : Shown) (limit : ℕ) (left held held' : Option (List ℕ)) (result : Result Counts Fault) → library.procedures.items ≡ items → map (stored_as value_of) items ≡ kit_library → s ≡ new_shown limit → OnErr result (IsAnsweredInPartAs (stored_of value_of library) s left held held') → OnErr result (IsAnsweredInPart left held held' limit)
-answered_in_part_by_kit library items s limit left held held' (Ok counts) same listed begun h = tt
-answered_in_part_by_kit library items s limit left held held' (Err e) same listed begun h =
+pub worked_in_part_by_kit : {O : Type 0} {X : Type 0} {F : X → Type 0} {g : _} → (picks : Picks O) (order : O) (library : Library Kit X F g) (items : List (Procedure Kit X F g)) (begun : Standing O) (limit : ℕ) (left held held' : Option (List ℕ)) (result : Result Counts Fault) → library.procedures.items ≡ items → map (stored_as value_of) items ≡ kit_library → begun ≡ new_standing limit order → OnErr result (IsAnsweredInPartBy (working picks (stored_of value_of library)) begun left held held') → OnErr result (IsAnsweredInPart left held held' limit)
+worked_in_part_by_kit picks order library items begun limit left held held' (Ok counts) same listed new h = tt
+worked_in_part_by_kit picks order library items begun limit left held held' (Err e) same listed new h =
     let stored : stored_of value_of library ≡ kit_library = ap (map (stored_as value_of)) same ∙ listed in
-    let answered : IsAnsweredInPartAs kit_library (new_shown limit) left held held' = subst (λ (P : Type 0). P) (λ i. IsAnsweredInPartAs (stored i) (begun i) left held held') h in
-    answered [] (none_covered (new_shown limit))
+    answered_in_part_by_work picks order limit left held held' (subst (λ (P : Type 0). P) (λ i. IsAnsweredInPartBy (working picks (stored i)) (new i) left held held') h)

@@ -4,10 +4,10 @@ ghost use Rattle.prop_arith.specs.Values.{value_of};
 ghost use Rattle.prop_procedures.specs.Kept.{AllMean, stored_as};
 ghost use Rattle.prop_engine.specs.Watched.{reader, writer, device, IsFresh, IsPassedOn};
 ghost use Rattle.propbench.specs.Faults.{TellsDevices};
-ghost use Rattle.propbench.specs.Kits.{kit_library, kit_related, IsAnswered, IsAnsweredInPart};
-ghost use Rattle.propbench.specs.inner.Kits.{IsAnsweredAs, IsAnsweredInPartAs};
+ghost use Rattle.propbench.specs.Kits.{kit_library, kit_related, IsAnswered, IsAnsweredBy, IsAnsweredInPart, IsAnsweredInPartBy, IsWorked, IsWorkedBy};
 ghost use Rattle.prop_cells.specs.Points.{AreSoundBy};
-ghost use Rattle.prop_workbench.specs.Sessions.{shown_of, library_of, IsSound, IsMeant};
+ghost use Rattle.prop_workbench.specs.Engine.{standing_of, working_of};
+ghost use Rattle.prop_workbench.specs.Sessions.{IsSound, IsMeant};
 
 use crate::chosen::{Options, Pick};
 use crate::fault::Fault;
@@ -35,6 +35,10 @@ pub fn run<Rd: Read, W: Write>(
     ensures ok { IfOk result (IsAnswered (Rd.remaining (device (reader devices.old)))
         (W.contents (device (writer devices.old)))
         (W.contents (device (writer devices.new))) options.limit) }
+    // Each text is earned by steps that were taken, in the order that was chosen.
+    ensures earned { IfOk result (IsWorked options.order options.seed options.limit
+        (Rd.remaining (device (reader devices.old))) (W.contents (device (writer devices.old)))
+        (W.contents (device (writer devices.new)))) }
     ensures err { OnErr result (IsAnsweredInPart (Rd.remaining (device (reader devices.old)))
         (W.contents (device (writer devices.old)))
         (W.contents (device (writer devices.new))) options.limit) }
@@ -67,9 +71,9 @@ fn serve<Rd: Read, W: Write>(
     requires writer { IsPassedOn devices.old }
     requires means { AllMean value_of procedures.items }
     requires listed { map (stored_as value_of) procedures.items ≡ kit_library }
-    ensures ok { IfOk result (IsAnswered (Rd.remaining (device (reader devices.old)))
-        (W.contents (device (writer devices.old)))
-        (W.contents (device (writer devices.new))) options.limit) }
+    ensures earned { IfOk result (IsWorked options.order options.seed options.limit
+        (Rd.remaining (device (reader devices.old))) (W.contents (device (writer devices.old)))
+        (W.contents (device (writer devices.new)))) }
     ensures err { OnErr result (IsAnsweredInPart (Rd.remaining (device (reader devices.old)))
         (W.contents (device (writer devices.old)))
         (W.contents (device (writer devices.new))) options.limit) }
@@ -95,9 +99,9 @@ fn serve_in<O: Order + Drop, Rd: Read, W: Write>(
     requires writer { IsPassedOn devices.old }
     requires means { AllMean value_of procedures.items }
     requires listed { map (stored_as value_of) procedures.items ≡ kit_library }
-    ensures ok { IfOk result (IsAnswered (Rd.remaining (device (reader devices.old)))
-        (W.contents (device (writer devices.old)))
-        (W.contents (device (writer devices.new))) limit) }
+    ensures earned { IfOk result (IsWorkedBy O.picks order limit
+        (Rd.remaining (device (reader devices.old))) (W.contents (device (writer devices.old)))
+        (W.contents (device (writer devices.new)))) }
     ensures err { OnErr result (IsAnsweredInPart (Rd.remaining (device (reader devices.old)))
         (W.contents (device (writer devices.old)))
         (W.contents (device (writer devices.new))) limit) }
@@ -120,12 +124,12 @@ fn answer<R: Rule + Drop, O: Order + Drop, Rd: Read, W: Write>(
     requires writer { IsPassedOn devices.old }
     requires means { IsMeant R.value_of session.old }
     requires sound { IsSound R.value_of session.old }
-    ensures ok { IfOk result (IsAnsweredAs (library_of R.value_of session.old)
-        (shown_of session.old)
+    ensures ok { IfOk result (IsAnsweredBy (working_of O.picks R.value_of session.old)
+        (standing_of session.old)
         (Rd.remaining (device (reader devices.old))) (W.contents (device (writer devices.old)))
         (W.contents (device (writer devices.new)))) }
-    ensures err { OnErr result (IsAnsweredInPartAs (library_of R.value_of session.old)
-        (shown_of session.old)
+    ensures err { OnErr result (IsAnsweredInPartBy (working_of O.picks R.value_of session.old)
+        (standing_of session.old)
         (Rd.remaining (device (reader devices.old))) (W.contents (device (writer devices.old)))
         (W.contents (device (writer devices.new)))) }
     ensures devices { TellsDevices result devices.old devices.new }

@@ -1,5 +1,5 @@
 -- The workbench has what the engine asks of a machine.
-use Rattle.std.proofs.Common.{◌≡◌, ℕ, ◌≤◌, ◌<◌, List, length, take, refl, sym, ◌∙◌, subst, inl, inr, arith}
+use Rattle.std.proofs.Common.{◌≡◌, ℕ, ◌≤◌, ◌<◌, List, length, take, refl, ◌∙◌, subst, inl, inr, arith}
 use Rattle.std.specs.Prelude.{Option, Some, None, Result, Ok, Err}
 use Rattle.std.proofs.lemmas.List.{length-take, take_all}
 use Rattle.std.proofs.lemmas.Bool.{cases_lt}
@@ -7,14 +7,17 @@ use Rattle.prop_lattice.specs.declared.refusal.Refusal.{Refusal}
 use Rattle.prop_lattice.specs.declared.refusal.Refusal.TheVariants.{LineTooLong, Memory}
 use Rattle.prop_procedures.specs.Stored.{Stored}
 use Rattle.prop_language.specs.Commands.{Command}
-use Rattle.prop_language.specs.Reading.{IsReading}
+use Rattle.prop_language.specs.Reading.{IsReading, AsRead}
 use Rattle.prop_language.proofs.ReadingLaws.{have_one_reading}
 use Rattle.prop_engine.specs.Lines.{kept_of}
 use Rattle.prop_engine.specs.Answers.{Answer, Silent, Refused}
 use Rattle.prop_workbench.specs.Machine.{State, naming}
 use Rattle.prop_workbench.specs.Steps.{Follows, Step}
-use Rattle.prop_workbench.specs.Engine.{workbench, learning}
+use Rattle.prop_workbench.specs.Engine.{workbench, working, Works}
+use Rattle.prop_workbench.specs.Questions.{Picks}
+use Rattle.prop_premises.specs.Sets.{set_of}
 use Rattle.prop_engine.specs.Machines.{AsksByPrefix, IsTotal}
+use Rattle.prop_workbench.specs.laws.RefusalLaws.{lean_refused, earns_refused, wakes_refused}
 
 -- a prefix of limit bytes is the line, or as long as the limit
 prefix_of_line : (limit : ℕ) (line : List ℕ) → (length line ≤ limit → take limit line ≡ line) × (limit < length line → length (take limit line) ≡ limit)
@@ -39,10 +42,17 @@ kept_steps library old new line answer steps (read, is, follows) = (read, kept_i
 pub workbench_asks_by_prefix : (library : List Stored) → AsksByPrefix (workbench library)
 workbench_asks_by_prefix library old line answer new s = record { steps = s.steps; step = kept_steps library old new line answer s.steps s.step }
 
-pub learning_asks_by_prefix : (library : List Stored) → AsksByPrefix (learning library)
-learning_asks_by_prefix library old line answer new s = record {
+-- and what is said of how a line was read
+kept_as_read : (line : List ℕ) (Holds : Result (Option Command) Refusal → Type 0) → AsRead (kept_of line) Holds → AsRead line Holds
+kept_as_read line Holds (read, is, holds) = (read, kept_is_read line read is, holds)
+
+pub working_asks_by_prefix : {O : Type 0} (picks : Picks O) (library : List Stored) → AsksByPrefix (working picks library)
+working_asks_by_prefix picks library old line answer new s = record {
   steps = s.steps;
   step = λ named covers. let goes = s.step named covers in record { now = goes.now; covers = goes.covers; step = kept_steps library _ _ line answer s.steps goes.step };
+  lean = kept_as_read line _ s.lean;
+  earned = kept_as_read line _ s.earned;
+  wakes = kept_as_read line _ s.wakes;
 }
 
 -- silence, or want of memory, leaves the state
@@ -57,8 +67,28 @@ workbench_is_total library old line =
     let somehow = follows_somehow library read.0 in
     (somehow.0, record { steps = 0; step = (read.0, read.1, somehow.1 old) })
 
-pub learning_is_total : (library : List Stored) → IsTotal (learning library)
-learning_is_total library old line =
-    let read = have_one_reading line in
-    let somehow = follows_somehow library read.0 in
-    (somehow.0, record { steps = 0; step = λ named covers. record { now = named; covers = covers; step = (read.0, read.1, somehow.1 (naming old.state named)) } })
+pub working_is_total : {O : Type 0} (picks : Picks O) (library : List Stored) → IsTotal (working picks library)
+working_is_total {O} picks library old line = total (have_one_reading line).0 (have_one_reading line).1
+  where
+    refuses : (read : Result (Option Command) Refusal) → IsReading line read → ((s : State) → Follows library s read (Refused Memory) s 0) → Works picks library old line (Refused Memory) old
+    refuses read is follows = record {
+      steps = 0;
+      step = λ named covers. record { now = named; covers = covers; step = (read, is, follows (naming old.shown.state named)) };
+      lean = (read, is, lean_refused (set_of old.work.search.worldview) old.work.cells old.shown.state read Memory);
+      earned = (read, is, earns_refused picks library old.shown.state old.work old.work read Memory 0);
+      wakes = (read, is, wakes_refused old.shown.state old.shown.state old.work read Memory);
+    }
+
+    total : (read : Result (Option Command) Refusal) → IsReading line read → (answer : Answer) × Works picks library old line answer old
+    total (Ok None) is = (
+      Silent,
+      record {
+        steps = 0;
+        step = λ named covers. record { now = named; covers = covers; step = (Ok None, is, (refl, refl, refl)) };
+        lean = (Ok None, is, tt);
+        earned = (Ok None, is, tt);
+        wakes = (Ok None, is, refl);
+      },
+    )
+    total (Ok (Some command)) is = (Refused Memory, refuses (Ok (Some command)) is (λ s. inr record { answer_is = refl; same = refl }))
+    total (Err refusal) is = (Refused Memory, refuses (Err refusal) is (λ s. inr record { answer_is = refl; same = refl }))

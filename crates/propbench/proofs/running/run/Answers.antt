@@ -5,7 +5,7 @@ use Rattle.propbench.proofs.Devices.{told_first}
 use Rattle.prop_engine.proofs.Io.{on_err}
 use Rattle.prop_procedures.specs.inner.Kept.{AllMean-push}
 use Rattle.prop_arith.specs.Values.{value_of}
-use Rattle.propbench.proofs.Starts.{nothing_yet, stored_is, listed_more, all_listed, kit_is_sound, inputs_fit}
+use Rattle.propbench.proofs.Starts.{nothing_yet, stored_is, listed_more, all_listed, kit_is_sound, inputs_fit, worked_answered}
 use Rattle.propbench.proofs.running.run.Goals as goal
 
 pub returns-in_err-ins-clause-err : goal.returns-in_err-ins-clause-err
@@ -50,7 +50,10 @@ pub serve-requires-clause-means : goal.serve-requires-clause-means
 serve-requires-clause-means g c = c.loop-rule.invariant.means
 
 pub returns-clause-ok : goal.returns-clause-ok
-returns-clause-ok g c = c.serve.ensures.ok
+returns-clause-ok g c = worked_answered c.args.options.order c.args.options.seed c.args.options.limit _ _ _ c.serve.result c.serve.ensures.earned
+
+pub returns-clause-earned : goal.returns-clause-earned
+returns-clause-earned g c = c.serve.ensures.earned
 
 pub returns-clause-err : goal.returns-clause-err
 returns-clause-err g c = c.serve.ensures.err

@@ -3,7 +3,7 @@ use Rattle.std.proofs.lemmas.Result.{err_from_is_err_and}
 use Rattle.propbench.specs.Faults.{TellsDevices}
 use Rattle.propbench.proofs.Devices.{told_first}
 use Rattle.prop_engine.proofs.Io.{on_err}
-use Rattle.propbench.proofs.Starts.{nothing_yet, answered_by_kit, answered_in_part_by_kit}
+use Rattle.propbench.proofs.Starts.{nothing_yet, worked_by_kit, worked_in_part_by_kit}
 use Rattle.propbench.proofs.running.serve_in.Goals as goal
 
 pub returns-in_err-session-clause-err : goal.returns-in_err-session-clause-err
@@ -12,15 +12,15 @@ returns-in_err-session-clause-err g c = on_err _ _ (nothing_yet _ _ _)
 pub answer-counts-requires-clause-means : goal.answer-counts-requires-clause-means
 answer-counts-requires-clause-means g c = rw (c.in_ok-session.ensures.library, c.new-network.ensures.library, c.new.ensures) c.requires.means
 
-pub returns-clause-ok : goal.returns-clause-ok
-returns-clause-ok g c =
+pub returns-clause-earned : goal.returns-clause-earned
+returns-clause-earned g c =
     let same = ap (λ l. l.procedures.items) (c.in_ok-session.ensures.library ∙ c.new-network.ensures.library) ∙ ap (λ p. p.items) c.new.ensures in
-    answered_by_kit c.in_ok-session.session.network.library c.args.procedures.items _ _ _ _ _ c.answer-counts.result same c.requires.listed c.in_ok-session.ensures.state c.answer-counts.ensures.ok
+    worked_by_kit g.O.Order.picks c.args.order c.in_ok-session.session.network.library c.args.procedures.items _ _ _ _ _ c.answer-counts.result same c.requires.listed c.in_ok-session.ensures.state c.answer-counts.ensures.ok
 
 pub returns-clause-err : goal.returns-clause-err
 returns-clause-err g c =
     let same = ap (λ l. l.procedures.items) (c.in_ok-session.ensures.library ∙ c.new-network.ensures.library) ∙ ap (λ p. p.items) c.new.ensures in
-    answered_in_part_by_kit c.in_ok-session.session.network.library c.args.procedures.items _ _ _ _ _ c.answer-counts.result same c.requires.listed c.in_ok-session.ensures.state c.answer-counts.ensures.err
+    worked_in_part_by_kit g.O.Order.picks c.args.order c.in_ok-session.session.network.library c.args.procedures.items _ _ _ _ _ c.answer-counts.result same c.requires.listed c.in_ok-session.ensures.state c.answer-counts.ensures.err
 
 pub returns-in_err-session-clause-devices : goal.returns-in_err-session-clause-devices
 returns-in_err-session-clause-devices g c =

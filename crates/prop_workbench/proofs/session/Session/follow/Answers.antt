@@ -5,7 +5,7 @@ use Rattle.prop_workbench.specs.Machine.{naming}
 use Rattle.prop_workbench.specs.Sessions.{state_of, shown_of, work_of}
 use Rattle.prop_workbench.proofs.CoveringLemmas.{refused_followed}
 use Rattle.prop_workbench.proofs.AnsweredLemmas.{refusal_rests}
-use Rattle.prop_workbench.proofs.WakingLemmas.{wakes_refused}
+use Rattle.prop_workbench.specs.laws.RefusalLaws.{wakes_refused}
 use Rattle.prop_workbench.proofs.SoundLemmas.{stays, unchanged}
 use Rattle.prop_workbench.proofs.HeardLemmas.{follows_refused}
 use Rattle.prop_workbench.proofs.WordLemmas.{has_elements}
