@@ -2,8 +2,9 @@
 
 `tools/believed` finds what the headline's clauses reach: definitions, what sources declare, and
 functions that tell of devices. docs/MEANING.md has to name each of them, and none that there isn't.
-docs/TRUST.md has to tell what to read first, and how many lines they have, no more than MOST, which
-`tools/believed --write` puts there. docs/HOSTING.md has to show code that there is.
+docs/TRUST.md has to tell what to read first, and how many lines they have, those of the headline no
+more than MOST, and how many with the clauses on the work behind it: `tools/believed --write` puts
+both there. docs/HOSTING.md has to show code that there is.
 """
 import importlib.machinery
 import importlib.util
@@ -77,15 +78,19 @@ def held():
     return tool().Believed()
 
 
+@cache
+def worked():
+    return tool().Believed(work=True)
+
+
 def figure():
     trust, lines = text_of("docs/TRUST.md"), held().lines(held().found)
     if lines > MOST:
         return f"{lines} lines are more than {MOST}"
     if f"{MOST:,} lines" not in trust:
         return f"docs/TRUST.md does not tell the bound, {MOST:,} lines"
-    if held().total() not in trust:
-        return f"docs/TRUST.md does not tell {held().total()}: see tools/believed --write"
-    return None
+    told, owed = tool().FIGURE.findall(trust), [held().total(), worked().total()]
+    return None if told == owed else f"docs/TRUST.md tells {told} for {owed}: tools/believed --write"
 
 
 def first():

@@ -1,10 +1,11 @@
 -- The workbench, as a machine that a session is.
-use Rattle.std.specs.Prelude.{ℕ, List, []}
+use Rattle.std.specs.Prelude.{◌≡◌, ℕ, List, []}
 use Rattle.prop_lattice.specs.declared.info.Info.{Info}
 use Rattle.prop_procedures.specs.declared.shape.Param.{Param}
 use Rattle.prop_procedures.specs.Stored.{Stored}
-use Rattle.prop_cells.specs.Data.{no_data}
-use Rattle.prop_amb.specs.Search.{no_stand}
+use Rattle.prop_cells.specs.Data.{no_data, problem_of}
+use Rattle.prop_scheduler.specs.Turns.{IsUnderWay}
+use Rattle.prop_amb.specs.Search.{no_stand, IsStand, IsSearch}
 use Rattle.prop_amb.specs.Going.{Work}
 use Rattle.prop_engine.specs.Answers.{Answer}
 use Rattle.prop_engine.specs.Transcripts.{Machine}
@@ -52,11 +53,27 @@ standing_of s = record { shown = shown_of s; work = work_of s }
 abbrev pub new_standing : {O : Type 0} → ℕ → O → Standing O
 new_standing limit order = record { shown = new_shown limit; work = record { search = no_stand; cells = no_data; line = []; order = order } }
 
--- A line takes a session from where it stands to where it stands then, by a step of the machine. Its text is earned by just so many
--- steps, each call at the place that the order picks, its explanation is lean, and where it runs nothing it wakes no more than it has to.
+-- What a session shows is of the same cells, premises and nogoods as the work behind it. There each
+-- entry is founded, an instance that doesn't wait has its value below its output, the choices stand
+-- on sides, and the nogoods and the reasons against other sides hold.
+pub record WorkFits {O : Type 0} (library : List Stored) (at : Standing O) : Type 0 where
+  pub premises : at.shown.state.premises ≡ at.work.search.premises
+  pub learned : at.shown.learned ≡ at.work.search.listed
+  pub kinds : at.shown.state.kinds ≡ at.work.cells.kinds
+  pub statements : at.shown.state.statements ≡ at.work.cells.statements
+  pub instances : at.shown.state.instances ≡ at.work.cells.instances
+  pub under_way : IsUnderWay library (set_of at.work.search.worldview) at.work.cells at.work.line
+  pub stand : IsStand at.work.search
+  pub search : IsSearch (problem_of library at.work.cells) at.work.search
+
+-- A line takes a session from where it stands to where it stands then, by a step of the machine, and
+-- its work fits what it shows, if it did before. The text is earned by just so many steps, each call
+-- at the place that the order picks, an explanation is lean, and where the line runs nothing it wakes
+-- no more than it has to.
 pub record Works {O : Type 0} (picks : Picks O) (library : List Stored) (old : Standing O) (line : List ℕ) (answer : Answer) (new : Standing O) : Type 0 where
   pub steps : ℕ
   pub step : IsStepOf library old.shown line answer new.shown steps
+  pub fits : WorkFits library old → WorkFits library new
   pub lean : AsRead line (λ read. IsLeanAnswer (set_of new.work.search.worldview) new.work.cells old.shown.state read answer)
   pub earned : AsRead line (λ read. Earns picks library old.shown.state old.work new.work read answer steps)
   pub wakes : AsRead line (λ read. Wakes old.shown.state new.shown.state old.work new.work read answer)

@@ -1,14 +1,16 @@
 //! Laws of whole sessions.
-ghost use Rattle.std.specs.Prelude.{◌≡◌, ℕ, ◌++◌, List};
+ghost use Rattle.std.specs.Prelude.{ℕ, ◌++◌, List};
 ghost use Rattle.prop_procedures.specs.Kept.{stored_of, related_of};
 ghost use Rattle.prop_cells.specs.Points.{AreSoundBy};
 ghost use Rattle.prop_workbench.specs.Machine.{State};
-ghost use Rattle.prop_engine.specs.Transcripts.{WriteStopped, ReadStopped, IsPrefixOfTranscript};
+ghost use Rattle.prop_engine.specs.Answers.{Answer};
+ghost use Rattle.prop_engine.specs.Transcripts.{Run, WriteStopped, ReadStopped, IsPrefixOfTranscript};
 ghost use Rattle.prop_workbench.specs.Agreeing.{RunsMeet, AnswersMeet, SettledTextsMeet, SettledIsFree, StepsKeepNumbers};
-ghost use Rattle.prop_workbench.specs.Engine.{workbench};
+ghost use Rattle.prop_workbench.specs.Engine.{Standing, workbench, working, new_standing, WorkFits};
 ghost use Rattle.prop_workbench.specs.Points.{RelatedSatisfy};
 
 use prop_procedures::{Library, Rule};
+use prop_scheduler::Order;
 
 /// What a session wrote before a write stopped it is the prefix of an allowed transcript.
 pub fn a_stopped_write_leaves_a_prefix<R: Rule + Drop>(library: &Library<R>)
@@ -34,6 +36,17 @@ pub fn two_sessions_agree<R: Rule + Drop>(library: &Library<R>)
     ensures settled { SettledTextsMeet (stored_of R.value_of library.now) }
     ensures free { SettledIsFree (stored_of R.value_of library.now) }
     ensures numbers { StepsKeepNumbers (stored_of R.value_of library.now) }
+{}
+
+/// The work behind a session fits what it shows, after each line and in whatever order it calls
+/// waiting procedures: so what is earned is earned by calls of the session's own procedures, on
+/// cells that hold what follows from its own statements.
+pub fn work_fits_what_is_shown<R: Rule + Drop, O: Order>(library: &Library<R>)
+    ensures { (limit : ℕ) (order : O) (lines : List (List ℕ)) (answers : List Answer)
+        (new : Standing O)
+        → Run (working O.picks (stored_of R.value_of library.now)) (new_standing limit order)
+        lines answers new
+        → WorkFits (stored_of R.value_of library.now) new }
 {}
 
 /// Points that lie in all that is stated, and belong together at each instance, satisfy a state, where each procedure's answers hold the points

@@ -33,11 +33,16 @@ use Rattle.prop_workbench.proofs.NamedLaws.{shown_transcripts, shown_prefixes}
 use Rattle.propbench.specs.declared.fault.Fault.{Fault}
 use Rattle.propbench.specs.declared.chosen.Pick.{Pick}
 use Rattle.propbench.specs.declared.chosen.Pick.TheVariants.{Fifo, Lifo, Mixed}
-use Rattle.propbench.specs.Kits.{stored_kit, kit_library, kit_related, IsAnswered, IsAnsweredBy, IsAnsweredInPart, IsAnsweredInPartBy, IsWorked, IsWorkedBy}
+use Rattle.propbench.specs.Kits.{stored_kit, kit_library, kit_related, IsAnswered, IsAnsweredBy, IsAnsweredInPart, IsAnsweredInPartBy, IsWorked, IsWorkedBy, IsWorkedInPart, IsWorkedInPartBy}
 
 -- before the session nothing is written
 pub nothing_yet : (left held : Option (List ℕ)) (limit : ℕ) → IsAnsweredInPart left held held limit
 nothing_yet left held limit = inl refl
+
+pub nothing_worked : (pick : Pick) (seed limit : ℕ) (left held : Option (List ℕ)) → IsWorkedInPart pick seed limit left held held
+nothing_worked Fifo seed limit left held = inl refl
+nothing_worked Lifo seed limit left held = inl refl
+nothing_worked Mixed seed limit left held = inl refl
 
 -- each rule has an input, and at most eight
 pub inputs_fit : (rule : Kit) → (1 ≤ length (form_of rule).ins) × (length (form_of rule).ins ≤ 8)
@@ -124,11 +129,11 @@ module _ {O : Type 0} (picks : Picks O) (order : O) (limit : ℕ) (left held hel
   loads_shown : (first : Standing O) → Loads (working picks kit_library) (new_standing limit order) prelude_lines first → Loads (learning kit_library) (new_shown limit) prelude_lines first.shown
   loads_shown first loads = loads_seen (working picks kit_library) (learning kit_library) (λ (s : Standing O). s.shown) (works_shows picks kit_library) (new_standing limit order) first prelude_lines loads
 
-  pub answered_by_work : (counts : Counts) → IsWorkedBy picks order limit left held held' counts → IsAnswered left held held' limit counts
+  answered_by_work : (counts : Counts) → IsWorkedBy picks order limit left held held' counts → IsAnswered left held held' limit counts
   answered_by_work counts (first, new, loads, written) = answered_as kit_library (new_shown limit) first.shown new.shown left held held' counts (loads_shown first loads)
       (writing_seen (working picks kit_library) (learning kit_library) (λ (s : Standing O). s.shown) (works_shows picks kit_library) left held held' counts first new written) [] (none_covered (new_shown limit))
 
-  pub answered_in_part_by_work : IsAnsweredInPartBy (working picks kit_library) (new_standing limit order) left held held' → IsAnsweredInPart left held held' limit
+  answered_in_part_by_work : IsWorkedInPartBy picks order limit left held held' → IsAnsweredInPart left held held' limit
   answered_in_part_by_work (inl nothing) = inl nothing
   answered_in_part_by_work (inr (first, loads, written)) = answered_in_part_as kit_library (new_shown limit) first.shown left held held' (loads_shown first loads)
       (prefix_seen (working picks kit_library) (learning kit_library) (λ (s : Standing O). s.shown) (works_shows picks kit_library) left held held' first written) [] (none_covered (new_shown limit))
@@ -140,6 +145,12 @@ worked_answered Fifo seed limit left held held' (Ok counts) h = answered_by_work
 worked_answered Lifo seed limit left held held' (Ok counts) h = answered_by_work picks_last (record {}) limit left held held' counts h
 worked_answered Mixed seed limit left held held' (Ok counts) h = answered_by_work picks_mixed (record { number = seed }) limit left held held' counts h
 
+pub worked_answered_in_part : (pick : Pick) (seed limit : ℕ) (left held held' : Option (List ℕ)) (result : Result Counts Fault) → OnErr result (IsWorkedInPart pick seed limit left held held') → OnErr result (IsAnsweredInPart left held held' limit)
+worked_answered_in_part pick seed limit left held held' (Ok counts) h = tt
+worked_answered_in_part Fifo seed limit left held held' (Err e) h = answered_in_part_by_work picks_first (record {}) limit left held held' h
+worked_answered_in_part Lifo seed limit left held held' (Err e) h = answered_in_part_by_work picks_last (record {}) limit left held held' h
+worked_answered_in_part Mixed seed limit left held held' (Err e) h = answered_in_part_by_work picks_mixed (record { number = seed }) limit left held held' h
+
 -- a session whose library has the kit's procedures, from where a new one stands
 pub worked_by_kit : {O : Type 0} {X : Type 0} {F : X → Type 0} {g : _} → (picks : Picks O) (order : O) (library : Library Kit X F g) (items : List (Procedure Kit X F g)) (begun : Standing O) (limit : ℕ) (left held held' : Option (List ℕ)) (result : Result Counts Fault) → library.procedures.items ≡ items → map (stored_as value_of) items ≡ kit_library → begun ≡ new_standing limit order → IfOk result (IsAnsweredBy (working picks (stored_of value_of library)) begun left held held') → IfOk result (IsWorkedBy picks order limit left held held')
 worked_by_kit picks order library items begun limit left held held' (Ok counts) same listed new h =
@@ -148,8 +159,8 @@ worked_by_kit picks order library items begun limit left held held' (Ok counts) 
 worked_by_kit picks order library items begun limit left held held' (Err e) same listed new h = tt
 
 -- the same of what it wrote until it was stopped
-pub worked_in_part_by_kit : {O : Type 0} {X : Type 0} {F : X → Type 0} {g : _} → (picks : Picks O) (order : O) (library : Library Kit X F g) (items : List (Procedure Kit X F g)) (begun : Standing O) (limit : ℕ) (left held held' : Option (List ℕ)) (result : Result Counts Fault) → library.procedures.items ≡ items → map (stored_as value_of) items ≡ kit_library → begun ≡ new_standing limit order → OnErr result (IsAnsweredInPartBy (working picks (stored_of value_of library)) begun left held held') → OnErr result (IsAnsweredInPart left held held' limit)
+pub worked_in_part_by_kit : {O : Type 0} {X : Type 0} {F : X → Type 0} {g : _} → (picks : Picks O) (order : O) (library : Library Kit X F g) (items : List (Procedure Kit X F g)) (begun : Standing O) (limit : ℕ) (left held held' : Option (List ℕ)) (result : Result Counts Fault) → library.procedures.items ≡ items → map (stored_as value_of) items ≡ kit_library → begun ≡ new_standing limit order → OnErr result (IsAnsweredInPartBy (working picks (stored_of value_of library)) begun left held held') → OnErr result (IsWorkedInPartBy picks order limit left held held')
 worked_in_part_by_kit picks order library items begun limit left held held' (Ok counts) same listed new h = tt
 worked_in_part_by_kit picks order library items begun limit left held held' (Err e) same listed new h =
     let stored : stored_of value_of library ≡ kit_library = ap (map (stored_as value_of)) same ∙ listed in
-    answered_in_part_by_work picks order limit left held held' (subst (λ (P : Type 0). P) (λ i. IsAnsweredInPartBy (working picks (stored i)) (new i) left held held') h)
+    subst (λ (P : Type 0). P) (λ i. IsAnsweredInPartBy (working picks (stored i)) (new i) left held held') h

@@ -52,8 +52,16 @@ IsAnsweredInPart left held held' limit = IsAnsweredInPartBy (workbench kit_libra
 abbrev pub IsWorkedBy : {O : Type 0} → Picks O → O → ℕ → Option (List ℕ) → Option (List ℕ) → Option (List ℕ) → Counts → Type 0
 IsWorkedBy picks order limit = IsAnsweredBy (working picks kit_library) (new_standing limit order)
 
--- by the one that was chosen, which a seed may begin
+abbrev pub IsWorkedInPartBy : {O : Type 0} → Picks O → O → ℕ → Option (List ℕ) → Option (List ℕ) → Option (List ℕ) → Type 0
+IsWorkedInPartBy picks order limit = IsAnsweredInPartBy (working picks kit_library) (new_standing limit order)
+
+-- by the order that was chosen, which a seed may begin
 abbrev pub IsWorked : Pick → ℕ → ℕ → Option (List ℕ) → Option (List ℕ) → Option (List ℕ) → Counts → Type 0
 IsWorked Fifo seed limit = IsWorkedBy picks_first (record {}) limit
 IsWorked Lifo seed limit = IsWorkedBy picks_last (record {}) limit
 IsWorked Mixed seed limit = IsWorkedBy picks_mixed (record { number = seed }) limit
+
+abbrev pub IsWorkedInPart : Pick → ℕ → ℕ → Option (List ℕ) → Option (List ℕ) → Option (List ℕ) → Type 0
+IsWorkedInPart Fifo seed limit = IsWorkedInPartBy picks_first (record {}) limit
+IsWorkedInPart Lifo seed limit = IsWorkedInPartBy picks_last (record {}) limit
+IsWorkedInPart Mixed seed limit = IsWorkedInPartBy picks_mixed (record { number = seed }) limit

@@ -4,7 +4,7 @@ ghost use Rattle.prop_arith.specs.Values.{value_of};
 ghost use Rattle.prop_procedures.specs.Kept.{AllMean, stored_as};
 ghost use Rattle.prop_engine.specs.Watched.{reader, writer, device, IsFresh, IsPassedOn};
 ghost use Rattle.propbench.specs.Faults.{TellsDevices};
-ghost use Rattle.propbench.specs.Kits.{kit_library, kit_related, IsAnswered, IsAnsweredBy, IsAnsweredInPart, IsAnsweredInPartBy, IsWorked, IsWorkedBy};
+ghost use Rattle.propbench.specs.Kits.{kit_library, kit_related, IsAnswered, IsAnsweredBy, IsAnsweredInPart, IsAnsweredInPartBy, IsWorked, IsWorkedBy, IsWorkedInPart, IsWorkedInPartBy};
 ghost use Rattle.prop_cells.specs.Points.{AreSoundBy};
 ghost use Rattle.prop_workbench.specs.Engine.{standing_of, working_of};
 ghost use Rattle.prop_workbench.specs.Sessions.{IsSound, IsMeant};
@@ -35,13 +35,16 @@ pub fn run<Rd: Read, W: Write>(
     ensures ok { IfOk result (IsAnswered (Rd.remaining (device (reader devices.old)))
         (W.contents (device (writer devices.old)))
         (W.contents (device (writer devices.new))) options.limit) }
+    ensures err { OnErr result (IsAnsweredInPart (Rd.remaining (device (reader devices.old)))
+        (W.contents (device (writer devices.old)))
+        (W.contents (device (writer devices.new))) options.limit) }
     // Each text is earned by steps that were taken, in the order that was chosen.
     ensures earned { IfOk result (IsWorked options.order options.seed options.limit
         (Rd.remaining (device (reader devices.old))) (W.contents (device (writer devices.old)))
         (W.contents (device (writer devices.new)))) }
-    ensures err { OnErr result (IsAnsweredInPart (Rd.remaining (device (reader devices.old)))
-        (W.contents (device (writer devices.old)))
-        (W.contents (device (writer devices.new))) options.limit) }
+    ensures earned_in_part { OnErr result (IsWorkedInPart options.order options.seed options.limit
+        (Rd.remaining (device (reader devices.old))) (W.contents (device (writer devices.old)))
+        (W.contents (device (writer devices.new)))) }
     ensures devices { TellsDevices result devices.old devices.new }
     // So values that belong together and satisfy all that is believed lie in each answer.
     ensures points { AreSoundBy kit_library kit_related }
@@ -74,9 +77,9 @@ fn serve<Rd: Read, W: Write>(
     ensures earned { IfOk result (IsWorked options.order options.seed options.limit
         (Rd.remaining (device (reader devices.old))) (W.contents (device (writer devices.old)))
         (W.contents (device (writer devices.new)))) }
-    ensures err { OnErr result (IsAnsweredInPart (Rd.remaining (device (reader devices.old)))
-        (W.contents (device (writer devices.old)))
-        (W.contents (device (writer devices.new))) options.limit) }
+    ensures earned_in_part { OnErr result (IsWorkedInPart options.order options.seed options.limit
+        (Rd.remaining (device (reader devices.old))) (W.contents (device (writer devices.old)))
+        (W.contents (device (writer devices.new)))) }
     ensures devices { TellsDevices result devices.old devices.new }
 {
     let Options { limit, order, seed } = options;
@@ -102,9 +105,9 @@ fn serve_in<O: Order + Drop, Rd: Read, W: Write>(
     ensures earned { IfOk result (IsWorkedBy O.picks order limit
         (Rd.remaining (device (reader devices.old))) (W.contents (device (writer devices.old)))
         (W.contents (device (writer devices.new)))) }
-    ensures err { OnErr result (IsAnsweredInPart (Rd.remaining (device (reader devices.old)))
-        (W.contents (device (writer devices.old)))
-        (W.contents (device (writer devices.new))) limit) }
+    ensures earned_in_part { OnErr result (IsWorkedInPartBy O.picks order limit
+        (Rd.remaining (device (reader devices.old))) (W.contents (device (writer devices.old)))
+        (W.contents (device (writer devices.new)))) }
     ensures devices { TellsDevices result devices.old devices.new }
 {
     let network = Network::new(alloc, Library::new(procedures));

@@ -50,6 +50,7 @@ pub working_asks_by_prefix : {O : Type 0} (picks : Picks O) (library : List Stor
 working_asks_by_prefix picks library old line answer new s = record {
   steps = s.steps;
   step = λ named covers. let goes = s.step named covers in record { now = goes.now; covers = goes.covers; step = kept_steps library _ _ line answer s.steps goes.step };
+  fits = s.fits;
   lean = kept_as_read line _ s.lean;
   earned = kept_as_read line _ s.earned;
   wakes = kept_as_read line _ s.wakes;
@@ -74,6 +75,7 @@ working_is_total {O} picks library old line = total (have_one_reading line).0 (h
     refuses read is follows = record {
       steps = 0;
       step = λ named covers. record { now = named; covers = covers; step = (read, is, follows (naming old.shown.state named)) };
+      fits = λ f. f;
       lean = (read, is, lean_refused (set_of old.work.search.worldview) old.work.cells old.shown.state read Memory);
       earned = (read, is, earns_refused picks library old.shown.state old.work old.work read Memory 0);
       wakes = (read, is, wakes_refused old.shown.state old.shown.state old.work read Memory);
@@ -85,6 +87,7 @@ working_is_total {O} picks library old line = total (have_one_reading line).0 (h
       record {
         steps = 0;
         step = λ named covers. record { now = named; covers = covers; step = (Ok None, is, (refl, refl, refl)) };
+        fits = λ f. f;
         lean = (Ok None, is, tt);
         earned = (Ok None, is, tt);
         wakes = (Ok None, is, refl);

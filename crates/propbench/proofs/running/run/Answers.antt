@@ -5,11 +5,14 @@ use Rattle.propbench.proofs.Devices.{told_first}
 use Rattle.prop_engine.proofs.Io.{on_err}
 use Rattle.prop_procedures.specs.inner.Kept.{AllMean-push}
 use Rattle.prop_arith.specs.Values.{value_of}
-use Rattle.propbench.proofs.Starts.{nothing_yet, stored_is, listed_more, all_listed, kit_is_sound, inputs_fit, worked_answered}
+use Rattle.propbench.proofs.Starts.{nothing_yet, stored_is, listed_more, all_listed, kit_is_sound, inputs_fit, nothing_worked, worked_answered, worked_answered_in_part}
 use Rattle.propbench.proofs.running.run.Goals as goal
 
 pub returns-in_err-ins-clause-err : goal.returns-in_err-ins-clause-err
 returns-in_err-ins-clause-err g c = on_err _ _ (nothing_yet _ _ _)
+
+pub returns-in_err-ins-clause-earned_in_part : goal.returns-in_err-ins-clause-earned_in_part
+returns-in_err-ins-clause-earned_in_part g c = on_err _ _ (nothing_worked c.args.options.order c.args.options.seed c.args.options.limit _ _)
 
 pub returns-in_err-ins-clause-points : goal.returns-in_err-ins-clause-points
 returns-in_err-ins-clause-points g c = kit_is_sound
@@ -23,8 +26,14 @@ returns-in_err-push-clause-points g c = kit_is_sound
 pub returns-in_err-call-clause-err : goal.returns-in_err-call-clause-err
 returns-in_err-call-clause-err g c = on_err _ _ (nothing_yet _ _ _)
 
+pub returns-in_err-call-clause-earned_in_part : goal.returns-in_err-call-clause-earned_in_part
+returns-in_err-call-clause-earned_in_part g c = on_err _ _ (nothing_worked c.args.options.order c.args.options.seed c.args.options.limit _ _)
+
 pub returns-in_err-push-clause-err : goal.returns-in_err-push-clause-err
 returns-in_err-push-clause-err g c = on_err _ _ (nothing_yet _ _ _)
+
+pub returns-in_err-push-clause-earned_in_part : goal.returns-in_err-push-clause-earned_in_part
+returns-in_err-push-clause-earned_in_part g c = on_err _ _ (nothing_worked c.args.options.order c.args.options.seed c.args.options.limit _ _)
 
 pub new-requires-in-loop-rule-clause-some_inputs : goal.new-requires-in-loop-rule-clause-some_inputs
 new-requires-in-loop-rule-clause-some_inputs g c = rw (c.in_ok-ins.ensures.ok, c.ins.ensures) (inputs_fit _).0
@@ -56,7 +65,10 @@ pub returns-clause-earned : goal.returns-clause-earned
 returns-clause-earned g c = c.serve.ensures.earned
 
 pub returns-clause-err : goal.returns-clause-err
-returns-clause-err g c = c.serve.ensures.err
+returns-clause-err g c = worked_answered_in_part c.args.options.order c.args.options.seed c.args.options.limit _ _ _ c.serve.result c.serve.ensures.earned_in_part
+
+pub returns-clause-earned_in_part : goal.returns-clause-earned_in_part
+returns-clause-earned_in_part g c = c.serve.ensures.earned_in_part
 
 pub returns-clause-points : goal.returns-clause-points
 returns-clause-points g c = kit_is_sound

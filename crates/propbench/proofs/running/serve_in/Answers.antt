@@ -1,13 +1,13 @@
-use Rattle.std.proofs.Common.{◌∙◌, ap, sym, subst}
+use Rattle.std.proofs.Common.{◌∙◌, ap, inl, refl, sym, subst}
 use Rattle.std.proofs.lemmas.Result.{err_from_is_err_and}
 use Rattle.propbench.specs.Faults.{TellsDevices}
 use Rattle.propbench.proofs.Devices.{told_first}
 use Rattle.prop_engine.proofs.Io.{on_err}
-use Rattle.propbench.proofs.Starts.{nothing_yet, worked_by_kit, worked_in_part_by_kit}
+use Rattle.propbench.proofs.Starts.{worked_by_kit, worked_in_part_by_kit}
 use Rattle.propbench.proofs.running.serve_in.Goals as goal
 
-pub returns-in_err-session-clause-err : goal.returns-in_err-session-clause-err
-returns-in_err-session-clause-err g c = on_err _ _ (nothing_yet _ _ _)
+pub returns-in_err-session-clause-earned_in_part : goal.returns-in_err-session-clause-earned_in_part
+returns-in_err-session-clause-earned_in_part g c = on_err _ _ (inl refl)
 
 pub answer-counts-requires-clause-means : goal.answer-counts-requires-clause-means
 answer-counts-requires-clause-means g c = rw (c.in_ok-session.ensures.library, c.new-network.ensures.library, c.new.ensures) c.requires.means
@@ -17,8 +17,8 @@ returns-clause-earned g c =
     let same = ap (λ l. l.procedures.items) (c.in_ok-session.ensures.library ∙ c.new-network.ensures.library) ∙ ap (λ p. p.items) c.new.ensures in
     worked_by_kit g.O.Order.picks c.args.order c.in_ok-session.session.network.library c.args.procedures.items _ _ _ _ _ c.answer-counts.result same c.requires.listed c.in_ok-session.ensures.state c.answer-counts.ensures.ok
 
-pub returns-clause-err : goal.returns-clause-err
-returns-clause-err g c =
+pub returns-clause-earned_in_part : goal.returns-clause-earned_in_part
+returns-clause-earned_in_part g c =
     let same = ap (λ l. l.procedures.items) (c.in_ok-session.ensures.library ∙ c.new-network.ensures.library) ∙ ap (λ p. p.items) c.new.ensures in
     worked_in_part_by_kit g.O.Order.picks c.args.order c.in_ok-session.session.network.library c.args.procedures.items _ _ _ _ _ c.answer-counts.result same c.requires.listed c.in_ok-session.ensures.state c.answer-counts.ensures.err
 
