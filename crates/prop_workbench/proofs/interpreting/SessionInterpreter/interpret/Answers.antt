@@ -1,10 +1,12 @@
+use Rattle.std.proofs.Common.{subst}
 use Rattle.prop_procedures.specs.Kept.{stored_of}
 use Rattle.prop_engine.specs.Answers.{answer_of}
+use Rattle.prop_workbench.specs.Engine.{standing_of, WorkFits}
 use Rattle.prop_workbench.proofs.WorkLemmas.{works_by, sound_fits}
 use Rattle.prop_workbench.proofs.interpreting.SessionInterpreter.interpret.Goals as goal
 
 pub returns-clause-step : goal.returns-clause-step
 returns-clause-step g c =
     let e = c.command.ensures in
-    let fits = rw e.same at sound_fits g.R.Rule.value_of c.command.new.self e.sound in
+    let fits = subst (λ library. WorkFits (stored_of g.R.Rule.value_of library) (standing_of c.command.new.self)) e.same (sound_fits g.R.Rule.value_of c.command.new.self e.sound) in
     works_by g.O.Order.picks (stored_of g.R.Rule.value_of c.args.self.now.network.library) c.args.self.now c.command.new.self c.args.line.now (answer_of c.command.result) e.step fits e.lean e.earned e.wakes

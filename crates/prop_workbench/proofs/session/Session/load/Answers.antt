@@ -1,10 +1,10 @@
-use Rattle.std.proofs.Common.{◌∙◌, sym, arith, [], List, ℕ}
+use Rattle.std.proofs.Common.{◌∙◌, sym, subst, arith, [], List, ℕ}
 use Rattle.std.specs.Borrow.{Bor}
 use Rattle.std.proofs.lemmas.List.{length-map, get_or-map}
 use Rattle.prop_procedures.specs.Kept.{stored_of}
 use Rattle.prop_language.specs.Said.{words}
 use Rattle.prop_engine.specs.Answers.{answer_of}
-use Rattle.prop_workbench.specs.Engine.{standing_of, working}
+use Rattle.prop_workbench.specs.Engine.{standing_of, WorkFits, working}
 use Rattle.prop_workbench.proofs.WorkLemmas.{works_by, sound_fits}
 use Rattle.prop_workbench.proofs.LoadLemmas.{loads_next, stops_at, no_refusal}
 use Rattle.prop_workbench.proofs.session.Session.load.Goals as goal
@@ -18,7 +18,7 @@ returns-in-Refused-clause-err g c =
     let s = c.args.self.now in
     let library = stored_of g.R.Rule.value_of s.network.library in
     let e = c.command.ensures in
-    let fits = rw (e.same, c.loop-line.invariant.same) at sound_fits g.R.Rule.value_of c.command.new.self e.sound in
+    let fits = subst (λ it. WorkFits (stored_of g.R.Rule.value_of it) (standing_of c.command.new.self)) (e.same ∙ c.loop-line.invariant.same) (sound_fits g.R.Rule.value_of c.command.new.self e.sound) in
     let works = works_by g.O.Order.picks library c.loop-line.self c.command.new.self c.as_bytes.result.now (answer_of c.command.result) (rw c.loop-line.invariant.same at e.step) fits e.lean (rw c.loop-line.invariant.same at e.earned) e.wakes in
     stops_at (working g.O.Order.picks library) (standing_of s) (standing_of c.loop-line.self) (standing_of c.command.new.self) lines i c.as_bytes.result.now c.in-Refused.refusal
     (omega (arith, l, length-map c.args.lines.now (λ (w : Bor (List ℕ)). w.now))) line c.loop-line.invariant.loaded (rw c.in-Refused.is at works)
@@ -32,7 +32,7 @@ loop-line-preserved g c =
     let s = c.args.self.now in
     let library = stored_of g.R.Rule.value_of s.network.library in
     let e = c.command.ensures in
-    let fits = rw (e.same, c.loop-line.invariant.same) at sound_fits g.R.Rule.value_of c.command.new.self e.sound in
+    let fits = subst (λ it. WorkFits (stored_of g.R.Rule.value_of it) (standing_of c.command.new.self)) (e.same ∙ c.loop-line.invariant.same) (sound_fits g.R.Rule.value_of c.command.new.self e.sound) in
     let works = works_by g.O.Order.picks library c.loop-line.self c.command.new.self c.as_bytes.result.now (answer_of c.command.result) (rw c.loop-line.invariant.same at e.step) fits e.lean (rw c.loop-line.invariant.same at e.earned) e.wakes in
     record {
       same = c.command.ensures.same ∙ c.loop-line.invariant.same;
