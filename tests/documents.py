@@ -11,7 +11,7 @@ import re
 from case import Case
 
 TOP = os.path.dirname(os.path.dirname(os.path.realpath(__file__)))
-DOCUMENTS = ["README.md", "docs/TUTORIAL.md", "docs/LANGUAGE.md"]
+DOCUMENTS = ["README.md", "docs/TUTORIAL.md", "docs/LANGUAGE.md", "docs/PIPE.md"]
 COMMANDS = "domain relation cell attach define fix tell choose kick bring forget limit ask why core settle worldview nogoods".split()
 
 
