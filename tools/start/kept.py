@@ -1,0 +1,97 @@
+"""Where unproved programs are kept: one for each state of the sources. A lock is for who builds."""
+import contextlib
+import fcntl
+import hashlib
+import os
+import shutil
+from typing import Iterator
+
+from proved import TOP, sources
+from told import say
+
+# How many programs are kept, those that were started last.
+MOST = 8
+# What the name of a folder begins with in which a program is built.
+BUILD = "build-"
+
+
+def state() -> str:
+    """A checksum of all that an unproved program is made from: sources, and the toolchain."""
+    found = hashlib.sha256()
+    for path in sources("src"):
+        with open(path, "rb") as it:
+            text = it.read()
+        found.update(f"{os.path.relpath(path, TOP)} {len(text)}\n".encode() + text)
+    tool = shutil.which("rt")
+    if tool:
+        tool = os.path.realpath(tool)
+        about = os.stat(tool)
+        found.update(f"{tool} {about.st_size} {about.st_mtime_ns}\n".encode())
+    return found.hexdigest()[:20]
+
+
+def candidates() -> Iterator[str]:
+    """The folders that programs may be kept in, the one to be tried first in front."""
+    cache = os.environ.get("XDG_CACHE_HOME", "")
+    if not os.path.isabs(cache):
+        # (the standard says that another value is to be ignored)
+        cache = os.path.expanduser("~/.cache")
+    if os.path.isabs(cache):
+        yield f"{cache}/propbench"
+    yield f"{TOP}/out/cache"
+
+
+def folder() -> str | None:
+    """The first of them that can be written to, made where it is not there yet, or None."""
+    for path in candidates():
+        with contextlib.suppress(OSError):
+            os.makedirs(path, mode=0o700, exist_ok=True)
+            if os.access(path, os.W_OK | os.X_OK):
+                return path
+    return None
+
+
+def kept_program(state_of: str) -> str | None:
+    """The path of the program that is kept for a state of the sources, or None."""
+    for path in candidates():
+        program = f"{path}/{state_of}/propbench"
+        if os.access(program, os.X_OK):
+            with contextlib.suppress(OSError):
+                os.utime(os.path.dirname(program))
+            return program
+    return None
+
+
+@contextlib.contextmanager
+def held(where: str, waiting: str) -> Iterator[None]:
+    """Holds the folder's lock. Where another holds it, says so, and waits."""
+    lock = os.open(f"{where}/lock", os.O_RDWR | os.O_CREAT | os.O_CLOEXEC, 0o600)
+    try:
+        try:
+            fcntl.flock(lock, fcntl.LOCK_EX | fcntl.LOCK_NB)
+        except BlockingIOError:
+            say(waiting)
+            fcntl.flock(lock, fcntl.LOCK_EX)
+        yield
+    finally:
+        os.close(lock)
+
+
+def swept(where: str) -> None:
+    """Removes what builds left that were killed. The lock has to be held."""
+    for it in os.scandir(where):
+        if it.name.startswith(BUILD):
+            shutil.rmtree(it.path, ignore_errors=True)
+
+
+def keep(program: str, where: str, state_of: str) -> str:
+    """Puts a program, which lies below the same folder, where it is kept, and drops the oldest."""
+    place = f"{where}/{state_of}"
+    os.makedirs(place, exist_ok=True)
+    os.chmod(program, 0o755)
+    os.replace(program, f"{place}/propbench")
+    others = [it for it in os.scandir(where) if it.is_dir()]
+    others = [it for it in others if it.name != state_of and not it.name.startswith(BUILD)]
+    for it in sorted(others, key=lambda it: it.stat().st_mtime, reverse=True)[MOST - 1 :]:
+        shutil.rmtree(it.path, ignore_errors=True)
+    return f"{place}/propbench"
