@@ -8,7 +8,7 @@ from dataclasses import dataclass
 from typing import Callable, Iterator, Optional
 
 TOP = os.path.dirname(os.path.dirname(os.path.realpath(__file__)))
-FIRST = "#!/usr/bin/python3\n"
+FIRST = re.compile(r"#!/usr/bin/python3(?: -\w+)?\n")
 # This one installs what Python lacks, so it is the shell's.
 OF_THE_SHELL = ".ci/run"
 # Folders of the repository that hold what is built, or that other tests look at.
@@ -32,13 +32,13 @@ def text_of(path: str) -> str:
 def first_lines() -> Optional[str]:
     """What a person may run is run by Debian's Python, but for .ci/run, which names no other."""
     scripts = [it for it in files() if os.stat(f"{TOP}/{it}").st_mode & stat.S_IXUSR]
-    others = [it for it in scripts if it != OF_THE_SHELL and not text_of(it).startswith(FIRST)]
+    others = [it for it in scripts if it != OF_THE_SHELL and not FIRST.match(text_of(it))]
     if others or len(scripts) < 10:
         return f"{others} of {scripts}"
     if re.search(r"^\s*python3?\s", text_of(OF_THE_SHELL), flags=re.M):
         return f"{OF_THE_SHELL} runs a Python that is not /usr/bin/python3"
     modules = [it for it in files() if it.endswith(".py") and text_of(it).startswith("#!")]
-    odd = [it for it in modules if not text_of(it).startswith(FIRST)]
+    odd = [it for it in modules if not FIRST.match(text_of(it))]
     return f"{odd}" if odd else None
 
 

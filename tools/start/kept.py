@@ -4,7 +4,7 @@ import fcntl
 import hashlib
 import os
 import shutil
-from typing import Iterator
+from collections.abc import Iterator
 
 from proved import TOP, sources
 from told import say
@@ -18,7 +18,7 @@ BUILD = "build-"
 def state() -> str:
     """A checksum of all that an unproved program is made from: sources, and the toolchain."""
     found = hashlib.sha256()
-    for path in sources("src"):
+    for path in sorted(it.path for it in sources("src")):
         with open(path, "rb") as it:
             text = it.read()
         found.update(f"{os.path.relpath(path, TOP)} {len(text)}\n".encode() + text)

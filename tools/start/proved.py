@@ -1,6 +1,6 @@
 """Where the proved program lies, and whether the sources are still those that were proved."""
 import os
-from typing import Iterator
+from collections.abc import Iterator
 
 TOP = os.path.dirname(os.path.dirname(os.path.dirname(os.path.realpath(__file__))))
 PROGRAM = f"{TOP}/crates/propbench/out/propbench"
@@ -8,32 +8,26 @@ PROGRAM = f"{TOP}/crates/propbench/out/propbench"
 PARTS = ("src", "specs", "proofs")
 
 
-def crates() -> list[str]:
-    """The folders of the crates that the program is made of."""
-    names = sorted(os.listdir(f"{TOP}/crates"))
-    return [
-        f"{TOP}/crates/{it}" for it in names if it.startswith("prop") and not it.endswith("_tests")
-    ]
-
-
-def files_in(folder: str) -> Iterator[str]:
-    """The files below a folder, in order, but for those of tests."""
-    for entry in sorted(os.scandir(folder), key=lambda it: it.name):
-        if entry.name.startswith("tests") and os.path.basename(folder) == "src":
+def files_in(folder: str) -> Iterator[os.DirEntry[str]]:
+    """The files below a folder, but for those of tests."""
+    of_tests = os.path.basename(folder) == "src"
+    for entry in os.scandir(folder):
+        if of_tests and entry.name.startswith("tests"):
             continue
         if entry.is_dir():
             yield from files_in(entry.path)
         else:
-            yield entry.path
+            yield entry
 
 
-def sources(*parts: str) -> Iterator[str]:
-    """The files of these parts of each crate, and the list of crates."""
-    yield f"{TOP}/crates.txt"
-    for crate in crates():
-        for part in parts:
-            if os.path.isdir(f"{crate}/{part}"):
-                yield from files_in(f"{crate}/{part}")
+def sources(*parts: str) -> Iterator[os.DirEntry[str]]:
+    """The files of these parts of each crate that the program is made of, and the list of crates."""
+    yield from (it for it in os.scandir(TOP) if it.name == "crates.txt")
+    for crate in os.scandir(f"{TOP}/crates"):
+        if crate.name.startswith("prop") and not crate.name.endswith("_tests"):
+            for part in parts:
+                if os.path.isdir(f"{crate.path}/{part}"):
+                    yield from files_in(f"{crate.path}/{part}")
 
 
 def proved_program() -> str | None:
@@ -41,6 +35,6 @@ def proved_program() -> str | None:
     if not os.access(PROGRAM, os.X_OK):
         return None
     built = os.stat(PROGRAM).st_mtime_ns
-    if any(os.stat(path).st_mtime_ns > built for path in sources(*PARTS)):
+    if any(it.stat().st_mtime_ns > built for it in sources(*PARTS)):
         return None
     return PROGRAM

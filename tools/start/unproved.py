@@ -4,7 +4,7 @@ import shutil
 import signal
 import sys
 import tempfile
-from typing import Callable, NoReturn
+from collections.abc import Callable
 
 import kept
 import taken
@@ -71,8 +71,8 @@ def program_for(state: str) -> str | None:
         return kept.kept_program(state) or built(where, state)
 
 
-def run_unproved(become: Callable[[str, list[str]], NoReturn], words: list[str]) -> int:
-    """Runs the session unproved: `become` is given the program and these arguments for it.
+def run_unproved(become: Callable[[str, list[str]], int], words: list[str]) -> int:
+    """Runs the session unproved: `become` is given the program and these arguments, and becomes it.
 
     Returns a status where that can't be."""
     end_on_signals()
