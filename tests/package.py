@@ -329,12 +329,12 @@ def vim_colours(program: str) -> Optional[str]:
         said = "".join(f"echo synIDattr(synID({n}, {column}, 1), 'name')\n" for n, column in asked)
         with open(f"{folder}/script.vim", "w", encoding="utf-8") as it:
             it.write(f"set rtp^={files}\nfiletype plugin on\nsyntax on\nedit {folder}/some.prop\n")
-            it.write(f"redir > {folder}/said\n{said}redir END\nqall!\n")
+            it.write(f"redir > {folder}/said\n{said}echo &commentstring\nredir END\nqall!\n")
         words = ["vim", "-e", "-s", "-N", "-u", "NONE", "-i", "NONE", "-S", f"{folder}/script.vim"]
         ran(words)
         with open(f"{folder}/said", encoding="utf-8") as it:
             got = [it.removeprefix("propbench") for it in it.read().split("\n")[1:]]
-    wanted = [name for _, at in COLOURED for name in at.values()]
+    wanted = [name for _, at in COLOURED for name in at.values()] + ["# %s"]
     return None if got == wanted else f"{[*zip(asked, got, wanted)]}"
 
 

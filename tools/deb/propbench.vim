@@ -19,5 +19,4 @@ highlight default link propbenchWord Keyword
 highlight default link propbenchValue Constant
 highlight default link propbenchMark Delimiter
 
-setlocal commentstring=#\ %s
 let b:current_syntax = 'propbench'

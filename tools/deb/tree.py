@@ -16,7 +16,9 @@ MODULES = "usr/lib/python3/dist-packages/propbench"
 DOC = "usr/share/doc/propbench"
 VIM = "usr/share/vim/vimfiles"
 COMPLETIONS = "usr/share/bash-completion/completions"
+# What vim is told: which files are sessions, and how a line of them is made a note.
 DETECTS = "autocmd BufRead,BufNewFile *.prop setfiletype propbench\n"
+NOTES = "setlocal commentstring=#\\ %s\nlet b:undo_ftplugin = 'setlocal commentstring<'\n"
 DESK = """\
 #!/usr/bin/python3
 # The command of the Python package propbench, which `python3 -m propbench` runs too.
@@ -103,6 +105,7 @@ def files(build: Build) -> dict[str, bytes]:
         f"{COMPLETIONS}/propbench": completion.of_program(told).encode(),
         f"{VIM}/syntax/propbench.vim": read(f"{TOP}/tools/deb/propbench.vim"),
         f"{VIM}/ftdetect/propbench.vim": DETECTS.encode(),
+        f"{VIM}/ftplugin/propbench.vim": NOTES.encode(),
         f"{DOC}/copyright": COPYRIGHT.encode(),
         f"{DOC}/changelog.gz": packed(build.changes),
         **of_documents(),
