@@ -40,7 +40,7 @@ def output_of(*words: str) -> str:
 
 
 def room() -> str:
-    """A folder that is removed at the end of this process, which is to be the one that began all."""
+    """A folder that is removed at the end of this process, which has to be the one that began."""
     folder = tempfile.mkdtemp(prefix="package-test-")
     atexit.register(shutil.rmtree, folder, ignore_errors=True)
     return folder
@@ -70,7 +70,7 @@ def unpacked(program: str) -> str:
 
 @cache
 def installed_here() -> dict[str, list[str]]:
-    """The groups of alternatives that each package of this machine depends on, and each provided."""
+    """The groups of alternatives that each package of this machine, and each provided, needs."""
     form = "${Package}\t${Provides}\t${Pre-Depends}, ${Depends}\n"
     found: dict[str, list[str]] = {}
     for line in output_of("dpkg-query", "-W", "-f", form).split("\n")[:-1]:
@@ -259,6 +259,10 @@ def pages_are_clean(program: str) -> Optional[str]:
     for wanted in [*re.findall(r"--\w+", told), *documents.COMMANDS, "because morning evening"]:
         if not re.search(rf"^\W*{wanted}\b|{wanted}$", text, flags=re.M):
             return f"propbench.1 lacks {wanted}"
+    if os.path.exists(f"{TOP}/python/src/propbench/__main__.py"):
+        wanted = [".SH SYNOPSIS", ".SH PROPDESK RUN", ".SH PROPDESK SHELL", r"\-\-program"]
+        lacks = [it for it in wanted if it not in page(program, "propdesk")]
+        return f"propdesk.1 lacks {lacks}" if lacks else None
     return None
 
 
@@ -293,8 +297,13 @@ def completion_offers(program: str) -> Optional[str]:
         return f"{offered(program, 'propbench', '--')}, wanted {told}"
     if os.path.exists(f"{TOP}/python/src/propbench/__main__.py"):
         offers = offered(program, "propdesk", "")
-        if "run" not in offers or "shell" not in offers:
+        if not {"run", "shell", "--help"} <= {*offers}:
             return f"propdesk: {offers}"
+        offers = offered(program, "propdesk", "run", "some.prop", "--order", "")
+        if offers != ["fifo", "lifo", "mixed"] or offered(program, "propdesk", "run", "x"):
+            return f"propdesk run: {offers}"
+        if "--limit" not in offered(program, "propdesk", "run", "--l"):
+            return "propdesk run: no --limit"
     return None
 
 

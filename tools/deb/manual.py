@@ -98,11 +98,17 @@ def sections() -> dict[str, str]:
 
 def ran(words: list[str], **more: str) -> str:
     """What a command prints, run with these in its environment."""
-    path = {**os.environ, "COLUMNS": "80", "LC_ALL": "C.UTF-8", "TZ": "UTC", **more}
+    path = {**os.environ, "LC_ALL": "C.UTF-8", "TZ": "UTC", **more}
     done = subprocess.run(words, env=path, stdin=subprocess.DEVNULL, capture_output=True, text=True)
     if done.returncode:
         raise OSError(f"{words[0]}: {done.stderr.strip() or done.stdout.strip()}")
     return done.stdout
+
+
+def page(command: str, name: str, version: str, seconds: int, *more: str) -> str:
+    """What help2man makes of a command's --help. Errors: OSError with what it said."""
+    said = ["--no-info", "--name", name, "--version-string", version]
+    return ran(["help2man", *said, *more, command], SOURCE_DATE_EPOCH=str(seconds))
 
 
 def of_program(program: str, version: str, seconds: int) -> str:
@@ -114,16 +120,49 @@ def of_program(program: str, version: str, seconds: int) -> str:
         os.symlink(os.path.abspath(program), named)
         with open(more, "w", encoding="utf-8") as it:
             it.writelines(f"[{title}]\n{text}\n\n" for title, text in sections().items())
-        said = ["--no-info", "--name", NAME, "--version-string", version, "--include", more]
-        return ran(["help2man", *said, named], SOURCE_DATE_EPOCH=str(seconds))
+        return page(named, NAME, version, seconds, "--include", more)
 
 
-def of_desk(module: str, function: str, version: str, seconds: int) -> str:
-    """The page of propdesk, from the function that returns its parser of arguments.
+def desk_help(*command: str) -> str:
+    """What propdesk prints for --help, or one of its commands, in lines as long as they are."""
+    words = ["/usr/bin/python3", "-m", "propbench", *command, "--help"]
+    return ran(words, PYTHONPATH=f"{TOP}/python/src", PYTHONDONTWRITEBYTECODE="1", COLUMNS="1000")
 
-    Errors: OSError where argparse-manpage says what went wrong."""
-    said = ["--module", module, "--function", function, "--prog", "propdesk"]
-    said += ["--project-name", "propbench", "--version", version, "--description", NAME_OF_DESK]
-    said += ["--manual-title", "User Commands"]
-    path = {"PYTHONPATH": f"{TOP}/python/src", "SOURCE_DATE_EPOCH": str(seconds)}
-    return ran(["argparse-manpage", *said, "--output", "-"], **path)
+
+def desk_commands() -> list[str]:
+    """The commands of propdesk. Errors: OSError where it prints no help."""
+    return re.findall(r"^ {4}([a-z]\w*)(?:  |$)", desk_help(), flags=re.M)
+
+
+# (help2man knows heads that begin with a capital)
+HEADS = [("usage:", "Usage:"), ("options:", "Options:"), ("positional arguments:", "Arguments:")]
+SHOWS = """\
+#!/bin/sh
+cat <<'THE END'
+{text}
+THE END
+"""
+
+
+def desk_page(room: str, version: str, seconds: int, *command: str) -> str:
+    """What help2man makes of propdesk's help, or of one of its commands'."""
+    text = desk_help(*command)
+    for head, capital in HEADS:
+        text = re.sub(rf"^{head}", capital, text, flags=re.M)
+    with open(f"{room}/propdesk", "w", encoding="utf-8") as it:
+        it.write(SHOWS.format(text=text))
+    os.chmod(f"{room}/propdesk", 0o755)
+    return page(f"{room}/propdesk", NAME_OF_DESK, version, seconds)
+
+
+def of_desk(version: str, seconds: int) -> str:
+    """The page of propdesk: what it prints for --help, and behind that each of its commands does.
+
+    Errors: OSError where help2man says what went wrong."""
+    with tempfile.TemporaryDirectory(prefix="manual-") as room:
+        whole = desk_page(room, version, seconds)
+        for command in desk_commands():
+            _, _, told = desk_page(room, version, seconds, command).partition(".SH SYNOPSIS\n")
+            told = re.sub(r"^\.S[SH] \"?(.*?):?\"?$", r".SS \1", told, flags=re.M)
+            whole += f".SH PROPDESK {command.upper()}\n{told}"
+        return whole

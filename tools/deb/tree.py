@@ -2,7 +2,6 @@
 import glob
 import gzip
 import os
-import re
 import stat
 import subprocess
 from dataclasses import dataclass
@@ -60,15 +59,6 @@ def tracked(folder: str, pattern: str) -> list[str]:
     return sorted(it for it in found if os.path.isfile(it) and "__pycache__" not in it)
 
 
-def parser_of_desk() -> tuple[str, str] | None:
-    """The module and the name of the function that returns the parser of propdesk's arguments."""
-    for path in tracked("python/src/propbench", "*.py"):
-        found = re.search(rb"^def (\w+)\(\) -> (?:argparse\.)?ArgumentParser:", read(path), re.M)
-        if found:
-            return f"propbench.{os.path.basename(path)[:-3]}", found[1].decode()
-    return None
-
-
 def of_python(build: Build) -> dict[str, bytes]:
     """The Python package, and its command propdesk, where they are there."""
     if not os.path.isfile(f"{PYTHON}/__main__.py"):
@@ -78,11 +68,11 @@ def of_python(build: Build) -> dict[str, bytes]:
         for path in tracked("python/src/propbench", "**/*")
     }
     files["usr/bin/propdesk"] = DESK.encode()
-    parser = parser_of_desk()
-    if parser:
-        page = manual.of_desk(*parser, build.version, build.moment)
-        files["usr/share/man/man1/propdesk.1.gz"] = packed(page)
-        files[f"{COMPLETIONS}/propdesk"] = completion.of_desk(*parser).encode()
+    page = manual.of_desk(build.version, build.moment)
+    files["usr/share/man/man1/propdesk.1.gz"] = packed(page)
+    commands = {it: manual.desk_help(it) for it in manual.desk_commands()}
+    offers = completion.script("propdesk", manual.desk_help(), commands)
+    files[f"{COMPLETIONS}/propdesk"] = offers.encode()
     return files
 
 
@@ -102,7 +92,7 @@ def files(build: Build) -> dict[str, bytes]:
     found = {
         "usr/bin/propbench": read(build.program),
         "usr/share/man/man1/propbench.1.gz": packed(page),
-        f"{COMPLETIONS}/propbench": completion.of_program(told).encode(),
+        f"{COMPLETIONS}/propbench": completion.script("propbench", told, {}).encode(),
         f"{VIM}/syntax/propbench.vim": read(f"{TOP}/tools/deb/propbench.vim"),
         f"{VIM}/ftdetect/propbench.vim": DETECTS.encode(),
         f"{VIM}/ftplugin/propbench.vim": NOTES.encode(),

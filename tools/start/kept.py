@@ -4,10 +4,9 @@ import fcntl
 import hashlib
 import os
 import shutil
-from collections.abc import Iterator
+from collections.abc import Callable, Iterator
 
 from proved import TOP, sources
-from told import say
 
 # How many programs are kept, those that were started last.
 MOST = 8
@@ -63,14 +62,14 @@ def kept_program(state_of: str) -> str | None:
 
 
 @contextlib.contextmanager
-def held(where: str, waiting: str) -> Iterator[None]:
-    """Holds the folder's lock. Where another holds it, says so, and waits."""
+def held(where: str, tell: Callable[[], None]) -> Iterator[None]:
+    """Holds the folder's lock. Where another holds it, `tell` is called before it is waited for."""
     lock = os.open(f"{where}/lock", os.O_RDWR | os.O_CREAT | os.O_CLOEXEC, 0o600)
     try:
         try:
             fcntl.flock(lock, fcntl.LOCK_EX | fcntl.LOCK_NB)
         except BlockingIOError:
-            say(waiting)
+            tell()
             fcntl.flock(lock, fcntl.LOCK_EX)
         yield
     finally:

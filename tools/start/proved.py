@@ -21,7 +21,7 @@ def files_in(folder: str) -> Iterator[os.DirEntry[str]]:
 
 
 def sources(*parts: str) -> Iterator[os.DirEntry[str]]:
-    """The files of these parts of each crate that the program is made of, and the list of crates."""
+    """The files of these parts of each crate of the program, and the list of crates."""
     yield from (it for it in os.scandir(TOP) if it.name == "crates.txt")
     for crate in os.scandir(f"{TOP}/crates"):
         if crate.name.startswith("prop") and not crate.name.endswith("_tests"):

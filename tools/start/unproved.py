@@ -1,25 +1,30 @@
 """Runs an unproved program of the sources, which is built where none is kept."""
 import os
+import select
 import shutil
 import signal
+import subprocess
 import sys
-import tempfile
-from collections.abc import Callable
+from collections.abc import Callable, Iterator
 
 import kept
-import taken
 import tried
+from proved import TOP
+from taken import NotBuilt
 from told import Progress, say
 
-# About how many seconds a build takes.
-EXPECTED = 60
+# About how many seconds it takes until a program is there that runs, and until one that is fast.
+SOON, FAST = 60, 90
 # The statuses where there is no program to run, and where the build is interrupted.
 NONE, INTERRUPTED = 5, 130
 
 UNPROVED = "this session runs unproved; tools/build proves and builds the program"
-FIRST = f"""\
-nothing is built here for these sources yet, so an unproved program is built now, once,
-propbench: in about {EXPECTED} seconds; what you send meanwhile is answered then"""
+FIRST = """\
+no program is built here for these sources yet: an unproved one is built now, once,
+propbench: in about {} seconds; what you send meanwhile is answered then"""
+SLOWLY = """\
+this session runs unproved, and slowly: later ones, from about half a minute on, are fast;
+propbench: tools/build proves and builds the program"""
 WAITING = "another start builds the program already; waiting for it"
 NO_RT = """\
 no program is built here, and rt, which builds it, is not on the path:
@@ -29,6 +34,83 @@ ELSEWHERE = "this kit keeps its program where it can't be taken, so rt try runs 
 AT_TERMINAL = "which needs a file: ./propbench < examples/first.prop"
 
 
+class Builder:
+    """The process that builds. It goes on where this one has become a program that runs already."""
+
+    def __init__(self, state: str, where: str, is_soon: bool) -> None:
+        """With `is_soon` it tells a program too that runs already, and is slow."""
+        words = [f"{TOP}/tools/start/building.py", state, where, *["--soon"] * is_soon]
+        self.process = subprocess.Popen(
+            words,
+            stdin=subprocess.DEVNULL,
+            stdout=subprocess.PIPE,
+            stderr=subprocess.STDOUT,
+            start_new_session=True,
+        )
+        self.progress = Progress(SOON if is_soon else FAST)
+
+    def lines(self) -> Iterator[str]:
+        """What it tells, line by line, while the time that it takes is told."""
+        assert self.process.stdout
+        pipe, at, rest = self.process.stdout.fileno(), "reading the sources", b""
+        while True:
+            if not select.select([pipe], [], [], 0.5)[0]:
+                self.progress.tell(at)
+                continue
+            more = os.read(pipe, 65_536)
+            *whole, rest = (rest + more).split(b"\n")
+            for line in whole:
+                word, _, text = line.decode(errors="replace").partition(" ")
+                at = text if word == "at" else at
+                yield line.decode(errors="replace")
+            if not more:
+                return
+
+    def end(self) -> None:
+        """Has it clear up and end."""
+        if self.process.poll() is None:
+            self.process.terminate()
+            self.process.wait()
+
+
+def outcome(builder: Builder) -> tuple[str, str]:
+    """The word that says how the build went, and what belongs to it."""
+    lines = builder.lines()
+    for line in lines:
+        word, _, text = line.partition(" ")
+        if word == "waiting":
+            say(WAITING)
+        elif word == "building":
+            say(FIRST.format(builder.progress.expected))
+        elif word in ("done", "soon", "elsewhere"):
+            return word, text
+        elif word == "failed":
+            return word, "\n".join([text, *lines])
+        elif word != "at":
+            return "failed", "\n".join([line, *lines])
+    return "failed", "what builds the program ended without a word"
+
+
+def build(state: str, is_soon: bool) -> tuple[str, str]:
+    """How a build went: `done` or `soon` and a program, or `elsewhere`. Errors: NotBuilt."""
+    if not shutil.which("rt"):
+        raise NotBuilt(NO_RT)
+    where = kept.folder()
+    if not where:
+        raise NotBuilt(NO_FOLDER.format(", ".join(kept.candidates())))
+    builder = Builder(state, where, is_soon)
+    try:
+        word, text = outcome(builder)
+    except BaseException:
+        builder.end()
+        raise
+    finally:
+        builder.progress.end()
+    if word == "failed":
+        raise NotBuilt(text)
+    return word, text
+
+
 def end_on_signals() -> None:
     """Has a signal that asks this script to end clear up first, where it is not ignored."""
     for it in (signal.SIGTERM, signal.SIGHUP):
@@ -36,57 +118,26 @@ def end_on_signals() -> None:
             signal.signal(it, lambda number, _: sys.exit(128 + number))
 
 
-def built(where: str, state: str) -> str | None:
-    """Builds the program and keeps it in this folder; its path, or None where none can be taken.
-
-    Errors: NotBuilt."""
-    say(FIRST)
-    kept.swept(where)
-    progress = Progress(EXPECTED)
-    with tempfile.TemporaryDirectory(prefix=kept.BUILD, dir=where) as room:
-        try:
-            program = taken.compiled(room, progress.tell)
-        finally:
-            progress.end()
-        if not program:
-            return None
-        say(f"built after {progress.seconds():.0f} seconds")
-        return kept.keep(program, where, state)
-
-
-def program_for(state: str) -> str | None:
-    """The program for a state of the sources: one that is kept, or one that is built now.
-
-    Errors: NotBuilt, and None as `built` has it."""
-    program = kept.kept_program(state)
-    if program:
-        return program
-    if not shutil.which("rt"):
-        raise taken.NotBuilt(NO_RT)
-    where = kept.folder()
-    if not where:
-        raise taken.NotBuilt(NO_FOLDER.format(", ".join(kept.candidates())))
-    with kept.held(where, WAITING):
-        # (another start may have built it meanwhile)
-        return kept.kept_program(state) or built(where, state)
-
-
 def run_unproved(become: Callable[[str, list[str]], int], words: list[str]) -> int:
-    """Runs the session unproved: `become` is given the program and these arguments, and becomes it.
+    """Runs the session unproved: `become` is given the program and these arguments.
 
     Returns a status where that can't be."""
     end_on_signals()
+    is_terminal = os.isatty(0)
+    state = kept.state()
+    program = kept.kept_program(state)
+    word = "done"
     try:
-        program = program_for(kept.state())
-    except taken.NotBuilt as error:
+        if not program:
+            word, program = build(state, is_soon=not is_terminal)
+    except NotBuilt as error:
         say(f"{error}")
         return NONE
     except KeyboardInterrupt:
         return INTERRUPTED
-    if not program:
-        is_terminal = os.isatty(0)
+    if word == "elsewhere":
         say(f"{ELSEWHERE}, {AT_TERMINAL}" if is_terminal else ELSEWHERE)
         if is_terminal:
             return NONE
-    say(UNPROVED)
-    return become(program, words) if program else tried.run(words)
+    say(SLOWLY if word == "soon" else UNPROVED)
+    return tried.run(words) if word == "elsewhere" else become(program, words)
