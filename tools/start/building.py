@@ -9,7 +9,7 @@ on standard output, of a word and what belongs to it:
     waiting                 another one builds in this folder; this one goes on once that has ended
     building                it begins
     at TEXT                 what it is at
-    soon PATH               with --soon, a program that runs already; it takes some hundred times as long
+    soon PATH               with --soon, one that runs already, and takes some hundred times as long
     done PATH               the program, which is kept
     elsewhere               this kit keeps its program where it can't be taken
     failed TEXT             why there is none: this line and all behind it

@@ -1,6 +1,7 @@
 """Where unproved programs are kept: one for each state of the sources. A lock is for who builds."""
 import contextlib
 import fcntl
+import glob
 import hashlib
 import os
 import shutil
@@ -15,18 +16,24 @@ BUILD = "build-"
 
 
 def state() -> str:
-    """A checksum of all that an unproved program is made from: sources, and the toolchain."""
+    """A checksum of the sources of an unproved program, and one of the toolchain if it is there."""
     found = hashlib.sha256()
     for path in sorted(it.path for it in sources("src")):
         with open(path, "rb") as it:
             text = it.read()
         found.update(f"{os.path.relpath(path, TOP)} {len(text)}\n".encode() + text)
+    return f"{found.hexdigest()[:16]}-{kit()}"
+
+
+def kit() -> str:
+    """A checksum that tells the toolchain from others, or nothing where rt is not on the path."""
     tool = shutil.which("rt")
-    if tool:
-        tool = os.path.realpath(tool)
-        about = os.stat(tool)
-        found.update(f"{tool} {about.st_size} {about.st_mtime_ns}\n".encode())
-    return found.hexdigest()[:20]
+    if not tool:
+        return ""
+    tool = os.path.realpath(tool)
+    about = os.stat(tool)
+    told = f"{tool} {about.st_size} {about.st_mtime_ns}"
+    return hashlib.sha256(told.encode()).hexdigest()[:8]
 
 
 def candidates() -> Iterator[str]:
@@ -51,13 +58,14 @@ def folder() -> str | None:
 
 
 def kept_program(state_of: str) -> str | None:
-    """The path of the program that is kept for a state of the sources, or None."""
+    """The path of the program that is kept for a state, or None; without a toolchain any one's."""
+    name = f"{state_of}*" if state_of.endswith("-") else state_of
     for path in candidates():
-        program = f"{path}/{state_of}/propbench"
-        if os.access(program, os.X_OK):
-            with contextlib.suppress(OSError):
-                os.utime(os.path.dirname(program))
-            return program
+        for program in glob.glob(f"{glob.escape(path)}/{name}/propbench"):
+            if os.access(program, os.X_OK):
+                with contextlib.suppress(OSError):
+                    os.utime(os.path.dirname(program))
+                return program
     return None
 
 
