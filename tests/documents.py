@@ -7,21 +7,25 @@ are one session. The examples in LANGUAGE's tables are no sessions: they stand a
 import glob
 import os
 import re
+from typing import Iterable, Iterator, Optional
 
 from case import Case
 
 TOP = os.path.dirname(os.path.dirname(os.path.realpath(__file__)))
-DOCUMENTS = ["README.md", "docs/TUTORIAL.md", "docs/LANGUAGE.md"]
-COMMANDS = "domain relation cell attach define fix tell choose kick bring forget limit ask why core settle worldview nogoods".split()
+DOCUMENTS = ["README.md", "docs/TUTORIAL.md", "docs/LANGUAGE.md", "docs/PIPE.md"]
+COMMANDS = """
+domain relation cell attach define fix tell choose kick bring forget limit ask why core settle
+worldview nogoods
+""".split()
 
 
-def is_command(line):
+def is_command(line: str) -> bool:
     """Whether it is no reply: those to `nogoods` begin with that word too, and a number."""
     word, *rest = line.split(" ")
     return word in COMMANDS and not (word == "nogoods" and rest)
 
 
-def blocks(text):
+def blocks(text: str) -> Iterator[list[str]]:
     """The blocks that are sessions: those that begin with a command."""
     for block in re.findall(r"(?:^    .*\n)+", text, flags=re.M):
         lines = [line[4:] for line in block.splitlines()]
@@ -29,9 +33,10 @@ def blocks(text):
             yield lines
 
 
-def session(text):
+def session(text: str) -> tuple[list[str], list[str]]:
     """The lines of the blocks, and what they are answered."""
-    sent, wanted = [], []
+    sent: list[str] = []
+    wanted: list[str] = []
     for block in blocks(text):
         for line, behind in zip(block, [*block[1:], "settle"]):
             (sent if is_command(line) else wanted).append(line)
@@ -40,15 +45,15 @@ def session(text):
     return sent, wanted
 
 
-def as_bytes(lines):
+def as_bytes(lines: list[str]) -> bytes:
     return "".join(line + "\n" for line in lines).encode()
 
 
-def stripped(lines):
+def stripped(lines: Iterable[str]) -> list[str]:
     return [line.strip() for line in lines if line.strip()]
 
 
-def code_shown():
+def code_shown() -> Optional[str]:
     """What docs/HOSTING.md shows as code that stands nowhere in the crate of the host, or None."""
     texts = []
     for path in glob.glob(f"{TOP}/crates/prop_host_tests/**/*", recursive=True):
@@ -63,7 +68,7 @@ def code_shown():
     return None
 
 
-def cases():
+def cases() -> Iterator[Case]:
     for document in DOCUMENTS:
         with open(f"{TOP}/{document}", encoding="utf-8") as it:
             sent, wanted = session(it.read())

@@ -1,0 +1,98 @@
+"""The scripts of the repository: what runs them, and that their types and their layout hold."""
+import glob
+import os
+import re
+import stat
+import subprocess
+from dataclasses import dataclass
+from typing import Callable, Iterator, Optional
+
+TOP = os.path.dirname(os.path.dirname(os.path.realpath(__file__)))
+FIRST = re.compile(r"#!/usr/bin/python3(?: -\w+)?\n")
+# This one installs what Python lacks, so it is the shell's.
+OF_THE_SHELL = ".ci/run"
+# Folders of the repository that hold what is built, or that other tests look at.
+LEFT_OUT = ("out", "crates", "python", "__pycache__")
+
+
+def files() -> list[str]:
+    """The files of the repository, but for sources, the Python package and what is built."""
+    found = []
+    for folder, below, names in os.walk(TOP):
+        below[:] = [it for it in below if it not in LEFT_OUT and not it.startswith(".git")]
+        found += [os.path.relpath(f"{folder}/{it}", TOP) for it in names]
+    return sorted(found)
+
+
+def text_of(path: str) -> str:
+    with open(f"{TOP}/{path}", encoding="utf-8") as it:
+        return it.read()
+
+
+def first_lines() -> Optional[str]:
+    """What a person may run is run by Debian's Python, but for .ci/run, which names no other."""
+    scripts = [it for it in files() if os.stat(f"{TOP}/{it}").st_mode & stat.S_IXUSR]
+    others = [it for it in scripts if it != OF_THE_SHELL and not FIRST.match(text_of(it))]
+    if others or len(scripts) < 10:
+        return f"{others} of {scripts}"
+    if re.search(r"^\s*python3?\s", text_of(OF_THE_SHELL), flags=re.M):
+        return f"{OF_THE_SHELL} runs a Python that is not /usr/bin/python3"
+    modules = [it for it in files() if it.endswith(".py") and text_of(it).startswith("#!")]
+    odd = [it for it in modules if not FIRST.match(text_of(it))]
+    return f"{odd}" if odd else None
+
+
+# Scripts and modules that are typed and laid out by black, by the folder that they are looked at in.
+TYPED = {
+    "tools/start": ["*.py", "../../propbench"],
+    "tools/deb": ["*.py", "../package"],
+    "tools": ["pipe_speed", "python_gate"],
+    "tests": ["documents.py", "first_start.py", "gate.py", "package.py", "pipe.py", "scripts.py"],
+}
+# (older modules of tests/ have no types)
+MYPY = ["--strict", "--scripts-are-modules", "--follow-imports=silent"]
+MYPY += ["--cache-dir", f"{TOP}/out/mypy"]
+BLACK = ["--check", "--quiet", "--diff", "--line-length", "100"]
+
+
+def found_by(module: str, words: list[str]) -> Optional[str]:
+    """What a module of Debian's Python finds in them, folder by folder, or None."""
+    env = {**os.environ, "MYPYPATH": f"{TOP}/tools/start"}
+    for folder, patterns in TYPED.items():
+        place = f"{TOP}/{folder}"
+        names = [it for each in patterns for it in sorted(glob.glob(each, root_dir=place))]
+        command = ["/usr/bin/python3", "-m", module, *words, *names]
+        ran = subprocess.run(command, cwd=place, env=env, capture_output=True, text=True)
+        if ran.returncode:
+            return ran.stdout + ran.stderr
+    return None
+
+
+def types_hold() -> Optional[str]:
+    return found_by("mypy", MYPY)
+
+
+def layout_holds() -> Optional[str]:
+    return found_by("black", BLACK)
+
+
+@dataclass
+class OfScripts:
+    """Something that holds of the scripts, whatever the program is."""
+
+    title: str
+    holds: Callable[[], Optional[str]]
+
+    @property
+    def name(self) -> str:
+        return f"scripts: {self.title}"
+
+    def wrong(self, _program: str) -> Optional[str]:
+        """What is wrong with them, or None."""
+        return self.holds()
+
+
+def cases() -> Iterator[OfScripts]:
+    yield OfScripts("/usr/bin/python3 runs them", first_lines)
+    yield OfScripts("their types", types_hold)
+    yield OfScripts("their layout", layout_holds)

@@ -1,0 +1,132 @@
+"""What the package holds: each path in it, and the bytes that stand there."""
+import glob
+import gzip
+import os
+import stat
+import subprocess
+from dataclasses import dataclass
+
+import completion
+import manual
+from manual import TOP, document
+
+PYTHON = f"{TOP}/python/src/propbench"
+MODULES = "usr/lib/python3/dist-packages/propbench"
+DOC = "usr/share/doc/propbench"
+VIM = "usr/share/vim/vimfiles"
+COMPLETIONS = "usr/share/bash-completion/completions"
+# What vim is told: which files are sessions, and how a line of them is made a note.
+DETECTS = "autocmd BufRead,BufNewFile *.prop setfiletype propbench\n"
+NOTES = "setlocal commentstring=#\\ %s\nlet b:undo_ftplugin = 'setlocal commentstring<'\n"
+DESK = """\
+#!/usr/bin/python3
+# The command of the Python package propbench, which `python3 -m propbench` runs too.
+import runpy
+
+runpy.run_module("propbench", run_name="__main__", alter_sys=True)
+"""
+COPYRIGHT = """\
+Format: https://www.debian.org/doc/packaging-manuals/copyright-format/1.0/
+Upstream-Name: propbench
+Comment: The repository of propbench names no licence.
+"""
+
+
+@dataclass
+class Build:
+    """What a package is made from: the program, what it is called, and the moment that it bears."""
+
+    program: str
+    version: str
+    # Seconds since 1970.
+    moment: int
+    changes: str
+
+
+def read(path: str) -> bytes:
+    with open(path, "rb") as it:
+        return it.read()
+
+
+def packed(text: str | bytes) -> bytes:
+    """A text by gzip, without the name and the time that it would bear."""
+    return gzip.compress(text.encode() if isinstance(text, str) else text, 9, mtime=0)
+
+
+def tracked(folder: str, pattern: str) -> list[str]:
+    """The files below a folder that fit a pattern, hidden and compiled ones left out, in order."""
+    found = glob.glob(f"{TOP}/{folder}/{pattern}", recursive=True)
+    return sorted(it for it in found if os.path.isfile(it) and "__pycache__" not in it)
+
+
+def of_python(build: Build) -> dict[str, bytes]:
+    """The Python package, and its command propdesk, where they are there."""
+    if not os.path.isfile(f"{PYTHON}/__main__.py"):
+        return {}
+    files = {
+        f"{MODULES}/{os.path.relpath(path, PYTHON)}": read(path)
+        for path in tracked("python/src/propbench", "**/*")
+    }
+    files["usr/bin/propdesk"] = DESK.encode()
+    page = manual.of_desk(build.version, build.moment)
+    files["usr/share/man/man1/propdesk.1.gz"] = packed(page)
+    commands = {it: manual.desk_help(it) for it in manual.desk_commands()}
+    offers = completion.script("propdesk", manual.desk_help(), commands)
+    files[f"{COMPLETIONS}/propdesk"] = offers.encode()
+    return files
+
+
+def of_documents() -> dict[str, bytes]:
+    """README.md, docs/ and examples/, beside each other as they are in the repository."""
+    paths = [f"{TOP}/README.md", *tracked("docs", "*.md")]
+    paths += [*tracked("examples", "*.prop"), *tracked("examples", "*.out")]
+    return {f"{DOC}/{os.path.relpath(path, TOP)}": read(path) for path in paths}
+
+
+def files(build: Build) -> dict[str, bytes]:
+    """Each file of the package, by its path.
+
+    Errors: OSError where a page of the manual can't be made."""
+    page = manual.of_program(build.program, build.version, build.moment)
+    told = document("tools/start/help.txt")
+    found = {
+        "usr/bin/propbench": read(build.program),
+        "usr/share/man/man1/propbench.1.gz": packed(page),
+        f"{COMPLETIONS}/propbench": completion.script("propbench", told, {}).encode(),
+        f"{VIM}/syntax/propbench.vim": read(f"{TOP}/tools/deb/propbench.vim"),
+        f"{VIM}/ftdetect/propbench.vim": DETECTS.encode(),
+        f"{VIM}/ftplugin/propbench.vim": NOTES.encode(),
+        f"{DOC}/copyright": COPYRIGHT.encode(),
+        f"{DOC}/changelog.gz": packed(build.changes),
+        **of_documents(),
+        **of_python(build),
+    }
+    return dict(sorted(found.items()))
+
+
+def laid_out(found: dict[str, bytes], root: str, moment: int) -> None:
+    """Writes the files below a folder, with the same modes and times on every machine."""
+    for path, text in found.items():
+        file = f"{root}/{path}"
+        os.makedirs(os.path.dirname(file), exist_ok=True)
+        with open(file, "wb") as it:
+            it.write(text)
+    for folder, _, names in os.walk(root, topdown=False):
+        for name in names:
+            path = os.path.relpath(f"{folder}/{name}", root)
+            is_run = path.startswith("usr/bin/") or path in ("DEBIAN/postinst", "DEBIAN/prerm")
+            os.chmod(f"{folder}/{name}", 0o755 if is_run else 0o644)
+            os.utime(f"{folder}/{name}", (moment, moment))
+        os.chmod(folder, stat.S_IFDIR | 0o755)
+        os.utime(folder, (moment, moment))
+
+
+def built(root: str, to: str, moment: int) -> None:
+    """Makes the package of what lies below a folder, all of it owned by root.
+
+    Errors: OSError with what dpkg-deb said."""
+    words = ["dpkg-deb", "--root-owner-group", "-Zxz", "--threads-max=1", "--build", root, to]
+    path = {**os.environ, "SOURCE_DATE_EPOCH": str(moment), "LC_ALL": "C.UTF-8"}
+    done = subprocess.run(words, env=path, capture_output=True, text=True)
+    if done.returncode:
+        raise OSError(done.stderr.strip())

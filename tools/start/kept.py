@@ -1,0 +1,104 @@
+"""Where unproved programs are kept: one for each state of the sources. A lock is for who builds."""
+import contextlib
+import fcntl
+import glob
+import hashlib
+import os
+import shutil
+from collections.abc import Callable, Iterator
+
+from proved import TOP, sources
+
+# How many programs are kept, those that were started last.
+MOST = 8
+# What the name of a folder begins with in which a program is built.
+BUILD = "build-"
+
+
+def state() -> str:
+    """A checksum of the sources of an unproved program, and one of the toolchain if it is there."""
+    found = hashlib.sha256()
+    for path in sorted(it.path for it in sources("src")):
+        with open(path, "rb") as it:
+            text = it.read()
+        found.update(f"{os.path.relpath(path, TOP)} {len(text)}\n".encode() + text)
+    return f"{found.hexdigest()[:16]}-{kit()}"
+
+
+def kit() -> str:
+    """A checksum that tells the toolchain from others, or nothing where rt is not on the path."""
+    tool = shutil.which("rt")
+    if not tool:
+        return ""
+    tool = os.path.realpath(tool)
+    about = os.stat(tool)
+    told = f"{tool} {about.st_size} {about.st_mtime_ns}"
+    return hashlib.sha256(told.encode()).hexdigest()[:8]
+
+
+def candidates() -> Iterator[str]:
+    """The folders that programs may be kept in, the one to be tried first in front."""
+    cache = os.environ.get("XDG_CACHE_HOME", "")
+    if not os.path.isabs(cache):
+        # (the standard says that another value is to be ignored)
+        cache = os.path.expanduser("~/.cache")
+    if os.path.isabs(cache):
+        yield f"{cache}/propbench"
+    yield f"{TOP}/out/cache"
+
+
+def folder() -> str | None:
+    """The first of them that can be written to, made where it is not there yet, or None."""
+    for path in candidates():
+        with contextlib.suppress(OSError):
+            os.makedirs(path, mode=0o700, exist_ok=True)
+            if os.access(path, os.W_OK | os.X_OK):
+                return path
+    return None
+
+
+def kept_program(state_of: str) -> str | None:
+    """The path of the program that is kept for a state, or None; without a toolchain any one's."""
+    name = f"{state_of}*" if state_of.endswith("-") else state_of
+    for path in candidates():
+        for program in glob.glob(f"{glob.escape(path)}/{name}/propbench"):
+            if os.access(program, os.X_OK):
+                with contextlib.suppress(OSError):
+                    os.utime(os.path.dirname(program))
+                return program
+    return None
+
+
+@contextlib.contextmanager
+def held(where: str, tell: Callable[[], None]) -> Iterator[None]:
+    """Holds the folder's lock. Where another holds it, `tell` is called before it is waited for."""
+    lock = os.open(f"{where}/lock", os.O_RDWR | os.O_CREAT | os.O_CLOEXEC, 0o600)
+    try:
+        try:
+            fcntl.flock(lock, fcntl.LOCK_EX | fcntl.LOCK_NB)
+        except BlockingIOError:
+            tell()
+            fcntl.flock(lock, fcntl.LOCK_EX)
+        yield
+    finally:
+        os.close(lock)
+
+
+def swept(where: str) -> None:
+    """Removes what builds left that were killed. The lock has to be held."""
+    for it in os.scandir(where):
+        if it.name.startswith(BUILD):
+            shutil.rmtree(it.path, ignore_errors=True)
+
+
+def keep(program: str, where: str, state_of: str) -> str:
+    """Puts a program, which lies below the same folder, where it is kept, and drops the oldest."""
+    place = f"{where}/{state_of}"
+    os.makedirs(place, exist_ok=True)
+    os.chmod(program, 0o755)
+    os.replace(program, f"{place}/propbench")
+    others = [it for it in os.scandir(where) if it.is_dir()]
+    others = [it for it in others if it.name != state_of and not it.name.startswith(BUILD)]
+    for it in sorted(others, key=lambda it: it.stat().st_mtime, reverse=True)[MOST - 1 :]:
+        shutil.rmtree(it.path, ignore_errors=True)
+    return f"{place}/propbench"

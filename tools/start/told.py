@@ -1,0 +1,43 @@
+"""What is told on standard error while a program is built.
+
+At a terminal it is one line that moves, and else a line now and then."""
+import sys
+import time
+
+# Seconds between two lines where they are kept, as in a file.
+BETWEEN = 15.0
+
+
+def say(text: str) -> None:
+    """Tells one line."""
+    print(f"propbench: {text}", file=sys.stderr, flush=True)
+
+
+class Progress:
+    """How long a work has taken so far, and what it is at."""
+
+    def __init__(self, expected: int) -> None:
+        """The work takes about so many seconds."""
+        self.expected, self.began = expected, time.monotonic()
+        self.is_moving = sys.stderr.isatty()
+        self.last = self.began
+
+    def seconds(self) -> float:
+        return time.monotonic() - self.began
+
+    def tell(self, at: str) -> None:
+        """Tells what the work is at, where it is time for that."""
+        now = time.monotonic()
+        if now < self.last + (0.5 if self.is_moving else BETWEEN):
+            return
+        self.last = now
+        text = f"{at}, {self.seconds():.0f} seconds so far, of about {self.expected}"
+        if self.is_moving:
+            print(f"\r\x1b[Kpropbench: {text}", end="", file=sys.stderr, flush=True)
+        else:
+            say(text)
+
+    def end(self) -> None:
+        """Takes the line that moves away."""
+        if self.is_moving:
+            print("\r\x1b[K", end="", file=sys.stderr, flush=True)
