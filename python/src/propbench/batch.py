@@ -1,0 +1,106 @@
+"""Many lines at once: they are written while replies are read, and taken in as these come."""
+
+from collections.abc import Iterable
+
+from propbench.conversation import Conversation
+from propbench.refusals import Refused
+from propbench.replies import DONE, SILENT, Reply, lines_behind
+from propbench.words import as_line, encoded, is_silent
+
+# How many lines are written before replies are looked at.
+_BLOCK = 2048
+# Where fewer replies than this came at once, and more than this are to come, they are left to
+# gather.
+_FEW = 512
+
+
+def as_lines(lines: Iterable[str | bytes]) -> list[str]:
+    """The texts of lines. Raises ValueError where a line feed stands within one."""
+    given = list(lines)
+    try:
+        text = "\n".join(given)  # type: ignore[arg-type]
+    except TypeError:
+        return [as_line(line) for line in given]
+    if text.count("\n") != max(len(given) - 1, 0):
+        return [as_line(line) for line in given]
+    return given  # type: ignore[return-value]
+
+
+class Batch:
+    """Lines on their way, and what came of them so far."""
+
+    def __init__(self, conversation: Conversation, lines: list[str], sent: int) -> None:
+        """Lines before which so many were sent to the session."""
+        self._talk = conversation
+        self._lines = lines
+        self._sent = sent
+        self.replies: list[Reply | Refused] = [SILENT] * len(lines)
+        self.first_refused: Refused | None = None
+        # The places of the lines to which replies are still to come, and the lines of replies that
+        # have come and are not taken in.
+        self._places: list[int] = []
+        self._came: list[str] = []
+
+    def run(self) -> None:
+        """Sends all lines and takes in all replies. Where that ends early, what was taken in by
+        then counts as carried out, and the conversation is out of step."""
+        program = self._talk.program
+        self._talk.in_step = False
+        for first in range(0, len(self._lines), _BLOCK):
+            block = self._lines[first : first + _BLOCK]
+            self._places += [
+                place for place, line in enumerate(block, first) if not is_silent(line)
+            ]
+            program.put(_encoded(block))
+            self._take_in(program.take(wait=False))
+        while self._places:
+            came = program.take(wait=True)
+            self._take_in(came)
+            if len(came) < _FEW < len(self._places):
+                program.gather()
+        self._talk.in_step = True
+
+    def _take_in(self, lines: list[str]) -> None:
+        """Takes in the replies that have come whole, these lines being the last that came."""
+        self._came += lines
+        answered = read = 0
+        while read < len(self._came):
+            text = self._came[read]
+            place = self._places[answered]
+            if text == "ok":
+                line = self._lines[place]
+                self._talk.carried(line, line.split())
+                self.replies[place] = DONE
+                read += 1
+            else:
+                behind = self._behind(place, text)
+                if read + behind >= len(self._came):
+                    break
+                self._answer(place, "\n".join(self._came[read : read + behind + 1]))
+                read += behind + 1
+            answered += 1
+        del self._came[:read], self._places[:answered]
+
+    def _behind(self, place: int, text: str) -> int:
+        words = self._lines[place].split()
+        return lines_behind(words[0], text) if words else 0
+
+    def _answer(self, place: int, text: str) -> None:
+        """Takes in the reply to the line at a place, which is another than `ok`."""
+        line = self._lines[place]
+        words = line.split()
+        refused = self._talk.refused(line, text, self._sent + place + 1)
+        if refused:
+            self.replies[place] = refused
+            self.first_refused = self.first_refused or refused
+        else:
+            self.replies[place] = self._talk.reply(words, text)
+            self._talk.carried(line, words)
+
+
+def _encoded(lines: list[str]) -> bytes:
+    text = "\n".join(lines) + "\n"
+    try:
+        return text.encode()
+    except UnicodeEncodeError:
+        return b"".join(encoded(line) + b"\n" for line in lines)

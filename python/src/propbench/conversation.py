@@ -1,0 +1,100 @@
+"""A conversation: a program, the lines that it carried out, and the names that these declared.
+
+What was carried out and what the program has done are in step, but where an exception came between
+the two; then the program is begun anew with the lines that are known to be carried out.
+"""
+
+import time
+
+from propbench.blame import blame_for
+from propbench.known import Known
+from propbench.program import Program
+from propbench.refusals import CLASSES, Refused
+from propbench.replies import Reply, lines_behind, refusal_in, reply_of
+from propbench.words import encoded
+
+
+class Conversation:
+    """What was said to a program so far."""
+
+    def __init__(self, command: list[str], limit: int) -> None:
+        """Starts the program, whose runs take at most `limit` steps. Raises ProgramEnded."""
+        self.program = Program([*command, "--limit", str(limit)])
+        self.known = Known()
+        self.lines: list[str] = []
+        # The limit that the user gave, and the one that the program was told last.
+        self.limit = limit
+        self.program_limit = limit
+        self._learns = {**self.known.learns, "limit": self._learn_limit}
+        self.in_step = True
+        self._limit_on_its_way: int | None = None
+
+    def ask(self, line: str, command: str, steps: int | None = None) -> str:
+        """The whole reply to a line that has one, under a limit of so many steps where it is given.
+        The conversation is out of step until the reply is taken in and it is said to be in step."""
+        data = encoded(line) + b"\n"
+        if steps is not None and steps != self.program_limit:
+            data = b"limit %d\n" % steps + data
+            self._limit_on_its_way = steps
+        self.in_step = False
+        self.program.put(data)
+        if self._limit_on_its_way is not None:
+            self._take_limit()
+        return self.reply_to(command)
+
+    def set_limit(self) -> None:
+        """Gives the program the limit that the user gave."""
+        self.in_step = False
+        self._limit_on_its_way = self.limit
+        self.program.put(b"limit %d\n" % self.limit)
+        self._take_limit()
+        self.in_step = True
+
+    def late_reply(self, command: str, seconds: float) -> str | None:
+        """The reply for which `ask` was interrupted, where it comes within so many seconds."""
+        until = time.monotonic() + seconds
+        if self._limit_on_its_way is not None and self.program.has_reply(seconds):
+            self._take_limit()
+        if self._limit_on_its_way is None and self.program.has_reply(until - time.monotonic()):
+            return self.reply_to(command)
+        return None
+
+    def reply_to(self, command: str) -> str:
+        """The whole reply that comes next, to a line with this command."""
+        first = self.program.next_line()
+        behind = [self.program.next_line() for _ in range(lines_behind(command, first))]
+        return "\n".join([first, *behind]) if behind else first
+
+    def _take_limit(self) -> None:
+        self.program.next_line()
+        if self._limit_on_its_way is not None:
+            self.program_limit = self._limit_on_its_way
+        self._limit_on_its_way = None
+
+    def carried(self, line: str, words: list[str]) -> None:
+        """Takes in that a line was carried out."""
+        self.lines.append(line)
+        learn = self._learns.get(words[0])
+        if learn:
+            learn(words, line)
+
+    def cut(self, line: str, steps: int) -> None:
+        """Takes in that a question was run for so many steps."""
+        self.lines += [f"limit {steps}", line, f"limit {self.limit}"]
+
+    def _learn_limit(self, words: list[str], line: str) -> None:
+        self.limit = self.program_limit = int(words[1])
+
+    def reply(self, words: list[str], text: str) -> Reply:
+        """The reply that a text is to a line of these words, which was carried out."""
+        kind = self.known.cells.get(words[1], "") if len(words) > 1 else ""
+        return reply_of(words, text, kind)
+
+    def refused(self, line: str, text: str, line_number: int) -> Refused | None:
+        """The refusal that a text is, where it is one."""
+        refusal = refusal_in(text)
+        if refusal is None:
+            return None
+        number, said = refusal
+        blame = blame_for(line, number, said, self.known)
+        return CLASSES.get(number, Refused)(number, said, line, line_number, blame)
