@@ -4,7 +4,7 @@ from collections.abc import Iterable
 
 from propbench.conversation import Conversation
 from propbench.refusals import Refused
-from propbench.replies import DONE, SILENT, Reply, lines_behind
+from propbench.replies import DONE, SEVERAL, SILENT, Reply, lines_behind
 from propbench.words import as_line, encoded, is_silent
 
 # How many lines are written before replies are looked at.
@@ -63,39 +63,38 @@ class Batch:
     def _take_in(self, lines: list[str]) -> None:
         """Takes in the replies that have come whole, these lines being the last that came."""
         self._came += lines
-        answered = read = 0
-        while read < len(self._came):
-            text = self._came[read]
-            place = self._places[answered]
-            if text == "ok":
-                line = self._lines[place]
-                self._talk.carried(line, line.split())
-                self.replies[place] = DONE
-                read += 1
-            else:
-                behind = self._behind(place, text)
-                if read + behind >= len(self._came):
+        carried, came, places = self._talk.carried, self._came, self._places
+        count, answered, read = len(came), 0, 0
+        while read < count:
+            text, place = came[read], places[answered]
+            line = self._lines[place]
+            words = line.split()
+            end = read + 1
+            if words and words[0] in SEVERAL:
+                end += lines_behind(words[0], text)
+                if end > count:
                     break
-                self._answer(place, "\n".join(self._came[read : read + behind + 1]))
-                read += behind + 1
+                text = "\n".join(came[read:end])
+            read = end
             answered += 1
+            if text == "ok":
+                carried(line, words)
+                self.replies[place] = DONE
+            else:
+                self._answer(place, words, text)
         del self._came[:read], self._places[:answered]
 
-    def _behind(self, place: int, text: str) -> int:
-        words = self._lines[place].split()
-        return lines_behind(words[0], text) if words else 0
-
-    def _answer(self, place: int, text: str) -> None:
+    def _answer(self, place: int, words: list[str], text: str) -> None:
         """Takes in the reply to the line at a place, which is another than `ok`."""
         line = self._lines[place]
-        words = line.split()
-        refused = self._talk.refused(line, text, self._sent + place + 1)
-        if refused:
-            self.replies[place] = refused
-            self.first_refused = self.first_refused or refused
-        else:
-            self.replies[place] = self._talk.reply(words, text)
-            self._talk.carried(line, words)
+        if text.startswith("error "):
+            refused = self._talk.refused(line, text, self._sent + place + 1)
+            if refused:
+                self.replies[place] = refused
+                self.first_refused = self.first_refused or refused
+                return
+        self.replies[place] = self._talk.reply(words, text)
+        self._talk.carried(line, words)
 
 
 def _encoded(lines: list[str]) -> bytes:

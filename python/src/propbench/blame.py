@@ -180,13 +180,13 @@ def _is_no_local(step: list[Place]) -> bool:
 
 
 def _not_a_name(case: _Case) -> Blame:
-    for place in case.parse.places:
-        if _is_no_name(place):
-            return _at(place.token, _why_no_name(place.text))
     for step in case.steps() if case.command == "define" else []:
         if _is_no_local(step):
             says = "A local cell is written `local n KIND` or `local n like p`."
             return _at(step[0].token, says)
+    for place in case.parse.places:
+        if _is_no_name(place):
+            return _at(place.token, _why_no_name(place.text))
     for token in case.parse.of(Role.VALUE) if case.kind == "symbol" else []:
         if not is_name(token.text):
             return _at(token, _why_no_name(token.text))

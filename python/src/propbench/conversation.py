@@ -10,7 +10,7 @@ from propbench.blame import blame_for
 from propbench.known import Known
 from propbench.program import Program
 from propbench.refusals import CLASSES, Refused
-from propbench.replies import Reply, lines_behind, refusal_in, reply_of
+from propbench.replies import SEVERAL, Reply, lines_behind, refusal_in, reply_of
 from propbench.words import encoded
 
 
@@ -32,15 +32,15 @@ class Conversation:
     def ask(self, line: str, command: str, steps: int | None = None) -> str:
         """The whole reply to a line that has one, under a limit of so many steps where it is given.
         The conversation is out of step until the reply is taken in and it is said to be in step."""
-        data = encoded(line) + b"\n"
-        if steps is not None and steps != self.program_limit:
-            data = b"limit %d\n" % steps + data
-            self._limit_on_its_way = steps
         self.in_step = False
-        self.program.put(data)
-        if self._limit_on_its_way is not None:
+        if steps is not None and steps != self.program_limit:
+            self._limit_on_its_way = steps
+            self.program.put(b"limit %d\n" % steps + encoded(line) + b"\n")
             self._take_limit()
-        return self.reply_to(command)
+            first = self.program.next_line()
+        else:
+            first = self.program.reply_to(encoded(line) + b"\n")
+        return self._whole(command, first)
 
     def set_limit(self) -> None:
         """Gives the program the limit that the user gave."""
@@ -56,14 +56,15 @@ class Conversation:
         if self._limit_on_its_way is not None and self.program.has_reply(seconds):
             self._take_limit()
         if self._limit_on_its_way is None and self.program.has_reply(until - time.monotonic()):
-            return self.reply_to(command)
+            return self._whole(command, self.program.next_line())
         return None
 
-    def reply_to(self, command: str) -> str:
-        """The whole reply that comes next, to a line with this command."""
-        first = self.program.next_line()
+    def _whole(self, command: str, first: str) -> str:
+        """The whole reply to a line with this command, whose first line this is."""
+        if command not in SEVERAL:
+            return first
         behind = [self.program.next_line() for _ in range(lines_behind(command, first))]
-        return "\n".join([first, *behind]) if behind else first
+        return "\n".join([first, *behind])
 
     def _take_limit(self) -> None:
         self.program.next_line()

@@ -15,7 +15,9 @@ from collections import deque
 from contextlib import suppress
 from dataclasses import dataclass
 
-_PIECE = 1 << 20
+# How much is read at once, and how large a pipe is asked for, in bytes.
+_PIECE = 1 << 16
+_PIPE = 1 << 20
 # How long replies are left to gather, and the program is given to end by itself, in seconds.
 _GATHER = 0.001
 _END = 5.0
@@ -75,8 +77,8 @@ class Program:
         os.set_blocking(self._in, False)
         for pipe in (self._in, self._out):
             with suppress(OSError):
-                fcntl.fcntl(pipe, fcntl.F_SETPIPE_SZ, _PIECE)
-        self._waiting = memoryview(b"")
+                fcntl.fcntl(pipe, fcntl.F_SETPIPE_SZ, _PIPE)
+        self._waiting = b""
         self._part = b""
         self._lines: deque[str] = deque()
         self._ended: ProgramEnded | None = None
@@ -96,7 +98,7 @@ class Program:
 
     def put(self, data: bytes) -> None:
         """Sends whole lines, and takes in replies until they are all sent. Raises ProgramEnded."""
-        self._waiting = memoryview(data)
+        self._waiting = data
         self._write()
         while self._waiting:
             # Replies are looked at now and then: one by one each would cost a wake-up.
@@ -104,6 +106,16 @@ class Program:
                 self._write()
             if self._is_readable(0):
                 self._read()
+
+    def reply_to(self, data: bytes) -> str:
+        """The first line of the reply to a line, where no other is under way. Raises
+        ProgramEnded."""
+        self.put(data)
+        said = os.read(self._out, _PIECE)
+        if said.find(b"\n") == len(said) - 1 and said:
+            return said[:-1].decode()
+        self._come_in(said)
+        return self.next_line()
 
     def next_line(self) -> str:
         """The next reply line, without its line feed. Raises ProgramEnded."""
@@ -150,19 +162,22 @@ class Program:
                     stream.close()
 
     def _is_readable(self, seconds: float) -> bool:
-        return bool(self._come.poll(seconds * 1000))
+        return bool(self._come.poll(max(0, seconds) * 1000))
 
     def _write(self) -> None:
         try:
-            self._waiting = self._waiting[os.write(self._in, self._waiting) :]
+            written = os.write(self._in, self._waiting)
+            self._waiting = self._waiting[written:]
         except BlockingIOError:
             pass
         except BrokenPipeError:
             # It has ended; the replies before that are still to be read.
-            self._waiting = memoryview(b"")
+            self._waiting = b""
 
     def _read(self) -> None:
-        data = os.read(self._out, _PIECE)
+        self._come_in(os.read(self._out, _PIECE))
+
+    def _come_in(self, data: bytes) -> None:
         if not data:
             self._ended = self._how_ended()
             raise self._ended

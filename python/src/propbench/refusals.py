@@ -56,7 +56,7 @@ class Refused(Exception):
 
     def pointed(self, indent: str = "  ") -> str:
         """The line, and under it carets that point to the word, where there is one."""
-        shown = "".join(map(_shown, self.line))
+        shown = "".join(map(_shown, self.line.removesuffix("\r")))
         if self.blame.start is None:
             return indent + shown
         before = _width(self.line[: self.blame.start])

@@ -41,6 +41,17 @@ class Value:
     because: tuple[str, ...] | None = None
     reduced: bool | None = None
 
+    def __init__(
+        self,
+        cell: str,
+        value: Held,
+        settled: bool = True,
+        because: tuple[str, ...] | None = None,
+        reduced: bool | None = None,
+    ) -> None:
+        # By hand: replies are many, and a frozen class's own way takes twice as long.
+        vars(self).update(cell=cell, value=value, settled=settled, because=because, reduced=reduced)
+
     def __str__(self) -> str:
         text = f"{self.cell} = {self.value}"
         if not self.settled:
@@ -106,6 +117,11 @@ DONE = Done()
 SETTLED = Settled()
 UNSETTLED = Unsettled()
 
+# The commands whose reply may have more than one line.
+SEVERAL = frozenset(("worldview", "nogoods"))
+_PLAIN: dict[str, Reply] = {"ok": DONE, "settled": SETTLED, "unsettled": UNSETTLED}
+_VALUED = frozenset(("ask", "why", "core"))
+
 
 def _named(premises: tuple[str, ...]) -> str:
     return " ".join(premises) if premises else "no premise"
@@ -137,26 +153,32 @@ def reply_of(words: list[str], text: str, kind: str) -> Reply:
     `kind` is that of the cell that was asked for, where one was."""
     if text == "ok":
         return DONE
-    command = words[0]
     if text.startswith("contradiction:"):
         return Contradiction(_names(text[15:]))
-    if command in ("ask", "why", "core"):
-        return _value(words[1], command, text[len(words[1]) + 3 :], kind)
+    command = words[0]
+    if command in _VALUED:
+        return _value(words[1], text[len(words[1]) + 3 :], kind, command == "core")
     if command == "worldview" and text != "unsettled":
         inside, outside = text.split("\n")
         return Worldview(tuple(inside.split(" ")[1:]), tuple(outside.split(" ")[1:]))
     if command == "nogoods":
         return Nogoods(tuple(_names(line[8:]) for line in text.split("\n")[1:]))
-    return SETTLED if text == "settled" else UNSETTLED
+    return _PLAIN[text]
 
 
-def _value(cell: str, command: str, said: str, kind: str) -> Value:
-    """A value by what stands behind `X = `: the value has no space but within its braces."""
-    end = said.find("}") + 1 if said.startswith("{") else said.find(" ")
-    value = value_of(said if end < 0 else said[:end], kind)
-    behind = "" if end < 0 else said[end:]
-    if command == "ask":
-        return Value(cell, value, behind == "")
+def _value(cell: str, said: str, kind: str, is_core: bool) -> Value:
+    """A value by what stands behind `X = `. It has no space but within its braces."""
+    if said[0] == "{":
+        text, _, behind = said.partition("}")
+        behind = behind[1:]
+    else:
+        text, _, behind = said.partition(" ")
+    value = value_of(text, kind)
+    if not behind:
+        return Value(cell, value)
+    if behind.startswith("because "):
+        return Value(cell, value, True, _names(behind[8:]), True if is_core else None)
+    if behind == "unsettled":
+        return Value(cell, value, False)
     mark, _, premises = behind.partition(" because ")
-    reduced = mark == "" if command == "core" else None
-    return Value(cell, value, mark != " unsettled", _names(premises), reduced)
+    return Value(cell, value, mark != "unsettled", _names(premises), False if is_core else None)

@@ -24,117 +24,143 @@ _SHORT, _LONG = 0.05, 0.5
 _GRACE = 2.0
 
 
-@dataclass(frozen=True)
+@dataclass
+class Watch:
+    """Who may end a run: it is cut after `until`, a time of the monotonic clock, and `progress` is
+    told of it, which may raise. `stopped` is what ended it from outside, and `taken` the steps of
+    the slices that were used up."""
+
+    until: float | None = None
+    progress: Progress | None = None
+    stopped: BaseException | None = None
+    taken: int = 0
+
+    def is_over(self, reply: Reply) -> bool:
+        """Tells of a run that isn't settled; whether it is to end here."""
+        if self.progress and not self.stopped:
+            try:
+                self.progress(self.taken, reply)
+            except BaseException as stopped:
+                self.stopped = stopped
+        is_late = self.until is not None and time.monotonic() >= self.until
+        return is_late or self.stopped is not None
+
+
+@dataclass(slots=True)
 class Question:
-    """A line that runs the network, its words, and its number among the lines that were sent. The
-    run is cut after `until`, a time of the monotonic clock, and `progress` is told of it."""
+    """A line that runs the network, its words, and its number among the lines that were sent."""
 
     line: str
     words: list[str]
     number: int
-    until: float | None = None
-    progress: Progress | None = None
-
-    @property
-    def is_watched(self) -> bool:
-        """Whether the run may be cut, or somebody is told of it."""
-        return self.until is not None or self.progress is not None
-
-    @property
-    def is_late(self) -> bool:
-        """Whether the run is to be cut now."""
-        return self.until is not None and time.monotonic() >= self.until
 
 
 def _is_settled(reply: Reply) -> bool:
-    return not isinstance(reply, Unsettled) and not (isinstance(reply, Value) and not reply.settled)
+    return reply.settled if isinstance(reply, Value) else not isinstance(reply, Unsettled)
 
 
 class Runner:
     """Runs questions of a conversation. The size of a slice is kept from one to the next."""
 
-    def __init__(self, conversation: Conversation) -> None:
-        self.conversation = conversation
+    def __init__(self, talk: Conversation) -> None:
+        self.talk = talk
         self.steps = _STEPS
-        # What ends the run from outside: Ctrl-C, or what `progress` raised.
-        self._stopped: BaseException | None = None
 
-    def run(self, question: Question) -> Reply:
-        """The reply to a question, in as many slices as it needs. Raises its refusal, and what ends
-        the run from outside."""
-        self._stopped = None
-        talk = self.conversation
-        words = question.words
-        is_long_core = words[0] == "core" and talk.limit > self.steps
-        if is_long_core and len(words) == 2 and words[1] in talk.known.cells:
-            reply = self._core(question)
+    def run(self, line: str, words: list[str], number: int) -> Reply:
+        """The reply to a question, in as many slices as it needs; its words and its number among
+        the lines that were sent are given with it. Raises its refusal, and KeyboardInterrupt, after
+        which another question goes on from there."""
+        talk = self.talk
+        steps = self.steps if self.steps < talk.limit else talk.limit
+        command = words[0]
+        if command == "core" and steps < talk.limit:
+            return self.watched(Question(line, words, number), Watch())
+        try:
+            text = talk.ask(line, command, steps)
+        except KeyboardInterrupt as stopped:
+            question = Question(line, words, number)
+            return self._gone_on(question, Watch(stopped=stopped), steps, None)
+        if text.startswith("error "):
+            reply = self._reply(Question(line, words, number), text)
         else:
-            reply, taken = self._slices(question, question.line, words)
-            self._take_in(question, reply, taken)
+            reply = talk.reply(words, text)
+        if not _is_settled(reply) and steps < talk.limit:
+            return self._gone_on(Question(line, words, number), Watch(), steps, reply)
+        talk.carried(line, words)
         talk.in_step = True
-        if self._stopped:
-            raise self._stopped
         return reply
 
-    def _take_in(self, question: Question, reply: Reply, taken: int) -> None:
-        if _is_settled(reply) or taken == self.conversation.limit:
-            self.conversation.carried(question.line, question.words)
+    def watched(self, question: Question, watch: Watch) -> Reply:
+        """The same, where somebody may end the run. Raises what they raise."""
+        words, talk = question.words, self.talk
+        is_long_core = words[0] == "core" and self.steps < talk.limit
+        if not is_long_core or len(words) != 2 or words[1] not in talk.known.cells:
+            steps = min(self.steps, talk.limit)
+            return self._gone_on(question, watch, steps, self._slice(question, watch, steps))
+        reply = self._core(question, watch)
+        talk.in_step = True
+        if watch.stopped:
+            raise watch.stopped
+        return reply
+
+    def _gone_on(self, question: Question, watch: Watch, steps: int, reply: Reply | None) -> Reply:
+        """The reply to a question, after a first slice of so many steps, to which this was the
+        reply; none where it was interrupted."""
+        if reply is None:
+            reply = self._late(question, watch)
+        reply = self._slices(question, watch, steps, reply)
+        self._take_in(question, watch, reply)
+        self.talk.in_step = True
+        if watch.stopped:
+            raise watch.stopped
+        return reply
+
+    def _take_in(self, question: Question, watch: Watch, reply: Reply) -> None:
+        if _is_settled(reply) or watch.taken == self.talk.limit:
+            self.talk.carried(question.line, question.words)
         else:
-            self.conversation.cut(question.line, taken)
+            self.talk.cut(question.line, watch.taken)
 
-    def _slices(self, question: Question, line: str, words: list[str]) -> tuple[Reply, int]:
-        """The reply to a line by slices that go on from one another, until it is settled, cut, or
-        the limit is used up; and the steps of those slices that were used up."""
-        talk = self.conversation
-        taken = 0
-        while True:
-            steps = min(self.steps, talk.limit - taken)
+    def _slices(self, question: Question, watch: Watch, steps: int, reply: Reply) -> Reply:
+        """The reply to a question by slices that go on from one another, until it is settled, cut,
+        or the limit is used up. The first, of so many steps, has been taken, with this reply."""
+        while not _is_settled(reply):
+            watch.taken += steps
+            if watch.taken == self.talk.limit or watch.is_over(reply):
+                break
+            steps = min(self.steps, self.talk.limit - watch.taken)
             begun = time.monotonic()
-            reply = self._slice(question, line, words, steps)
-            if reply is None:
-                self._give_up(line, taken)
-            elif _is_settled(reply):
-                return reply, taken
-            else:
-                taken += steps
-                if taken == talk.limit or self._is_cut(question, taken, reply):
-                    return reply, taken
-                self._adapt(time.monotonic() - begun)
+            reply = self._slice(question, watch, steps)
+            self._adapt(time.monotonic() - begun)
+        return reply
 
-    def _slice(self, question: Question, line: str, words: list[str], steps: int) -> Reply | None:
-        """The reply to a line under so many steps; None where the run was interrupted, and no reply
-        came soon."""
-        talk = self.conversation
+    def _slice(self, question: Question, watch: Watch, steps: int) -> Reply:
+        """The reply to a question under so many steps. Where the run was interrupted, and no reply
+        came soon, the program is ended, and KeyboardInterrupt raised."""
         try:
-            text: str | None = talk.ask(line, words[0], steps)
+            text = self.talk.ask(question.line, question.words[0], steps)
         except KeyboardInterrupt as stopped:
-            self._stopped = stopped
-            text = talk.late_reply(words[0], _GRACE)
+            watch.stopped = stopped
+            return self._late(question, watch)
+        return self._reply(question, text)
+
+    def _late(self, question: Question, watch: Watch) -> Reply:
+        """The reply to a question that was interrupted, where it comes soon."""
+        text = self.talk.late_reply(question.words[0], _GRACE)
         if text is None:
-            return None
-        refused = talk.refused(question.line, text, question.number)
+            self.talk.program.kill()
+            if watch.taken:
+                self.talk.cut(question.line, watch.taken)
+            assert watch.stopped
+            raise watch.stopped
+        return self._reply(question, text)
+
+    def _reply(self, question: Question, text: str) -> Reply:
+        refused = self.talk.refused(question.line, text, question.number)
         if refused:
-            talk.in_step = True
+            self.talk.in_step = True
             raise refused
-        return talk.reply(words, text)
-
-    def _is_cut(self, question: Question, taken: int, reply: Reply) -> bool:
-        """Whether the run is to end here, of which somebody is told who may say so too."""
-        if question.progress and not self._stopped:
-            try:
-                question.progress(taken, reply)
-            except BaseException as stopped:
-                self._stopped = stopped
-        return self._stopped is not None or question.is_late
-
-    def _give_up(self, line: str, taken: int) -> NoReturn:
-        """Ends the program in the middle of a slice, where all before it is kept."""
-        talk = self.conversation
-        talk.program.kill()
-        if taken:
-            talk.cut(line, taken)
-        assert self._stopped
-        raise self._stopped
+        return self.talk.reply(question.words, text)
 
     def _adapt(self, seconds: float) -> None:
         if seconds < _SHORT:
@@ -142,39 +168,42 @@ class Runner:
         elif seconds > _LONG:
             self.steps = max(self.steps // 2, _FEWEST_STEPS)
 
-    def _core(self, question: Question) -> Reply:
+    def _core(self, question: Question, watch: Watch) -> Reply:
         """The reply to a `core` under a limit of more than one slice. The run before its tries goes
         in slices, as that of a `why`. Each try begins anew, so the tries have all that is left of
         the limit; where the run is watched, more and more of it until they are enough."""
-        talk = self.conversation
-        why = ["why", question.words[1]]
-        reply, taken = self._slices(question, " ".join(why), why)
-        if isinstance(reply, Value):
+        talk = self.talk
+        words = ["why", question.words[1]]
+        why = replace(question, line=" ".join(words), words=words)
+        steps = min(self.steps, talk.limit)
+        reply = self._slices(why, watch, steps, self._slice(why, watch, steps))
+        if not isinstance(reply, Value):
+            self._take_in(question, watch, reply)
+        elif not reply.settled:
+            self._take_in(question, watch, reply)
             reply = replace(reply, reduced=False)
-        if not _is_settled(reply) or not isinstance(reply, Value):
-            self._take_in(question, reply, taken)
-            return reply
-        if self._stopped:
-            talk.carried(" ".join(why), why)
-            return reply
-        most = talk.limit - taken
-        return self._tries(question, min(self.steps, most) if question.is_watched else most, most)
+        elif watch.stopped:
+            self._take_in(why, watch, reply)
+        else:
+            return self._tries(question, watch, why)
+        return reply
 
-    def _tries(self, question: Question, steps: int, most: int) -> Reply:
-        """The reply to a `core` whose run came to rest, by tries of so many steps and more, `most`
-        at the end."""
-        talk = self.conversation
-        first = True
+    def _tries(self, question: Question, watch: Watch, why: Question) -> Reply:
+        """The reply to a `core` whose run came to rest, as that of this `why` did."""
+        talk = self.talk
+        most = talk.limit - watch.taken
+        is_watched = watch.until is not None or watch.progress is not None
+        steps = min(self.steps, most) if is_watched else most
+        watch.taken = 0
+        is_first = True
         while True:
-            reply = self._slice(question, question.line, question.words, steps)
-            if reply is None:
-                talk.lines.append(f"why {question.words[1]}")
-                self._give_up(question.line, 0)
+            reply = self._slice(question, watch, steps)
             is_done = steps == most or not (isinstance(reply, Value) and reply.reduced is False)
-            if first and is_done:
+            if is_first and is_done:
                 talk.carried(question.line, question.words)
             else:
                 talk.cut(question.line, steps)
-            if is_done or self._is_cut(question, steps, reply):
+            watch.taken += steps
+            if is_done or watch.is_over(reply):
                 return reply
-            first, steps = False, min(steps * 2, most)
+            is_first, steps = False, min(steps * 2, most)

@@ -14,11 +14,11 @@ from typing import Literal, overload
 from propbench.batch import Batch, as_lines
 from propbench.conversation import Conversation
 from propbench.finding import find_program
-from propbench.grammar import RUNNING
+from propbench.grammar import FORMS, RUNNING
 from propbench.known import Known
 from propbench.refusals import Refused
-from propbench.replies import SILENT, Reply
-from propbench.runs import Progress, Question, Runner
+from propbench.replies import DONE, SILENT, Reply
+from propbench.runs import Progress, Question, Runner, Watch
 from propbench.words import MOST_STEPS, as_line, is_silent
 
 STEPS = 1_000_000_000
@@ -111,6 +111,7 @@ class Session:
         self._closed = True
         self._finalizer.detach()
         if self._talk.in_step:
+            self._talk.in_step = False
             self._talk.program.end()
         else:
             self._talk.program.kill()
@@ -132,16 +133,17 @@ class Session:
         Raises the Refused of the number that the program answers, ProgramEnded, and ValueError
         where a line feed stands within the line.
         """
-        text = as_line(line)
-        self._be_ready()
+        text = line if isinstance(line, str) and "\n" not in line else as_line(line)
+        if not self._talk.in_step:
+            self._be_ready()
         self._sent += 1
-        if is_silent(text):
-            return SILENT
         words = text.split()
-        if words and words[0] in RUNNING:
-            until = None if seconds is None else time.monotonic() + seconds
-            return self._runner.run(Question(text, words, self._sent, until, progress))
-        return self._say(text, words)
+        if not words or words[0] not in RUNNING:
+            return self._say(text, words)
+        if seconds is None and progress is None:
+            return self._runner.run(text, words, self._sent)
+        until = None if seconds is None else time.monotonic() + seconds
+        return self._runner.watched(Question(text, words, self._sent), Watch(until, progress))
 
     @overload
     def send_all(self, lines: Iterable[str | bytes]) -> list[Reply]:
@@ -217,7 +219,13 @@ class Session:
     def _say(self, line: str, words: list[str]) -> Reply:
         """The reply to a line that runs nothing."""
         talk = self._talk
+        if (not words or words[0] not in FORMS) and is_silent(line):
+            return SILENT
         text = talk.ask(line, words[0] if words else "")
+        if text == "ok":
+            talk.carried(line, words)
+            talk.in_step = True
+            return DONE
         refused = talk.refused(line, text, self._sent)
         if refused is None:
             talk.carried(line, words)

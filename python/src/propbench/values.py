@@ -1,6 +1,7 @@
 """What a cell may hold: values as replies say them."""
 
 from dataclasses import dataclass
+from functools import lru_cache
 
 
 @dataclass(frozen=True)
@@ -9,6 +10,10 @@ class Span:
 
     low: int
     high: int
+
+    def __init__(self, low: int, high: int) -> None:
+        # By hand: replies are many, and a frozen class's own way takes twice as long.
+        vars(self).update(low=low, high=high)
 
     def __str__(self) -> str:
         return str(self.low) if self.low == self.high else f"{self.low}..{self.high}"
@@ -53,16 +58,17 @@ class Impossible:
 Held = Span | Elements | Symbol | Nothing | Impossible
 
 
+@lru_cache(maxsize=4096)
 def value_of(text: str, kind: str) -> Held:
     """The value that a text of a reply is, for a cell of this kind: `span`, `symbol`, or else
     elements of a domain."""
+    if kind == "span" and text[-1].isdigit():
+        low, dots, high = text.partition("..")
+        return Span(int(low), int(high)) if dots else Span(int(low), int(low))
     if text == "nothing":
         return Nothing()
     if text == "contradiction":
         return Impossible()
-    if kind == "span":
-        low, dots, high = text.partition("..")
-        return Span(int(low), int(high if dots else low))
     if kind == "symbol":
         return Symbol(text)
     return Elements(tuple(text.strip("{}").split()))

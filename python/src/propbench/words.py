@@ -57,9 +57,10 @@ def as_line(line: str | bytes) -> str:
     Raises ValueError where a line feed stands within.
     """
     text = line if isinstance(line, str) else line.decode("utf-8", "surrogateescape")
-    text = text.removesuffix("\n")
     if "\n" in text:
-        raise ValueError("a line feed ends a line: send the lines one by one, or by send_all")
+        text = text.removesuffix("\n")
+        if "\n" in text:
+            raise ValueError("a line feed ends a line: send the lines one by one, or by send_all")
     return text
 
 
