@@ -13,8 +13,10 @@ from propbench.fitting import Fitting, Misfit
 from propbench.grammar import FORMS, KINDS, Expected, Parse, Place, Role, parsed
 from propbench.kit import KIT
 from propbench.known import Known, steps_of
+from propbench.showing import quoted
 from propbench.words import (
     MOST_BYTES,
+    MOST_SCALE,
     NO_NAMES,
     Token,
     encoded,
@@ -23,7 +25,6 @@ from propbench.words import (
     looks_like_number,
     number_in,
     tokens_of,
-    MOST_SCALE,
 )
 
 _NAMES = (
@@ -106,17 +107,6 @@ def _at(token: Token, says: str, *among: Collection[str]) -> Blame:
     return Blame(token.text, token.start, says, tuple(NamesSoFar.of(table) for table in among))
 
 
-def quoted(word: str) -> str:
-    """The word as a message shows it, in backquotes, with what can't be printed escaped."""
-    return "`" + "".join(_printable(character) for character in word) + "`"
-
-
-def _printable(character: str) -> str:
-    if character.isprintable():
-        return character
-    return ascii(character)[1:-1].replace("\\udc", "\\x")
-
-
 def _too_long(case: _Case) -> Blame:
     count = len(encoded(case.line))
     return Blame(says=f"The line has {count:,} bytes, and {MOST_BYTES:,} is the most.")
@@ -149,6 +139,8 @@ def _wrong_form(case: _Case) -> Blame:
         end = len(case.line.rstrip("\r \t"))
         return Blame(None, end, f"Something is missing at the end: {wanted}.{written}")
     broken = case.parse.broken
+    if case.parse.expected == (Role.END,):
+        return _at(broken, f"The line is complete before {quoted(broken.text)}.{written}")
     return _at(broken, f"In place of {quoted(broken.text)} belongs {wanted}.{written}")
 
 

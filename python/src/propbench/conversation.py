@@ -42,11 +42,11 @@ class Conversation:
             first = self.program.reply_to(encoded(line) + b"\n")
         return self._whole(command, first)
 
-    def set_limit(self) -> None:
-        """Gives the program the limit that the user gave."""
+    def set_limit(self, steps: int) -> None:
+        """Gives the program a limit, which is not the user's."""
         self.in_step = False
-        self._limit_on_its_way = self.limit
-        self.program.put(b"limit %d\n" % self.limit)
+        self._limit_on_its_way = steps
+        self.program.put(b"limit %d\n" % steps)
         self._take_limit()
         self.in_step = True
 
@@ -68,9 +68,8 @@ class Conversation:
 
     def _take_limit(self) -> None:
         self.program.next_line()
-        if self._limit_on_its_way is not None:
-            self.program_limit = self._limit_on_its_way
-        self._limit_on_its_way = None
+        assert self._limit_on_its_way is not None
+        self.program_limit, self._limit_on_its_way = self._limit_on_its_way, None
 
     def carried(self, line: str, words: list[str]) -> None:
         """Takes in that a line was carried out."""

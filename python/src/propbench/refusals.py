@@ -1,11 +1,11 @@
 """Refusals: an exception for each number of docs/LANGUAGE.md ("Refusals")."""
 
-import unicodedata
 from dataclasses import dataclass, field
 from itertools import chain
 
-from propbench.blame import Blame, quoted
+from propbench.blame import Blame
 from propbench.nearby import near_names
+from propbench.showing import printable, width
 
 
 @dataclass(eq=False)
@@ -56,33 +56,16 @@ class Refused(Exception):
 
     def pointed(self, indent: str = "  ") -> str:
         """The line, and under it carets that point to the word, where there is one."""
-        shown = "".join(map(_shown, self.line.removesuffix("\r")))
+        shown = printable(self.line.removesuffix("\r"))
         if self.blame.start is None:
             return indent + shown
-        before = _width(self.line[: self.blame.start])
-        carets = "^" * max(1, _width(self.word or ""))
+        before = width(self.line[: self.blame.start])
+        carets = "^" * max(1, width(self.word or ""))
         return f"{indent}{shown}\n{indent}{' ' * before}{carets}"
 
     def __str__(self) -> str:
         lines = [f"line {self.line_number}: {self.reply}", self.pointed(), f"  {self.says}"]
         return "\n".join(line for line in lines if line.strip())
-
-
-def _shown(character: str) -> str:
-    if character.isprintable():
-        return character
-    return " " if character == "\t" else quoted(character)[1:-1]
-
-
-def _width(text: str) -> int:
-    """How many columns of a terminal the text takes as it is shown."""
-    return sum(_columns(shown) for character in text for shown in _shown(character))
-
-
-def _columns(character: str) -> int:
-    if unicodedata.combining(character):
-        return 0
-    return 2 if unicodedata.east_asian_width(character) in "WF" else 1
 
 
 class LineTooLong(Refused):

@@ -55,7 +55,8 @@ class Question:
     number: int
 
 
-def _is_settled(reply: Reply) -> bool:
+def is_settled(reply: Reply) -> bool:
+    """Whether a reply says all that a run under a higher limit would."""
     return reply.settled if isinstance(reply, Value) else not isinstance(reply, Unsettled)
 
 
@@ -84,7 +85,7 @@ class Runner:
             reply = self._reply(Question(line, words, number), text)
         else:
             reply = talk.reply(words, text)
-        if not _is_settled(reply) and steps < talk.limit:
+        if not is_settled(reply) and steps < talk.limit:
             return self._gone_on(Question(line, words, number), Watch(), steps, reply)
         talk.carried(line, words)
         talk.in_step = True
@@ -116,7 +117,7 @@ class Runner:
         return reply
 
     def _take_in(self, question: Question, watch: Watch, reply: Reply) -> None:
-        if _is_settled(reply) or watch.taken == self.talk.limit:
+        if is_settled(reply) or watch.taken == self.talk.limit:
             self.talk.carried(question.line, question.words)
         else:
             self.talk.cut(question.line, watch.taken)
@@ -124,7 +125,7 @@ class Runner:
     def _slices(self, question: Question, watch: Watch, steps: int, reply: Reply) -> Reply:
         """The reply to a question by slices that go on from one another, until it is settled, cut,
         or the limit is used up. The first, of so many steps, has been taken, with this reply."""
-        while not _is_settled(reply):
+        while not is_settled(reply):
             watch.taken += steps
             if watch.taken == self.talk.limit or watch.is_over(reply):
                 break

@@ -18,7 +18,7 @@ from propbench.grammar import FORMS, RUNNING
 from propbench.known import Known
 from propbench.refusals import Refused
 from propbench.replies import DONE, SILENT, Reply
-from propbench.runs import Progress, Question, Runner, Watch
+from propbench.runs import Progress, Question, Runner, Watch, is_settled
 from propbench.words import MOST_STEPS, as_line, is_silent
 
 STEPS = 1_000_000_000
@@ -171,7 +171,7 @@ class Session:
         texts = as_lines(lines)
         self._be_ready()
         if self._talk.program_limit != self._talk.limit:
-            self._talk.set_limit()
+            self._talk.set_limit(self._talk.limit)
         batch = Batch(self._talk, texts, self._sent)
         self._sent += len(texts)
         try:
@@ -184,22 +184,44 @@ class Session:
             raise batch.first_refused
         return batch.replies
 
-    def replay(self) -> list[Reply | Refused]:
-        """Begins the program anew with the lines that were carried out, and gives their replies.
+    def look(self, questions: Iterable[str]) -> list[Reply | Refused]:
+        """What is known now: the replies to questions that are asked without a step being taken.
+
+        Where what is known is settled, they leave no trace in `lines`.
+        """
+        self._be_ready()
+        talk = self._talk
+        texts = as_lines(questions)
+        before = len(talk.lines)
+        talk.set_limit(0)
+        batch = Batch(talk, texts, self._sent)
+        batch.run()
+        if all(isinstance(reply, Refused) or is_settled(reply) for reply in batch.replies):
+            del talk.lines[before:]
+        elif texts:
+            talk.lines.insert(before, "limit 0")
+            talk.lines.append(f"limit {talk.limit}")
+        return batch.replies
+
+    def replay(self, lines: Iterable[str] | None = None) -> list[Reply | Refused]:
+        """Begins the program anew with the lines that were carried out, or with these in their
+        place, and gives their replies.
 
         Raises ProgramEnded where the program ends again; the lines are kept.
         """
         if self._closed:
             raise RuntimeError("the session is closed")
-        lines = self._talk.lines
+        kept = self._talk.lines if lines is None else as_lines(lines)
         self._finalizer.detach()
         self._talk.program.kill()
         self._begin()
-        batch = Batch(self._talk, lines, self._sent)
+        batch = Batch(self._talk, kept, self._sent)
         try:
             batch.run()
-        finally:
-            self._talk.lines = lines
+        except BaseException:
+            # What is not carried out yet is not lost: another replay begins with all of it.
+            self._talk.lines = kept
+            raise
         return batch.replies
 
     def _begin(self) -> None:
