@@ -158,7 +158,8 @@ def test_a_million_lines_at_once(program: str) -> None:
     assert [type(reply) for reply in replies[2:]] == [
         type(reply) for reply in replies[2:6]
     ] * 250_000
-    assert replies[-2].line_number == len(lines) - 1
+    last = replies[-2]
+    assert isinstance(last, Refused) and last.line_number == len(lines) - 1
 
 
 def test_long_replies_at_once(program: str, bare: Bare) -> None:

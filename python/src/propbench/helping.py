@@ -49,12 +49,22 @@ def help_on(word: str, known: Known) -> str:
 
 
 def _on_command(word: str) -> Iterator[str]:
-    rows = [(usage.form, plain(usage.meaning)) for usage in usages_of(word)]
-    yield table(("written", "what it does"), rows)
+    replies = {plain(row[0]): plain(row[2]) for row in _rows("Command", "What it does", "Reply")}
+    rows = [
+        (usage.form, plain(usage.meaning), replies.get(usage.form, "")) for usage in usages_of(word)
+    ]
+    yield table(("written", "what it does", "answered"), rows)
     paragraphs = _section(_SECTIONS[word]) if word in _SECTIONS else []
     for paragraph in paragraphs[:2]:
         yield ""
         yield paragraph
+
+
+def _rows(*heads: str) -> list[list[str]]:
+    """The rows of the document's table with these heads, none where it isn't there."""
+    text = document().partition(f"| {' | '.join(heads)} |\n")[2].partition("\n\n")[0]
+    lines = [line for line in text.split("\n") if line.startswith("| ")]
+    return [[cell.strip() for cell in line.strip("|").split(" | ")] for line in lines]
 
 
 def _section(title: str) -> list[str]:
@@ -65,13 +75,19 @@ def _section(title: str) -> list[str]:
 
 def _on_procedure(word: str, known: Known) -> Iterator[str]:
     yield f"attach {word} {' '.join(known.cells_of(word))}{_by(word, known)}"
-    for line in document().split("\n"):
-        cells = [plain(cell.strip()) for cell in line.strip("|").split("|")]
-        if line.startswith(f"| `{word}` |") and len(cells) > 3:
-            yield f"  {cells[2]}; its cells are {cells[1]}"
-            yield f"  for example {cells[3]} gives {cells[4]}" if len(cells) > 4 else ""
-        elif line.startswith(f"| `{word}") and len(cells) == 3 and word in KIT:
-            yield f"  {cells[0]}: {cells[1]} gives {cells[2]}"
+    for row in _rows("Name", "Cells", "Meaning", "Example", "Answer"):
+        if plain(row[0]) == word:
+            yield f"  {plain(row[2])}; its cells are {row[1]}"
+            yield f"  for example {plain(row[3])} gives {plain(row[4])}"
+    for row in _rows("Name", "Cells", "Meaning"):
+        if plain(row[0]) == word:
+            yield f"  {plain(row[2])}; its cells are {row[1]}"
+    for row in _rows("Procedure", "Example", "Answer"):
+        name, _, given = plain(row[0]).partition(" .. ")
+        if name == word:
+            case = f"{given}, {plain(row[1])}" if given else plain(row[1])
+            yield f"  for example {case} gives {plain(row[2])}"
+    yield "  S is a number, T a truth, A any kind, the same at each A"
 
 
 def _by(word: str, known: Known) -> str:

@@ -6,6 +6,8 @@
 import sys
 import time
 from collections.abc import Callable, Sequence
+from functools import partial
+from typing import TypeVar
 
 from propbench.helping import all_help, help_on
 from propbench.listing import Told, told_by
@@ -18,6 +20,8 @@ from propbench.runs import is_settled
 from propbench.session import Session
 from propbench.showing import printable
 from propbench.tables import table
+
+Result = TypeVar("Result")
 
 WELCOME = "propbench: lines of its language, :help for help, :quit or Ctrl-D to end."
 
@@ -55,6 +59,7 @@ class Shell:
         self.session = session
         self._write = write
         self._status = status
+        # When the run began, and when it was told last how far it is.
         self._begun = self._told = 0.0
         self._asides: dict[str, Callable[[list[str]], None]] = {
             ":list": self._list,
@@ -74,7 +79,6 @@ class Shell:
         except Refused as refused:
             self._write(f"{refused.reply}\n{refused.pointed()}\n  {refused.says}".rstrip())
         except KeyboardInterrupt:
-            self._status("")
             self._write("Stopped. The next question goes on from there.")
         except ProgramEnded as ended:
             self._write(f"{ended}; it is begun anew with what was carried out.")
@@ -87,12 +91,19 @@ class Shell:
         if words and words[0].startswith(":"):
             self._aside(words)
             return
-        self._begun = self._told = time.monotonic()
-        reply = self.session.send(line, progress=self._progress)
-        self._status("")
+        reply = self._watched(partial(self.session.send, line, progress=self._progress))
         if not isinstance(reply, Silent):
             self._write(printable_lines(reply))
             self._explain(reply)
+
+    def _watched(self, run: Callable[[], Result]) -> Result:
+        """What a run gives, of which it is told how far it is where it takes long."""
+        self._begun = self._told = time.monotonic()
+        try:
+            return run()
+        finally:
+            if self._told > self._begun:
+                self._status("")
 
     def _aside(self, words: list[str]) -> None:
         found = [name for name in self._asides if name.startswith(words[0])]
@@ -134,12 +145,12 @@ class Shell:
         if not wanted:
             self._write(f"There is no list {printable(words[0])}; there are {' '.join(lists)}.")
         for name in wanted:
+            if len(wanted) > 1:
+                self._write(f"{name}:")
             lists[name](told)
 
     def _list_cells(self, told: Told) -> None:
-        self._begun = self._told = time.monotonic()
-        shown = overview(self.session, progress=self._progress)
-        self._status("")
+        shown = self._watched(partial(overview, self.session, progress=self._progress))
         self._write(str(shown))
 
     def _list_premises(self, told: Told) -> None:
@@ -172,8 +183,8 @@ class Shell:
         if not lines:
             self._write("There is nothing to take back.")
             return
-        taken = lines.pop()
-        self.session.replay(lines)
+        taken, limit = lines.pop(), self.session.limit
+        self.session.replay([*lines, f"limit {limit}"])
         self._write(f"Taken back: {printable(taken.strip())}")
 
     def _step(self, words: list[str]) -> None:
@@ -225,7 +236,7 @@ class Shell:
         lines = lines_of(path)
         for number, line in enumerate(lines, 1):
             try:
-                reply = self.session.send(line, progress=self._progress)
+                reply = self._watched(partial(self.session.send, line, progress=self._progress))
             except Refused as refused:
                 refused.line_number = number
                 self._write(told_of(refused, printable(path)))
