@@ -41,11 +41,11 @@ def statements(count: int) -> list[str]:
     return lines[:count]
 
 
-CELLS = 1000
+CELLS = 5_000
 
 
 def setup() -> list[str]:
-    """Lines that make a chain of sums over 1,000 cells, whose values follow from two premises."""
+    """Lines that make a chain of sums over 5,000 cells, whose values follow from two premises."""
     lines = [f"cell c{i} span" for i in range(CELLS)] + ["cell one span", "tell unit one 1"]
     lines += [f"attach adder c{i} one c{i + 1}" for i in range(CELLS - 1)]
     return [*lines, "tell start c0 3..5", "settle"]

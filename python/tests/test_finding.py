@@ -33,7 +33,7 @@ def repository(tmp_path: Path, monkeypatch: pytest.MonkeyPatch) -> Path:
 def test_the_order_of_finding(
     repository: Path, tmp_path: Path, monkeypatch: pytest.MonkeyPatch
 ) -> None:
-    assert find_program() == finding.Found(str(repository / "propbench"), False)
+    assert find_program() == finding.Found(str(repository / "propbench"), False, builds=True)
     on_path = script(tmp_path / "bin/propbench", "exit 0")
     assert find_program() == finding.Found(str(on_path), True)
     built = script(repository / "crates/propbench/out/propbench", "exit 0")
@@ -51,6 +51,14 @@ def test_no_program(repository: Path, monkeypatch: pytest.MonkeyPatch) -> None:
         find_program()
     with pytest.raises(NoProgram, match="no program that can be run"):
         find_program(repository / "crates.txt")
+
+
+def test_a_build_tells_how_far_it_is(repository: Path, capfd: pytest.CaptureFixture[str]) -> None:
+    script(repository / "propbench", "echo building >&2; read line; echo ok")
+    with Session() as session:
+        assert not session.proved
+        assert str(session.send("cell x span")) == "ok"
+    assert capfd.readouterr().err == "building\n"
 
 
 def test_how_a_program_ended(tmp_path: Path) -> None:

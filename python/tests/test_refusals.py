@@ -1,5 +1,6 @@
 """Refusals: each names its line and, where one word is at fault, that word."""
 
+import pickle
 import random
 import re
 
@@ -163,3 +164,11 @@ def test_words_of_the_language_are_no_names(program: str, line: str, word: str) 
     with Session(program) as session:
         refused = refusal(session, line)
     assert (refused.number, refused.word) == (5, word)
+
+
+def test_a_refusal_goes_to_another_process_and_back(program: str) -> None:
+    with Session(program) as session:
+        session.send("cell coffee span")
+        refused = refusal(session, "ask coffe")
+    again = pickle.loads(pickle.dumps(refused))
+    assert (type(again), str(again), again.near) == (NoSuchCell, str(refused), ("coffee",))

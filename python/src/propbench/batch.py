@@ -1,5 +1,6 @@
 """Many lines at once: they are written while replies are read, and taken in as these come."""
 
+import gc
 from collections.abc import Iterable
 
 from propbench.conversation import Conversation
@@ -12,6 +13,8 @@ _BLOCK = 2048
 # Where fewer replies than this came at once, and more than this are to come, they are left to
 # gather.
 _FEW = 512
+# With what a silent line begins.
+_MAY_BE_SILENT = frozenset(("", " ", "\t", "\r", "#"))
 
 
 def as_lines(lines: Iterable[str | bytes]) -> list[str]:
@@ -49,16 +52,29 @@ class Batch:
         for first in range(0, len(self._lines), _BLOCK):
             block = self._lines[first : first + _BLOCK]
             self._places += [
-                place for place, line in enumerate(block, first) if not is_silent(line)
+                place
+                for place, line in enumerate(block, first)
+                if line[:1] not in _MAY_BE_SILENT or not is_silent(line)
             ]
             program.put(_encoded(block))
-            self._take_in(program.take(wait=False))
+            self._take_all(program.take(wait=False))
         while self._places:
             came = program.take(wait=True)
-            self._take_in(came)
+            self._take_all(came)
             if len(came) < _FEW < len(self._places):
                 program.gather()
         self._talk.in_step = True
+
+    def _take_all(self, lines: list[str]) -> None:
+        """Takes lines in without looking for garbage, of which replies make none: that looks
+        through all replies so far time and again."""
+        collects = gc.isenabled()
+        gc.disable()
+        try:
+            self._take_in(lines)
+        finally:
+            if collects:
+                gc.enable()
 
     def _take_in(self, lines: list[str]) -> None:
         """Takes in the replies that have come whole, these lines being the last that came."""

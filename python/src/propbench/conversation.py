@@ -17,9 +17,10 @@ from propbench.words import encoded
 class Conversation:
     """What was said to a program so far."""
 
-    def __init__(self, command: list[str], limit: int) -> None:
-        """Starts the program, whose runs take at most `limit` steps. Raises ProgramEnded."""
-        self.program = Program([*command, "--limit", str(limit)])
+    def __init__(self, command: list[str], limit: int, show_errors: bool = False) -> None:
+        """Starts the program, whose runs take at most `limit` steps. What it says on standard error
+        is kept, or shown. Raises ProgramEnded."""
+        self.program = Program([*command, "--limit", str(limit)], show_errors)
         self.known = Known()
         self.lines: list[str] = []
         # The limit that the user gave, and the one that the program was told last.

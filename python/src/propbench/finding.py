@@ -15,10 +15,12 @@ class NoProgram(Exception):
 
 @dataclass(frozen=True)
 class Found:
-    """A program, and whether it is known to be built from proofs."""
+    """A program, and whether it is known to be built from proofs. One that `builds` may have to be
+    built first, for minutes, of which it tells on standard error."""
 
     path: str
     proved: bool
+    builds: bool = False
 
 
 def repository() -> Path | None:
@@ -59,7 +61,7 @@ def _looked_for() -> Iterator[Found]:
     if installed:
         yield Found(installed, not _is_script(Path(installed)) or _is_proved_script(installed))
     if top:
-        yield Found(str(top / "propbench"), False)
+        yield Found(str(top / "propbench"), False, builds=True)
 
 
 def _is_on_path(path: str) -> bool:

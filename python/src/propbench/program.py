@@ -56,8 +56,9 @@ def _signal_name(number: int) -> str:
 class Program:
     """A process of the program. What it is sent are whole lines, in bytes."""
 
-    def __init__(self, command: list[str]) -> None:
-        """Starts the program. Raises ProgramEnded where it can't be started."""
+    def __init__(self, command: list[str], show_errors: bool = False) -> None:
+        """Starts the program. What it says on standard error is kept, or shown on that of this
+        process. Raises ProgramEnded where it can't be started."""
         self._errors = tempfile.TemporaryFile()
         try:
             # In a session of its own, so that Ctrl-C at a terminal doesn't end it.
@@ -65,7 +66,7 @@ class Program:
                 command,
                 stdin=subprocess.PIPE,
                 stdout=subprocess.PIPE,
-                stderr=self._errors,
+                stderr=None if show_errors else self._errors,
                 bufsize=0,
                 start_new_session=True,
             )
@@ -110,7 +111,12 @@ class Program:
     def reply_to(self, data: bytes) -> str:
         """The first line of the reply to a line, where no other is under way. Raises
         ProgramEnded."""
-        self.put(data)
+        try:
+            rest = data[os.write(self._in, data) :]
+        except (BlockingIOError, BrokenPipeError):
+            rest = data
+        if rest:
+            self.put(rest)
         said = os.read(self._out, _PIECE)
         if said.find(b"\n") == len(said) - 1 and said:
             return said[:-1].decode()

@@ -177,7 +177,8 @@ def _value(cell: str, said: str, kind: str, is_core: bool) -> Value:
     if not behind:
         return Value(cell, value)
     if behind.startswith("because "):
-        return Value(cell, value, True, _names(behind[8:]), True if is_core else None)
+        names = () if behind == "because no premise" else tuple(behind[8:].split(" "))
+        return Value(cell, value, True, names, True if is_core else None)
     if behind == "unsettled":
         return Value(cell, value, False)
     mark, _, premises = behind.partition(" because ")

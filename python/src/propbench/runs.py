@@ -85,9 +85,9 @@ class Runner:
             reply = self._reply(Question(line, words, number), text)
         else:
             reply = talk.reply(words, text)
-        if not is_settled(reply) and steps < talk.limit:
+        if "unsettled" in text and steps < talk.limit and not is_settled(reply):
             return self._gone_on(Question(line, words, number), Watch(), steps, reply)
-        talk.carried(line, words)
+        talk.lines.append(line)
         talk.in_step = True
         return reply
 

@@ -50,7 +50,7 @@ class Session:
         if limit is not None and not 0 <= limit <= MOST_STEPS:
             raise ValueError(f"the limit is not a number from 0 to {MOST_STEPS}: {limit}")
         found = find_program(program)
-        self._program, self._proved = found.path, found.proved
+        self._found = found
         self._command = [found.path, "--order", order, "--seed", str(seed)]
         self._first_limit = STEPS if limit is None else limit
         self._sent = 0
@@ -71,12 +71,12 @@ class Session:
     @property
     def program(self) -> str:
         """The path of the program."""
-        return self._program
+        return self._found.path
 
     @property
     def proved(self) -> bool:
         """Whether the program is known to be built from proofs."""
-        return self._proved
+        return self._found.proved
 
     @property
     def lines(self) -> list[str]:
@@ -225,7 +225,7 @@ class Session:
         return batch.replies
 
     def _begin(self) -> None:
-        self._talk = Conversation(self._command, self._first_limit)
+        self._talk = Conversation(self._command, self._first_limit, self._found.builds)
         self._runner = Runner(self._talk)
         self._finalizer = weakref.finalize(self, self._talk.program.kill)
 

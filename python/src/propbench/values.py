@@ -1,7 +1,6 @@
 """What a cell may hold: values as replies say them."""
 
 from dataclasses import dataclass
-from functools import lru_cache
 
 
 @dataclass(frozen=True)
@@ -58,7 +57,6 @@ class Impossible:
 Held = Span | Elements | Symbol | Nothing | Impossible
 
 
-@lru_cache(maxsize=4096)
 def value_of(text: str, kind: str) -> Held:
     """The value that a text of a reply is, for a cell of this kind: `span`, `symbol`, or else
     elements of a domain."""
