@@ -3,15 +3,17 @@
 
 usage: python/measure/pipe.py [PROGRAM] [--lines N] [--rounds N]
 
-The bare pipe of lines that are pipelined is `subprocess.run` with all lines as its input, whose
-output is not looked at; that of questions one by one is an `os.write` and an `os.read` each. The
-two are timed in turn, each the given number of rounds, and the best of each counts.
+On the bare pipe lines that are pipelined are written by a thread while line feeds of the replies are
+counted; lines one by one are an `os.write` and an `os.read` each. The
+two are timed in turn, each the given number of rounds, and the best of each counts: on a machine
+that does other work too, short rounds find a moment in which it doesn't.
 """
 
 import argparse
 import os
 import subprocess
 import sys
+import threading
 import time
 from collections.abc import Callable
 from pathlib import Path
@@ -63,36 +65,44 @@ def seconds(work: Callable[[], None]) -> float:
     return time.perf_counter() - begun
 
 
-def bare(program: str, first: list[str], lines: list[str]) -> float:
-    """Seconds of the bare pipe for the lines, without those that come before them."""
+class Bare:
+    """The program on a bare pipe."""
 
-    def run(sent: list[str]) -> float:
-        data = "\n".join([*sent, ""]).encode()
+    def __init__(self, program: str) -> None:
+        self._process = subprocess.Popen(
+            [program], stdin=subprocess.PIPE, stdout=subprocess.PIPE, bufsize=0
+        )
+        assert self._process.stdin and self._process.stdout
+        self._stdin = self._process.stdin
+        self._into, self._out = self._stdin.fileno(), self._process.stdout.fileno()
 
-        def send() -> None:
-            subprocess.run([program], input=data, stdout=subprocess.PIPE, check=True)
+    def pipelined(self, lines: list[str]) -> None:
+        """Writes lines, each of which has a reply of one line, while the replies are read."""
+        data = "\n".join([*lines, ""]).encode()
+        writer = threading.Thread(target=self._stdin.write, args=(data,))
+        writer.start()
+        missing = len(lines)
+        while missing:
+            missing -= os.read(self._out, 65536).count(b"\n")
+        writer.join()
 
-        return seconds(send)
+    def one_by_one(self, lines: list[str]) -> None:
+        """Writes each line when the reply to the one before has come."""
+        for line in lines:
+            os.write(self._into, line.encode() + b"\n")
+            os.read(self._out, 65536)
 
-    return run([*first, *lines]) - run(first)
+    def end(self) -> None:
+        """Ends the program."""
+        self._process.communicate()
 
 
-def bare_one_by_one(program: str, first: list[str], lines: list[str]) -> float:
-    """Seconds of the bare pipe for the lines, one by one."""
-    process = subprocess.Popen([program], stdin=subprocess.PIPE, stdout=subprocess.PIPE, bufsize=0)
-    assert process.stdin and process.stdout
-    into, out = process.stdin.fileno(), process.stdout.fileno()
-
-    def say(sent: list[str]) -> None:
-        for line in sent:
-            os.write(into, line.encode() + b"\n")
-            os.read(out, 65536)
-
-    say(first)
-    taken = seconds(lambda: say(lines))
-    process.stdin.close()
-    process.stdout.close()
-    process.wait()
+def of_bare(program: str, first: list[str], lines: list[str], one_by_one: bool) -> float:
+    """Seconds of the bare pipe for the lines, behind those that come first."""
+    bare = Bare(program)
+    bare.pipelined(first)
+    taken = seconds(lambda: bare.one_by_one(lines) if one_by_one else bare.pipelined(lines))
+    bare.end()
     return taken
 
 
@@ -122,9 +132,11 @@ def measured(program: str, count: int, rounds: int) -> dict[str, tuple[float, fl
     }
     found = {}
     for name, (first, lines, one_by_one) in workloads.items():
-        plain = bare_one_by_one if one_by_one else bare
         pairs = [
-            (plain(program, first, lines), of_session(program, first, lines, one_by_one))
+            (
+                of_bare(program, first, lines, one_by_one),
+                of_session(program, first, lines, one_by_one),
+            )
             for _ in range(rounds)
         ]
         found[name] = (
@@ -138,8 +150,8 @@ def main() -> int:
     """Prints the table; the status is 1 where a ratio is below what is wanted."""
     parser = argparse.ArgumentParser(description="Session beside a bare pipe")
     parser.add_argument("program", nargs="?", help="the program; the one that is found")
-    parser.add_argument("--lines", type=int, default=100_000)
-    parser.add_argument("--rounds", type=int, default=3)
+    parser.add_argument("--lines", type=int, default=40_000)
+    parser.add_argument("--rounds", type=int, default=12)
     options = parser.parse_args()
     program = find_program(options.program).path
     print(f"{'replies a second':24}{'bare pipe':>12}{'Session':>12}{'ratio':>8}{'wanted':>8}")

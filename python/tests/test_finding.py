@@ -74,10 +74,11 @@ def test_how_a_program_ended(tmp_path: Path) -> None:
         assert session.lines == []
 
 
-def test_a_program_that_ends_in_the_midst(tmp_path: Path) -> None:
+@pytest.mark.parametrize("pause", [0, 0.5])
+def test_a_program_that_ends_in_the_midst(tmp_path: Path, pause: float) -> None:
     """What it answered before counts, also where it never read the rest."""
-    ends = script(tmp_path / "ends", "read a; echo ok; read b; echo ok; exit 2")
-    lines = [f"cell x{i} span" for i in range(100_000)]
+    ends = script(tmp_path / "ends", f"read a; echo ok; read b; echo ok; sleep {pause}; exit 2")
+    lines = [f"cell x{i} span" for i in range(200_000)]
     with Session(ends) as session:
         with pytest.raises(ProgramEnded) as caught:
             session.send_all(lines)

@@ -94,7 +94,7 @@ READ: list[tuple[str, str, str, Reply]] = [
 
 @pytest.mark.parametrize("line, kind, text, reply", READ, ids=lambda each: str(each))
 def test_reading(line: str, kind: str, text: str, reply: Reply) -> None:
-    assert reply_of(line.split(), text, kind) == reply
+    assert reply_of(line.split(), text, {line.split()[-1]: kind}) == reply
     assert str(reply) == text
 
 

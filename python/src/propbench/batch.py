@@ -4,8 +4,9 @@ import gc
 from collections.abc import Iterable
 
 from propbench.conversation import Conversation
+from propbench.program import ProgramEnded
 from propbench.refusals import Refused
-from propbench.replies import DONE, SEVERAL, SILENT, Reply, lines_behind
+from propbench.replies import DONE, SEVERAL, SILENT, Reply, lines_behind, reply_of
 from propbench.words import as_line, encoded, is_silent
 
 # How many lines are written before replies are looked at.
@@ -47,8 +48,16 @@ class Batch:
     def run(self) -> None:
         """Sends all lines and takes in all replies. Where that ends early, what was taken in by
         then counts as carried out, and the conversation is out of step."""
-        program = self._talk.program
         self._talk.in_step = False
+        try:
+            self._send()
+        except ProgramEnded:
+            self._take_all(self._talk.program.rest())
+            raise
+        self._talk.in_step = True
+
+    def _send(self) -> None:
+        program = self._talk.program
         for first in range(0, len(self._lines), _BLOCK):
             block = self._lines[first : first + _BLOCK]
             self._places += [
@@ -63,7 +72,6 @@ class Batch:
             self._take_all(came)
             if len(came) < _FEW < len(self._places):
                 program.gather()
-        self._talk.in_step = True
 
     def _take_all(self, lines: list[str]) -> None:
         """Takes lines in without looking for garbage, of which replies make none: that looks
@@ -109,7 +117,7 @@ class Batch:
                 self.replies[place] = refused
                 self.first_refused = self.first_refused or refused
                 return
-        self.replies[place] = self._talk.reply(words, text)
+        self.replies[place] = reply_of(words, text, self._talk.kinds)
         self._talk.carried(line, words)
 
 

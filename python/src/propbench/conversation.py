@@ -10,7 +10,7 @@ from propbench.blame import blame_for
 from propbench.known import Known
 from propbench.program import Program
 from propbench.refusals import CLASSES, Refused
-from propbench.replies import SEVERAL, Reply, lines_behind, refusal_in, reply_of
+from propbench.replies import SEVERAL, lines_behind, refusal_in
 from propbench.words import encoded
 
 
@@ -22,6 +22,7 @@ class Conversation:
         is kept, or shown. Raises ProgramEnded."""
         self.program = Program([*command, "--limit", str(limit)], show_errors)
         self.known = Known()
+        self.kinds = self.known.cells
         self.lines: list[str] = []
         # The limit that the user gave, and the one that the program was told last.
         self.limit = limit
@@ -40,8 +41,8 @@ class Conversation:
             self._take_limit()
             first = self.program.next_line()
         else:
-            first = self.program.reply_to(encoded(line) + b"\n")
-        return self._whole(command, first)
+            first = self.program.reply_to(line)
+        return self._whole(command, first) if command in SEVERAL else first
 
     def set_limit(self, steps: int) -> None:
         """Gives the program a limit, which is not the user's."""
@@ -62,8 +63,6 @@ class Conversation:
 
     def _whole(self, command: str, first: str) -> str:
         """The whole reply to a line with this command, whose first line this is."""
-        if command not in SEVERAL:
-            return first
         behind = [self.program.next_line() for _ in range(lines_behind(command, first))]
         return "\n".join([first, *behind])
 
@@ -85,11 +84,6 @@ class Conversation:
 
     def _learn_limit(self, words: list[str], line: str) -> None:
         self.limit = self.program_limit = int(words[1])
-
-    def reply(self, words: list[str], text: str) -> Reply:
-        """The reply that a text is to a line of these words, which was carried out."""
-        kind = self.known.cells.get(words[1], "") if len(words) > 1 else ""
-        return reply_of(words, text, kind)
 
     def refused(self, line: str, text: str, line_number: int) -> Refused | None:
         """The refusal that a text is, where it is one."""

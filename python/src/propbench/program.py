@@ -15,6 +15,8 @@ from collections import deque
 from contextlib import suppress
 from dataclasses import dataclass
 
+from propbench.words import encoded
+
 # How much is read at once, and how large a pipe is asked for, in bytes.
 _PIECE = 1 << 16
 _PIPE = 1 << 20
@@ -108,20 +110,25 @@ class Program:
             if self._is_readable(0):
                 self._read()
 
-    def reply_to(self, data: bytes) -> str:
+    def reply_to(self, line: str) -> str:
         """The first line of the reply to a line, where no other is under way. Raises
         ProgramEnded."""
         try:
-            rest = data[os.write(self._in, data) :]
+            data = f"{line}\n".encode()
+        except UnicodeEncodeError:
+            data = encoded(line) + b"\n"
+        try:
+            written = os.write(self._in, data)
         except (BlockingIOError, BrokenPipeError):
-            rest = data
-        if rest:
-            self.put(rest)
+            written = 0
+        if written != len(data):
+            self.put(data[written:])
         said = os.read(self._out, _PIECE)
-        if said.find(b"\n") == len(said) - 1 and said:
-            return said[:-1].decode()
-        self._come_in(said)
-        return self.next_line()
+        first, _, more = said.partition(b"\n")
+        if more or len(first) == len(said):
+            self._come_in(said)
+            return self.next_line()
+        return first.decode()
 
     def next_line(self) -> str:
         """The next reply line, without its line feed. Raises ProgramEnded."""
@@ -135,6 +142,10 @@ class Program:
             self._read()
         while wait and not self._lines:
             self._read()
+        return self.rest()
+
+    def rest(self) -> list[str]:
+        """The reply lines that have been read before, without a look for more."""
         lines = list(self._lines)
         self._lines.clear()
         return lines

@@ -4,6 +4,7 @@ A reply is read by what was asked, never by how it looks: `because = because bec
 symbol, and what it rests on. `str(reply)` is the text of the program.
 """
 
+from collections.abc import Mapping
 from dataclasses import dataclass
 
 from propbench.values import Held, value_of
@@ -148,16 +149,14 @@ def lines_behind(command: str, first: str) -> int:
     return 0
 
 
-def reply_of(words: list[str], text: str, kind: str) -> Reply:
-    """The reply that a text is to a line of these words, which is neither silent nor refused.
-    `kind` is that of the cell that was asked for, where one was."""
-    if text == "ok":
-        return DONE
+def reply_of(words: list[str], text: str, kinds: Mapping[str, str]) -> Reply:
+    """The reply that a text is to a line of these words, which is neither silent nor refused;
+    `kinds` are those of the cells."""
+    command = words[0]
     if text.startswith("contradiction:"):
         return Contradiction(_names(text[15:]))
-    command = words[0]
     if command in _VALUED:
-        return _value(words[1], text[len(words[1]) + 3 :], kind, command == "core")
+        return _value(command, words[1], text, kinds[words[1]])
     if command == "worldview" and text != "unsettled":
         inside, outside = text.split("\n")
         return Worldview(tuple(inside.split(" ")[1:]), tuple(outside.split(" ")[1:]))
@@ -166,20 +165,18 @@ def reply_of(words: list[str], text: str, kind: str) -> Reply:
     return _PLAIN[text]
 
 
-def _value(cell: str, said: str, kind: str, is_core: bool) -> Value:
+def _value(command: str, cell: str, text: str, kind: str) -> Value:
     """A value by what stands behind `X = `. It has no space but within its braces."""
+    said = text[len(cell) + 3 :]
     if said[0] == "{":
-        text, _, behind = said.partition("}")
+        said, _, behind = said.partition("}")
         behind = behind[1:]
     else:
-        text, _, behind = said.partition(" ")
-    value = value_of(text, kind)
-    if not behind:
-        return Value(cell, value)
-    if behind.startswith("because "):
-        names = () if behind == "because no premise" else tuple(behind[8:].split(" "))
-        return Value(cell, value, True, names, True if is_core else None)
-    if behind == "unsettled":
-        return Value(cell, value, False)
-    mark, _, premises = behind.partition(" because ")
-    return Value(cell, value, mark != "unsettled", _names(premises), False if is_core else None)
+        said, _, behind = said.partition(" ")
+    value = value_of(said, kind)
+    if command == "ask":
+        return Value(cell, value, not behind)
+    mark, _, names = behind.partition("because ")
+    because = () if names == "no premise" else tuple(names.split(" "))
+    reduced = mark == "" if command == "core" else None
+    return Value(cell, value, mark != "unsettled ", because, reduced)

@@ -12,7 +12,7 @@ from typing import NoReturn
 
 from propbench.conversation import Conversation
 from propbench.refusals import Refused
-from propbench.replies import Reply, Unsettled, Value
+from propbench.replies import Reply, Unsettled, Value, reply_of
 
 # What is told of a run that goes on: the steps that it took, and what is known then.
 Progress = Callable[[int, Reply], None]
@@ -84,7 +84,7 @@ class Runner:
         if text.startswith("error "):
             reply = self._reply(Question(line, words, number), text)
         else:
-            reply = talk.reply(words, text)
+            reply = reply_of(words, text, talk.kinds)
         if "unsettled" in text and steps < talk.limit and not is_settled(reply):
             return self._gone_on(Question(line, words, number), Watch(), steps, reply)
         talk.lines.append(line)
@@ -161,7 +161,7 @@ class Runner:
         if refused:
             self.talk.in_step = True
             raise refused
-        return self.talk.reply(question.words, text)
+        return reply_of(question.words, text, self.talk.kinds)
 
     def _adapt(self, seconds: float) -> None:
         if seconds < _SHORT:

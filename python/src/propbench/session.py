@@ -17,7 +17,7 @@ from propbench.finding import find_program
 from propbench.grammar import FORMS, RUNNING
 from propbench.known import Known
 from propbench.refusals import Refused
-from propbench.replies import DONE, SILENT, Reply
+from propbench.replies import DONE, SILENT, Reply, reply_of
 from propbench.runs import Progress, Question, Runner, Watch, is_settled
 from propbench.words import MOST_STEPS, as_line, is_silent
 
@@ -254,4 +254,4 @@ class Session:
         talk.in_step = True
         if refused:
             raise refused
-        return talk.reply(words, text)
+        return reply_of(words, text, talk.kinds)
