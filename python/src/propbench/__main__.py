@@ -1,0 +1,7 @@
+"""`python3 -m propbench` is `propdesk`."""
+
+import sys
+
+from propbench.desk import main
+
+sys.exit(main())

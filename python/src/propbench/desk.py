@@ -1,0 +1,112 @@
+"""`propdesk`: the command line of the package, `python3 -m propbench` too."""
+
+import argparse
+import sys
+from collections.abc import Sequence
+
+from propbench.finding import NoProgram
+from propbench.program import ProgramEnded
+from propbench.session import ORDERS, Session
+
+DESCRIPTION = """\
+A desk for the workbench propbench: runs files of its language, and speaks it with you line by line.
+Every answer is a reply of the program, which is the one that --program or $PROPBENCH names, else
+the built one of this repository, else `propbench` on the path.
+"""
+
+STATUS = """\
+The exit status is 0 where all went well, 1 where a line was refused, 2 for wrong arguments, 3 where
+a file could not be read or the program was not found or ended, and 130 at Ctrl-C.
+"""
+
+
+def parser() -> argparse.ArgumentParser:
+    """The reader of the command line, from which manual pages and completion can be made."""
+    top = argparse.ArgumentParser(prog="propdesk", description=DESCRIPTION, epilog=STATUS)
+    commands = top.add_subparsers(dest="command", metavar="COMMAND", required=True)
+    run = commands.add_parser(
+        "run",
+        help="run a file, and show what follows",
+        description="Runs a file of the language: shows each question with its reply, and at the"
+        " end each cell with its value and reasons. Stops at the first line that is refused, and"
+        " points to the word.",
+    )
+    run.add_argument("file", metavar="FILE", help="the file, or - for standard input")
+    run.add_argument(
+        "--keep-going", action="store_true", help="go on behind refused lines; the status stays 1"
+    )
+    run.add_argument("--json", action="store_true", help="write one JSON object and nothing else")
+    run.add_argument(
+        "--seconds",
+        type=_seconds,
+        default=60.0,
+        metavar="N",
+        help="how long may be worked for the table at the end (60)",
+    )
+    shell = commands.add_parser(
+        "shell",
+        help="speak the language line by line",
+        description="Reads lines from the terminal and answers each. Has a history, completes"
+        " commands and names, and points to the word where a line is refused. :help says more.",
+    )
+    shell.add_argument("file", metavar="FILE", nargs="?", help="a file whose lines come first")
+    check = commands.add_parser(
+        "check",
+        help="check a certificate",
+        description="Checks a certificate. Certificates come with a later version.",
+    )
+    check.add_argument("certificate", metavar="CERTIFICATE", help="the file")
+    for each in (run, shell, check):
+        _add_program(each)
+    return top
+
+
+def _add_program(to: argparse.ArgumentParser) -> None:
+    to.add_argument("--program", metavar="PATH", help="the program that answers")
+    to.add_argument(
+        "--order", choices=ORDERS, default="fifo", help="which waiting procedure comes next (fifo)"
+    )
+    to.add_argument(
+        "--seed", type=int, default=0, metavar="N", help="what the order mixed begins with (0)"
+    )
+    to.add_argument("--limit", type=int, metavar="N", help="steps of a run at most (1000000000)")
+
+
+def _seconds(text: str) -> float:
+    seconds = float(text)
+    if not seconds >= 0:
+        raise argparse.ArgumentTypeError("seconds are a number from 0 on")
+    return seconds
+
+
+def main(words: Sequence[str] | None = None) -> int:
+    """Does what the words of a command line say, those of this process where none are given, and
+    gives the exit status."""
+    options = parser().parse_args(words)
+    if options.command == "check":
+        print("propdesk: certificates come with a later version", file=sys.stderr)
+        return 3
+    try:
+        return _with_session(options)
+    except KeyboardInterrupt:
+        return 130
+    except ValueError as error:
+        print(f"propdesk: {error}", file=sys.stderr)
+        return 2
+    except (NoProgram, ProgramEnded, OSError) as error:
+        print(f"propdesk: {error}", file=sys.stderr)
+        return 3
+
+
+def _with_session(options: argparse.Namespace) -> int:
+    from propbench.running import run_file
+    from propbench.shell import run_shell
+
+    with Session(
+        options.program, order=options.order, seed=options.seed, limit=options.limit
+    ) as session:
+        if options.command == "run":
+            return run_file(
+                session, options.file, options.keep_going, options.seconds, options.json
+            )
+        return run_shell(session, options.file)

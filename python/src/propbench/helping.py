@@ -1,0 +1,97 @@
+"""Help on commands, procedures and refusals, from docs/LANGUAGE.md where it is there."""
+
+import re
+from collections.abc import Iterator
+from pathlib import Path
+
+from propbench.commands import USAGES, usages_of
+from propbench.finding import repository
+from propbench.kit import KIT
+from propbench.known import Known
+from propbench.refusals import CLASSES
+from propbench.tables import table
+
+_INSTALLED = Path("/usr/share/doc/propbench/LANGUAGE.md")
+
+# The section of the document that says more of a command.
+_SECTIONS = {"choose": "Choices", "nogoods": "Choices", "core": "Cores", "define": "Definitions"}
+
+
+def document() -> str:
+    """The text of docs/LANGUAGE.md, "" where it isn't there."""
+    top = repository()
+    for path in [top / "docs/LANGUAGE.md"] if top else [_INSTALLED]:
+        if path.is_file():
+            return path.read_text(encoding="utf-8")
+    return ""
+
+
+def plain(text: str) -> str:
+    """The text without the marks of a document."""
+    return re.sub(r"\*\*|`|\[([^]]*)\]\([^)]*\)", r"\1", text)
+
+
+def all_help() -> str:
+    """All commands, a line each."""
+    rows = [(usage.form, plain(usage.meaning)) for usage in USAGES]
+    return table(("command", "what it does"), rows)
+
+
+def help_on(word: str, known: Known) -> str:
+    """What there is to say of a command, a procedure or definition, or the number of a refusal."""
+    if usages_of(word):
+        return "\n".join(_on_command(word))
+    if known.is_procedure(word):
+        return "\n".join(_on_procedure(word, known))
+    if word.isdigit() and int(word) in CLASSES:
+        return plain(str(CLASSES[int(word)].__doc__))
+    return f"There is no help on {word!r}. Help is on commands, procedures and refusals."
+
+
+def _on_command(word: str) -> Iterator[str]:
+    replies = {plain(row[0]): plain(row[2]) for row in _rows("Command", "What it does", "Reply")}
+    rows = [
+        (usage.form, plain(usage.meaning), replies.get(usage.form, "")) for usage in usages_of(word)
+    ]
+    yield table(("written", "what it does", "answered"), rows)
+    paragraphs = _section(_SECTIONS[word]) if word in _SECTIONS else []
+    for paragraph in paragraphs[:2]:
+        yield ""
+        yield paragraph
+
+
+def _rows(*heads: str) -> list[list[str]]:
+    """The rows of the document's table with these heads, none where it isn't there."""
+    text = document().partition(f"| {' | '.join(heads)} |\n")[2].partition("\n\n")[0]
+    lines = [line for line in text.split("\n") if line.startswith("| ")]
+    return [[cell.strip() for cell in line.strip("|").split(" | ")] for line in lines]
+
+
+def _section(title: str) -> list[str]:
+    """The paragraphs of a section of the document."""
+    text = document().partition(f"\n## {title}\n")[2].partition("\n## ")[0]
+    return [plain(paragraph) for paragraph in text.strip().split("\n\n")]
+
+
+def _on_procedure(word: str, known: Known) -> Iterator[str]:
+    yield f"attach {word} {' '.join(known.cells_of(word))}{_by(word, known)}"
+    for row in _rows("Name", "Cells", "Meaning", "Example", "Answer"):
+        if plain(row[0]) == word:
+            yield f"  {plain(row[2])}; its cells are {row[1]}"
+            yield f"  for example {plain(row[3])} gives {plain(row[4])}"
+    for row in _rows("Name", "Cells", "Meaning"):
+        if plain(row[0]) == word:
+            yield f"  {plain(row[2])}; its cells are {row[1]}"
+    for row in _rows("Procedure", "Example", "Answer"):
+        name, _, given = plain(row[0]).partition(" .. ")
+        if name == word:
+            case = f"{given}, {plain(row[1])}" if given else plain(row[1])
+            yield f"  for example {case} gives {plain(row[2])}"
+    yield "  S is a number, T a truth, A any kind, the same at each A"
+
+
+def _by(word: str, known: Known) -> str:
+    given = KIT[word].given if word in KIT else ""
+    if word not in KIT and known.definitions[word].takes_given:
+        return " [by ..]"
+    return {"": "", "scale": " [by K]", "relation": " by R"}[given]

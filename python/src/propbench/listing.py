@@ -1,0 +1,114 @@
+"""What a session was told, as lists: statements by premise, choices by side, definitions.
+
+It is read from the lines that were carried out, and nothing is concluded from it.
+"""
+
+from collections.abc import Iterable
+from dataclasses import dataclass, field
+
+from propbench.grammar import Place, Role, parsed
+
+
+@dataclass(frozen=True)
+class Statement:
+    """A cell and the value that is stated of it, as it was written."""
+
+    cell: str
+    value: str
+
+    def __str__(self) -> str:
+        return f"{self.cell} = {self.value}"
+
+
+@dataclass
+class Told:
+    """What lines have told. `premises` has the statements of each premise, "" for what is fixed, and
+    `choices` those of each side, in order."""
+
+    premises: dict[str, list[Statement]] = field(default_factory=dict)
+    choices: dict[str, list[Statement]] = field(default_factory=dict)
+    definitions: dict[str, str] = field(default_factory=dict)
+    attached: list[str] = field(default_factory=list)
+    kicked: dict[str, None] = field(default_factory=dict)
+
+    def side(self, name: str) -> Statement | None:
+        """What a side such as `venue=2` says, None where the name is no side."""
+        choice, mark, number = name.partition("=")
+        if not mark or choice not in self.choices:
+            return None
+        return self.choices[choice][int(number) - 1]
+
+
+def told_by(lines: Iterable[str]) -> Told:
+    """What lines that were carried out have told."""
+    told = Told()
+    for line in lines:
+        words = line.split(None, 2)
+        learn = _LEARNS.get(words[0])
+        if learn:
+            learn(told, words[1], line)
+    return told
+
+
+def _values(line: str) -> list[Statement]:
+    """The cell of a line, with each value that the line states of it."""
+    places = parsed(line).places
+    cell = next(place.text for place in places if place.role is Role.CELL)
+    values: list[list[Place]] = [[]]
+    begun = False
+    for place in places:
+        if begun and place.role is None and place.text == "or":
+            values.append([])
+        elif begun:
+            values[-1].append(place)
+        begun = begun or place.role is Role.CELL
+    return [Statement(cell, _written(value)) for value in values]
+
+
+def _written(value: list[Place]) -> str:
+    words = [place.text for place in value]
+    return words[0] if len(words) == 1 else "{" + " ".join(words[1:-1]) + "}"
+
+
+def _fix(told: Told, name: str, line: str) -> None:
+    told.premises.setdefault("", []).extend(_values(line))
+
+
+def _tell(told: Told, name: str, line: str) -> None:
+    told.premises.setdefault(name, []).extend(_values(line))
+
+
+def _choose(told: Told, name: str, line: str) -> None:
+    told.choices[name] = _values(line)
+
+
+def _define(told: Told, name: str, line: str) -> None:
+    told.definitions[name] = line.strip()
+
+
+def _attach(told: Told, name: str, line: str) -> None:
+    told.attached.append(line.strip())
+
+
+def _kick(told: Told, name: str, line: str) -> None:
+    told.kicked[name] = None
+
+
+def _bring(told: Told, name: str, line: str) -> None:
+    told.kicked.pop(name, None)
+
+
+def _forget(told: Told, name: str, line: str) -> None:
+    told.premises[name] = []
+
+
+_LEARNS = {
+    "fix": _fix,
+    "tell": _tell,
+    "choose": _choose,
+    "define": _define,
+    "attach": _attach,
+    "kick": _kick,
+    "bring": _bring,
+    "forget": _forget,
+}

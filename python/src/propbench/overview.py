@@ -1,0 +1,85 @@
+"""All that a session knows at a glance: each cell with its value and reasons, or the conflict.
+
+Every value and every name of a premise is that of a reply. A side of a choice is shown as what it
+says (`venue: days = 2`), and not as `venue=1`.
+"""
+
+from dataclasses import dataclass
+
+from propbench.listing import Told, told_by
+from propbench.replies import Contradiction, Value, Worldview
+from propbench.runs import Progress, is_settled
+from propbench.session import Session
+from propbench.tables import table
+
+UNPROVED = "The program that answered is not proved."
+_OPEN = "This is not settled: values may still become narrower, or turn out to be in conflict."
+_MISSING = "(nothing was told)"
+
+
+@dataclass(frozen=True)
+class Overview:
+    """The values of the cells, in the order in which they were made; or the premises that can't all
+    hold. `plan` has the sides on which the choices stand."""
+
+    settled: bool
+    conflict: tuple[str, ...] | None
+    values: tuple[Value, ...]
+    plan: tuple[str, ...]
+    told: Told
+    proved: bool
+
+    def named(self, premise: str) -> str:
+        """A premise, or what a side of a choice says."""
+        side = self.told.side(premise)
+        return f"{premise.partition('=')[0]}: {side}" if side else premise
+
+    def reasons(self, value: Value) -> str:
+        """What a value rests on."""
+        names = value.because or ()
+        return ", ".join(map(self.named, names)) if names else "no premise"
+
+    def __str__(self) -> str:
+        parts = [self._conflict() if self.conflict is not None else self._values()]
+        if self.plan and self.conflict is None:
+            sides = ", ".join(map(self.named, self.plan))
+            parts.append(f"The values are those of this plan, the first that fits: {sides}.")
+        if not self.settled:
+            parts.append(_OPEN)
+        if not self.proved:
+            parts.append(UNPROVED)
+        return "\n".join(parts)
+
+    def _conflict(self) -> str:
+        if not self.conflict:
+            return "CONFLICT: what is fixed can't all hold, whatever is believed."
+        lines = [f"CONFLICT: {', '.join(self.conflict)} can't all hold. They say:"]
+        rows = [
+            (premise, ", ".join(map(str, self.told.premises.get(premise, ()))) or _MISSING)
+            for premise in self.conflict
+        ]
+        lines.append(table(("premise", "says"), rows, "  "))
+        lines.append("Give one of them up by `kick`; not all of them may be needed for a conflict.")
+        return "\n".join(lines)
+
+    def _values(self) -> str:
+        if not self.values:
+            return "There are no cells."
+        rows = [(value.cell, str(value.value), self.reasons(value)) for value in self.values]
+        return table(("cell", "value", "because of"), rows)
+
+
+def overview(
+    session: Session, seconds: float | None = None, progress: Progress | None = None
+) -> Overview:
+    """All that follows now, found by a run that is cut after so many seconds."""
+    end = session.send("settle", seconds=seconds, progress=progress)
+    told = told_by(session.lines)
+    if isinstance(end, Contradiction):
+        return Overview(True, end.premises, (), (), told, session.proved)
+    replies = session.look([*(f"why {cell}" for cell in session.known.cells), "worldview"])
+    values = tuple(reply for reply in replies if isinstance(reply, Value))
+    plan: tuple[str, ...] = ()
+    if told.choices and isinstance(replies[-1], Worldview):
+        plan = tuple(name for name in replies[-1].inside if told.side(name))
+    return Overview(is_settled(end), None, values, plan, told, session.proved)

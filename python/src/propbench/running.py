@@ -1,0 +1,143 @@
+"""`propdesk run`: a file's lines, its questions with their replies, and a table at the end.
+
+A refused line doesn't go unnoticed: the run stops there with the place, the word and a status.
+"""
+
+import json
+import sys
+from collections.abc import Iterator
+from dataclasses import dataclass, field
+from typing import TextIO
+
+from propbench.grammar import FORMS
+from propbench.overview import Overview, overview
+from propbench.refusals import Refused
+from propbench.replies import Done, Reply, Silent
+from propbench.session import Session
+from propbench.showing import printable
+from propbench.words import as_line
+
+# The commands whose replies are shown: all that are no mere `ok`.
+_ASKING = frozenset(("ask", "why", "core", "settle", "worldview", "nogoods"))
+
+
+def lines_of(path: str) -> list[str]:
+    """The lines of a file, or of standard input where the path is `-`. Raises OSError."""
+    if path == "-":
+        data = sys.stdin.buffer.read()
+    else:
+        with open(path, "rb") as file:
+            data = file.read()
+    lines = data.split(b"\n")
+    return [as_line(line) for line in (lines if lines[-1] else lines[:-1])]
+
+
+def told_of(refused: Refused, name: str) -> str:
+    """What a refusal says of a line of a file: its place, the line with the word, and what is
+    wrong."""
+    place = ":".join(str(part) for part in (name, refused.line_number, refused.column) if part)
+    lines = [f"{place}: {refused.reply}", refused.pointed(), f"  {refused.says}"]
+    return "\n".join(line for line in lines if line.strip())
+
+
+@dataclass
+class FileRun:
+    """A run of a file's lines, and what came of it."""
+
+    session: Session
+    name: str
+    keep_going: bool
+    asked: list[tuple[int, str, str]] = field(default_factory=list)
+    refused: list[Refused] = field(default_factory=list)
+
+    def replies(self, lines: list[str]) -> Iterator[tuple[int, str, Reply | Refused]]:
+        """The number of each line, the line and what came of it. Lines up to a question are sent at
+        once."""
+        begun = 0
+        for place, line in enumerate(lines):
+            if line.split()[:1] and line.split()[0] in _ASKING:
+                yield from self._some(lines, begun, place)
+                yield place + 1, line, self._one(line)
+                begun = place + 1
+        yield from self._some(lines, begun, len(lines))
+
+    def _some(
+        self, lines: list[str], begun: int, end: int
+    ) -> Iterator[tuple[int, str, Reply | Refused]]:
+        some = lines[begun:end]
+        replies = self.session.send_all(some, keep_refused=True)
+        yield from zip(range(begun + 1, end + 1), some, replies)
+
+    def _one(self, line: str) -> Reply | Refused:
+        try:
+            return self.session.send(line)
+        except Refused as refused:
+            return refused
+
+    def run(self, lines: list[str], out: TextIO | None, errors: TextIO) -> bool:
+        """Sends the lines, and writes each question with its reply and each refusal. Whether the
+        end was reached."""
+        for number, line, reply in self.replies(lines):
+            if isinstance(reply, Refused):
+                self.refused.append(reply)
+                print(told_of(reply, self.name), file=errors)
+                if not self.keep_going:
+                    return False
+            elif not isinstance(reply, Done | Silent):
+                self.asked.append((number, line, str(reply)))
+                if out:
+                    print(_exchange(line, reply), file=out, flush=True)
+        return True
+
+
+def _exchange(line: str, reply: Reply) -> str:
+    answered = "\n".join(f"  {each}" for each in str(reply).split("\n"))
+    return f"{printable(line.strip())}\n{answered}"
+
+
+def run_file(session: Session, path: str, keep_going: bool, seconds: float, as_json: bool) -> int:
+    """Runs a file, and gives the status: 0, or 1 where a line was refused. Raises OSError where the
+    file can't be read."""
+    lines = lines_of(path)
+    name = "standard input" if path == "-" else path
+    ran = FileRun(session, printable(name), keep_going)
+    reached = ran.run(lines, None if as_json else sys.stdout, sys.stderr)
+    end = overview(session, seconds) if reached else None
+    if as_json:
+        print(json.dumps(_as_json(ran, end), ensure_ascii=False, indent=2))
+    elif end is not None:
+        print(f"\n{end}" if ran.asked else str(end))
+    else:
+        print("Stopped at a refused line; --keep-going goes on behind such lines.", file=sys.stderr)
+    return 1 if ran.refused else 0
+
+
+def _as_json(ran: FileRun, end: Overview | None) -> dict[str, object]:
+    return {
+        "file": ran.name,
+        "proved": ran.session.proved,
+        "complete": end is not None,
+        "asked": [
+            {"line": number, "text": line, "reply": reply} for number, line, reply in ran.asked
+        ],
+        "refused": [_refused_as_json(refused) for refused in ran.refused],
+        "settled": end is not None and end.settled,
+        "conflict": None if end is None or end.conflict is None else list(end.conflict),
+        "plan": [] if end is None else list(end.plan),
+        "cells": {
+            value.cell: {"value": str(value.value), "because": list(value.because or ())}
+            for value in (end.values if end else ())
+        },
+    }
+
+
+def _refused_as_json(refused: Refused) -> dict[str, object]:
+    return {
+        "line": refused.line_number,
+        "column": refused.column,
+        "word": refused.word,
+        "number": refused.number,
+        "text": refused.text,
+        "says": refused.says,
+        "near": list(refused.near),
+    }

@@ -1,0 +1,210 @@
+"""Runs in slices of the limit, so that a run can be watched and stopped where it stands.
+
+A slice that is used up is gone on from by the next. So the reply at the end is that of one run
+under the user's limit; only which of several reasons are named may differ, where there are choices
+and the run takes more than one slice.
+"""
+
+import time
+from collections.abc import Callable
+from dataclasses import dataclass, replace
+from typing import NoReturn
+
+from propbench.conversation import Conversation
+from propbench.refusals import Refused
+from propbench.replies import Reply, Unsettled, Value, reply_of
+
+# What is told of a run that goes on: the steps that it took, and what is known then.
+Progress = Callable[[int, Reply], None]
+
+# A slice has so many steps, and should take between these seconds.
+_FEWEST_STEPS, _STEPS, _MOST_STEPS = 10_000, 100_000, 100_000_000
+_SHORT, _LONG = 0.05, 0.5
+# How long, in seconds, a slice that was interrupted is waited for before the program is ended.
+_GRACE = 2.0
+
+
+@dataclass
+class Watch:
+    """Who may end a run: it is cut after `until`, a time of the monotonic clock, and `progress` is
+    told of it, which may raise. `stopped` is what ended it from outside, and `taken` the steps of
+    the slices that were used up."""
+
+    until: float | None = None
+    progress: Progress | None = None
+    stopped: BaseException | None = None
+    taken: int = 0
+
+    def is_over(self, reply: Reply) -> bool:
+        """Tells of a run that isn't settled; whether it is to end here."""
+        if self.progress and not self.stopped:
+            try:
+                self.progress(self.taken, reply)
+            except BaseException as stopped:
+                self.stopped = stopped
+        is_late = self.until is not None and time.monotonic() >= self.until
+        return is_late or self.stopped is not None
+
+
+@dataclass(slots=True)
+class Question:
+    """A line that runs the network, its words, and its number among the lines that were sent."""
+
+    line: str
+    words: list[str]
+    number: int
+
+
+def is_settled(reply: Reply) -> bool:
+    """Whether a reply says all that a run under a higher limit would."""
+    return reply.settled if isinstance(reply, Value) else not isinstance(reply, Unsettled)
+
+
+class Runner:
+    """Runs questions of a conversation. The size of a slice is kept from one to the next."""
+
+    def __init__(self, talk: Conversation) -> None:
+        self.talk = talk
+        self.steps = _STEPS
+
+    def run(self, line: str, words: list[str], number: int) -> Reply:
+        """The reply to a question, in as many slices as it needs; its words and its number among
+        the lines that were sent are given with it. Raises its refusal, and KeyboardInterrupt, after
+        which another question goes on from there."""
+        talk = self.talk
+        steps = self.steps if self.steps < talk.limit else talk.limit
+        command = words[0]
+        if command == "core" and steps < talk.limit:
+            return self.watched(Question(line, words, number), Watch())
+        try:
+            text = talk.ask(line, command, steps)
+        except KeyboardInterrupt as stopped:
+            question = Question(line, words, number)
+            return self._gone_on(question, Watch(stopped=stopped), steps, None)
+        if text.startswith("error "):
+            reply = self._reply(Question(line, words, number), text)
+        else:
+            reply = reply_of(words, text, talk.kinds)
+        if "unsettled" in text and steps < talk.limit and not is_settled(reply):
+            return self._gone_on(Question(line, words, number), Watch(), steps, reply)
+        talk.lines.append(line)
+        talk.in_step = True
+        return reply
+
+    def watched(self, question: Question, watch: Watch) -> Reply:
+        """The same, where somebody may end the run. Raises what they raise."""
+        words, talk = question.words, self.talk
+        is_long_core = words[0] == "core" and self.steps < talk.limit
+        if not is_long_core or len(words) != 2 or words[1] not in talk.known.cells:
+            steps = min(self.steps, talk.limit)
+            return self._gone_on(question, watch, steps, self._slice(question, watch, steps))
+        reply = self._core(question, watch)
+        talk.in_step = True
+        if watch.stopped:
+            raise watch.stopped
+        return reply
+
+    def _gone_on(self, question: Question, watch: Watch, steps: int, reply: Reply | None) -> Reply:
+        """The reply to a question, after a first slice of so many steps, to which this was the
+        reply; none where it was interrupted."""
+        if reply is None:
+            reply = self._late(question, watch)
+        reply = self._slices(question, watch, steps, reply)
+        self._take_in(question, watch, reply)
+        self.talk.in_step = True
+        if watch.stopped:
+            raise watch.stopped
+        return reply
+
+    def _take_in(self, question: Question, watch: Watch, reply: Reply) -> None:
+        if is_settled(reply) or watch.taken == self.talk.limit:
+            self.talk.carried(question.line, question.words)
+        else:
+            self.talk.cut(question.line, watch.taken)
+
+    def _slices(self, question: Question, watch: Watch, steps: int, reply: Reply) -> Reply:
+        """The reply to a question by slices that go on from one another, until it is settled, cut,
+        or the limit is used up. The first, of so many steps, has been taken, with this reply."""
+        while not is_settled(reply):
+            watch.taken += steps
+            if watch.taken == self.talk.limit or watch.is_over(reply):
+                break
+            steps = min(self.steps, self.talk.limit - watch.taken)
+            begun = time.monotonic()
+            reply = self._slice(question, watch, steps)
+            self._adapt(time.monotonic() - begun)
+        return reply
+
+    def _slice(self, question: Question, watch: Watch, steps: int) -> Reply:
+        """The reply to a question under so many steps. Where the run was interrupted, and no reply
+        came soon, the program is ended, and KeyboardInterrupt raised."""
+        try:
+            text = self.talk.ask(question.line, question.words[0], steps)
+        except KeyboardInterrupt as stopped:
+            watch.stopped = stopped
+            return self._late(question, watch)
+        return self._reply(question, text)
+
+    def _late(self, question: Question, watch: Watch) -> Reply:
+        """The reply to a question that was interrupted, where it comes soon."""
+        text = self.talk.late_reply(question.words[0], _GRACE)
+        if text is None:
+            self.talk.program.kill()
+            if watch.taken:
+                self.talk.cut(question.line, watch.taken)
+            assert watch.stopped
+            raise watch.stopped
+        return self._reply(question, text)
+
+    def _reply(self, question: Question, text: str) -> Reply:
+        refused = self.talk.refused(question.line, text, question.number)
+        if refused:
+            self.talk.in_step = True
+            raise refused
+        return reply_of(question.words, text, self.talk.kinds)
+
+    def _adapt(self, seconds: float) -> None:
+        if seconds < _SHORT:
+            self.steps = min(self.steps * 2, _MOST_STEPS)
+        elif seconds > _LONG:
+            self.steps = max(self.steps // 2, _FEWEST_STEPS)
+
+    def _core(self, question: Question, watch: Watch) -> Reply:
+        """The reply to a `core` under a limit of more than one slice. The run before its tries goes
+        in slices, as that of a `why`. Each try begins anew, so the tries have all that is left of
+        the limit; where the run is watched, more and more of it until they are enough."""
+        talk = self.talk
+        words = ["why", question.words[1]]
+        why = replace(question, line=" ".join(words), words=words)
+        steps = min(self.steps, talk.limit)
+        reply = self._slices(why, watch, steps, self._slice(why, watch, steps))
+        if not isinstance(reply, Value):
+            self._take_in(question, watch, reply)
+        elif not reply.settled:
+            self._take_in(question, watch, reply)
+            reply = replace(reply, reduced=False)
+        elif watch.stopped:
+            self._take_in(why, watch, reply)
+        else:
+            return self._tries(question, watch, why)
+        return reply
+
+    def _tries(self, question: Question, watch: Watch, why: Question) -> Reply:
+        """The reply to a `core` whose run came to rest, as that of this `why` did."""
+        talk = self.talk
+        most = talk.limit - watch.taken
+        is_watched = watch.until is not None or watch.progress is not None
+        steps = min(self.steps, most) if is_watched else most
+        watch.taken = 0
+        is_first = True
+        while True:
+            reply = self._slice(question, watch, steps)
+            is_done = steps == most or not (isinstance(reply, Value) and reply.reduced is False)
+            if is_first and is_done:
+                talk.carried(question.line, question.words)
+            else:
+                talk.cut(question.line, steps)
+            watch.taken += steps
+            if is_done or watch.is_over(reply):
+                return reply
+            is_first, steps = False, min(steps * 2, most)

@@ -1,0 +1,287 @@
+"""`propdesk shell`: a conversation at a terminal.
+
+`Shell` takes lines and writes what comes of them; how lines are read stands in terminal.py.
+"""
+
+import sys
+import time
+from collections.abc import Callable, Sequence
+from functools import partial
+from typing import TypeVar
+
+from propbench.helping import all_help, help_on
+from propbench.listing import Told, told_by
+from propbench.overview import UNPROVED, overview
+from propbench.program import ProgramEnded
+from propbench.refusals import Refused
+from propbench.replies import Contradiction, Done, Reply, Silent, Value
+from propbench.running import lines_of, told_of
+from propbench.runs import is_settled
+from propbench.session import Session
+from propbench.showing import printable
+from propbench.tables import table
+
+Result = TypeVar("Result")
+
+WELCOME = "propbench: lines of its language, :help for help, :quit or Ctrl-D to end."
+
+ASIDES = {
+    ":list": "[cells|premises|choices|definitions|attached]  what the session knows; all of it",
+    ":undo": "takes back the last line that changed something",
+    ":step": "[N]  takes one step, or N, and shows which cells changed",
+    ":limit": "[N]  shows or sets how many steps a run takes at most",
+    ":save": "FILE  writes the lines that were carried out",
+    ":load": "FILE  carries out the lines of a file, to the first that is refused",
+    ":help": "[COMMAND]  all commands, or one; a procedure; the number of a refusal",
+    ":quit": "ends",
+}
+
+# The commands that change nothing that a user said.
+_ASKING = frozenset(("ask", "why", "core", "settle", "worldview", "nogoods", "limit"))
+# After so many seconds it is told how far a run is, and then so often.
+_TOLD_AFTER, _TOLD_EVERY = 1.0, 0.5
+
+
+class Quit(Exception):
+    """The shell is to end."""
+
+
+class Shell:
+    """What is said in a session, and what is written in return by `write`; `status` shows a line
+    that the next text replaces, "" for none."""
+
+    def __init__(
+        self,
+        session: Session,
+        write: Callable[[str], None],
+        status: Callable[[str], None] = lambda text: None,
+    ) -> None:
+        self.session = session
+        self._write = write
+        self._status = status
+        # When the run began, and when it was told last how far it is.
+        self._begun = self._told = 0.0
+        self._asides: dict[str, Callable[[list[str]], None]] = {
+            ":list": self._list,
+            ":undo": self._undo,
+            ":step": self._step,
+            ":limit": self._limit,
+            ":save": self._save,
+            ":load": self._load,
+            ":help": self._help,
+            ":quit": self._quit,
+        }
+
+    def obey(self, line: str) -> None:
+        """Does what a line says, whatever comes of it. Raises Quit where it says so."""
+        try:
+            self._obey(line)
+        except Refused as refused:
+            self._write(f"{refused.reply}\n{refused.pointed()}\n  {refused.says}".rstrip())
+        except KeyboardInterrupt:
+            self._write("Stopped. The next question goes on from there.")
+        except ProgramEnded as ended:
+            self._write(f"{ended}; it is begun anew with what was carried out.")
+            self.session.replay()
+        except (OSError, ValueError) as error:
+            self._write(str(error))
+
+    def _obey(self, line: str) -> None:
+        words = line.split()
+        if words and words[0].startswith(":"):
+            self._aside(words)
+            return
+        reply = self._watched(partial(self.session.send, line, progress=self._progress))
+        if not isinstance(reply, Silent):
+            self._write(printable_lines(reply))
+            self._explain(reply)
+
+    def _watched(self, run: Callable[[], Result]) -> Result:
+        """What a run gives, of which it is told how far it is where it takes long."""
+        self._begun = self._told = time.monotonic()
+        try:
+            return run()
+        finally:
+            if self._told > self._begun:
+                self._status("")
+
+    def _aside(self, words: list[str]) -> None:
+        found = [name for name in self._asides if name.startswith(words[0])]
+        if words[0] in self._asides or len(found) == 1:
+            self._asides[words[0] if words[0] in self._asides else found[0]](words[1:])
+        else:
+            self._write(f"There is no {printable(words[0])}; there are {' '.join(self._asides)}.")
+
+    def _progress(self, steps: int, reply: Reply) -> None:
+        now = time.monotonic()
+        if now - self._begun >= _TOLD_AFTER and now - self._told >= _TOLD_EVERY:
+            self._told = now
+            self._status(f"{steps:,} steps so far; Ctrl-C stops")
+
+    def _explain(self, reply: Reply) -> None:
+        """Says behind a reply what a newcomer doesn't read in it."""
+        told = told_by(self.session.lines)
+        if isinstance(reply, Contradiction):
+            for premise in reply.premises:
+                said = ", ".join(map(str, told.premises.get(premise, ())))
+                self._write(f"  {premise} says {said or 'nothing any more'}")
+        elif isinstance(reply, Value) and reply.because:
+            for premise in reply.because:
+                if told.side(premise):
+                    self._write(f"  {premise} is the plan's {told.side(premise)}")
+        elif not is_settled(reply):
+            self._write("  (the limit is used up; asked again it goes on from there)")
+
+    def _list(self, words: list[str]) -> None:
+        told = told_by(self.session.lines)
+        lists: dict[str, Callable[[Told], None]] = {
+            "cells": self._list_cells,
+            "premises": self._list_premises,
+            "choices": self._list_choices,
+            "definitions": self._list_definitions,
+            "attached": self._list_attached,
+        }
+        wanted = [name for name in lists if not words or name.startswith(words[0])]
+        if not wanted:
+            self._write(f"There is no list {printable(words[0])}; there are {' '.join(lists)}.")
+        for name in wanted:
+            if len(wanted) > 1:
+                self._write(f"{name}:")
+            lists[name](told)
+
+    def _list_cells(self, told: Told) -> None:
+        shown = self._watched(partial(overview, self.session, progress=self._progress))
+        self._write(str(shown))
+
+    def _list_premises(self, told: Told) -> None:
+        rows = []
+        for premise, statements in told.premises.items():
+            believed = "" if not premise else "out" if premise in told.kicked else "in"
+            said = ", ".join(map(str, statements)) or "(nothing)"
+            rows.append((premise or "(fixed)", believed, said))
+        self._listed(("premise", "", "says"), rows, "Nothing is told.")
+
+    def _list_choices(self, told: Told) -> None:
+        rows = []
+        for choice, sides in told.choices.items():
+            rows += [(f"{choice}={i}", str(side)) for i, side in enumerate(sides, 1)]
+        self._listed(("side", "says"), rows, "There are no choices.")
+
+    def _list_definitions(self, told: Told) -> None:
+        self._write("\n".join(told.definitions.values()) or "Nothing is defined but the prelude.")
+
+    def _list_attached(self, told: Told) -> None:
+        self._write("\n".join(told.attached) or "Nothing is attached.")
+
+    def _listed(self, heads: Sequence[str], rows: Sequence[Sequence[str]], nothing: str) -> None:
+        self._write(table(heads, rows) if rows else nothing)
+
+    def _undo(self, words: list[str]) -> None:
+        lines = self.session.lines
+        while lines and lines[-1].split()[0] in _ASKING:
+            lines.pop()
+        if not lines:
+            self._write("There is nothing to take back.")
+            return
+        taken, limit = lines.pop(), self.session.limit
+        self.session.replay([*lines, f"limit {limit}"])
+        self._write(f"Taken back: {printable(taken.strip())}")
+
+    def _step(self, words: list[str]) -> None:
+        steps = int(words[0]) if words else 1
+        cells = list(self.session.known.cells)
+        before = self._looked(cells)
+        limit = self.session.limit
+        self.session.send_all([f"limit {steps}"])
+        try:
+            end = self.session.send("settle")
+        finally:
+            self.session.send_all([f"limit {limit}"])
+        after = self._looked(cells)
+        rows = [(cell, before[cell], after[cell]) for cell in after if before[cell] != after[cell]]
+        if rows:
+            self._write(table(("cell", "before", "now"), rows))
+        self._write(str(end) if is_settled(end) else "There is more to do.")
+
+    def _looked(self, cells: list[str]) -> dict[str, str]:
+        """What is known of cells now, as text."""
+        replies = self.session.look(f"ask {cell}" for cell in cells)
+        return {
+            cell: str(reply.value) if isinstance(reply, Value) else "(in conflict)"
+            for cell, reply in zip(cells, replies)
+        }
+
+    def _limit(self, words: list[str]) -> None:
+        if words:
+            self.session.send(f"limit {words[0]}")
+        self._write(f"A run takes at most {self.session.limit:,} steps.")
+
+    def _save(self, words: list[str]) -> None:
+        if len(words) != 1:
+            self._write("Say where: :save FILE")
+            return
+        lines = self.session.lines
+        with open(words[0], "w", encoding="utf-8", newline="\n") as file:
+            file.writelines(f"{line.strip()}\n" for line in lines)
+        self._write(f"{len(lines)} lines are written to {words[0]}.")
+
+    def _load(self, words: list[str]) -> None:
+        if len(words) != 1:
+            self._write("Say which: :load FILE")
+            return
+        self.load(words[0])
+
+    def load(self, path: str) -> None:
+        """Carries out the lines of a file, up to the first that is refused. Raises OSError."""
+        lines = lines_of(path)
+        for number, line in enumerate(lines, 1):
+            try:
+                reply = self._watched(partial(self.session.send, line, progress=self._progress))
+            except Refused as refused:
+                refused.line_number = number
+                self._write(told_of(refused, printable(path)))
+                return
+            if not isinstance(reply, Done | Silent):
+                self._write(f"{printable(line.strip())}\n{printable_lines(reply)}")
+        self._write(f"{len(lines)} lines of {printable(path)} are carried out.")
+
+    def _help(self, words: list[str]) -> None:
+        if words:
+            self._write(help_on(words[0], self.session.known))
+            return
+        self._write(all_help())
+        self._write("")
+        self._write(table(("at this desk", ""), list(ASIDES.items())))
+
+    def _quit(self, words: list[str]) -> None:
+        raise Quit
+
+
+def printable_lines(reply: Reply) -> str:
+    """The text of a reply."""
+    return "\n".join(map(printable, str(reply).split("\n")))
+
+
+def run_shell(session: Session, path: str | None) -> int:
+    """Speaks with the user to the end, and gives the status."""
+    from propbench.terminal import reader
+
+    shell = Shell(session, print, _show_status)
+    print(WELCOME)
+    if not session.proved:
+        print(UNPROVED)
+    if path:
+        shell.load(path)
+    read = reader(session)
+    while True:
+        try:
+            shell.obey(read())
+        except KeyboardInterrupt:
+            continue
+        except (EOFError, Quit):
+            return 0
+
+
+def _show_status(text: str) -> None:
+    if sys.stderr.isatty():
+        print(f"\r\x1b[K{text}", end="", file=sys.stderr, flush=True)

@@ -1,0 +1,30 @@
+"""Texts as a terminal shows them: what can't be printed is escaped, and wide letters are counted."""
+
+import unicodedata
+
+
+def printable(text: str) -> str:
+    """The text with what can't be printed escaped, and a space for each tab."""
+    return text if text.isprintable() else "".join(map(_printable, text))
+
+
+def _printable(character: str) -> str:
+    if character.isprintable():
+        return character
+    return " " if character == "\t" else ascii(character)[1:-1].replace("\\udc", "\\x")
+
+
+def quoted(word: str) -> str:
+    """The word as a message shows it, in backquotes."""
+    return f"`{printable(word)}`"
+
+
+def width(text: str) -> int:
+    """How many columns of a terminal the text takes as it is shown."""
+    return sum(map(_columns, printable(text)))
+
+
+def _columns(character: str) -> int:
+    if unicodedata.combining(character):
+        return 0
+    return 2 if unicodedata.east_asian_width(character) in "WF" else 1
