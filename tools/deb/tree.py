@@ -77,8 +77,9 @@ def of_python(build: Build) -> dict[str, bytes]:
 
 
 def of_documents() -> dict[str, bytes]:
-    """README.md, docs/ and examples/, beside each other as they are in the repository."""
-    paths = [f"{TOP}/README.md", *tracked("docs", "*.md")]
+    """README.md, docs/, examples/ and what is said of the Python package, beside each other as they
+    are in the repository."""
+    paths = [f"{TOP}/README.md", *tracked("docs", "*.md"), *tracked("python", "README.md")]
     paths += [*tracked("examples", "*.prop"), *tracked("examples", "*.out")]
     return {f"{DOC}/{os.path.relpath(path, TOP)}": read(path) for path in paths}
 
