@@ -8,10 +8,8 @@ and the run takes more than one slice.
 import time
 from collections.abc import Callable
 from dataclasses import dataclass, replace
-from typing import NoReturn
 
 from propbench.conversation import Conversation
-from propbench.refusals import Refused
 from propbench.replies import Reply, Unsettled, Value, reply_of
 
 # What is told of a run that goes on: the steps that it took, and what is known then.
