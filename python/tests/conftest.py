@@ -25,6 +25,7 @@ settings.register_profile(
     "small",
     max_examples=60 * TIMES,
     deadline=None,
+    database=None,
     suppress_health_check=[HealthCheck.too_slow, HealthCheck.data_too_large],
 )
 settings.load_profile("small")

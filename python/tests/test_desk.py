@@ -15,7 +15,7 @@ from pathlib import Path
 import pytest
 from conftest import REPOSITORY
 
-from propbench import ProgramEnded, Reply, Session
+from propbench import Reply, Session
 from propbench.completion import completions
 from propbench.desk import main, parser
 from propbench.grammar import FORMS

@@ -55,7 +55,7 @@ def test_no_program(repository: Path, monkeypatch: pytest.MonkeyPatch) -> None:
 
 def test_a_build_tells_how_far_it_is(repository: Path, capfd: pytest.CaptureFixture[str]) -> None:
     script(repository / "propbench", "echo building >&2; read line; echo ok")
-    with Session() as session:
+    with Session(limit=5) as session:
         assert not session.proved
         assert str(session.send("cell x span")) == "ok"
     assert capfd.readouterr().err == "building\n"

@@ -4,6 +4,7 @@ import gc
 from collections.abc import Iterable
 
 from propbench.conversation import Conversation
+from propbench.grammar import RUNNING
 from propbench.program import ProgramEnded
 from propbench.refusals import Refused
 from propbench.replies import DONE, SEVERAL, SILENT, Reply, lines_behind, reply_of
@@ -87,7 +88,8 @@ class Batch:
     def _take_in(self, lines: list[str]) -> None:
         """Takes in the replies that have come whole, these lines being the last that came."""
         self._came += lines
-        carried, came, places = self._talk.carried, self._came, self._places
+        carried, journal, kinds = self._talk.carried, self._talk.lines, self._talk.kinds
+        came, places = self._came, self._places
         count, answered, read = len(came), 0, 0
         while read < count:
             text, place = came[read], places[answered]
@@ -104,6 +106,9 @@ class Batch:
             if text == "ok":
                 carried(line, words)
                 self.replies[place] = DONE
+            elif not text.startswith("error ") and words[0] in RUNNING:
+                journal.append(line)
+                self.replies[place] = reply_of(words, text, kinds)
             else:
                 self._answer(place, words, text)
         del self._came[:read], self._places[:answered]

@@ -4,14 +4,11 @@ What was carried out and what the program has done are in step, but where an exc
 the two; then the program is begun anew with the lines that are known to be carried out.
 """
 
-import time
-
 from propbench.blame import blame_for
 from propbench.known import Known
 from propbench.program import Program
 from propbench.refusals import CLASSES, Refused
 from propbench.replies import SEVERAL, lines_behind, refusal_in
-from propbench.words import encoded
 
 
 class Conversation:
@@ -29,47 +26,35 @@ class Conversation:
         self.program_limit = limit
         self._learns = {**self.known.learns, "limit": self._learn_limit}
         self.in_step = True
-        self._limit_on_its_way: int | None = None
 
-    def ask(self, line: str, command: str, steps: int | None = None) -> str:
-        """The whole reply to a line that has one, under a limit of so many steps where it is given.
-        The conversation is out of step until the reply is taken in and it is said to be in step."""
+    def tell(self, line: str, steps: int) -> None:
+        """Sends a line, under a limit of so many steps. The conversation is out of step until its
+        reply is taken in, and it is said to be in step."""
+        if steps != self.program_limit:
+            self.set_limit(steps)
         self.in_step = False
-        if steps is not None and steps != self.program_limit:
-            self._limit_on_its_way = steps
-            self.program.put(b"limit %d\n" % steps + encoded(line) + b"\n")
-            self._take_limit()
-            first = self.program.next_line()
-        else:
-            first = self.program.reply_to(line)
+        self.program.tell(line)
+
+    def hear(self, command: str) -> str:
+        """The whole reply to a line with this command."""
+        first = self.program.hear()
         return self._whole(command, first) if command in SEVERAL else first
+
+    def late_reply(self, command: str, seconds: float) -> str | None:
+        """The same where it comes within so many seconds."""
+        return self.hear(command) if self.program.has_reply(seconds) else None
 
     def set_limit(self, steps: int) -> None:
         """Gives the program a limit, which is not the user's."""
         self.in_step = False
-        self._limit_on_its_way = steps
-        self.program.put(b"limit %d\n" % steps)
-        self._take_limit()
+        self.program.tell(f"limit {steps}")
+        self.program.hear()
+        self.program_limit = steps
         self.in_step = True
 
-    def late_reply(self, command: str, seconds: float) -> str | None:
-        """The reply for which `ask` was interrupted, where it comes within so many seconds."""
-        until = time.monotonic() + seconds
-        if self._limit_on_its_way is not None and self.program.has_reply(seconds):
-            self._take_limit()
-        if self._limit_on_its_way is None and self.program.has_reply(until - time.monotonic()):
-            return self._whole(command, self.program.next_line())
-        return None
-
     def _whole(self, command: str, first: str) -> str:
-        """The whole reply to a line with this command, whose first line this is."""
         behind = [self.program.next_line() for _ in range(lines_behind(command, first))]
         return "\n".join([first, *behind])
-
-    def _take_limit(self) -> None:
-        self.program.next_line()
-        assert self._limit_on_its_way is not None
-        self.program_limit, self._limit_on_its_way = self._limit_on_its_way, None
 
     def carried(self, line: str, words: list[str]) -> None:
         """Takes in that a line was carried out."""

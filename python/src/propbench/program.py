@@ -110,9 +110,8 @@ class Program:
             if self._is_readable(0):
                 self._read()
 
-    def reply_to(self, line: str) -> str:
-        """The first line of the reply to a line, where no other is under way. Raises
-        ProgramEnded."""
+    def tell(self, line: str) -> None:
+        """Sends a line, where no reply is under way. Raises ProgramEnded."""
         try:
             data = f"{line}\n".encode()
         except UnicodeEncodeError:
@@ -123,9 +122,12 @@ class Program:
             written = 0
         if written != len(data):
             self.put(data[written:])
+
+    def hear(self) -> str:
+        """The first line of a reply, where no other is under way. Raises ProgramEnded."""
         said = os.read(self._out, _PIECE)
         first, _, more = said.partition(b"\n")
-        if more or len(first) == len(said):
+        if more or self._part or self._lines or len(first) == len(said):
             self._come_in(said)
             return self.next_line()
         return first.decode()

@@ -153,10 +153,13 @@ def reply_of(words: list[str], text: str, kinds: Mapping[str, str]) -> Reply:
     """The reply that a text is to a line of these words, which is neither silent nor refused;
     `kinds` are those of the cells."""
     command = words[0]
+    if command in _VALUED:
+        # `X = V`, and what stands behind V, which has no space but within its braces.
+        parts = text.split(" ", 4)
+        if parts[1] == "=":
+            return _value(command, parts, text, kinds[parts[0]])
     if text.startswith("contradiction:"):
         return Contradiction(_names(text[15:]))
-    if command in _VALUED:
-        return _value(command, words[1], text, kinds[words[1]])
     if command == "worldview" and text != "unsettled":
         inside, outside = text.split("\n")
         return Worldview(tuple(inside.split(" ")[1:]), tuple(outside.split(" ")[1:]))
@@ -165,18 +168,24 @@ def reply_of(words: list[str], text: str, kinds: Mapping[str, str]) -> Reply:
     return _PLAIN[text]
 
 
-def _value(command: str, cell: str, text: str, kind: str) -> Value:
-    """A value by what stands behind `X = `. It has no space but within its braces."""
+def _value(command: str, parts: list[str], text: str, kind: str) -> Value:
+    """A value by its first parts, between spaces."""
+    said = parts[2]
+    if said[0] == "{" or (len(parts) > 3 and parts[3] != "because"):
+        return _marked_value(command, parts[0], text, kind)
+    if len(parts) == 3:
+        return Value(parts[0], value_of(said, kind))
+    because = () if parts[4] == "no premise" else tuple(parts[4].split(" "))
+    reduced = True if command == "core" else None
+    return Value(parts[0], value_of(said, kind), True, because, reduced)
+
+
+def _marked_value(command: str, cell: str, text: str, kind: str) -> Value:
+    """A value that is in braces, or has `unsettled` or `not reduced` behind it."""
     said = text[len(cell) + 3 :]
-    if said[0] == "{":
-        said, _, behind = said.partition("}")
-        behind = behind[1:]
-    else:
-        said, _, behind = said.partition(" ")
-    value = value_of(said, kind)
+    end = said.index("}") + 1 if said[0] == "{" else said.index(" ")
+    value, (mark, _, names) = value_of(said[:end], kind), said[end:].partition(" because ")
     if command == "ask":
-        return Value(cell, value, not behind)
-    mark, _, names = behind.partition("because ")
-    because = () if names == "no premise" else tuple(names.split(" "))
+        return Value(cell, value, mark == "")
     reduced = mark == "" if command == "core" else None
-    return Value(cell, value, mark != "unsettled ", because, reduced)
+    return Value(cell, value, mark != " unsettled", _names(names), reduced)

@@ -9,7 +9,6 @@ from collections.abc import Iterator
 from dataclasses import dataclass, field
 from typing import TextIO
 
-from propbench.grammar import FORMS
 from propbench.overview import Overview, overview
 from propbench.refusals import Refused
 from propbench.replies import Done, Reply, Silent

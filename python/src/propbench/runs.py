@@ -8,10 +8,8 @@ and the run takes more than one slice.
 import time
 from collections.abc import Callable
 from dataclasses import dataclass, replace
-from typing import NoReturn
 
 from propbench.conversation import Conversation
-from propbench.refusals import Refused
 from propbench.replies import Reply, Unsettled, Value, reply_of
 
 # What is told of a run that goes on: the steps that it took, and what is known then.
@@ -67,49 +65,47 @@ class Runner:
         self.talk = talk
         self.steps = _STEPS
 
-    def run(self, line: str, words: list[str], number: int) -> Reply:
-        """The reply to a question, in as many slices as it needs; its words and its number among
-        the lines that were sent are given with it. Raises its refusal, and KeyboardInterrupt, after
-        which another question goes on from there."""
+    def tell(self, line: str) -> None:
+        """Sends a line, which runs one slice at the most; its reply is heard next."""
         talk = self.talk
-        steps = self.steps if self.steps < talk.limit else talk.limit
-        command = words[0]
-        if command == "core" and steps < talk.limit:
-            return self.watched(Question(line, words, number), Watch())
+        talk.tell(line, self.steps if self.steps < talk.limit else talk.limit)
+
+    def hear(self, line: str, words: list[str], number: int) -> Reply:
+        """The reply to a question that was told, which is no `core`, in as many slices as it needs;
+        its words and its number among the lines that were sent are given with it. Raises its
+        refusal, and KeyboardInterrupt, after which another question goes on from there."""
+        talk = self.talk
         try:
-            text = talk.ask(line, command, steps)
+            text = talk.hear(words[0])
         except KeyboardInterrupt as stopped:
-            question = Question(line, words, number)
-            return self._gone_on(question, Watch(stopped=stopped), steps, None)
+            question, watch = Question(line, words, number), Watch(stopped=stopped)
+            return self._gone_on(question, watch, self._late(question, watch))
         if text.startswith("error "):
             reply = self._reply(Question(line, words, number), text)
         else:
             reply = reply_of(words, text, talk.kinds)
-        if "unsettled" in text and steps < talk.limit and not is_settled(reply):
-            return self._gone_on(Question(line, words, number), Watch(), steps, reply)
+        if "unsettled" in text and not is_settled(reply):
+            return self._gone_on(Question(line, words, number), Watch(), reply)
         talk.lines.append(line)
         talk.in_step = True
         return reply
 
     def watched(self, question: Question, watch: Watch) -> Reply:
-        """The same, where somebody may end the run. Raises what they raise."""
+        """The reply to a question that is not told yet, where somebody may end the run. Raises its
+        refusal, and what they raise."""
         words, talk = question.words, self.talk
         is_long_core = words[0] == "core" and self.steps < talk.limit
         if not is_long_core or len(words) != 2 or words[1] not in talk.known.cells:
-            steps = min(self.steps, talk.limit)
-            return self._gone_on(question, watch, steps, self._slice(question, watch, steps))
+            return self._gone_on(question, watch, self._first_slice(question, watch))
         reply = self._core(question, watch)
         talk.in_step = True
         if watch.stopped:
             raise watch.stopped
         return reply
 
-    def _gone_on(self, question: Question, watch: Watch, steps: int, reply: Reply | None) -> Reply:
-        """The reply to a question, after a first slice of so many steps, to which this was the
-        reply; none where it was interrupted."""
-        if reply is None:
-            reply = self._late(question, watch)
-        reply = self._slices(question, watch, steps, reply)
+    def _gone_on(self, question: Question, watch: Watch, first: Reply) -> Reply:
+        """The reply to a question, after a first slice that had this one."""
+        reply = self._slices(question, watch, first)
         self._take_in(question, watch, reply)
         self.talk.in_step = True
         if watch.stopped:
@@ -122,24 +118,28 @@ class Runner:
         else:
             self.talk.cut(question.line, watch.taken)
 
-    def _slices(self, question: Question, watch: Watch, steps: int, reply: Reply) -> Reply:
+    def _first_slice(self, question: Question, watch: Watch) -> Reply:
+        return self._slice(question, watch, min(self.steps, self.talk.limit))
+
+    def _slices(self, question: Question, watch: Watch, reply: Reply) -> Reply:
         """The reply to a question by slices that go on from one another, until it is settled, cut,
-        or the limit is used up. The first, of so many steps, has been taken, with this reply."""
+        or the limit is used up. The first has been taken, with this reply."""
+        talk = self.talk
         while not is_settled(reply):
-            watch.taken += steps
-            if watch.taken == self.talk.limit or watch.is_over(reply):
+            watch.taken += talk.program_limit
+            if watch.taken == talk.limit or watch.is_over(reply):
                 break
-            steps = min(self.steps, self.talk.limit - watch.taken)
             begun = time.monotonic()
-            reply = self._slice(question, watch, steps)
+            reply = self._slice(question, watch, min(self.steps, talk.limit - watch.taken))
             self._adapt(time.monotonic() - begun)
         return reply
 
     def _slice(self, question: Question, watch: Watch, steps: int) -> Reply:
         """The reply to a question under so many steps. Where the run was interrupted, and no reply
         came soon, the program is ended, and KeyboardInterrupt raised."""
+        self.talk.tell(question.line, steps)
         try:
-            text = self.talk.ask(question.line, question.words[0], steps)
+            text = self.talk.hear(question.words[0])
         except KeyboardInterrupt as stopped:
             watch.stopped = stopped
             return self._late(question, watch)
@@ -176,8 +176,7 @@ class Runner:
         talk = self.talk
         words = ["why", question.words[1]]
         why = replace(question, line=" ".join(words), words=words)
-        steps = min(self.steps, talk.limit)
-        reply = self._slices(why, watch, steps, self._slice(why, watch, steps))
+        reply = self._slices(why, watch, self._first_slice(why, watch))
         if not isinstance(reply, Value):
             self._take_in(question, watch, reply)
         elif not reply.settled:

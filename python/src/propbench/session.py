@@ -137,13 +137,14 @@ class Session:
         if not self._talk.in_step:
             self._be_ready()
         self._sent += 1
+        if seconds is not None or progress is not None or "core" in text:
+            return self._send_watched(text, seconds, progress)
+        self._runner.tell(text)
+        # What the line asks is looked at while the program is at work.
         words = text.split()
-        if not words or words[0] not in RUNNING:
-            return self._say(text, words)
-        if seconds is None and progress is None:
-            return self._runner.run(text, words, self._sent)
-        until = None if seconds is None else time.monotonic() + seconds
-        return self._runner.watched(Question(text, words, self._sent), Watch(until, progress))
+        if words and words[0] in RUNNING:
+            return self._runner.hear(text, words, self._sent)
+        return self._heard(text, words)
 
     @overload
     def send_all(self, lines: Iterable[str | bytes]) -> list[Reply]:
@@ -238,20 +239,26 @@ class Session:
         if not self._talk.in_step:
             self.replay()
 
-    def _say(self, line: str, words: list[str]) -> Reply:
-        """The reply to a line that runs nothing."""
+    def _send_watched(self, line: str, seconds: float | None, progress: Progress | None) -> Reply:
+        """The reply to a line that may be a question which is watched, or a `core`."""
+        words = line.split()
+        if words and words[0] in RUNNING:
+            until = None if seconds is None else time.monotonic() + seconds
+            return self._runner.watched(Question(line, words, self._sent), Watch(until, progress))
+        self._runner.tell(line)
+        return self._heard(line, words)
+
+    def _heard(self, line: str, words: list[str]) -> Reply:
+        """The reply to a line that was told, and runs nothing."""
         talk = self._talk
         if (not words or words[0] not in FORMS) and is_silent(line):
-            return SILENT
-        text = talk.ask(line, words[0] if words else "")
-        if text == "ok":
-            talk.carried(line, words)
             talk.in_step = True
-            return DONE
-        refused = talk.refused(line, text, self._sent)
+            return SILENT
+        text = talk.hear(words[0] if words else "")
+        refused = talk.refused(line, text, self._sent) if text != "ok" else None
         if refused is None:
             talk.carried(line, words)
         talk.in_step = True
         if refused:
             raise refused
-        return reply_of(words, text, talk.kinds)
+        return DONE if text == "ok" else reply_of(words, text, talk.kinds)
