@@ -1,23 +1,37 @@
 -- What a search has learned stays learned as a choice moves to its next side.
-use Rattle.std.proofs.Common.{◌≡◌, ◌∙◌, ℕ, zero, suc, ◌+◌, ◌-◌, ◌<◌, ◌≤◌, List, [], ◌∷◌, ◌++◌, length, length-append, take, drop, Some, refl, sym, ap, ◌⊎◌, inl, inr, arith, slice_get, slice_index_or}
+use Rattle.std.proofs.Common.{◌≡◌, ◌∙◌, ℕ, zero, suc, ◌+◌, ◌-◌, ◌<◌, ◌≤◌, List, [], ◌∷◌, ◌++◌, ◌||◌, ◌==◌, length, length-append, take, drop, Some, refl, sym, ap, subst, ◌⊎◌, inl, inr, arith, slice_get, slice_index_or}
 use Rattle.std.specs.List.{AllZip}
 use Rattle.std.proofs.lemmas.List.{take-append-le, take_all}
-use Rattle.prop_premises.specs.Sets.{IsSame, set_of}
+use Rattle.prop_premises.specs.Sets.{Members, IsSame, set_of, union}
 use Rattle.prop_premises.specs.declared.choice.Choice.{Choice}
-use Rattle.prop_premises.specs.ChoiceLists.{IsSide, IsChoiceList, worldview}
+use Rattle.prop_premises.specs.ChoiceLists.{hypothetical, IsSide, IsChoiceList, AreOfSides, worldview}
 use Rattle.prop_cells.specs.Problems.{Problem}
 use Rattle.prop_amb.specs.Search.{Stand, IsStand, users_of, choices_in, IsKept, IsSearch}
 use Rattle.prop_amb.specs.Moving.{first_sides, advanced, reasons_advanced, no_reasons}
 use Rattle.prop_amb.specs.Resolving.{MayAdvance, IsReason}
 use Rattle.prop_amb.proofs.ZipLemmas.{some_same, none_some, zip_at, zip_both, index_at}
-use Rattle.prop_amb.proofs.PlaceLemmas.{at_pushed}
+use Rattle.prop_amb.proofs.PlaceLemmas.{at_pushed, get_below_length}
 use Rattle.prop_amb.proofs.KeepingLaws.{nothing_kept}
+use Rattle.prop_amb.proofs.LevelLaws.{or_no, deeper_believes}
+use Rattle.prop_amb.proofs.LookingLaws.{its_side}
+use Rattle.prop_amb.proofs.ReasonLaws.{length-advanced}
 
 pub advanced_front : (list : List ℕ) (j k : ℕ) → k ≤ j → take k (advanced list j) ≡ take k list
 advanced_front list j zero l = refl
 advanced_front [] j (suc k) l = refl
 advanced_front (side ∷ list) zero (suc k) l = absurd (omega (arith, l))
 advanced_front (side ∷ list) (suc j) (suc k) l = ap (λ x. side ∷ x) (advanced_front list j k (omega (arith, l)))
+
+advanced_side : (list : List ℕ) (j side : ℕ) → slice_get list j ≡ Some side → slice_get (advanced list j) j ≡ Some (suc side)
+advanced_side [] j side e = absurd (none_some e)
+advanced_side (a ∷ list) zero side e = ap (λ x. Some (suc x)) (some_same e)
+advanced_side (a ∷ list) (suc j) side e = advanced_side list j side e
+
+-- what is believed with the sides before a choice, and its next one
+pub advanced_believes : (users : Members) (cs : List Choice) (list : List ℕ) (j : ℕ) (c : Choice) (side p : ℕ) → slice_get cs j ≡ Some c → slice_get list j ≡ Some side →
+    (worldview users cs (take j list) p || (hypothetical c (suc side) == p)) ≡ worldview users cs (take (j + 1) (advanced list j)) p
+advanced_believes users cs list j c side p e f =
+    ap (λ l. worldview users cs l p || (hypothetical c (suc side) == p)) (sym (advanced_front list j j (omega arith))) ∙ deeper_believes users cs (advanced list j) j c (suc side) p e (advanced_side list j side f)
 
 -- a reason that is kept after the move was kept before, of a choice that isn't later, or it is the one of the move
 reason_was : (reasons : List (List (List ℕ))) (j : ℕ) (n : List ℕ) (k i : ℕ) (r : List ℕ) → slice_get (slice_index_or (reasons_advanced reasons j n) k []) i ≡ Some r →
@@ -30,14 +44,14 @@ reason_was (each ∷ reasons) (suc j) n (suc k) i r e = elim (reason_was reasons
 
 -- a choice left its side for a reason
 pub search_advanced : (problem : Problem) (s : Stand) (j : ℕ) (choice : Choice) (side : ℕ) (n : List ℕ) (w : List ℕ) → IsStand s → slice_get (choices_in s) j ≡ Some choice → slice_get s.list j ≡ Some side →
-    1 ≤ side → IsKept problem s j choice side (set_of n) → IsSearch problem s → IsSearch problem (record s { list = advanced s.list j; reasons = reasons_advanced s.reasons j n; worldview = w })
+    1 ≤ side → IsKept problem s j choice side (set_of n) → IsSearch problem s → IsSearch problem (record s { list = advanced s.list j; level = j + 1; reasons = reasons_advanced s.reasons j n; worldview = w })
 search_advanced problem s j choice side n w stand choice_at side_at from_one reason h = record {
   nogoods = h.nogoods;
   reasons = record { kept = λ k d i r at one e. now k d i r at one (reason_was s.reasons j n k (i - 1) r e) };
 }
   where
     t : Stand
-    t = record s { list = advanced s.list j; reasons = reasons_advanced s.reasons j n; worldview = w }
+    t = record s { list = advanced s.list j; level = j + 1; reasons = reasons_advanced s.reasons j n; worldview = w }
 
     carried : (k : ℕ) (d : Choice) (i : ℕ) (r : List ℕ) → k ≤ j → IsKept problem s k d i (set_of r) → IsKept problem t k d i (set_of r)
     carried k d i r l x = record {
@@ -62,6 +76,22 @@ search_advanced problem s j choice side n w stand choice_at side_at from_one rea
       where
         at_j : k ≡ j → slice_get (choices_in s) k ≡ Some choice
         at_j e = rw e choice_at
+
+-- with these sides, and the next one
+pub moved_believes : (s : Stand) (j : ℕ) (w mid : List ℕ) (q : ℕ) → (may : MayAdvance s j) → q ≡ hypothetical may.choice (suc may.side) → IsSame (set_of mid) (worldview (users_of s) (choices_in s) (take j s.list)) → IsSame (set_of w) (union (set_of mid) (set_of (q ∷ []))) →
+    IsSame (set_of w) (worldview (users_of s) (choices_in s) (take (j + 1) (advanced s.list j)))
+moved_believes s j w mid q may is before more p =
+    more p ∙ ap (λ b. set_of mid p || b) (or_no (q == p)) ∙ ap (λ n. set_of mid p || (n == p)) is ∙ ap (λ b. b || (hypothetical may.choice (suc may.side) == p)) (before p)
+    ∙ advanced_believes (users_of s) (choices_in s) s.list j may.choice may.side p may.choice_at may.side_at
+
+pub few_sides : (cs : List Choice) (j : ℕ) (c : Choice) → AreOfSides cs → slice_get cs j ≡ Some c → c.sides ≤ 8
+few_sides [] j c h e = absurd (none_some e)
+few_sides (x ∷ cs) zero c h e = subst (λ (d : Choice). d.sides ≤ 8) (some_same e) h.0.1
+few_sides (x ∷ cs) (suc j) c h e = few_sides cs j c h.1 e
+
+-- the next side of a choice that may advance is a premise
+pub next_small : (s : Stand) (j : ℕ) (may : MayAdvance s j) → IsStand s → hypothetical may.choice (suc may.side) < length s.premises
+next_small s j may stand = stand.numbered.below (hypothetical may.choice (suc may.side)) (its_side (choices_in s) j may.choice (suc may.side) may.choice_at (omega arith, omega (arith, may.more)))
 
 -- ---- the stand after the move
 
@@ -100,20 +130,21 @@ advanced_reasoned (side ∷ list) (each ∷ reasons) zero n h = (omega (arith, h
 advanced_reasoned (side ∷ list) (each ∷ reasons) (suc j) n h = (h.0, advanced_reasoned list reasons j n h.1)
 
 -- a stand stays one as a choice goes to its next side
-pub stand_advanced : (s : Stand) (j : ℕ) (n w : List ℕ) → IsStand s → MayAdvance s j → IsSame (set_of w) (worldview (users_of s) (choices_in s) (advanced s.list j)) →
-    IsStand (record s { list = advanced s.list j; reasons = reasons_advanced s.reasons j n; worldview = w })
+pub stand_advanced : (s : Stand) (j : ℕ) (n w : List ℕ) → IsStand s → MayAdvance s j → IsSame (set_of w) (worldview (users_of s) (choices_in s) (take (j + 1) (advanced s.list j))) →
+    IsStand (record s { list = advanced s.list j; level = j + 1; reasons = reasons_advanced s.reasons j n; worldview = w })
 stand_advanced s j n w stand may believes = record {
   numbered = stand.numbered;
   few = stand.few;
   is_list = advanced_is_list s j stand.is_list may;
   reasoned = advanced_reasoned s.list s.reasons j n stand.reasoned;
+  level = (let within = get_below_length s.list j may.side may.side_at in let same = length-advanced s.list j in omega (arith, within, same));
   believes = believes;
   minimal = stand.minimal;
 }
 
 -- what is learned stays so as a choice leaves its side for a reason
 pub search_moved : (problem : Problem) (s : Stand) (j : ℕ) (n w : List ℕ) → IsStand s → MayAdvance s j → IsReason problem s j (set_of n) → IsSearch problem s →
-    IsSearch problem (record s { list = advanced s.list j; reasons = reasons_advanced s.reasons j n; worldview = w })
+    IsSearch problem (record s { list = advanced s.list j; level = j + 1; reasons = reasons_advanced s.reasons j n; worldview = w })
 search_moved problem s j n w stand may reason h =
     search_advanced problem s j may.choice may.side n w stand may.choice_at may.side_at (from_one (zip_both IsSide (choices_in s) s.list j may.choice may.side stand.is_list may.choice_at may.side_at))
     (reason may.choice may.side may.choice_at may.side_at) h
@@ -123,20 +154,20 @@ search_moved problem s j n w stand may reason h =
 
 -- ---- the same, where the reasons are written back in their place
 
-written : {A : Type 0} (old new : List A) (n : ℕ) → length new ≡ n → take n (new ++ drop (length new) old) ≡ new
+pub written : {A : Type 0} (old new : List A) (n : ℕ) → length new ≡ n → take n (new ++ drop (length new) old) ≡ new
 written old new n count = take-append-le n new (drop (length new) old) (omega (arith, count)) ∙ take_all n new (omega (arith, count))
 
 -- a search after the move, as its parts are written
-abbrev pub moved_to : Stand → List ℕ → List (List (List ℕ)) → ℕ → List ℕ → Stand
-moved_to s list reasons count w = record s { list = list; reasons = take count (reasons ++ drop (length reasons) s.reasons); worldview = w }
+abbrev pub moved_to : Stand → ℕ → List ℕ → List (List (List ℕ)) → ℕ → List ℕ → Stand
+moved_to s j list reasons count w = record s { list = list; level = j + 1; reasons = take count (reasons ++ drop (length reasons) s.reasons); worldview = w }
 
 module _ (s : Stand) (j : ℕ) (n w list : List ℕ) (reasons : List (List (List ℕ))) (count : ℕ) (stand : IsStand s) (may : MayAdvance s j) (list_is : list ≡ advanced s.list j) (reasons_are : reasons ≡ reasons_advanced s.reasons j n)
     (counted : length reasons ≡ count) where
-  moved_is : moved_to s list reasons count w ≡ record s { list = advanced s.list j; reasons = reasons_advanced s.reasons j n; worldview = w }
+  moved_is : moved_to s j list reasons count w ≡ record s { list = advanced s.list j; level = j + 1; reasons = reasons_advanced s.reasons j n; worldview = w }
   moved_is = rw (written s.reasons reasons count counted, list_is, reasons_are) refl
 
-  pub stand_moved : IsSame (set_of w) (worldview (users_of s) (choices_in s) list) → IsStand (moved_to s list reasons count w)
+  pub stand_moved : IsSame (set_of w) (worldview (users_of s) (choices_in s) (take (j + 1) list)) → IsStand (moved_to s j list reasons count w)
   stand_moved believes = rw moved_is (stand_advanced s j n w stand may (rw list_is at believes))
 
-  pub search_moved_to : (problem : Problem) → IsReason problem s j (set_of n) → IsSearch problem s → IsSearch problem (moved_to s list reasons count w)
+  pub search_moved_to : (problem : Problem) → IsReason problem s j (set_of n) → IsSearch problem s → IsSearch problem (moved_to s j list reasons count w)
   search_moved_to problem reason h = rw moved_is (search_moved problem s j n w stand may reason h)

@@ -34,9 +34,9 @@ met_blames s n set stand met culprits = record {
 }
 
 -- a choice went on
-pub goes_later : (s new : Stand) (j : ℕ) (reason : List ℕ) → (may : MayMove s j) → AreCulprits s may.nogood (set_of reason) → new.premises ≡ s.premises → new.listed ≡ s.listed → new.list ≡ advanced s.list j → new.reasons ≡ reasons_advanced s.reasons j reason → Passes s 1 new
-goes_later s new j reason may culprits premises listed list reasons =
-    next 0 j s new reason none may culprits (λ i. record { premises = premises i; list = list i; reasons = reasons i; listed = listed i; worldview = new.worldview })
+pub goes_later : (s new : Stand) (j : ℕ) (reason : List ℕ) → (may : MayMove s j) → AreCulprits s may.nogood (set_of reason) → new.premises ≡ s.premises → new.listed ≡ s.listed → new.list ≡ advanced s.list j → new.level ≡ j + 1 → new.reasons ≡ reasons_advanced s.reasons j reason → Passes s 1 new
+goes_later s new j reason may culprits premises listed list level reasons =
+    next 0 j s new reason none may culprits (λ i. record { premises = premises i; list = list i; level = level i; reasons = reasons i; listed = listed i; worldview = new.worldview })
 
 -- moves after moves
 pub passes_on : {old mid new : Stand} {n k : ℕ} → Passes old n mid → Passes mid k new → Passes old (n + k) new

@@ -9,7 +9,7 @@ use Rattle.prop_scheduler.specs.Turns.{Turn, Turns}
 use Rattle.prop_scheduler.specs.Turns.Turns.{none as no_turn, more as one_turn}
 use Rattle.prop_amb.specs.Search.{Stand, IsStand, believed_with}
 use Rattle.prop_amb.specs.Going.{Work, work, MayCall, Goes}
-use Rattle.prop_amb.specs.Going.Goes.{none, called, noted, moved}
+use Rattle.prop_amb.specs.Going.Goes.{none, called, noted, moved, deeper}
 use Rattle.prop_amb.proofs.MetLaws.{believes_worldview}
 
 -- a turn may be called where no noted nogood is believed
@@ -64,6 +64,7 @@ goes_then {picks = picks} {library} {start} {w} {n = n} first none = let e : n �
 goes_then {picks = picks} {library} {start} {n = n} first (called k place u d line next rest may picked turn) =
     let e : (n + k) + 1 ≡ n + (k + 1) = omega arith in
     subst (λ m. Goes picks library start m (record u { cells = d; line = line; order = next })) e (called (n + k) place u d line next (goes_then first rest) may picked turn)
+goes_then {n = n} first (deeper k u later line rest may same grown) = deeper (n + k) u later line (goes_then first rest) may same grown
 goes_then {n = n} first (noted k u nogood more rest clash adds) = noted (n + k) u nogood more (goes_then first rest) clash adds
 goes_then {picks = picks} {library} {start} {n = n} first (moved k moves u later line rest passes shifted) =
     let e : (n + k) + moves ≡ n + (k + moves) = omega arith in

@@ -1,8 +1,10 @@
 -- A stand stays one as a choice is declared, and as the last one goes.
-use Rattle.std.proofs.Common.{◌≡◌, ◌∙◌, ℕ, suc, ◌+◌, ◌-◌, ◌<◌, ◌≤◌, Bool, true, false, cond, ◌||◌, ◌&&◌, ◌==◌, nat_lt, IsTrue, List, [], ◌∷◌, ◌++◌, length, take, filter, refl, sym, ap, arith, inl, inr, length-append}
+use Rattle.std.proofs.Common.{◌≡◌, ◌∙◌, ℕ, suc, ◌+◌, ◌-◌, ◌<◌, ◌≤◌, min, Bool, true, false, cond, ◌||◌, ◌&&◌, ◌==◌, nat_lt, IsTrue, List, [], ◌∷◌, ◌++◌, length, take, filter, refl, sym, ap, arith, inl, inr, ◌⊎◌, length-append}
 use Rattle.std.specs.List.{AllZip, AllByRecursion}
 use Rattle.std.proofs.lemmas.Bool.{or_cases, and_parts, and_left, ltb-true, lt-leb, eqb-true}
-use Rattle.std.proofs.lemmas.List.{length-take}
+use Rattle.std.proofs.lemmas.Bool.Decides.{leb_tells}
+use Rattle.std.proofs.Math.Nat.{min-le_left, min-le_right, le-min}
+use Rattle.std.proofs.lemmas.List.{length-take, take_all, take-append-le}
 use Rattle.prop_lattice.specs.Refusals.{most}
 use Rattle.prop_lattice.specs.declared.refusal.Limit.TheVariants.{Premises}
 use Rattle.prop_premises.specs.Sets.{IsBelow, set_of}
@@ -12,6 +14,7 @@ use Rattle.prop_premises.specs.Origins.{Origin, User, Side, is_start, with_choic
 use Rattle.prop_premises.proofs.ChoiceLemmas.{choices_of-with_choice, choices_of-take}
 use Rattle.prop_premises.proofs.ChangeLemmas.{believed_in-with_choice, length-with_choice, take-with_choice}
 use Rattle.prop_premises.proofs.EntryLemmas.{take-front}
+use Rattle.prop_premises.proofs.FlagLemmas.{filter-below}
 use Rattle.prop_premises.proofs.NumberingLaws.{numbered_choice}
 use Rattle.prop_premises.proofs.OriginLemmas.{in_range, is_user_at-believed}
 use Rattle.prop_premises.proofs.WorldviewLemmas.{hypotheticals_of-push}
@@ -20,7 +23,9 @@ use Rattle.prop_amb.specs.Search.{Stand, IsStand, IsSearch, users_of, choices_in
 use Rattle.prop_amb.specs.Moving.{declared, IsFresh}
 use Rattle.prop_amb.proofs.SearchLaws.{both, taken_is_side}
 use Rattle.prop_amb.proofs.DeclaringLaws.{before_last, search_declared}
-use Rattle.prop_amb.proofs.NamingLaws.{set_of-push, believes_below, lt_true, lt_false, filter_push, user_taken}
+use Rattle.prop_amb.proofs.LevelLaws.{fewer_taken, more_choices}
+use Rattle.prop_amb.proofs.ZipLemmas.{zip_length}
+use Rattle.prop_amb.proofs.NamingLaws.{believes_below, known_below, lt_true, lt_false, user_taken}
 
 -- ---- what stands before the last choice
 
@@ -33,9 +38,9 @@ first_below (d ∷ cs) c p order h = elim (or_cases (is_side_of d p) (is_hypothe
 
 -- what is believed has a smaller number than the sides of a new choice
 pub below_choice : (s : Stand) (c : Choice) → IsStand s → AreInOrder (choices_in s ++ c ∷ []) → c.first ≡ length s.premises → IsBelow c.first (set_of s.worldview)
-below_choice s c stand order e p h = elim (or_cases (users_of s p) (hypotheticals_of (choices_in s) s.list p) (sym (stand.believes p) ∙ h)) [
+below_choice s c stand order e p h = elim (or_cases (users_of s p) (hypotheticals_of (choices_in s) (take s.level s.list) p) (sym (stand.believes p) ∙ h)) [
   | inl b ↦ omega (arith, in_range s.premises p (is_user_at-believed s.premises p b), e)
-  | inr t ↦ first_below (choices_in s) c p order (taken_is_side (choices_in s) s.list p stand.is_list t)
+  | inr t ↦ first_below (choices_in s) c p order (taken_is_side (choices_in s) s.list p stand.is_list (fewer_taken (choices_in s) s.list s.level p t))
 ]
 
 all_front : {A : Type 0} (P : A → Type 0) (xs : List A) (x : A) → AllByRecursion P (xs ++ x ∷ []) → AllByRecursion P xs
@@ -54,33 +59,32 @@ zip_push R [] (b ∷ ys) x y h r = absurd h
 zip_push R (a ∷ xs) [] x y h r = absurd h
 zip_push R (a ∷ xs) (b ∷ ys) x y h r = (h.0, zip_push R xs ys x y h.1 r)
 
-or_assoc : (a b c : Bool) → ((a || b) || c) ≡ (a || (b || c))
-or_assoc true b c = refl
-or_assoc false b c = refl
-
 pub stand_declared : (s : Stand) (name : List ℕ) (sides : ℕ) → IsStand s → 2 ≤ sides → sides ≤ 8 → length s.premises + sides ≤ most Premises → IsStand (declared s name sides)
 stand_declared s name sides stand low high room =
     let some : 1 ≤ sides = omega (arith, low) in
     let own : Choice = record { first = length s.premises; sides = sides } in
     let same : choices_of (with_choice s.premises name sides) ≡ choices_in s ++ own ∷ [] = choices_of-with_choice s.premises name sides some in
-    let number : hypothetical own 1 ≡ length s.premises = omega arith in
     record {
       numbered = numbered_choice s.premises name sides low high stand.numbered;
       few = omega (arith, room, length-with_choice s.premises name sides);
       is_list = rw same (zip_push IsSide (choices_in s) s.list own 1 stand.is_list (omega arith, some));
       reasoned = zip_push (λ side reasons. length reasons + 1 ≡ side) s.list s.reasons 1 [] stand.reasoned refl;
+      level = (let within = stand.level in omega (arith, within, length-append s.list (1 ∷ [])));
       believes = λ p.
-          set_of-push s.worldview (length s.premises) p ∙ ap (λ b. b || (length s.premises == p)) (stand.believes p) ∙ or_assoc (users_of s p) (hypotheticals_of (choices_in s) s.list p) (length s.premises == p)
-          ∙ sym (ap (λ n. users_of s p || (hypotheticals_of (choices_in s) s.list p || (n == p))) number) ∙ sym (ap (λ b. users_of s p || b) (hypotheticals_of-push (choices_in s) s.list own 1 p stand.is_list))
-          ∙ sym (ap (λ cs. users_of s p || hypotheticals_of cs (s.list ++ 1 ∷ []) p) same)
-          ∙ sym (ap (λ b. b || hypotheticals_of (choices_of (with_choice s.premises name sides)) (s.list ++ 1 ∷ []) p) (believed_in-with_choice s.premises name sides p));
+          stand.believes p ∙ sym (ap (λ b. users_of s p || b) (more_choices (choices_in s) (own ∷ []) (take s.level s.list) p (few stand)))
+          ∙ sym (ap (λ l. users_of s p || hypotheticals_of (choices_in s ++ own ∷ []) l p) (take-append-le s.level s.list (1 ∷ []) stand.level))
+          ∙ sym (ap (λ cs. users_of s p || hypotheticals_of cs (take s.level (s.list ++ 1 ∷ [])) p) same)
+          ∙ sym (ap (λ b. b || hypotheticals_of (choices_of (with_choice s.premises name sides)) (take s.level (s.list ++ 1 ∷ [])) p) (believed_in-with_choice s.premises name sides p));
       minimal = stand.minimal;
     }
+  where
+    few : IsStand s → length (take s.level s.list) ≤ length (choices_in s)
+    few here = omega (arith, length-take s.level s.list, zip_length IsSide (choices_in s) s.list here.is_list)
 
 pub search_stays : (problem : Problem) (s : Stand) (name : List ℕ) (sides : ℕ) (c : Choice) → IsStand s → 2 ≤ sides → sides ≤ 8 → c ≡ record { first = length s.premises; sides = sides } →
     IsFresh problem c → IsSearch problem s → IsSearch problem (declared s name sides)
 search_stays problem s name sides c stand low high is fresh h =
-    search_declared problem s (with_choice s.premises name sides) own (s.worldview ++ length s.premises ∷ []) stand same (believed_in-with_choice s.premises name sides) (rw same at (numbered_choice s.premises name sides low high stand.numbered).in_order) apart some (rw is at fresh) h
+    search_declared problem s (with_choice s.premises name sides) own s.worldview stand same (believed_in-with_choice s.premises name sides) (rw same at (numbered_choice s.premises name sides low high stand.numbered).in_order) apart some (rw is at fresh) h
   where
     some : 1 ≤ sides
     some = omega (arith, low)
@@ -174,10 +178,20 @@ known_or false lt true f g = sym (rw (g refl) refl)
 known_or false true false f g = refl
 known_or false false false f g = refl
 
-pub stand_undeclared : (s : Stand) (c : Choice) (es : List Choice) (list : List ℕ) (reasons : List (List (List ℕ))) (n m : ℕ) → IsStand s → choices_in s ≡ es ++ c ∷ [] → c.first ≤ length s.premises →
+-- the level stays, or is that of all choices that are left
+abbrev pub IsLevelLeft : Stand → List ℕ → ℕ → Type 0
+IsLevelLeft s list level = ((s.level ≤ length list) × (level ≡ s.level)) ⊎ ((length list < s.level) × (level ≡ length list))
+
+pub level_left : (s : Stand) (list : List ℕ) (level : ℕ) → level ≡ min s.level (length list) → IsLevelLeft s list level
+level_left s list level is = elim (leb_tells s.level (length list)) as (λ _. IsLevelLeft s list level) [
+  | inl h ↦ inl (h.1, (let few = min-le_left s.level (length list) in let all = le-min {k = s.level} {a = s.level} {b = length list} (omega arith) h.1 in omega (arith, is, few, all)))
+  | inr h ↦ inr ((let past = h.1 in omega (arith, past)), (let few = min-le_right s.level (length list) in let past = h.1 in let all = le-min {k = length list} {a = s.level} {b = length list} (omega (arith, past)) (omega arith) in omega (arith, is, few, all)))
+]
+
+pub stand_undeclared : (s : Stand) (c : Choice) (es : List Choice) (list : List ℕ) (level : ℕ) (reasons : List (List (List ℕ))) (n m : ℕ) → IsStand s → IsLevelLeft s list level → choices_in s ≡ es ++ c ∷ [] → c.first ≤ length s.premises →
     list ≡ take (n - 1) s.list → n ≡ length s.list → reasons ≡ take (m - 1) s.reasons → m ≡ length s.reasons →
-    IsStand (record { premises = take c.first s.premises; list = list; reasons = reasons; listed = s.listed; worldview = filter (λ p. nat_lt p c.first) s.worldview })
-stand_undeclared s c es list reasons n m stand same first l ln r rm = record {
+    IsStand (record { premises = take c.first s.premises; list = list; level = level; reasons = reasons; listed = s.listed; worldview = filter (λ p. nat_lt p c.first) s.worldview })
+stand_undeclared s c es list level reasons n m stand left same first l ln r rm = record {
   numbered = record {
     in_order = rw now (order_front es c order);
     of_sides = rw now (all_front (λ (d : Choice). (2 ≤ d.sides) × (d.sides ≤ 8)) es c (rw same at stand.numbered.of_sides));
@@ -187,7 +201,8 @@ stand_undeclared s c es list reasons n m stand same first l ln r rm = record {
   few = (let f = stand.few in omega (arith, f, taken, first));
   is_list = rw (now, list_is) a.zip;
   reasoned = rw (list_is, reasons_is) b.zip;
-  believes = rw (now, list_is) (believes_below s.premises c.first s.worldview (hypotheticals_of (choices_in s) s.list) (hypotheticals_of es a.front) stand.believes cut);
+  level = elim left [ inl h ↦ omega (arith, h.0, h.1) | inr h ↦ omega (arith, h.1) ];
+  believes = rw (now, list_is) (believes_below s.premises c.first s.worldview (hypotheticals_of (choices_in s) (take s.level s.list)) (hypotheticals_of es (take level a.front)) stand.believes (cut_at left));
   minimal = stand.minimal;
 }
   where
@@ -215,27 +230,53 @@ stand_undeclared s c es list reasons n m stand same first l ln r rm = record {
     over : (q : ℕ) → (hypothetical c a.last == q) ≡ true → nat_lt q c.first ≡ false
     over q t = lt_false q c.first (omega (arith, eqb-true (hypothetical c a.last) q t))
 
+    -- all choices that are left are believed
     cut : (q : ℕ) → hypotheticals_of es a.front q ≡ (nat_lt q c.first && hypotheticals_of (choices_in s) s.list q)
     cut q =
         known_or (hypotheticals_of es a.front q) (nat_lt q c.first) (hypothetical c a.last == q) (λ t. lt_true q c.first (first_below es c q order (taken_is_side es a.front q a.zip t))) (over q)
         ∙ ap (λ h. nat_lt q c.first && h) (sym (hypotheticals_of-push es a.front c a.last q a.zip) ∙ sym (ap (λ z. hypotheticals_of (es ++ c ∷ []) z q) a.whole) ∙ sym (ap (λ cs. hypotheticals_of cs s.list q) same))
 
+    -- some of them are
+    cut_first : s.level ≤ length a.front → (q : ℕ) → hypotheticals_of es (take s.level a.front) q ≡ (nat_lt q c.first && hypotheticals_of (choices_in s) (take s.level s.list) q)
+    cut_first within q =
+        let few : length (take s.level a.front) ≤ length es = omega (arith, length-take s.level a.front, zip_length IsSide es a.front a.zip) in
+        let firsts : take s.level s.list ≡ take s.level a.front = ap (take s.level) a.whole ∙ take-append-le s.level a.front (a.last ∷ []) within in
+        known_below (nat_lt q c.first) (hypotheticals_of es (take s.level a.front) q) (λ t. lt_true q c.first (first_below es c q order (taken_is_side es a.front q a.zip (fewer_taken es a.front s.level q t))))
+        ∙ ap (λ h. nat_lt q c.first && h) (sym (more_choices es (c ∷ []) (take s.level a.front) q few) ∙ sym (ap (λ l. hypotheticals_of (es ++ c ∷ []) l q) firsts) ∙ sym (ap (λ cs. hypotheticals_of cs (take s.level s.list) q) same))
+
+    cut_at : IsLevelLeft s list level → (q : ℕ) → hypotheticals_of es (take level a.front) q ≡ (nat_lt q c.first && hypotheticals_of (choices_in s) (take s.level s.list) q)
+    cut_at (inl h) q =
+        let within : s.level ≤ length a.front = omega (arith, h.0, ap length list_is) in
+        ap (λ k. hypotheticals_of es (take k a.front) q) h.1 ∙ cut_first within q
+    cut_at (inr h) q =
+        let whole : take level a.front ≡ a.front = take_all level a.front (omega (arith, h.1, ap length list_is)) in
+        let all : take s.level s.list ≡ s.list = take_all s.level s.list (omega (arith, h.0, ap length list_is, ap length a.whole, length-append a.front (a.last ∷ []))) in
+        ap (λ l. hypotheticals_of es l q) whole ∙ cut q ∙ ap (λ l. nat_lt q c.first && hypotheticals_of (choices_in s) l q) (sym all)
+
 -- what was just declared goes, and all is as it was
-pub undeclared_undoes : (s : Stand) (c : Choice) (es : List Choice) (list : List ℕ) (reasons : List (List (List ℕ))) (n m : ℕ) (before : Stand) (name : List ℕ) → IsStand s → choices_in s ≡ es ++ c ∷ [] →
+pub undeclared_undoes : (s : Stand) (c : Choice) (es : List Choice) (list : List ℕ) (level : ℕ) (reasons : List (List (List ℕ))) (n m : ℕ) (before : Stand) (name : List ℕ) → IsStand s → IsLevelLeft s list level → choices_in s ≡ es ++ c ∷ [] →
     c.first + c.sides ≡ length s.premises → list ≡ take (n - 1) s.list → n ≡ length s.list → reasons ≡ take (m - 1) s.reasons → m ≡ length s.reasons → IsStand before → s ≡ declared before name c.sides →
-    record { premises = take c.first s.premises; list = list; reasons = reasons; listed = s.listed; worldview = filter (λ p. nat_lt p c.first) s.worldview } ≡ before
-undeclared_undoes s c es list reasons n m before name now_is same end l ln r rm stand e =
-    ap (λ x. put (take c.first x.premises) list reasons x.listed (filter (λ p. nat_lt p c.first) x.worldview)) e
-    ∙ ap (λ os. put os list reasons before.listed cut_worldview) (take-with_choice before.premises name c.sides c.first count)
-    ∙ ap (λ x. put before.premises x reasons before.listed cut_worldview) (l ∙ ap (λ x. take (n - 1) x.list) e ∙ take_front before.list 1 n (ln ∙ ap (λ x. length x.list) e))
-    ∙ ap (λ x. put before.premises before.list x before.listed cut_worldview) (r ∙ ap (λ x. take (m - 1) x.reasons) e ∙ take_front before.reasons [] m (rm ∙ ap (λ x. length x.reasons) e))
-    ∙ ap (λ w. put before.premises before.list before.reasons before.listed w) (filter_push before.worldview (length before.premises) c.first count (below_choice before c stand order count))
+    record { premises = take c.first s.premises; list = list; level = level; reasons = reasons; listed = s.listed; worldview = filter (λ p. nat_lt p c.first) s.worldview } ≡ before
+undeclared_undoes s c es list level reasons n m before name now_is left same end l ln r rm stand e =
+    ap (λ x. put (take c.first x.premises) list level reasons x.listed (filter (λ p. nat_lt p c.first) x.worldview)) e
+    ∙ ap (λ os. put os list level reasons before.listed cut_worldview) (take-with_choice before.premises name c.sides c.first count)
+    ∙ ap (λ x. put before.premises x level reasons before.listed cut_worldview) list_is
+    ∙ ap (λ x. put before.premises before.list x reasons before.listed cut_worldview) (level_is left)
+    ∙ ap (λ x. put before.premises before.list before.level x before.listed cut_worldview) (r ∙ ap (λ x. take (m - 1) x.reasons) e ∙ take_front before.reasons [] m (rm ∙ ap (λ x. length x.reasons) e))
+    ∙ ap (λ w. put before.premises before.list before.level before.reasons before.listed w) (filter-below c.first before.worldview (below_choice before c stand order count))
   where
-    put : List Origin → List ℕ → List (List (List ℕ)) → List (List ℕ) → List ℕ → Stand
-    put a b c d e = record { premises = a; list = b; reasons = c; listed = d; worldview = e }
+    put : List Origin → List ℕ → ℕ → List (List (List ℕ)) → List (List ℕ) → List ℕ → Stand
+    put a b k c d e = record { premises = a; list = b; level = k; reasons = c; listed = d; worldview = e }
 
     cut_worldview : List ℕ
-    cut_worldview = filter (λ p. nat_lt p c.first) (before.worldview ++ length before.premises ∷ [])
+    cut_worldview = filter (λ p. nat_lt p c.first) before.worldview
+
+    list_is : list ≡ before.list
+    list_is = l ∙ ap (λ x. take (n - 1) x.list) e ∙ take_front before.list 1 n (ln ∙ ap (λ x. length x.list) e)
+
+    level_is : IsLevelLeft s list level → level ≡ before.level
+    level_is (inl h) = h.1 ∙ ap (λ x. x.level) e
+    level_is (inr h) = absurd (let past = h.0 in omega (arith, past, ap length list_is, ap (λ x. x.level) e, stand.level))
 
     count : c.first ≡ length before.premises
     count = omega (arith, end, ap (λ x. length x.premises) e, length-with_choice before.premises name c.sides)

@@ -6,12 +6,15 @@ pub mod CountLaws
 pub mod CulpritLaws
 pub mod DecidingLaws
 pub mod DeclaringLaws
+pub mod DeepeningLaws
 pub mod GoingLaws
 pub mod GroundedLaws
 pub mod JoinLaws
 pub mod KeepingLaws
 pub mod ForgettingLaws
 pub mod LastChoiceLaws
+pub mod LeavingLaws
+pub mod LevelLaws
 pub mod LookingLaws
 pub mod MetLaws
 pub mod NamingLaws

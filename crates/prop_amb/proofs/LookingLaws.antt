@@ -9,15 +9,9 @@ use Rattle.prop_amb.specs.inner.Joined.{others_of}
 use Rattle.prop_amb.specs.Search.{Stand, IsStand, choices_in, IsSearch}
 use Rattle.prop_amb.specs.Resolving.{IsReason}
 use Rattle.prop_amb.proofs.Shown.{IsShown, IsWithin}
-use Rattle.prop_amb.proofs.ZipLemmas.{some_same, none_some, zip_both}
+use Rattle.prop_amb.proofs.ZipLemmas.{some_same, none_some, zip_both, zip_length}
 use Rattle.prop_amb.proofs.SearchLaws.{or_true_left, or_true_right, side_is_of}
 use Rattle.prop_amb.proofs.ResolvingLaws.{shown_against, within_less, within_earlier, still_shown}
-
-zip_length : {A B : Type 0} (R : A → B → Type 0) (xs : List A) (ys : List B) → AllZip R xs ys → length xs ≡ length ys
-zip_length R [] [] h = refl
-zip_length R [] (y ∷ ys) h = absurd h
-zip_length R (x ∷ xs) [] h = absurd h
-zip_length R (x ∷ xs) (y ∷ ys) h = ap suc (zip_length R xs ys h.1)
 
 -- there are as many choices as sides
 pub choices_count : (s : Stand) → IsStand s → length (choices_in s) ≡ length s.list
@@ -27,7 +21,7 @@ choices_count s stand = zip_length IsSide (choices_in s) s.list stand.is_list
 pub reasons_count : (s : Stand) → IsStand s → length s.reasons ≡ length s.list
 reasons_count s stand = sym (zip_length (λ side reasons. length reasons + 1 ≡ side) s.list s.reasons stand.reasoned)
 
-get_there : {A : Type 0} (xs : List A) (k : ℕ) (d : A) → k < length xs → slice_get xs k ≡ Some (slice_index_or xs k d)
+pub get_there : {A : Type 0} (xs : List A) (k : ℕ) (d : A) → k < length xs → slice_get xs k ≡ Some (slice_index_or xs k d)
 get_there [] k d l = absurd (omega (arith, l))
 get_there (x ∷ xs) zero d l = refl
 get_there (x ∷ xs) (suc k) d l = get_there xs k d (omega (arith, l))
@@ -59,7 +53,7 @@ reasons_here s t j kept same stand l kept_is =
     below : j < length s.list
     below = rw same l
 
-its_side : (cs : List Choice) (j : ℕ) (c : Choice) (side : ℕ) → slice_get cs j ≡ Some c → IsSide c side → IsTrue (is_hypothetical cs (hypothetical c side))
+pub its_side : (cs : List Choice) (j : ℕ) (c : Choice) (side : ℕ) → slice_get cs j ≡ Some c → IsSide c side → IsTrue (is_hypothetical cs (hypothetical c side))
 its_side [] j c side e is_side = absurd (none_some e)
 its_side (x ∷ cs) zero c side e is_side = or_true_left (is_side_of x (hypothetical c side)) (is_hypothetical cs (hypothetical c side)) (rw (some_same e) (side_is_of c side is_side))
 its_side (x ∷ cs) (suc j) c side e is_side = or_true_right (is_side_of x (hypothetical c side)) (is_hypothetical cs (hypothetical c side)) (its_side cs j c side e is_side)

@@ -2,27 +2,28 @@
 use Rattle.std.proofs.Common.{◌≡◌, ◌∙◌, ℕ, zero, suc, IsTrue, false, List, [], ◌∷◌, Contains, Some, slice_get, refl, sym, inl, inr, arith}
 use Rattle.std.proofs.lemmas.List.Elements.{All-contains}
 use Rattle.prop_premises.specs.Sets.{Members, IsPart, set_of, is_within}
-use Rattle.prop_premises.specs.ChoiceLists.{worldview, IsBefore}
+use Rattle.prop_premises.specs.ChoiceLists.{IsBefore}
 use Rattle.prop_premises.proofs.WithinLemmas.{within_has}
 use Rattle.prop_cells.specs.Problems.{Problem}
 use Rattle.prop_cells.specs.Reach.{IsConflict}
 use Rattle.prop_nogoods.specs.Stores.{has_part, AddsSet}
 use Rattle.prop_nogoods.proofs.StoreLaws.{part-listed, has_part-from}
 use Rattle.prop_amb.specs.Refuted.{IsNogood}
-use Rattle.prop_amb.specs.Search.{Stand, IsStand, IsSearch, users_of, choices_in}
+use Rattle.prop_amb.specs.Search.{Stand, IsStand, IsSearch, users_of, choices_in, believed_with}
 use Rattle.prop_amb.specs.Moving.{advanced}
 use Rattle.prop_amb.specs.inner.Settling.{IsMet}
+use Rattle.prop_amb.proofs.LevelLaws.{whole_has}
 use Rattle.prop_amb.proofs.StandLaws.{users_no_sides}
 use Rattle.prop_amb.proofs.SearchLaws.{both, clash_refuted}
 
--- what is believed is the worldview of the list
-pub believes_worldview : (s : Stand) → IsStand s → set_of s.worldview ≡ worldview (users_of s) (choices_in s) s.list
+-- what is believed, as a set
+pub believes_worldview : (s : Stand) → IsStand s → set_of s.worldview ≡ believed_with s
 believes_worldview s stand = λ i p. stand.believes p i
 
 -- a clash of a run is a nogood
 pub clash_nogood : (problem : Problem) (s : Stand) (n : List ℕ) → IsStand s → IsConflict problem (set_of s.worldview) (set_of n) → IsNogood problem (choices_in s) (set_of n)
 clash_nogood problem s n stand clash = record {
-  refuted = clash_refuted problem (users_of s) (set_of n) (choices_in s) s.list stand.numbered.in_order stand.is_list (users_no_sides s stand) (λ p t. sym (stand.believes p) ∙ clash.part p t) clash.contradictory;
+  refuted = clash_refuted problem (users_of s) (set_of n) (choices_in s) s.list stand.numbered.in_order stand.is_list (users_no_sides s stand) (λ p t. whole_has s p (sym (stand.believes p) ∙ clash.part p t)) clash.contradictory;
   cell = clash.cell;
   related = clash.related;
 }

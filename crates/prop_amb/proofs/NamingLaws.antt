@@ -19,6 +19,7 @@ use Rattle.prop_premises.proofs.NumberingLaws.{numbered_user}
 use Rattle.prop_premises.proofs.OriginLemmas.{in_range, is_user_at-believed, is_user_at-push}
 use Rattle.prop_amb.specs.Search.{Stand, IsStand, users_of, choices_in}
 use Rattle.prop_amb.specs.Moving.{interned}
+use Rattle.prop_amb.proofs.LevelLaws.{fewer_taken}
 use Rattle.prop_amb.proofs.SearchLaws.{both, taken_is_side}
 
 -- ---- sets with one more number, and without those from a bound on
@@ -108,9 +109,9 @@ believed_push (o ∷ os) name n (suc p) e =
 pub below_last : (s : Stand) (origins : List Origin) (n : ℕ) → IsStand s → choices_of origins ≡ choices_in s → IsNumbered origins →
     length s.premises ≤ n → IsTrue (is_user_at origins n) → length origins ≡ n + 1 → IsBelow n (set_of s.worldview)
 below_last s origins n stand same numbered old user len p h =
-    elim (or_cases (users_of s p) (hypotheticals_of (choices_in s) s.list p) (sym (stand.believes p) ∙ h)) [
+    elim (or_cases (users_of s p) (hypotheticals_of (choices_in s) (take s.level s.list) p) (sym (stand.believes p) ∙ h)) [
       | inl b ↦ omega (arith, in_range s.premises p (is_user_at-believed s.premises p b), old)
-      | inr t ↦ side (rw (← same) at (taken_is_side (choices_in s) s.list p stand.is_list t))
+      | inr t ↦ side (rw (← same) at (taken_is_side (choices_in s) s.list p stand.is_list (fewer_taken (choices_in s) s.list s.level p t)))
     ]
   where
     side : IsTrue (is_hypothetical (choices_of origins) p) → p < n
@@ -126,8 +127,9 @@ stand_interned s name stand room = record {
   few = omega (arith, room, length-append s.premises (User name true ∷ []));
   is_list = rw (choices_of-user s.premises name true) stand.is_list;
   reasoned = stand.reasoned;
+  level = stand.level;
   believes = λ p. rw (choices_of-user s.premises name true, set_of-push s.worldview (length s.premises) p, stand.believes p, believed_push s.premises name (length s.premises) p refl)
-      (turn (users_of s p) (hypotheticals_of (choices_in s) s.list p) (length s.premises == p));
+      (turn (users_of s p) (hypotheticals_of (choices_in s) (take s.level s.list) p) (length s.premises == p));
   minimal = stand.minimal;
 }
   where
@@ -162,6 +164,20 @@ interned_stand s name origins premise stand now number more few =
     new = now ∙ new_name s.premises name apart
 
 -- what was believed still is
+-- the stand with one premise more
+pub interned_new_is : (s t : Stand) (name : List ℕ) (origins : List Origin) (premise : ℕ) → s ≡ t → origins ≡ with_name s.premises name → premise ≡ unwrap_or (premise_number s.premises name) (length s.premises) → (length origins ≡ length s.premises → ⊥) →
+    record s { premises = origins; worldview = s.worldview ++ premise ∷ [] } ≡ interned t name
+interned_new_is s t name origins premise same now number more = by (premise_number s.premises name) refl ∙ ap (λ (u : Stand). interned u name) same
+  where
+    apart : length (with_name s.premises name) ≡ length s.premises → ⊥
+    apart e = more (ap length now ∙ e)
+
+    by : (o : Option ℕ) → premise_number s.premises name ≡ o → record s { premises = origins; worldview = s.worldview ++ premise ∷ [] } ≡ interned s name
+    by (Some p) e = absurd (apart (ap (λ o. length (cond (is_some o) s.premises (s.premises ++ User name true ∷ []))) e))
+    by None e =
+        ap (λ os. record s { premises = os; worldview = s.worldview ++ premise ∷ [] }) now ∙ ap (λ n. record s { premises = with_name s.premises name; worldview = s.worldview ++ n ∷ [] }) (number ∙ new_number s.premises name apart)
+        ∙ sym (ap (λ o. cond (is_some o) s (record s { premises = with_name s.premises name; worldview = s.worldview ++ length s.premises ∷ [] })) e)
+
 pub believed_in-kept : (os : List Origin) (name : List ℕ) (p : ℕ) → IsTrue (believed_in os p) → IsTrue (believed_in (with_name os name) p)
 believed_in-kept os name p h = believed_in-with_name os name p (in_range os p (is_user_at-believed os p h)) ∙ h
 
@@ -205,8 +221,9 @@ stand_taken_back s p stand user len =
       few = (let f = stand.few in omega (arith, taken, len, f));
       is_list = rw same stand.is_list;
       reasoned = stand.reasoned;
-      believes = rw same (believes_below s.premises p s.worldview (hypotheticals_of (choices_in s) s.list) (hypotheticals_of (choices_in s) s.list) stand.believes
-          (λ q. known_below (nat_lt q p) (hypotheticals_of (choices_in s) s.list q) (λ t. lt_true q p (side q (taken_is_side (choices_in s) s.list q stand.is_list t)))));
+      level = stand.level;
+      believes = rw same (believes_below s.premises p s.worldview (hypotheticals_of (choices_in s) (take s.level s.list)) (hypotheticals_of (choices_in s) (take s.level s.list)) stand.believes
+          (λ q. known_below (nat_lt q p) (hypotheticals_of (choices_in s) (take s.level s.list) q) (λ t. lt_true q p (side q (taken_is_side (choices_in s) s.list q stand.is_list (fewer_taken (choices_in s) s.list s.level q t))))));
       minimal = stand.minimal;
     }
   where

@@ -15,6 +15,7 @@ use Rattle.prop_amb.proofs.StandLaws.{users_no_sides}
 use Rattle.prop_amb.proofs.SearchLaws.{both, or_true_left, or_true_right, side_is_of, takes_own, side_below, listed_covers}
 use Rattle.prop_amb.proofs.JoinLaws.{joined_refuted, joined_grounded, joined_covered, later_at, user_of}
 use Rattle.prop_amb.proofs.DeclaringLaws.{taken_before}
+use Rattle.prop_amb.proofs.LevelLaws.{taken_firsts}
 
 pub nogood_shown : (problem : Problem) (s : Stand) (n : Members) → IsNogood problem (choices_in s) n → IsTrue (has_part s.listed n) → IsShown problem s n
 nogood_shown problem s n nogood listed = record {
@@ -260,19 +261,11 @@ module _ (problem : Problem) (s : Stand) (j : ℕ) (c : Choice) (n m : Members) 
 
 -- ---- the beginning and the end
 
-taken_all : (cs : List Choice) (l : List ℕ) (p : ℕ) → IsTrue (hypotheticals_of cs l p) → IsTrue (hypotheticals_of (take (length cs) cs) (take (length cs) l) p)
-taken_all [] l p t = t
-taken_all (c ∷ cs) [] p t = absurd (both t refl)
-taken_all (c ∷ cs) (s ∷ l) p t = elim (or_cases (hypothetical c s == p) (hypotheticals_of cs l p) t) [
-  | inl e ↦ or_true_left (hypothetical c s == p) (hypotheticals_of (take (length cs) cs) (take (length cs) l) p) e
-  | inr e ↦ or_true_right (hypothetical c s == p) (hypotheticals_of (take (length cs) cs) (take (length cs) l) p) (taken_all cs l p e)
-]
-
--- what is believed lies within all choices
-pub believed_within : (s : Stand) (n : Members) → IsStand s → IsPart n (set_of s.worldview) → IsWithin s (length (choices_in s)) n
-believed_within s n stand part p in_n = elim (or_cases (users_of s p) (hypotheticals_of (choices_in s) s.list p) (sym (stand.believes p) ∙ part p in_n)) [
-  | inl u ↦ or_true_left (users_of s p) (hypotheticals_of (take (length (choices_in s)) (choices_in s)) (take (length (choices_in s)) s.list) p) u
-  | inr t ↦ or_true_right (users_of s p) (hypotheticals_of (take (length (choices_in s)) (choices_in s)) (take (length (choices_in s)) s.list) p) (taken_all (choices_in s) s.list p t)
+-- what is believed lies within the choices whose sides are
+pub believed_within : (s : Stand) (n : Members) → IsStand s → IsPart n (set_of s.worldview) → IsWithin s s.level n
+believed_within s n stand part p in_n = elim (or_cases (users_of s p) (hypotheticals_of (choices_in s) (take s.level s.list) p) (sym (stand.believes p) ∙ part p in_n)) [
+  | inl u ↦ or_true_left (users_of s p) (hypotheticals_of (take s.level (choices_in s)) (take s.level s.list) p) u
+  | inr t ↦ or_true_right (users_of s p) (hypotheticals_of (take s.level (choices_in s)) (take s.level s.list) p) (taken_firsts (choices_in s) s.list s.level p t)
 ]
 
 -- a shown set within no choices rules out every list

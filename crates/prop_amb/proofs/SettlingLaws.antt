@@ -26,8 +26,10 @@ use Rattle.prop_amb.proofs.Consistent.{settled_consistent}
 use Rattle.prop_amb.proofs.AdvancingLaws.{advanced_is_list}
 use Rattle.prop_amb.proofs.CountLaws.{place_below, earlier_place, few_within, few_in_all}
 use Rattle.prop_amb.proofs.GoingLaws.{goes_then}
+use Rattle.prop_amb.proofs.LevelLaws.{whole_is}
 use Rattle.prop_amb.proofs.MetLaws.{believes_worldview, advanced_later}
-use Rattle.prop_amb.proofs.OnWay.{IsResting, IsStart, OnWay, Attempted, OnTry}
+use Rattle.prop_amb.specs.inner.Trying.{IsResting, Attempted}
+use Rattle.prop_amb.proofs.OnWay.{IsStart, OnWay, OnTry}
 use Rattle.prop_amb.proofs.RunLaws.{same_problem}
 use Rattle.prop_amb.proofs.SearchLaws.{kept_refute}
 
@@ -82,11 +84,8 @@ count_in start d rest = λ i. length (rest i).instances
 pub rest_on : (start d new : Data) → d ≡ record start { contents = d.contents } → new ≡ record d { contents = new.contents } → new ≡ record start { contents = new.contents }
 rest_on start d new first then = then ∙ (λ i. record (first i) { contents = new.contents })
 
-pub premises_in : (s new : Stand) → new ≡ record s { listed = new.listed } → new.premises ≡ s.premises
+pub premises_in : (s new : Stand) → new ≡ record s { level = new.level; listed = new.listed; worldview = new.worldview } → new.premises ≡ s.premises
 premises_in s new only = λ i. (only i).premises
-
-pub worldview_in : (s new : Stand) → new ≡ record s { listed = new.listed } → new.worldview ≡ s.worldview
-worldview_in s new only = λ i. (only i).worldview
 
 -- ---- the library stays
 
@@ -152,12 +151,13 @@ module _ {O : Type 0} (picks : O → ℕ → ℕ → O → Type 0) (library : Li
         search = subst (λ p. IsSearch p new) e a.search;
         stand = a.stand;
         rest = rest_on start d cells way.rest a.rest;
-        under_way = subst (λ w. IsUnderWay library (set_of w) cells after) (sym (worldview_in s new a.only)) a.under_way;
+        under_way = a.under_way;
         gone = goes_then way.gone a.gone;
         further = way.further;
         place = ap (λ (x : Stand). place_of choices x.list) a.only ∙ way.place;
         few = few_within way.further (most_steps problem) steps calls way.few few;
-        quiet = λ q. subst (λ w. IsSettled library (set_of w) cells) (sym (worldview_in s new a.only)) (a.quiet q);
+        quiet = a.quiet;
+        full = a.full;
         rests = a.rests;
         spent = λ q. all q (a.spent q);
         leaves = a.leaves;
@@ -178,9 +178,9 @@ module _ {O : Type 0} (picks : O → ℕ → ℕ → O → Type 0) (library : Li
       stays r (inr x) = absurd (x.1 r)
 
       fall : problem_of library d ≡ problem → s.list ≡ old.list → IsStart old s start d line waiting steps ⊎ ((1 ≤ way.further) × (IsResting old start line → ⊥)) →
-          potential problem (beliefs (set_of old.worldview) cells.contents) after + (steps + calls) ≤ potential problem (beliefs (set_of old.worldview) start.contents) line
+          potential problem (beliefs (set_of new.worldview) cells.contents) after + (steps + calls) ≤ potential problem (beliefs (set_of old.worldview) start.contents) line
       fall e same (inl x) =
-          let h : potential problem (beliefs (set_of old.worldview) cells.contents) after + calls ≤ potential problem (beliefs (set_of old.worldview) start.contents) line =
+          let h : potential problem (beliefs (set_of new.worldview) cells.contents) after + calls ≤ potential problem (beliefs (set_of old.worldview) start.contents) line =
           rw (x.stand, x.cells, x.waits) at a.falls in
           omega (arith, h, x.none)
       fall e same (inr x) = absurd (not_further s way.further way.place x.0 same)
@@ -221,7 +221,7 @@ module _ {O : Type 0} (picks : O → ℕ → ℕ → O → Type 0) (library : Li
     pub first_consistent : tried ≡ Quiet → IsFirstConsistent (problem_of library start) (users_of s) (choices_in s) s.list
     first_consistent q = record {
       is_list = t.stand.is_list;
-      consistent = subst (λ w. IsConsistent problem w) (believes_worldview s t.stand) (subst (λ p. IsConsistent p (set_of s.worldview)) (same_in library start d t.rest) (settled_consistent library (set_of s.worldview) d (t.quiet q)));
+      consistent = subst (λ w. IsConsistent problem w) (believes_worldview s t.stand ∙ whole_is s (t.full q)) (subst (λ p. IsConsistent p (set_of s.worldview)) (same_in library start d t.rest) (settled_consistent library (set_of s.worldview) d (t.quiet q)));
       earlier = kept_refute problem s t.stand t.search.reasons;
     }
 

@@ -1,5 +1,5 @@
 -- Items of two lists that stand beside one another.
-use Rattle.std.proofs.Common.{◌≡◌, ℕ, zero, suc, List, [], ◌∷◌, Some, None, refl, slice_get, slice_index_or}
+use Rattle.std.proofs.Common.{◌≡◌, ℕ, zero, suc, List, [], ◌∷◌, Some, None, length, refl, ap, slice_get, slice_index_or}
 use Rattle.std.specs.List.{AllZip}
 
 pub some_same : {X : Type 0} {x y : X} → Some x ≡ Some y → x ≡ y
@@ -32,3 +32,10 @@ zip_both R [] ys k x y h e f = absurd (none_some e)
 zip_both R (a ∷ xs) [] k x y h e f = absurd h
 zip_both R (a ∷ xs) (b ∷ ys) zero x y h e f = rw (← (some_same e), ← (some_same f)) h.0
 zip_both R (a ∷ xs) (b ∷ ys) (suc k) x y h e f = zip_both R xs ys k x y h.1 e f
+
+-- there are as many of both
+pub zip_length : {A B : Type 0} (R : A → B → Type 0) (xs : List A) (ys : List B) → AllZip R xs ys → length xs ≡ length ys
+zip_length R [] [] h = refl
+zip_length R [] (y ∷ ys) h = absurd h
+zip_length R (x ∷ xs) [] h = absurd h
+zip_length R (x ∷ xs) (y ∷ ys) h = ap suc (zip_length R xs ys h.1)

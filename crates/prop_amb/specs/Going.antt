@@ -1,13 +1,13 @@
 -- What settling does, step by step.
-use Rattle.std.specs.Prelude.{◌≡◌, ℕ, ◌+◌, ◌<◌, ◌⊎◌, false, List, length, Contains}
+use Rattle.std.specs.Prelude.{◌≡◌, ℕ, ◌+◌, ◌<◌, ◌⊎◌, false, List, [], length, Contains}
 use Rattle.prop_premises.specs.Sets.{set_of}
 use Rattle.prop_procedures.specs.Stored.{Stored}
 use Rattle.prop_cells.specs.Data.{Data, IsFree, IsClash}
 use Rattle.prop_nogoods.specs.Stores.{has_part, AddsSet}
 use Rattle.prop_scheduler.specs.Turns.{Turn}
-use Rattle.prop_scheduler.specs.Shifts.{AreShifted}
+use Rattle.prop_scheduler.specs.Shifts.{AreShifted, AreGrown}
 use Rattle.prop_amb.specs.Search.{Stand, believed_with}
-use Rattle.prop_amb.specs.Moving.{advanced, reasons_advanced}
+use Rattle.prop_amb.specs.Moving.{advanced, reasons_advanced, deepened}
 use Rattle.prop_amb.specs.Culprits.{MayMove, AreCulprits}
 
 -- each of so many instances waits
@@ -34,21 +34,32 @@ pub record MayCall {O : Type 0} (w : Work O) : Type 0 where
 abbrev pub MayGoOn : {O : Type 0} → Work O → Type 0
 MayGoOn w = MayCall w ⊎ ((j : ℕ) × MayMove w.search j)
 
+-- nothing waits, no noted nogood is believed, no cell is believed to hold a contradiction, and there is
+-- a choice of which no side is believed
+pub record MayDeepen {O : Type 0} (w : Work O) : Type 0 where
+  pub idle : w.line ≡ []
+  pub unblocked : has_part w.search.listed (believed_with w.search) ≡ false
+  pub free : IsFree (believed_with w.search) w.cells
+  pub left : w.search.level < length w.search.list
+
 -- The choices went on by so many moves: by each, one that may goes to its next side, for a reason
--- all of whose premises are culprits, and the later ones to their first.
+-- all of whose premises are culprits, and the later ones to their first. Of these none is believed.
 pub data Passes (old : Stand) : ℕ → Stand → Type 0 where
   none : Passes old 0 old
   next : (n j : ℕ) (s later : Stand) (reason : List ℕ) → Passes old n s →
       (may : MayMove s j) → AreCulprits s may.nogood (set_of reason) →
       later ≡ record s {
         list = advanced s.list j;
+        level = j + 1;
         reasons = reasons_advanced s.reasons j reason;
         worldview = later.worldview;
       } → Passes old (n + 1) later
 
 -- The second work is reached from the first by as many steps: calls of waiting instances, each at
 -- the place that the order picks, and moves, between two calls maybe several. After moves the readers
--- and writers of the cells that they shift wait too. A clash takes no step, and is noted.
+-- and writers of the cells that they shift wait too. Two things take no step: a clash is noted, and
+-- where nothing waits the side of one more choice is believed, and the readers of the cells that this
+-- shifts wait.
 pub data Goes {O : Type 0} (picks : O → ℕ → ℕ → O → Type 0) (library : List Stored) (start : Work O) :
     ℕ → Work O → Type 0 where
   none : Goes picks library start 0 start
@@ -65,3 +76,9 @@ pub data Goes {O : Type 0} (picks : O → ℕ → ℕ → O → Type 0) (library
       AreShifted (believed_with w.search) (believed_with later)
       w.cells (length w.cells.kinds) w.line line →
       Goes picks library start (n + moves) (record w { search = later; line = line })
+  deeper : (n : ℕ) (w : Work O) (later : Stand) (line : List ℕ) →
+      Goes picks library start n w → MayDeepen w →
+      later ≡ record (deepened w.search) { worldview = later.worldview } →
+      AreGrown (believed_with w.search) (believed_with later)
+      w.cells (length w.cells.kinds) w.line line →
+      Goes picks library start n (record w { search = later; line = line })

@@ -1,5 +1,5 @@
 -- How a stand changes: by names, by choices, and by moves from one list to a later one.
-use Rattle.std.specs.Prelude.{◌≡◌, ℕ, zero, suc, ◌+◌, List, [], ◌∷◌, ◌++◌, length, map, cond, if◌then◌else◌, ◌||◌, nat_lt, nat_le, is_some, Option, Some, None, false}
+use Rattle.std.specs.Prelude.{◌≡◌, ℕ, zero, suc, ◌+◌, List, [], ◌∷◌, ◌++◌, length, map, cond, if◌then◌else◌, ◌||◌, ◌==◌, nat_lt, nat_le, is_some, Option, Some, None, false}
 use Rattle.prop_lattice.specs.Refusals.{most}
 use Rattle.prop_lattice.specs.declared.refusal.Limit.TheVariants.{Premises, Choices}
 use Rattle.prop_lattice.specs.declared.refusal.Refusal.{Refusal}
@@ -19,22 +19,27 @@ first_sides list = map (λ side. 1) list
 abbrev pub no_reasons : List (List (List ℕ)) → List (List (List ℕ))
 no_reasons reasons = map (λ each. []) reasons
 
--- every choice stands on its first side, and no reason is kept
+-- of how many choices, from the first one and up to the level, the side is their first
+abbrev pub level_first : ℕ → List ℕ → ℕ
+level_first zero list = 0
+level_first (suc level) [] = 0
+level_first (suc level) (side ∷ list) = if side == 1 then suc (level_first level list) else 0
+
+-- every choice stands on its first side, and no reason is kept; the sides that were believed and are first ones still are, up to the first other
 abbrev pub restarted : Stand → Stand
-restarted s = record s { list = first_sides s.list; reasons = no_reasons s.reasons }
+restarted s = record s { list = first_sides s.list; level = level_first s.level s.list; reasons = no_reasons s.reasons }
 
 -- a new name is believed, and a known one changes nothing
 abbrev pub interned : Stand → List ℕ → Stand
 interned s name =
     cond (is_some (premise_number s.premises name)) s (record s { premises = with_name s.premises name; worldview = s.worldview ++ length s.premises ∷ [] })
 
--- a new choice stands on its first side, and no reason is kept against it
+-- a new choice stands on its first side, which isn't believed yet, and no reason is kept against it
 abbrev pub declared : Stand → List ℕ → ℕ → Stand
 declared s name sides = record s {
   premises = with_choice s.premises name sides;
   list = s.list ++ 1 ∷ [];
   reasons = s.reasons ++ [] ∷ [];
-  worldview = s.worldview ++ length s.premises ∷ [];
 }
 
 -- the choice is the last one, and its sides have the last numbers
@@ -46,6 +51,10 @@ pub record IsLastChoice (origins : List Origin) (choice : Choice) : Type 0 where
 -- no side of the choice reaches a cell yet
 abbrev pub IsFresh : Problem → Choice → Type 0
 IsFresh problem choice = (p cell : ℕ) → Reaches problem p cell → is_side_of choice p ≡ false
+
+-- the side of one choice more is believed
+abbrev pub deepened : Stand → Stand
+deepened s = record s { level = s.level + 1 }
 
 -- the choice at place j goes to its next side, and the later ones to their first
 abbrev pub advanced : List ℕ → ℕ → List ℕ

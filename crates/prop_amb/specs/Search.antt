@@ -12,16 +12,18 @@ use Rattle.prop_nogoods.specs.Stores.{AreMinimal, has_part}
 use Rattle.prop_scheduler.specs.Potential.{most_steps}
 use Rattle.prop_amb.specs.Refuted.{IsRefuted, IsNogood, IsGrounded, IsCovered}
 
--- the premises, the side on which each choice stands, the reasons against the sides that it left, the nogoods, and what is believed
+-- the premises, the side on which each choice stands, of how many choices the side is believed, the reasons against the sides that each left, the
+-- nogoods, and what is believed
 pub record Stand : Type 0 where
   pub premises : List Origin
   pub list : List ℕ
+  pub level : ℕ
   pub reasons : List (List (List ℕ))
   pub listed : List (List ℕ)
   pub worldview : List ℕ
 
 abbrev pub no_stand : Stand
-no_stand = record { premises = []; list = []; reasons = []; listed = []; worldview = [] }
+no_stand = record { premises = []; list = []; level = 0; reasons = []; listed = []; worldview = [] }
 
 -- the believed premises of the user's
 abbrev pub users_of : Stand → Members
@@ -30,18 +32,19 @@ users_of s = believed_in s.premises
 abbrev pub choices_in : Stand → List Choice
 choices_in s = choices_of s.premises
 
--- what is believed with the list on which the choices stand
+-- what is believed: of the first choices, so many as the level says, the sides on which they stand, and of the others none
 abbrev pub believed_with : Stand → Members
-believed_with s = worldview (users_of s) (choices_in s) s.list
+believed_with s = worldview (users_of s) (choices_in s) (take s.level s.list)
 
--- There are as many premises as there may be at the most, one side for each choice and one reason for each side that it left, and what is believed
--- is the worldview of the list.
+-- There are as many premises as there may be at the most, one side for each choice and one reason for each side that it left, and no more
+-- choices are believed than there are.
 pub record IsStand (s : Stand) : Type 0 where
   pub numbered : IsNumbered s.premises
   pub few : length s.premises ≤ most Premises
   pub is_list : IsChoiceList (choices_in s) s.list
   pub reasoned : AllZip (λ side reasons. length reasons + 1 ≡ side) s.list s.reasons
-  pub believes : IsSame (set_of s.worldview) (worldview (users_of s) (choices_in s) s.list)
+  pub level : s.level ≤ length s.list
+  pub believes : IsSame (set_of s.worldview) (believed_with s)
   pub minimal : AreMinimal s.listed
 
 -- Why the choice at place j has left a side: a refuted set that holds the side, and beside it only believed

@@ -5,12 +5,12 @@ ghost use Rattle.prop_cells.specs.Problems.{Problem};
 ghost use Rattle.prop_amb.specs.Search.{users_of, IsSearch};
 ghost use Rattle.prop_amb.specs.Moving.{restarted};
 
-use crate::lists::first_sides;
+use crate::levels::leave;
+use crate::lists::{level_first, put_first};
 use crate::reasons::forget;
 use crate::search::Search;
 use prop_premises::{Premise, Worldview};
 use std::alloc::AllocError;
-use std::mem::replace;
 
 impl Search {
     /// A premise of the user's is no longer believed, and every choice goes to its first side, with no reason kept. Where it
@@ -29,20 +29,11 @@ impl Search {
         if !self.premises.is_in(premise) {
             return Ok(None);
         }
-        let list = first_sides(*self.list.allocator(), &self.list)?;
+        let before = self.worldview.copy()?;
+        self.restart();
         self.premises.kick(premise);
-        match self.premises.worldview(&list) {
-            Ok(worldview) => {
-                self.list = list;
-                forget(&mut self.reasons);
-                Ok(Some(replace(&mut self.worldview, worldview)))
-            }
-            Err(error) => {
-                drop(list);
-                self.premises.bring(premise);
-                Err(error)
-            }
-        }
+        self.worldview.disbelieve(premise);
+        Ok(Some(before))
     }
 
     /// A premise of the user's is believed again. The choices stay where they stand, and the reasons are kept. Where it was
@@ -61,27 +52,22 @@ impl Search {
         if self.premises.is_in(premise) {
             return Ok(None);
         }
+        let before = self.worldview.copy()?;
+        self.worldview.believe(premise)?;
         self.premises.bring(premise);
-        match self.premises.worldview(&self.list) {
-            Ok(worldview) => Ok(Some(replace(&mut self.worldview, worldview))),
-            Err(error) => {
-                self.premises.kick(premise);
-                Err(error)
-            }
-        }
+        Ok(Some(before))
     }
 
-    /// Every choice goes to its first side, and no reason is kept. After want of memory nothing has changed.
-    pub fn restart(&mut self) -> Result<(), AllocError>
-        ensures ok { OnOk result (self.new ≡ record (restarted self.old) { worldview = self.new.worldview }) }
-        ensures err { OnErr result (self.new ≡ self.old) }
+    /// Every choice goes to its first side, and no reason is kept. It takes no memory.
+    pub fn restart(&mut self)
+        ensures only { self.new ≡ record (restarted self.old) { worldview = self.new.worldview } }
         ensures search { (problem : Problem) → IsSearch problem self.old → IsSearch problem self.new }
     {
-        let list = first_sides(*self.list.allocator(), &self.list)?;
-        let worldview = self.premises.worldview(&list)?;
-        self.list = list;
-        self.worldview = worldview;
+        let (choices, list) = (self.premises.choices(), &self.list);
+        let level = level_first(list, self.level);
+        leave(&mut self.worldview, choices, list, level, self.level);
+        put_first(&mut self.list);
         forget(&mut self.reasons);
-        Ok(())
+        self.level = level;
     }
 }

@@ -5,6 +5,7 @@ pub mod believing;
 pub mod forgetting;
 mod joining;
 pub mod laws;
+mod levels;
 mod lists;
 pub mod naming;
 pub mod outcome;

@@ -54,7 +54,7 @@ impl Search {
         self.worldview.back(premise);
     }
 
-    /// Declares a choice with this many sides, which stands on the first.
+    /// Declares a choice with this many sides, which stands on the first. None of them is believed yet.
     ///
     /// A name that a premise or a choice has is `NameTaken`. There can be 4,096 premises, the sides of choices among them, and 64 choices:
     /// more are `LimitReached`, premises first. Want of memory is `Memory`. After a refusal nothing has changed.
@@ -98,21 +98,12 @@ impl Search {
         let alloc = *self.list.allocator();
         self.list.reserve(1)?;
         self.reasons.reserve(1)?;
-        let count = self.premises.len();
         let Ok(choice) = self.premises.hypothetical(name, sides) else {
             return Err(AllocError);
         };
-        match self.worldview.believe(choice.first) {
-            Ok(()) => {
-                self.list.push(1)?;
-                self.reasons.push(Reasons::none(alloc))?;
-                Ok(choice)
-            }
-            Err(error) => {
-                self.premises.back(count);
-                Err(error)
-            }
-        }
+        self.list.push(1)?;
+        self.reasons.push(Reasons::none(alloc))?;
+        Ok(choice)
     }
 
     /// The last choice goes, with its name, its sides and the reasons against them. It takes no memory.
@@ -126,6 +117,7 @@ impl Search {
     {
         let _ = self.list.pop();
         let _ = self.reasons.pop();
+        self.level = self.level.min(self.list.len());
         self.premises.back(usize::from(choice.first));
         self.worldview.back(choice.first);
     }

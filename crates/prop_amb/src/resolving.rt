@@ -10,7 +10,8 @@ ghost use Rattle.prop_amb.specs.Resolving.{MayAdvance, IsReason, IsResolved, IfA
 ghost use Rattle.prop_amb.specs.Culprits.{AreCulprits, MayLeave};
 
 use crate::joining::joined;
-use crate::lists::advanced;
+use crate::levels::leave;
+use crate::lists::move_on;
 use crate::reasons::advance_reasons;
 use crate::search::Search;
 use prop_premises::{Premise, PremiseSet, Worldview};
@@ -32,11 +33,12 @@ impl Search {
     pub fn resolve(&self, nogood: PremiseSet) -> Result<Resolved, AllocError>
         requires believed { IsPart (set_of nogood) (set_of self.now.worldview) }
         ensures may { IfOk result (λ r. IfAgainst r (MayLeave self.now nogood)) }
+        ensures below { IfOk result (λ r. IfAgainst r (λ place. place < self.now.level)) }
         ensures culprits { IfOk result (λ r. AreCulprits self.now nogood (set_of (premises_of r))) }
         ensures resolved { IfOk result (λ r. (problem : Problem) → IsSearch problem self.now → IsNogood problem (choices_in self.now) (set_of nogood) → IsTrue (has_part self.now.listed (set_of nogood)) → IsResolved problem self.now r) }
     {
         let mut set = nogood;
-        for place in (0..self.list.len()).rev() {
+        for place in (0..self.level).rev() {
             let choice = self.premises.choices()[place];
             let side = self.list[place];
             let premise = choice.first + Premise::from(side - 1);
@@ -52,21 +54,28 @@ impl Search {
     }
 
     /// The choice at a place goes to its next side, and the reason is kept against the side that it leaves. All later choices go to
-    /// their first side, and no reason is kept of them. Answers the worldview of before. After want of memory nothing has changed.
+    /// their first side, which isn't believed, and no reason is kept of them. Answers the worldview of before. After want of memory nothing
+    /// has changed.
     pub fn advance(&mut self, place: usize, reason: PremiseSet) -> Result<Worldview, AllocError>
-        requires { MayAdvance self.old place }
+        requires may { MayAdvance self.old place }
+        requires below { place < self.old.level }
         ensures premises { self.new.premises ≡ self.old.premises }
         ensures listed { self.new.listed ≡ self.old.listed }
         ensures before { IfOk result (λ w. w ≡ self.old.worldview) }
         ensures list { OnOk result (self.new.list ≡ advanced self.old.list place) }
+        ensures level { OnOk result (self.new.level ≡ place + 1) }
         ensures reasons { OnOk result (self.new.reasons ≡ reasons_advanced self.old.reasons place reason) }
         ensures err { OnErr result (self.new ≡ self.old) }
         ensures search { (problem : Problem) → IsReason problem self.old place (set_of reason) → IsSearch problem self.old → IsSearch problem self.new }
     {
-        let list = advanced(*self.list.allocator(), &self.list, place)?;
-        let worldview = self.premises.worldview(&list)?;
+        let choices = self.premises.choices();
+        let next = choices[place].first + Premise::from(self.list[place]);
+        let mut worldview = self.worldview.copy()?;
+        leave(&mut worldview, choices, &self.list, place, self.level);
+        worldview.believe(next)?;
         advance_reasons(&mut self.reasons, place, reason)?;
-        self.list.copy_from_slice(&list);
+        move_on(&mut self.list, place);
+        self.level = place + 1;
         Ok(replace(&mut self.worldview, worldview))
     }
 }

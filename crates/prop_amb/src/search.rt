@@ -1,10 +1,12 @@
 //! Where the search for the first consistent list of choices stands, and what it has learned.
-ghost use Rattle.std.specs.Prelude.{◌≡◌, ℕ, List, Contains, IsTrue, None, Ok, false, not, IfOk, IfSome, OnOk, OnErr};
-ghost use Rattle.prop_premises.specs.Sets.{set_of, is_within};
+ghost use Rattle.std.specs.Prelude.{◌≡◌, ◌<◌, ◌↔◌, ℕ, List, Contains, IsTrue, None, Ok, false, not, length, IfOk, IfSome, OnOk, OnErr};
+ghost use Rattle.prop_premises.specs.Sets.{set_of, is_within, IsPart, IsSame};
+ghost use Rattle.prop_premises.specs.ChoiceLists.{worldview};
 ghost use Rattle.prop_cells.specs.Problems.{Problem};
 ghost use Rattle.prop_nogoods.specs.Stores.{has_part, PartsEndBelow, AddsSet};
 ghost use Rattle.prop_amb.specs.Refuted.{IsNogood};
-ghost use Rattle.prop_amb.specs.Search.{Stand, no_stand, choices_in, IsStand, IsSearch};
+ghost use Rattle.prop_amb.specs.Search.{Stand, no_stand, users_of, choices_in, IsStand, IsSearch};
+ghost use Rattle.prop_amb.specs.Moving.{deepened};
 
 use crate::reasons::Reasons;
 use prop_nogoods::Store;
@@ -12,11 +14,13 @@ use prop_premises::{Premise, PremiseSet, Premises, Worldview};
 use std::alloc::{AllocError, Global};
 use std::marker::Model;
 
-/// The premises, the side on which each choice stands, why it left the sides before, the nogoods, and what is believed.
+/// The premises, the side on which each choice stands, of how many choices it is believed, why each left the sides before, the nogoods,
+/// and what is believed.
 #[derive(Drop)]
 pub struct Search {
     pub(crate) premises: Premises,
     pub(crate) list: Vec<u8>,
+    pub(crate) level: usize,
     pub(crate) reasons: Vec<Reasons>,
     pub(crate) store: Store,
     pub(crate) worldview: Worldview,
@@ -25,9 +29,9 @@ pub struct Search {
 impl Model for Search {
     ghost Value = { Stand };
 
-    ghost view = { λ s. record { premises = s.premises; list = s.list.items; reasons = s.reasons.items; listed = s.store; worldview = s.worldview } };
+    ghost view = { λ s. record { premises = s.premises; list = s.list.items; level = s.level; reasons = s.reasons.items; listed = s.store; worldview = s.worldview } };
 
-    ghost invariant = { λ s. IsStand (record { premises = s.premises; list = s.list.items; reasons = s.reasons.items; listed = s.store; worldview = s.worldview }) };
+    ghost invariant = { λ s. IsStand (record { premises = s.premises; list = s.list.items; level = s.level; reasons = s.reasons.items; listed = s.store; worldview = s.worldview }) };
 }
 
 impl Search {
@@ -38,6 +42,7 @@ impl Search {
         Search {
             premises: Premises::new(alloc),
             list: Vec::new(alloc),
+            level: 0,
             reasons: Vec::new(alloc),
             store: Store::new(alloc),
             worldview: Worldview::empty(alloc),
@@ -65,12 +70,49 @@ impl Search {
         &self.store
     }
 
-    /// What is believed: the believed premises of the user's, and the side on which each choice stands.
+    /// What is believed: the believed premises of the user's and, of the first choices, those below the level, the sides on which they stand.
     pub fn worldview(&self) -> &Worldview
         ensures same { result.now ≡ self.now.worldview }
         ensures stand { IsStand self.now }
     {
         &self.worldview
+    }
+
+    /// Whether the side of each choice is believed.
+    pub fn is_whole(&self) -> bool
+        ensures whole { IsTrue result ↔ (self.now.level ≡ length self.now.list) }
+        ensures stand { IsStand self.now }
+    {
+        self.level == self.list.len()
+    }
+
+    /// What would be believed if the side of each choice were: the worldview of the whole list.
+    pub fn whole(&self) -> Result<Worldview, AllocError>
+        ensures { IfOk result (λ w. IsSame (set_of w)
+            (worldview (users_of self.now) (choices_in self.now) self.now.list)) }
+    {
+        self.premises.worldview(&self.list)
+    }
+
+    /// The side of one choice more is believed. Answers the worldview of before. After want of
+    /// memory nothing has changed.
+    pub fn deepen(&mut self) -> Result<Worldview, AllocError>
+        requires { self.old.level < length self.old.list }
+        ensures before { IfOk result (λ w. w ≡ self.old.worldview) }
+        ensures ok { OnOk result (self.new
+            ≡ record (deepened self.old) { worldview = self.new.worldview }) }
+        ensures more { IsPart (set_of self.old.worldview) (set_of self.new.worldview) }
+        ensures err { OnErr result (self.new ≡ self.old) }
+        ensures search { (problem : Problem) → IsSearch problem self.old
+            → IsSearch problem self.new }
+    {
+        let choice = self.premises.choices()[self.level];
+        let side = self.list[self.level];
+        let before = self.worldview.copy()?;
+        self.worldview
+            .believe(choice.first + Premise::from(side - 1))?;
+        self.level += 1;
+        Ok(before)
     }
 
     /// Notes a nogood, and answers whether it says more than those noted before.
@@ -95,7 +137,7 @@ impl Search {
         ensures none { result ≡ None → has_part self.now.listed (set_of self.now.worldview) ≡ false }
         ensures stand { IsStand self.now }
     {
-        self.store.blocks(&self.worldview)
+        self.store.blocks_any(&self.worldview)
     }
 
     /// A nogood of which every premise is believed, one whose last premise comes early. It passes over those whose last premise has a number below

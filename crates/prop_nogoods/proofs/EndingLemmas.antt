@@ -7,7 +7,7 @@ use Rattle.std.proofs.lemmas.Bool.{leb-true}
 use Rattle.std.proofs.lemmas.Bool.Decides.{eqb_tells, leb_tells}
 use Rattle.std.proofs.lemmas.List.{length-map, take-append-drop, take_at}
 use Rattle.std.proofs.lemmas.List.Concat.{flat_map-append}
-use Rattle.std.proofs.lemmas.List.Edits.{insert-append_right}
+use Rattle.std.proofs.lemmas.List.Edits.{insert-append_left, insert-append_right}
 use Rattle.std.proofs.lemmas.List.Elements.{All-append, All-contains, Contains-append_left, Contains-append_right, Contains-get_or, filter-append}
 use Rattle.std.proofs.lemmas.List.Filters.{length-filter_both}
 use Rattle.std.proofs.lemmas.List.Folds.{flat_map-map, list_any_none}
@@ -15,7 +15,7 @@ use Rattle.prop_premises.proofs.MergeLemmas.{Rising, rising_from_increasing}
 use Rattle.prop_premises.proofs.WithinLemmas.{within_has, within_from}
 use Rattle.prop_premises.specs.Sets.{Members, set_of, is_within, is_below}
 use Rattle.prop_nogoods.specs.Stores.{has_part, staying, lacking, PartsEndBelow}
-use Rattle.prop_nogoods.specs.inner.Endings.{Group, EndsSo, HasRoom, end_of, sets_of, left_of, lacking_of}
+use Rattle.prop_nogoods.specs.inner.Endings.{Group, EndsSo, HasOneMore, HasRoom, end_of, sets_of, left_of, lacking_of}
 use Rattle.prop_nogoods.proofs.StoreLaws.{has_part-from}
 use Rattle.prop_nogoods.specs.inner.Stores.{IsPartOfNone}
 use Rattle.prop_nogoods.proofs.StoreLemmas.{is_kept, is_without, never, staying_all}
@@ -72,13 +72,13 @@ insert_after xs ys p n =
     sym (insert-append_right xs ys (length xs) (length xs + p) n refl (omega arith) ∙ ap (λ k. xs ++ insert ys k n) back)
 
 -- one nogood more in a group
-pub sets_of-push : (gs : List Group) (i : ℕ) (y d : Group) (n : List ℕ) → i < length gs → y.sets ≡ (get_or gs i d).sets ++ n ∷ []
+pub sets_of-one_more : (gs : List Group) (i : ℕ) (y d : Group) (n : List ℕ) → i < length gs → HasOneMore (get_or gs i d).sets y.sets n
     → (place : ℕ) × (sets_of (set gs i y) ≡ insert (sets_of gs) place n)
-sets_of-push [] i y d n l more = absurd (omega (arith, l))
-sets_of-push (g ∷ gs) zero y d n l more =
-    (length g.sets + 0, ap (λ xs. xs ++ sets_of gs) more ∙ append_assoc g.sets (n ∷ []) (sets_of gs) ∙ insert_after g.sets (sets_of gs) 0 n)
-sets_of-push (g ∷ gs) (suc i) y d n l more =
-    let rest = sets_of-push gs i y d n (omega (arith, l)) more in
+sets_of-one_more [] i y d n l more = absurd (omega (arith, l))
+sets_of-one_more (g ∷ gs) zero y d n l more =
+    (more.place, ap (λ xs. xs ++ sets_of gs) more.is ∙ sym (insert-append_left g.sets (sets_of gs) more.place n more.inside))
+sets_of-one_more (g ∷ gs) (suc i) y d n l more =
+    let rest = sets_of-one_more gs i y d n (omega (arith, l)) more in
     (length g.sets + rest.0, ap (λ xs. g.sets ++ xs) rest.1 ∙ insert_after g.sets (sets_of gs) rest.0 n)
 
 -- what is left of the groups is written back in place of them
@@ -111,12 +111,12 @@ left_room n gs i x l is room =
 
 -- a set joins the groups: one of them has it, and what it is part of is gone
 pub sets_of-joined : (old : List (List ℕ)) (gs : List Group) (n : List ℕ) (i : ℕ) (x y : Group) → sets_of gs ≡ old → i < length gs
-    → x ≡ get_or (map (left_of n) gs) i x → y.sets ≡ x.sets ++ n ∷ []
+    → x ≡ get_or (map (left_of n) gs) i x → HasOneMore x.sets y.sets n
     → (place : ℕ) × (sets_of (set (map (left_of n) gs) i y) ≡ insert (staying old n) place n)
 sets_of-joined old gs n i x y from l is more =
     let long = length-map gs (left_of n) in
-    let pushed = sets_of-push (map (left_of n) gs) i y x n (omega (arith, l, long)) (more ∙ ap (λ (g : Group). g.sets ++ n ∷ []) is) in
-    (pushed.0, pushed.1 ∙ ap (λ xs. insert xs pushed.0 n) (sets_of-left n gs ∙ ap (λ xs. staying xs n) from))
+    let joined = sets_of-one_more (map (left_of n) gs) i y x n (omega (arith, l, long)) (subst (λ (g : Group). HasOneMore g.sets y.sets n) is more) in
+    (joined.0, joined.1 ∙ ap (λ xs. insert xs joined.0 n) (sets_of-left n gs ∙ ap (λ xs. staying xs n) from))
 
 nat_lt_true : (a b : ℕ) → a < b → nat_lt a b ≡ true
 nat_lt_true a b l = elim (leb_tells (suc a) b) [ inl e ↦ e.0 | inr e ↦ absurd (omega (arith, l, e.1)) ]

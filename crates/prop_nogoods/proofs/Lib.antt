@@ -1,3 +1,5 @@
+pub mod AmongLemmas
+pub mod BelievedLemmas
 pub mod EndingLemmas
 pub mod OrderLemmas
 pub mod PlaceLemmas

@@ -6,10 +6,10 @@ use Rattle.std.proofs.lemmas.Bool.{leb-true}
 use Rattle.std.proofs.lemmas.Bool.Decides.{eqb_tells, leb_tells}
 use Rattle.std.proofs.lemmas.List.{length-map, take_at, take-append-drop, length-take-le, get_or-take}
 use Rattle.std.proofs.lemmas.List.Concat.{flat_map-append}
-use Rattle.std.proofs.lemmas.List.Elements.{All-append, All-cons, All-drop, All-filter, All-map, All-push, All-set, All-take, All-weaker, Contains-append_right}
+use Rattle.std.proofs.lemmas.List.Elements.{All-append, All-cons, All-drop, All-filter, All-map, All-set, All-take, All-weaker, Contains-append_right}
 use Rattle.prop_premises.specs.Sets.{Members}
 use Rattle.prop_nogoods.specs.Stores.{PartsEndBelow}
-use Rattle.prop_nogoods.specs.inner.Endings.{Group, EndsSo, EndTogether, AreInOrder, end_of, sets_of, left_of, lacking_of}
+use Rattle.prop_nogoods.specs.inner.Endings.{Group, EndsSo, EndTogether, AreInOrder, HasOneMore, end_of, sets_of, left_of, lacking_of}
 use Rattle.prop_nogoods.proofs.EndingLemmas.{EndsBelow, ends_below, all_end_below}
 use Rattle.prop_nogoods.proofs.PlaceLemmas.{pairs_insert}
 use Rattle.prop_nogoods.proofs.StoreLemmas.{is_kept, is_without}
@@ -41,9 +41,12 @@ place_from last gs i h = (
 pub together_same : (g h : Group) → h.last ≡ g.last → h.sets ≡ g.sets → EndTogether g → EndTogether h
 together_same g h last sets t = subst (λ o. All (EndsSo o) h.sets) (sym last) (subst (λ xs. All (EndsSo g.last) xs) (sym sets) t)
 
-pub together_more : (g h : Group) (n : List ℕ) → h.last ≡ g.last → h.sets ≡ g.sets ++ n ∷ [] → EndsSo g.last n → EndTogether g → EndTogether h
-together_more g h n last sets one t =
-    subst (λ o. All (EndsSo o) h.sets) (sym last) (subst (λ xs. All (EndsSo g.last) xs) (sym sets) (All-push (EndsSo g.last) g.sets n t one))
+pub together_more : (g h : Group) (n : List ℕ) → h.last ≡ g.last → HasOneMore g.sets h.sets n → EndsSo g.last n → EndTogether g → EndTogether h
+together_more g h n last more one t =
+    let ends = EndsSo g.last in
+    subst (λ o. All (EndsSo o) h.sets) (sym last) (subst (All ends) (sym more.is)
+    (All-append ends (take more.place g.sets) (n ∷ drop more.place g.sets) (All-take ends more.place g.sets t)
+    (All-cons ends n (drop more.place g.sets) one (All-drop ends more.place g.sets t))))
 
 pub together_none : (g : Group) → g.sets ≡ [] → EndTogether g
 together_none g empty = λ k d l. absurd (omega (arith, l, ap length empty))
@@ -92,7 +95,7 @@ in_order_left n gs order = in_order_map (left_of n) (λ g. refl) (λ g t. All-fi
 
 -- a set joins the group of its last premise
 pub in_order_joined : (gs : List Group) (n : List ℕ) (i : ℕ) (x y : Group) (last : Option ℕ) → i < length gs → x ≡ get_or (map (left_of n) gs) i x
-    → (get_or gs i x).last ≡ last → EndsSo last n → y.last ≡ x.last → y.sets ≡ x.sets ++ n ∷ [] → AreInOrder gs → AreInOrder (set (map (left_of n) gs) i y)
+    → (get_or gs i x).last ≡ last → EndsSo last n → y.last ≡ x.last → HasOneMore x.sets y.sets n → AreInOrder gs → AreInOrder (set (map (left_of n) gs) i y)
 in_order_joined gs n i x y last l is of ends same more order =
     let left = in_order_left n gs order in
     let hs = map (left_of n) gs in
@@ -100,7 +103,7 @@ in_order_joined gs n i x y last l is of ends same more order =
     let so : (get_or hs i x).last ≡ last = map_last (left_of n) (λ g. refl) gs i x ∙ of in
     let now : y.last ≡ (get_or hs i x).last = same ∙ ap (λ (g : Group). g.last) is in
     let one : EndsSo (get_or hs i x).last n = subst (λ o. EndsSo o n) (sym so) ends in
-    in_order_set hs i y x now (together_more (get_or hs i x) y n now (more ∙ ap (λ (g : Group). g.sets ++ n ∷ []) is) one (left.together i x within)) left
+    in_order_set hs i y x now (together_more (get_or hs i x) y n now (subst (λ (g : Group). HasOneMore g.sets y.sets n) is more) one (left.together i x within)) left
 
 -- what holds a premise goes, and the rest is written back
 pub groups_lacking : (p : ℕ) (gs mid : List Group) (len : ℕ) → mid ≡ map (lacking_of p) gs → len ≡ length gs → AreInOrder gs

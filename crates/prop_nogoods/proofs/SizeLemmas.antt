@@ -1,17 +1,13 @@
 -- A set is no larger than one that it is part of, so that in a list in order of size the parts of a set stand in front.
-use Rattle.std.proofs.Common.{◌≡◌, ◌∙◌, ◌<◌, ◌≤◌, ◌+◌, ◌||◌, ◌==◌, ℕ, zero, suc, ◌∷◌, Bool, true, false, Decides, leb, List, length, get_or, get_or-drop, length-drop, take, drop, All, refl, sym, subst, ap, arith, inl, inr}
+use Rattle.std.proofs.Common.{◌≡◌, ◌∙◌, ◌<◌, ◌≤◌, ◌==◌, ℕ, zero, suc, ◌∷◌, Bool, true, false, Decides, leb, List, length, get_or, refl, sym, subst, ap, arith, inl, inr}
 use Rattle.std.specs.Cmp.{IsEquivalence}
-use Rattle.std.specs.List.{list_any, prefix_len}
 use Rattle.std.specs.List.Sorted.{IsStrictlyIncreasing}
 use Rattle.std.proofs.lemmas.Bool.Decides.{eqb_tells, leb_tells}
-use Rattle.std.proofs.lemmas.List.{take-append-drop}
-use Rattle.std.proofs.lemmas.List.Folds.{list_any-append, list_any_at, list_any_none}
+use Rattle.std.proofs.lemmas.List.Folds.{list_any_at}
 use Rattle.std.proofs.lemmas.List.Kept.{AllPairs-from_increasing}
-use Rattle.std.proofs.lemmas.List.Sums.{prefix_len_stops}
 use Rattle.std.proofs.lemmas.Map.Made.{length-le_from_is_member, IsDistinct-from_AllPairs}
 use Rattle.prop_premises.specs.Sets.{set_of, is_within}
 use Rattle.prop_premises.proofs.WithinLemmas.{within_has, within_from}
-use Rattle.prop_nogoods.specs.Stores.{has_part, AreBySize}
 
 -- the test of `set_of`
 abbrev is_at : ℕ → ℕ → Bool
@@ -84,32 +80,3 @@ is_small n line = leb (length line) (length n)
 
 pub not_small : (n line : List ℕ) → is_small n line ≡ false → length n < length line
 not_small n line h = elim (leb_tells (length line) (length n)) [ inl e ↦ cc (e.0, h) | inr e ↦ e.1 ]
-
-module _ (listed : List (List ℕ)) (n : List ℕ) (up : AreBySize listed) (all : All IsStrictlyIncreasing listed) where
-  -- how many come before the first that is larger than n
-  abbrev pub first_larger : ℕ
-  first_larger = prefix_len (is_small n) listed
-
-  larger_from : (k : ℕ) (d : List ℕ) → first_larger ≤ k → k < length listed → length n < length (get_or listed k d)
-  larger_from k d l m =
-      let stop = not_small n (get_or listed first_larger d) (prefix_len_stops (is_small n) listed d (omega (arith, l, m))) in
-      let next = up first_larger k d l m in
-      omega (arith, stop, next)
-
-  none_from : All (λ line. is_within (set_of n) line ≡ false) (drop first_larger listed)
-  none_from k d l =
-      let within : first_larger + k < length listed = omega (arith, length-drop first_larger listed, l) in
-      rw (get_or-drop first_larger listed k d)
-      (larger_no_part (get_or listed (first_larger + k) d) n (all (first_larger + k) d within) (larger_from (first_larger + k) d (omega arith) within))
-
-  -- a part of n comes before the first that is larger than n
-  pub has_part-small : list_any (λ line. is_within (set_of n) line) (take first_larger listed) ≡ has_part listed (set_of n)
-  has_part-small =
-      or_none (has_part (take first_larger listed) (set_of n)) (has_part (drop first_larger listed) (set_of n))
-      (list_any_none (λ line. is_within (set_of n) line) (drop first_larger listed) none_from)
-      ∙ sym (list_any-append (λ line. is_within (set_of n) line) (take first_larger listed) (drop first_larger listed))
-      ∙ ap (λ xs. has_part xs (set_of n)) (take-append-drop first_larger listed)
-    where
-      or_none : (a b : Bool) → b ≡ false → a ≡ (a || b)
-      or_none true b h = refl
-      or_none false b h = sym h

@@ -1,12 +1,12 @@
 //! Nogoods that end with the same premise.
 ghost use Rattle.std.specs.Prelude.{◌≡◌, ◌<◌, ◌≤◌, ◌++◌, ◌∷◌, ℕ, [], length, get_or, insert, map, nat_lt, vec_capacity, false, All, None, Contains, IsTrue, IfOk, IfSome, OnOk, OnErr};
-ghost use Rattle.std.specs.List.Sorted.{IsPartitionPoint};
+ghost use Rattle.std.specs.List.Sorted.{IsPartitionPoint, IsStrictlyIncreasing};
 ghost use Rattle.prop_premises.specs.Sets.{set_of, is_within};
-ghost use Rattle.prop_nogoods.specs.Stores.{staying, PartsEndBelow};
-ghost use Rattle.prop_nogoods.specs.inner.Endings.{Group, EndsSo, AreInOrder, end_of, sets_of, HasRoom, left_of, lacking_of};
+ghost use Rattle.prop_nogoods.specs.Stores.{has_part, staying, AreBySize, PartsEndBelow};
+ghost use Rattle.prop_nogoods.specs.inner.Endings.{Group, EndsSo, AreInOrder, end_of, sets_of, HasOneMore, HasRoom, NoPartEnds, left_of, lacking_of};
 ghost use Rattle.prop_nogoods.specs.inner.Stores.{IsPartOfNone};
 
-use crate::listed::{Listed, drop_holding, drop_larger, first_believed};
+use crate::listed::{Listed, drop_holding, drop_larger, first_believed, has_larger, place_of};
 use prop_premises::{Premise, Worldview};
 use std::alloc::{AllocError, Global};
 use std::marker::Model;
@@ -16,6 +16,7 @@ use std::marker::Model;
 pub(crate) struct Ending {
     /// None where the only nogood is the set of no premises.
     last: Option<Premise>,
+    /// The smallest come first.
     nogoods: Vec<Listed>,
 }
 
@@ -24,7 +25,7 @@ impl Model for Ending {
 
     ghost view = { λ e. record { last = e.last; sets = e.nogoods.items; capacity = vec_capacity e.nogoods } };
 
-    ghost invariant = { λ e. All (EndsSo e.last) e.nogoods.items };
+    ghost invariant = { λ e. All (EndsSo e.last) e.nogoods.items × AreBySize e.nogoods.items };
 }
 
 impl Ending {
@@ -63,14 +64,15 @@ impl Ending {
         self.nogoods.reserve(1)
     }
 
-    /// Adds a nogood that ends so.
-    fn push(&mut self, nogood: Listed)
+    /// Adds a nogood that ends so, behind those that are no larger.
+    fn add(&mut self, nogood: Listed)
         requires ends_so { EndsSo self.old.last nogood }
         requires room { HasRoom self.old }
         ensures last { self.new.last ≡ self.old.last }
-        ensures sets { self.new.sets ≡ self.old.sets ++ nogood ∷ [] }
+        ensures sets { HasOneMore self.old.sets self.new.sets nogood }
     {
-        drop(self.nogoods.push(nogood));
+        let place = place_of(&self.nogoods, &nogood);
+        drop(self.nogoods.insert(place, nogood));
     }
 
     /// Drops the nogoods that this one is part of. It takes no memory.
@@ -85,6 +87,23 @@ impl Ending {
         ensures { self.new ≡ lacking_of premise self.old }
     {
         drop_holding(&mut self.nogoods, premise);
+    }
+
+    /// Whether one of its nogoods is part of this set.
+    fn has_part(&self, nogood: &Listed) -> bool
+        ensures { result ≡ has_part self.now.sets (set_of nogood.now) }
+    {
+        self.nogoods.iter().any(|part| part.is_part_of(nogood))
+    }
+
+    /// Whether this set is part of one of its nogoods, where none of them is part of it. It looks
+    /// at those that are larger.
+    fn has_larger(&self, nogood: &Listed) -> bool
+        requires in_order { IsStrictlyIncreasing nogood.now }
+        requires no_part { has_part self.now.sets (set_of nogood.now) ≡ false }
+        ensures { result ≡ false → IsPartOfNone self.now.sets nogood.now }
+    {
+        has_larger(&self.nogoods, nogood)
     }
 
     /// The first nogood of which every premise is believed. Where the last premise isn't, or has a number below this one, it looks at no nogood.
@@ -110,6 +129,51 @@ fn place_for(endings: &[Ending], last: Option<Premise>) -> usize
     ensures between { IsPartitionPoint (λ g. end_of g.last < end_of last) (λ g. end_of last ≤ end_of g.last) endings.now result }
 {
     endings.partition_point(|ending| ending.is_before(last))
+}
+
+/// Whether one of the nogoods that end with this premise is part of the set.
+fn has_part_ending(endings: &[Ending], last: Option<Premise>, nogood: &Listed) -> bool
+    requires { AreInOrder endings.now }
+    ensures found { IsTrue result → IsTrue (has_part (sets_of endings.now) (set_of nogood.now)) }
+    ensures none { result ≡ false → NoPartEnds endings.now (set_of nogood.now) last }
+{
+    let place = place_for(endings, last);
+    place < endings.len() && endings[place].last() == last && endings[place].has_part(nogood)
+}
+
+/// Whether one of the nogoods is part of the set. It looks at those alone that end with a premise
+/// of the set, and at the set of no premises.
+pub(crate) fn has_part_among(endings: &[Ending], nogood: &Listed) -> bool
+    requires { AreInOrder endings.now }
+    ensures { result ≡ has_part (sets_of endings.now) (set_of nogood.now) }
+{
+    if has_part_ending(endings, None, nogood) {
+        return true;
+    }
+    for premise in nogood.premises().iter() {
+        if has_part_ending(endings, Some(premise), nogood) {
+            return true;
+        }
+    }
+    false
+}
+
+/// Whether the set is part of one of the nogoods, where none of them is part of it. It looks at
+/// those alone that end no earlier and are larger.
+pub(crate) fn has_larger_among(endings: &[Ending], nogood: &Listed) -> bool
+    requires groups { AreInOrder endings.now }
+    requires in_order { IsStrictlyIncreasing nogood.now }
+    requires no_part { has_part (sets_of endings.now) (set_of nogood.now) ≡ false }
+    ensures { result ≡ false → IsPartOfNone (sets_of endings.now) nogood.now }
+{
+    let place = place_for(endings, nogood.last());
+    let behind = &endings[place..];
+    for ending in behind {
+        if ending.has_larger(nogood) {
+            return true;
+        }
+    }
+    false
 }
 
 /// The place of the ending with this last premise, with room for one nogood more. One that is missing is added, behind those whose last
@@ -176,7 +240,7 @@ pub(crate) fn join(
     let again = nogood.copy()?;
     let place = room_for(endings, nogood.last())?;
     drop_any_larger_everywhere(endings, nogood, has_larger);
-    endings[place].push(again);
+    endings[place].add(again);
     Ok(())
 }
 

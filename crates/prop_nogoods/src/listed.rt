@@ -1,6 +1,6 @@
 //! A nogood beside what is looked at first of it.
-ghost use Rattle.std.specs.Prelude.{◌≡◌, ◌≤◌, List, ℕ, length, false, All, None, Contains, IsTrue, IfOk, IfSome, vec_capacity, vec_len};
-ghost use Rattle.std.specs.List.Sorted.{IsStrictlyIncreasing};
+ghost use Rattle.std.specs.Prelude.{◌≡◌, ◌<◌, ◌≤◌, List, ℕ, length, false, All, None, Contains, IsTrue, IfOk, IfSome, vec_capacity, vec_len};
+ghost use Rattle.std.specs.List.Sorted.{IsPartitionPoint, IsStrictlyIncreasing};
 ghost use Rattle.prop_premises.specs.Sets.{set_of, is_within};
 ghost use Rattle.prop_nogoods.specs.Stores.{has_part, staying, lacking, AreBySize};
 ghost use Rattle.prop_nogoods.specs.inner.Endings.{EndsSo};
@@ -114,6 +114,28 @@ impl Listed {
             None => self.premises.is_subset(&other.premises),
         }
     }
+}
+
+/// The place behind the listed sets that are no larger than this one.
+pub(crate) fn place_of(listed: &[Listed], nogood: &Listed) -> usize
+    requires { AreBySize listed.now }
+    ensures bound { result ≤ length listed.now }
+    ensures between { IsPartitionPoint (λ line. length line ≤ length nogood.now) (λ line. length nogood.now < length line) listed.now result }
+{
+    listed.partition_point(|other| other.size() <= nogood.size())
+}
+
+/// Whether this set is part of a listed one, where none is part of it. It looks at those that are
+/// larger.
+pub(crate) fn has_larger(listed: &[Listed], nogood: &Listed) -> bool
+    requires by_size { AreBySize listed.now }
+    requires in_order { IsStrictlyIncreasing nogood.now }
+    requires no_part { has_part listed.now (set_of nogood.now) ≡ false }
+    ensures { result ≡ false → IsPartOfNone listed.now nogood.now }
+{
+    let place = place_of(listed, nogood);
+    let behind = &listed[place..];
+    behind.iter().any(|larger| nogood.is_part_of(larger))
 }
 
 /// Drops the listed sets that this one is part of.

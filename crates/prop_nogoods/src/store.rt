@@ -6,8 +6,10 @@ ghost use Rattle.prop_nogoods.specs.inner.Endings.{AreInOrder, sets_of};
 ghost use Rattle.prop_nogoods.specs.Stores.{has_part, lacking, with_set, AreMinimal, AreBySize, PartsEndBelow, AddsSet};
 ghost use Rattle.prop_nogoods.specs.inner.Stores.{HaveSame, IsPartOfNone};
 
-use crate::ending::{Ending, earliest_believed, join, purge_everywhere};
-use crate::listed::{Listed, drop_any_larger, drop_holding, first_believed};
+use crate::ending::{
+    Ending, earliest_believed, has_larger_among, has_part_among, join, purge_everywhere,
+};
+use crate::listed::{Listed, drop_any_larger, drop_holding, first_believed, place_of};
 use crate::nogoods::Nogoods;
 use prop_premises::{Premise, PremiseSet, Worldview};
 use std::alloc::{AllocError, Global};
@@ -29,39 +31,6 @@ impl Model for Store {
     ghost view = { λ s. s.nogoods.items };
 
     ghost invariant = { λ s. AreMinimal s.nogoods.items × All IsStrictlyIncreasing s.nogoods.items × AreBySize s.nogoods.items × HaveSame s.nogoods.items (sets_of s.by_last.items) × AreInOrder s.by_last.items };
-}
-
-/// Whether a listed set is part of this one. It looks at those that are no larger.
-fn has_part(listed: &[Listed], nogood: &Listed) -> bool
-    requires by_size { AreBySize listed.now }
-    requires in_order { All IsStrictlyIncreasing listed.now }
-    ensures { result ≡ has_part listed.now (set_of nogood.now) }
-{
-    listed
-        .iter()
-        .take_while(|part| part.size() <= nogood.size())
-        .any(|part| part.is_part_of(nogood))
-}
-
-/// The place behind the listed sets that are no larger than this one.
-fn place_of(listed: &[Listed], nogood: &Listed) -> usize
-    requires { AreBySize listed.now }
-    ensures bound { result ≤ length listed.now }
-    ensures between { IsPartitionPoint (λ line. length line ≤ length nogood.now) (λ line. length nogood.now < length line) listed.now result }
-{
-    listed.partition_point(|other| other.size() <= nogood.size())
-}
-
-/// Whether this set is part of a listed one, where none is part of it. It looks at those that are larger.
-fn has_larger(listed: &[Listed], nogood: &Listed) -> bool
-    requires by_size { AreBySize listed.now }
-    requires in_order { IsStrictlyIncreasing nogood.now }
-    requires no_part { has_part listed.now (set_of nogood.now) ≡ false }
-    ensures { result ≡ false → IsPartOfNone listed.now nogood.now }
-{
-    let place = place_of(listed, nogood);
-    let behind = &listed[place..];
-    behind.iter().any(|larger| nogood.is_part_of(larger))
 }
 
 impl Store {
@@ -99,6 +68,22 @@ impl Store {
         Nogoods::new(&self.nogoods)
     }
 
+    /// Whether a listed set is part of this one.
+    fn has_part(&self, nogood: &Listed) -> bool
+        ensures { result ≡ has_part self.now (set_of nogood.now) }
+    {
+        has_part_among(&self.by_last, nogood)
+    }
+
+    /// Whether this set is part of a listed one, where none is part of it.
+    fn has_larger(&self, nogood: &Listed) -> bool
+        requires in_order { IsStrictlyIncreasing nogood.now }
+        requires no_part { has_part self.now (set_of nogood.now) ≡ false }
+        ensures { result ≡ false → IsPartOfNone self.now nogood.now }
+    {
+        has_larger_among(&self.by_last, nogood)
+    }
+
     /// Adds a nogood behind those that are no larger, and answers whether it says more than those listed; the listed ones that it is part of go.
     ///
     /// Where a part of it is listed it takes no memory, and nothing changes. After want of memory nothing has changed.
@@ -114,11 +99,11 @@ impl Store {
         ensures err { OnErr result (self.new ≡ self.old) }
     {
         let nogood = Listed::new(nogood);
-        if has_part(&self.nogoods, &nogood) {
+        if self.has_part(&nogood) {
             return Ok(false);
         }
+        let has_larger = self.has_larger(&nogood);
         self.nogoods.reserve(1)?;
-        let has_larger = has_larger(&self.nogoods, &nogood);
         join(&mut self.by_last, &nogood, has_larger)?;
         drop_any_larger(&mut self.nogoods, &nogood, has_larger);
         let place = place_of(&self.nogoods, &nogood);
@@ -135,6 +120,23 @@ impl Store {
     {
         let nogood = first_believed(&self.nogoods, worldview)?;
         Some(nogood.premises())
+    }
+
+    /// A nogood of which every premise is believed, none where there is no such nogood. It looks at no
+    /// nogood whose last premise isn't believed, and takes no memory.
+    pub fn blocks_any(&self, worldview: &Worldview) -> Option<&PremiseSet>
+        ensures listed { IfSome result (λ s. Contains self.now s.now) }
+        ensures believed { IfSome result (λ s. IsTrue (is_within (set_of worldview.now) s.now)) }
+        ensures none { result ≡ None → has_part self.now (set_of worldview.now) ≡ false }
+    {
+        match self.nogoods.first() {
+            // The set of no premises, beside which there is no other.
+            Some(first) if first.size() == 0 => Some(first.premises()),
+            _ => {
+                let nogood = earliest_believed(&self.by_last, worldview, 0)?;
+                Some(nogood.premises())
+            }
+        }
     }
 
     /// A nogood of which every premise is believed, one whose last premise comes early, so that it shows early choices to be wrong. It passes over

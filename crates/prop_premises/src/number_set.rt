@@ -200,6 +200,16 @@ impl NumberSet {
         *self = NumberSet::of_words(words);
     }
 
+    /// The number is no longer in the set. It takes no memory.
+    pub(crate) fn remove(&mut self, number: u16)
+        ensures { IsSame (set_of self.new) (without (set_of self.old) number) }
+    {
+        let empty = NumberSet::empty(self.alloc);
+        let mut words = replace(self, empty).into_words();
+        words.remove(number);
+        *self = NumberSet::of_words(words);
+    }
+
     /// The numbers of both sets. Where both have the same one word it takes no memory.
     #[inline]
     pub(crate) fn union(&self, other: &NumberSet) -> Result<NumberSet, AllocError>

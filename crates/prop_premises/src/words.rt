@@ -1,5 +1,5 @@
 //! Sets of numbers as words of bits.
-ghost use Rattle.std.specs.Prelude.{◌≡◌, ◌↔◌, ◌<◌, ◌≤◌, ◌+◌, ◌*◌, ◌&&◌, ℕ, List, [], ◌∷◌, ◌++◌, false, length, max, nat_lt, filter, IsTrue, IsOk, IfOk, IfSome, OnOk, OnErr};
+ghost use Rattle.std.specs.Prelude.{◌≡◌, ◌↔◌, ◌<◌, ◌≤◌, ◌+◌, ◌*◌, ◌&&◌, ◌==◌, not, ℕ, List, [], ◌∷◌, ◌++◌, false, length, max, nat_lt, filter, IsTrue, IsOk, IfOk, IfSome, OnOk, OnErr};
 ghost use Rattle.std.specs.List.Sorted.{IsStrictlyIncreasing};
 ghost use Rattle.prop_premises.specs.Sets.{set_of, union, without, is_within, is_below, is_at_most_one_of, IsSame, IsBelow};
 ghost use Rattle.prop_premises.specs.Words.{is_set, has_bit, numbers_from};
@@ -171,6 +171,17 @@ fn cut(words: &mut SmallVec<u64, 2>, bound: u16)
     }
 }
 
+/// The number is no longer among those whose bits are set. It takes no memory.
+fn unset(words: &mut SmallVec<u64, 2>, number: u16)
+    ensures bits { (p : ℕ) → has_bit words.new.items p
+        ≡ (has_bit words.old.items p && not (number == p)) }
+    ensures trimmed { IsTrimmed words.new.items }
+    ensures len { length words.new.items ≤ length words.old.items }
+{
+    clear(words, number);
+    trim(words);
+}
+
 impl Words {
     /// The numbers of one word. It takes no memory.
     #[inline]
@@ -277,6 +288,16 @@ impl Words {
             self.words.truncate(0);
         } else {
             cut(&mut self.words, bound - start as u16);
+        }
+    }
+
+    /// The number is no longer in the set. It takes no memory.
+    pub(crate) fn remove(&mut self, number: u16)
+        ensures { IsSame (set_of self.new) (without (set_of self.old) number) }
+    {
+        let start = BITS * self.first;
+        if usize::from(number) >= start {
+            unset(&mut self.words, number - start as u16);
         }
     }
 

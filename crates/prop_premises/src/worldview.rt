@@ -1,6 +1,6 @@
 //! What is believed.
 ghost use Rattle.std.specs.Prelude.{◌≡◌, List, [], ◌∷◌, ◌++◌, ℕ, nat_lt, filter, IsOk, IfOk, OnOk, OnErr};
-ghost use Rattle.prop_premises.specs.Sets.{set_of, is_within, IsBelow};
+ghost use Rattle.prop_premises.specs.Sets.{set_of, union, without, is_within, IsSame, IsBelow};
 
 use crate::number_set::NumberSet;
 use crate::premise_set::{Premise, PremiseSet};
@@ -45,13 +45,30 @@ impl Worldview {
         Worldview { beliefs }
     }
 
-    /// One more premise is believed, whose number is above all others'. After want of memory nothing has changed.
+    /// One more premise is believed. After want of memory nothing has changed.
     pub fn believe(&mut self, premise: Premise) -> Result<(), AllocError>
-        requires { IsBelow premise (set_of self.old) }
-        ensures ok { OnOk result (self.new ≡ self.old ++ premise ∷ []) }
+        ensures has { OnOk result (IsSame (set_of self.new)
+            (union (set_of self.old) (set_of (premise ∷ [])))) }
+        ensures last { OnOk result (IsBelow premise (set_of self.old)
+            → self.new ≡ self.old ++ premise ∷ []) }
         ensures err { OnErr result (self.new ≡ self.old) }
     {
         self.beliefs.insert(premise)
+    }
+
+    /// The premise is no longer believed. It takes no memory.
+    pub fn disbelieve(&mut self, premise: Premise)
+        ensures { IsSame (set_of self.new) (without (set_of self.old) premise) }
+    {
+        self.beliefs.remove(premise);
+    }
+
+    /// The same worldview again.
+    pub fn copy(&self) -> Result<Worldview, AllocError>
+        ensures { IfOk result (λ w. w ≡ self.now) }
+    {
+        let beliefs = self.beliefs.copy(self.beliefs.alloc())?;
+        Ok(Worldview { beliefs })
     }
 
     /// Only the premises with a number below this one stay believed. It takes no memory.

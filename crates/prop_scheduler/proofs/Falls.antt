@@ -41,7 +41,8 @@ module _ (kinds : List Kinded) (a b : Assignment) (cell : ℕ) (v : Info) (m : M
       let ih = ranks_fall ks in
       rw (sum_by-cons (rank_at kinds b) k ks, sum_by-cons (rank_at kinds a) k ks, sum_by-cons (λ x. cond (x == cell) 1 0) k ks) (omega (arith, h, ih))
 
-ranks_same : (kinds : List Kinded) (a b : Assignment) → ((k : ℕ) → b k ≡ a k) → (places : List ℕ) → sum_by (rank_at kinds b) places ≡ sum_by (rank_at kinds a) places
+-- what is believed alike ranks alike
+pub ranks_same : (kinds : List Kinded) (a b : Assignment) → ((k : ℕ) → b k ≡ a k) → (places : List ℕ) → sum_by (rank_at kinds b) places ≡ sum_by (rank_at kinds a) places
 ranks_same kinds a b h [] = refl
 ranks_same kinds a b h (k ∷ ks) =
     let e = h k in

@@ -27,7 +27,7 @@ use Rattle.prop_scheduler.proofs.Line.{alerted_kept, alerted_here, alerted_all}
 use Rattle.prop_scheduler.proofs.UnderWay.{beliefs_fresh}
 
 -- nothing is believed where there is no cell
-beyond : (s : Premises) (d : Data) (cell : ℕ) → length d.contents ≡ length d.kinds → length d.kinds ≤ cell → beliefs s d.contents cell ≡ Nothing
+pub beyond : (s : Premises) (d : Data) (cell : ℕ) → length d.contents ≡ length d.kinds → length d.kinds ≤ cell → beliefs s d.contents cell ≡ Nothing
 beyond s d cell same l = ap (belief_of Nothing merge_of s) (get_or_past d.contents cell [] (omega (arith, same, l)))
 
 clash_within : (s : Premises) (d : Data) (cell : ℕ) → length d.contents ≡ length d.kinds → beliefs s d.contents cell ≡ Contradiction → cell < length d.kinds

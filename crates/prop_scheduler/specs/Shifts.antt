@@ -25,3 +25,16 @@ pub record AreShifted (s t : Premises) (d : Data) (n : ℕ) (old new : List ℕ)
 -- each instance that waited waits, and no other but a new one, or one that reads or writes a cell of which something else is believed
 abbrev pub AreStirred : Premises → Premises → Data → Data → List ℕ → List ℕ → Type 0
 AreStirred s t old new line later = IsBehind (λ j. (length old.instances ≤ j) ⊎ IsTouched s t old new j) line later
+
+-- the instance reads a cell of which the second premises believe something else
+pub record ReadsShifted (s t : Premises) (d : Data) (j : ℕ) : Type 0 where
+  pub cell : ℕ
+  pub shifted : beliefs s d.contents cell ≢ beliefs t d.contents cell
+  pub reads : Contains (readers_of d.instances cell) j
+
+-- The same where the second premises are those of the first and more: each instance that waited
+-- waits. Of each of the first n cells the second believe what the first do, or the cell's readers
+-- wait. No other instance waits.
+pub record AreGrown (s t : Premises) (d : Data) (n : ℕ) (old new : List ℕ) : Type 0 where
+  pub behind : IsBehind (ReadsShifted s t d) old new
+  pub waits : (cell : ℕ) → cell < n → (beliefs s d.contents cell ≡ beliefs t d.contents cell) ⊎ All (Contains new) (readers_of d.instances cell)

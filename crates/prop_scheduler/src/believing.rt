@@ -1,11 +1,12 @@
 //! Another worldview for a network under way.
 ghost use Rattle.std.specs.Prelude.{◌≡◌, ◌<◌, ◌≤◌, ℕ, All, Contains, length};
-ghost use Rattle.prop_premises.specs.Sets.{set_of};
+ghost use Rattle.prop_premises.specs.Sets.{set_of, IsPart};
 ghost use Rattle.prop_procedures.specs.Kept.{stored_of};
-ghost use Rattle.prop_cells.specs.Data.{IsKept};
+ghost use Rattle.prop_cells.specs.Data.{IsKept, beliefs, problem_of};
 ghost use Rattle.prop_cells.specs.Problems.{Premises};
 ghost use Rattle.prop_scheduler.specs.Turns.{IsUnderWay};
-ghost use Rattle.prop_scheduler.specs.Shifts.{AreShifted};
+ghost use Rattle.prop_scheduler.specs.Potential.{potential};
+ghost use Rattle.prop_scheduler.specs.Shifts.{AreShifted, AreGrown};
 ghost use Rattle.prop_scheduler.specs.Watching.{IsWatched};
 
 use crate::agenda::Agenda;
@@ -52,6 +53,41 @@ pub fn alert_shifted<R: Rule + Drop>(
         if network.shifted(cell, before, after) {
             agenda.alert_all(network.readers(cell));
             agenda.alert_all(network.writers(cell));
+            agenda.watch(cell);
+        }
+    }
+}
+
+/// The same where the second worldview believes all that the first does: each cell that it believes
+/// more of is watched, and its readers wait. Those that write it need not: what they said is still
+/// said. So the potential doesn't rise. It takes no memory.
+pub fn alert_grown<R: Rule + Drop>(
+    network: &Network<R>,
+    agenda: &mut Agenda,
+    before: &Worldview,
+    after: &Worldview,
+)
+    requires more { IsPart (set_of before.now) (set_of after.now) }
+    requires under_way { IsUnderWay (stored_of R.value_of network.now.library)
+        (set_of before.now) network.now.cells agenda.old.line }
+    requires room { length network.now.cells.instances ≤ agenda.old.room }
+    requires watched { IsWatched (set_of before.now) network.now.cells agenda.old.watched }
+    requires cells { length network.now.cells.kinds ≤ agenda.old.cells }
+    ensures under_way { IsUnderWay (stored_of R.value_of network.now.library) (set_of after.now)
+        network.now.cells agenda.new.line }
+    ensures grown { AreGrown (set_of before.now) (set_of after.now) network.now.cells
+        (length network.now.cells.kinds) agenda.old.line agenda.new.line }
+    ensures falls { potential (problem_of (stored_of R.value_of network.now.library)
+        network.now.cells) (beliefs (set_of after.now) network.now.cells.contents) agenda.new.line
+        ≤ potential (problem_of (stored_of R.value_of network.now.library) network.now.cells)
+        (beliefs (set_of before.now) network.now.cells.contents) agenda.old.line }
+    ensures watched { IsWatched (set_of after.now) network.now.cells agenda.new.watched }
+    ensures room { agenda.new.room ≡ agenda.old.room }
+    ensures cells { agenda.new.cells ≡ agenda.old.cells }
+{
+    for cell in 0..network.cells() {
+        if network.shifted(cell, before, after) {
+            agenda.alert_all(network.readers(cell));
             agenda.watch(cell);
         }
     }

@@ -1,5 +1,5 @@
 -- What is answered when the network was run for a cell.
-use Rattle.std.proofs.Common.{◌≡◌, ℕ, zero, suc, ◌+◌, ◌*◌, ◌<◌, ◌≤◌, ◌⊎◌, IsTrue, List, [], ◌∷◌, Some, None, All, get_or, length, codes, ◌∙◌, Result, Ok, Err, IfOk, inl, inr, refl, ap, subst, arith}
+use Rattle.std.proofs.Common.{◌≡◌, ℕ, zero, suc, ◌+◌, ◌*◌, ◌<◌, ◌≤◌, ◌⊎◌, IsTrue, List, [], ◌∷◌, Some, None, All, get_or, length, take, codes, ◌∙◌, Result, Ok, Err, IfOk, inl, inr, refl, ap, subst, arith}
 use Rattle.std.specs.List.Sorted.{IsStrictlyIncreasing}
 use Rattle.std.proofs.lemmas.Option.{slice_get-get_or}
 use Rattle.prop_lattice.specs.declared.info.Info.{Info}
@@ -45,6 +45,7 @@ use Rattle.prop_workbench.specs.Steps.{Carries, Runs}
 use Rattle.prop_explain.specs.Irreducible.{IsIrreducible}
 use Rattle.prop_texts.specs.Texts.{equation, because, contradiction_text}
 use Rattle.prop_vocabulary.proofs.CellLookups.{of_named}
+use Rattle.prop_amb.proofs.LevelLaws.{whole_is}
 use Rattle.prop_workbench.proofs.PointLemmas.{entailed_holds_points, none_satisfy}
 use Rattle.prop_workbench.proofs.PremiseLemmas.{support_known, same_set, set_has}
 use Rattle.prop_vocabulary.specs.Cells.{CellNames, cell_named}
@@ -54,8 +55,12 @@ use Rattle.prop_compound.specs.Definitions.{Definitions}
 abbrev pub worldview_in : List Origin → List ℕ → Members
 worldview_in premises list = lists.worldview (believed_in premises) (choices_of premises) list
 
-pub believes_same : (s : Stand) → IsStand s → set_of s.worldview ≡ worldview_in s.premises s.list
-believes_same s stand = same_set (set_of s.worldview) (worldview_in s.premises s.list) stand.believes
+pub believes_same : (s : Stand) → IsStand s → set_of s.worldview ≡ worldview_in s.premises (take s.level s.list)
+believes_same s stand = same_set (set_of s.worldview) (worldview_in s.premises (take s.level s.list)) stand.believes
+
+-- where the side of each choice is
+pub believes_whole : (s : Stand) → IsStand s → s.level ≡ length s.list → set_of s.worldview ≡ worldview_in s.premises s.list
+believes_whole s stand full = believes_same s stand ∙ whole_is s full
 
 -- a question for a cell that is there is not refused
 pub free : (library : List Stored) (s : State) (question : Question) → IsNamed s question → refusal_of library s (command_of question) ≡ None
@@ -154,19 +159,19 @@ cell_there s name cell sound named = of_named (λ k. k < length s.network.cells.
 pub settled_in : {R O : Type 0} {X : Type 0} {F : X → Type 0} {g : _} (value : R → Param → List Info → Info) (s : Session R O X F g) (cell : ℕ) → IsInOrder value s → IsAtRest value s →
     IsSettledValue (library_of value s) (state_of s) s.search.list cell (beliefs (set_of s.search.worldview) s.network.cells.contents cell)
 settled_in value s cell sound rest =
-    let same = believes_same s.search sound.at_work.well_made in
-    settled_value (library_of value s) s.names s.words s.definitions s.search.premises s.network.cells s.limit s.search.list cell _ sound.at_work.under_way.kept (subst (λ (b : Members). IsSettled (library_of value s) b s.network.cells) same rest) (ap (λ (b : Members). beliefs b s.network.cells.contents cell) same)
+    let same = believes_whole s.search sound.at_work.well_made rest.full in
+    settled_value (library_of value s) s.names s.words s.definitions s.search.premises s.network.cells s.limit s.search.list cell _ sound.at_work.under_way.kept (subst (λ (b : Members). IsSettled (library_of value s) b s.network.cells) same rest.settled) (ap (λ (b : Members). beliefs b s.network.cells.contents cell) same)
 
-pub unsettled_in : {R O : Type 0} {X : Type 0} {F : X → Type 0} {g : _} (value : R → Param → List Info → Info) (s : Session R O X F g) (name : List ℕ) (cell : ℕ) → IsInOrder value s → cell_named s.names name ≡ Some cell →
-    IsUnsettledValue (library_of value s) (state_of s) s.search.list cell (beliefs (set_of s.search.worldview) s.network.cells.contents cell)
-unsettled_in value s name cell sound named =
+pub unsettled_in : {R O : Type 0} {X : Type 0} {F : X → Type 0} {g : _} (value : R → Param → List Info → Info) (s : Session R O X F g) (whole : Members) (name : List ℕ) (cell : ℕ) → IsInOrder value s → cell_named s.names name ≡ Some cell → whole ≡ worldview_in s.search.premises s.search.list →
+    IsUnsettledValue (library_of value s) (state_of s) s.search.list cell (beliefs whole s.network.cells.contents cell)
+unsettled_in value s whole name cell sound named same =
     unsettled_value (library_of value s) s.names s.words s.definitions s.search.premises s.network.cells s.limit s.search.list cell name _ named sound.named sound.at_work.under_way.kept
-    (ap (λ (b : Members). beliefs b s.network.cells.contents cell) (believes_same s.search sound.at_work.well_made))
+    (ap (λ (b : Members). beliefs b s.network.cells.contents cell) same)
 
 -- and what explains it does so by what is believed with the choices as they stand
-pub explained_in : {R O : Type 0} {X : Type 0} {F : X → Type 0} {g : _} (value : R → Param → List Info → Info) (s : Session R O X F g) (cell : ℕ) (v : Info) (name mark : List ℕ) (answer : Answer) → IsInOrder value s → Explained (library_of value s) (state_of s) (set_of s.search.worldview) cell v name mark answer →
+pub explained_in : {R O : Type 0} {X : Type 0} {F : X → Type 0} {g : _} (value : R → Param → List Info → Info) (s : Session R O X F g) (whole : Members) (cell : ℕ) (v : Info) (name mark : List ℕ) (answer : Answer) → whole ≡ worldview_in s.search.premises s.search.list → Explained (library_of value s) (state_of s) whole cell v name mark answer →
     Explained (library_of value s) (state_of s) (worldview_in s.search.premises s.search.list) cell v name mark answer
-explained_in value s cell v name mark answer sound explained = subst (λ (b : Members). Explained (library_of value s) (state_of s) b cell v name mark answer) (believes_same s.search sound.at_work.well_made) explained
+explained_in value s whole cell v name mark answer same explained = subst (λ (b : Members). Explained (library_of value s) (state_of s) b cell v name mark answer) same explained
 
 -- what is answered explains
 pub explained_by : (library : List Stored) (names : CellNames) (words : Vocabulary) (definitions : Definitions) (premises : List Origin) (d : Data) (limit : ℕ) (believed : Members) (cell : ℕ) (v : Info) (name mark support text : List ℕ) (answer : Answer) → v ≡ beliefs believed d.contents cell →
@@ -204,14 +209,15 @@ few_steps library s before d problem n same stand moves =
 
 pub has_run : {R O : Type 0} {X : Type 0} {F : X → Type 0} {g : _} {E : Type 0} (value : R → Param → List Info → Info) (s : Session R O X F g) (before : List ℕ) (problem : Problem) (r : Result (ends.Outcome × ℕ) E) → problem ≡ problem_of (library_of value s) s.network.cells → IsKept (library_of value s) s.network.cells → IsStand s.search →
     AllBeforeRefuted problem (search.users_of s.search) (search.choices_in s.search) s.search.list →
+    IfOk r (λ x. x.0 ≡ ended.Settled → s.search.level ≡ length s.search.list) →
     IfOk r (λ x. x.0 ≡ ended.Settled → IsSettled (library_of value s) (set_of s.search.worldview) s.network.cells) →
     IfOk r (λ x. x.0 ≡ ended.Settled → IsFirstConsistent problem (search.users_of s.search) (search.choices_in s.search) s.search.list) →
     IfOk r (λ x. settling.IfContradiction x.0 (λ n. IsRuledOut problem (search.users_of s.search) (search.choices_in s.search) s.search.listed (set_of n))) →
     IfOk r (λ x. x.1 ≤ s.limit) → IfOk r (λ x. search.Moves problem (search.choices_in s.search) before s.search.list x.1) → IfOk r (λ x. x.0 ≡ ended.Unsettled → x.1 ≡ s.limit) →
     IfOk r (λ x. x.0 ≡ ended.Unsettled → s.limit + 1 < lists.lists_count (search.choices_in s.search) * (most_steps problem + 1)) → IfOk r (λ x. HasRun value s x.0 x.1)
-has_run value s before problem (Err e) same kept stand earlier settled first contradiction within moves spent earned = tt
-has_run value s before problem (Ok (ended.Settled, n)) same kept stand earlier settled first contradiction within moves spent earned =
-    let rest = subst (λ (b : Members). IsSettled (library_of value s) b s.network.cells) (believes_same s.search stand) (settled refl) in
+has_run value s before problem (Err e) same kept stand earlier full settled first contradiction within moves spent earned = tt
+has_run value s before problem (Ok (ended.Settled, n)) same kept stand earlier full settled first contradiction within moves spent earned =
+    let rest = subst (λ (b : Members). IsSettled (library_of value s) b s.network.cells) (believes_whole s.search stand (full refl)) (settled refl) in
     record {
       ends = record {
         first = subst (λ (q : Problem). IsFirstConsistent q (search.users_of s.search) (search.choices_in s.search) s.search.list) same (first refl);
@@ -219,24 +225,26 @@ has_run value s before problem (Ok (ended.Settled, n)) same kept stand earlier s
         rest = record { least = rest.least; free = rest.free };
       };
       covered = tt;
+      full = full;
       settled = settled;
       within = within;
       few = few_steps (library_of value s) s.search before s.network.cells problem n same stand moves;
       spent = spent;
     }
-has_run value s before problem (Ok (ended.Unsettled, n)) same kept stand earlier settled first contradiction within moves spent earned = record {
+has_run value s before problem (Ok (ended.Unsettled, n)) same kept stand earlier full settled first contradiction within moves spent earned = record {
   ends = record {
     is_list = stand.is_list;
     earlier = subst (λ (q : Problem). AllBeforeRefuted q (search.users_of s.search) (search.choices_in s.search) s.search.list) same earlier;
     few = subst (λ (q : Problem). s.limit + 1 < lists.lists_count (search.choices_in s.search) * (most_steps q + 1)) same (earned refl);
   };
   covered = tt;
+  full = full;
   settled = settled;
   within = within;
   few = few_steps (library_of value s) s.search before s.network.cells problem n same stand moves;
   spent = spent;
 }
-has_run value s before problem (Ok (ended.Contradiction ps, n)) same kept stand earlier settled first contradiction within moves spent earned =
+has_run value s before problem (Ok (ended.Contradiction ps, n)) same kept stand earlier full settled first contradiction within moves spent earned =
     let out = subst (λ (q : Problem). IsRuledOut q (search.users_of s.search) (search.choices_in s.search) s.search.listed (set_of ps)) same contradiction in
     record {
       ends = record {
@@ -246,6 +254,7 @@ has_run value s before problem (Ok (ended.Contradiction ps, n)) same kept stand 
         points = none_satisfy (library_of value s) (state_of s) ps (kept_fits (library_of value s) s.network.cells kept) stand.numbered out.believes out.refuted;
       };
       covered = out.covered;
+      full = full;
       settled = settled;
       within = within;
       few = few_steps (library_of value s) s.search before s.network.cells problem n same stand moves;

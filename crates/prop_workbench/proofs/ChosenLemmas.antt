@@ -112,14 +112,10 @@ extends_all library d new xs e = rw e (record {
 
 -- no entry rests on a side of a choice that was just declared
 pub declared_under_way : (library : List Stored) (old new : Stand) (name : List ℕ) (sides : ℕ) (d : Data) (agenda : Waiting) → IsAtWork library old d agenda → new ≡ declared old name sides → IsUnderWay library (set_of new.worldview) d agenda.line
-declared_under_way library old new name sides d agenda work made =
-    let n = length old.premises in
-    rw (ap (λ (s : Stand). s.worldview) made) (under_way_agree library d n agenda.line (set_of old.worldview) (set_of (old.worldview ++ n ∷ [])) work.known (λ p l. set_before old.worldview n p l) work.under_way)
+declared_under_way library old new name sides d agenda work made = rw (ap (λ (s : Stand). s.worldview) made) work.under_way
 
 pub declared_watched : (library : List Stored) (old new : Stand) (name : List ℕ) (sides : ℕ) (d : Data) (agenda : Waiting) → IsAtWork library old d agenda → new ≡ declared old name sides → IsWatched (set_of new.worldview) d agenda.watched
-declared_watched library old new name sides d agenda work made =
-    let n = length old.premises in
-    rw (ap (λ (s : Stand). s.worldview) made) (watched_agree library d n agenda.watched (set_of old.worldview) (set_of (old.worldview ++ n ∷ [])) work.under_way.kept work.known (λ p l. set_before old.worldview n p l) work.watched)
+declared_watched library old new name sides d agenda work made = rw (ap (λ (s : Stand). s.worldview) made) work.watched
 
 -- a search with one more choice, whose sides are stated, is at work
 pub chosen_at_work : (library : List Stored) (old new : Stand) (name : List ℕ) (sides cell : ℕ) (choice : Choice) (infos : List Info) (d after : Data) (before waiting : Waiting) → IsAtWork library old d before →

@@ -36,29 +36,3 @@ pub step_of_read : (library : List Stored) (old new : Shown) (line : List ℕ) (
 step_of_read library old new line read answer steps is_read follows named covers =
     let r = follows named covers in
     record { now = r.now; covers = r.covers; step = (read, is_read, r.step) }
-
--- ---- a text to what asks why leaves the premises
-
-run_premises : (library : List Stored) (s t : State) (command : Command) (answer : Answer) (steps : ℕ) → Runs library s command answer t steps → t.premises ≡ s.premises
-run_premises library s t command answer steps r = ap (λ (u : State). u.premises) r.new_is
-
-why_premises : (o : Option Refusal) (library : List Stored) (s t : State) (name text : List ℕ) (steps : ℕ) → CarriesUnless o library s (commands.Command.Why name) (Text text) t steps → t.premises ≡ s.premises
-why_premises (Some refusal) library s t name text steps r = let f : Text text ≡ Refused refusal = r.answer_is in cc
-why_premises None library s t name text steps r = run_premises library s t (commands.Command.Why name) (Text text) steps r
-
-told_premises : (library : List Stored) (s t : State) (name text : List ℕ) (steps : ℕ) → Follows library s (Ok (Some (commands.Command.Why name))) (Text text) t steps → t.premises ≡ s.premises
-told_premises library s t name text steps (inl r) = why_premises (refusal_of library s (commands.Command.Why name)) library s t name text steps r
-told_premises library s t name text steps (inr l) = let f : Text text ≡ Refused Memory = l.answer_is in cc
-
--- what is lean in the worldview of the list is so in what is believed after
-pub lean_after : (library : List Stored) (s t : State) (believed list : List ℕ) (d : Data) (read : Result (Option Command) Refusal) (answer : Answer) (steps : ℕ) → Follows library s read answer t steps → IsSame (set_of believed) (worldview_at t list) →
-    IsLeanAnswer (worldview_at s list) d s read answer → IsLeanAnswer (set_of believed) d s read answer
-lean_after library s t believed list d (Err e) answer steps follows same lean = tt
-lean_after library s t believed list d (Ok None) answer steps follows same lean = tt
-lean_after library s t believed list d (Ok (Some (commands.Command.Why name))) Silent steps follows same lean = tt
-lean_after library s t believed list d (Ok (Some (commands.Command.Why name))) Done steps follows same lean = tt
-lean_after library s t believed list d (Ok (Some (commands.Command.Why name))) (Refused refusal) steps follows same lean = tt
-lean_after library s t believed list d (Ok (Some (commands.Command.Why name))) (Text text) steps follows same lean =
-    let at : (os : List Origin) → Members = λ os. worldview (believed_in os) (choices_of os) list in
-    subst (λ (m : Members). IsLeanReply m d s name text) (sym (same_set (set_of believed) (worldview_at t list) same ∙ ap at (told_premises library s t name text steps follows))) lean
-lean_after library s t believed list d (Ok (Some command)) answer steps follows same lean = tt

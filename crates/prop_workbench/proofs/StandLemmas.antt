@@ -10,6 +10,7 @@ no_stand_made = record {
   few = omega arith;
   is_list = tt;
   reasoned = tt;
+  level = omega arith;
   believes = λ p. refl;
   minimal = λ i j d l h. absurd (omega (arith, h));
 }

@@ -29,8 +29,8 @@ use Rattle.prop_workbench.proofs.StandingLemmas.{set_before, new_stand}
 
 -- ---- where nothing is touched
 
-pub still_stirred : {O : Type 0} (s t : State) (w : Work O) → IsStirred s t w.search.list w w
-still_stirred s t w = record { list_is = refl; order = refl; line = behind_none _ w.line }
+pub still_stirred : {O : Type 0} (s t : State) (w : Work O) → IsStirred s t w.search.list w.search.level w w
+still_stirred s t w = record { list_is = refl; level_is = refl; order = refl; line = behind_none _ w.line }
 
 -- ---- whether it was done or refused
 
@@ -40,12 +40,12 @@ left_by old new command (Ok done) leaves refused = leaves
 left_by old new command (Err e) leaves refused = refused e
 
 pub left_stirred : {R O : Type 0} {X : Type 0} {F : X → Type 0} {g : _} (old new : Session R O X F g) (command : Command) (list : List ℕ) (r : Result ⊤ Refusal) → HasStirred old list r new →
-    (IsStirred (state_of old) (state_of new) list (work_of old) (work_of new) → Wakes (state_of old) (state_of new) (work_of old) (work_of new) (Ok (Some command)) Done) →
+    (IsStirred (state_of old) (state_of new) list old.search.level (work_of old) (work_of new) → Wakes (state_of old) (state_of new) (work_of old) (work_of new) (Ok (Some command)) Done) →
     ((e : Refusal) → work_of new ≡ work_of old → Wakes (state_of old) (state_of new) (work_of old) (work_of new) (Ok (Some command)) (Refused e)) → HasLeft old command r new
 left_stirred old new command list (Ok done) stirred leaves refused = leaves stirred
 left_stirred old new command list (Err e) same leaves refused = refused e same
 
-pub stirred_or_not : {R O : Type 0} {X : Type 0} {F : X → Type 0} {g : _} (old new : Session R O X F g) (list : List ℕ) (r : Result ⊤ Refusal) → OnOk r (IsStirred (state_of old) (state_of new) list (work_of old) (work_of new)) → OnErr r (work_of new ≡ work_of old) → HasStirred old list r new
+pub stirred_or_not : {R O : Type 0} {X : Type 0} {F : X → Type 0} {g : _} (old new : Session R O X F g) (list : List ℕ) (r : Result ⊤ Refusal) → OnOk r (IsStirred (state_of old) (state_of new) list old.search.level (work_of old) (work_of new)) → OnErr r (work_of new ≡ work_of old) → HasStirred old list r new
 stirred_or_not old new list (Ok done) stirred same = stirred
 stirred_or_not old new list (Err e) stirred same = same
 
@@ -95,7 +95,4 @@ named_beliefs library old new name d kept known none made =
 
 pub declared_beliefs : (library : List Stored) (old new : Stand) (name : List ℕ) (sides : ℕ) (d : Data) → IsKept library d → AreKnown (length old.premises) d.statements → new ≡ declared old name sides →
     beliefs (set_of new.worldview) d.contents ≡ beliefs (set_of old.worldview) d.contents
-declared_beliefs library old new name sides d kept known made =
-    let n = length old.premises in
-    ap (λ (t : Stand). beliefs (set_of t.worldview) d.contents) made
-    ∙ agree_beliefs library d n (set_of old.worldview) (set_of (old.worldview ++ n ∷ [])) kept known (λ p l. set_before old.worldview n p l)
+declared_beliefs library old new name sides d kept known made = ap (λ (t : Stand). beliefs (set_of t.worldview) d.contents) made

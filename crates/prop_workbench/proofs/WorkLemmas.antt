@@ -3,12 +3,12 @@ use Rattle.std.proofs.Common.{ℕ, List, [], ◌∷◌, refl, arith}
 use Rattle.std.proofs.lemmas.Option.{none-some}
 use Rattle.prop_lattice.specs.declared.info.Info.{Info}
 use Rattle.prop_procedures.specs.declared.shape.Param.{Param}
-use Rattle.prop_premises.specs.Sets.{set_of}
 use Rattle.prop_procedures.specs.Stored.{Stored}
 use Rattle.prop_language.specs.Reading.{AsRead}
 use Rattle.prop_engine.specs.Answers.{Answer}
 use Rattle.prop_engine.specs.Transcripts.{Run}
 use Rattle.prop_workbench.specs.declared.session.Session.{Session}
+use Rattle.prop_workbench.specs.Machine.{worldview_at}
 use Rattle.prop_workbench.specs.Steps.{IsStepOf}
 use Rattle.prop_workbench.specs.Reasons.{IsLeanAnswer}
 use Rattle.prop_workbench.specs.Questions.{Picks, Earns}
@@ -33,7 +33,7 @@ sound_fits value s sound =
     }
 
 pub works_by : {R O : Type 0} {X : Type 0} {F : X → Type 0} {g : _} (picks : Picks O) (library : List Stored) (old new : Session R O X F g) (line : List ℕ) (answer : Answer) → IsStepOf library (shown_of old) line answer (shown_of new) (steps_of new) → WorkFits library (standing_of new) →
-    AsRead line (λ read. IsLeanAnswer (set_of new.search.worldview) new.network.cells (state_of old) read answer) →
+    AsRead line (λ read. IsLeanAnswer (worldview_at (state_of old) new.search.list) new.network.cells (state_of old) read answer) →
     AsRead line (λ read. Earns picks library (state_of old) (work_of old) (work_of new) read answer (steps_of new)) → AsRead line (λ read. Wakes (state_of old) (state_of new) (work_of old) (work_of new) read answer) →
     Works picks library (standing_of old) line answer (standing_of new)
 works_by picks library old new line answer step fits lean earned wakes = record { steps = steps_of new; step = step; fits = λ before. fits; lean = lean; earned = earned; wakes = wakes }

@@ -10,7 +10,7 @@ use Rattle.prop_amb.specs.Going.{Work}
 use Rattle.prop_engine.specs.Answers.{Answer}
 use Rattle.prop_engine.specs.Transcripts.{Machine}
 use Rattle.prop_workbench.specs.declared.session.Session.{Session}
-use Rattle.prop_workbench.specs.Machine.{State}
+use Rattle.prop_workbench.specs.Machine.{State, worldview_at}
 use Rattle.prop_workbench.specs.Steps.{Step, Shown, new_shown, IsStepOf}
 use Rattle.prop_language.specs.Reading.{AsRead}
 use Rattle.prop_premises.specs.Sets.{set_of}
@@ -74,7 +74,7 @@ pub record Works {O : Type 0} (picks : Picks O) (library : List Stored) (old : S
   pub steps : ℕ
   pub step : IsStepOf library old.shown line answer new.shown steps
   pub fits : WorkFits library old → WorkFits library new
-  pub lean : AsRead line (λ read. IsLeanAnswer (set_of new.work.search.worldview) new.work.cells old.shown.state read answer)
+  pub lean : AsRead line (λ read. IsLeanAnswer (worldview_at old.shown.state new.work.search.list) new.work.cells old.shown.state read answer)
   pub earned : AsRead line (λ read. Earns picks library old.shown.state old.work new.work read answer steps)
   pub wakes : AsRead line (λ read. Wakes old.shown.state new.shown.state old.work new.work read answer)
 

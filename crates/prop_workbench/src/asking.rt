@@ -6,6 +6,7 @@ use prop_amb::{Outcome, settle};
 use prop_engine::Reply;
 use prop_explain::{Core, reduce};
 use prop_lattice::{Info, Refusal};
+use prop_premises::Worldview;
 use prop_procedures::Rule;
 use prop_scheduler::Order;
 use prop_texts::{
@@ -29,14 +30,14 @@ pub(crate) enum Question<'a> {
 
 impl<R: Rule + Drop, O: Order + Drop> Session<R, O> {
     ghost use Rattle.std.specs.Prelude.{◌≡◌, ◌≢◌, ◌<◌, ◌≤◌, ◌+◌, ◌*◌, ℕ, List, [], All, Some, IfOk, codes, length};
-    ghost use Rattle.prop_premises.specs.Sets.{set_of};
+    ghost use Rattle.prop_premises.specs.Sets.{set_of, IsSame};
     ghost use Rattle.prop_premises.specs.ChoiceLists.{lists_count};
     ghost use Rattle.prop_cells.specs.Data.{beliefs};
     ghost use Rattle.prop_scheduler.specs.Potential.{most_steps};
     ghost use Rattle.prop_language.specs.Commands as commands;
     ghost use Rattle.prop_explain.specs.Irreducible.{IfLeast, IfNotReduced, OfCore};
     ghost use Rattle.prop_engine.specs.Answers.{answer_of, Says, Text};
-    ghost use Rattle.prop_workbench.specs.Machine.{text_at, problem_in, choices_in};
+    ghost use Rattle.prop_workbench.specs.Machine.{text_at, problem_in, choices_in, worldview_at};
     ghost use Rattle.prop_texts.specs.Texts.{equation};
     ghost use Rattle.prop_vocabulary.specs.Cells.{cell_named};
     ghost use Rattle.prop_workbench.specs.inner.Carrying.{IsAnswered, IsAtRest, IsLeanIn, MayAnswer, SaysBecause, CountsTries};
@@ -119,8 +120,11 @@ impl<R: Rule + Drop, O: Order + Drop> Session<R, O> {
             Question::Worldview => {
                 worldview_reply(self.alloc, self.search.premises(), self.search.worldview())
             },
-            Question::Ask(cell, name) => self.value_of(cell, name, self.belief(cell), ""),
-            Question::Why(cell, name) => self.explained(cell, name, ""),
+            Question::Ask(cell, name) => {
+                let info = self.network.belief(cell, self.search.worldview());
+                self.value_of(cell, name, info, "")
+            }
+            Question::Why(cell, name) => self.explained(self.search.worldview(), cell, name, ""),
         }
     }
 
@@ -133,11 +137,40 @@ impl<R: Rule + Drop, O: Order + Drop> Session<R, O> {
             (command_of question.entry) (answer_of result) }
         ensures lean { IsLeanIn self.now (command_of question.entry) (answer_of result) }
     {
+        match question {
+            Question::Settle | Question::Worldview => text_reply(self.alloc, "unsettled"),
+            Question::Ask(..) | Question::Why(..) => {
+                let whole = match self.search.whole() {
+                    Ok(whole) => whole,
+                    Err(AllocError) => return Reply::Refused(Refusal::Memory),
+                };
+                let reply = self.so_far(&whole, question);
+                drop(whole);
+                reply
+            }
+        }
+    }
+
+    /// The answer to a question for a cell in the worldview of the whole list, where the side of
+    /// each choice need not be believed yet.
+    fn so_far(&self, whole: &Worldview, question: Question<'_>) -> Reply
+        requires sound { IsInOrder R.value_of self.now }
+        requires named { IsNamed (state_of self.now) question }
+        requires whole { IsSame (set_of whole.now)
+            (worldview_at (state_of self.now) self.now.search.list) }
+        ensures says { MayAnswer R.value_of self.now (command_of question.entry)
+            Outcome.Unsettled self.now.limit (answer_of result) }
+        ensures believed { SaysSoFar (state_of self.now) (work_of self.now)
+            (command_of question.entry) (answer_of result) }
+        ensures lean { IsLeanIn self.now (command_of question.entry) (answer_of result) }
+    {
         let mark = " unsettled";
         match question {
             Question::Settle | Question::Worldview => text_reply(self.alloc, "unsettled"),
-            Question::Ask(cell, name) => self.value_of(cell, name, self.belief(cell), mark),
-            Question::Why(cell, name) => self.explained(cell, name, mark),
+            Question::Ask(cell, name) => {
+                self.value_of(cell, name, self.network.belief(cell, whole), mark)
+            }
+            Question::Why(cell, name) => self.explained(whole, cell, name, mark),
         }
     }
 
@@ -266,15 +299,6 @@ impl<R: Rule + Drop, O: Order + Drop> Session<R, O> {
         nogoods_reply(self.alloc, self.search.premises(), self.search.nogoods())
     }
 
-    /// What is believed of a cell.
-    fn belief(&self, cell: usize) -> Info
-        requires sound { IsInOrder R.value_of self.now }
-        requires cell { cell < length self.now.network.cells.kinds }
-        ensures { result ≡ beliefs (set_of self.now.search.worldview) self.now.network.cells.contents cell }
-    {
-        self.network.belief(cell, self.search.worldview())
-    }
-
     /// An information of a cell, with the mark behind it.
     fn value_of(&self, cell: usize, name: &str, info: Info, mark: &str) -> Reply
         requires { cell < length self.now.network.cells.kinds }
@@ -287,14 +311,14 @@ impl<R: Rule + Drop, O: Order + Drop> Session<R, O> {
         }
     }
 
-    /// What is believed of a cell, the mark, and premises that are enough for it.
-    fn explained(&self, cell: usize, name: &str, mark: &str) -> Reply
+    /// What is believed of a cell in a worldview, the mark, and premises that are enough for it.
+    fn explained(&self, worldview: &Worldview, cell: usize, name: &str, mark: &str) -> Reply
         requires sound { IsInOrder R.value_of self.now }
         requires cell { cell < length self.now.network.cells.kinds }
-        ensures explained { Explained (library_of R.value_of self.now) (state_of self.now) (set_of self.now.search.worldview) cell (beliefs (set_of self.now.search.worldview) self.now.network.cells.contents cell) name.now mark.now (answer_of result) }
-        ensures lean { (text : List ℕ) → answer_of result ≡ Text text → IsLeanExplanation (set_of self.now.search.worldview) self.now.network.cells (state_of self.now) cell name.now mark.now text }
+        ensures explained { Explained (library_of R.value_of self.now) (state_of self.now) (set_of worldview.now) cell (beliefs (set_of worldview.now) self.now.network.cells.contents cell) name.now mark.now (answer_of result) }
+        ensures lean { (text : List ℕ) → answer_of result ≡ Text text → IsLeanExplanation (set_of worldview.now) self.now.network.cells (state_of self.now) cell name.now mark.now text }
     {
-        let why = match self.network.explanation(cell, self.search.worldview()) {
+        let why = match self.network.explanation(cell, worldview) {
             Ok(why) => why,
             Err(AllocError) => return Reply::Refused(Refusal::Memory),
         };

@@ -22,7 +22,7 @@ impl<R: Rule + Drop, O: Order + Drop> Session<R, O> {
         ensures wakes { HasLeft self.old (commands.Command.Forget name.now) result self.new }
     {
         let premise = self.search.premises().find(name)?;
-        self.search.forget(premise)?;
+        self.search.forget(premise);
         self.network.purge(premise);
         wake_all(&self.network, &mut self.agenda);
         Ok(())

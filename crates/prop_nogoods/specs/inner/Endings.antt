@@ -1,8 +1,8 @@
 -- Groups of nogoods that end with the same premise.
-use Rattle.std.specs.Prelude.{◌<◌, ◌+◌, ℕ, List, length, Option, Some, None, IfSome, IsTrue, All, AllPairs}
+use Rattle.std.specs.Prelude.{◌≡◌, ◌<◌, ◌≤◌, false, ◌+◌, ℕ, List, insert, length, Option, Some, None, IfSome, IsTrue, All, AllPairs}
 use Rattle.std.specs.List.{flat_map}
-use Rattle.prop_premises.specs.Sets.{set_of, is_below}
-use Rattle.prop_nogoods.specs.Stores.{staying, lacking}
+use Rattle.prop_premises.specs.Sets.{Members, set_of, is_below}
+use Rattle.prop_nogoods.specs.Stores.{has_part, staying, lacking}
 
 -- nogoods, the premise that each of them has, and how many there is memory for
 pub record Group : Type 0 where
@@ -22,6 +22,12 @@ EndsSo last n = IfSome last (λ p. IsTrue (set_of n p)) × IsTrue (is_below (end
 -- there is room for one nogood more
 abbrev pub HasRoom : Group → Type 0
 HasRoom g = length g.sets < g.capacity
+
+-- one nogood more is listed, and the others are as before
+pub record HasOneMore (old new : List (List ℕ)) (n : List ℕ) : Type 0 where
+  pub place : ℕ
+  pub inside : place ≤ length old
+  pub is : new ≡ insert old place n
 
 -- the nogoods of all groups
 abbrev pub sets_of : List Group → List (List ℕ)
@@ -43,3 +49,7 @@ EndTogether g = All (EndsSo g.last) g.sets
 pub record AreInOrder (groups : List Group) : Type 0 where
   pub together : All EndTogether groups
   pub rise : AllPairs (λ g h. end_of g.last < end_of h.last) groups
+
+-- no nogood that ends with this premise is part of the set
+abbrev pub NoPartEnds : List Group → Members → Option ℕ → Type 0
+NoPartEnds groups n last = All (λ g. g.last ≡ last → has_part g.sets n ≡ false) groups

@@ -1,5 +1,5 @@
 -- What is promised of the methods that carry out a command.
-use Rattle.std.specs.Prelude.{◌≡◌, ◌+◌, ℕ, List, Option, Some, Result, Ok, Err, ⊤}
+use Rattle.std.specs.Prelude.{◌≡◌, ◌+◌, ℕ, List, length, Option, Some, Result, Ok, Err, ⊤}
 use Rattle.std.specs.List.Sorted.{IsStrictlyIncreasing}
 use Rattle.prop_lattice.specs.declared.info.Info.{Info}
 use Rattle.prop_lattice.specs.declared.refusal.Refusal.{Refusal}
@@ -11,7 +11,7 @@ use Rattle.prop_language.specs.Commands.{Command}
 use Rattle.prop_engine.specs.Answers.{Answer, Text, Says, answer_done}
 use Rattle.prop_texts.specs.Texts.{equation, because}
 use Rattle.prop_workbench.specs.declared.session.Session.{Session}
-use Rattle.prop_workbench.specs.Machine.{State, text_at}
+use Rattle.prop_workbench.specs.Machine.{State, worldview_at, text_at}
 use Rattle.prop_workbench.specs.Questions.{Picks, HasTried, outcome_of}
 use Rattle.prop_workbench.specs.inner.Questions.{RestsOn, MaySay}
 use Rattle.prop_workbench.specs.Reasons.{IsLeanAnswer}
@@ -29,9 +29,9 @@ IsDone value old command result new = Obeys (library_of value old) (state_of old
 abbrev pub HasLeft : {R O : Type 0} {X : Type 0} {F : X → Type 0} {g : _} → Session R O X F g → Command → Result ⊤ Refusal → Session R O X F g → Type 0
 HasLeft old command result new = Wakes (state_of old) (state_of new) (work_of old) (work_of new) (Ok (Some command)) (answer_done result)
 
--- the choices stand on the sides of the list, and no more was woken than has to, or all is as it was where it was refused
+-- the choices stand on the sides of the list, as many of them believed as before, and no more was woken than has to, or all is as it was where it was refused
 abbrev pub HasStirred : {R O : Type 0} {X : Type 0} {F : X → Type 0} {g : _} → Session R O X F g → List ℕ → Result ⊤ Refusal → Session R O X F g → Type 0
-HasStirred old list (Ok done) new = IsStirred (state_of old) (state_of new) list (work_of old) (work_of new)
+HasStirred old list (Ok done) new = IsStirred (state_of old) (state_of new) list old.search.level (work_of old) (work_of new)
 HasStirred old list (Err refusal) new = work_of new ≡ work_of old
 
 -- the command is answered so, after so many steps: as the machine may, as the run earned it, and the session keeps what it has to
@@ -48,9 +48,10 @@ pub record IsCarriedOut {R O : Type 0} {X : Type 0} {F : X → Type 0} {g : _} (
 
 -- ---- where the network was run
 
--- the network is at rest with the choices as they stand
-abbrev pub IsAtRest : {R O : Type 0} {X : Type 0} {F : X → Type 0} {g : _} → (R → Param → List Info → Info) → Session R O X F g → Type 0
-IsAtRest value s = IsSettled (library_of value s) (set_of s.search.worldview) s.network.cells
+-- the network is at rest with the choices as they stand, all of them believed
+pub record IsAtRest {R O : Type 0} {X : Type 0} {F : X → Type 0} {g : _} (value : R → Param → List Info → Info) (s : Session R O X F g) : Type 0 where
+  pub full : s.search.level ≡ length s.search.list
+  pub settled : IsSettled (library_of value s) (set_of s.search.worldview) s.network.cells
 
 -- the answer may be given to the command where a run of so many steps ended so, and left the session
 abbrev pub MayAnswer : {R O : Type 0} {X : Type 0} {F : X → Type 0} {g : _} → (R → Param → List Info → Info) → Session R O X F g → Command → Outcome → ℕ → Answer → Type 0
@@ -58,7 +59,7 @@ MayAnswer value s command end steps answer = MaySay (library_of value s) (state_
 
 -- no entry is used that is not needed where the command asks why
 abbrev pub IsLeanIn : {R O : Type 0} {X : Type 0} {F : X → Type 0} {g : _} → Session R O X F g → Command → Answer → Type 0
-IsLeanIn s command answer = IsLeanAnswer (set_of s.search.worldview) s.network.cells (state_of s) (Ok (Some command)) answer
+IsLeanIn s command answer = IsLeanAnswer (worldview_at (state_of s) s.search.list) s.network.cells (state_of s) (Ok (Some command)) answer
 
 -- the premises are in order, and the answer says the information of the cell, the mark and the premises
 abbrev pub SaysBecause : State → ℕ → List ℕ → List ℕ → Info → List ℕ → Answer → Type 0

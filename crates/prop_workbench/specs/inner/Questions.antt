@@ -1,5 +1,5 @@
 -- What a command that runs the network asks, and what may be said to it.
-use Rattle.std.specs.Prelude.{◌≡◌, ℕ, ◌+◌, ◌*◌, ◌≤◌, ◌<◌, List, Option, Some, Result, ⊤, ◌⊎◌}
+use Rattle.std.specs.Prelude.{◌≡◌, ℕ, ◌+◌, ◌*◌, ◌≤◌, ◌<◌, List, length, Option, Some, Result, ⊤, ◌⊎◌}
 use Rattle.prop_lattice.specs.declared.info.Info.{Info}
 use Rattle.prop_lattice.specs.declared.refusal.Refusal.{Refusal}
 use Rattle.prop_lattice.specs.declared.refusal.Refusal.TheVariants.{Memory}
@@ -49,6 +49,7 @@ IsNamed s (Why cell name) = cell_named s.names name.now ≡ Some cell
 pub record HasRun {R O : Type 0} {X : Type 0} {F : X → Type 0} {g : _} (value : R → Param → List Info → Info) (s : Session R O X F g) (end : ends.Outcome) (steps : ℕ) : Type 0 where
   pub ends : MayEnd (library_of value s) (state_of s) (outcome_of s.search.list end)
   pub covered : IfContradiction end (λ ps. IsCovered (search.choices_in s.search) s.search.listed (set_of ps))
+  pub full : end ≡ Settled → s.search.level ≡ length s.search.list
   pub settled : end ≡ Settled → IsSettled (library_of value s) (set_of s.search.worldview) s.network.cells
   pub within : steps ≤ (state_of s).limit
   pub few : steps < lists_count (choices_in (state_of s)) * (most_steps (problem_in (library_of value s) (state_of s)) + 1)

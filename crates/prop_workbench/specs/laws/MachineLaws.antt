@@ -11,11 +11,10 @@ use Rattle.prop_language.specs.Reading.{IsReading, AsRead}
 use Rattle.prop_language.proofs.ReadingLaws.{have_one_reading}
 use Rattle.prop_engine.specs.Lines.{kept_of}
 use Rattle.prop_engine.specs.Answers.{Answer, Silent, Refused}
-use Rattle.prop_workbench.specs.Machine.{State, naming}
+use Rattle.prop_workbench.specs.Machine.{State, naming, worldview_at}
 use Rattle.prop_workbench.specs.Steps.{Follows, Step}
 use Rattle.prop_workbench.specs.Engine.{workbench, working, Works}
 use Rattle.prop_workbench.specs.Questions.{Picks}
-use Rattle.prop_premises.specs.Sets.{set_of}
 use Rattle.prop_engine.specs.Machines.{AsksByPrefix, IsTotal}
 use Rattle.prop_workbench.specs.laws.RefusalLaws.{lean_refused, earns_refused, wakes_refused}
 
@@ -76,7 +75,7 @@ working_is_total {O} picks library old line = total (have_one_reading line).0 (h
       steps = 0;
       step = λ named covers. record { now = named; covers = covers; step = (read, is, follows (naming old.shown.state named)) };
       fits = λ f. f;
-      lean = (read, is, lean_refused (set_of old.work.search.worldview) old.work.cells old.shown.state read Memory);
+      lean = (read, is, lean_refused (worldview_at old.shown.state old.work.search.list) old.work.cells old.shown.state read Memory);
       earned = (read, is, earns_refused picks library old.shown.state old.work old.work read Memory 0);
       wakes = (read, is, wakes_refused old.shown.state old.shown.state old.work read Memory);
     }

@@ -1,4 +1,4 @@
-use Rattle.std.proofs.Common.{◌≡◌, ap, refl}
+use Rattle.std.proofs.Common.{◌≡◌, ap, refl, inr}
 use Rattle.prop_premises.specs.Sets.{set_of}
 use Rattle.prop_procedures.specs.Kept.{stored_of}
 use Rattle.prop_cells.specs.Data.{problem_of}
@@ -69,3 +69,12 @@ returns-in_ok-note-in-Clash-clause-refuted g c =
     let h = rw c.in-Clash.is at c.in_ok-end.ensures.conflict in
     met_noted (problem_of (stored_of g.R.Rule.value_of c.args.network.now.library) c.args.network.now.cells) c.args.search.now c.note.new.self.listed c.in_ok-copy-in-Clash.field-0 c.in-Clash.support c.note.new.self c.worldview.ensures.stand
     (conflict_in _ _ _ _ _ _ same (ap set_of c.worldview.ensures.same) refl h) c.in_ok-copy-in-Clash.ensures c.in_ok-note-in-Clash.ensures.adds c.in_ok-note-in-Clash.ensures.only (c.in_default.ensures.none refl)
+
+pub returns-in-Quiet-clause-most : goal.returns-in-Quiet-clause-most
+returns-in-Quiet-clause-most g c = inr (rw c.worldview.ensures.same at c.in_ok-end.ensures.most)
+
+pub returns-in-Spent-clause-most : goal.returns-in-Spent-clause-most
+returns-in-Spent-clause-most g c = inr (rw c.worldview.ensures.same at c.in_ok-end.ensures.most)
+
+pub returns-in_ok-note-in-Clash-clause-most : goal.returns-in_ok-note-in-Clash-clause-most
+returns-in_ok-note-in-Clash-clause-most g c = inr (rw c.worldview.ensures.same at c.in_ok-end.ensures.most)

@@ -40,7 +40,7 @@ returns-in_ok-passed-in-Against-clause-moves g c = λ _.
     let s = c.args.search.now in
     let may = met_moves s c.in-Refuted.nogood c.in-Against.place c.requires.stand (rw c.in-Refuted.is at c.requires.met) (rw c.in-Against.is at c.in_ok-premises.ensures.may) in
     let first : Passes s 1 c.advance.new.self =
-    goes_later s c.advance.new.self c.in-Against.place c.in-Against.reason may (rw c.in-Against.is at c.in_ok-premises.ensures.culprits) c.advance.ensures.premises c.advance.ensures.listed c.in_ok-before-in-Against.ensures.list c.in_ok-before-in-Against.ensures.reasons in
+    goes_later s c.advance.new.self c.in-Against.place c.in-Against.reason may (rw c.in-Against.is at c.in_ok-premises.ensures.culprits) c.advance.ensures.premises c.advance.ensures.listed c.in_ok-before-in-Against.ensures.list c.in_ok-before-in-Against.ensures.level c.in_ok-before-in-Against.ensures.reasons in
     let more = c.in_ok-passed-in-Against.field-0 in
     let e : 1 + more ≡ more + 1 = omega arith in
     subst (λ n. Passes s n c.pass-passed.new.search) e (passes_on first c.in_ok-passed-in-Against.ensures.moves)

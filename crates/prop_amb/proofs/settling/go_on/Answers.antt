@@ -49,4 +49,4 @@ returns-clause-moves c =
     let noted : Contains s.listed c.in_ok-believed.believed = rw c.in_ok-believed.ensures c.in-Some.ensures.listed in
     let believed : IsPart (set_of c.in_ok-believed.believed) (set_of s.worldview) = λ p t. within_has (set_of s.worldview) c.in-Some.blocking.now p c.in-Some.ensures.believed (rw c.in_ok-believed.ensures at t) in
     goes_later s c.advance.new.self c.in-Against.place c.in-Against.reason (may_move s c.in_ok-believed.believed c.in-Against.place c.in-Some.ensures.stand noted believed leaves) (rw c.in-Against.is at c.in_ok-resolve.ensures.culprits)
-    c.advance.ensures.premises c.advance.ensures.listed c.in_ok-advance-in-Against.ensures.list c.in_ok-advance-in-Against.ensures.reasons
+    c.advance.ensures.premises c.advance.ensures.listed c.in_ok-advance-in-Against.ensures.list c.in_ok-advance-in-Against.ensures.level c.in_ok-advance-in-Against.ensures.reasons

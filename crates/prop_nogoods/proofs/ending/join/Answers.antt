@@ -18,14 +18,14 @@ is c =
     got_left n c.room_for.new.endings.items c.drop_any_larger_everywhere.new.endings c.room_for.new.endings.len c.in_ok-place.place c.index_mut.result.now left
     c.room_for.new.endings.ok.0 c.index_mut.ensures.value
 
-pub push-requires-clause-ends_so : goal.push-requires-clause-ends_so
-push-requires-clause-ends_so c =
+pub add-requires-clause-ends_so : goal.add-requires-clause-ends_so
+add-requires-clause-ends_so c =
     let x = c.index_mut.result.now in
     let same = left_at c.args.nogood.now c.room_for.new.endings.items c.in_ok-place.place x c.in_ok-place.ensures.place (is c) in
     rw (ap (λ (g : Group). g.last) same ∙ c.in_ok-place.ensures.last x, c.in_ok-again.ensures) c.last.ensures
 
-pub push-requires-clause-room : goal.push-requires-clause-room
-push-requires-clause-room c =
+pub add-requires-clause-room : goal.add-requires-clause-room
+add-requires-clause-room c =
     let x = c.index_mut.result.now in
     left_room c.args.nogood.now c.room_for.new.endings.items c.in_ok-place.place x c.in_ok-place.ensures.place (is c) (c.in_ok-place.ensures.room x)
 
@@ -37,9 +37,9 @@ returns-clause-ok c =
     let x = c.index_mut.result.now in
     let left = c.drop_any_larger_everywhere.ensures ∙ ap (map (left_of n)) c.deref_mut.ensures.value in
     let is = got_left n gs mid c.room_for.new.endings.len c.in_ok-place.place x left c.room_for.new.endings.ok.0 c.index_mut.ensures.value in
-    let more = rw c.in_ok-again.ensures at c.push.ensures.sets in
+    let more = rw c.in_ok-again.ensures at c.add.ensures.sets in
     rw (left_written n gs mid c.room_for.new.endings.len left c.room_for.new.endings.ok.0)
-    (sets_of-joined _ gs n c.in_ok-place.place x c.push.new.self c.in_ok-place.ensures.same c.in_ok-place.ensures.place is more)
+    (sets_of-joined _ gs n c.in_ok-place.place x c.add.new.self c.in_ok-place.ensures.same c.in_ok-place.ensures.place is more)
 
 pub returns-clause-in_order : goal.returns-clause-in_order
 returns-clause-in_order c =
@@ -49,7 +49,7 @@ returns-clause-in_order c =
     let x = c.index_mut.result.now in
     let left = c.drop_any_larger_everywhere.ensures ∙ ap (map (left_of n)) c.deref_mut.ensures.value in
     let is = got_left n gs mid c.room_for.new.endings.len c.in_ok-place.place x left c.room_for.new.endings.ok.0 c.index_mut.ensures.value in
-    let more = rw c.in_ok-again.ensures at c.push.ensures.sets in
+    let more = rw c.in_ok-again.ensures at c.add.ensures.sets in
     rw (left_written n gs mid c.room_for.new.endings.len left c.room_for.new.endings.ok.0)
-    (in_order_joined gs n c.in_ok-place.place x c.push.new.self c.last.result c.in_ok-place.ensures.place is (c.in_ok-place.ensures.last x) c.last.ensures
-    c.push.ensures.last more c.in_ok-place.ensures.in_order)
+    (in_order_joined gs n c.in_ok-place.place x c.add.new.self c.last.result c.in_ok-place.ensures.place is (c.in_ok-place.ensures.last x) c.last.ensures
+    c.add.ensures.last more c.in_ok-place.ensures.in_order)

@@ -1,9 +1,8 @@
-use Rattle.std.proofs.Common.{◌≡◌, ◌∙◌, ◌<◌, ℕ, true, nat_eq, Option, None, Some, inl, inr, refl, ap, arith, get_or, length}
-use Rattle.std.specs.Option.{option_eq}
-use Rattle.std.proofs.lemmas.Bool.Decides.{eqb_tells}
+use Rattle.std.proofs.Common.{◌≡◌, ◌∙◌, ◌<◌, ap, arith, get_or, length}
 use Rattle.std.proofs.lemmas.List.{get_or_default}
 use Rattle.prop_nogoods.specs.inner.Endings.{Group}
 use Rattle.prop_nogoods.proofs.EndingLemmas.{sets_of-set_same, sets_of-insert_empty}
+use Rattle.prop_nogoods.proofs.AmongLemmas.{option_eq-itself}
 use Rattle.prop_nogoods.proofs.OrderLemmas.{IsPlaceFor, in_order_set_same, in_order_insert}
 use Rattle.prop_nogoods.proofs.ending.room_for.Goals as goal
 use Rattle.prop_nogoods.proofs.ending.room_for.Goals.{else-place-len-via-then-place-len+else-eq, else-place-len-via-else-place-len}
@@ -34,10 +33,6 @@ returns-in_ok-make_room-clause-in_order c =
     (c.in_ok-make_room.ensures.last ∙ ap (λ (g : Group). g.last) c.index_mut.ensures.value)
     (c.in_ok-make_room.ensures.same ∙ ap (λ (g : Group). g.sets) c.index_mut.ensures.value) c.requires
 
-equal : (o : Option ℕ) → option_eq nat_eq o o ≡ true
-equal None = refl
-equal (Some p) = elim (eqb_tells p p) [ inl e ↦ e.0 | inr e ↦ absurd (e.1 refl) ]
-
 -- the group that stands at the place ends otherwise
 other : (c : goal.In_ok-insert) (d : Group) → let gs = c.args.endings.now.items in let place = c.place_for-place.result in
     place < length gs → ¬ ((get_or gs place d).last ≡ c.args.last)
@@ -45,7 +40,7 @@ other c d l same = elim c.else-place-len.branch [
   | else-place-len-via-then-place-len+else-eq v ↦
       let read = v.index.ensures ∙ get_or_default c.args.endings.now.items c.place_for-place.result v.index.result.now d l in
       let is : v.last.result ≡ c.args.last = v.last.ensures ∙ ap (λ (g : Group). g.last) read ∙ same in
-      let tells = equal c.args.last in
+      let tells = option_eq-itself c.args.last in
       cc (v.eq.ensures, v.if-eq.false, is, tells)
   | else-place-len-via-else-place-len v ↦ omega arith
 ]

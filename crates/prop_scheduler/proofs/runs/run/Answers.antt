@@ -450,3 +450,19 @@ returns-in-Some-clash-clause-bounded g c =
     let rest = turn_rest library (set_of c.args.worldview.now) c.pick-place.result c.args.network.now.cells c.loop-steps.network.cells c.turn.new.network.cells c.loop-steps.agenda.line c.turn.new.agenda.line turn c.loop-steps.invariant.rest in
     let same = most_same library (stored_of g.R.Rule.value_of c.turn.new.network.library) c.args.network.now.cells c.turn.new.network.cells (ap (stored_of g.R.Rule.value_of) (c.turn.ensures.same ∙ c.loop-steps.invariant.same)) rest in
     omega (arith, most, c.in_ok-clash.ensures.falls, c.loop-steps.invariant.falls, same)
+
+pub returns-in-Some-clause-most : goal.returns-in-Some-clause-most
+returns-in-Some-clause-most g c =
+    under_way_within (stored_of g.R.Rule.value_of c.args.network.now.library) (set_of c.args.worldview.now) c.args.network.now.cells c.args.agenda.now c.waiting-waiting.ensures.line c.requires.under_way
+
+pub returns-in-Some-clash-clause-most : goal.returns-in-Some-clash-clause-most
+returns-in-Some-clash-clause-most g c =
+    under_way_within (stored_of g.R.Rule.value_of c.args.network.now.library) (set_of c.args.worldview.now) c.args.network.now.cells c.args.agenda.now c.waiting-waiting.ensures.line c.requires.under_way
+
+pub returns-then-waiting-eq0-clause-most : goal.returns-then-waiting-eq0-clause-most
+returns-then-waiting-eq0-clause-most g c =
+    under_way_within (stored_of g.R.Rule.value_of c.args.network.now.library) (set_of c.args.worldview.now) c.args.network.now.cells c.args.agenda.now c.waiting-waiting.ensures.line c.requires.under_way
+
+pub returns-clause-most : goal.returns-clause-most
+returns-clause-most g c =
+    under_way_within (stored_of g.R.Rule.value_of c.args.network.now.library) (set_of c.args.worldview.now) c.args.network.now.cells c.args.agenda.now c.waiting-waiting.ensures.line c.requires.under_way

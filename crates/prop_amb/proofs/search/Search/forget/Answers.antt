@@ -14,6 +14,7 @@ invariant_of-self c =
       few = kept.few;
       is_list = kept.is_list;
       reasoned = kept.reasoned;
+      level = kept.level;
       believes = kept.believes;
       minimal = rw c.purge.ensures (minimal_lacking c.args.premise c.self.inside.store kept.minimal);
     }
@@ -23,7 +24,7 @@ returns-clause-stand c = invariant_of-self c
 
 pub returns-clause-search : goal.returns-clause-search
 returns-clause-search c old new less h =
-    let restarted_is = c.self.view_is ∙ c.in_ok-restart.ensures.ok in
+    let restarted_is = c.self.view_is ∙ c.restart.ensures.only in
     let numbered : IsNumbered c.args.self.now.premises = subst IsNumbered (ap (λ (t : Stand). t.premises) restarted_is) c.self.invariant.numbered in
     rw c.purge.ensures
     (subst (IsSearch new) (sym (ap (λ (t : Stand). record t { listed = lacking t.listed c.args.premise }) restarted_is))

@@ -1,47 +1,26 @@
-use Rattle.std.proofs.Common.{◌≡◌, ◌∙◌, ap, sym, true, false}
-use Rattle.prop_premises.specs.Origins.{choices_of, with_belief_at}
+use Rattle.std.proofs.Common.{◌∙◌, ap, sym, subst, false, IsTrue}
+use Rattle.prop_premises.specs.Origins.{is_user_at, choices_of}
 use Rattle.prop_premises.proofs.ChoiceLemmas.{choices_of-with_belief_at}
-use Rattle.prop_premises.proofs.NumberingLaws.{is_user_at-with_belief_at, length-with_belief_at, numbered_belief}
-use Rattle.prop_amb.specs.Moving.{no_reasons}
+use Rattle.prop_premises.proofs.NumberingLaws.{length-with_belief_at, numbered_belief}
+use Rattle.prop_amb.specs.Search.{Stand, IsSearch}
+use Rattle.prop_amb.specs.contracts.search.Search.{the_view}
 use Rattle.prop_amb.proofs.KeepingLaws.{search_restarted}
-use Rattle.prop_amb.proofs.BelievingLaws.{belief_back, first_is_list, stand_restarted, reasons_forgotten}
+use Rattle.prop_amb.proofs.BelievingLaws.{kicked_believes, stand_believing}
 use Rattle.prop_amb.proofs.search.Search.kick.Goals as goal
-
-pub worldview-requires : goal.worldview-requires
-worldview-requires c =
-    rw (c.deref-2.ensures.value, c.in_ok-list.ensures, c.deref.ensures.value, c.kick.ensures.only, choices_of-with_belief_at c.self.inside.premises c.args.premise false)
-    (first_is_list (choices_of c.self.inside.premises) c.self.inside.list.items c.self.invariant.numbered.of_sides c.self.invariant.is_list)
 
 pub invariant_of-self : goal.invariant_of-self
 invariant_of-self c =
-    let same = ap choices_of c.kick.ensures.only ∙ choices_of-with_belief_at c.self.inside.premises c.args.premise false in
-    rw (reasons_forgotten c.self.inside.reasons.items c.forget.new.reasons c.self.inside.reasons.len c.self.inside.reasons.ok.0 (c.forget.ensures ∙ ap no_reasons c.deref_mut.ensures.value), c.in_ok-list.ensures, c.deref.ensures.value)
-    (stand_restarted _ c.kick.new.self c.replace.new.dest c.self.invariant
-    (rw c.kick.ensures.only (numbered_belief c.self.inside.premises c.args.premise false c.self.invariant.numbered))
-    (rw (c.kick.ensures.only, length-with_belief_at c.self.inside.premises c.args.premise false) c.self.invariant.few)
+    let premises = ap (λ (s : Stand). s.premises) (c.self-2.view_is ∙ c.restart.ensures.only) in
+    let user : IsTrue (is_user_at c.self-2.inside.premises c.args.premise) = rw premises c.requires in
+    let same = ap choices_of c.kick.ensures.only ∙ choices_of-with_belief_at c.self-2.inside.premises c.args.premise false in
+    stand_believing (the_view c.self-2.inside) c.kick.new.self c.disbelieve.new.self c.self-2.invariant
+    (rw c.kick.ensures.only (numbered_belief c.self-2.inside.premises c.args.premise false c.self-2.invariant.numbered))
+    (rw (c.kick.ensures.only, length-with_belief_at c.self-2.inside.premises c.args.premise false) c.self-2.invariant.few)
     same
-    (rw c.replace.ensures.after (rw (c.deref-2.ensures.value, c.in_ok-list.ensures, c.deref.ensures.value) at c.in-Ok.ensures)))
+    (kicked_believes (the_view c.self-2.inside) c.kick.new.self c.disbelieve.new.self c.args.premise c.self-2.invariant user same c.kick.ensures.beliefs c.disbelieve.ensures)
 
-pub bring-requires : goal.bring-requires
-bring-requires c =
-    rw (c.kick.ensures.only, is_user_at-with_belief_at c.self.inside.premises c.args.premise false c.args.premise) (rw (← c.self.view_is) at c.requires)
-
-as_before : (c : goal.After-bring) → c.bring.new.self ≡ c.self.inside.premises
-as_before c =
-    c.bring.ensures.only ∙ ap (λ os. with_belief_at os c.args.premise true) c.kick.ensures.only
-    ∙ belief_back c.self.inside.premises c.args.premise false true (sym c.if-not-is_in.ensures)
-
-pub invariant_of-self-in-Err : goal.invariant_of-self-in-Err
-invariant_of-self-in-Err c = rw (as_before c) c.self.invariant
-
-pub returns-in-Ok-clause-search : goal.returns-in-Ok-clause-search
-returns-in-Ok-clause-search c problem h =
-    let same = ap choices_of c.kick.ensures.only ∙ choices_of-with_belief_at c.self.inside.premises c.args.premise false in
-    rw (reasons_forgotten c.self.inside.reasons.items c.forget.new.reasons c.self.inside.reasons.len c.self.inside.reasons.ok.0 (c.forget.ensures ∙ ap no_reasons c.deref_mut.ensures.value), c.in_ok-list.ensures, c.deref.ensures.value)
-    (search_restarted problem _ c.kick.new.self c.replace.new.dest same (rw (← c.self.view_is) at h))
-
-pub returns-in-Err-clause-err : goal.returns-in-Err-clause-err
-returns-in-Err-clause-err c = rw (as_before c) c.self.view_is
-
-pub returns-in-Err-clause-search : goal.returns-in-Err-clause-search
-returns-in-Err-clause-search c problem h = rw (as_before c, c.self.view_is) h
+pub returns-clause-search : goal.returns-clause-search
+returns-clause-search c problem h =
+    let is = c.self-2.view_is ∙ c.restart.ensures.only in
+    let same = ap choices_of c.kick.ensures.only ∙ choices_of-with_belief_at c.self-2.inside.premises c.args.premise false ∙ ap (λ (s : Stand). choices_of s.premises) is in
+    subst (λ (s : Stand). IsSearch problem (record s { premises = c.kick.new.self; worldview = c.disbelieve.new.self })) (sym is) (search_restarted problem _ c.kick.new.self c.disbelieve.new.self same h)

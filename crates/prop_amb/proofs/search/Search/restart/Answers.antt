@@ -1,22 +1,34 @@
-use Rattle.std.proofs.Common.{◌∙◌, ap, refl}
-use Rattle.prop_premises.specs.Origins.{choices_of}
-use Rattle.prop_amb.specs.Moving.{no_reasons}
+use Rattle.std.proofs.Common.{◌≡◌, ◌∙◌, ap, refl, arith, length}
+use Rattle.prop_amb.specs.Moving.{first_sides, level_first, no_reasons}
+use Rattle.prop_amb.specs.Search.{users_of}
+use Rattle.prop_amb.specs.contracts.search.Search.{the_view}
+use Rattle.prop_amb.proofs.AdvancingLaws.{written}
 use Rattle.prop_amb.proofs.KeepingLaws.{search_restarted}
-use Rattle.prop_amb.proofs.BelievingLaws.{first_is_list, stand_restarted, reasons_forgotten}
+use Rattle.prop_amb.proofs.LevelLaws.{level_first_few, firsts_length}
+use Rattle.prop_amb.proofs.BelievingLaws.{stand_restarted, reasons_forgotten}
+use Rattle.prop_amb.proofs.StandLaws.{users_no_sides}
 use Rattle.prop_amb.proofs.search.Search.restart.Goals as goal
 
-pub worldview-requires : goal.worldview-requires
-worldview-requires c =
-    rw (c.deref-2.ensures.value, c.in_ok-list.ensures, c.deref.ensures.value)
-    (first_is_list (choices_of c.self.inside.premises) c.self.inside.list.items c.self.invariant.numbered.of_sides c.self.invariant.is_list)
+pub leave-requires-clause-from : goal.leave-requires-clause-from
+leave-requires-clause-from c =
+    let few = (level_first_few c.self.inside.level c.deref.result.now).0 in
+    omega (arith, few, c.level_first-level.ensures)
 
 pub invariant_of-self : goal.invariant_of-self
 invariant_of-self c =
-    rw (reasons_forgotten c.self.inside.reasons.items c.forget.new.reasons c.self.inside.reasons.len c.self.inside.reasons.ok.0 (c.forget.ensures ∙ ap no_reasons c.deref_mut.ensures.value), c.in_ok-list.ensures, c.deref.ensures.value)
-    (stand_restarted _ c.self.inside.premises c.in_ok-worldview.worldview c.self.invariant c.self.invariant.numbered c.self.invariant.few refl
-    (rw (c.deref-2.ensures.value, c.in_ok-list.ensures, c.deref.ensures.value) at c.in_ok-worldview.ensures))
+    let level_is : c.level_first-level.result ≡ level_first c.self.inside.level c.self.inside.list.items = rw c.deref.ensures.value at c.level_first-level.ensures in
+    let list_is : c.put_first.new.list ≡ first_sides c.self.inside.list.items = rw c.deref_mut.ensures.value at c.put_first.ensures in
+    let listed = written c.self.inside.list.items c.put_first.new.list c.self.inside.list.len (omega (arith, ap length list_is, firsts_length c.self.inside.list.items, c.self.inside.list.ok)) ∙ list_is in
+    let forgotten = reasons_forgotten c.self.inside.reasons.items c.forget.new.reasons c.self.inside.reasons.len c.self.inside.reasons.ok.0 (c.forget.ensures ∙ ap no_reasons c.deref_mut-2.ensures.value) in
+    let left = rw (c.choices-choices.ensures, c.deref-2.ensures.value, level_is) at c.leave.ensures in
+    rw (listed, forgotten, level_is)
+    (stand_restarted (the_view c.self.inside) c.self.inside.premises c.leave.new.believed c.self.invariant c.self.invariant.numbered c.self.invariant.few refl
+    (left (users_of (the_view c.self.inside)) (users_no_sides (the_view c.self.inside) c.self.invariant) c.self.invariant.believes))
 
 pub returns-clause-search : goal.returns-clause-search
 returns-clause-search c problem h =
-    rw (reasons_forgotten c.self.inside.reasons.items c.forget.new.reasons c.self.inside.reasons.len c.self.inside.reasons.ok.0 (c.forget.ensures ∙ ap no_reasons c.deref_mut.ensures.value), c.in_ok-list.ensures, c.deref.ensures.value)
-    (search_restarted problem _ c.self.inside.premises c.in_ok-worldview.worldview refl (rw (← c.self.view_is) at h))
+    let level_is : c.level_first-level.result ≡ level_first c.self.inside.level c.self.inside.list.items = rw c.deref.ensures.value at c.level_first-level.ensures in
+    let list_is : c.put_first.new.list ≡ first_sides c.self.inside.list.items = rw c.deref_mut.ensures.value at c.put_first.ensures in
+    let listed = written c.self.inside.list.items c.put_first.new.list c.self.inside.list.len (omega (arith, ap length list_is, firsts_length c.self.inside.list.items, c.self.inside.list.ok)) ∙ list_is in
+    let forgotten = reasons_forgotten c.self.inside.reasons.items c.forget.new.reasons c.self.inside.reasons.len c.self.inside.reasons.ok.0 (c.forget.ensures ∙ ap no_reasons c.deref_mut-2.ensures.value) in
+    rw (listed, forgotten, level_is) (search_restarted problem (the_view c.self.inside) c.self.inside.premises c.leave.new.believed refl (rw (← c.self.view_is) at h))

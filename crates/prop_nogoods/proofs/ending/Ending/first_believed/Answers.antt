@@ -9,14 +9,14 @@ use Rattle.prop_nogoods.proofs.ending.Ending.first_believed.Goals.{then-last-fro
 pub returns-in_err-last-clause-none : goal.returns-in_err-last-clause-none
 returns-in_err-last-clause-none c none =
     let is : c.self.inside.last ≡ None = search rules in
-    rw (← c.self.view_is) (ends_below (set_of c.args.worldview.now) None c.args.from c.self.inside.nogoods.items (omega arith) (rw is at c.self.invariant))
+    rw (← c.self.view_is) (ends_below (set_of c.args.worldview.now) None c.args.from c.self.inside.nogoods.items (omega arith) (rw is at c.self.invariant.0))
 
 pub returns-then-last-from-clause-none : goal.returns-then-last-from-clause-none
 returns-then-last-from-clause-none c none =
     let w = set_of c.args.worldview.now in
     let sets = c.self.inside.nogoods.items in
     let is : c.self.inside.last ≡ Some c.in_ok-last.last = search rules in
-    let ends : All (EndsSo (Some c.in_ok-last.last)) sets = rw is at c.self.invariant in
+    let ends : All (EndsSo (Some c.in_ok-last.last)) sets = rw is at c.self.invariant.0 in
     rw (← c.self.view_is) (elim c.then-last-from.branch [
       | then-last-from-via-then-last-from v ↦
           let early = v.if-last-from.true in

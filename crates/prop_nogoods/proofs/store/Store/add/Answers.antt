@@ -1,4 +1,4 @@
-use Rattle.std.proofs.Common.{◌≡◌, ◌≤◌, refl, false, length}
+use Rattle.std.proofs.Common.{◌≡◌, ◌∙◌, ◌≤◌, refl, sym, false, length}
 use Rattle.std.specs.List.Sorted.{IsStrictlyIncreasing}
 use Rattle.prop_premises.specs.Sets.{set_of}
 use Rattle.prop_nogoods.specs.Stores.{has_part, staying}
@@ -9,34 +9,30 @@ use Rattle.prop_nogoods.proofs.StoreLemmas.{joined, joined_behind, adds_joined, 
 use Rattle.prop_nogoods.proofs.store.Store.add.Goals as goal
 
 pub has_larger-has_larger-requires : goal.has_larger-has_larger-requires
-has_larger-has_larger-requires c =
-    let none : has_part c.self.inside.nogoods.items (set_of c.args.nogood) ≡ false = cc (c.has_part.ensures, c.if-has_part.false, c.deref.ensures.value, c.new-nogood.ensures) in
-    record {
-      by_size = rw (c.deref-2.ensures.value, c.in_ok-reserve.ensures.items) c.self.invariant.2;
-      in_order = rw (← c.nogood.view_is) c.nogood.invariant.1;
-      no_part = rw (c.deref-2.ensures.value, c.in_ok-reserve.ensures.items, c.new-nogood.ensures) none;
-    }
+has_larger-has_larger-requires c = record {
+  in_order = rw (← c.nogood.view_is) c.nogood.invariant.1;
+  no_part = sym c.has_part.ensures ∙ c.if-has_part.false;
+}
 
 pub join-requires : goal.join-requires
 join-requires c = record {
   in_order = c.self.invariant.4;
   none = λ e.
-      let of_none : IsPartOfNone c.self.inside.nogoods.items c.args.nogood =
-      rw (c.deref-2.ensures.value, c.in_ok-reserve.ensures.items, c.new-nogood.ensures) at (c.has_larger-has_larger.ensures e) in
+      let of_none : IsPartOfNone c.self.inside.nogoods.items c.args.nogood = rw (← c.self.view_is, c.new-nogood.ensures) at (c.has_larger-has_larger.ensures e) in
       rw c.new-nogood.ensures (part_of_none-same c.self.inside.nogoods.items (sets_of c.self.inside.by_last.items) c.args.nogood c.self.invariant.3 of_none);
 }
 
 pub drop_any_larger-requires : goal.drop_any_larger-requires
-drop_any_larger-requires c = record { none = λ e. rw c.deref-2.ensures.value at (c.has_larger-has_larger.ensures e) }
+drop_any_larger-requires c = record { none = λ e. rw (c.in_ok-reserve.ensures.items, c.self.view_is) (c.has_larger-has_larger.ensures e) }
 
 pub place_of-place-requires : goal.place_of-place-requires
 place_of-place-requires c =
-    let left : c.deref-3.result.now ≡ staying c.self.inside.nogoods.items c.args.nogood =
-    rw (c.deref-3.ensures.value, c.drop_any_larger.ensures.left, c.in_ok-reserve.ensures.items, c.new-nogood.ensures) refl in
+    let left : c.deref.result.now ≡ staying c.self.inside.nogoods.items c.args.nogood =
+    rw (c.deref.ensures.value, c.drop_any_larger.ensures.left, c.in_ok-reserve.ensures.items, c.new-nogood.ensures) refl in
     rw left (by_size_kept c.self.inside.nogoods.items c.args.nogood c.self.invariant.2)
 
-left : (c : goal.In_ok-insert) → c.deref-3.result.now ≡ staying c.self.inside.nogoods.items c.args.nogood
-left c = rw (c.deref-3.ensures.value, c.drop_any_larger.ensures.left, c.in_ok-reserve.ensures.items, c.new-nogood.ensures) refl
+left : (c : goal.In_ok-insert) → c.deref.result.now ≡ staying c.self.inside.nogoods.items c.args.nogood
+left c = rw (c.deref.ensures.value, c.drop_any_larger.ensures.left, c.in_ok-reserve.ensures.items, c.new-nogood.ensures) refl
 
 now : (c : goal.In_ok-insert) → c.insert.new.self.items ≡ joined c.self.inside.nogoods.items c.args.nogood c.place_of-place.result
 now c = rw (c.in_ok-insert.ensures.items, c.drop_any_larger.ensures.left, c.in_ok-reserve.ensures.items, c.new-nogood.ensures) refl
@@ -50,7 +46,7 @@ returns-clause-adds c = rw (now c, ← c.self.view_is) (adds_joined c.self.insid
 pub returns-clause-minimal : goal.returns-clause-minimal
 returns-clause-minimal c =
     let old = c.self.inside.nogoods.items in
-    let none : has_part old (set_of c.args.nogood) ≡ false = cc (c.has_part.ensures, c.if-has_part.false, c.deref.ensures.value, c.new-nogood.ensures) in
+    let none : has_part old (set_of c.args.nogood) ≡ false = cc (c.has_part.ensures, c.if-has_part.false, c.self.view_is, c.new-nogood.ensures) in
     rw (now c) (minimal_joined old c.args.nogood c.place_of-place.result (inside c) none c.self.invariant.0)
 
 pub returns-clause-in_order : goal.returns-clause-in_order

@@ -1,13 +1,12 @@
 use Rattle.std.proofs.Common.{ap, Ok, Some, subst, sym}
 use Rattle.prop_procedures.specs.Kept.{stored_of}
-use Rattle.prop_premises.specs.Sets.{Members}
 use Rattle.prop_workbench.specs.Machine.{State, worldview_at}
 use Rattle.prop_workbench.specs.Reasons.{IsLeanAnswer}
 use Rattle.prop_engine.specs.Answers.{answer_of}
 use Rattle.prop_workbench.specs.inner.Questions.{command_of, IsNamed}
 use Rattle.prop_workbench.specs.Questions.{outcome_of}
 use Rattle.prop_workbench.specs.Sessions.{state_of, shown_of, work_of}
-use Rattle.prop_workbench.proofs.AskLemmas.{believes_same, carries, free}
+use Rattle.prop_workbench.proofs.AskLemmas.{carries, free}
 use Rattle.prop_workbench.proofs.AnsweredLemmas.{memory_answered}
 use Rattle.prop_workbench.proofs.EarnedLemmas.{earns}
 use Rattle.prop_workbench.proofs.WakingLemmas.{wakes_asked}
@@ -37,8 +36,7 @@ returns-in-Ok g c =
           (free library (state_of s) c.args.question c.requires.named) state kept.covers
           (covered_end (shown_of t) t.search.list c.in-Ok.end said.covered) (rw (kept.library, state) at said.ends) (rw (kept.library, state) at c.reply_to.ensures.says) (rw (ap (λ (u : State). u.limit) state) at said.within);
       rests = record {
-        lean = subst (λ (u : State). IsLeanAnswer (worldview_at u t.search.list) t.network.cells u (Ok (Some (command_of c.args.question))) (answer_of c.reply_to.result)) state
-            (subst (λ (b : Members). IsLeanAnswer b t.network.cells (state_of t) (Ok (Some (command_of c.args.question))) (answer_of c.reply_to.result)) (believes_same t.search kept.sound.at_work.well_made) c.reply_to.ensures.lean);
+        lean = subst (λ (u : State). IsLeanAnswer (worldview_at u t.search.list) t.network.cells u (Ok (Some (command_of c.args.question))) (answer_of c.reply_to.result)) state c.reply_to.ensures.lean;
         earned = earns _ library (state_of s) (work_of s) (work_of t) c.args.question c.in-Ok.end c.in-Ok.steps _ c.in-Ok.ensures.gone c.in-Ok.ensures.left (rw state at c.reply_to.ensures.believed) c.in-Ok.ensures.blamed (rw (kept.library, state) at c.reply_to.ensures.says);
         wakes = wakes_asked (state_of s) (state_of t) (work_of s) (work_of t) c.args.question (answer_of c.reply_to.result);
       };

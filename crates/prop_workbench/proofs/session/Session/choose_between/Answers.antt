@@ -81,6 +81,7 @@ returns-in-Ok-state_sides-clause-stirred g c =
     let line = stirred_from (set_of s.search.worldview) (set_of new.worldview) (set_of new.worldview) d c.state_sides.new.network.cells s.agenda.line c.state_sides.new.agenda.line same (rw c.worldview.ensures.same at c.in-Ok-state_sides.ensures.stirred) in
     record {
       list_is = ap (λ (t : Stand). t.list) made;
+      level_is = ap (λ (t : Stand). t.level) made;
       order = refl;
       line = rw (believes_same s.search work.well_made, believes_same new c.worldview.ensures.stand) at line;
     }

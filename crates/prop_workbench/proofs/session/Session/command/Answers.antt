@@ -5,7 +5,7 @@ use Rattle.prop_procedures.specs.Kept.{stored_of}
 use Rattle.prop_workbench.specs.Machine.{State, naming}
 use Rattle.prop_workbench.specs.Sessions.{state_of, shown_of, work_of, steps_of}
 use Rattle.prop_workbench.proofs.EarnedLemmas.{earns_none}
-use Rattle.prop_workbench.proofs.LineLemmas.{covers_none, still_lacking, step_of_read, lean_after}
+use Rattle.prop_workbench.proofs.LineLemmas.{covers_none, still_lacking, step_of_read}
 use Rattle.prop_workbench.proofs.StepLemmas.{lacking_same, steps_within}
 use Rattle.prop_workbench.proofs.session.Session.command.Goals as goal
 
@@ -68,24 +68,10 @@ returns-clause-wakes g c =
 
 pub returns-then-is_memory-clause-lean : goal.returns-then-is_memory-clause-lean
 returns-then-is_memory-clause-lean g c =
-    let s = c.args.self.now in
     let read = c.follow-reply.ensures.read in
-    let new = c.follow-reply.new.self in
-    let on = read.2.step [] (covers_none (shown_of s)) in (
-      read.0,
-      read.1,
-      lean_after (stored_of g.R.Rule.value_of s.network.library) (state_of s) (naming (state_of new) on.now) new.search.worldview new.search.list new.network.cells read.0 (answer_of c.follow-reply.result.0) c.follow-reply.result.1 on.step
-          c.follow-reply.ensures.keeps.sound.at_work.well_made.believes read.2.rests.lean,
-    )
+    (read.0, read.1, read.2.rests.lean)
 
 pub returns-clause-lean : goal.returns-clause-lean
 returns-clause-lean g c =
-    let s = c.args.self.now in
     let read = c.follow-reply.ensures.read in
-    let new = c.follow-reply.new.self in
-    let on = read.2.step [] (covers_none (shown_of s)) in (
-      read.0,
-      read.1,
-      lean_after (stored_of g.R.Rule.value_of s.network.library) (state_of s) (naming (state_of new) on.now) new.search.worldview new.search.list new.network.cells read.0 (answer_of c.follow-reply.result.0) c.follow-reply.result.1 on.step
-          c.follow-reply.ensures.keeps.sound.at_work.well_made.believes read.2.rests.lean,
-    )
+    (read.0, read.1, read.2.rests.lean)

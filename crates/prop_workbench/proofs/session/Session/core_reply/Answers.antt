@@ -9,7 +9,7 @@ use Rattle.prop_workbench.proofs.SoundLemmas.{unchanged}
 use Rattle.prop_workbench.proofs.session.Session.core_reply.Goals as goal
 
 pub reduced-requires-clause-rest : goal.reduced-requires-clause-rest
-reduced-requires-clause-rest g c = c.requires.run.settled c.in-Settled.is
+reduced-requires-clause-rest g c = record { full = c.requires.run.full c.in-Settled.is; settled = c.requires.run.settled c.in-Settled.is }
 
 pub reduced-requires-clause-within : goal.reduced-requires-clause-within
 reduced-requires-clause-within g c = c.requires.run.within

@@ -16,13 +16,11 @@ said_because-requires-clause-known g c =
 pub returns-clause-explained : goal.returns-clause-explained
 returns-clause-explained g c =
     let s = c.args.self.now in
-    let worldview = c.worldview.ensures.same in
-    explained_by (stored_of g.R.Rule.value_of s.network.library) s.names s.words s.definitions s.search.premises s.network.cells s.limit (set_of s.search.worldview) c.args.cell c.in-Ok.why.value c.args.name.now c.args.mark.now c.in-Ok.why.support
-    (because s.search.premises c.args.mark.now c.in-Ok.why.support) _ (rw worldview at c.in-Ok.ensures.value) c.said_because.ensures.0 (rw worldview at c.in-Ok.ensures.explains) refl c.said_because.ensures.1
+    explained_by (stored_of g.R.Rule.value_of s.network.library) s.names s.words s.definitions s.search.premises s.network.cells s.limit (set_of c.args.worldview.now) c.args.cell c.in-Ok.why.value c.args.name.now c.args.mark.now c.in-Ok.why.support
+    (because s.search.premises c.args.mark.now c.in-Ok.why.support) _ c.in-Ok.ensures.value c.said_because.ensures.0 c.in-Ok.ensures.explains refl c.said_because.ensures.1
 
 pub returns-clause-lean : goal.returns-clause-lean
 returns-clause-lean g c =
     let s = c.args.self.now in
-    let worldview = c.worldview.ensures.same in
-    lean_explained (set_of s.search.worldview) s.names s.words s.definitions s.search.premises s.network.cells s.limit c.args.cell c.in-Ok.why.value c.args.name.now c.args.mark.now c.in-Ok.why.support
-    (because s.search.premises c.args.mark.now c.in-Ok.why.support) _ (rw worldview at c.in-Ok.ensures.value) (rw worldview at c.in-Ok.ensures.lean) refl c.said_because.ensures.1
+    lean_explained (set_of c.args.worldview.now) s.names s.words s.definitions s.search.premises s.network.cells s.limit c.args.cell c.in-Ok.why.value c.args.name.now c.args.mark.now c.in-Ok.why.support
+    (because s.search.premises c.args.mark.now c.in-Ok.why.support) _ c.in-Ok.ensures.value c.in-Ok.ensures.lean refl c.said_because.ensures.1

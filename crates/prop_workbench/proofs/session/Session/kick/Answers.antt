@@ -65,7 +65,7 @@ returns-clause-wakes g c =
     let before : c.in-Some.before ≡ s.search.worldview = rw c.in-Some.is at c.in_ok-before.ensures.before in
     let stirred = touched_stirred (set_of c.in-Some.before) (set_of c.worldview.result.now) d d s.agenda.line c.alert_shifted.new.agenda.line c.alert_shifted.ensures.shifted.behind in
     let line = rw (before, c.worldview.ensures.same, believes_same s.search c.requires.sound.at_work.well_made, believes_same new c.worldview.ensures.stand) at stirred in
-    rw (found, was) record { list_is = ap (λ (t : Stand). t.list) made; order = refl; line = line }
+    rw (found, was) record { list_is = ap (λ (t : Stand). t.list) made; level_is = ap (λ (t : Stand). t.level) made; order = refl; line = line }
 
 pub returns-in_default-clause-wakes : goal.returns-in_default-clause-wakes
 returns-in_default-clause-wakes g c =

@@ -8,7 +8,7 @@ use Rattle.prop_engine.specs.Answers.{answer_of}
 use Rattle.prop_workbench.specs.inner.Carrying.{SaysBecause}
 use Rattle.prop_workbench.specs.Machine.{State}
 use Rattle.prop_workbench.specs.Sessions.{state_from, state_of}
-use Rattle.prop_workbench.proofs.AskLemmas.{believes_same, cell_there}
+use Rattle.prop_workbench.proofs.AskLemmas.{believes_whole, cell_there}
 use Rattle.prop_workbench.proofs.CoreLemmas.{core_known, rested_keeps, may_core, settled_core, too_few, used_up}
 use Rattle.prop_workbench.proofs.session.Session.reduced.Goals as goal
 
@@ -31,7 +31,7 @@ pub reduce-ended-requires-clause-cell : goal.reduce-ended-requires-clause-cell
 reduce-ended-requires-clause-cell g c = cell_there c.args.self.now c.args.name.now c.args.cell c.requires.sound c.requires.named
 
 pub reduce-ended-requires-clause-settled : goal.reduce-ended-requires-clause-settled
-reduce-ended-requires-clause-settled g c = rw c.worldview.ensures.same c.requires.rest
+reduce-ended-requires-clause-settled g c = rw c.worldview.ensures.same c.requires.rest.settled
 
 pub core_text-requires-clause-cell : goal.core_text-requires-clause-cell
 core_text-requires-clause-cell g c = rw c.reduce-ended.ensures.rest (cell_there c.args.self.now c.args.name.now c.args.cell c.requires.sound c.requires.named)
@@ -61,8 +61,8 @@ returns-in-Ok-clause-says g c =
     let name = c.args.name.now in
     let answer = answer_of c.core_text.result in
     let same = c.worldview.ensures.same ∙ refl in
-    let believed = believes_same s.search c.requires.sound.at_work.well_made in
-    let rest = subst (λ (b : Members). IsSettled library b s.network.cells) believed c.requires.rest in
+    let believed = believes_whole s.search c.requires.sound.at_work.well_made c.requires.rest.full in
+    let rest = subst (λ (b : Members). IsSettled library b s.network.cells) believed c.requires.rest.settled in
     let state : state_of (record s { network = c.reduce-ended.new.network }) ≡ state_of s = ap (λ (d : Data). state_from s.names s.words s.definitions s.search.premises d s.limit) c.reduce-ended.ensures.rest in
     may_core library (state_of s) s.search.list name c.args.cell core answer (c.args.steps + c.in-Ok.tries) c.requires.named
     (settled_core library s.names s.words s.definitions s.search.premises s.network.cells s.limit s.search.list (set_of s.search.worldview) c.args.cell core c.requires.sound.at_work.under_way.kept believed rest (rw c.worldview.ensures.same at c.in-Ok.ensures.explains))
@@ -78,7 +78,7 @@ pub returns-in-Ok-clause-tried : goal.returns-in-Ok-clause-tried
 returns-in-Ok-clause-tried g c =
     let s = c.args.self.now in
     let e = c.in-Ok.ensures in
-    let believed = believes_same s.search c.requires.sound.at_work.well_made in
+    let believed = believes_whole s.search c.requires.sound.at_work.well_made c.requires.rest.full in
     let tries = rw (c.worldview.ensures.same, believed) at e.tries.1 in
     λ text is. (c.in-Ok.tries, refl, record { search = refl; line = e.tries.0; tries = tries; all_wait = c.reduce-ended.ensures.all })
 

@@ -1,6 +1,6 @@
 use Rattle.std.proofs.Common.{◌≡◌, ◌∙◌, sym}
 use Rattle.prop_amb.specs.declared.outcome.Outcome.TheVariants as ended
-use Rattle.prop_premises.specs.Sets.{set_of}
+use Rattle.prop_workbench.specs.Machine.{worldview_at}
 use Rattle.prop_procedures.specs.Kept.{stored_of}
 use Rattle.prop_workbench.specs.inner.Questions.{command_of}
 use Rattle.prop_workbench.specs.Running.{MayEnd, Contradiction}
@@ -13,7 +13,7 @@ pub settled-requires-clause-sound : goal.settled-requires-clause-sound
 settled-requires-clause-sound g c = c.requires.sound
 
 pub settled-requires-clause-rest : goal.settled-requires-clause-rest
-settled-requires-clause-rest g c = c.requires.run.settled c.in-Settled.is
+settled-requires-clause-rest g c = record { full = c.requires.run.full c.in-Settled.is; settled = c.requires.run.settled c.in-Settled.is }
 
 pub unsettled-requires-clause-sound : goal.unsettled-requires-clause-sound
 unsettled-requires-clause-sound g c = c.requires.sound
@@ -39,7 +39,7 @@ returns-in-Contradiction-clause-says g c =
 pub returns-in-Contradiction-clause-lean : goal.returns-in-Contradiction-clause-lean
 returns-in-Contradiction-clause-lean g c =
     let s = c.args.self.now in
-    lean_contradicted (set_of s.search.worldview) s.network.cells (state_of s) c.args.question _ (contradiction_said (state_of s) c.in-Contradiction.premises _ (rw c.premises.ensures at c.contradiction_reply.ensures.says))
+    lean_contradicted (worldview_at (state_of s) s.search.list) s.network.cells (state_of s) c.args.question _ (contradiction_said (state_of s) c.in-Contradiction.premises _ (rw c.premises.ensures at c.contradiction_reply.ensures.says))
 
 pub returns-in-Unsettled-clause-says : goal.returns-in-Unsettled-clause-says
 returns-in-Unsettled-clause-says g c = rw (c.requires.run.spent c.in-Unsettled.is, c.in-Unsettled.is) c.unsettled.ensures.says

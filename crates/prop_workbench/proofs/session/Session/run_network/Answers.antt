@@ -41,4 +41,4 @@ returns-clause-run g c =
     let library = stored_of g.R.Rule.value_of s.network.library in
     let library' = stored_of g.R.Rule.value_of t.network.library in
     let problem = same_problem library library' s.network.cells t.network.cells (λ i. stored_of g.R.Rule.value_of (e.same i)) e.rest in
-    has_run g.R.Rule.value_of _ s.search.list _ c.settle.result (sym problem) (rw (← e.same) at e.under_way.kept) e.stand e.earlier (rw (← e.same) at e.settled) e.first e.contradiction e.steps e.moves e.spent e.earned
+    has_run g.R.Rule.value_of _ s.search.list _ c.settle.result (sym problem) (rw (← e.same) at e.under_way.kept) e.stand e.earlier e.full (rw (← e.same) at e.settled) e.first e.contradiction e.steps e.moves e.spent e.earned

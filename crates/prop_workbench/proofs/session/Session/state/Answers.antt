@@ -50,7 +50,7 @@ returns-in_err-state-clause-keeps g c =
 pub returns-clause-stirred : goal.returns-clause-stirred
 returns-clause-stirred g c =
     let s = c.args.self.now in
-    record { list_is = refl; order = refl; line = rw (c.worldview.ensures.same, believes_same s.search c.requires.sound.at_work.well_made) at c.in_ok-state.ensures.stirred }
+    record { list_is = refl; level_is = refl; order = refl; line = rw (c.worldview.ensures.same, believes_same s.search c.requires.sound.at_work.well_made) at c.in_ok-state.ensures.stirred }
 
 pub returns-in_err-state-clause-stirred : goal.returns-in_err-state-clause-stirred
 returns-in_err-state-clause-stirred g c =

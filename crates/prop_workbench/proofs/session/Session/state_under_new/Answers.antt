@@ -81,6 +81,7 @@ returns-in-Ok-state-clause-stirred g c =
     let line = stirred_from (set_of s.search.worldview) (set_of new.worldview) (set_of new.worldview) d c.state.new.network.cells s.agenda.line c.state.new.agenda.line same (rw c.worldview.ensures.same at c.in-Ok-state.ensures.stirred) in
     record {
       list_is = ap (λ (t : Stand). t.list) (made ∙ new_stand s.search c.args.name.now c.requires.new);
+      level_is = ap (λ (t : Stand). t.level) (made ∙ new_stand s.search c.args.name.now c.requires.new);
       order = refl;
       line = rw (believes_same s.search work.well_made, believes_same new c.worldview.ensures.stand) at line;
     }

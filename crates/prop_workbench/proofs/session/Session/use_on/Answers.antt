@@ -15,8 +15,7 @@ use Rattle.prop_workbench.proofs.SoundLemmas.{made_or_not, unchanged}
 use Rattle.prop_workbench.proofs.RefusedLemmas.{unexpanded, no_room, with_room}
 use Rattle.prop_cells.specs.Problems.{Premises}
 use Rattle.prop_scheduler.specs.Shifts.{AreStirred}
-use Rattle.prop_workbench.specs.Machine.{worldview_at}
-use Rattle.prop_workbench.specs.Waking.{IsStirred}
+use Rattle.prop_workbench.specs.Waking.{IsStirred, believed_at}
 use Rattle.prop_workbench.specs.Sessions.{work_of}
 use Rattle.prop_workbench.proofs.WakingLemmas.{stirred_or_not, on_err_both}
 use Rattle.prop_workbench.proofs.session.Session.use_on.Goals as goal
@@ -108,7 +107,7 @@ pub returns-in-Ok-clause-stirred : goal.returns-in-Ok-clause-stirred
 returns-in-Ok-clause-stirred g c =
     let s = c.args.self.now in
     let new = record s { network = c.make.new.network; agenda = c.make.new.agenda } in
-    let stirs : ((a b : Premises) → AreStirred a b s.network.cells new.network.cells s.agenda.line new.agenda.line) → IsStirred (state_of s) (state_of new) s.search.list (work_of s) (work_of new) =
-    λ h. record { list_is = refl; order = refl; line = h (worldview_at (state_of s) s.search.list) (worldview_at (state_of new) s.search.list) } in
+    let stirs : ((a b : Premises) → AreStirred a b s.network.cells new.network.cells s.agenda.line new.agenda.line) → IsStirred (state_of s) (state_of new) s.search.list s.search.level (work_of s) (work_of new) =
+    λ h. record { list_is = refl; level_is = refl; order = refl; line = h (believed_at (state_of s) s.search) (believed_at (state_of new) s.search) } in
     let same : new.network.cells ≡ s.network.cells → new.agenda.line ≡ s.agenda.line → work_of new ≡ work_of s = λ cells line i. record (work_of s) { cells = cells i; line = line i } in
     stirred_or_not s new s.search.list c.make.result (on_ok_weaker c.make.result stirs c.make.ensures.stirred) (on_err_both c.make.result same c.make.ensures.err_same c.make.ensures.err_line)

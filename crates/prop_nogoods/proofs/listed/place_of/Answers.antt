@@ -2,7 +2,7 @@ use Rattle.std.proofs.Common.{rules, length}
 use Rattle.std.proofs.lemmas.List.Sorted.{IsPartitionedBy-leb, IsPartitionPoint-from_clause}
 use Rattle.prop_nogoods.proofs.PlaceLemmas.{place_from}
 use Rattle.prop_nogoods.proofs.SizeLemmas.{is_small}
-use Rattle.prop_nogoods.proofs.store.place_of.Goals as goal
+use Rattle.prop_nogoods.proofs.listed.place_of.Goals as goal
 
 pub returns-clause-between : goal.returns-clause-between
 returns-clause-between c =

@@ -1,0 +1,39 @@
+-- What comes of a list that is tried, with the sides of one choice after the other.
+use Rattle.std.specs.Prelude.{◌≡◌, ℕ, ◌+◌, ◌<◌, ◌≤◌, IsTrue, false, List, [], length}
+use Rattle.prop_premises.specs.Sets.{Members, set_of}
+use Rattle.prop_procedures.specs.Stored.{Stored}
+use Rattle.prop_cells.specs.Data.{Data, IsFree, beliefs, problem_of}
+use Rattle.prop_nogoods.specs.Stores.{has_part}
+use Rattle.prop_scheduler.specs.Turns.{IsUnderWay, IsSettled}
+use Rattle.prop_scheduler.specs.Potential.{potential, most_steps}
+use Rattle.prop_amb.specs.Search.{Stand, IsStand, IsSearch}
+use Rattle.prop_amb.specs.Going.{work, MayCall, Goes}
+use Rattle.prop_amb.specs.declared.settling.Tried.{Tried}
+use Rattle.prop_amb.specs.declared.settling.Tried.TheVariants.{Quiet, Spent}
+
+-- nothing waits, no cell is believed to hold a contradiction, no noted nogood is believed, and the side of each choice is
+pub record IsResting (old : Stand) (start : Data) (line : List ℕ) : Type 0 where
+  pub full : old.level ≡ length old.list
+  pub idle : line ≡ []
+  pub free : IsFree (set_of old.worldview) start
+  pub unblocked : has_part old.listed (set_of old.worldview) ≡ false
+
+-- what came of one list
+pub record Attempted {O : Type 0} (picks : O → ℕ → ℕ → O → Type 0) (library : List Stored) (s : Stand) (d : Data) (waiting : List ℕ) (order : O) (budget : ℕ) (tried : Tried) (calls : ℕ) (new : Stand) (cells : Data) (after : List ℕ) (next : O) : Type 0 where
+  pub only : new ≡ record s { level = new.level; listed = new.listed; worldview = new.worldview }
+  pub kept : (m : Members) → IsTrue (has_part s.listed m) → IsTrue (has_part new.listed m)
+  pub search : IsSearch (problem_of library d) new
+  pub stand : IsStand new
+  pub rest : cells ≡ record d { contents = cells.contents }
+  pub under_way : IsUnderWay library (set_of new.worldview) cells after
+  pub gone : Goes picks library (work s d waiting order) calls (work new cells after next)
+  pub quiet : tried ≡ Quiet → IsSettled library (set_of new.worldview) cells
+  pub full : tried ≡ Quiet → new.level ≡ length new.list
+  pub rests : tried ≡ Quiet → after ≡ []
+  pub spent : tried ≡ Spent → calls ≡ budget
+  pub leaves : tried ≡ Spent → MayCall (work new cells after next)
+  pub earned : tried ≡ Spent → calls < most_steps (problem_of library d)
+  pub steps : calls ≤ budget
+  pub at_rest : IsResting s d waiting → (tried ≡ Quiet) × (calls ≡ 0)
+  pub falls : potential (problem_of library d) (beliefs (set_of new.worldview) cells.contents) after + calls ≤ potential (problem_of library d) (beliefs (set_of s.worldview) d.contents) waiting
+  pub few : calls ≤ most_steps (problem_of library d)
