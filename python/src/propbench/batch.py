@@ -22,6 +22,8 @@ _MAY_BE_SILENT = frozenset(("", " ", "\t", "\r", "#"))
 def as_lines(lines: Iterable[str | bytes]) -> list[str]:
     """The texts of lines. Raises ValueError where a line feed stands within one."""
     given = list(lines)
+    # (Lines of bytes make `join` raise TypeError: so 10^6 of them are told apart in one call. The
+    # checker of types can't know that behind it all are strings, hence what it is told to ignore.)
     try:
         text = "\n".join(given)  # type: ignore[arg-type]
     except TypeError:
