@@ -1,15 +1,15 @@
 -- What is believed with the sides of the first choices alone.
-use Rattle.std.proofs.Common.{◌≡◌, ◌∙◌, ℕ, zero, suc, ◌+◌, ◌-◌, ◌<◌, ◌≤◌, IsTrue, Bool, true, false, not, List, [], ◌∷◌, ◌++◌, ◌||◌, ◌&&◌, ◌==◌, if◌then◌else◌, length, take, Some, slice_get, slice_index_or, refl, sym, ap, arith, inl, inr}
+use Rattle.std.proofs.Common.{◌≡◌, ◌∙◌, ℕ, zero, suc, ◌+◌, ◌<◌, ◌≤◌, IsTrue, Bool, true, false, not, List, [], ◌∷◌, ◌++◌, ◌||◌, ◌&&◌, ◌==◌, if◌then◌else◌, length, take, Some, slice_get, slice_index_or, refl, sym, ap, arith, inl, inr}
 use Rattle.std.proofs.lemmas.Bool.{or_cases, ne_eqb}
 use Rattle.std.proofs.lemmas.Bool.Decides.{eqb_tells}
 use Rattle.std.proofs.lemmas.List.{take_all, length-map}
-use Rattle.prop_premises.specs.Sets.{Members, IsPart, set_of}
+use Rattle.prop_premises.specs.Sets.{Members}
 use Rattle.prop_premises.specs.declared.choice.Choice.{Choice}
 use Rattle.prop_premises.specs.ChoiceLists.{hypothetical, hypotheticals_of, worldview, is_hypothetical, IsChoiceList, AreInOrder}
-use Rattle.prop_amb.specs.Search.{Stand, IsStand, users_of, choices_in, believed_with}
+use Rattle.prop_amb.specs.Search.{Stand, users_of, choices_in, believed_with}
 use Rattle.prop_amb.specs.Moving.{first_sides, level_first}
 use Rattle.prop_amb.proofs.ZipLemmas.{some_same, none_some}
-use Rattle.prop_amb.proofs.SearchLaws.{both, or_true_left, or_true_right, taken_is_side}
+use Rattle.prop_amb.proofs.SearchLaws.{both, or_true_left, or_true_right}
 use Rattle.prop_amb.proofs.JoinLaws.{later_at}
 
 pub or_no : (b : Bool) → (b || false) ≡ b
@@ -38,6 +38,18 @@ fewer_taken (c ∷ cs) [] (suc n) p t = absurd (both t refl)
 fewer_taken (c ∷ cs) (s ∷ l) (suc n) p t = elim (or_cases (hypothetical c s == p) (hypotheticals_of cs (take n l) p) t) [
   | inl e ↦ or_true_left (hypothetical c s == p) (hypotheticals_of cs l p) e
   | inr e ↦ or_true_right (hypothetical c s == p) (hypotheticals_of cs l p) (fewer_taken cs l n p e)
+]
+
+-- of more choices more sides are taken
+pub taken_more : (cs : List Choice) (l : List ℕ) (n m p : ℕ) → n ≤ m
+    → IsTrue (hypotheticals_of cs (take n l) p) → IsTrue (hypotheticals_of cs (take m l) p)
+taken_more [] l n m p le t = absurd (both t refl)
+taken_more (c ∷ cs) l zero m p le t = absurd (both t refl)
+taken_more (c ∷ cs) [] (suc n) m p le t = absurd (both t refl)
+taken_more (c ∷ cs) (s ∷ l) (suc n) zero p le t = absurd (omega (arith, le))
+taken_more (c ∷ cs) (s ∷ l) (suc n) (suc m) p le t = elim (or_cases (hypothetical c s == p) (hypotheticals_of cs (take n l) p) t) [
+  | inl e ↦ or_true_left (hypothetical c s == p) (hypotheticals_of cs (take m l) p) e
+  | inr e ↦ or_true_right (hypothetical c s == p) (hypotheticals_of cs (take m l) p) (taken_more cs l n m p (omega (arith, le)) e)
 ]
 
 -- and it is of the first choices

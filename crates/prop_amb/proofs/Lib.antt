@@ -12,6 +12,7 @@ pub mod GroundedLaws
 pub mod JoinLaws
 pub mod KeepingLaws
 pub mod ForgettingLaws
+pub mod FromLaws
 pub mod LastChoiceLaws
 pub mod LeavingLaws
 pub mod LevelLaws

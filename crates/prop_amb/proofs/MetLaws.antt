@@ -1,5 +1,5 @@
 -- A nogood that is believed with the list on which the choices stand.
-use Rattle.std.proofs.Common.{◌≡◌, ◌∙◌, ℕ, zero, suc, IsTrue, false, List, [], ◌∷◌, Contains, Some, slice_get, refl, sym, inl, inr, arith}
+use Rattle.std.proofs.Common.{◌≡◌, ◌∙◌, ℕ, zero, suc, IsTrue, Bool, true, false, List, [], ◌∷◌, Contains, Some, slice_get, refl, sym, inl, inr, arith}
 use Rattle.std.proofs.lemmas.List.Elements.{All-contains}
 use Rattle.prop_premises.specs.Sets.{Members, IsPart, set_of, is_within}
 use Rattle.prop_premises.specs.ChoiceLists.{IsBefore}
@@ -7,7 +7,7 @@ use Rattle.prop_premises.proofs.WithinLemmas.{within_has}
 use Rattle.prop_cells.specs.Problems.{Problem}
 use Rattle.prop_cells.specs.Reach.{IsConflict}
 use Rattle.prop_nogoods.specs.Stores.{has_part, AddsSet}
-use Rattle.prop_nogoods.proofs.StoreLaws.{part-listed, has_part-from}
+use Rattle.prop_nogoods.proofs.StoreLaws.{part-listed, has_part-from, has_part-more}
 use Rattle.prop_amb.specs.Refuted.{IsNogood}
 use Rattle.prop_amb.specs.Search.{Stand, IsStand, IsSearch, users_of, choices_in, believed_with}
 use Rattle.prop_amb.specs.Moving.{advanced}
@@ -54,6 +54,15 @@ added_listed old new n w adds part unblocked =
       | inl was ↦ absurd (both (has_part-from old w its.line was (λ p t. part p (its.is_part p t))) unblocked)
       | inr same ↦ rw same at its.listed_in
     ]
+
+-- where no noted nogood is believed, none is part of a clash
+pub clash_is_new : (problem : Problem) (s : Stand) (copy n : List ℕ) → IsConflict problem (set_of s.worldview) (set_of n) → copy ≡ n
+    → has_part s.listed (set_of s.worldview) ≡ false → has_part s.listed (set_of copy) ≡ false
+clash_is_new problem s copy n clash same unblocked = by (has_part s.listed (set_of copy)) refl
+  where
+    by : (b : Bool) → has_part s.listed (set_of copy) ≡ b → b ≡ false
+    by true e = absurd (both (has_part-more s.listed (set_of copy) (set_of s.worldview) (rw same clash.part) e) unblocked)
+    by false e = refl
 
 -- a clash of a run, once it is noted
 pub met_noted : (problem : Problem) (s : Stand) (listed : List (List ℕ)) (copy n : List ℕ) (new : Stand) → IsStand s → IsConflict problem (set_of s.worldview) (set_of n) → copy ≡ n → AddsSet s.listed new.listed copy →

@@ -8,7 +8,7 @@ use Rattle.prop_premises.specs.ChoiceLists.{IsChoiceList, place_of, lists_count}
 use Rattle.prop_procedures.specs.Stored.{Stored}
 use Rattle.prop_cells.specs.Problems.{Problem, IsConsistent}
 use Rattle.prop_cells.specs.Data.{Data, beliefs, problem_of}
-use Rattle.prop_scheduler.specs.Turns.{IsUnderWay, IsSettled}
+use Rattle.prop_scheduler.specs.Turns.{IsUnderWay}
 use Rattle.prop_scheduler.specs.Potential.{potential, most_steps}
 use Rattle.prop_scheduler.specs.Shifts.{AreShifted}
 use Rattle.prop_amb.specs.Refuted.{IsFirstConsistent, IsRuledOut}

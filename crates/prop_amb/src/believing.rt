@@ -54,6 +54,7 @@ impl Search {
         }
         let before = self.worldview.copy()?;
         self.worldview.believe(premise)?;
+        self.from = 0;
         self.premises.bring(premise);
         Ok(Some(before))
     }
@@ -69,5 +70,6 @@ impl Search {
         put_first(&mut self.list);
         forget(&mut self.reasons);
         self.level = level;
+        self.from = 0;
     }
 }

@@ -33,7 +33,10 @@ impl Search {
             return Ok(premise);
         }
         match self.worldview.believe(premise) {
-            Ok(()) => Ok(premise),
+            Ok(()) => {
+                self.from = 0;
+                Ok(premise)
+            }
             Err(AllocError) => {
                 self.premises.back(count);
                 Err(Refusal::Memory)
@@ -52,6 +55,7 @@ impl Search {
     {
         self.premises.back(usize::from(premise));
         self.worldview.back(premise);
+        self.from = 0;
     }
 
     /// Declares a choice with this many sides, which stands on the first. None of them is believed yet.
@@ -120,5 +124,6 @@ impl Search {
         self.level = self.level.min(self.list.len());
         self.premises.back(usize::from(choice.first));
         self.worldview.back(choice.first);
+        self.from = 0;
     }
 }

@@ -76,6 +76,7 @@ impl Search {
         advance_reasons(&mut self.reasons, place, reason)?;
         move_on(&mut self.list, place);
         self.level = place + 1;
+        self.from = self.from.min(choices[place].first);
         Ok(replace(&mut self.worldview, worldview))
     }
 }

@@ -1,9 +1,9 @@
 //! Where the search for the first consistent list of choices stands, and what it has learned.
-ghost use Rattle.std.specs.Prelude.{◌≡◌, ◌<◌, ◌↔◌, ℕ, List, Contains, IsTrue, None, Ok, false, not, length, IfOk, IfSome, OnOk, OnErr};
+ghost use Rattle.std.specs.Prelude.{◌≡◌, ◌<◌, ◌↔◌, ◌⊎◌, ℕ, List, [], Contains, IsTrue, None, Ok, false, length, IfOk, IfSome, OnOk, OnErr};
 ghost use Rattle.prop_premises.specs.Sets.{set_of, is_within, IsPart, IsSame};
 ghost use Rattle.prop_premises.specs.ChoiceLists.{worldview};
 ghost use Rattle.prop_cells.specs.Problems.{Problem};
-ghost use Rattle.prop_nogoods.specs.Stores.{has_part, PartsEndBelow, AddsSet};
+ghost use Rattle.prop_nogoods.specs.Stores.{has_part, NoneEndsBelow, AddsSet};
 ghost use Rattle.prop_amb.specs.Refuted.{IsNogood};
 ghost use Rattle.prop_amb.specs.Search.{Stand, no_stand, users_of, choices_in, IsStand, IsSearch};
 ghost use Rattle.prop_amb.specs.Moving.{deepened};
@@ -24,6 +24,8 @@ pub struct Search {
     pub(crate) reasons: Vec<Reasons>,
     pub(crate) store: Store,
     pub(crate) worldview: Worldview,
+    /// Each noted nogood that is believed ends with this premise or a later one, or has none.
+    pub(crate) from: Premise,
 }
 
 impl Model for Search {
@@ -31,7 +33,8 @@ impl Model for Search {
 
     ghost view = { λ s. record { premises = s.premises; list = s.list.items; level = s.level; reasons = s.reasons.items; listed = s.store; worldview = s.worldview } };
 
-    ghost invariant = { λ s. IsStand (record { premises = s.premises; list = s.list.items; level = s.level; reasons = s.reasons.items; listed = s.store; worldview = s.worldview }) };
+    ghost invariant = { λ s. IsStand (record { premises = s.premises; list = s.list.items; level = s.level; reasons = s.reasons.items; listed = s.store; worldview = s.worldview })
+        × NoneEndsBelow s.store (set_of s.worldview) s.from };
 }
 
 impl Search {
@@ -46,6 +49,7 @@ impl Search {
             reasons: Vec::new(alloc),
             store: Store::new(alloc),
             worldview: Worldview::empty(alloc),
+            from: 0,
         }
     }
 
@@ -94,10 +98,11 @@ impl Search {
         self.premises.worldview(&self.list)
     }
 
-    /// The side of one choice more is believed. Answers the worldview of before. After want of
-    /// memory nothing has changed.
-    pub fn deepen(&mut self) -> Result<Worldview, AllocError>
-        requires { self.old.level < length self.old.list }
+    /// The side of one choice more is believed, where no noted nogood is. Answers the worldview of
+    /// before. After want of memory nothing has changed.
+    pub(crate) fn deepen(&mut self) -> Result<Worldview, AllocError>
+        requires left { self.old.level < length self.old.list }
+        requires unblocked { has_part self.old.listed (set_of self.old.worldview) ≡ false }
         ensures before { IfOk result (λ w. w ≡ self.old.worldview) }
         ensures ok { OnOk result (self.new
             ≡ record (deepened self.old) { worldview = self.new.worldview }) }
@@ -108,46 +113,48 @@ impl Search {
     {
         let choice = self.premises.choices()[self.level];
         let side = self.list[self.level];
+        let premise = choice.first + Premise::from(side - 1);
         let before = self.worldview.copy()?;
-        self.worldview
-            .believe(choice.first + Premise::from(side - 1))?;
+        self.worldview.believe(premise)?;
+        self.from = premise;
         self.level += 1;
         Ok(before)
     }
 
-    /// Notes a nogood, and answers whether it says more than those noted before.
-    ///
-    /// Where a part of it was noted it takes no memory, and nothing changes. After want of memory nothing has changed.
-    pub fn note(&mut self, nogood: PremiseSet) -> Result<bool, AllocError>
+    /// Notes a nogood, of which no part was noted. After want of memory nothing has changed.
+    pub(crate) fn note(&mut self, nogood: PremiseSet) -> Result<(), AllocError>
+        requires { has_part self.old.listed (set_of nogood) ≡ false }
         ensures only { self.new ≡ record self.old { listed = self.new.listed } }
         ensures adds { OnOk result (AddsSet self.old.listed self.new.listed nogood) }
         ensures stand { IsStand self.new }
-        ensures new { IfOk result (λ is_new. is_new ≡ not (has_part self.old.listed (set_of nogood))) }
-        ensures known { IsTrue (has_part self.old.listed (set_of nogood)) → (result ≡ Ok false) × (self.new ≡ self.old) }
         ensures err { OnErr result (self.new ≡ self.old) }
         ensures search { (problem : Problem) → IsNogood problem (choices_in self.old) (set_of nogood) → IsSearch problem self.old → IsSearch problem self.new }
     {
-        self.store.add(nogood)
+        let from = self.from.min(last_of(&nogood));
+        self.store.add_new(nogood)?;
+        self.from = from;
+        Ok(())
     }
 
-    /// A nogood of which every premise is believed, none where there is no such nogood. It takes no memory.
+    /// A noted nogood of which every premise is believed, none where there is no such nogood. It takes
+    /// no memory.
     pub fn blocked(&self) -> Option<&PremiseSet>
         ensures listed { IfSome result (λ s. Contains self.now.listed s.now) }
         ensures believed { IfSome result (λ s. IsTrue (is_within (set_of self.now.worldview) s.now)) }
         ensures none { result ≡ None → has_part self.now.listed (set_of self.now.worldview) ≡ false }
         ensures stand { IsStand self.now }
     {
-        self.store.blocks_any(&self.worldview)
+        self.store.blocks_from(&self.worldview, self.from)
     }
+}
 
-    /// A nogood of which every premise is believed, one whose last premise comes early. It passes over those whose last premise has a number below
-    /// this one, and answers none where no other is believed. It takes no memory.
-    pub(crate) fn blocked_early(&self, from: Premise) -> Option<&PremiseSet>
-        ensures listed { IfSome result (λ s. Contains self.now.listed s.now) }
-        ensures believed { IfSome result (λ s. IsTrue (is_within (set_of self.now.worldview) s.now)) }
-        ensures none { result ≡ None → PartsEndBelow self.now.listed (set_of self.now.worldview) from }
-        ensures stand { IsStand self.now }
-    {
-        self.store.blocks_early(&self.worldview, from)
+/// The last premise of a set, or 0 where it has none.
+fn last_of(set: &PremiseSet) -> Premise
+    ensures { IsTrue (set_of set.now result) ⊎ (set.now ≡ []) }
+{
+    let mut last = 0;
+    for premise in set.iter() {
+        last = premise;
     }
+    last
 }

@@ -109,6 +109,7 @@ fn believe_more<R: Rule + Drop>(
     agenda: &mut Agenda,
 ) -> Result<(), AllocError>
     requires left { search.old.level < length search.old.list }
+    requires unblocked { has_part search.old.listed (set_of search.old.worldview) ≡ false }
     requires stand { IsStand search.old }
     requires under_way { IsUnderWay (stored_of R.value_of network.now.library)
         (set_of search.old.worldview) network.now.cells agenda.old.line }
@@ -203,25 +204,24 @@ fn try_list<R: Rule + Drop, O: Order>(
     }
 }
 
-/// The choices go on to a later list, where a noted nogood is believed and a choice may leave its side. Nogoods whose last premise has a number below
-/// this one are not looked at. Answers the first side of the choice that went on, if one did. After want of memory nothing has changed.
-fn go_on(search: &mut Search, from: Premise) -> Result<Option<Premise>, AllocError>
+/// The choices go on to a later list, where a noted nogood is believed and a choice may leave its
+/// side. Answers whether they did. After want of memory nothing has changed.
+fn go_on(search: &mut Search) -> Result<bool, AllocError>
     ensures premises { search.new.premises ≡ search.old.premises }
     ensures listed { search.new.listed ≡ search.old.listed }
     ensures search { (problem : Problem) → IsSearch problem search.old → IsSearch problem search.new }
-    ensures stays { result ≡ Ok None → search.new ≡ search.old }
-    ensures moves { IfOk result (λ r. IfSome r (λ moved. Passes search.old 1 search.new)) }
+    ensures stays { result ≡ Ok false → search.new ≡ search.old }
+    ensures moves { IfOk result (λ moved. IsTrue moved → Passes search.old 1 search.new) }
 {
-    let Some(blocking) = search.blocked_early(from) else {
-        return Ok(None);
+    let Some(blocking) = search.blocked() else {
+        return Ok(false);
     };
     let believed = blocking.copy()?;
     match search.resolve(believed)? {
-        Resolved::RuledOut(_) => Ok(None),
+        Resolved::RuledOut(_) => Ok(false),
         Resolved::Against(place, reason) => {
-            let moved = search.premises().choices()[place].first;
             drop(search.advance(place, reason)?);
-            Ok(Some(moved))
+            Ok(true)
         }
     }
 }
@@ -239,11 +239,9 @@ fn pass(search: &mut Search, most: u64) -> Result<u64, AllocError>
     ensures moves { IfOk result (λ n. Passes search.old n search.new) }
 {
     let mut moves = 0;
-    let mut from = 0;
     while moves < most {
-        match go_on(search, from)? {
-            Some(moved) => from = moved,
-            None => return Ok(moves),
+        if !go_on(search)? {
+            return Ok(moves);
         }
         moves += 1;
     }

@@ -1,13 +1,11 @@
 -- Whether a nogood is believed, told by the groups.
-use Rattle.std.proofs.Common.{◌≡◌, ◌≤◌, ℕ, suc, Bool, true, false, nat_lt, Some, List, [], ◌∷◌, length, get_or, refl, arith, Contains, IsTrue}
+use Rattle.std.proofs.Common.{◌≡◌, ◌≤◌, ℕ, Bool, true, false, Some, List, [], ◌∷◌, length, get_or, refl, arith, ap, Contains, IsTrue}
 use Rattle.std.specs.Prelude.{slice_get}
-use Rattle.std.proofs.lemmas.Bool.{leb-true}
 use Rattle.std.proofs.lemmas.List.Elements.{All-contains, Contains-get_or}
 use Rattle.prop_premises.specs.Sets.{Members, is_within, is_below}
-use Rattle.prop_premises.proofs.WithinLemmas.{within_has, within_from}
-use Rattle.prop_nogoods.specs.Stores.{has_part, AreBySize, PartsEndBelow}
+use Rattle.prop_premises.proofs.WithinLemmas.{within_from}
+use Rattle.prop_nogoods.specs.Stores.{has_part, AreBySize, PartsEndBelow, NoneEndsBelow}
 use Rattle.prop_nogoods.specs.inner.Stores.{HaveSame}
-use Rattle.prop_nogoods.proofs.EndingLemmas.{has_middle}
 use Rattle.prop_nogoods.proofs.StoreLaws.{part-listed}
 
 -- what the nogoods of one list show, those of the other show too
@@ -25,19 +23,18 @@ each_has_one (x ∷ xs) up first line c e =
     let smallest : length x ≤ length (get_or (x ∷ xs) c.0 line) = up 0 c.0 line (omega arith) c.1 in
     first x refl (omega (arith, at, smallest))
 
-below_first : (ps : List ℕ) → is_below 0 ps ≡ true → length ps ≡ 0
-below_first [] h = refl
-below_first (p ∷ ps) h = let below = leb-true (suc p) 0 (within_has (λ q. nat_lt q 0) (p ∷ ps) p h (has_middle [] ps p)) in absurd (omega (arith, below))
-
--- where each set has a premise, none of those that lie below the first premise is there
-pub no_part_below_first : (listed : List (List ℕ)) (w : Members) → PartsEndBelow listed w 0
+-- where what is believed ends below a number, but what ends below it is the set of no premises, and
+-- each set has a premise, nothing is believed
+pub no_part_from : (listed : List (List ℕ)) (w : Members) (p : ℕ) → PartsEndBelow listed w p
+    → NoneEndsBelow listed w p
     → ((line : List ℕ) → Contains listed line → ¬ (length line ≡ 0)) → has_part listed w ≡ false
-no_part_below_first listed w below each = by (has_part listed w) refl
+no_part_from listed w p below none each = by (has_part listed w) refl
   where
     by : (b : Bool) → has_part listed w ≡ b → b ≡ false
     by true t =
         let its = part-listed listed w t in
         let within : is_within w its.line ≡ true = within_from w its.line its.is_part in
-        let empty = All-contains (λ line. IsTrue (is_within w line) → IsTrue (is_below 0 line)) listed its.line below its.listed_in within in
-        absurd (each its.line its.listed_in (below_first its.line empty))
+        let low = All-contains (λ line. IsTrue (is_within w line) → IsTrue (is_below p line)) listed its.line below its.listed_in within in
+        let empty : its.line ≡ [] = All-contains (λ line. IsTrue (is_within w line) → IsTrue (is_below p line) → line ≡ []) listed its.line none its.listed_in within low in
+        absurd (each its.line its.listed_in (ap length empty))
     by false t = refl

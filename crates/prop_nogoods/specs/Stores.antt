@@ -1,5 +1,5 @@
 -- Lists of nogoods, none of which is part of another or smaller than one before it.
-use Rattle.std.specs.Prelude.{◌≡◌, ℕ, Bool, false, not, nat_lt, IsTrue, List, ◌∷◌, ◌++◌, length, filter, All, AllPairs, Contains, ◌⊎◌}
+use Rattle.std.specs.Prelude.{◌≡◌, ℕ, Bool, false, not, nat_lt, IsTrue, List, [], ◌∷◌, ◌++◌, length, filter, All, AllPairs, Contains, ◌⊎◌}
 use Rattle.std.specs.List.{list_any}
 use Rattle.std.specs.List.Sorted.{IsNonDecreasingBy}
 use Rattle.prop_premises.specs.Sets.{Members, set_of, is_within, is_below}
@@ -11,6 +11,10 @@ has_part listed n = list_any (λ line. is_within n line) listed
 -- each listed set that is part of this one has numbers below p alone
 abbrev pub PartsEndBelow : List (List ℕ) → Members → ℕ → Type 0
 PartsEndBelow listed n p = All (λ line. IsTrue (is_within n line) → IsTrue (is_below p line)) listed
+
+-- each listed set that is part of this one and has numbers below p alone is the set of none
+abbrev pub NoneEndsBelow : List (List ℕ) → Members → ℕ → Type 0
+NoneEndsBelow listed n p = All (λ line. IsTrue (is_within n line) → IsTrue (is_below p line) → line ≡ []) listed
 
 -- no listed set is part of another
 abbrev pub AreMinimal : List (List ℕ) → Type 0

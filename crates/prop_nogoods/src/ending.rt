@@ -7,7 +7,7 @@ ghost use Rattle.prop_nogoods.specs.inner.Endings.{Group, EndsSo, AreInOrder, en
 ghost use Rattle.prop_nogoods.specs.inner.Stores.{IsPartOfNone};
 
 use crate::listed::{Listed, drop_holding, drop_larger, first_believed, has_larger, place_of};
-use prop_premises::{Premise, Worldview};
+use prop_premises::{Premise, PremiseSet, Worldview};
 use std::alloc::{AllocError, Global};
 use std::marker::Model;
 
@@ -90,10 +90,10 @@ impl Ending {
     }
 
     /// Whether one of its nogoods is part of this set.
-    fn has_part(&self, nogood: &Listed) -> bool
-        ensures { result ≡ has_part self.now.sets (set_of nogood.now) }
+    fn has_part(&self, set: &PremiseSet) -> bool
+        ensures { result ≡ has_part self.now.sets (set_of set.now) }
     {
-        self.nogoods.iter().any(|part| part.is_part_of(nogood))
+        self.nogoods.iter().any(|part| part.is_subset(set))
     }
 
     /// Whether this set is part of one of its nogoods, where none of them is part of it. It looks
@@ -132,26 +132,26 @@ fn place_for(endings: &[Ending], last: Option<Premise>) -> usize
 }
 
 /// Whether one of the nogoods that end with this premise is part of the set.
-fn has_part_ending(endings: &[Ending], last: Option<Premise>, nogood: &Listed) -> bool
+fn has_part_ending(endings: &[Ending], last: Option<Premise>, set: &PremiseSet) -> bool
     requires { AreInOrder endings.now }
-    ensures found { IsTrue result → IsTrue (has_part (sets_of endings.now) (set_of nogood.now)) }
-    ensures none { result ≡ false → NoPartEnds endings.now (set_of nogood.now) last }
+    ensures found { IsTrue result → IsTrue (has_part (sets_of endings.now) (set_of set.now)) }
+    ensures none { result ≡ false → NoPartEnds endings.now (set_of set.now) last }
 {
     let place = place_for(endings, last);
-    place < endings.len() && endings[place].last() == last && endings[place].has_part(nogood)
+    place < endings.len() && endings[place].last() == last && endings[place].has_part(set)
 }
 
 /// Whether one of the nogoods is part of the set. It looks at those alone that end with a premise
 /// of the set, and at the set of no premises.
-pub(crate) fn has_part_among(endings: &[Ending], nogood: &Listed) -> bool
+pub(crate) fn has_part_among(endings: &[Ending], set: &PremiseSet) -> bool
     requires { AreInOrder endings.now }
-    ensures { result ≡ has_part (sets_of endings.now) (set_of nogood.now) }
+    ensures { result ≡ has_part (sets_of endings.now) (set_of set.now) }
 {
-    if has_part_ending(endings, None, nogood) {
+    if has_part_ending(endings, None, set) {
         return true;
     }
-    for premise in nogood.premises().iter() {
-        if has_part_ending(endings, Some(premise), nogood) {
+    for premise in set.iter() {
+        if has_part_ending(endings, Some(premise), set) {
             return true;
         }
     }
@@ -237,7 +237,7 @@ pub(crate) fn join(
     ensures ok { OnOk result ((place : ℕ) × (sets_of endings.new.items ≡ insert (staying (sets_of endings.old.items) nogood.now) place nogood.now)) }
     ensures err { OnErr result (sets_of endings.new.items ≡ sets_of endings.old.items) }
 {
-    let again = nogood.copy()?;
+    let again = nogood.again()?;
     let place = room_for(endings, nogood.last())?;
     drop_any_larger_everywhere(endings, nogood, has_larger);
     endings[place].add(again);

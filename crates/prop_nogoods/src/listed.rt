@@ -7,42 +7,53 @@ ghost use Rattle.prop_nogoods.specs.inner.Endings.{EndsSo};
 ghost use Rattle.prop_nogoods.specs.inner.Stores.{IsPartOfNone};
 
 use prop_premises::{Premise, PremiseSet, Worldview};
-use std::alloc::AllocError;
+use std::alloc::{AllocError, Global};
 use std::marker::Model;
+use std::rc::Rc;
 
-/// A set of premises that can't all be believed, with how many they are and the last of them.
+/// A set of premises that can't all be believed, with how many they are and the last two of them.
+/// Of most sets that aren't believed these tell it, so that the set itself isn't looked at. It stands
+/// in memory once, in however many lists it is.
 #[derive(Drop)]
 pub(crate) struct Listed {
     size: usize,
-    /// Most nogoods that aren't believed lack this one.
     last: Option<Premise>,
-    premises: PremiseSet,
+    /// The one before the last.
+    other: Option<Premise>,
+    premises: Rc<PremiseSet, Global>,
 }
 
 impl Model for Listed {
     ghost Value = { List ℕ };
 
-    ghost view = { λ l. l.premises };
+    ghost view = { λ l. l.premises.value };
 
-    ghost invariant = { λ l. (l.size ≡ length l.premises) × IsStrictlyIncreasing l.premises × EndsSo l.last l.premises };
+    ghost invariant = { λ l. (l.size ≡ length l.premises.value)
+        × IsStrictlyIncreasing l.premises.value
+        × EndsSo l.last l.premises.value
+        × IfSome l.other (λ p. IsTrue (set_of l.premises.value p)) };
 }
 
 impl Listed {
-    /// The set, its premises counted. It takes no memory.
-    pub(crate) fn new(premises: PremiseSet) -> Listed
-        ensures { result ≡ premises }
+    /// The set, its premises counted.
+    pub(crate) fn new(alloc: Global, premises: PremiseSet) -> Result<Listed, AllocError>
+        ensures { IfOk result (λ l. l ≡ premises) }
     {
         let mut size = 0;
         let mut last = None;
+        let mut other = None;
         for premise in premises.iter() {
             size += 1;
+            other = last;
             last = Some(premise);
         }
-        Listed {
+        let premises = Rc::new(alloc, premises)?;
+        Ok(Listed {
             size,
             last,
+            other,
             premises,
-        }
+        })
     }
 
     /// How many premises the set has.
@@ -61,14 +72,15 @@ impl Listed {
         self.last
     }
 
-    /// The same set again.
-    pub(crate) fn copy(&self) -> Result<Listed, AllocError>
+    /// The same set for one list more.
+    pub(crate) fn again(&self) -> Result<Listed, AllocError>
         ensures { IfOk result (λ l. l ≡ self.now) }
     {
-        let premises = self.premises.copy()?;
+        let premises = self.premises.clone()?;
         Ok(Listed {
             size: self.size,
             last: self.last,
+            other: self.other,
             premises,
         })
     }
@@ -81,15 +93,19 @@ impl Listed {
         &self.premises
     }
 
-    /// Whether each premise of the set is believed. It looks at the last first, and takes no memory.
+    /// Whether each premise of the set is believed. It looks at the last two first, and takes no
+    /// memory.
     #[inline]
     pub(crate) fn is_believed(&self, worldview: &Worldview) -> bool
         ensures { result ≡ is_within (set_of worldview.now) self.now }
     {
-        match self.last {
-            Some(last) => worldview.has(last) && worldview.believes(&self.premises),
-            None => worldview.believes(&self.premises),
+        if lacks(worldview, self.other) {
+            return false;
         }
+        if lacks(worldview, self.last) {
+            return false;
+        }
+        worldview.believes(&self.premises)
     }
 
     /// Whether the premise is in the set. It takes no memory.
@@ -98,6 +114,14 @@ impl Listed {
         ensures { result ≡ set_of self.now premise }
     {
         self.premises.contains(premise)
+    }
+
+    /// Whether each premise of this set is in the other. It takes no memory.
+    #[inline]
+    pub(crate) fn is_subset(&self, other: &PremiseSet) -> bool
+        ensures { result ≡ is_within (set_of other.now) self.now }
+    {
+        self.premises.is_subset(other)
     }
 
     /// Whether each premise of this set is in the other. Of a larger set it is known by the sizes alone, and of most others by the last premise. It takes
@@ -113,6 +137,18 @@ impl Listed {
             Some(last) => other.holds(last) && self.premises.is_subset(&other.premises),
             None => self.premises.is_subset(&other.premises),
         }
+    }
+}
+
+/// Whether there is a premise and it isn't believed. Then no set that has it is.
+#[inline]
+fn lacks(worldview: &Worldview, premise: Option<Premise>) -> bool
+    ensures { IsTrue result → (s : List ℕ) → IfSome premise (λ p. IsTrue (set_of s p))
+        → is_within (set_of worldview.now) s ≡ false }
+{
+    match premise {
+        Some(premise) => !worldview.has(premise),
+        None => false,
     }
 }
 

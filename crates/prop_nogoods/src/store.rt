@@ -3,7 +3,7 @@ ghost use Rattle.std.specs.Prelude.{◌≡◌, ◌↔◌, ◌≤◌, ◌<◌, �
 ghost use Rattle.std.specs.List.Sorted.{IsStrictlyIncreasing, IsPartitionPoint};
 ghost use Rattle.prop_premises.specs.Sets.{set_of, is_within};
 ghost use Rattle.prop_nogoods.specs.inner.Endings.{AreInOrder, sets_of};
-ghost use Rattle.prop_nogoods.specs.Stores.{has_part, lacking, with_set, AreMinimal, AreBySize, PartsEndBelow, AddsSet};
+ghost use Rattle.prop_nogoods.specs.Stores.{has_part, lacking, with_set, AreMinimal, AreBySize, NoneEndsBelow, AddsSet};
 ghost use Rattle.prop_nogoods.specs.inner.Stores.{HaveSame, IsPartOfNone};
 
 use crate::ending::{
@@ -68,13 +68,6 @@ impl Store {
         Nogoods::new(&self.nogoods)
     }
 
-    /// Whether a listed set is part of this one.
-    fn has_part(&self, nogood: &Listed) -> bool
-        ensures { result ≡ has_part self.now (set_of nogood.now) }
-    {
-        has_part_among(&self.by_last, nogood)
-    }
-
     /// Whether this set is part of a listed one, where none is part of it.
     fn has_larger(&self, nogood: &Listed) -> bool
         requires in_order { IsStrictlyIncreasing nogood.now }
@@ -98,17 +91,34 @@ impl Store {
         ensures len { length self.new ≤ length self.old + 1 }
         ensures err { OnErr result (self.new ≡ self.old) }
     {
-        let nogood = Listed::new(nogood);
-        if self.has_part(&nogood) {
+        if has_part_among(&self.by_last, &nogood) {
             return Ok(false);
         }
+        self.add_new(nogood)?;
+        Ok(true)
+    }
+
+    /// Adds a nogood of which no part is listed, behind those that are no larger; the listed ones that it is part of go.
+    ///
+    /// After want of memory nothing has changed.
+    pub fn add_new(&mut self, nogood: PremiseSet) -> Result<(), AllocError>
+        requires { has_part self.old (set_of nogood) ≡ false }
+        ensures adds { OnOk result (AddsSet self.old self.new nogood) }
+        ensures joins { OnOk result (self.new ≡ with_set self.old nogood) }
+        ensures minimal { AreMinimal self.new }
+        ensures in_order { All IsStrictlyIncreasing self.new }
+        ensures by_size { AreBySize self.new }
+        ensures len { length self.new ≤ length self.old + 1 }
+        ensures err { OnErr result (self.new ≡ self.old) }
+    {
+        let nogood = Listed::new(*self.nogoods.allocator(), nogood)?;
         let has_larger = self.has_larger(&nogood);
         self.nogoods.reserve(1)?;
         join(&mut self.by_last, &nogood, has_larger)?;
         drop_any_larger(&mut self.nogoods, &nogood, has_larger);
         let place = place_of(&self.nogoods, &nogood);
         self.nogoods.insert(place, nogood)?;
-        Ok(true)
+        Ok(())
     }
 
     /// A nogood of which every premise is believed, of the smallest size that there is, none where there is no such nogood. It takes no memory.
@@ -122,9 +132,11 @@ impl Store {
         Some(nogood.premises())
     }
 
-    /// A nogood of which every premise is believed, none where there is no such nogood. It looks at no
-    /// nogood whose last premise isn't believed, and takes no memory.
-    pub fn blocks_any(&self, worldview: &Worldview) -> Option<&PremiseSet>
+    /// A nogood of which every premise is believed, none where there is no such nogood, of a store in
+    /// which each that is believed ends with this premise or a later one, or has none. It looks at no
+    /// nogood whose last premise isn't believed or comes before this one, and takes no memory.
+    pub fn blocks_from(&self, worldview: &Worldview, from: Premise) -> Option<&PremiseSet>
+        requires { NoneEndsBelow self.now (set_of worldview.now) from }
         ensures listed { IfSome result (λ s. Contains self.now s.now) }
         ensures believed { IfSome result (λ s. IsTrue (is_within (set_of worldview.now) s.now)) }
         ensures none { result ≡ None → has_part self.now (set_of worldview.now) ≡ false }
@@ -133,21 +145,10 @@ impl Store {
             // The set of no premises, beside which there is no other.
             Some(first) if first.size() == 0 => Some(first.premises()),
             _ => {
-                let nogood = earliest_believed(&self.by_last, worldview, 0)?;
+                let nogood = earliest_believed(&self.by_last, worldview, from)?;
                 Some(nogood.premises())
             }
         }
-    }
-
-    /// A nogood of which every premise is believed, one whose last premise comes early, so that it shows early choices to be wrong. It passes over
-    /// those whose last premise has a number below this one, and answers none where no other is believed. It takes no memory.
-    pub fn blocks_early(&self, worldview: &Worldview, from: Premise) -> Option<&PremiseSet>
-        ensures listed { IfSome result (λ s. Contains self.now s.now) }
-        ensures believed { IfSome result (λ s. IsTrue (is_within (set_of worldview.now) s.now)) }
-        ensures none { result ≡ None → PartsEndBelow self.now (set_of worldview.now) from }
-    {
-        let nogood = earliest_believed(&self.by_last, worldview, from)?;
-        Some(nogood.premises())
     }
 
     /// Drops the nogoods that hold the premise. It takes no memory.

@@ -16,9 +16,13 @@ use Rattle.propbench.specs.declared.chosen.Pick.TheVariants.{Fifo, Lifo, Mixed}
 abbrev pub value_rule : List ℕ → Rule
 value_rule name = record (new_rule name) { long = Some name; action = Some Set; value_names = 1 }
 
+-- the program's name, and that it has a version, which --version prints
+abbrev pub versioned : App
+versioned = let named = new_app (codes "propbench") in record named { top = record named.top { has_version = true } }
+
 -- the program as the option reader sees it: --limit N, --order ORDER, --seed N
 abbrev pub program : App
-program = with_rule (with_rule (with_rule (new_app (codes "propbench")) (value_rule (codes "limit"))) (value_rule (codes "order"))) (value_rule (codes "seed"))
+program = with_rule (with_rule (with_rule versioned (value_rule (codes "limit"))) (value_rule (codes "order"))) (value_rule (codes "seed"))
 
 -- the number from 0 to the high end that the word is, and the program's own where there is none
 abbrev pub number_given : ℕ → ℕ → Option (List ℕ) → Option ℕ

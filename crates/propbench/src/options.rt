@@ -1,7 +1,7 @@
 //! The options of the program.
 ghost use Rattle.std.specs.Prelude.{◌≡◌, ◌⊎◌, false, IfOk, IfErr, OnErr, map, string_bytes};
 ghost use Rattle.clap.specs.Words.{app_of, found_of, rule_of};
-ghost use Rattle.propbench.specs.Program.{program, value_rule, number_given, order_given, AreChosen, AreWrong, AreGiven, AreOutOfRange, AreTaken, IsWantOfMemory};
+ghost use Rattle.propbench.specs.Program.{program, versioned, value_rule, number_given, order_given, AreChosen, AreWrong, AreGiven, AreOutOfRange, AreTaken, IsWantOfMemory};
 ghost use Rattle.propbench.specs.inner.Program.{word_of};
 
 use crate::chosen::{Options, Pick};
@@ -15,6 +15,24 @@ const STEPS: u64 = 1_000_000_000;
 
 /// The highest limit that can be given.
 const MOST_STEPS: u64 = 1_000_000_000_000_000;
+
+/// The program's version, and the toolchain that proves it.
+const VERSION: &str = "1.0 (rattle-kit-13f)";
+
+/// What the program is for.
+const ABOUT: &str = "Answers commands on a propagator network with truth maintenance.
+
+Reads commands from standard input, one on each line, and writes a reply or a refusal to each.";
+
+/// The commands by group, and where they are described.
+const COMMANDS: &str = "Commands:
+  networks   domain, relation, define, cell, attach
+  statements fix, tell, choose, forget
+  premises   kick, bring, worldview, nogoods
+  questions  ask, why, core, settle
+  the run    limit
+
+Every command is described in LANGUAGE.md, a first session in TUTORIAL.md.";
 
 /// The options that the words give, the first of which is the program's name. The error is the
 /// option reader's own, or that a value is none of its option's, or want of memory.
@@ -44,6 +62,16 @@ fn read<'a>(command: &mut Command<'a>, words: &'a [String]) -> Result<Options, E
     }
 }
 
+/// The program's name and version, and what its help says beside the options.
+fn named<'a>(alloc: Global) -> Command<'a>
+    ensures { app_of result ≡ versioned }
+{
+    Command::new(alloc, "propbench")
+        .version(VERSION)
+        .about(ABOUT)
+        .after_help(COMMANDS)
+}
+
 /// The program as the option reader sees it.
 fn program<'a>(alloc: Global) -> Result<Command<'a>, AllocError>
     ensures { IfOk result (λ command. app_of command ≡ program) }
@@ -51,7 +79,7 @@ fn program<'a>(alloc: Global) -> Result<Command<'a>, AllocError>
     let limit = "Steps per running command, 0 to 1000000000000000 [default: 1000000000]";
     let order = "Which waiting procedure comes next: fifo, lifo or mixed [default: fifo]";
     let seed = "What mixed begins with, 0 to 18446744073709551615 [default: 0]";
-    Command::new(alloc, "propbench")
+    named(alloc)
         .arg(value(alloc, "limit", "N").help(limit))?
         .arg(value(alloc, "order", "ORDER").help(order))?
         .arg(value(alloc, "seed", "N").help(seed))

@@ -1,4 +1,4 @@
-use Rattle.std.proofs.Common.{◌≡◌, ◌+◌, sym, arith, inl, inr, slice_index_or}
+use Rattle.std.proofs.Common.{◌≡◌, sym, arith, inl, inr, slice_index_or}
 use Rattle.std.proofs.lemmas.Bool.{cases_eq}
 use Rattle.prop_amb.proofs.LevelLaws.{first_up_to, first_to_there}
 use Rattle.prop_amb.proofs.lists.level_first.Goals as goal

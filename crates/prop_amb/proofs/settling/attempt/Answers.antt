@@ -4,7 +4,7 @@ use Rattle.prop_procedures.specs.Kept.{stored_of}
 use Rattle.prop_cells.specs.Data.{problem_of}
 use Rattle.prop_amb.specs.Going.Goes.{none}
 use Rattle.prop_amb.proofs.GoingLaws.{ran, ran_noting, ran_may}
-use Rattle.prop_amb.proofs.MetLaws.{clash_nogood, met_listed, met_noted}
+use Rattle.prop_amb.proofs.MetLaws.{clash_nogood, clash_is_new, met_listed, met_noted}
 use Rattle.prop_amb.proofs.RunLaws.{same_problem, falls_in, bounded_in, conflict_in}
 use Rattle.prop_amb.proofs.settling.attempt.Goals as goal
 
@@ -41,6 +41,13 @@ returns-in-Quiet-clause-falls g c =
 pub returns-in-Quiet-clause-few : goal.returns-in-Quiet-clause-few
 returns-in-Quiet-clause-few g c =
     bounded_in _ _ _ (same_problem (stored_of g.R.Rule.value_of) c.args.network.now.library c.run.new.network.library c.args.network.now.cells c.run.new.network.cells c.in_ok-end.ensures.same c.in_ok-end.ensures.rest) c.in_ok-end.ensures.bounded
+
+pub note-requires : goal.note-requires
+note-requires g c =
+    let same = same_problem (stored_of g.R.Rule.value_of) c.args.network.now.library c.run.new.network.library c.args.network.now.cells c.run.new.network.cells c.in_ok-end.ensures.same c.in_ok-end.ensures.rest in
+    let h = rw c.in-Clash.is at c.in_ok-end.ensures.conflict in
+    clash_is_new (problem_of (stored_of g.R.Rule.value_of c.args.network.now.library) c.args.network.now.cells) c.args.search.now c.in_ok-copy-in-Clash.field-0 c.in-Clash.support
+    (conflict_in _ _ _ _ _ _ same (ap set_of c.worldview.ensures.same) refl h) c.in_ok-copy-in-Clash.ensures (c.in_default.ensures.none refl)
 
 pub returns-in_ok-note-in-Clash-clause-search : goal.returns-in_ok-note-in-Clash-clause-search
 returns-in_ok-note-in-Clash-clause-search g c =

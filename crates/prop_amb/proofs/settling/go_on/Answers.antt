@@ -1,35 +1,19 @@
-use Rattle.std.proofs.Common.{◌∙◌, Contains, length, ap, arith}
+use Rattle.std.proofs.Common.{Contains}
 use Rattle.prop_premises.specs.Sets.{IsPart, set_of}
-use Rattle.prop_premises.specs.Origins.{choices_of}
 use Rattle.prop_premises.proofs.WithinLemmas.{within_has}
 use Rattle.prop_cells.specs.Problems.{Problem}
-use Rattle.prop_amb.specs.Search.{IsSearch, choices_in}
+use Rattle.prop_amb.specs.Search.{IsSearch}
 use Rattle.prop_amb.specs.Resolving.{IsReason}
 use Rattle.prop_amb.specs.Culprits.{MayLeave}
 use Rattle.prop_amb.specs.inner.Settling.{IsMet}
 use Rattle.prop_amb.proofs.DecidingLaws.{may_move, goes_later}
 use Rattle.prop_amb.proofs.MetLaws.{met_listed, met_part}
-use Rattle.prop_amb.proofs.PlaceLemmas.{get_below_length}
 use Rattle.prop_amb.proofs.settling.go_on.Goals as goal
 
 pub resolve-requires : goal.resolve-requires
 resolve-requires c = record {
   believed = λ p t. within_has (set_of c.args.search.now.worldview) c.in-Some.blocking.now p c.in-Some.ensures.believed (rw c.in_ok-believed.ensures at t);
 }
-
-pub offset_bounds-choices-place : goal.offset_bounds-choices-place
-offset_bounds-choices-place c =
-    let leaves = rw c.in-Against.is at c.in_ok-resolve.ensures.may in
-    let below = get_below_length (choices_in c.args.search.now) c.in-Against.place leaves.may.choice leaves.may.choice_at in
-    let same = c.choices.ensures ∙ ap choices_of c.premises.ensures in
-    omega (arith, below, c.choices.type_inv, ap length same)
-
-pub bounds-choices-place : goal.bounds-choices-place
-bounds-choices-place c =
-    let leaves = rw c.in-Against.is at c.in_ok-resolve.ensures.may in
-    let below = get_below_length (choices_in c.args.search.now) c.in-Against.place leaves.may.choice leaves.may.choice_at in
-    let same = c.choices.ensures ∙ ap choices_of c.premises.ensures in
-    omega (arith, below, ap length same)
 
 met : (c : goal.After-drop) (problem : Problem) → IsSearch problem c.args.search.now → IsMet problem c.args.search.now c.in_ok-believed.believed
 met c problem learned =
@@ -43,7 +27,7 @@ returns-clause-search c problem learned =
     c.advance.ensures.search problem reason learned
 
 pub returns-clause-moves : goal.returns-clause-moves
-returns-clause-moves c =
+returns-clause-moves c = λ moved.
     let s = c.args.search.now in
     let leaves : MayLeave s c.in_ok-believed.believed c.in-Against.place = rw c.in-Against.is at c.in_ok-resolve.ensures.may in
     let noted : Contains s.listed c.in_ok-believed.believed = rw c.in_ok-believed.ensures c.in-Some.ensures.listed in

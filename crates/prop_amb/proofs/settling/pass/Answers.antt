@@ -15,11 +15,11 @@ loop-moves-init c = record {
 pub loop-moves-preserved : goal.loop-moves-preserved
 loop-moves-preserved c =
     let before = c.loop-moves.invariant in
-    let after = c.in_ok-moved.ensures in
+    let after = c.in_ok-go_on.ensures in
     record {
       premises = after.premises ∙ before.premises;
       listed = after.listed ∙ before.listed;
       search = λ problem learned. after.search problem (before.search problem learned);
       few = omega (arith, c.loop-moves-test.true);
-      moves = passes_on before.moves (rw c.in-Some.is at after.moves);
+      moves = passes_on before.moves (after.moves c.if-not-branch.false);
     }

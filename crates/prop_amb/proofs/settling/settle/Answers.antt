@@ -1,8 +1,6 @@
-use Rattle.std.proofs.Common.{◌≡◌, ◌∙◌, ℕ, ◌+◌, ◌-◌, ◌⊎◌, length, Option, Some, None, Result, Ok, Err, refl, sym, ap, subst, inl, inr, arith}
-use Rattle.prop_premises.specs.Sets.{set_of}
+use Rattle.std.proofs.Common.{◌≡◌, ◌∙◌, ℕ, ◌+◌, ◌-◌, ◌⊎◌, length, Option, Some, None, Result, Ok, Err, refl, sym, ap, inl, inr, arith}
 use Rattle.prop_procedures.specs.Kept.{stored_of}
 use Rattle.prop_cells.specs.Data.{Data, problem_of}
-use Rattle.prop_scheduler.specs.Turns.{IsUnderWay}
 use Rattle.prop_amb.specs.Search.{IsSearch}
 use Rattle.prop_amb.specs.Culprits.{MayMove}
 use Rattle.prop_amb.specs.declared.outcome.Outcome.{Outcome}

@@ -1,6 +1,7 @@
-use Rattle.std.proofs.Common.{◌≢◌, ◌∙◌, ◌+◌, ◌-◌, ◌<◌, length, refl, sym, subst, arith}
+use Rattle.std.proofs.Common.{◌≢◌, ◌∙◌, ◌+◌, ◌-◌, ◌<◌, length, refl, sym, ap, subst, arith}
 use Rattle.std.proofs.lemmas.Bool.{false≢true}
 use Rattle.prop_procedures.specs.Kept.{stored_of}
+use Rattle.prop_amb.specs.Search.{Stand}
 use Rattle.prop_amb.specs.inner.Trying.{Attempted}
 use Rattle.prop_amb.proofs.OnWay.{AtLevel}
 use Rattle.prop_amb.proofs.SettlingLaws.{search_from}
@@ -20,6 +21,11 @@ loop-tried-init g c = record {
 pub attempt-requires-clause-search : goal.attempt-requires-clause-search
 attempt-requires-clause-search g c =
     search_from (stored_of g.R.Rule.value_of) c.args.network.now.library c.loop-tried.network.library c.args.network.now.cells c.loop-tried.network.cells c.loop-tried.search c.loop-tried.invariant.same c.loop-tried.invariant.way.rest c.loop-tried.invariant.way.search
+
+pub believe_more-requires-clause-unblocked : goal.believe_more-requires-clause-unblocked
+believe_more-requires-clause-unblocked g c =
+    let met = c.in_ok-tried.ensures in
+    rw (ap (λ (s : Stand). s.worldview) met.only) (met.unblocked c.in-Quiet.is)
 
 pub loop-tried-preserved : goal.loop-tried-preserved
 loop-tried-preserved g c =

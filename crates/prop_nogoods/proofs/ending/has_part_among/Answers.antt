@@ -7,7 +7,7 @@ use Rattle.prop_nogoods.proofs.ending.has_part_among.Goals as goal
 pub returns : goal.returns
 returns c =
     let gs = c.args.endings.now in
-    let n = c.args.nogood.now in
+    let n = c.args.set.now in
     let done = c.loop-premise.yielded in
     let ends = λ (p : ℕ). NoPartEnds gs (set_of n) (Some p) in
     let end : c.loop-premise.premise-iterator ≡ [] = search rules in

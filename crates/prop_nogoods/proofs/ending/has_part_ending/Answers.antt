@@ -11,7 +11,7 @@ use Rattle.prop_nogoods.proofs.ending.has_part_ending.Goals.{then-place-endings,
 pub returns-then-eq-clause-found : goal.returns-then-eq-clause-found
 returns-then-eq-clause-found c found =
     let x = c.index-endings-place-then-eq.result in
-    let w = set_of c.args.nogood.now in
+    let w = set_of c.args.set.now in
     let inside : c.place_for-place.result < length c.args.endings.now = elim c.if-place-endings.branch [
       | then-place-endings v ↦ v.if-place-endings.true
       | else-place-endings v ↦ leb-true (suc c.place_for-place.result) (length c.args.endings.now) (sym v.value-is ∙ c.if-eq.true)
@@ -24,7 +24,7 @@ returns-then-eq-clause-none c none =
     let gs = c.args.endings.now in
     let place = c.place_for-place.result in
     let x = c.index-endings-place-then-eq.result in
-    let w = set_of c.args.nogood.now in
+    let w = set_of c.args.set.now in
     no_part_at c.args.last gs place w c.place_for-place.ensures.between c.requires (λ d l same.
     subst (λ (g : Group). has_part g.sets w ≡ false) (c.index-endings-place-then-eq.is ∙ get_or_default gs place x d l) (sym c.has_part.ensures ∙ none))
 
@@ -33,7 +33,7 @@ pub returns-else-eq-clause-none : goal.returns-else-eq-clause-none
 returns-else-eq-clause-none c none =
     let gs = c.args.endings.now in
     let place = c.place_for-place.result in
-    let w = set_of c.args.nogood.now in
+    let w = set_of c.args.set.now in
     no_part_at c.args.last gs place w c.place_for-place.ensures.between c.requires (λ d l same. elim c.if-place-endings.branch [
       | then-place-endings v ↦
           let read = v.index-endings-place.is ∙ get_or_default gs place v.index-endings-place.result d l in

@@ -6,9 +6,11 @@ use Rattle.prop_amb.proofs.LastChoiceLaws.{stand_declared, search_stays}
 use Rattle.prop_amb.proofs.search.Search.add_choice.Goals as goal
 
 pub invariant_of-self-2 : goal.invariant_of-self-2
-invariant_of-self-2 c =
-    rw (c.in_ok-push.ensures.items, c.reserve.ensures.items, c.in_ok-push-2.ensures.items, c.reserve-2.ensures.items, c.none.ensures, c.in-Ok.ensures.ok)
-    (stand_declared (the_view c.self.inside) c.args.name.now c.args.sides c.self.invariant c.requires.sides.0 c.requires.sides.1 (rw (← c.self.view_is) at c.requires.room))
+invariant_of-self-2 c = (
+  rw (c.in_ok-push.ensures.items, c.reserve.ensures.items, c.in_ok-push-2.ensures.items, c.reserve-2.ensures.items, c.none.ensures, c.in-Ok.ensures.ok)
+      (stand_declared (the_view c.self.inside) c.args.name.now c.args.sides c.self.invariant.0 c.requires.sides.0 c.requires.sides.1 (rw (← c.self.view_is) at c.requires.room)),
+  c.self.invariant.1,
+)
 
 pub returns-clause-last : goal.returns-clause-last
 returns-clause-last c =
@@ -24,4 +26,4 @@ returns-clause-search c problem fresh h =
     let is : c.in-Ok.choice ≡ record { first = length c.self.inside.premises; sides = c.args.sides } =
     ap (λ n. record { first = n; sides = c.in-Ok.choice.sides }) known.choice.0 ∙ ap (λ n. record { first = length c.self.inside.premises; sides = n }) known.choice.1 in
     rw (c.in_ok-push.ensures.items, c.reserve.ensures.items, c.in_ok-push-2.ensures.items, c.reserve-2.ensures.items, c.none.ensures, known.ok)
-    (search_stays problem (the_view c.self.inside) c.args.name.now c.args.sides c.in-Ok.choice c.self.invariant c.requires.sides.0 c.requires.sides.1 is fresh (rw (← c.self.view_is) at h))
+    (search_stays problem (the_view c.self.inside) c.args.name.now c.args.sides c.in-Ok.choice c.self.invariant.0 c.requires.sides.0 c.requires.sides.1 is fresh (rw (← c.self.view_is) at h))

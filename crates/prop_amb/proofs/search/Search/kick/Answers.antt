@@ -6,18 +6,21 @@ use Rattle.prop_amb.specs.Search.{Stand, IsSearch}
 use Rattle.prop_amb.specs.contracts.search.Search.{the_view}
 use Rattle.prop_amb.proofs.KeepingLaws.{search_restarted}
 use Rattle.prop_amb.proofs.BelievingLaws.{kicked_believes, stand_believing}
+use Rattle.prop_amb.proofs.FromLaws.{none_below_kicked}
 use Rattle.prop_amb.proofs.search.Search.kick.Goals as goal
 
 pub invariant_of-self : goal.invariant_of-self
 invariant_of-self c =
     let premises = ap (λ (s : Stand). s.premises) (c.self-2.view_is ∙ c.restart.ensures.only) in
     let user : IsTrue (is_user_at c.self-2.inside.premises c.args.premise) = rw premises c.requires in
-    let same = ap choices_of c.kick.ensures.only ∙ choices_of-with_belief_at c.self-2.inside.premises c.args.premise false in
-    stand_believing (the_view c.self-2.inside) c.kick.new.self c.disbelieve.new.self c.self-2.invariant
-    (rw c.kick.ensures.only (numbered_belief c.self-2.inside.premises c.args.premise false c.self-2.invariant.numbered))
-    (rw (c.kick.ensures.only, length-with_belief_at c.self-2.inside.premises c.args.premise false) c.self-2.invariant.few)
-    same
-    (kicked_believes (the_view c.self-2.inside) c.kick.new.self c.disbelieve.new.self c.args.premise c.self-2.invariant user same c.kick.ensures.beliefs c.disbelieve.ensures)
+    let same = ap choices_of c.kick.ensures.only ∙ choices_of-with_belief_at c.self-2.inside.premises c.args.premise false in (
+      stand_believing (the_view c.self-2.inside) c.kick.new.self c.disbelieve.new.self c.self-2.invariant.0
+          (rw c.kick.ensures.only (numbered_belief c.self-2.inside.premises c.args.premise false c.self-2.invariant.0.numbered))
+          (rw (c.kick.ensures.only, length-with_belief_at c.self-2.inside.premises c.args.premise false) c.self-2.invariant.0.few)
+          same
+          (kicked_believes (the_view c.self-2.inside) c.kick.new.self c.disbelieve.new.self c.args.premise c.self-2.invariant.0 user same c.kick.ensures.beliefs c.disbelieve.ensures),
+      none_below_kicked c.self-2.inside.store c.self-2.inside.worldview c.disbelieve.new.self c.self-2.inside.from c.args.premise c.disbelieve.ensures c.self-2.invariant.1,
+    )
 
 pub returns-clause-search : goal.returns-clause-search
 returns-clause-search c problem h =

@@ -1,17 +1,11 @@
-use Rattle.std.proofs.Common.{◌≡◌, ℕ, Bool, true, false, Option, Some, None, IsTrue, IfSome, refl}
-use Rattle.prop_premises.specs.Sets.{set_of, is_within}
-use Rattle.prop_premises.proofs.WithinLemmas.{within_has}
 use Rattle.prop_nogoods.proofs.listed.Listed.is_believed.Goals as goal
 
-pub returns-else-has : goal.returns-else-has
-returns-else-has c = by (is_within (set_of c.args.worldview.now) c.self.inside.premises) refl
-  where
-    found : (last : Option ℕ) → last ≡ Some c.in-Some.last → IfSome last (λ p. IsTrue (set_of c.self.inside.premises p)) → set_of c.self.inside.premises c.in-Some.last ≡ true
-    found None is told = cc is
-    found (Some p) is told = cc (is, told)
+pub returns-then-lacks : goal.returns-then-lacks
+returns-then-lacks c =
+    let missing = c.lacks.ensures c.if-lacks.true c.self.inside.premises.value c.self.invariant.3 in
+    cc (missing, c.self.view_is)
 
-    by : (b : Bool) → is_within (set_of c.args.worldview.now) c.self.inside.premises ≡ b → c.has.result ≡ is_within (set_of c.args.worldview.now) c.args.self.now
-    by true w =
-        let last : set_of c.self.inside.premises c.in-Some.last ≡ true = found c.self.inside.last c.in-Some.is c.self.invariant.2.0 in
-        cc (within_has (set_of c.args.worldview.now) c.self.inside.premises c.in-Some.last w last, c.has.ensures)
-    by false w = cc (w, c.if-has.false, c.self.view_is)
+pub returns-then-lacks-2 : goal.returns-then-lacks-2
+returns-then-lacks-2 c =
+    let missing = c.lacks-2.ensures c.if-lacks-2.true c.self.inside.premises.value c.self.invariant.2.0 in
+    cc (missing, c.self.view_is)

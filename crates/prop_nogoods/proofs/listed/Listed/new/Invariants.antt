@@ -8,5 +8,6 @@ invariant-loop-premise l = record {
   so_far : l.yielded ++ l.premise-iterator ≡ l.fn.premises;
   size : l.size ≡ length l.yielded;
   last : IfSome l.last (λ p. IsTrue (set_of l.fn.premises p));
+  other : IfSome l.other (λ p. IsTrue (set_of l.fn.premises p));
   below : IsTrue (is_below (end_of l.last) l.yielded);
 }

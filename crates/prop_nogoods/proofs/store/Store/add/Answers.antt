@@ -1,75 +1,63 @@
-use Rattle.std.proofs.Common.{◌≡◌, ◌∙◌, ◌≤◌, refl, sym, false, length}
-use Rattle.std.specs.List.Sorted.{IsStrictlyIncreasing}
+use Rattle.std.proofs.Common.{◌≡◌, ◌∙◌, Bool, true, false, not, sym, ap}
 use Rattle.prop_premises.specs.Sets.{set_of}
-use Rattle.prop_nogoods.specs.Stores.{has_part, staying}
-use Rattle.prop_nogoods.specs.inner.Stores.{HaveSame, IsPartOfNone}
+use Rattle.prop_nogoods.specs.Stores.{has_part}
 use Rattle.prop_nogoods.specs.inner.Endings.{sets_of}
-use Rattle.prop_nogoods.proofs.PlaceLemmas.{IsPlace}
-use Rattle.prop_nogoods.proofs.StoreLemmas.{joined, joined_behind, adds_joined, minimal_joined, in_order_joined, by_size_kept, by_size_joined, HaveSame-joined, part_of_none-same}
+use Rattle.prop_nogoods.proofs.AmongLemmas.{has_part-same}
+use Rattle.prop_nogoods.proofs.StoreLemmas.{adds_known}
 use Rattle.prop_nogoods.proofs.store.Store.add.Goals as goal
 
-pub has_larger-has_larger-requires : goal.has_larger-has_larger-requires
-has_larger-has_larger-requires c = record {
-  in_order = rw (← c.nogood.view_is) c.nogood.invariant.1;
-  no_part = sym c.has_part.ensures ∙ c.if-has_part.false;
-}
+absurd_told : {P : Type 0} (told has : Bool) → told ≡ has → told ≡ false → has ≡ true → P
+absurd_told told has is untold listed = absurd (by told has is untold listed)
+  where
+    by : (a b : Bool) → a ≡ b → a ≡ false → b ≡ true → ⊥
+    by true b e f t = cc
+    by false true e f t = cc
+    by false false e f t = cc
 
-pub join-requires : goal.join-requires
-join-requires c = record {
-  in_order = c.self.invariant.4;
-  none = λ e.
-      let of_none : IsPartOfNone c.self.inside.nogoods.items c.args.nogood = rw (← c.self.view_is, c.new-nogood.ensures) at (c.has_larger-has_larger.ensures e) in
-      rw c.new-nogood.ensures (part_of_none-same c.self.inside.nogoods.items (sets_of c.self.inside.by_last.items) c.args.nogood c.self.invariant.3 of_none);
-}
+pub add_new-requires : goal.add_new-requires
+add_new-requires c =
+    let sets = c.self.inside.nogoods.items in
+    let groups = c.self.inside.by_last.items in
+    let w = set_of c.args.nogood in
+    let told : c.has_part_among.result ≡ has_part (sets_of groups) w = rw c.deref.ensures.value at c.has_part_among.ensures in
+    rw (← c.self.view_is) (sym (told ∙ has_part-same sets (sets_of groups) w c.self.invariant.3) ∙ c.if-has_part_among.false)
 
-pub drop_any_larger-requires : goal.drop_any_larger-requires
-drop_any_larger-requires c = record { none = λ e. rw (c.in_ok-reserve.ensures.items, c.self.view_is) (c.has_larger-has_larger.ensures e) }
+pub returns-then-has_part_among-clause-adds : goal.returns-then-has_part_among-clause-adds
+returns-then-has_part_among-clause-adds c =
+    let sets = c.self.inside.nogoods.items in
+    let groups = c.self.inside.by_last.items in
+    let w = set_of c.args.nogood in
+    let told : c.has_part_among.result ≡ has_part (sets_of groups) w = rw c.deref.ensures.value at c.has_part_among.ensures in
+    rw (← c.self.view_is) (adds_known sets c.args.nogood (sym (told ∙ has_part-same sets (sets_of groups) w c.self.invariant.3) ∙ c.if-has_part_among.true))
 
-pub place_of-place-requires : goal.place_of-place-requires
-place_of-place-requires c =
-    let left : c.deref.result.now ≡ staying c.self.inside.nogoods.items c.args.nogood =
-    rw (c.deref.ensures.value, c.drop_any_larger.ensures.left, c.in_ok-reserve.ensures.items, c.new-nogood.ensures) refl in
-    rw left (by_size_kept c.self.inside.nogoods.items c.args.nogood c.self.invariant.2)
+pub returns-then-has_part_among-clause-new : goal.returns-then-has_part_among-clause-new
+returns-then-has_part_among-clause-new c =
+    let sets = c.self.inside.nogoods.items in
+    let groups = c.self.inside.by_last.items in
+    let w = set_of c.args.nogood in
+    let told : c.has_part_among.result ≡ has_part (sets_of groups) w = rw c.deref.ensures.value at c.has_part_among.ensures in
+    rw (← c.self.view_is) (ap not (sym c.if-has_part_among.true ∙ told ∙ has_part-same sets (sets_of groups) w c.self.invariant.3))
 
-left : (c : goal.In_ok-insert) → c.deref.result.now ≡ staying c.self.inside.nogoods.items c.args.nogood
-left c = rw (c.deref.ensures.value, c.drop_any_larger.ensures.left, c.in_ok-reserve.ensures.items, c.new-nogood.ensures) refl
+pub returns-in_err-add_new-clause-known : goal.returns-in_err-add_new-clause-known
+returns-in_err-add_new-clause-known c = λ known.
+    let sets = c.self.inside.nogoods.items in
+    let groups = c.self.inside.by_last.items in
+    let w = set_of c.args.nogood in
+    let told : c.has_part_among.result ≡ has_part (sets_of groups) w = rw c.deref.ensures.value at c.has_part_among.ensures in
+    absurd_told c.has_part_among.result (has_part sets w) (told ∙ has_part-same sets (sets_of groups) w c.self.invariant.3) c.if-has_part_among.false (rw (← c.self.view_is) at known)
 
-now : (c : goal.In_ok-insert) → c.insert.new.self.items ≡ joined c.self.inside.nogoods.items c.args.nogood c.place_of-place.result
-now c = rw (c.in_ok-insert.ensures.items, c.drop_any_larger.ensures.left, c.in_ok-reserve.ensures.items, c.new-nogood.ensures) refl
+pub returns-clause-new : goal.returns-clause-new
+returns-clause-new c =
+    let sets = c.self.inside.nogoods.items in
+    let groups = c.self.inside.by_last.items in
+    let w = set_of c.args.nogood in
+    let told : c.has_part_among.result ≡ has_part (sets_of groups) w = rw c.deref.ensures.value at c.has_part_among.ensures in
+    rw (← c.self.view_is) (ap not (sym c.if-has_part_among.false ∙ told ∙ has_part-same sets (sets_of groups) w c.self.invariant.3))
 
-inside : (c : goal.In_ok-insert) → c.place_of-place.result ≤ length (staying c.self.inside.nogoods.items c.args.nogood)
-inside c = rw (left c) at c.place_of-place.ensures.bound
-
-pub returns-clause-adds : goal.returns-clause-adds
-returns-clause-adds c = rw (now c, ← c.self.view_is) (adds_joined c.self.inside.nogoods.items c.args.nogood c.place_of-place.result)
-
-pub returns-clause-minimal : goal.returns-clause-minimal
-returns-clause-minimal c =
-    let old = c.self.inside.nogoods.items in
-    let none : has_part old (set_of c.args.nogood) ≡ false = cc (c.has_part.ensures, c.if-has_part.false, c.self.view_is, c.new-nogood.ensures) in
-    rw (now c) (minimal_joined old c.args.nogood c.place_of-place.result (inside c) none c.self.invariant.0)
-
-pub returns-clause-in_order : goal.returns-clause-in_order
-returns-clause-in_order c =
-    let in_order : IsStrictlyIncreasing c.args.nogood = rw (c.nogood.view_is, c.new-nogood.ensures) at c.nogood.invariant.1 in
-    rw (now c) (in_order_joined c.self.inside.nogoods.items c.args.nogood c.place_of-place.result in_order c.self.invariant.1)
-
-place : (c : goal.In_ok-insert) → IsPlace (staying c.self.inside.nogoods.items c.args.nogood) c.args.nogood c.place_of-place.result
-place c = rw (left c, c.new-nogood.ensures) at c.place_of-place.ensures.between
-
-pub returns-clause-by_size : goal.returns-clause-by_size
-returns-clause-by_size c =
-    rw (now c) (by_size_joined c.self.inside.nogoods.items c.args.nogood c.place_of-place.result (inside c) (place c) c.self.invariant.2)
-
-same : (c : goal.In_ok-insert) → HaveSame c.insert.new.self.items (sets_of c.join.new.endings.items)
-same c =
-    let joins = c.in_ok-join.ensures.ok in
-    let again : sets_of c.join.new.endings.items ≡ joined (sets_of c.self.inside.by_last.items) c.args.nogood joins.0 = rw c.new-nogood.ensures at joins.1 in
-    rw (now c, again) (HaveSame-joined c.self.inside.nogoods.items (sets_of c.self.inside.by_last.items) c.args.nogood c.place_of-place.result joins.0 c.self.invariant.3)
-
-pub invariant_of-self-2 : goal.invariant_of-self-2
-invariant_of-self-2 c = (returns-clause-minimal c, returns-clause-in_order c, returns-clause-by_size c, same c, c.in_ok-join.ensures.in_order)
-
-pub returns-clause-joins : goal.returns-clause-joins
-returns-clause-joins c is_new =
-    rw (now c, ← c.self.view_is) (joined_behind c.self.inside.nogoods.items c.args.nogood c.place_of-place.result (place c))
+pub returns-clause-known : goal.returns-clause-known
+returns-clause-known c = λ known.
+    let sets = c.self.inside.nogoods.items in
+    let groups = c.self.inside.by_last.items in
+    let w = set_of c.args.nogood in
+    let told : c.has_part_among.result ≡ has_part (sets_of groups) w = rw c.deref.ensures.value at c.has_part_among.ensures in
+    absurd_told c.has_part_among.result (has_part sets w) (told ∙ has_part-same sets (sets_of groups) w c.self.invariant.3) c.if-has_part_among.false (rw (← c.self.view_is) at known)

@@ -2,10 +2,10 @@ use Rattle.std.proofs.Common.{◌≡◌, ℕ, List, Some, None, length, refl, �
 use Rattle.std.specs.Prelude.{slice_get}
 use Rattle.prop_premises.specs.Sets.{set_of}
 use Rattle.prop_nogoods.specs.inner.Endings.{sets_of}
-use Rattle.prop_nogoods.specs.Stores.{PartsEndBelow}
-use Rattle.prop_nogoods.proofs.BelievedLemmas.{end_below_same, each_has_one, no_part_below_first}
-use Rattle.prop_nogoods.proofs.store.Store.blocks_any.Goals as goal
-use Rattle.prop_nogoods.proofs.store.Store.blocks_any.Goals.{in_default-via-in-Some+else-size-eq0, in_default-via-in_default}
+use Rattle.prop_nogoods.specs.Stores.{PartsEndBelow, NoneEndsBelow}
+use Rattle.prop_nogoods.proofs.BelievedLemmas.{end_below_same, each_has_one, no_part_from}
+use Rattle.prop_nogoods.proofs.store.Store.blocks_from.Goals as goal
+use Rattle.prop_nogoods.proofs.store.Store.blocks_from.Goals.{in_default-via-in-Some+else-size-eq0, in_default-via-in_default}
 
 -- the first nogood has a premise
 first_has_one : (c : goal.After-from_residual) → (line : List ℕ) → slice_get c.self.inside.nogoods.items 0 ≡ Some line → ¬ (length line ≡ 0)
@@ -24,9 +24,11 @@ returns-in_err-nogood-in_default-clause-none c none =
     let sets = c.self.inside.nogoods.items in
     let groups = c.self.inside.by_last.items in
     let w = set_of c.args.worldview.now in
-    let below : PartsEndBelow (sets_of groups) w 0 = rw c.deref-in_default.ensures.value at (c.in_err-nogood-in_default.ensures.none refl) in
+    let p = c.args.from in
+    let below : PartsEndBelow (sets_of groups) w p = rw c.deref-in_default.ensures.value at (c.in_err-nogood-in_default.ensures.none refl) in
+    let others : NoneEndsBelow sets w p = rw (← c.self.view_is) at c.requires in
     rw (← c.self.view_is)
-    (no_part_below_first sets w (end_below_same sets (sets_of groups) w 0 c.self.invariant.3 below)
+    (no_part_from sets w p (end_below_same sets (sets_of groups) w p c.self.invariant.3 below) others
     (each_has_one sets c.self.invariant.2 (first_has_one c)))
 
 pub returns-in_ok-nogood-in_default-clause-listed : goal.returns-in_ok-nogood-in_default-clause-listed
