@@ -11,15 +11,15 @@ use std::alloc::{AllocError, Global};
 use std::marker::Model;
 use std::rc::Rc;
 
-/// A set of premises that can't all be believed, with how many they are and the last two of them.
+/// A set of premises that can't all be believed, with how many they are and the last three of them.
 /// Of most sets that aren't believed these tell it, so that the set itself isn't looked at. It stands
 /// in memory once, in however many lists it is.
 #[derive(Drop)]
 pub(crate) struct Listed {
     size: usize,
     last: Option<Premise>,
-    /// The one before the last.
-    other: Option<Premise>,
+    second_last: Option<Premise>,
+    third_last: Option<Premise>,
     premises: Rc<PremiseSet, Global>,
 }
 
@@ -31,7 +31,8 @@ impl Model for Listed {
     ghost invariant = { λ l. (l.size ≡ length l.premises.value)
         × IsStrictlyIncreasing l.premises.value
         × EndsSo l.last l.premises.value
-        × IfSome l.other (λ p. IsTrue (set_of l.premises.value p)) };
+        × IfSome l.second_last (λ p. IsTrue (set_of l.premises.value p))
+        × IfSome l.third_last (λ p. IsTrue (set_of l.premises.value p)) };
 }
 
 impl Listed {
@@ -41,17 +42,20 @@ impl Listed {
     {
         let mut size = 0;
         let mut last = None;
-        let mut other = None;
+        let mut second_last = None;
+        let mut third_last = None;
         for premise in premises.iter() {
             size += 1;
-            other = last;
+            third_last = second_last;
+            second_last = last;
             last = Some(premise);
         }
         let premises = Rc::new(alloc, premises)?;
         Ok(Listed {
             size,
             last,
-            other,
+            second_last,
+            third_last,
             premises,
         })
     }
@@ -80,7 +84,8 @@ impl Listed {
         Ok(Listed {
             size: self.size,
             last: self.last,
-            other: self.other,
+            second_last: self.second_last,
+            third_last: self.third_last,
             premises,
         })
     }
@@ -93,13 +98,16 @@ impl Listed {
         &self.premises
     }
 
-    /// Whether each premise of the set is believed. It looks at the last two first, and takes no
+    /// Whether each premise of the set is believed. It looks at the last three first, and takes no
     /// memory.
     #[inline]
     pub(crate) fn is_believed(&self, worldview: &Worldview) -> bool
         ensures { result ≡ is_within (set_of worldview.now) self.now }
     {
-        if lacks(worldview, self.other) {
+        if lacks(worldview, self.second_last) {
+            return false;
+        }
+        if lacks(worldview, self.third_last) {
             return false;
         }
         if lacks(worldview, self.last) {

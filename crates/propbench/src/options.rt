@@ -22,17 +22,19 @@ const VERSION: &str = "1.0 (rattle-kit-13f)";
 /// What the program is for.
 const ABOUT: &str = "Answers commands on a propagator network with truth maintenance.
 
-Reads commands from standard input, one on each line, and writes a reply or a refusal to each.";
+Reads commands from standard input, one on each line, and writes a reply or a refusal to each.
+To run a file of commands or to work at a terminal: propdesk run FILE, propdesk shell.";
 
 /// The commands by group, and where they are described.
 const COMMANDS: &str = "Commands:
-  networks   domain, relation, define, cell, attach
-  statements fix, tell, choose, forget
-  premises   kick, bring, worldview, nogoods
-  questions  ask, why, core, settle
-  the run    limit
+  networks    domain, relation, define, cell, attach
+  statements  fix, tell, choose, forget
+  premises    kick, bring, worldview, nogoods
+  questions   ask, why, core, settle
+  steps       limit
 
-Every command is described in LANGUAGE.md, a first session in TUTORIAL.md.";
+TUTORIAL.md is a first session, and LANGUAGE.md describes each command: in docs/ of the sources,
+and in /usr/share/doc/propbench of the Debian package.";
 
 /// The options that the words give, the first of which is the program's name. The error is the
 /// option reader's own, or that a value is none of its option's, or want of memory.

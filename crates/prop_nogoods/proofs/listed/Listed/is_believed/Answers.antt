@@ -7,5 +7,10 @@ returns-then-lacks c =
 
 pub returns-then-lacks-2 : goal.returns-then-lacks-2
 returns-then-lacks-2 c =
-    let missing = c.lacks-2.ensures c.if-lacks-2.true c.self.inside.premises.value c.self.invariant.2.0 in
+    let missing = c.lacks-2.ensures c.if-lacks-2.true c.self.inside.premises.value c.self.invariant.4 in
+    cc (missing, c.self.view_is)
+
+pub returns-then-lacks-3 : goal.returns-then-lacks-3
+returns-then-lacks-3 c =
+    let missing = c.lacks-3.ensures c.if-lacks-3.true c.self.inside.premises.value c.self.invariant.2.0 in
     cc (missing, c.self.view_is)
