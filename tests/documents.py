@@ -1,4 +1,4 @@
-"""What the documents show: sessions, which are run, and the code of a host, which has to be there.
+"""What the documents show: sessions, which are run, and code, which has to be there.
 
 A session is a block of lines that are indented by four spaces and begin with a command. The replies
 to a line stand under it; where none stands there, it is answered `ok`. The blocks of one document
@@ -12,7 +12,8 @@ from typing import Iterable, Iterator, Optional
 from case import Case
 
 TOP = os.path.dirname(os.path.dirname(os.path.realpath(__file__)))
-DOCUMENTS = ["README.md", "docs/TUTORIAL.md", "docs/LANGUAGE.md", "docs/PIPE.md"]
+# Documents whose indented blocks are code, with the crate in which it stands.
+CODE = {"docs/HOSTING.md": "prop_host_tests", "docs/PRIMER.md": "prop_sets"}
 COMMANDS = """
 domain relation cell attach define fix tell choose kick bring forget limit ask why core settle
 worldview nogoods
@@ -53,23 +54,27 @@ def stripped(lines: Iterable[str]) -> list[str]:
     return [line.strip() for line in lines if line.strip()]
 
 
+def read(path: str) -> str:
+    with open(f"{TOP}/{path}", encoding="utf-8") as it:
+        return it.read()
+
+
 def code_shown() -> Optional[str]:
-    """What docs/HOSTING.md shows as code that stands nowhere in the crate of the host, or None."""
-    texts = []
-    for path in glob.glob(f"{TOP}/crates/prop_host_tests/**/*", recursive=True):
-        if path.endswith((".rt", ".antt", ".edit")) and "/out/" not in path:
-            with open(path, encoding="utf-8") as it:
-                texts.append("\n".join(stripped(it)))
-    with open(f"{TOP}/docs/HOSTING.md", encoding="utf-8") as it:
-        shown = re.findall(r"(?:^    .*\n)+", it.read(), flags=re.M)
-    for block in (stripped(each.splitlines()) for each in shown):
-        if not any("\n".join(block) in text for text in texts):
-            return f"docs/HOSTING.md shows what crates/prop_host_tests does not have: {block[0]}"
+    """What a document shows as code that stands nowhere in its crate, or None."""
+    for document, crate in CODE.items():
+        found = glob.glob(f"crates/{crate}/**/*", root_dir=TOP, recursive=True)
+        paths = [it for it in found if it.endswith((".rt", ".antt", ".edit")) and "/out/" not in it]
+        texts = ["\n".join(stripped(read(it).splitlines())) for it in paths]
+        shown = re.findall(r"(?:^    .*\n)+", read(document), flags=re.M)
+        for block in (stripped(each.splitlines()) for each in shown):
+            if not any("\n".join(block) in text for text in texts):
+                return f"{document} shows what crates/{crate} does not have: {block[0]}"
     return None
 
 
 def cases() -> Iterator[Case]:
-    for document in DOCUMENTS:
-        with open(f"{TOP}/{document}", encoding="utf-8") as it:
-            sent, wanted = session(it.read())
-        yield Case(f"documents: {document}", as_bytes(sent), as_bytes(wanted))
+    documents = sorted(glob.glob("docs/*.md", root_dir=TOP))
+    for document in ["README.md", *documents]:
+        sent, wanted = session(read(document))
+        if sent:
+            yield Case(f"documents: {document}", as_bytes(sent), as_bytes(wanted))

@@ -1,7 +1,8 @@
 """What docs/PIPE.md tells who drives the program: its examples, and how lines and replies go.
 
-An example is a block of the document that begins as a text of its language does. Behind it stands
-what it prints. It is run as a file of its own, with the program as `propbench` on its path.
+The examples are examples/drive.py, drive.sh and drive.c. Each is run in a folder of its own, with
+the program as `propbench` on its path. The document shows what the first prints, of which the
+others print some lines, and how it reads a reply.
 """
 import os
 import re
@@ -17,9 +18,10 @@ from refusals import COMPILERS
 
 TOP = os.path.dirname(os.path.dirname(os.path.realpath(__file__)))
 DOCUMENT = "docs/PIPE.md"
+MEASURES = "docs/BENCHMARKS.md"
 
-# What the first line of a language's example begins with.
-LANGUAGES = {"Python": "#!/usr/bin/python3", "shell": "#!/bin/sh", "C": "#include"}
+# The examples, and which lines of what the document shows each prints.
+EXAMPLES = {"drive.py": [0, 1, 2, 3, 4, 5], "drive.sh": [1, 4, 5], "drive.c": [1, 4, 5]}
 
 # A pipe's bytes on Linux, and how many of them the document says may be left unanswered.
 PIPE, WINDOW = 65_536, 32_768
@@ -34,51 +36,50 @@ def document() -> str:
 
 
 def blocks() -> list[str]:
-    """The indented blocks of the document, in which one empty line or two do not end a block."""
-    found = re.findall(r"(?:^    .*\n(?:\n{0,2}(?=    ))?)+", document(), flags=re.M)
+    """The indented blocks of the document, without what they are indented by."""
+    found = re.findall(r"(?:^    .*\n)+", document(), flags=re.M)
     return ["".join(line.removeprefix("    ") for line in each.splitlines(True)) for each in found]
 
 
-def example(language: str) -> tuple[str, str]:
-    """The example in a language, and what it prints."""
-    shown = blocks()
-    at = [at for at, it in enumerate(shown) if it.startswith(LANGUAGES[language])]
-    if len(at) != 1:
-        raise ValueError(f"{DOCUMENT} has {len(at)} examples in {language}")
-    return shown[at[0]], shown[at[0] + 1]
+def example(file: str) -> tuple[str, str]:
+    """The text of an example, and what it prints."""
+    with open(f"{TOP}/examples/{file}", encoding="utf-8") as it:
+        text = it.read()
+    shown = next(it for it in blocks() if it.endswith("status 0\n"))
+    lines = shown.splitlines(True)
+    return text, "".join(lines[at] for at in EXAMPLES[file])
 
 
-def command_for(language: str, file: str) -> list[str]:
+def command_for(file: str) -> list[str]:
     """The words that run an example, which is compiled first where it has to be."""
-    if language != "C":
-        return [{"Python": "/usr/bin/python3", "shell": "/bin/sh"}[language], file]
+    if not file.endswith(".c"):
+        return ["/bin/sh" if file.endswith(".sh") else "/usr/bin/python3", file]
     compiler = next(filter(shutil.which, COMPILERS))
-    source, warned = f"{file}.c", ["-Wall", "-Wextra", "-Werror"]
-    os.rename(file, source)
-    subprocess.run([compiler, "-std=gnu11", "-O1", *warned, "-o", file, source], check=True)
-    return [file]
+    built, warned = file.removesuffix(".c"), ["-Wall", "-Wextra", "-Werror"]
+    subprocess.run([compiler, "-std=gnu11", "-O1", *warned, "-o", built, file], check=True)
+    return [built]
 
 
 @dataclass
 class Example:
-    """An example of the document, which has to print what stands behind it."""
+    """An example, which has to print what the document says."""
 
-    language: str
+    file: str
 
     @property
     def name(self) -> str:
-        return f"pipe: the example in {self.language}"
+        return f"pipe: examples/{self.file}"
 
     def wrong(self, program: str) -> Optional[str]:
         """What is wrong with what the example prints, or None."""
-        text, wanted = example(self.language)
+        text, wanted = example(self.file)
         with tempfile.TemporaryDirectory(prefix="pipe-") as room:
             os.symlink(os.path.abspath(program), f"{room}/propbench")
-            file = f"{room}/example"
+            file = f"{room}/{self.file}"
             with open(file, "w", encoding="utf-8") as it:
                 it.write(text)
             path = {**os.environ, "PATH": f"{room}:{os.environ['PATH']}"}
-            words = command_for(self.language, file)
+            words = command_for(file)
             ran = subprocess.run(words, env=path, capture_output=True, text=True, timeout=SECONDS)
         if ran.returncode or ran.stderr or ran.stdout != wanted:
             return f"status {ran.returncode}: {ran.stderr}\n{ran.stdout}\nwanted:\n{wanted}"
@@ -129,7 +130,7 @@ def is_stuck_as_told(ran: "subprocess.Popen[bytes]") -> Optional[str]:
     most = PIPE // len(b"ok\n") + (PIPE + 4_096) // len(b"cell c00000 span\n")
     if not most - 1_000 <= count <= most + 1_000:
         return f"{count} lines were taken, and not about {most}"
-    told = re.search(r"some ([\d,]+) lines", document())
+    told = re.search(r"after some ([\d,]+) lines", document())
     if not told or abs(int(told[1].replace(",", "")) - most) > 1_000:
         return f"{DOCUMENT} does not tell that {most} lines are taken"
     replies = b""
@@ -183,15 +184,30 @@ class Speed:
         words = [f"{TOP}/tools/pipe_speed", program, "--lines", "100"]
         ran = subprocess.run(words, capture_output=True, text=True, timeout=SECONDS)
         rows = re.findall(r"^\| (.*) \| [\d,]{4,} \| [\d,]{4,} \|$", ran.stdout, flags=re.M)
-        told = re.findall(r"^\| (.*) \| [\d,]{4,} \| [\d,]{4,} \|$", document(), flags=re.M)
+        with open(f"{TOP}/{MEASURES}", encoding="utf-8") as it:
+            shown = it.read().partition("## Lines through pipes")[2]
+        told = re.findall(r"^\| (.*) \| [\d,]{4,} \| [\d,]{4,} \|$", shown, flags=re.M)
         if ran.returncode or not rows or rows != told:
-            return f"{ran.stderr}it measures {rows}, and {DOCUMENT} tells {told}"
+            return f"{ran.stderr}it measures {rows}, and {MEASURES} tells {told}"
         return None
 
 
-def cases() -> Iterator[Case | Driven | Example | Speed]:
+class Heart:
+    """What the document shows of the example in Python stands there."""
+
+    name = "pipe: what is shown of examples/drive.py"
+
+    def wrong(self, _program: str) -> Optional[str]:
+        """What is wrong with it, or None."""
+        shown = next(it for it in blocks() if it.startswith("first = "))
+        lines = [line.strip() for line in example("drive.py")[0].splitlines()]
+        return None if "\n".join(map(str.strip, shown.splitlines())) in "\n".join(lines) else shown
+
+
+def cases() -> Iterator[Case | Driven | Example | Heart | Speed]:
     yield Speed()
-    yield from (Example(language) for language in LANGUAGES)
+    yield Heart()
+    yield from map(Example, EXAMPLES)
     yield Driven("pipe: replies that nobody reads", is_stuck_as_told)
     yield Driven("pipe: 32 kB of lines unanswered", window_is_enough)
     mark = b"error 3: unknown command\n"

@@ -47,7 +47,15 @@ TYPED = {
     "tools/start": ["*.py", "../../propbench"],
     "tools/deb": ["*.py", "../package"],
     "tools": ["pipe_speed", "python_gate"],
-    "tests": ["documents.py", "first_start.py", "gate.py", "package.py", "pipe.py", "scripts.py"],
+    "tests": [
+        "documents.py",
+        "first_start.py",
+        "gate.py",
+        "package.py",
+        "pages.py",
+        "pipe.py",
+        "scripts.py",
+    ],
 }
 # (older modules of tests/ have no types)
 MYPY = ["--strict", "--scripts-are-modules", "--follow-imports=silent"]
