@@ -1,4 +1,21 @@
 //! The search for the first consistent list of choices.
+//!
+//! What a search has learned holds: its nogoods are nogoods, and for each side that a choice left
+//! it keeps a refuted, grounded and covered reason, so each list before the one on which the
+//! choices stand is refuted. Cells, statements, instances, names and choices that are added take
+//! nothing from it; a kick of what was believed, and each `forget`, put every choice on its first
+//! side and forget the reasons; what was taken up last is taken back exactly (`Search`).
+//!
+//! A believed nogood gives a reason against one choice's side, or premises that are ruled out
+//! (`resolve`); the choice then moves on (`advance`). Of the choices those below a level are
+//! believed; one more is where nothing waits (`deepen`).
+//!
+//! `settle` keeps all of that, also where memory is refused. `Settled`: the list is the first
+//! consistent one, with the least solution, and nothing waits. `Contradiction`: its premises are
+//! ruled out, and culprits of a noted nogood that is believed. `Unsettled`: the whole budget is
+//! used, budget + 1 is below lists * (most steps + 1), and one more step could be taken. Each step
+//! is a call where no noted nogood is believed and no cell holds a contradiction, or a move of a
+//! choice for a noted nogood that is believed.
 #![tactic(auto)]
 
 pub mod believing;

@@ -1,4 +1,11 @@
 //! The kit: the rules that come with the program.
+//!
+//! Each of the twenty rules is its plain function, which is its formula; it is monotone, keeps
+//! kinds, and holds every related point (`Kit`). Where nothing is cut off the adder, subtracter,
+//! multiplier and squarer answer the narrowest information that does, the rooter, imager and
+//! coimager always; the others are claimed no narrower than sound (`narrowest_where_in_range`).
+//!
+//! The prelude's lines are those that the specs state (`prelude_is_stated`).
 #![tactic(auto)]
 
 pub mod comparing;

@@ -1,4 +1,8 @@
 //! A host's own rule beside the kit's, made into procedures, called, and used in a session.
+//!
+//! What a session over the kit's twenty rules and a host's own answers is a run of the machine over
+//! their procedures (`replies`), whose answers hold the points that belong together
+//! (`answers_hold_points`).
 #![tactic(auto)]
 
 pub mod calling;

@@ -1,4 +1,9 @@
 //! Arithmetic on spans of whole numbers.
+//!
+//! Each function is its formula, cut off at 10^18. Sums, differences, products and squares that
+//! need no cutting off, roots, and spans without a number are the narrowest that hold each number
+//! that belongs there. Scales lie from 1 to 10^9. None takes memory (`add`, `sub`, `mul`, `div`,
+//! `square`, `root`, `less`, `below`, `above`, `without`, `clipped`).
 #![tactic(auto)]
 
 pub mod clipping;

@@ -1,4 +1,13 @@
 //! The workbench over standard input and output.
+//!
+//! The program's session over the kit and the prelude writes a transcript of the workbench, or at a
+//! fault nothing or a prefix of one, with work behind it in the order that was chosen, from the
+//! seed that was given, and the kit's answers hold the points that belong together. A fault tells
+//! which device failed, that there were too many reads, or that memory was refused before anything
+//! was read or written (`run`).
+//!
+//! The options are what the option reader gives, in their ranges (`options`); each fault has its
+//! exit status (`Fault::status`).
 #![tactic(auto)]
 
 mod chosen;
