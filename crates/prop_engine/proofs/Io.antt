@@ -1,5 +1,6 @@
 -- Known bytes over several calls.
-use Rattle.std.proofs.Common.{◌≡◌, ℕ, ◌+◌, List, [], ◌++◌, length, take, drop, refl, sym, ◌∙◌, ap, append_assoc, append-nil, subst, Bool, true, false, ◌-◌, inl, inr}
+use Rattle.std.proofs.Common.{◌≡◌, ℕ, ◌+◌, List, [], ◌++◌, length, take, drop, refl, sym, ◌∙◌, ap, append_assoc}
+use Rattle.std.proofs.Common.{append-nil, subst, Bool, true, false, ◌-◌, inl, inr}
 use Rattle.std.proofs.lemmas.Bool.Decides.{eqb_tells}
 use Rattle.std.specs.Prelude.{◌||◌, ◌&&◌, not, ◌==◌}
 use Rattle.std.proofs.lemmas.List.{take_rest}
@@ -58,9 +59,11 @@ pub take_next : (k n : ℕ) (xs : List ℕ) → take k xs ++ take n (drop k xs) 
 take_next k n xs = sym (take-add k n xs)
 
 -- a write that took n of the bytes after the first at
-pub written_more : (a b c : Option (List ℕ)) (at n : ℕ) (bytes : List ℕ) → Appends a b (take at bytes) → Appends b c (take n (take (length bytes - at) (drop at bytes))) → Appends a c (take (at + n) bytes)
+pub written_more : (a b c : Option (List ℕ)) (at n : ℕ) (bytes : List ℕ) → Appends a b (take at bytes)
+    → Appends b c (take n (take (length bytes - at) (drop at bytes))) → Appends a c (take (at + n) bytes)
 written_more a b c at n bytes p q =
-    let r : Appends b c (take n (drop at bytes)) = subst (λ (xs : List ℕ). Appends b c (take n xs)) (take_rest bytes at) q in
+    let r : Appends b c (take n (drop at bytes)) =
+    subst (λ (xs : List ℕ). Appends b c (take n xs)) (take_rest bytes at) q in
     subst (λ (xs : List ℕ). Appends a c xs) (take_next at n bytes) (appends_more a b c _ _ p r)
 
 -- a call that moved something left the flags as they were
@@ -76,9 +79,11 @@ not_stopped a false n len h e = elim (eqb_tells n 0) [
 ]
 
 pub prefix_of_first : (a b : Option (List ℕ)) (x y : List ℕ) → AppendsFront a b x → AppendsFront a b (x ++ y)
-prefix_of_first a b x y (prefix, missing, p, e) = (prefix, missing ++ y, p, ap (λ l. l ++ y) e ∙ append_assoc prefix missing y)
+prefix_of_first a b x y (prefix, missing, p, e) =
+    (prefix, missing ++ y, p, ap (λ l. l ++ y) e ∙ append_assoc prefix missing y)
 
-pub prefix_of_second : (a b c : Option (List ℕ)) (x y : List ℕ) → Appends a b x → AppendsFront b c y → AppendsFront a c (x ++ y)
+pub prefix_of_second : (a b c : Option (List ℕ)) (x y : List ℕ) → Appends a b x → AppendsFront b c y
+    → AppendsFront a c (x ++ y)
 prefix_of_second a b c x y p (prefix, missing, q, e) =
     (x ++ prefix, missing, appends_more a b c x prefix p q, ap (λ l. x ++ l) e ∙ sym (append_assoc x prefix missing))
 
@@ -93,7 +98,8 @@ pub on_err : {T E : Type 0} (r : Result T E) (P : Type 0) → P → OnErr r P
 on_err (Ok x) P p = tt
 on_err (Err e) P p = p
 
-pub prefix_is : {T E : Type 0} (r : Result T E) (a b : Option (List ℕ)) (x y : List ℕ) → x ≡ y → AppendsFront a b y → OnErr r (AppendsFront a b x)
+pub prefix_is : {T E : Type 0} (r : Result T E) (a b : Option (List ℕ)) (x y : List ℕ) → x ≡ y → AppendsFront a b y
+    → OnErr r (AppendsFront a b x)
 prefix_is r a b x y e p = on_err r _ (subst (λ (l : List ℕ). AppendsFront a b l) (sym e) p)
 
 -- known bytes that two calls keep
@@ -108,11 +114,13 @@ keeps_none None = tt
 keeps_none (Some xs) = refl
 
 -- a read behind calls that took nothing
-pub read_after : {E : Type 0} (a b c : Option (List ℕ)) (r : Result ℕ E) (bytes : List ℕ) → Keeps a b → ReadConsumes b c r bytes → ReadConsumes a c r bytes
+pub read_after : {E : Type 0} (a b c : Option (List ℕ)) (r : Result ℕ E) (bytes : List ℕ) → Keeps a b
+    → ReadConsumes b c r bytes → ReadConsumes a c r bytes
 read_after a b c (Ok n) bytes p q = (consumed_after a b c (take n bytes) p q.0, q.1)
 read_after a b c (Err e) bytes p q = keeps_more a b c p q
 
 -- a write behind calls that wrote nothing
-pub write_after : {E : Type 0} (a b c : Option (List ℕ)) (r : Result ℕ E) (bytes : List ℕ) → Keeps a b → WriteAppends b c r bytes → WriteAppends a c r bytes
+pub write_after : {E : Type 0} (a b c : Option (List ℕ)) (r : Result ℕ E) (bytes : List ℕ) → Keeps a b
+    → WriteAppends b c r bytes → WriteAppends a c r bytes
 write_after a b c (Ok n) bytes p q = keeps_before a b c (take n bytes) p q
 write_after a b c (Err e) bytes p q = keeps_more a b c p q

@@ -1,5 +1,6 @@
 -- Numbers that are in a set.
-use Rattle.std.proofs.Common.{◌≡◌, ℕ, Bool, true, false, ◌||◌, ◌&&◌, ◌==◌, List, [], ◌∷◌, refl, sym, ◌∙◌, inl, inr, ◌⊎◌, IsTrue, ◌↔◌}
+use Rattle.std.proofs.Common.{◌≡◌, ℕ, Bool, true, false, ◌||◌, ◌&&◌, ◌==◌, List, [], ◌∷◌, refl, sym, ◌∙◌, inl, inr, ◌⊎◌}
+use Rattle.std.proofs.Common.{IsTrue, ◌↔◌}
 use Rattle.std.proofs.lemmas.Bool.Decides.{eqb_tells}
 use Rattle.prop_premises.specs.Sets.{Members, set_of, union, is_within, IsPart, IsSame}
 
@@ -37,14 +38,16 @@ within_has s (n ∷ ns) p w h =
 -- the list is in the set where each of its numbers is
 pub within_from : (s : Members) (ns : List ℕ) → ((p : ℕ) → set_of ns p ≡ true → s p ≡ true) → is_within s ns ≡ true
 within_from s [] h = refl
-within_from s (n ∷ ns) h = and_both (s n) (is_within s ns) (h n (rw (same_test n) refl)) (within_from s ns (λ p t. h p (or_second (n == p) (set_of ns p) t)))
+within_from s (n ∷ ns) h = and_both (s n) (is_within s ns) (h n (rw (same_test n) refl))
+    (within_from s ns (λ p t. h p (or_second (n == p) (set_of ns p) t)))
   where
     or_second : (b c : Bool) → c ≡ true → (b || c) ≡ true
     or_second true c e = refl
     or_second false c e = e
 
 -- whether a list is in a set, by what tells it
-pub is_within-told : (s : Members) (ns : List ℕ) (b : Bool) → (b ≡ true → (p : ℕ) → set_of ns p ≡ true → s p ≡ true) → (b ≡ false → (p : ℕ) × (set_of ns p ≡ true) × (s p ≡ false)) → b ≡ is_within s ns
+pub is_within-told : (s : Members) (ns : List ℕ) (b : Bool) → (b ≡ true → (p : ℕ) → set_of ns p ≡ true → s p ≡ true)
+    → (b ≡ false → (p : ℕ) × (set_of ns p ≡ true) × (s p ≡ false)) → b ≡ is_within s ns
 is_within-told s ns true h k = sym (within_from s ns (h refl))
 is_within-told s ns false h k = by (is_within s ns) refl
   where
@@ -52,7 +55,8 @@ is_within-told s ns false h k = by (is_within s ns) refl
     by true e = let out = k refl in cc (within_has s ns out.0 e out.1, out.2)
     by false e = sym e
 
-pub is_within-trans : (s : Members) (ns ms : List ℕ) → is_within s ms ≡ true → is_within (set_of ms) ns ≡ true → is_within s ns ≡ true
+pub is_within-trans : (s : Members) (ns ms : List ℕ) → is_within s ms ≡ true → is_within (set_of ms) ns ≡ true
+    → is_within s ns ≡ true
 is_within-trans s ns ms w h = within_from s ns (λ p t. within_has s ms p w (within_has (set_of ms) ns p h t))
 
 -- a list is in a set just where its numbers are part of it
@@ -75,20 +79,25 @@ or_last true c e = refl
 or_last false c e = e
 
 -- both are believed where each is
-pub is_within-union : (w : Members) (a b both : List ℕ) → IsSame (set_of both) (union (set_of a) (set_of b)) → is_within w a ≡ true → is_within w b ≡ true → is_within w both ≡ true
-is_within-union w a b both is ha hb = within_from w both (λ p t. elim (or_cases (set_of a p) (set_of b p) (sym (is p) ∙ t)) [
-  | inl h ↦ within_has w a p ha h
-  | inr h ↦ within_has w b p hb h
-])
+pub is_within-union : (w : Members) (a b both : List ℕ) → IsSame (set_of both) (union (set_of a) (set_of b))
+    → is_within w a ≡ true → is_within w b ≡ true → is_within w both ≡ true
+is_within-union w a b both is ha hb =
+    within_from w both (λ p t. elim (or_cases (set_of a p) (set_of b p) (sym (is p) ∙ t)) [
+      | inl h ↦ within_has w a p ha h
+      | inr h ↦ within_has w b p hb h
+    ])
 
-pub first_within-union : (a b both : List ℕ) → IsSame (set_of both) (union (set_of a) (set_of b)) → is_within (set_of both) a ≡ true
+pub first_within-union : (a b both : List ℕ) → IsSame (set_of both) (union (set_of a) (set_of b))
+    → is_within (set_of both) a ≡ true
 first_within-union a b both is = within_from (set_of both) a (λ p t. is p ∙ or_first (set_of a p) (set_of b p) t)
 
-pub second_within-union : (a b both : List ℕ) → IsSame (set_of both) (union (set_of a) (set_of b)) → is_within (set_of both) b ≡ true
+pub second_within-union : (a b both : List ℕ) → IsSame (set_of both) (union (set_of a) (set_of b))
+    → is_within (set_of both) b ≡ true
 second_within-union a b both is = within_from (set_of both) b (λ p t. is p ∙ or_last (set_of a p) (set_of b p) t)
 
 -- what holds of the premises of each holds of those of both
-pub each_of-union : (P : ℕ → Type 0) (a b both : List ℕ) → IsSame (set_of both) (union (set_of a) (set_of b)) → ((p : ℕ) → set_of a p ≡ true → P p) → ((p : ℕ) → set_of b p ≡ true → P p) →
+pub each_of-union : (P : ℕ → Type 0) (a b both : List ℕ) → IsSame (set_of both) (union (set_of a) (set_of b))
+    → ((p : ℕ) → set_of a p ≡ true → P p) → ((p : ℕ) → set_of b p ≡ true → P p) →
     (p : ℕ) → set_of both p ≡ true → P p
 each_of-union P a b both is ha hb p t = elim (or_cases (set_of a p) (set_of b p) (sym (is p) ∙ t)) [
   | inl h ↦ ha p h

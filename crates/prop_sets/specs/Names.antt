@@ -1,5 +1,6 @@
 -- Lists of names.
-use Rattle.std.specs.Prelude.{◌≡◌, ℕ, ◌<◌, ◌≤◌, Bool, false, true, ◌||◌, List, [], ◌∷◌, length, map, bytes_eq, String, string_bytes}
+use Rattle.std.specs.Prelude.{◌≡◌, ℕ, ◌<◌, ◌≤◌, Bool, false, true, ◌||◌, List, [], ◌∷◌, length, map}
+use Rattle.std.specs.Prelude.{bytes_eq, String, string_bytes}
 use Rattle.std.specs.Borrow.{Bor}
 use Rattle.std.specs.List.{list_any}
 use Rattle.prop_lattice.specs.declared.refusal.Refusal.{Refusal}

@@ -1,4 +1,5 @@
-//! The vocabulary of a session: its domains, relations and symbols by name, and the text of a value.
+//! The vocabulary of a session: its domains, relations and symbols by name, and the text of a
+//! value.
 //!
 //! Each kind of name has a numbered space of its own. A declared relation has just the pairs that
 //! the line names; a symbol keeps the number of its first appearance, and can be taken back; the
