@@ -10,10 +10,6 @@ class Span:
     low: int
     high: int
 
-    def __init__(self, low: int, high: int) -> None:
-        # By hand: replies are many, and a frozen class's own way takes twice as long.
-        vars(self).update(low=low, high=high)
-
     def __str__(self) -> str:
         return str(self.low) if self.low == self.high else f"{self.low}..{self.high}"
 
