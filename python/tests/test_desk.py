@@ -165,15 +165,10 @@ def test_run_of_what_is_no_file(
 
 def test_the_parser_can_be_shown() -> None:
     text = parser().format_help()
-    assert all(word in text for word in ("run", "shell", "check"))
+    assert re.findall(r"^ {4}(\w+)", text, flags=re.M) == ["run", "shell"]
     with pytest.raises(SystemExit) as caught:
         main(["no such command"])
     assert caught.value.code == 2
-
-
-def test_check_says_that_it_comes_later(capsys: pytest.CaptureFixture[str]) -> None:
-    assert main(["check", "any"]) == 3
-    assert "later version" in capsys.readouterr().err
 
 
 def test_the_module_is_the_desk(program: str, file: Write) -> None:

@@ -11,7 +11,7 @@ from propbench.known import Known
 from propbench.refusals import CLASSES
 from propbench.tables import table
 
-_INSTALLED = Path("/usr/share/doc/propbench/LANGUAGE.md")
+_INSTALLED = Path("/usr/share/doc/propbench/docs/LANGUAGE.md")
 
 # The section of the document that says more of a command.
 _SECTIONS = {"choose": "Choices", "nogoods": "Choices", "core": "Cores", "define": "Definitions"}
