@@ -13,14 +13,15 @@ import re
 import shutil
 import subprocess
 import tempfile
-from dataclasses import dataclass
 from functools import cache
 from typing import Callable, Iterator, Optional
 
 import documents
-from case import SECONDS
+from case import SECONDS, Check
 
 TOP = os.path.dirname(os.path.dirname(os.path.realpath(__file__)))
+# What the names of its cases begin with.
+PREFIX = "package: "
 # What each Debian machine has, and so no package has to name.
 ESSENTIAL = ["dash", "dpkg"]
 MERGED = ["bin", "lib", "lib64", "sbin"]
@@ -224,7 +225,7 @@ def desk_runs(program: str) -> Optional[str]:
     its shell has the help of the document."""
     root = installed(program)
     done = inside(root, "propdesk", "run", "/usr/share/doc/propbench/examples/first.prop")
-    if done.returncode or b"is not proved" not in done.stdout:
+    if done.returncode or b"not known to be proved" not in done.stdout:
         return f"status {done.returncode}: {done.stdout.decode()}{done.stderr.decode()}"
     done = inside(root, "propdesk", "shell", sent=b":help choose\n")
     if done.returncode or b"A list takes one side of each choice" not in done.stdout:
@@ -417,23 +418,7 @@ def refuses_without_program(_program: str) -> Optional[str]:
         return "it writes a package" if os.path.exists(f"{copy}/out") else None
 
 
-@dataclass
-class Packaged:
-    """Something that holds of the package."""
-
-    title: str
-    holds: Callable[[str], Optional[str]]
-
-    @property
-    def name(self) -> str:
-        return f"package: {self.title}"
-
-    def wrong(self, program: str) -> Optional[str]:
-        """What is wrong with it, or None."""
-        return self.holds(os.path.abspath(program))
-
-
-HOLDS = {
+HOLDS: dict[str, Callable[[str], Optional[str]]] = {
     "two runs give the same bytes": same_bytes,
     "owners, modes and times": owners_and_modes,
     "README's first session, in a root of its own": first_session,
@@ -457,5 +442,5 @@ def prepare(program: str) -> None:
         installed(os.path.abspath(program))
 
 
-def cases() -> Iterator[Packaged]:
-    yield from (Packaged(title, holds) for title, holds in HOLDS.items())
+def cases() -> Iterator[Check]:
+    yield from (Check(f"{PREFIX}{title}", holds) for title, holds in HOLDS.items())

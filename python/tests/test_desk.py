@@ -72,7 +72,7 @@ def test_run_shows_replies_and_a_table(
         "z     13..15  morning, evening",
     ]
     with Session(program) as session:
-        assert ("not proved" in "".join(out)) is not session.proved
+        assert ("not known to be proved" in "".join(out)) is not session.proved
 
 
 def test_run_stops_at_a_refused_line(
@@ -396,6 +396,17 @@ def test_an_overview_leaves_no_trace(talk: Talk) -> None:
     assert session.lines == [*before, "settle"]
 
 
+def status_of(pid: int) -> int | None:
+    """The exit status of a child that ends soon, None where it doesn't."""
+    begun = time.monotonic()
+    while time.monotonic() - begun < 20:
+        ended, status = os.waitpid(pid, os.WNOHANG)
+        if ended:
+            return os.waitstatus_to_exitcode(status)
+        time.sleep(0.02)
+    return None
+
+
 def test_a_conversation_at_a_terminal(program: str, tmp_path: Path) -> None:
     """Completion, history, Ctrl-C in a run, and the end by Ctrl-D, at a pseudo-terminal."""
     pytest.importorskip("prompt_toolkit")
@@ -405,6 +416,7 @@ def test_a_conversation_at_a_terminal(program: str, tmp_path: Path) -> None:
         os.environ.update(state, PYTHONPATH=str(REPOSITORY / "python/src"))
         os.execv(sys.executable, [sys.executable, "-m", "propbench", "shell", "--program", program])
     seen = ""
+    status: int | None = None
 
     def until(wanted: str) -> str:
         nonlocal seen
@@ -439,13 +451,12 @@ def test_a_conversation_at_a_terminal(program: str, tmp_path: Path) -> None:
         until("^")
         until(">")
         type_in("\x04")
-        time.sleep(1)
+        status = status_of(pid)
     finally:
         os.close(terminal)
-        ended, status = os.waitpid(pid, os.WNOHANG)
-        if ended == 0:
+        if status is None:
             os.kill(pid, signal.SIGKILL)
             os.waitpid(pid, 0)
-    assert ended and os.waitstatus_to_exitcode(status) == 0
+    assert status == 0
     history = (tmp_path / "propbench/history").read_text(encoding="utf-8")
     assert "+kick start" in history and "+ask x" in history

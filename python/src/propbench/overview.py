@@ -7,12 +7,12 @@ says (`venue: days = 2`), and not as `venue=1`.
 from dataclasses import dataclass
 
 from propbench.listing import Told, told_by
-from propbench.replies import Contradiction, Value, Worldview
+from propbench.replies import NO_PREMISE, Contradiction, Value, Worldview
 from propbench.runs import Progress, is_settled
 from propbench.session import Session
 from propbench.tables import table
 
-UNPROVED = "The program that answered is not proved."
+UNPROVED = "The program that answers is not known to be proved."
 _OPEN = "This is not settled: values may still become narrower, or turn out to be in conflict."
 _MISSING = "(nothing was told)"
 
@@ -37,7 +37,7 @@ class Overview:
     def reasons(self, value: Value) -> str:
         """What a value rests on."""
         names = value.because or ()
-        return ", ".join(map(self.named, names)) if names else "no premise"
+        return ", ".join(map(self.named, names)) or NO_PREMISE
 
     def __str__(self) -> str:
         parts = [self._conflict() if self.conflict is not None else self._values()]

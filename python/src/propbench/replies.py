@@ -135,18 +135,21 @@ DONE = Done()
 SETTLED = Settled()
 UNSETTLED = Unsettled()
 
+# What is said in place of premises where there are none.
+NO_PREMISE = "no premise"
 # The commands whose reply may have more than one line.
 SEVERAL = frozenset(("worldview", "nogoods"))
-_PLAIN: dict[str, Reply] = {"ok": DONE, "settled": SETTLED, "unsettled": UNSETTLED}
+_WORDS: tuple[Reply, ...] = (DONE, SETTLED, UNSETTLED)
+_PLAIN = {str(reply): reply for reply in _WORDS}
 _VALUED = frozenset(("ask", "why", "core"))
 
 
 def _named(premises: tuple[str, ...]) -> str:
-    return " ".join(premises) if premises else "no premise"
+    return " ".join(premises) or NO_PREMISE
 
 
 def _names(text: str) -> tuple[str, ...]:
-    return () if text == "no premise" else tuple(text.split(" "))
+    return () if text == NO_PREMISE else tuple(text.split(" "))
 
 
 def refusal_in(text: str) -> tuple[int, str] | None:

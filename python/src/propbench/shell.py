@@ -9,6 +9,7 @@ from collections.abc import Callable, Sequence
 from functools import partial
 from typing import TypeVar
 
+from propbench.grammar import ASKING
 from propbench.helping import all_help, help_on
 from propbench.listing import Told, told_by
 from propbench.overview import UNPROVED, overview
@@ -36,8 +37,8 @@ ASIDES = {
     ":quit": "ends",
 }
 
-# The commands that change nothing that a user said.
-_ASKING = frozenset(("ask", "why", "core", "settle", "worldview", "nogoods", "limit"))
+# The commands that `:undo` takes for nothing that was changed.
+_KEPT = ASKING | {"limit"}
 # After so many seconds it is told how far a run is, and then so often.
 _TOLD_AFTER, _TOLD_EVERY = 1.0, 0.5
 
@@ -77,7 +78,7 @@ class Shell:
         try:
             self._obey(line)
         except Refused as refused:
-            self._write(f"{refused.reply}\n{refused.pointed()}\n  {refused.says}".rstrip())
+            self._write(refused.told())
         except KeyboardInterrupt:
             self._write("Stopped. The next question goes on from there.")
         except ProgramEnded as ended:
@@ -178,7 +179,7 @@ class Shell:
 
     def _undo(self, words: list[str]) -> None:
         lines = self.session.lines
-        while lines and lines[-1].split()[0] in _ASKING:
+        while lines and lines[-1].split()[0] in _KEPT:
             lines.pop()
         if not lines:
             self._write("There is nothing to take back.")
