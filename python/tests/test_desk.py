@@ -386,6 +386,25 @@ def test_tables_are_aligned() -> None:
     assert table(("a", "bb"), [("日本", "x"), ("\x1b", "")]) == "a     bb\n日本  x\n\\x1b"
 
 
+def test_long_texts_of_a_table_go_on_below() -> None:
+    rows = [("x", "one two three four five six"), ("yy", "seven")]
+    assert table(("a", "b"), rows, "  ", most=26) == (
+        "  a   b\n  x   one two three four\n      five six\n  yy  seven"
+    )
+
+
+def test_a_premise_that_conflicts_alone(talk: Talk) -> None:
+    talk("tell noon x 9")
+    talk("kick morning")
+    talk("fix x 3")
+    assert talk(":list cells").split("\n")[:4] == [
+        "CONFLICT: noon can't hold. It says:",
+        "  premise  says",
+        "  noon     x = 9",
+        "Give it up by `kick`.",
+    ]
+
+
 def test_an_overview_leaves_no_trace(talk: Talk) -> None:
     session = talk.shell.session
     session.send("settle")

@@ -10,7 +10,7 @@ from functools import partial
 from typing import TypeVar
 
 from propbench.grammar import ASKING
-from propbench.helping import all_help, help_on
+from propbench.helping import all_help, columns, help_on
 from propbench.listing import Told, told_by
 from propbench.overview import UNPROVED, overview
 from propbench.program import ProgramEnded
@@ -252,7 +252,7 @@ class Shell:
             return
         self._write(all_help())
         self._write("")
-        self._write(table(("at this desk", ""), list(ASIDES.items())))
+        self._write(table(("at this desk", ""), list(ASIDES.items()), most=columns()))
 
     def _quit(self, words: list[str]) -> None:
         raise Quit
