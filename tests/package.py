@@ -347,6 +347,14 @@ def vim_colours(program: str) -> Optional[str]:
     return None if got == wanted else f"{[*zip(asked, got, wanted)]}"
 
 
+def pygments_knows(program: str) -> Optional[str]:
+    """pygments finds the lexer of the Python package by the name of a file."""
+    env = {**os.environ, "PYTHONPATH": f"{unpacked(program)}/usr/lib/python3/dist-packages"}
+    asks = "from pygments.lexers import get_lexer_for_filename as f; print(f('some.prop').name)"
+    done = ran(["/usr/bin/python3", "-B", "-c", asks], env=env)
+    return None if done.stdout == b"propbench\n" else f"{done.stdout!r}: {done.stderr.decode()}"
+
+
 def removed(program: str) -> Optional[str]:
     """Once it is removed nothing of it is left."""
     with tempfile.TemporaryDirectory(prefix="package-") as root:
@@ -428,6 +436,7 @@ HOLDS: dict[str, Callable[[str], Optional[str]]] = {
     "man pages": pages_are_clean,
     "bash completion": completion_offers,
     "vim's colours": vim_colours,
+    "pygments' lexers": pygments_knows,
     "nothing is left once it is removed": removed,
     "a program that is named is not said to be proved": lacks_proof,
     "the program that is built is said to be proved": tells_proof,

@@ -5,6 +5,7 @@ import hashlib
 import os
 import stat
 import subprocess
+import tomllib
 from dataclasses import dataclass
 
 import completion
@@ -65,12 +66,35 @@ def tracked(folder: str, pattern: str) -> list[str]:
     return sorted(it for it in found if os.path.isfile(it) and "__pycache__" not in it)
 
 
+def metadata() -> dict[str, bytes]:
+    """What tells other Python programs of the package: its version, and where its command and its
+    lexer are."""
+    project = tomllib.loads(document("python/pyproject.toml"))["project"]
+    about = {
+        "Metadata-Version": "2.1",
+        "Name": project["name"],
+        "Version": project["version"],
+        "Summary": project["description"],
+        "Requires-Python": project["requires-python"],
+    }
+    offers = {"console_scripts": project["scripts"], **project["entry-points"]}
+    lines = []
+    for group, places in offers.items():
+        lines += [f"[{group}]", *(f"{name} = {place}" for name, place in places.items()), ""]
+    folder = f"{MODULES}-{project['version']}.dist-info"
+    return {
+        f"{folder}/METADATA": "".join(f"{name}: {said}\n" for name, said in about.items()).encode(),
+        f"{folder}/entry_points.txt": "\n".join(lines).encode(),
+    }
+
+
 def of_python(build: Build) -> dict[str, bytes]:
     """The Python package, and its command propdesk."""
     files = {
         f"{MODULES}/{os.path.relpath(path, PYTHON)}": read(path)
         for path in tracked("python/src/propbench", "**/*")
     }
+    files |= metadata()
     files["usr/bin/propdesk"] = DESK.encode()
     page = manual.of_desk(build.version, build.moment)
     files["usr/share/man/man1/propdesk.1.gz"] = packed(page)
