@@ -189,7 +189,8 @@ def reply_of(words: list[str], text: str, kinds: Mapping[str, str]) -> Reply:
 def _unread(text: str, command: str, kind: str) -> Value:
     """The value that a text says in reply to a command, of a cell of this kind."""
     made = object.__new__(Value)
-    vars(made)["_unread"] = text, command, kind
+    # (past the freeze; by `vars` it would take twice the time and memory)
+    object.__setattr__(made, "_unread", (text, command, kind))
     return made
 
 
