@@ -47,16 +47,25 @@ class Batch:
         # last is still to come.
         self._places: deque[int] = deque()
         self._begun: list[str] = []
+        # Whether garbage is looked for at other times.
+        self._collects = gc.isenabled()
 
     def run(self) -> None:
         """Sends all lines and takes in all replies. Where that ends early, what was taken in by
-        then counts as carried out, and the conversation is out of step."""
+        then counts as carried out, and the conversation is out of step.
+
+        Garbage is looked for only while replies are waited for: of replies none comes, and a look
+        goes through all that have come."""
         self._talk.in_step = False
+        gc.disable()
         try:
             self._send()
         except ProgramEnded:
-            self._take_all(self._talk.program.rest())
+            self._take_in(self._talk.program.rest())
             raise
+        finally:
+            if self._collects:
+                gc.enable()
         self._talk.in_step = True
 
     def _send(self) -> None:
@@ -69,23 +78,20 @@ class Batch:
                 if line[:1] not in _MAY_BE_SILENT or not is_silent(line)
             )
             program.put(_encoded(block))
-            self._take_all(program.take(wait=False))
+            self._take_in(program.take(wait=False))
         while self._places:
-            came = program.take(wait=True)
-            self._take_all(came)
+            came = program.take(wait=False) or self._waited_for()
+            self._take_in(came)
             if len(came) < _FEW < len(self._places):
                 program.gather()
 
-    def _take_all(self, lines: list[str]) -> None:
-        """Takes lines in without looking for garbage, of which replies make none: that looks
-        through all replies so far time and again."""
-        collects = gc.isenabled()
+    def _waited_for(self) -> list[str]:
+        """Lines that have not come yet."""
+        if self._collects:
+            gc.enable()
+        came = self._talk.program.take(wait=True)
         gc.disable()
-        try:
-            self._take_in(lines)
-        finally:
-            if collects:
-                gc.enable()
+        return came
 
     def _take_in(self, lines: list[str]) -> None:
         """Takes in the lines of replies that came last."""
