@@ -18,8 +18,13 @@ from refusals import COMPILERS
 TOP = os.path.dirname(os.path.dirname(os.path.realpath(__file__)))
 DOCUMENT = "docs/PIPE.md"
 
-# What the first line of a language's example begins with.
-LANGUAGES = {"Python": "#!/usr/bin/python3", "shell": "#!/bin/sh", "C": "#include"}
+# What a language's example begins with.
+LANGUAGES = {
+    "Python with the package": "#!/usr/bin/python3\nfrom propbench",
+    "Python": "#!/usr/bin/python3\nimport subprocess",
+    "shell": "#!/bin/sh",
+    "C": "#include",
+}
 
 # A pipe's bytes on Linux, and how many of them the document says may be left unanswered.
 PIPE, WINDOW = 65_536, 32_768
@@ -51,7 +56,7 @@ def example(language: str) -> tuple[str, str]:
 def command_for(language: str, file: str) -> list[str]:
     """The words that run an example, which is compiled first where it has to be."""
     if language != "C":
-        return [{"Python": "/usr/bin/python3", "shell": "/bin/sh"}[language], file]
+        return ["/bin/sh" if language == "shell" else "/usr/bin/python3", file]
     compiler = next(filter(shutil.which, COMPILERS))
     source, warned = f"{file}.c", ["-Wall", "-Wextra", "-Werror"]
     os.rename(file, source)
@@ -77,9 +82,15 @@ class Example:
             file = f"{room}/example"
             with open(file, "w", encoding="utf-8") as it:
                 it.write(text)
-            path = {**os.environ, "PATH": f"{room}:{os.environ['PATH']}"}
+            env = {
+                **os.environ,
+                "PATH": f"{room}:{os.environ['PATH']}",
+                "PROPBENCH": f"{room}/propbench",
+                "PYTHONPATH": f"{TOP}/python/src",
+                "PYTHONDONTWRITEBYTECODE": "1",
+            }
             words = command_for(self.language, file)
-            ran = subprocess.run(words, env=path, capture_output=True, text=True, timeout=SECONDS)
+            ran = subprocess.run(words, env=env, capture_output=True, text=True, timeout=SECONDS)
         if ran.returncode or ran.stderr or ran.stdout != wanted:
             return f"status {ran.returncode}: {ran.stderr}\n{ran.stdout}\nwanted:\n{wanted}"
         return None
