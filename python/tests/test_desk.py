@@ -156,7 +156,7 @@ def test_run_of_what_is_no_file(
     program: str, file: Write, capsys: pytest.CaptureFixture[str]
 ) -> None:
     assert main(["run", "/nowhere/plan.prop", "--program", program]) == 3
-    assert "/nowhere/plan.prop" in capsys.readouterr().err
+    assert capsys.readouterr().err == "propdesk: /nowhere/plan.prop: No such file or directory\n"
     assert main(["run", file(FIRST), "--program", "/nowhere/propbench"]) == 3
     assert main(["run", file(FIRST), "--program", program, "--limit", "-1"]) == 2
     assert main(["run", file(b"cell x span\nask \xff\n"), "--program", program]) == 1

@@ -7,6 +7,7 @@ from collections.abc import Sequence
 from propbench.finding import NoProgram
 from propbench.program import ProgramEnded
 from propbench.session import ORDERS, Session
+from propbench.showing import said_of
 
 DESCRIPTION = """\
 A desk for the workbench propbench: runs files of its language, and speaks it with you line by line.
@@ -85,7 +86,7 @@ def main(words: Sequence[str] | None = None) -> int:
         print(f"propdesk: {error}", file=sys.stderr)
         return 2
     except (NoProgram, ProgramEnded, OSError) as error:
-        print(f"propdesk: {error}", file=sys.stderr)
+        print(f"propdesk: {said_of(error)}", file=sys.stderr)
         return 3
 
 

@@ -19,7 +19,7 @@ from propbench.replies import Contradiction, Done, Reply, Silent, Value
 from propbench.running import lines_of, told_of
 from propbench.runs import is_settled
 from propbench.session import Session
-from propbench.showing import printable
+from propbench.showing import printable, said_of
 from propbench.tables import table
 
 Result = TypeVar("Result")
@@ -85,7 +85,7 @@ class Shell:
             self._write(f"{ended}; it is begun anew with what was carried out.")
             self.session.replay()
         except (OSError, ValueError) as error:
-            self._write(str(error))
+            self._write(said_of(error))
 
     def _obey(self, line: str) -> None:
         words = line.split()
