@@ -57,8 +57,8 @@ class Batch:
         Garbage is looked for only while replies are waited for: of replies none comes, and a look
         goes through all that have come."""
         self._talk.in_step = False
-        gc.disable()
         try:
+            gc.disable()
             self._send()
         except ProgramEnded:
             self._take_in(self._talk.program.rest())

@@ -63,7 +63,7 @@ def find_program(given: str | os.PathLike[str] | None = None) -> Found:
 def _found(path: Path) -> Found:
     """What is found at a path where a program is."""
     program = path.resolve()
-    if _is_repository(program.parent):
+    if program.name == "propbench" and _is_repository(program.parent):
         built = _is_built(program.parent)
         return Found(str(program.parent / _BUILT if built else path.absolute()), built, not built)
     return Found(str(path.absolute()), _is_proved(program))
