@@ -7,11 +7,12 @@ from collections.abc import Sequence
 from propbench.finding import NoProgram
 from propbench.program import ProgramEnded
 from propbench.session import ORDERS, Session
+from propbench.showing import said_of
 
 DESCRIPTION = """\
 A desk for the workbench propbench: runs files of its language, and speaks it with you line by line.
 Every answer is a reply of the program, which is the one that --program or $PROPBENCH names, else
-the built one of this repository, else `propbench` on the path.
+the built one of this repository, else `propbench` on the path, else this repository's unproved one.
 """
 
 STATUS = """\
@@ -50,13 +51,7 @@ def parser() -> argparse.ArgumentParser:
         " commands and names, and points to the word where a line is refused. :help says more.",
     )
     shell.add_argument("file", metavar="FILE", nargs="?", help="a file whose lines come first")
-    check = commands.add_parser(
-        "check",
-        help="check a certificate",
-        description="Checks a certificate. Certificates come with a later version.",
-    )
-    check.add_argument("certificate", metavar="CERTIFICATE", help="the file")
-    for each in (run, shell, check):
+    for each in (run, shell):
         _add_program(each)
     return top
 
@@ -83,9 +78,6 @@ def main(words: Sequence[str] | None = None) -> int:
     """Does what the words of a command line say, those of this process where none are given, and
     gives the exit status."""
     options = parser().parse_args(words)
-    if options.command == "check":
-        print("propdesk: certificates come with a later version", file=sys.stderr)
-        return 3
     try:
         return _with_session(options)
     except KeyboardInterrupt:
@@ -94,7 +86,7 @@ def main(words: Sequence[str] | None = None) -> int:
         print(f"propdesk: {error}", file=sys.stderr)
         return 2
     except (NoProgram, ProgramEnded, OSError) as error:
-        print(f"propdesk: {error}", file=sys.stderr)
+        print(f"propdesk: {said_of(error)}", file=sys.stderr)
         return 3
 
 

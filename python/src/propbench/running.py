@@ -9,15 +9,13 @@ from collections.abc import Iterator
 from dataclasses import dataclass, field
 from typing import TextIO
 
+from propbench.grammar import ASKING
 from propbench.overview import Overview, overview
 from propbench.refusals import Refused
 from propbench.replies import Done, Reply, Silent
 from propbench.session import Session
 from propbench.showing import printable
 from propbench.words import as_line
-
-# The commands whose replies are shown: all that are no mere `ok`.
-_ASKING = frozenset(("ask", "why", "core", "settle", "worldview", "nogoods"))
 
 
 def lines_of(path: str) -> list[str]:
@@ -32,11 +30,10 @@ def lines_of(path: str) -> list[str]:
 
 
 def told_of(refused: Refused, name: str) -> str:
-    """What a refusal says of a line of a file: its place, the line with the word, and what is
-    wrong."""
-    place = ":".join(str(part) for part in (name, refused.line_number, refused.column) if part)
-    lines = [f"{place}: {refused.reply}", refused.pointed(), f"  {refused.says}"]
-    return "\n".join(line for line in lines if line.strip())
+    """What a refusal says of a line of a file."""
+    return refused.told(
+        ":".join(str(part) for part in (name, refused.line_number, refused.column) if part)
+    )
 
 
 @dataclass
@@ -54,7 +51,7 @@ class FileRun:
         once."""
         begun = 0
         for place, line in enumerate(lines):
-            if line.split()[:1] and line.split()[0] in _ASKING:
+            if line.split()[:1] and line.split()[0] in ASKING:
                 yield from self._some(lines, begun, place)
                 yield place + 1, line, self._one(line)
                 begun = place + 1
