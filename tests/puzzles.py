@@ -228,15 +228,14 @@ def plan(count: int, people: int, seed: int) -> Plan:
     return Plan(name, lines, chosen, "end", long=long, before=before, either=either)
 
 
-@dataclass
-class Sudoku(Puzzle):
-    # The digits row by row, 0 where none is given.
-    given: str = ""
-
-
-# The sides of the two choices of a cell: one of each make one digit.
+# The sides of two choices for a cell of a Sudoku: one of each make one digit.
 BANDS = ["{d1 d2 d3}", "{d4 d5 d6}", "{d7 d8 d9}"]
 STEPS = ["{d1 d4 d7}", "{d2 d5 d8}", "{d3 d6 d9}"]
+
+# There may be 64 choices, so that two are made for each of so many cells.
+MOST_CELLS = 32
+
+Candidates = list[set[str]]
 
 
 def are_near(x: int, y: int) -> bool:
@@ -245,15 +244,53 @@ def are_near(x: int, y: int) -> bool:
     return a == c or b == d or (a // 3, b // 3) == (c // 3, d // 3)
 
 
-def sudoku(given: str) -> Sudoku:
-    digits = [f"d{n}" for n in range(1, 10)]
-    lines = [f"domain digit {' '.join(digits)}", all_different("digit", digits)]
+NEAR = [(x, y) for x, y in combinations(range(81), 2) if are_near(x, y)]
+DIGITS = [f"d{n}" for n in range(1, 10)]
+
+
+def candidates(given: str) -> Candidates:
+    """The digits of each place that are left where single ones are taken from all near places."""
+    left = [{f"d{digit}"} if digit != "0" else {*DIGITS} for digit in given]
+    before: Candidates = []
+    while before != left:
+        before = [{*it} for it in left]
+        for x, y in [*NEAR, *((y, x) for x, y in NEAR)]:
+            if len(left[x]) == 1:
+                left[y] -= left[x]
+    return left
+
+
+def sudoku_network(given: str) -> list[str]:
+    lines = [f"domain digit {' '.join(DIGITS)}", all_different("digit", DIGITS)]
     lines += [f"cell at{place} digit" for place in range(81)]
-    near = [(x, y) for x, y in combinations(range(81), 2) if are_near(x, y)]
-    lines += [f"attach link at{x} at{y} by differ" for x, y in near]
+    lines += [f"attach link at{x} at{y} by differ" for x, y in NEAR]
     lines += [f"fix at{place} d{digit}" for place, digit in enumerate(given) if digit != "0"]
+    return lines
+
+
+def sudoku(given: str) -> Puzzle:
+    """A Sudoku of these digits, row by row, 0 where none is given.
+
+    Two choices are made for each cell of those with the fewest candidates; all else has to follow.
+    """
+    left = candidates(given)
+    places = sorted((it for it in range(81) if len(left[it]) > 1), key=lambda it: len(left[it]))
     chosen = []
-    for place in (it for it in range(81) if given[it] == "0"):
+    for place in places[:MOST_CELLS]:
         chosen.append(Choice(f"band{place}", f"at{place}", BANDS))
         chosen.append(Choice(f"step{place}", f"at{place}", STEPS))
-    return Sudoku(f"Sudoku of {81 - given.count('0')} clues", lines, chosen, given=given)
+    return Puzzle(f"Sudoku of {clues(given)} clues", sudoku_network(given), chosen)
+
+
+def sudoku_by_cells(given: str) -> Puzzle:
+    """The same, where each open cell in reading order has a choice of its candidates."""
+    chosen = []
+    for place, digits in enumerate(candidates(given)):
+        if len(digits) > 1:
+            chosen.append(Choice(f"of{place}", f"at{place}", sorted(digits)))
+    name = f"Sudoku of {clues(given)} clues, a choice for each cell"
+    return Puzzle(name, sudoku_network(given), chosen)
+
+
+def clues(given: str) -> int:
+    return 81 - given.count("0")

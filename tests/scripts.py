@@ -42,8 +42,8 @@ def first_lines() -> Optional[str]:
     return f"{odd}" if odd else None
 
 
-TYPED_TESTS = ["documents", "first_start", "gate", "package", "pipe", "puzzles", "scripts"]
-TYPED_TESTS += ["searches"]
+TYPED_TESTS = ["documents", "driver", "first_start", "gate", "package", "peers", "pipe", "puzzles"]
+TYPED_TESTS += ["scripts", "searches"]
 # Scripts and modules that are typed and laid out by black, by the folder that they are looked at in.
 TYPED = {
     "tools/start": ["*.py", "../../propbench"],
