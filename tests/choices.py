@@ -145,10 +145,10 @@ class Stepped(Draw):
 
     COMMANDS = [*["tell"] * 2, *["kick", "bring"] * 2, "forget", *["attach"] * 4, *["choose"] * 5, *["limit"] * 2, "nogoods", *["ask"] * 17]
     QUESTIONS, LIMITS = Limited.QUESTIONS, [0, 1, 1, 1, 2, 3]
-    NAMES, SIDES = [f"k{i}" for i in range(6)], [2, 2, 2, 3]
+    NAMES, SIDES, LINES = [f"k{i}" for i in range(6)], [2, 2, 2, 3], 80
 
 
 def cases():
     yield from drawn.drawn(Draw, "choices", SESSIONS)
     yield from drawn.drawn(Limited, "choices and limited", SESSIONS)
-    yield from drawn.drawn(Stepped, "choices and stepped", SESSIONS)
+    yield from drawn.drawn(Stepped, "choices and stepped", SESSIONS // 4)
