@@ -43,20 +43,14 @@ def first_lines() -> Optional[str]:
     return f"{odd}" if odd else None
 
 
+TYPED_TESTS = ["documents", "driver", "first_start", "gate", "lines", "package", "pages", "peers"]
+TYPED_TESTS += ["pipe", "puzzles", "scripts", "searches"]
 # Scripts and modules that are typed and laid out by black, by the folder that they are looked at in.
 TYPED = {
     "tools/start": ["*.py", "../../propbench"],
     "tools/deb": ["*.py", "../package"],
     "tools": ["pipe_speed", "python_gate"],
-    "tests": [
-        "documents.py",
-        "first_start.py",
-        "gate.py",
-        "package.py",
-        "pages.py",
-        "pipe.py",
-        "scripts.py",
-    ],
+    "tests": [f"{it}.py" for it in TYPED_TESTS],
 }
 # (older modules of tests/ have no types)
 MYPY = ["--strict", "--scripts-are-modules", "--follow-imports=silent"]
