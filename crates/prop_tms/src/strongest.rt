@@ -55,6 +55,24 @@ pub(crate) fn belief<V: Partial>(values: &[Valued<V>], worldview: &Worldview) ->
     said_with(earlier, worldview, first)
 }
 
+/// Whether the believed entries say together as much as the value. No entry is looked at past those
+/// that do.
+pub(crate) fn says<V: Partial>(values: &[Valued<V>], worldview: &Worldview, value: V) -> bool
+    ensures { IsTrue result ↔ V.below value
+        (belief_of V.bottom V.join (set_of worldview.now) (entries_of values.now)) }
+{
+    let mut merged = V::nothing();
+    for valued in values {
+        if merged.implies(value) {
+            return true;
+        }
+        if !merged.implies(valued.value) && believes_any(worldview, &valued.supports) {
+            merged = merged.merge(valued.value);
+        }
+    }
+    merged.implies(value)
+}
+
 /// What the entries of the row say together: what those before the last say, with what the last
 /// says.
 fn said_together<V: Partial>(gains: &[Gain<'_, V>]) -> V
