@@ -35,7 +35,7 @@ loop-valued-preserved g c =
         | else-not-implies-via-else-not-implies w ↦
             rw t.merged-is (c.loop-valued.invariant
             ∙ said_passed laws u xs i x g.V.Partial.bottom l c.valued-item.is
-            (rw c.loop-valued.invariant at (c.implies-2.ensures.0 w.if-not-implies.false)))
+            (rw c.loop-valued.invariant at (c.implies-in-loop-valued.ensures.0 w.if-not-implies.false)))
       ]
     ]
 
