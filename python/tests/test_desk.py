@@ -11,6 +11,7 @@ import sys
 import time
 from collections.abc import Callable, Iterator
 from pathlib import Path
+from typing import Any
 
 import pytest
 from conftest import REPOSITORY
@@ -114,6 +115,58 @@ def test_run_as_json(program: str, file: Write, capsys: pytest.CaptureFixture[st
     assert (refused["line"], refused["column"], refused["word"]) == (8, 1, "aks")
     assert (refused["number"], refused["near"]) == (3, ["ask"])
     assert (said["complete"], said["settled"], said["conflict"]) == (True, True, None)
+
+
+Spoil = Callable[[dict[str, Any]], object]
+
+
+def spoilt(report: dict[str, Any], spoil: Spoil) -> dict[str, Any]:
+    """The report with one of its answers changed."""
+    copy: dict[str, Any] = json.loads(json.dumps(report))
+    spoil(copy)
+    return copy
+
+
+def test_check_of_a_report(
+    program: str, file: Write, tmp_path: Path, capsys: pytest.CaptureFixture[str]
+) -> None:
+    lines = FIRST.encode() + b"# \xff\nask w\nchoose c x 4 or 7\nask x\n"
+    assert main(["run", file(lines), "--json", "--keep-going", "--program", program]) == 1
+    report = json.loads(capsys.readouterr().out)
+    where = tmp_path / "report.json"
+
+    def checked(told: dict[str, Any]) -> tuple[int, str]:
+        where.write_text(json.dumps(told))
+        status = main(["check", str(where), "--program", program])
+        return status, capsys.readouterr().out
+
+    status, out = checked(report)
+    assert status == 0
+    assert "All 7 answers of the report are the program's.\n" in out
+    spoils: list[tuple[Spoil, str]] = [
+        (
+            lambda it: it["asked"][0].update(reply="z = 13..14 because morning evening"),
+            "line 7: the report says `z = 13..14 because morning evening`, the program `z = 13..15",
+        ),
+        (lambda it: it["asked"].pop(), "line 11: the report says `None`, the program `x = 4`"),
+        (lambda it: it["refused"][1].update(number=10), "line 9: the report says `10`"),
+        (lambda it: it["cells"]["x"].update(value="7"), "x: the report says"),
+        (lambda it: it["cells"].pop("y"), "y: the report says `None`"),
+        (lambda it: it["plan"].append("c=2"), "plan: the report says"),
+        (lambda it: it.update(conflict=["morning"]), "conflict: the report says"),
+        (lambda it: it["lines"].insert(4, "tell dawn x 3"), "line 7: the report says"),
+    ]
+    for spoil, said in spoils:
+        status, out = checked(spoilt(report, spoil))
+        assert (status, out.count(said)) == (1, 1), out
+
+
+def test_check_of_what_is_no_report(
+    program: str, file: Write, capsys: pytest.CaptureFixture[str]
+) -> None:
+    for text in (FIRST, "{}", "[]", '{"way": {"pace": 3}}'):
+        assert main(["check", file(text), "--program", program]) == 3
+        assert "no report of `propdesk run --json`" in capsys.readouterr().err
 
 
 def test_run_shows_a_conflict(
