@@ -4,7 +4,7 @@ use Rattle.std.specs.List.{AllZip}
 use Rattle.std.proofs.lemmas.Bool.Decides.{eqb_tells}
 use Rattle.prop_lattice.specs.Refusals.{most}
 use Rattle.prop_lattice.specs.declared.refusal.Limit.TheVariants.{Premises}
-use Rattle.prop_premises.specs.Sets.{Members, IsSame, set_of, union, without}
+use Rattle.prop_numbers.specs.Sets.{Members, IsSame, set_of, union, without}
 use Rattle.prop_premises.specs.declared.choice.Choice.{Choice}
 use Rattle.prop_premises.specs.ChoiceLists.{hypothetical, IsChoiceList, AreOfSides, hypotheticals_of, worldview}
 use Rattle.prop_premises.specs.Origins.{Origin, User, Side, is_user_at, believed_in, with_belief_at, choices_of, IsNumbered}

@@ -9,7 +9,7 @@ use Rattle.prop_lattice.specs.declared.info.Info.TheVariants.{Nothing}
 use Rattle.prop_lattice.specs.Order.{Below, merge_of}
 use Rattle.prop_lattice.specs.laws.OrderLaws.{info_laws}
 use Rattle.prop_lattice.specs.Rank.{IsOf}
-use Rattle.prop_premises.specs.Sets.{set_of, union, is_within, is_at_most_one_of, IsSame, IsPart}
+use Rattle.prop_numbers.specs.Sets.{set_of, union, is_within, is_at_most_one_of, IsSame, IsPart}
 use Rattle.prop_tms.specs.Beliefs.{belief_of, Trims}
 use Rattle.prop_tms.proofs.BeliefLemmas.{belief_below, below_belief}
 use Rattle.prop_tms.proofs.BeliefUses.{belief_of-more}

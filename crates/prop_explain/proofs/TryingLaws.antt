@@ -7,8 +7,8 @@ use Rattle.std.proofs.lemmas.List.Elements.{All-cons, All-weaker}
 use Rattle.std.proofs.lemmas.List.Folds.{list_any-append}
 use Rattle.std.proofs.Math.Nat.{add-mul}
 use Rattle.prop_lattice.specs.declared.info.Info.{Info}
-use Rattle.prop_premises.specs.Sets.{Members, set_of, IsPart, without}
-use Rattle.prop_premises.proofs.MergeLemmas.{Rising}
+use Rattle.prop_numbers.specs.Sets.{Members, set_of, IsPart, without}
+use Rattle.prop_numbers.proofs.MergeLemmas.{Rising}
 use Rattle.prop_cells.specs.Problems.{Problem, Entails}
 use Rattle.prop_cells.proofs.Founding.{entails_more}
 use Rattle.prop_explain.specs.Irreducible.{IsIrreducible}

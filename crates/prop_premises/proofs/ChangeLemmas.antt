@@ -5,7 +5,7 @@ use Rattle.std.specs.Option.{option_map_or}
 use Rattle.std.proofs.lemmas.Bool.{cases_lt}
 use Rattle.std.proofs.lemmas.Iterator.Adapters.{position_from-zero}
 use Rattle.std.proofs.lemmas.List.Folds.{list_any-append}
-use Rattle.prop_premises.specs.Sets.{IsSame}
+use Rattle.prop_numbers.specs.Sets.{IsSame}
 use Rattle.prop_premises.specs.Origins.{Origin, User, Side, sides_below, with_name, with_choice, believed_in, is_believed, is_user, is_user_at, is_start, is_user_called, is_side_called, premise_number, is_choice}
 use Rattle.prop_premises.proofs.ChoiceLemmas.{length-sides, slice_get-sides, slice_get-skip}
 use Rattle.prop_premises.proofs.EntryLemmas.{take-front}

@@ -3,7 +3,7 @@ use Rattle.std.proofs.Common.{◌≡◌, ℕ, zero, suc, ◌<◌, Bool, true, fa
 use Rattle.std.proofs.lemmas.Bool.Decides.{nat_tests}
 use Rattle.std.specs.Option.{option_map_or}
 use Rattle.prop_premises.specs.Origins.{Origin, User, Side, is_user_at, is_believed, is_user, believed_in, with_belief, with_belief_at, side_of, side_at, starts, is_start}
-use Rattle.prop_premises.specs.Sets.{set_of, union, without, IsSame}
+use Rattle.prop_numbers.specs.Sets.{set_of, union, without, IsSame}
 
 pub in_range : (os : List Origin) (p : ℕ) → IsTrue (is_user_at os p) → p < length os
 in_range [] p h = cc

@@ -3,7 +3,7 @@ use Rattle.std.proofs.Common.{◌≡◌, ℕ, ◌+◌, ◌-◌, ◌≤◌, Bool,
 use Rattle.std.proofs.lemmas.Bool.Decides.{nat_tests, eqb_tells}
 use Rattle.prop_premises.specs.declared.choice.Choice.{Choice}
 use Rattle.prop_premises.specs.ChoiceLists.{hypothetical, IsSide, is_side_of, is_hypothetical, IsChoiceList, hypotheticals_of, worldview}
-use Rattle.prop_premises.specs.Sets.{Members, IsSame}
+use Rattle.prop_numbers.specs.Sets.{Members, IsSame}
 
 or_cases : (b c : Bool) → (b || c) ≡ true → (b ≡ true) ⊎ (c ≡ true)
 or_cases true c h = inl refl

@@ -6,7 +6,7 @@ use Rattle.std.proofs.lemmas.List.Elements.{All-contains, All-weaker}
 use Rattle.prop_lattice.specs.declared.info.Info.{Info}
 use Rattle.prop_lattice.specs.Order.{Below, merge_of}
 use Rattle.prop_lattice.specs.laws.OrderLaws.{info_laws}
-use Rattle.prop_premises.specs.Sets.{IsPart}
+use Rattle.prop_numbers.specs.Sets.{IsPart}
 use Rattle.prop_tms.proofs.BeliefUses.{belief_of-more}
 use Rattle.prop_procedures.specs.Stored.{Stored}
 use Rattle.prop_cells.specs.Problems.{Premises, Assignment, AreOfKinds, MergesAt, Constraint, Meets, value_at}

@@ -1,6 +1,6 @@
 //! Another worldview for a network under way.
 ghost use Rattle.std.specs.Prelude.{◌≡◌, ◌<◌, ◌≤◌, ℕ, All, Contains, length};
-ghost use Rattle.prop_premises.specs.Sets.{set_of, IsPart};
+ghost use Rattle.prop_numbers.specs.Sets.{set_of, IsPart};
 ghost use Rattle.prop_procedures.specs.Kept.{stored_of};
 ghost use Rattle.prop_cells.specs.Data.{IsKept, beliefs, problem_of};
 ghost use Rattle.prop_cells.specs.Problems.{Premises};

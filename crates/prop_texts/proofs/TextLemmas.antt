@@ -4,7 +4,7 @@ use Rattle.std.specs.List.{range_with_len}
 use Rattle.std.specs.Option.{option_map}
 use Rattle.std.proofs.lemmas.List.Concat.{flat_map-append}
 use Rattle.std.proofs.lemmas.List.Elements.{filter-append, filter_agree}
-use Rattle.prop_premises.specs.Sets.{Members, IsSame}
+use Rattle.prop_numbers.specs.Sets.{Members, IsSame}
 use Rattle.prop_premises.specs.Origins.{Origin, User, Side, name_of, side_at}
 use Rattle.prop_texts.specs.Texts.{label_at, premises_text, is_listed, members_text, worldview_text}
 

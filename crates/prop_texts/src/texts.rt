@@ -1,7 +1,7 @@
 //! The texts of values and replies.
 ghost use Rattle.std.specs.Prelude.{◌≡◌, ◌<◌, ℕ, not, if◌then◌else◌, All, IfOk, length, string_bytes};
 ghost use Rattle.std.specs.List.Sorted.{IsStrictlyIncreasing};
-ghost use Rattle.prop_premises.specs.Sets.{set_of};
+ghost use Rattle.prop_numbers.specs.Sets.{set_of};
 ghost use Rattle.prop_texts.specs.Texts.{equation, contradiction_text, is_listed, members_text, worldview_text};
 ghost use Rattle.prop_engine.specs.Answers.{answer_of, Says};
 

@@ -4,8 +4,8 @@ use Rattle.std.proofs.lemmas.Bool.Decides.{nat_tests}
 use Rattle.std.proofs.lemmas.List.Folds.{Any-from_list_any, list_any_at}
 use Rattle.std.proofs.lemmas.List.Elements.{recursion_from_All}
 use Rattle.prop_lattice.specs.InformationOrder.{IsInformationOrder}
-use Rattle.prop_premises.specs.Sets.{Members, set_of, is_within, is_below, IsBelow, IsSame}
-use Rattle.prop_premises.proofs.WithinLemmas.{within_has, within_from, is_within-same}
+use Rattle.prop_numbers.specs.Sets.{Members, set_of, is_within, is_below, IsBelow, IsSame}
+use Rattle.prop_numbers.proofs.WithinLemmas.{within_has, within_from, is_within-same}
 use Rattle.prop_tms.specs.Beliefs.{merge_of_all, believed_of, belief_of, IsLeastBelief, IsLean, Adds}
 use Rattle.prop_tms.specs.declared.supported.Supported.{Supported}
 use Rattle.prop_tms.proofs.KeptLemmas.{contains_here, contains_there}

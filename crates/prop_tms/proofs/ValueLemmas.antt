@@ -10,7 +10,7 @@ use Rattle.std.proofs.Math.ListN.{get_or-map}
 use Rattle.std.proofs.Math.Seq.{take-suc-set}
 use Rattle.smallvec.specs.SmallVec.{HasRoomFor}
 use Rattle.prop_lattice.specs.InformationOrder.{IsInformationOrder}
-use Rattle.prop_premises.specs.Sets.{Members, set_of, is_within}
+use Rattle.prop_numbers.specs.Sets.{Members, set_of, is_within}
 use Rattle.prop_tms.specs.Beliefs.{merge_of_all, belief_of, Subsumes}
 use Rattle.prop_tms.specs.Kept.{IsLeftWithout}
 use Rattle.prop_tms.specs.Values.{entries_of, entries_of_one}

@@ -8,7 +8,7 @@ use Rattle.prop_lattice.specs.declared.info.Info.{Info}
 use Rattle.prop_lattice.specs.declared.refusal.Refusal.{Refusal}
 use Rattle.prop_lattice.specs.declared.refusal.Refusal.TheVariants.{LimitReached, Memory}
 use Rattle.prop_lattice.specs.declared.refusal.Limit.TheVariants.{Premises, Choices, Statements}
-use Rattle.prop_premises.specs.Sets.{Members, set_of}
+use Rattle.prop_numbers.specs.Sets.{Members, set_of}
 use Rattle.prop_premises.specs.Origins.{premise_number, is_choice, choices_of}
 use Rattle.prop_premises.specs.declared.choice.Choice.{Choice}
 use Rattle.prop_premises.specs.ChoiceLists.{IsSide}

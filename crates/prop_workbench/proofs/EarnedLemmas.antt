@@ -5,7 +5,7 @@ use Rattle.prop_lattice.specs.declared.refusal.Refusal.TheVariants.{Memory}
 use Rattle.prop_procedures.specs.Stored.{Stored}
 use Rattle.prop_amb.specs.declared.outcome.Outcome.{Outcome}
 use Rattle.prop_amb.specs.declared.outcome.Outcome.TheVariants.{Settled, Unsettled, Contradiction}
-use Rattle.prop_premises.specs.Sets.{set_of}
+use Rattle.prop_numbers.specs.Sets.{set_of}
 use Rattle.prop_amb.specs.Culprits.{IsBlamed}
 use Rattle.prop_amb.specs.Settling.{IfContradiction}
 use Rattle.prop_amb.specs.Going.{Work, MayGoOn, Goes}

@@ -3,7 +3,7 @@ use Rattle.std.proofs.Common.{◌≡◌, ◌∙◌, ℕ, List, [], Option, Some,
 use Rattle.std.proofs.lemmas.List.Elements.{All-nil}
 use Rattle.prop_lattice.specs.declared.refusal.Refusal.{Refusal}
 use Rattle.prop_lattice.specs.declared.refusal.Refusal.TheVariants.{Memory}
-use Rattle.prop_premises.specs.Sets.{Members, set_of, IsSame}
+use Rattle.prop_numbers.specs.Sets.{Members, set_of, IsSame}
 use Rattle.prop_premises.specs.Origins.{Origin, believed_in, choices_of}
 use Rattle.prop_premises.specs.ChoiceLists.{worldview}
 use Rattle.prop_procedures.specs.Stored.{Stored}

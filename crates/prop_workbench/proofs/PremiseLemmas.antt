@@ -6,7 +6,7 @@ use Rattle.std.proofs.lemmas.List.Quantifiers.{position-Some}
 use Rattle.std.proofs.lemmas.List.Elements.{All-contains, All-weaker, All-push}
 use Rattle.prop_lattice.specs.declared.info.Info.TheVariants.{Nothing}
 use Rattle.prop_lattice.specs.Order.{merge_of}
-use Rattle.prop_premises.specs.Sets.{Members, set_of, is_within, IsSame}
+use Rattle.prop_numbers.specs.Sets.{Members, set_of, is_within, IsSame}
 use Rattle.prop_premises.specs.Origins.{Origin, User, is_user_called, with_name, premise_number}
 use Rattle.prop_tms.specs.Beliefs.{merge_of_all, believed_of}
 use Rattle.prop_tms.proofs.KeptLemmas.{contains_here, contains_there}

@@ -2,7 +2,7 @@
 use Rattle.std.proofs.Common.{◌≡◌, ◌∙◌, ◌≤◌, ◌⊎◌, ◌++◌, ◌∷◌, ℕ, List, [], Option, Some, None, Result, Ok, Err, OnOk, OnErr, length, refl, ap, inl, inr}
 use Rattle.std.specs.Prelude.{⊤}
 use Rattle.prop_lattice.specs.declared.refusal.Refusal.{Refusal}
-use Rattle.prop_premises.specs.Sets.{set_of}
+use Rattle.prop_numbers.specs.Sets.{set_of}
 use Rattle.prop_premises.specs.Origins.{premise_number}
 use Rattle.prop_procedures.specs.Stored.{Stored}
 use Rattle.prop_cells.specs.Problems.{Premises}

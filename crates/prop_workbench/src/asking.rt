@@ -30,7 +30,7 @@ pub(crate) enum Question<'a> {
 
 impl<R: Rule + Drop, O: Order + Drop> Session<R, O> {
     ghost use Rattle.std.specs.Prelude.{◌≡◌, ◌≢◌, ◌<◌, ◌≤◌, ◌+◌, ◌*◌, ℕ, List, [], All, Some, IfOk, codes, length};
-    ghost use Rattle.prop_premises.specs.Sets.{set_of, IsSame};
+    ghost use Rattle.prop_numbers.specs.Sets.{set_of, IsSame};
     ghost use Rattle.prop_premises.specs.ChoiceLists.{lists_count};
     ghost use Rattle.prop_cells.specs.Data.{beliefs};
     ghost use Rattle.prop_scheduler.specs.Potential.{most_steps};

@@ -1,5 +1,5 @@
 use Rattle.std.proofs.Common.{◌≡◌}
-use Rattle.prop_premises.specs.Sets.{set_of}
+use Rattle.prop_numbers.specs.Sets.{set_of}
 use Rattle.prop_scheduler.specs.Shifts.{AreShifted}
 use Rattle.prop_scheduler.proofs.WatchLaws.{AreLooked}
 use Rattle.prop_scheduler.proofs.believing.alert_shifted.Given as goal
