@@ -5,8 +5,8 @@ use Rattle.std.proofs.lemmas.Bool.{or_cases, and_parts, and_left, ltb-true, lt-l
 use Rattle.std.proofs.lemmas.Bool.Decides.{leb_tells}
 use Rattle.std.proofs.Math.Nat.{min-le_left, min-le_right, le-min}
 use Rattle.std.proofs.lemmas.List.{length-take, take_all, take-append-le}
-use Rattle.prop_lattice.specs.Refusals.{most}
-use Rattle.prop_lattice.specs.declared.refusal.Limit.TheVariants.{Premises}
+use Rattle.prop_refusals.specs.Refusals.{most}
+use Rattle.prop_refusals.specs.declared.refusal.Limit.TheVariants.{Premises}
 use Rattle.prop_numbers.specs.Sets.{IsBelow, set_of}
 use Rattle.prop_premises.specs.declared.choice.Choice.{Choice}
 use Rattle.prop_premises.specs.ChoiceLists.{hypothetical, IsSide, is_side_of, hypotheticals_of, is_hypothetical, AreInOrder, AreOfSides}

@@ -1,14 +1,14 @@
 -- Which cells have to be looked at, as cells, statements and worldviews change.
 use Rattle.std.proofs.Common.{◌≡◌, ◌≢◌, ◌∙◌, ◌<◌, ◌≤◌, ◌⊎◌, ℕ, zero, suc, ◌+◌, Bool, true, false, List, [], ◌∷◌, ◌++◌, All, Contains, Some, map, length, slice_get, refl, sym, ap, arith, inl, inr}
 use Rattle.std.specs.Prelude.{⊤, Result, Ok, Err, OnOk, OnErr, None}
-use Rattle.prop_lattice.specs.Refusals.{most, when}
-use Rattle.prop_lattice.specs.declared.refusal.Refusal.{Refusal}
-use Rattle.prop_lattice.specs.declared.refusal.Limit.TheVariants.{Cells}
+use Rattle.prop_refusals.specs.Refusals.{most, when}
+use Rattle.prop_refusals.specs.declared.refusal.Refusal.{Refusal}
+use Rattle.prop_refusals.specs.declared.refusal.Limit.TheVariants.{Cells}
 use Rattle.std.specs.List.{remove}
 use Rattle.std.proofs.lemmas.Bool.Decides.{eqb_tells}
 use Rattle.std.proofs.lemmas.Bool.{cases_lt, leb-false}
 use Rattle.std.specs.Prelude.{nat_le}
-use Rattle.prop_lattice.specs.declared.refusal.Refusal.TheVariants.{LimitReached}
+use Rattle.prop_refusals.specs.declared.refusal.Refusal.TheVariants.{LimitReached}
 use Rattle.std.proofs.lemmas.List.{get_or_past, length-append}
 use Rattle.std.proofs.lemmas.List.Elements.{All-contains, All-weaker}
 use Rattle.prop_lattice.specs.declared.info.Info.{Info}

@@ -7,8 +7,8 @@ ghost use Rattle.prop_engine.specs.Answers.{answer_of, Says};
 
 use crate::labels::{push_label, support_text};
 use prop_engine::Reply;
-use prop_lattice::Refusal;
 use prop_premises::{Premise, PremiseSet, Premises, Worldview};
+use prop_refusals::Refusal;
 use std::alloc::{AllocError, Global};
 
 /// The reply of a text, or want of memory.

@@ -14,7 +14,7 @@ use Rattle.std.proofs.lemmas.Option.{slice_get-get_or}
 use Rattle.std.proofs.lemmas.Slice.Eq.{bytes_eq-Decides}
 use Rattle.prop_lattice.specs.laws.PartLaws.{same_parts}
 use Rattle.prop_lattice.specs.laws.Parts.{HasBitsOf}
-use Rattle.prop_lattice.specs.declared.refusal.Refusal.TheVariants.{NotInTheDomain, EmptyValue}
+use Rattle.prop_refusals.specs.declared.refusal.Refusal.TheVariants.{NotInTheDomain, EmptyValue}
 use Rattle.prop_lattice.specs.Ends.{elements_from}
 use Rattle.prop_sets.specs.laws.ChosenLaws.{bits_where-has, bits_where-passes}
 use Rattle.prop_sets.specs.Names.{AreElements}

@@ -2,8 +2,8 @@
 use Rattle.std.proofs.Common.{◌≡◌, ◌∙◌, ◌⊎◌, ◌||◌, ℕ, Bool, true, false, not, IsTrue, All, List, [], ◌∷◌, Some, None, Result, Ok, Err, get_or, inl, inr, refl, sym, ap, subst, ◌↔◌}
 use Rattle.std.specs.Prelude.{⊤, OnOk, OnErr, IfErr}
 use Rattle.std.proofs.lemmas.List.Elements.{All-filter, All-get_or, filter_passes}
-use Rattle.prop_lattice.specs.declared.refusal.Refusal.{Refusal}
-use Rattle.prop_lattice.specs.declared.refusal.Refusal.TheVariants.{Memory, NoSuchPremise, IsAChoice}
+use Rattle.prop_refusals.specs.declared.refusal.Refusal.{Refusal}
+use Rattle.prop_refusals.specs.declared.refusal.Refusal.TheVariants.{Memory, NoSuchPremise, IsAChoice}
 use Rattle.prop_numbers.specs.Sets.{Members, set_of, union, is_within}
 use Rattle.prop_premises.specs.Origins.{premise_number, is_choice, choices_of}
 use Rattle.prop_premises.specs.declared.choice.Choice.{Choice}

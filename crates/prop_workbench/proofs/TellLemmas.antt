@@ -1,11 +1,11 @@
 -- Statements under a premise: what refuses one, and what it makes.
 use Rattle.std.proofs.Common.{◌≡◌, ◌∙◌, ℕ, ◌<◌, ◌≤◌, Bool, true, false, List, [], ◌∷◌, ◌++◌, Option, Some, None, Result, Ok, Err, ◌⊎◌, ◌↔◌, inl, inr, length, unwrap_or, is_some, if◌then◌else◌, nat_le, refl, sym, ap}
 use Rattle.std.proofs.lemmas.Bool.{le-leb, leb-true}
-use Rattle.prop_lattice.specs.Refusals.{most, first_of, when}
+use Rattle.prop_refusals.specs.Refusals.{most, first_of, when}
 use Rattle.prop_lattice.specs.declared.info.Info.{Info}
-use Rattle.prop_lattice.specs.declared.refusal.Refusal.{Refusal}
-use Rattle.prop_lattice.specs.declared.refusal.Refusal.TheVariants.{LimitReached, Memory}
-use Rattle.prop_lattice.specs.declared.refusal.Limit.TheVariants.{Premises, Statements}
+use Rattle.prop_refusals.specs.declared.refusal.Refusal.{Refusal}
+use Rattle.prop_refusals.specs.declared.refusal.Refusal.TheVariants.{LimitReached, Memory}
+use Rattle.prop_refusals.specs.declared.refusal.Limit.TheVariants.{Premises, Statements}
 use Rattle.prop_premises.specs.Origins.{Origin, premise_number, with_name}
 use Rattle.prop_procedures.specs.Fitting.{kind_at}
 use Rattle.prop_cells.specs.Data.{Data}

@@ -11,11 +11,11 @@ use Rattle.prop_lattice.specs.declared.info.Info.{Info}
 use Rattle.prop_lattice.specs.declared.info.Info.TheVariants.{Nothing}
 use Rattle.prop_lattice.specs.declared.info.Kind.{Kind}
 use Rattle.prop_lattice.specs.declared.info.Kind.TheVariants as kinds
-use Rattle.prop_lattice.specs.declared.refusal.Refusal.{Refusal}
-use Rattle.prop_lattice.specs.declared.refusal.Refusal.TheVariants.{NotAName, NotANumber, NoSuchCell, WrongKind, NotInTheDomain, EmptyValue, IsAChoice, LimitReached, Memory}
-use Rattle.prop_lattice.specs.declared.refusal.Limit.TheVariants.{Statements}
+use Rattle.prop_refusals.specs.declared.refusal.Refusal.{Refusal}
+use Rattle.prop_refusals.specs.declared.refusal.Refusal.TheVariants.{NotAName, NotANumber, NoSuchCell, WrongKind, NotInTheDomain, EmptyValue, IsAChoice, LimitReached, Memory}
+use Rattle.prop_refusals.specs.declared.refusal.Limit.TheVariants.{Statements}
 use Rattle.prop_lattice.specs.Ends.{AreEnds, AreSome, ends_or_not, some_or_not, span_if, span_from, elements_if, elements_from}
-use Rattle.prop_lattice.specs.Refusals.{most, first_of, when}
+use Rattle.prop_refusals.specs.Refusals.{most, first_of, when}
 use Rattle.prop_premises.specs.Origins.{premise_number}
 use Rattle.prop_procedures.specs.Stored.{Stored}
 use Rattle.prop_procedures.specs.declared.shape.Kinded.{Kinded}

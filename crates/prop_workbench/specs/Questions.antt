@@ -1,6 +1,6 @@
 -- What a command that runs the network asks, and what may be said to it.
 use Rattle.std.specs.Prelude.{◌≡◌, ◌≢◌, ℕ, ◌+◌, List, length, codes, Option, Some, Result, Ok, ⊤}
-use Rattle.prop_lattice.specs.declared.refusal.Refusal.{Refusal}
+use Rattle.prop_refusals.specs.declared.refusal.Refusal.{Refusal}
 use Rattle.prop_procedures.specs.Stored.{Stored}
 use Rattle.prop_cells.specs.Data.{beliefs}
 use Rattle.prop_amb.specs.declared.outcome.Outcome as ends

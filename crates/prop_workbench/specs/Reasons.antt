@@ -1,6 +1,6 @@
 -- What an explanation rests on among what the cells of a session hold.
 use Rattle.std.specs.Prelude.{◌≡◌, ℕ, List, [], codes, Option, Some, Result, Ok, ◌⊎◌, ⊤}
-use Rattle.prop_lattice.specs.declared.refusal.Refusal.{Refusal}
+use Rattle.prop_refusals.specs.declared.refusal.Refusal.{Refusal}
 use Rattle.prop_numbers.specs.Sets.{Members}
 use Rattle.prop_cells.specs.Data.{Data, beliefs, IsLeanAt}
 use Rattle.prop_language.specs.Commands.{Command}

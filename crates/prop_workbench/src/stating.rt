@@ -1,6 +1,6 @@
 //! The commands that state what is known.
 ghost use Rattle.std.specs.Prelude.{◌≡◌, ◌<◌, ◌≤◌, ◌++◌, ◌∷◌, [], ℕ, ◌⊎◌, None, Some, Ok, Err, OnOk, OnErr, IfOk, IfErr, length};
-ghost use Rattle.prop_lattice.specs.declared.refusal.Refusal.TheVariants.{Memory};
+ghost use Rattle.prop_refusals.specs.declared.refusal.Refusal.TheVariants.{Memory};
 ghost use Rattle.prop_language.specs.Said.{value_of};
 ghost use Rattle.prop_values.specs.Said.{meant_of};
 ghost use Rattle.prop_vocabulary.specs.Texts.{elements_of_kind};
@@ -36,7 +36,7 @@ pub(crate) fn meaning<'a>(
 
 impl<R: Rule + Drop, O: Order + Drop> Session<R, O> {
     ghost use Rattle.std.specs.Prelude.{◌≡◌, ◌<◌, ◌++◌, ◌∷◌, [], ◌⊎◌, ℕ, false, None, Some, OnOk, OnErr, IfErr, length};
-    ghost use Rattle.prop_lattice.specs.declared.refusal.Refusal.TheVariants.{Memory};
+    ghost use Rattle.prop_refusals.specs.declared.refusal.Refusal.TheVariants.{Memory};
     ghost use Rattle.prop_premises.specs.Origins.{premise_number, is_choice, with_name};
     ghost use Rattle.prop_language.specs.Commands as commands;
     ghost use Rattle.prop_language.specs.Said.{value_of};

@@ -1,5 +1,5 @@
 use Rattle.std.proofs.Common.{◌≡◌, ◌<◌, Ok, Err, refl, sym, length}
-use Rattle.prop_lattice.specs.declared.refusal.Refusal.TheVariants.{NoSuchCell, IsAChoice}
+use Rattle.prop_refusals.specs.declared.refusal.Refusal.TheVariants.{NoSuchCell, IsAChoice}
 use Rattle.prop_procedures.specs.Kept.{stored_of}
 use Rattle.prop_procedures.specs.Stored.{span_kind}
 use Rattle.prop_procedures.specs.Fitting.{kind_at}

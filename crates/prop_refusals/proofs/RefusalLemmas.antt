@@ -1,10 +1,10 @@
 -- The number of a refusal tells which it is.
 use Rattle.std.proofs.Common.{◌≡◌, ◌≢◌, ℕ, refl, ap, sym, ◌∙◌, List, [], ◌∷◌}
 use Rattle.std.specs.Prelude.{get_or}
-use Rattle.prop_lattice.specs.Refusals.{number_of}
-use Rattle.prop_lattice.specs.Refusals.{NumbersTellApart}
-use Rattle.prop_lattice.specs.declared.refusal.Refusal.{Refusal}
-use Rattle.prop_lattice.specs.declared.refusal.Refusal.TheVariants.{LineTooLong, NotUtf8, UnknownCommand, WrongForm, NotAName, NotANumber, NameTaken, NoSuchDomain, NoSuchRelation, NoSuchCell, NoSuchPremise, NoSuchProcedure, WrongCount, WrongKind, WrongParameter, NotInTheDomain, EmptyValue, IsAChoice, LimitReached, Memory}
+use Rattle.prop_refusals.specs.Refusals.{number_of}
+use Rattle.prop_refusals.specs.Refusals.{NumbersTellApart}
+use Rattle.prop_refusals.specs.declared.refusal.Refusal.{Refusal}
+use Rattle.prop_refusals.specs.declared.refusal.Refusal.TheVariants.{LineTooLong, NotUtf8, UnknownCommand, WrongForm, NotAName, NotANumber, NameTaken, NoSuchDomain, NoSuchRelation, NoSuchCell, NoSuchPremise, NoSuchProcedure, WrongCount, WrongKind, WrongParameter, NotInTheDomain, EmptyValue, IsAChoice, LimitReached, Memory}
 
 -- the refusals in the order of their numbers, with want of memory in the place of a reached limit
 abbrev refusals : List Refusal

@@ -1,0 +1,6 @@
+//! Why lines are refused, and of what there can be only so many.
+#![tactic(auto)]
+
+pub mod refusal;
+
+pub use refusal::{Limit, Refusal};
