@@ -1,4 +1,4 @@
-//! The vocabulary of a session: its domains, relations and symbols by name, and the text of a value.
+//! The vocabulary of a session: its domains, relations and symbols by name, what a value says at a cell, and the text of one.
 #![tactic(auto)]
 
 pub mod cells;
@@ -10,8 +10,10 @@ mod pairs;
 pub mod relations;
 pub mod symbols;
 pub mod texts;
+pub mod values;
 pub mod vocabulary;
 
 pub use cells::CellNames;
 pub use names::Names;
+pub use values::{Meant, read_value};
 pub use vocabulary::Vocabulary;

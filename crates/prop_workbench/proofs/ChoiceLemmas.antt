@@ -15,7 +15,7 @@ use Rattle.prop_procedures.specs.Stored.{Stored}
 use Rattle.prop_procedures.specs.Fitting.{kind_at}
 use Rattle.prop_language.specs.Commands as commands
 use Rattle.prop_language.specs.Commands.{Value}
-use Rattle.prop_values.specs.Values.{Meant, Known}
+use Rattle.prop_vocabulary.specs.Values.{Meant, Known}
 use Rattle.prop_vocabulary.specs.Cells.{cell_named}
 use Rattle.prop_vocabulary.specs.Texts.{elements_of_kind}
 use Rattle.prop_vocabulary.specs.Vocabulary.{Vocabulary}

@@ -16,7 +16,7 @@ use Rattle.prop_cells.specs.Sides.{sides_at}
 use Rattle.prop_language.specs.Commands.{Value}
 use Rattle.prop_language.specs.declared.command.Value as said
 use Rattle.prop_language.specs.Said.{value_of}
-use Rattle.prop_values.specs.Values.{Meant, Known, Name}
+use Rattle.prop_vocabulary.specs.Values.{Meant, Known, Name}
 use Rattle.prop_vocabulary.specs.Names.{number_in}
 use Rattle.prop_vocabulary.specs.Texts.{elements_of_kind}
 use Rattle.prop_vocabulary.specs.Vocabulary.{Vocabulary, IsWhole, with_first_symbols}

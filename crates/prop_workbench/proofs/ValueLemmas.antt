@@ -31,7 +31,7 @@ use Rattle.prop_cells.specs.Data.{Data}
 use Rattle.prop_cells.specs.declared.instance.Statement.{Statement}
 use Rattle.prop_language.specs.Commands.{Value, Bare, Braces}
 use Rattle.prop_language.specs.Names.{whole_number, is_name, is_among}
-use Rattle.prop_values.specs.Values.{Meant, Known, Name, known, value_said, span_value, set_value, bits_named, ends_value, bounded_number, halves}
+use Rattle.prop_vocabulary.specs.Values.{Meant, Known, Name, known, value_said, span_value, set_value, bits_named, ends_value, bounded_number, halves}
 use Rattle.prop_vocabulary.specs.Texts.{elements_of_kind}
 use Rattle.prop_workbench.specs.Machine.{State}
 use Rattle.prop_workbench.specs.Refusing.{refusal_of, telling_limit, stating_limit, stating_limit_at, meaning_at, is_error, with_meant}

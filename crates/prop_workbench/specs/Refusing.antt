@@ -12,7 +12,7 @@ use Rattle.prop_procedures.specs.declared.shape.Param.{Param}
 use Rattle.prop_procedures.specs.declared.shape.Param.TheVariants as params
 use Rattle.prop_procedures.specs.Stored.{Stored}
 use Rattle.prop_language.specs.Commands.{By, Value, Command}
-use Rattle.prop_values.specs.Values.{Meant, Known, Name, value_said}
+use Rattle.prop_vocabulary.specs.Values.{Meant, Known, Name, value_said}
 use Rattle.prop_procedures.specs.Fitting.{kind_at}
 use Rattle.prop_vocabulary.specs.Vocabulary.{Vocabulary, relation_named, with_symbol}
 use Rattle.prop_vocabulary.specs.Texts.{elements_of_kind}

@@ -14,8 +14,7 @@ use prop_compound::Value;
 use prop_lattice::{Info, Kind, Limit, Refusal};
 use prop_procedures::Rule;
 use prop_scheduler::{Order, state_sides};
-use prop_values::Meant;
-use prop_vocabulary::Vocabulary;
+use prop_vocabulary::{Meant, Vocabulary};
 use std::alloc::Global;
 
 /// Whether the value is refused so at a cell of the kind.
@@ -123,7 +122,7 @@ impl<R: Rule + Drop, O: Order + Drop> Session<R, O> {
     ghost use Rattle.prop_language.specs.Commands as commands;
     ghost use Rattle.prop_language.specs.Said.{value_of};
     ghost use Rattle.prop_procedures.specs.Fitting.{kind_at};
-    ghost use Rattle.prop_values.specs.Values.{Known};
+    ghost use Rattle.prop_vocabulary.specs.Values.{Known};
     ghost use Rattle.prop_cells.specs.Sides.{sides_at};
     ghost use Rattle.prop_workbench.specs.inner.Choosing.{Means, meanings_of};
     ghost use Rattle.prop_workbench.specs.Effects.{chosen};

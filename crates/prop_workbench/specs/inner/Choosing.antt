@@ -9,7 +9,7 @@ use Rattle.prop_refusals.specs.declared.refusal.Refusal.{Refusal}
 use Rattle.prop_refusals.specs.declared.refusal.Refusal.TheVariants.{NotAName, NotANumber, NameTaken, WrongKind, NotInTheDomain, EmptyValue}
 use Rattle.prop_refusals.specs.Refusals.{first_of, when}
 use Rattle.prop_language.specs.Commands.{Value}
-use Rattle.prop_values.specs.Values.{Meant, Known}
+use Rattle.prop_vocabulary.specs.Values.{Meant, Known}
 use Rattle.prop_vocabulary.specs.Vocabulary.{Vocabulary}
 use Rattle.prop_workbench.specs.Refusing.{meaning_at, is_error, with_meant}
 use Rattle.prop_workbench.specs.Effects.{info_meant}

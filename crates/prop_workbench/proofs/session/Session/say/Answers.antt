@@ -4,7 +4,7 @@ use Rattle.prop_procedures.specs.Kept.{stored_of}
 use Rattle.prop_procedures.specs.Stored.{span_kind}
 use Rattle.prop_procedures.specs.Fitting.{kind_at}
 use Rattle.prop_language.specs.Said.{value_of}
-use Rattle.prop_values.specs.Said.{meant_of}
+use Rattle.prop_vocabulary.specs.Said.{meant_of}
 use Rattle.prop_workbench.specs.inner.Effects.{stating, name_of}
 use Rattle.prop_workbench.specs.Refusing.{meaning_at}
 use Rattle.prop_workbench.specs.Sessions.{state_of}

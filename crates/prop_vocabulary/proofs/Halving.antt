@@ -3,7 +3,7 @@ use Rattle.std.proofs.Common.{◌≡◌, ℕ, ◌<◌, ◌≤◌, ◌+◌, ◌-�
 use Rattle.std.specs.Prelude.{◌&&◌}
 use Rattle.std.proofs.lemmas.List.{take-append-drop, length-drop}
 use Rattle.std.proofs.lemmas.Bool.Decides.{eqb_tells}
-use Rattle.prop_values.specs.Values.{halves}
+use Rattle.prop_vocabulary.specs.Values.{halves}
 
 -- these bytes before what stands before two dots
 abbrev pub behind_front : List ℕ → List ℕ × Option (List ℕ) → List ℕ × Option (List ℕ)

@@ -1,6 +1,6 @@
 use Rattle.std.proofs.Common.{refl, sym, ap, ◌∙◌, Ok}
-use Rattle.prop_values.proofs.Choosing.{no_word, none_named, known_more, bits_more, no_element, all_elements}
-use Rattle.prop_values.proofs.values.read_set.Goals as goal
+use Rattle.prop_vocabulary.proofs.Choosing.{no_word, none_named, known_more, bits_more, no_element, all_elements}
+use Rattle.prop_vocabulary.proofs.values.read_set.Goals as goal
 
 pub returns-then-is_empty : goal.returns-then-is_empty
 returns-then-is_empty c = no_word c.args.domain.now c.args.chosen.now c.if-is_empty.ensures

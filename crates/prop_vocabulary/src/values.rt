@@ -1,8 +1,8 @@
 //! What a value says at a cell.
 ghost use Rattle.std.specs.Prelude.{◌≡◌, IfOk, IfErr, Some, None, Ok, Err};
 ghost use Rattle.std.specs.Option.{option_map};
-ghost use Rattle.prop_values.specs.Values.{halves, bounded_number, span_value, set_value, value_said};
-ghost use Rattle.prop_values.specs.Said.{meant_of};
+ghost use Rattle.prop_vocabulary.specs.Values.{halves, bounded_number, span_value, set_value, value_said};
+ghost use Rattle.prop_vocabulary.specs.Said.{meant_of};
 ghost use Rattle.prop_language.specs.Said.{words, value_of};
 
 use prop_language::{Value, name, number_in};
