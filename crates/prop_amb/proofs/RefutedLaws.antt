@@ -34,9 +34,6 @@ or_right : (x y z : Bool) → (y ≡ true → z ≡ true) → (x || y) ≡ true 
 or_right true y z f h = refl
 or_right false y z f h = f h
 
-or_both : (x y z : Bool) → (y ≡ true → z ≡ true) → (x || y) ≡ true → (x || z) ≡ true
-or_both = or_right
-
 taken_front : (choices more : List Choice) (list : List ℕ) (p : ℕ) → IsTrue (hypotheticals_of choices (front choices list) p) → IsTrue (hypotheticals_of (choices ++ more) list p)
 unfolding front
 taken_front [] more list p h = absurd (no_true h)
@@ -167,9 +164,3 @@ covered_choice choices choice listed m c list is_list =
     has_part-more listed (union m (hypotheticals_of choices (front choices list))) (union m (hypotheticals_of (choices ++ choice ∷ []) list))
     (union_right m _ _ (taken_front choices (choice ∷ []) list))
     (c (front choices list) (zip_front IsSide choices (choice ∷ []) list is_list))
-
--- only a refuted set of believed user's premises excludes a first consistent list
-pub settled_or_contradiction : (problem : Problem) (choices : List Choice) (believed n : Members) (list : List ℕ) →
-    IsOfUsers choices n → IsPart n believed → IsRefuted problem choices n → IsFirstConsistent problem believed choices list → ⊥
-settled_or_contradiction problem choices believed n list users part r first =
-    believed_refutes problem choices believed n users part r list first.is_list first.consistent

@@ -31,10 +31,6 @@ passes r b rest o e h = ap (λ t. first_of (when r t ∷ rest)) e ∙ h
 pub stops_at : (x : Option Refusal) (rest : List (Option Refusal)) (r : Refusal) → x ≡ Some r → first_of (x ∷ rest) ≡ Some r
 stops_at x rest r e = ap (λ o. first_of (o ∷ rest)) e
 
--- none of several does
-pub passes_by : (x : Option Refusal) (rest : List (Option Refusal)) (o : Option Refusal) → x ≡ None → first_of rest ≡ o → first_of (x ∷ rest) ≡ o
-passes_by x rest o e h = ap (λ y. first_of (y ∷ rest)) e ∙ h
-
 -- none of two did
 pub neither : (r s : Refusal) (a b : Bool) → first_of (when r a ∷ when s b ∷ []) ≡ None → (a ≡ false) × (b ≡ false)
 neither r s true b e = cc

@@ -1,7 +1,7 @@
 -- Numbers that are in a set.
-use Rattle.std.proofs.Common.{◌≡◌, ℕ, Bool, true, false, ◌||◌, ◌&&◌, ◌==◌, List, [], ◌∷◌, refl, sym, ◌∙◌, inl, inr, ◌⊎◌, IsTrue, ◌↔◌}
+use Rattle.std.proofs.Common.{◌≡◌, ℕ, Bool, true, false, ◌||◌, ◌&&◌, ◌==◌, List, [], ◌∷◌, refl, sym, ◌∙◌, inl, inr, ◌⊎◌, ◌↔◌}
 use Rattle.std.proofs.lemmas.Bool.Decides.{eqb_tells}
-use Rattle.prop_numbers.specs.Sets.{Members, set_of, union, is_within, IsPart, IsSame}
+use Rattle.prop_numbers.specs.Sets.{Members, set_of, union, is_within, IsSame}
 
 and_first : (b c : Bool) → (b && c) ≡ true → b ≡ true
 and_first true c h = refl
@@ -55,15 +55,6 @@ is_within-told s ns false h k = by (is_within s ns) refl
 pub is_within-trans : (s : Members) (ns ms : List ℕ) → is_within s ms ≡ true → is_within (set_of ms) ns ≡ true → is_within s ns ≡ true
 is_within-trans s ns ms w h = within_from s ns (λ p t. within_has s ms p w (within_has (set_of ms) ns p h t))
 
--- a list is in a set just where its numbers are part of it
-pub is_within-IsPart : (s : Members) (ns : List ℕ) → IsTrue (is_within s ns) ↔ IsPart (set_of ns) s
-is_within-IsPart s ns = (λ w p t. within_has s ns p w t, λ h. within_from s ns h)
-
--- one set in place of another with the same numbers
-pub is_within-same : (s t : Members) → IsSame s t → (ns : List ℕ) → is_within s ns ≡ is_within t ns
-is_within-same s t h [] = refl
-is_within-same s t h (n ∷ ns) = rw (h n, is_within-same s t h ns) refl
-
 -- ---- the numbers of two sets
 
 or_first : (b c : Bool) → b ≡ true → (b || c) ≡ true
@@ -73,27 +64,6 @@ or_first false c e = cc
 or_last : (b c : Bool) → c ≡ true → (b || c) ≡ true
 or_last true c e = refl
 or_last false c e = e
-
--- both are believed where each is
-pub is_within-union : (w : Members) (a b both : List ℕ) → IsSame (set_of both) (union (set_of a) (set_of b)) → is_within w a ≡ true → is_within w b ≡ true → is_within w both ≡ true
-is_within-union w a b both is ha hb = within_from w both (λ p t. elim (or_cases (set_of a p) (set_of b p) (sym (is p) ∙ t)) [
-  | inl h ↦ within_has w a p ha h
-  | inr h ↦ within_has w b p hb h
-])
-
-pub first_within-union : (a b both : List ℕ) → IsSame (set_of both) (union (set_of a) (set_of b)) → is_within (set_of both) a ≡ true
-first_within-union a b both is = within_from (set_of both) a (λ p t. is p ∙ or_first (set_of a p) (set_of b p) t)
-
-pub second_within-union : (a b both : List ℕ) → IsSame (set_of both) (union (set_of a) (set_of b)) → is_within (set_of both) b ≡ true
-second_within-union a b both is = within_from (set_of both) b (λ p t. is p ∙ or_last (set_of a p) (set_of b p) t)
-
--- what holds of the numbers of each holds of those of both
-pub each_of-union : (P : ℕ → Type 0) (a b both : List ℕ) → IsSame (set_of both) (union (set_of a) (set_of b)) → ((p : ℕ) → set_of a p ≡ true → P p) → ((p : ℕ) → set_of b p ≡ true → P p) →
-    (p : ℕ) → set_of both p ≡ true → P p
-each_of-union P a b both is ha hb p t = elim (or_cases (set_of a p) (set_of b p) (sym (is p) ∙ t)) [
-  | inl h ↦ ha p h
-  | inr h ↦ hb p h
-]
 
 -- a set that has all numbers of another has those of both
 pub has_both : (a b : List ℕ) → is_within (set_of a) b ≡ true → IsSame (set_of a) (union (set_of a) (set_of b))

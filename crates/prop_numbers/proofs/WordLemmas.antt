@@ -1,5 +1,5 @@
 -- Sets of numbers as words of bits: what is in them, and in which order.
-use Rattle.std.proofs.Common.{◌≡◌, ◌≢◌, ℕ, zero, suc, ◌+◌, ◌-◌, ◌*◌, ◌/◌, ◌%◌, ◌^◌, ◌<◌, ◌≤◌, Bool, true, false, not, ◌||◌, ◌&&◌, ◌==◌, List, [], ◌∷◌, ◌++◌, length, take, drop, replicate, get_or, refl, sym, ap, subst, ◌∙◌, arith, inl, inr, ◌⊎◌, nat_lt, nat_le, nat_eq, filter, bit_and, bit_or, Result, Ok, Err, IfOk}
+use Rattle.std.proofs.Common.{◌≡◌, ◌≢◌, ℕ, zero, suc, ◌+◌, ◌-◌, ◌*◌, ◌/◌, ◌%◌, ◌^◌, ◌<◌, ◌≤◌, Bool, true, false, not, ◌||◌, ◌&&◌, ◌==◌, List, [], ◌∷◌, ◌++◌, length, take, drop, replicate, get_or, refl, sym, ap, subst, ◌∙◌, arith, inl, inr, ◌⊎◌, nat_lt, nat_le, nat_eq, bit_and, bit_or, Result, Ok, Err, IfOk}
 use Rattle.std.specs.Int.{bit_not, w64, trailing_zeros, leading_zeros}
 use Rattle.std.specs.List.{range_with_len, refill, AllByRecursion, AppendsClonesOf}
 use Rattle.std.specs.List.Sorted.{IsStrictlyIncreasing}
@@ -8,16 +8,14 @@ use Rattle.std.proofs.lemmas.Bool.{cases_eq, cases_lt}
 use Rattle.std.proofs.lemmas.Bool.Decides.{nat_tests, eqb_tells}
 use Rattle.std.proofs.lemmas.Grind.{get_or-set_at, common_steps}
 use Rattle.std.proofs.lemmas.List.{get_or_past, get_or-set_other, get_or-take, length-take, take-append-le, take_all}
-use Rattle.std.proofs.lemmas.List.Folds.{list_any-append}
 use Rattle.std.proofs.lemmas.List.FromFn.{length-range_with_len, get_or-range_with_len}
 use Rattle.std.proofs.lemmas.List.Kept.{IsStrictlyIncreasing-filter}
 use Rattle.std.proofs.lemmas.List.Sums.{length-filter, count_by-le-length}
 use Rattle.std.proofs.lemmas.Nat.Bits.{bit_at-zero}
-use Rattle.prop_numbers.specs.Sets.{Members, set_of, is_within, IsBelow}
+use Rattle.prop_numbers.specs.Sets.{set_of, IsBelow}
 use Rattle.prop_numbers.specs.Words.{is_set, has_bit, numbers_from}
 use Rattle.prop_numbers.specs.inner.Words.{numbers_of, HaveSameBits, HasFrom, IsTrimmed}
 use Rattle.prop_numbers.proofs.BitLemmas.{tested, is_set-or, is_set-and, is_set-not, is_set-pow, is_set-zero, is_set-ones, is_set-cleared, pow_fits, lowest, Highest, highest}
-use Rattle.prop_numbers.proofs.WithinLemmas.{is_within-told}
 use Rattle.prop_numbers.proofs.SetLemmas.{set_of-filter}
 use Rattle.prop_numbers.proofs.MergeLemmas.{Rising, same_increasing, all_above, rising_push, rising_from_increasing, increasing_from_rising}
 
@@ -80,12 +78,6 @@ set_of-numbers_of words p =
 
 -- ---- the numbers by what is among them
 
-pub numbers_of-is : (words ns : List ℕ) → IsStrictlyIncreasing ns → ((p : ℕ) → has_bit words p ≡ set_of ns p) → numbers_of words ≡ ns
-numbers_of-is words ns up h = same_increasing (numbers_of words) ns (increasing-numbers_from 0 words) up (λ p. set_of-numbers_of words p ∙ h p)
-
-pub same_numbers : (a b : List ℕ) → ((p : ℕ) → has_bit a p ≡ has_bit b p) → numbers_of a ≡ numbers_of b
-same_numbers a b h = numbers_of-is a (numbers_of b) (increasing-numbers_from 0 b) (λ p. h p ∙ sym (set_of-numbers_of b p))
-
 pub numbers_from-nil : (n : ℕ) → numbers_from n [] ≡ []
 unfolding numbers_from
 numbers_from-nil n = refl
@@ -103,12 +95,6 @@ has_bit-tested words p word e = tested word (p % 64) ∙ ap (λ w. is_set w (p %
 pub has_bit-same : (a b : List ℕ) → HaveSameBits a b → (p : ℕ) → has_bit a p ≡ has_bit b p
 unfolding has_bit
 has_bit-same a b h p = ap (λ w. is_set w (p % 64)) (h (p / 64))
-
--- the bits of both
-pub has_bit-unite : (a b both : List ℕ) → ((k : ℕ) → get_or both k 0 ≡ bit_or (get_or a k 0) (get_or b k 0)) → (p : ℕ) →
-    has_bit both p ≡ (has_bit a p || has_bit b p)
-unfolding has_bit
-has_bit-unite a b both h p = ap (λ w. is_set w (p % 64)) (h (p / 64)) ∙ is_set-or (get_or a (p / 64) 0) (get_or b (p / 64) 0) (p % 64)
 
 same_place : (n p : ℕ) → p / 64 ≡ n / 64 → (n % 64 == p % 64) ≡ (n == p)
 same_place n p e = grind (arith, nat_tests)
@@ -390,12 +376,6 @@ has_bit-below words n p l = by (cases_lt (n / 64) (p / 64)) (cases_eq (p / 64) (
         ∙ has_bit-front words (n / 64 + 1) p (omega (arith, low))
         ∙ and_on (has_bit words p) (nat_lt p n) in_it
 
-pub length-kept_below : (words : List ℕ) (n : ℕ) → length (kept_below words n) ≤ length words
-length-kept_below words n =
-    let front = take (n / 64 + 1) words in
-    let word = bit_and (get_or front (n / 64) 0) (2 ^ (n % 64) - 1) in
-    omega (arith, length-take (n / 64 + 1) words, length-set front (n / 64) word)
-
 -- all numbers of so few words are below it
 pub has_bit-all_below : (words : List ℕ) (n p : ℕ) → length words ≤ n / 64 → has_bit words p ≡ (has_bit words p && nat_lt p n)
 has_bit-all_below words n p l = elim (cases_lt p n) [
@@ -404,12 +384,6 @@ has_bit-all_below words n p l = elim (cases_lt p n) [
       let none = has_bit-past words p (omega (arith, l, above)) in
       rw none refl)
 ]
-
--- the numbers below a bound, by their bits
-pub numbers_of-filter : (a b : List ℕ) (t : ℕ → Bool) → ((p : ℕ) → has_bit b p ≡ (has_bit a p && t p)) → numbers_of b ≡ filter t (numbers_of a)
-numbers_of-filter a b t h =
-    numbers_of-is b (filter t (numbers_of a)) (IsStrictlyIncreasing-filter t (numbers_of a) (increasing-numbers_from 0 a))
-    (λ p. h p ∙ sym (set_of-filter t (numbers_of a) p ∙ ap (λ b. b && t p) (set_of-numbers_of a p)))
 
 -- ---- one above the last number
 
@@ -453,21 +427,6 @@ or_none false = refl
 pub increasing-push : (ns : List ℕ) (n : ℕ) → IsStrictlyIncreasing ns → IsBelow n (set_of ns) → IsStrictlyIncreasing (ns ++ n ∷ [])
 increasing-push ns n up below = increasing_from_rising (ns ++ n ∷ []) (rising_push ns n (rising_from_increasing ns up) below)
 
--- one more number, above all others
-pub numbers_of-push : (a b : List ℕ) (n : ℕ) → ((p : ℕ) → has_bit b p ≡ (has_bit a p || (n == p))) → IsBelow n (set_of (numbers_of a)) → numbers_of b ≡ numbers_of a ++ n ∷ []
-numbers_of-push a b n h below =
-    numbers_of-is b (numbers_of a ++ n ∷ []) (increasing-push (numbers_of a) n (increasing-numbers_from 0 a) below)
-    (λ p. h p ∙ ap (λ c. c || (n == p)) (sym (set_of-numbers_of a p)) ∙ sym (list_any-append (λ q. q == p) (numbers_of a) (n ∷ [])
-    ∙ ap (λ c. set_of (numbers_of a) p || c) (or_none (n == p))))
-
--- ---- numbers in a set
-
--- whether all numbers are in a set, by the bits
-pub is_within-bits : (words : List ℕ) (s : Members) (b : Bool) → (b ≡ true → (p : ℕ) → has_bit words p ≡ true → s p ≡ true) → (b ≡ false →
-    (p : ℕ) × (has_bit words p ≡ true) × (s p ≡ false)) → b ≡ is_within s (numbers_of words)
-is_within-bits words s b h k = is_within-told s (numbers_of words) b (λ t p i. h t p (sym (set_of-numbers_of words p)
-    ∙ i)) (λ f. (let out = k f in (out.0, set_of-numbers_of words out.0 ∙ out.1, out.2)))
-
 -- ---- one of two tests
 
 pub or_first : (b c : Bool) → b ≡ true → (b || c) ≡ true
@@ -501,24 +460,6 @@ pub has_bit-grown : (words grown : List ℕ) (len : ℕ) → length words ≤ le
 has_bit-grown words grown len l h p =
     let whole : take len words ≡ words = grind (arith, common_steps) in
     has_bit-same grown words (λ k. ap (λ ws. get_or ws k 0) h.1 ∙ padded (take len words) h.0 k h.2 ∙ ap (λ ws. get_or ws k 0) whole) p
-
-pub set_of-added : (a b : List ℕ) (n p : ℕ) → has_bit b p ≡ (has_bit a p || (n == p)) →
-    set_of (numbers_of b) p ≡ (set_of (numbers_of a) p || ((n == p) || false))
-set_of-added a b n p h = set_of-numbers_of b p ∙ h ∙ sym (ap (λ c. c || ((n == p) || false)) (set_of-numbers_of a p)
-    ∙ ap (λ c. has_bit a p || c) (or_none (n == p)))
-
--- the numbers of two sets, by the bits of both
-pub set_of-both : (a b : List ℕ) (p : ℕ) → (has_bit a p || has_bit b p) ≡ (set_of (numbers_of a) p || set_of (numbers_of b) p)
-set_of-both a b p = sym (ap (λ c. c || set_of (numbers_of b) p) (set_of-numbers_of a p) ∙ ap (λ c. has_bit a p || c) (set_of-numbers_of b p))
-
-or_swap : (b c : Bool) → (b || c) ≡ (c || b)
-or_swap true true = refl
-or_swap true false = refl
-or_swap false true = refl
-or_swap false false = refl
-
-pub set_of-both_swapped : (a b : List ℕ) (p : ℕ) → (has_bit b p || has_bit a p) ≡ (set_of (numbers_of a) p || set_of (numbers_of b) p)
-set_of-both_swapped a b p = or_swap (has_bit b p) (has_bit a p) ∙ set_of-both a b p
 
 same_word : (n k w : ℕ) → get_or (replicate n w) k w ≡ w
 same_word zero k w = refl

@@ -38,12 +38,6 @@ is_start-at [] p l = absurd (omega (arith, l))
 is_start-at (o ∷ os) zero l = refl
 is_start-at (o ∷ os) (suc p) l = is_start-at os p (omega (arith, l))
 
-pub is_start-within : (os : List Origin) (p : ℕ) → IsTrue (is_start os p) → p ≤ length os
-is_start-within [] zero h = omega arith
-is_start-within [] (suc p) h = cc
-is_start-within (o ∷ os) zero h = omega arith
-is_start-within (o ∷ os) (suc p) h = omega (arith, is_start-within os p h)
-
 believed_user : (o : Origin) → is_believed o ≡ true → is_user o ≡ true
 believed_user (User name believed) h = refl
 believed_user (Side choice side sides) h = cc

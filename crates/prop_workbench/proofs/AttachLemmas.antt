@@ -177,12 +177,6 @@ or_false : (a b : Bool) → (a || b) ≡ false → (a ≡ false) × (b ≡ false
 or_false true b h = cc
 or_false false b h = (refl, h)
 
-none_passes : {X : Type 0} (p : X → Bool) (xs : List X) → list_any p xs ≡ false → All (λ x. p x ≡ false) xs
-none_passes p [] e = λ k d l. absurd (omega (arith, l))
-none_passes p (x ∷ xs) e =
-    let both = or_false (p x) (list_any p xs) e in
-    All-cons (λ x. p x ≡ false) x xs both.0 (none_passes p xs both.1)
-
 not_false : (b : Bool) → not b ≡ false → b ≡ true
 not_false true e = refl
 not_false false e = cc

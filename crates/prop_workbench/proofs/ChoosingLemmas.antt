@@ -100,10 +100,6 @@ one_on start now new infos after info all rest meant way none e is_info is_after
   back = still_first now meant (length start.symbols) way.more ∙ way.back;
 })
 
--- one of the symbols is refused
-pub limit_here : (words : Vocabulary) (meant : Meant) (rest : List Meant) (e : _) → naming_limit words meant ≡ Some e → all_naming_limit words (meant ∷ rest) ≡ Some e
-limit_here words meant rest e h = rw h refl
-
 -- a value means the same as long as the domains are the same
 pub means_same : (words new : Vocabulary) (kind : Kind) (value : Value) → new.domains ≡ words.domains → meaning_at new kind value ≡ meaning_at words kind value
 means_same words new kinds.Span value e = refl
