@@ -1,7 +1,7 @@
 use Rattle.std.proofs.Common.{◌∙◌, refl, ap, add-one, slice_set}
 use Rattle.prop_cells.specs.Forgetting.{not_on}
 use Rattle.prop_cells.proofs.ForgettingLaws.{first_gone, first_gone-at, first_gone-more, first_gone-all}
-use Rattle.prop_cells.proofs.forgetting.drop_entries.Goals as goal
+use Rattle.prop_cells.proofs.dropping.drop_entries.Goals as goal
 
 pub loop-content-init : goal.loop-content-init
 loop-content-init c = refl

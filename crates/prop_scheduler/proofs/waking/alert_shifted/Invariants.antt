@@ -2,7 +2,7 @@ use Rattle.std.proofs.Common.{◌≡◌}
 use Rattle.prop_numbers.specs.Sets.{set_of}
 use Rattle.prop_scheduler.specs.Shifts.{AreShifted}
 use Rattle.prop_scheduler.proofs.WatchLaws.{AreLooked}
-use Rattle.prop_scheduler.proofs.believing.alert_shifted.Given as goal
+use Rattle.prop_scheduler.proofs.waking.alert_shifted.Given as goal
 
 abbrev pub invariant-loop-cell : goal.invariant-loop-cell
 invariant-loop-cell g l = record {

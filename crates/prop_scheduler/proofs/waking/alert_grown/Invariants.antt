@@ -6,7 +6,7 @@ use Rattle.prop_scheduler.specs.Potential.{potential}
 use Rattle.prop_scheduler.specs.Shifts.{AreGrown}
 use Rattle.prop_scheduler.proofs.GrownLaws.{partly}
 use Rattle.prop_scheduler.proofs.WatchLaws.{AreLooked}
-use Rattle.prop_scheduler.proofs.believing.alert_grown.Given as goal
+use Rattle.prop_scheduler.proofs.waking.alert_grown.Given as goal
 
 abbrev pub invariant-loop-cell : goal.invariant-loop-cell
 invariant-loop-cell g l = record {

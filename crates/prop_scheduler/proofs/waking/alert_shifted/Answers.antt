@@ -10,8 +10,8 @@ use Rattle.prop_scheduler.specs.Agendas.{AllAlerted}
 use Rattle.prop_scheduler.specs.Shifts.{AreShifted}
 use Rattle.prop_scheduler.proofs.ShiftLaws.{shifted_none, shifted_same, shifted_more, under_way_shifted}
 use Rattle.prop_scheduler.proofs.WatchLaws.{AreLooked, looked_none, looked_same, looked_more, watched_shifted}
-use Rattle.prop_scheduler.proofs.believing.alert_shifted.Goals as goal
-use Rattle.prop_scheduler.proofs.believing.alert_shifted.Goals.{then-shifted, else-shifted}
+use Rattle.prop_scheduler.proofs.waking.alert_shifted.Goals as goal
+use Rattle.prop_scheduler.proofs.waking.alert_shifted.Goals.{then-shifted, else-shifted}
 
 pub loop-cell-init : goal.loop-cell-init
 loop-cell-init g c = record { shifted = shifted_none (set_of c.args.before.now) (set_of c.args.after.now) c.args.network.now.cells c.args.agenda.now.line; room = refl; cells = refl; looked = looked_none (set_of c.args.before.now) (set_of c.args.after.now) c.args.network.now.cells c.args.agenda.now.watched c.requires.watched.below }

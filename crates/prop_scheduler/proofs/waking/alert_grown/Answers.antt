@@ -10,8 +10,8 @@ use Rattle.prop_scheduler.specs.Agendas.{AllAlerted}
 use Rattle.prop_scheduler.specs.Shifts.{AreGrown}
 use Rattle.prop_scheduler.proofs.GrownLaws.{grown_none, grown_same, grown_more, under_way_grown, potential_at_first, potential_same, potential_falls, potential_at_last}
 use Rattle.prop_scheduler.proofs.WatchLaws.{AreLooked, looked_none, looked_same, looked_more, watched_shifted}
-use Rattle.prop_scheduler.proofs.believing.alert_grown.Goals as goal
-use Rattle.prop_scheduler.proofs.believing.alert_grown.Goals.{then-shifted, else-shifted}
+use Rattle.prop_scheduler.proofs.waking.alert_grown.Goals as goal
+use Rattle.prop_scheduler.proofs.waking.alert_grown.Goals.{then-shifted, else-shifted}
 
 pub loop-cell-init : goal.loop-cell-init
 loop-cell-init g c =

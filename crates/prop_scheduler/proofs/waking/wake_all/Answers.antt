@@ -4,7 +4,7 @@ use Rattle.prop_procedures.specs.Kept.{stored_of}
 use Rattle.prop_cells.proofs.Fixpoint.{All-from_contains}
 use Rattle.prop_scheduler.proofs.UnderWay.{under_way_all}
 use Rattle.prop_scheduler.proofs.WatchLaws.{watched_all}
-use Rattle.prop_scheduler.proofs.believing.wake_all.Goals as goal
+use Rattle.prop_scheduler.proofs.waking.wake_all.Goals as goal
 
 pub returns-clause-under_way : goal.returns-clause-under_way
 returns-clause-under_way g c =
