@@ -5,7 +5,7 @@ ghost use Rattle.prop_numbers.specs.Sets.{set_of};
 ghost use Rattle.prop_texts.specs.Texts.{equation, contradiction_text, is_listed, members_text, worldview_text};
 ghost use Rattle.prop_engine.specs.Answers.{answer_of, Says};
 
-use crate::labels::{push_label, support_text};
+use crate::labels::{print_set, push_label};
 use prop_engine::Reply;
 use prop_premises::{Premise, PremiseSet, Premises, Worldview};
 use prop_refusals::Refusal;
@@ -31,7 +31,7 @@ pub fn contradiction_reply(alloc: Global, premises: &Premises, support: &Premise
     ensures says { Says (answer_of result) (contradiction_text premises.now support.now) }
     ensures in_order { IsStrictlyIncreasing support.now }
 {
-    match support_text(alloc, premises, support) {
+    match print_set(alloc, premises, support) {
         Ok(names) => Reply::saying(format!(in alloc; "contradiction:{names}")),
         Err(AllocError) => Reply::Refused(Refusal::Memory),
     }
