@@ -27,10 +27,6 @@ stops r b rest e = ap (λ t. first_of (when r t ∷ rest)) e
 pub passes : (r : Refusal) (b : Bool) (rest : List (Option Refusal)) (o : Option Refusal) → b ≡ false → first_of rest ≡ o → first_of (when r b ∷ rest) ≡ o
 passes r b rest o e h = ap (λ t. first_of (when r t ∷ rest)) e ∙ h
 
--- one of several does
-pub stops_at : (x : Option Refusal) (rest : List (Option Refusal)) (r : Refusal) → x ≡ Some r → first_of (x ∷ rest) ≡ Some r
-stops_at x rest r e = ap (λ o. first_of (o ∷ rest)) e
-
 -- none of two did
 pub neither : (r s : Refusal) (a b : Bool) → first_of (when r a ∷ when s b ∷ []) ≡ None → (a ≡ false) × (b ≡ false)
 neither r s true b e = cc

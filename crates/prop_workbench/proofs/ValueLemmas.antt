@@ -1,5 +1,5 @@
 -- What a value says at a cell, and why it is refused.
-use Rattle.std.proofs.Common.{◌≡◌, ◌∙◌, ℕ, ℤ, pos, neg_ℤ, ◌≤ℤ◌, ◌<◌, ◌≤◌, ◌^◌, ◌/◌, zero, suc, bytes_eq, length, Bool, true, false, cond, ◌&&◌, ◌||◌, List, [], ◌∷◌, Option, Some, None, Result, Ok, Err, is_none, unwrap_or, ◌⊎◌, inl, inr, refl, ap, subst, arith, slice_index_or, eq-eqb}
+use Rattle.std.proofs.Common.{◌≡◌, ◌∙◌, ℕ, ℤ, pos, neg_ℤ, ◌≤ℤ◌, ◌<◌, ◌≤◌, ◌^◌, ◌/◌, zero, suc, bytes_eq, length, Bool, true, false, cond, ◌&&◌, ◌||◌, List, [], ◌∷◌, Option, Some, None, Result, Ok, Err, is_none, ◌⊎◌, inl, inr, refl, ap, subst, arith, slice_index_or, eq-eqb}
 use Rattle.std.specs.Prelude.{⊤, int_le, int_lt}
 use Rattle.std.specs.Option.{option_map_or, option_and_then}
 use Rattle.std.specs.List.{list_all}
@@ -29,9 +29,7 @@ use Rattle.prop_vocabulary.specs.Texts.{elements_of_kind}
 use Rattle.prop_workbench.specs.Machine.{State}
 use Rattle.prop_workbench.specs.Refusing.{refusal_of, stating_limit_at, meaning_at, is_error}
 use Rattle.prop_workbench.specs.inner.Refusing.{is_choice_told}
-use Rattle.prop_engine.specs.Answers.{Done}
-use Rattle.prop_workbench.specs.Steps.{Carries}
-use Rattle.prop_workbench.specs.Effects.{stated, words_at, info_at}
+use Rattle.prop_workbench.specs.Effects.{stated}
 use Rattle.prop_workbench.specs.inner.Effects.{stating, MayMean}
 use Rattle.prop_vocabulary.specs.Cells.{cell_named}
 
@@ -231,12 +229,3 @@ pub value_refused : (library : List Stored) (s : State) (premise : Option (List 
 value_refused library s premise name value cell e found said =
     by_rows library s premise name value cell found ∙ ap (λ (r : Result Meant Refusal). value_rows (Some r) (Some cell) (is_choice_told s premise) (stating_limit_at s premise (Some r))) said
     ∙ error_rows e cell (is_choice_told s premise) None (value_refusal (kind_at s.kinds cell).kind (elements_of_kind s.words (kind_at s.kinds cell).kind) value e said)
-
-changes : (library : List Stored) (s new : State) (premise : Option (List ℕ)) (name : List ℕ) (value : Value) → new ≡ stated s premise (unwrap_or (cell_named s.names name) 0) (words_at s name value) (info_at s name value) →
-    Carries library s (stating premise name value) Done new 0
-changes library s new None name value e = record { answer_is = refl; new_is = e; no_steps = refl }
-changes library s new (Some premise) name value e = record { answer_is = refl; new_is = e; no_steps = refl }
-
-pub no_cell : (library : List Stored) (s : State) (premise : Option (List ℕ)) (name : List ℕ) (value : Value) → cell_named s.names name ≡ None → refusal_of library s (stating premise name value) ≡ Some NoSuchCell
-no_cell library s None name value none = rw none refl
-no_cell library s (Some premise) name value none = rw none refl
