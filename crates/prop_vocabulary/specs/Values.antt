@@ -1,5 +1,5 @@
 -- What a value on a line says at a cell of a kind.
-use Rattle.std.specs.Prelude.{ℕ, ℤ, pos, neg_ℤ, int_lt, List, [], ◌∷◌, length, slice_index_or, cond, ◌==◌, ◌&&◌, Option, Some, None, Result, Ok, Err}
+use Rattle.std.specs.Prelude.{ℕ, ℤ, neg_ℤ, int_lt, List, [], ◌∷◌, length, slice_index_or, cond, ◌==◌, ◌&&◌, Option, Some, None, Result, Ok, Err}
 use Rattle.std.specs.List.{list_all}
 use Rattle.prop_lattice.specs.declared.span.TheConstants.{B}
 use Rattle.prop_refusals.specs.declared.refusal.Refusal.{Refusal}
