@@ -1,7 +1,7 @@
 //! Making a definition.
 ghost use Rattle.std.specs.Prelude.{◌≡◌, ◌≤◌, ◌++◌, ◌∷◌, [], false, All, length, map, take, drop, IfOk, IfErr, IfSome, OnOk, OnErr, Err, None, Some};
 ghost use Rattle.std.specs.List.{flat_map};
-ghost use Rattle.prop_lattice.specs.Refusals.{first_of};
+ghost use Rattle.prop_refusals.specs.Refusals.{first_of};
 ghost use Rattle.prop_procedures.specs.Kept.{stored_of};
 ghost use Rattle.prop_vocabulary.specs.Names.{number_in};
 ghost use Rattle.prop_vocabulary.specs.Refusing.{IsReason};

@@ -1,8 +1,8 @@
 -- What a line asks for, or the first reason in the line alone why it is refused.
 use Rattle.std.specs.Prelude.{◌≡◌, ◌⊎◌, ℕ, ◌<◌, ◌≤◌, List, [], ◌∷◌, ◌++◌, Bool, true, false, cond, not, ◌==◌, length, Option, Some, None, Result, Ok, Err, flat_map, is_some, IsUtf8}
 use Rattle.std.specs.List.{list_all}
-use Rattle.prop_lattice.specs.declared.refusal.Refusal.{Refusal}
-use Rattle.prop_lattice.specs.declared.refusal.Refusal.TheVariants.{LineTooLong, NotUtf8, UnknownCommand, WrongForm, NotAName, NotANumber}
+use Rattle.prop_refusals.specs.declared.refusal.Refusal.{Refusal}
+use Rattle.prop_refusals.specs.declared.refusal.Refusal.TheVariants.{LineTooLong, NotUtf8, UnknownCommand, WrongForm, NotAName, NotANumber}
 use Rattle.prop_language.specs.Tokens.{Token, Word, tokens, is_blank}
 use Rattle.prop_language.specs.Names.{is_name, is_among}
 use Rattle.prop_language.specs.Commands.{KindWord, Named, By, Passed, Step, Command}

@@ -1,8 +1,8 @@
 -- Commands without where their words lie in memory.
 use Rattle.std.specs.Prelude.{◌≡◌, ◌⊎◌, map, List, ◌∷◌, ℕ, codes, Contains, Option, Some, None, Result, Ok, Err}
 use Rattle.std.specs.Borrow.{Bor}
-use Rattle.prop_lattice.specs.declared.refusal.Refusal.{Refusal}
-use Rattle.prop_lattice.specs.declared.refusal.Refusal.TheVariants.{Memory}
+use Rattle.prop_refusals.specs.declared.refusal.Refusal.{Refusal}
+use Rattle.prop_refusals.specs.declared.refusal.Refusal.TheVariants.{Memory}
 use Rattle.prop_language.specs.Tokens.{Token, Word, Open}
 use Rattle.prop_language.specs.Commands as commands
 use Rattle.prop_language.specs.declared.command.Value.{Value}

@@ -7,7 +7,7 @@ use Rattle.std.proofs.lemmas.Bool.Decides.{eqb_tells, leb_tells}
 use Rattle.std.proofs.lemmas.List.{length-map, take_at, take-append-drop, length-take-le, get_or-take}
 use Rattle.std.proofs.lemmas.List.Concat.{flat_map-append}
 use Rattle.std.proofs.lemmas.List.Elements.{All-append, All-cons, All-drop, All-filter, All-map, All-set, All-take, All-weaker, Contains-append_right}
-use Rattle.prop_premises.specs.Sets.{Members}
+use Rattle.prop_numbers.specs.Sets.{Members}
 use Rattle.prop_nogoods.specs.Stores.{PartsEndBelow}
 use Rattle.prop_nogoods.specs.inner.Endings.{Group, EndsSo, EndTogether, AreInOrder, HasOneMore, end_of, sets_of, left_of, lacking_of}
 use Rattle.prop_nogoods.proofs.EndingLemmas.{EndsBelow, ends_below, all_end_below}

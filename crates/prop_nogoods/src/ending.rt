@@ -1,7 +1,7 @@
 //! Nogoods that end with the same premise.
 ghost use Rattle.std.specs.Prelude.{◌≡◌, ◌<◌, ◌≤◌, ◌++◌, ◌∷◌, ℕ, [], length, get_or, insert, map, nat_lt, vec_capacity, false, All, None, Contains, IsTrue, IfOk, IfSome, OnOk, OnErr};
 ghost use Rattle.std.specs.List.Sorted.{IsPartitionPoint, IsStrictlyIncreasing};
-ghost use Rattle.prop_premises.specs.Sets.{set_of, is_within};
+ghost use Rattle.prop_numbers.specs.Sets.{set_of, is_within};
 ghost use Rattle.prop_nogoods.specs.Stores.{has_part, staying, AreBySize, PartsEndBelow};
 ghost use Rattle.prop_nogoods.specs.inner.Endings.{Group, EndsSo, AreInOrder, end_of, sets_of, HasOneMore, HasRoom, NoPartEnds, left_of, lacking_of};
 ghost use Rattle.prop_nogoods.specs.inner.Stores.{IsPartOfNone};

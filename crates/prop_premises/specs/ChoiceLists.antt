@@ -1,7 +1,7 @@
 -- Choices, lists that take one side of each, and what is believed with such a list.
 use Rattle.std.specs.Prelude.{◌≡◌, ℕ, ◌+◌, ◌-◌, ◌*◌, ◌<◌, ◌≤◌, Bool, false, ◌==◌, ◌||◌, ◌&&◌, nat_le, nat_lt, IsTrue, List, [], ◌∷◌, ◌⊎◌, ⊤}
 use Rattle.std.specs.List.{AllZip, AllByRecursion, list_any}
-use Rattle.prop_premises.specs.Sets.{Members, union}
+use Rattle.prop_numbers.specs.Sets.{Members, union}
 use Rattle.prop_premises.specs.declared.choice.Choice.{Choice}
 
 -- the hypothetical premise of a side; sides count from 1

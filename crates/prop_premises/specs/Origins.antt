@@ -1,7 +1,7 @@
 -- Premises in order of number: where each comes from, and which of the user's are believed.
 use Rattle.std.specs.Prelude.{◌≡◌, ◌<◌, ℕ, zero, suc, ◌==◌, Bool, true, false, cond, bytes_eq, IsTrue, List, [], ◌∷◌, ◌++◌, length, position, Option, Some, None, is_some}
 use Rattle.std.specs.List.{list_any}
-use Rattle.prop_premises.specs.Sets.{Members}
+use Rattle.prop_numbers.specs.Sets.{Members}
 use Rattle.prop_premises.specs.declared.choice.Choice.{Choice}
 use Rattle.prop_premises.specs.ChoiceLists.{is_hypothetical, AreInOrder, AreOfSides}
 

@@ -2,16 +2,16 @@
 ghost use Rattle.std.specs.Prelude.{◌≡◌, ◌≤◌, ◌<◌, ◌+◌, ◌*◌, ◌++◌, ℕ, List, [], Some, length, take, replicate, None, true, false, is_some, slice_get, option_map, IsTrue, IsOk, IfSome, OnOk, OnErr};
 ghost use Rattle.std.specs.HashMap.{IsUnique};
 ghost use Rattle.std.specs.String.{string_eq};
-ghost use Rattle.prop_premises.specs.Sets.{union, IsSame};
-ghost use Rattle.prop_premises.specs.Words.{has_bit};
+ghost use Rattle.prop_numbers.specs.Sets.{union, IsSame};
+ghost use Rattle.prop_numbers.specs.Words.{has_bit};
 ghost use Rattle.prop_premises.specs.Origins.{Origin, premise_number, is_choice, is_user_at, with_belief_at, is_start, name_of, IsNumbered, choices_of, believed_in};
 ghost use Rattle.prop_premises.specs.ChoiceLists.{is_hypothetical};
 ghost use Rattle.prop_premises.specs.inner.Named.{origins_of, origins_of_kind, places_from, width, told, number_of, is_choices, IsKind, AreNumberedFrom};
 
-use crate::bits::set_bit;
 use crate::named::{Kind, Named, Source};
 use crate::premise_set::Premise;
 use indexmap::IndexMap;
+use prop_numbers::bits::set_bit;
 use std::alloc::{AllocError, Global};
 use std::marker::Model;
 

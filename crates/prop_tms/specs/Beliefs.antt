@@ -1,7 +1,7 @@
 -- What values with supports say in each worldview.
 use Rattle.std.specs.Prelude.{◌≡◌, ◌≢◌, ℕ, ◌<◌, ◌≤◌, false, IsTrue, slice_get, Some, List, [], ◌∷◌, length, filter, All, AllPairs, Any, Contains, remove, ◌⊎◌, if◌then◌else◌}
 use Rattle.std.specs.List.{list_any}
-use Rattle.prop_premises.specs.Sets.{Members, set_of, is_within, is_alike, is_at_most_one_of, IsSame}
+use Rattle.prop_numbers.specs.Sets.{Members, set_of, is_within, is_alike, is_at_most_one_of, IsSame}
 use Rattle.prop_tms.specs.declared.supported.Supported.{Supported}
 
 -- the least value above those of all these

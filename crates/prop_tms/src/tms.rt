@@ -1,7 +1,7 @@
 //! The entries of one value.
 ghost use Rattle.std.specs.Prelude.{◌≡◌, ◌≢◌, ◌↔◌, ◌≤◌, ◌+◌, false, not, List, [], length, filter, IsTrue, Ok, IsOk, IfOk, IfSome, OnOk, OnErr};
 ghost use Rattle.std.specs.List.{list_any};
-ghost use Rattle.prop_premises.specs.Sets.{Members, set_of, is_within, is_below, is_at_most_one_of, IsBelow};
+ghost use Rattle.prop_numbers.specs.Sets.{Members, set_of, is_within, is_below, is_at_most_one_of, IsBelow};
 ghost use Rattle.prop_tms.specs.Beliefs.{belief_of, IsLeastBelief, Subsumes, NoneSubsumed, NoneAlike, IsNeedless, Adds, IsLean, IsShort, Trims, AreNeeded, joined_with};
 ghost use Rattle.prop_tms.specs.Kept.{IsGrownBy};
 ghost use Rattle.prop_tms.specs.Values.{entries_of};

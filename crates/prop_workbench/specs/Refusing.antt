@@ -3,16 +3,16 @@ use Rattle.std.specs.Prelude.{ℕ, List, [], ◌∷◌, Bool, false, ◌+◌, �
 use Rattle.std.specs.List.{list_any}
 use Rattle.std.specs.Option.{option_map, option_map_or, option_or}
 use Rattle.prop_lattice.specs.declared.info.Kind.{Kind}
-use Rattle.prop_lattice.specs.declared.refusal.Limit.TheVariants.{Cells, Premises, Choices, Statements}
-use Rattle.prop_lattice.specs.declared.refusal.Refusal.{Refusal}
-use Rattle.prop_lattice.specs.declared.refusal.Refusal.TheVariants.{NotAName, NotANumber, NameTaken, NoSuchDomain, NoSuchRelation, NoSuchCell, NoSuchPremise, WrongKind, NotInTheDomain, EmptyValue, IsAChoice, LimitReached}
-use Rattle.prop_lattice.specs.Refusals.{number_of, most, when, first_of}
+use Rattle.prop_refusals.specs.declared.refusal.Limit.TheVariants.{Cells, Premises, Choices, Statements}
+use Rattle.prop_refusals.specs.declared.refusal.Refusal.{Refusal}
+use Rattle.prop_refusals.specs.declared.refusal.Refusal.TheVariants.{NotAName, NotANumber, NameTaken, NoSuchDomain, NoSuchRelation, NoSuchCell, NoSuchPremise, WrongKind, NotInTheDomain, EmptyValue, IsAChoice, LimitReached}
+use Rattle.prop_refusals.specs.Refusals.{number_of, most, when, first_of}
 use Rattle.prop_premises.specs.Origins.{premise_number, is_choice, choices_of}
 use Rattle.prop_procedures.specs.declared.shape.Param.{Param}
 use Rattle.prop_procedures.specs.declared.shape.Param.TheVariants as params
 use Rattle.prop_procedures.specs.Stored.{Stored}
 use Rattle.prop_language.specs.Commands.{By, Value, Command}
-use Rattle.prop_values.specs.Values.{Meant, Known, Name, value_said}
+use Rattle.prop_vocabulary.specs.Values.{Meant, Known, Name, value_said}
 use Rattle.prop_procedures.specs.Fitting.{kind_at}
 use Rattle.prop_vocabulary.specs.Vocabulary.{Vocabulary, relation_named, with_symbol}
 use Rattle.prop_vocabulary.specs.Texts.{elements_of_kind}

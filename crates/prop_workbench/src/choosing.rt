@@ -1,6 +1,6 @@
 //! The command that makes a choice.
 ghost use Rattle.std.specs.Prelude.{◌≡◌, ◌≤◌, ◌⊎◌, ℕ, None, Some, Ok, All, IfOk, IfErr, OnOk, OnErr, map, length};
-ghost use Rattle.prop_lattice.specs.declared.refusal.Refusal.TheVariants.{Memory};
+ghost use Rattle.prop_refusals.specs.declared.refusal.Refusal.TheVariants.{Memory};
 ghost use Rattle.prop_language.specs.Said.{value_of};
 ghost use Rattle.prop_vocabulary.specs.Vocabulary.{with_first_symbols};
 ghost use Rattle.prop_workbench.specs.inner.Choosing.{is_one_refused, values_refusal, meaning_of, Means, meanings_of, infos_meant};
@@ -14,8 +14,7 @@ use prop_compound::Value;
 use prop_lattice::{Info, Kind, Limit, Refusal};
 use prop_procedures::Rule;
 use prop_scheduler::{Order, state_sides};
-use prop_values::Meant;
-use prop_vocabulary::Vocabulary;
+use prop_vocabulary::{Meant, Vocabulary};
 use std::alloc::Global;
 
 /// Whether the value is refused so at a cell of the kind.
@@ -118,12 +117,12 @@ fn infos_of(
 
 impl<R: Rule + Drop, O: Order + Drop> Session<R, O> {
     ghost use Rattle.std.specs.Prelude.{◌≡◌, ◌≤◌, ◌<◌, ◌⊎◌, ◌++◌, ◌∷◌, [], ◌||◌, ℕ, None, Some, All, false, is_some, OnOk, OnErr, IfOk, IfErr, map, length};
-    ghost use Rattle.prop_lattice.specs.declared.refusal.Refusal.TheVariants.{Memory};
+    ghost use Rattle.prop_refusals.specs.declared.refusal.Refusal.TheVariants.{Memory};
     ghost use Rattle.prop_premises.specs.Origins.{premise_number, is_choice, with_choice};
     ghost use Rattle.prop_language.specs.Commands as commands;
     ghost use Rattle.prop_language.specs.Said.{value_of};
     ghost use Rattle.prop_procedures.specs.Fitting.{kind_at};
-    ghost use Rattle.prop_values.specs.Values.{Known};
+    ghost use Rattle.prop_vocabulary.specs.Values.{Known};
     ghost use Rattle.prop_cells.specs.Sides.{sides_at};
     ghost use Rattle.prop_workbench.specs.inner.Choosing.{Means, meanings_of};
     ghost use Rattle.prop_workbench.specs.Effects.{chosen};

@@ -1,8 +1,8 @@
 -- A line's reading, as it is found: by the form of its first word.
 use Rattle.std.specs.Prelude.{ℕ, List, ◌∷◌, cond, not, nat_lt, length, bytes_eq, Option, Some, None, Result, Ok, Err, find}
 use Rattle.std.specs.Str.{is_utf8}
-use Rattle.prop_lattice.specs.declared.refusal.Refusal.{Refusal}
-use Rattle.prop_lattice.specs.declared.refusal.Refusal.TheVariants.{LineTooLong, NotUtf8, UnknownCommand, WrongForm}
+use Rattle.prop_refusals.specs.declared.refusal.Refusal.{Refusal}
+use Rattle.prop_refusals.specs.declared.refusal.Refusal.TheVariants.{LineTooLong, NotUtf8, UnknownCommand, WrongForm}
 use Rattle.prop_language.specs.Tokens.{Token, Word, tokens}
 use Rattle.prop_language.specs.Commands.{Command}
 use Rattle.prop_language.specs.Reading.{without_return, is_silent, command_in_range}

@@ -3,8 +3,8 @@ use Rattle.std.specs.Prelude.{◌≡◌, ℕ, List, [], ◌∷◌, Bool, true, f
 use Rattle.std.specs.Option.{option_map, option_and_then}
 use Rattle.std.specs.List.{list_all}
 use Rattle.std.specs.Borrow.{Bor}
-use Rattle.prop_lattice.specs.declared.refusal.Refusal.{Refusal}
-use Rattle.prop_lattice.specs.declared.refusal.Refusal.TheVariants.{UnknownCommand, WrongForm, NotAName, NotANumber}
+use Rattle.prop_refusals.specs.declared.refusal.Refusal.{Refusal}
+use Rattle.prop_refusals.specs.declared.refusal.Refusal.TheVariants.{UnknownCommand, WrongForm, NotAName, NotANumber}
 use Rattle.prop_language.specs.Tokens.{Token, Word, Open, Close, Semicolon, Equals, Star, is_blank, mark_of}
 use Rattle.prop_language.specs.Names.{is_name, digits_number}
 use Rattle.prop_language.specs.Commands.{Value, By, Passed, Step, Command}

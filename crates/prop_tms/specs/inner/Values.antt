@@ -1,6 +1,6 @@
 -- Values, each once, with the supports that say so.
 use Rattle.std.specs.Prelude.{◌≡◌, ◌≢◌, ℕ, ◌+◌, ◌^◌, ◌<◌, ◌≤◌, Bool, not, ◌&&◌, ◌||◌, List, [], length, get_or, map, take, All, AllPairs}
-use Rattle.prop_premises.specs.Sets.{Members, is_within}
+use Rattle.prop_numbers.specs.Sets.{Members, is_within}
 use Rattle.prop_tms.specs.Beliefs.{NoneSubsumed, NoneAlike}
 use Rattle.prop_tms.specs.declared.values.Valued.{Valued}
 use Rattle.prop_tms.specs.Values.{entries_of}

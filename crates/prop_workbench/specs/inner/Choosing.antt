@@ -5,11 +5,11 @@ use Rattle.std.specs.Result.{result_unwrap_or}
 use Rattle.prop_lattice.specs.declared.info.Info.{Info}
 use Rattle.prop_lattice.specs.declared.info.Info.TheVariants.{Nothing}
 use Rattle.prop_lattice.specs.declared.info.Kind.{Kind}
-use Rattle.prop_lattice.specs.declared.refusal.Refusal.{Refusal}
-use Rattle.prop_lattice.specs.declared.refusal.Refusal.TheVariants.{NotAName, NotANumber, NameTaken, WrongKind, NotInTheDomain, EmptyValue}
-use Rattle.prop_lattice.specs.Refusals.{first_of, when}
+use Rattle.prop_refusals.specs.declared.refusal.Refusal.{Refusal}
+use Rattle.prop_refusals.specs.declared.refusal.Refusal.TheVariants.{NotAName, NotANumber, NameTaken, WrongKind, NotInTheDomain, EmptyValue}
+use Rattle.prop_refusals.specs.Refusals.{first_of, when}
 use Rattle.prop_language.specs.Commands.{Value}
-use Rattle.prop_values.specs.Values.{Meant, Known}
+use Rattle.prop_vocabulary.specs.Values.{Meant, Known}
 use Rattle.prop_vocabulary.specs.Vocabulary.{Vocabulary}
 use Rattle.prop_workbench.specs.Refusing.{meaning_at, is_error, with_meant}
 use Rattle.prop_workbench.specs.Effects.{info_meant}
