@@ -5,5 +5,7 @@ use Rattle.prop_cells.specs.Problems.{Premises, IsConsistent}
 use Rattle.prop_cells.specs.Data.{Data, beliefs, problem_of}
 use Rattle.prop_scheduler.specs.Turns.{IsSettled}
 
-pub settled_consistent : (library : List Stored) (s : Premises) (d : Data) → IsSettled library s d → IsConsistent (problem_of library d) s
-settled_consistent library s d settled = record { solution = beliefs s d.contents; solves = settled.least.solves; free = settled.free }
+pub settled_consistent : (library : List Stored) (s : Premises) (d : Data) → IsSettled library s d
+    → IsConsistent (problem_of library d) s
+settled_consistent library s d settled =
+    record { solution = beliefs s d.contents; solves = settled.least.solves; free = settled.free }

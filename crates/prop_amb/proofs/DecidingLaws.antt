@@ -13,7 +13,8 @@ use Rattle.prop_amb.specs.inner.Settling.{IsMet}
 use Rattle.prop_amb.proofs.MetLaws.{believes_worldview}
 
 -- a choice may go on for a noted nogood that is believed
-abbrev pub may_move : (s : Stand) (n : List ℕ) (j : ℕ) → IsStand s → Contains s.listed n → IsPart (set_of n) (set_of s.worldview) → MayLeave s n j → MayMove s j
+abbrev pub may_move : (s : Stand) (n : List ℕ) (j : ℕ) → IsStand s → Contains s.listed n
+    → IsPart (set_of n) (set_of s.worldview) → MayLeave s n j → MayMove s j
 may_move s n j stand noted believed leaves = record {
   nogood = n;
   noted = noted;
@@ -21,11 +22,13 @@ may_move s n j stand noted believed leaves = record {
   leaves = leaves;
 }
 
-abbrev pub met_moves : {problem : Problem} (s : Stand) (n : List ℕ) (j : ℕ) → IsStand s → IsMet problem s n → MayLeave s n j → MayMove s j
+abbrev pub met_moves : {problem : Problem} (s : Stand) (n : List ℕ) (j : ℕ) → IsStand s → IsMet problem s n
+    → MayLeave s n j → MayMove s j
 met_moves s n j stand met leaves = may_move s n j stand met.noted met.believed leaves
 
 -- the culprits of a nogood that is met are blamed
-pub met_blames : {problem : Problem} (s : Stand) (n : List ℕ) (set : Members) → IsStand s → IsMet problem s n → AreCulprits s n set → IsBlamed s set
+pub met_blames : {problem : Problem} (s : Stand) (n : List ℕ) (set : Members) → IsStand s → IsMet problem s n
+    → AreCulprits s n set → IsBlamed s set
 met_blames s n set stand met culprits = record {
   nogood = n;
   noted = met.noted;
@@ -34,9 +37,20 @@ met_blames s n set stand met culprits = record {
 }
 
 -- a choice went on
-pub goes_later : (s new : Stand) (j : ℕ) (reason : List ℕ) → (may : MayMove s j) → AreCulprits s may.nogood (set_of reason) → new.premises ≡ s.premises → new.listed ≡ s.listed → new.list ≡ advanced s.list j → new.level ≡ j + 1 → new.reasons ≡ reasons_advanced s.reasons j reason → Passes s 1 new
+pub goes_later : (s new : Stand) (j : ℕ) (reason : List ℕ) → (may : MayMove s j)
+    → AreCulprits s may.nogood (set_of reason) → new.premises ≡ s.premises → new.listed ≡ s.listed
+    → new.list ≡ advanced s.list j → new.level ≡ j + 1 → new.reasons ≡ reasons_advanced s.reasons j reason
+    → Passes s 1 new
 goes_later s new j reason may culprits premises listed list level reasons =
-    next 0 j s new reason none may culprits (λ i. record { premises = premises i; list = list i; level = level i; reasons = reasons i; listed = listed i; worldview = new.worldview })
+    next 0 j s new reason none may culprits
+    (λ i. record {
+      premises = premises i;
+      list = list i;
+      level = level i;
+      reasons = reasons i;
+      listed = listed i;
+      worldview = new.worldview;
+    })
 
 -- moves after moves
 pub passes_on : {old mid new : Stand} {n k : ℕ} → Passes old n mid → Passes mid k new → Passes old (n + k) new
@@ -46,8 +60,11 @@ passes_on {old} {new = new} {n = n} first (next k j s later reason rest may culp
     subst (λ m. Passes old m later) e (next (n + k) j s later reason (passes_on first rest) may culprits same)
 
 -- of the cells that a move shifted the readers and writers wait
-pub are_shifted : (d : Data) (s new : Stand) (waiting line : List ℕ) → IsStand s → IsStand new → AreShifted (set_of s.worldview) (set_of new.worldview) d (length d.kinds) waiting line →
+pub are_shifted : (d : Data) (s new : Stand) (waiting line : List ℕ) → IsStand s → IsStand new
+    → AreShifted (set_of s.worldview) (set_of new.worldview) d (length d.kinds) waiting line →
     AreShifted (believed_with s) (believed_with new) d (length d.kinds) waiting line
 are_shifted d s new waiting line stand stand' shifted =
-    subst (λ (u : Members). AreShifted u (believed_with new) d (length d.kinds) waiting line) (believes_worldview s stand)
-    (subst (λ (v : Members). AreShifted (set_of s.worldview) v d (length d.kinds) waiting line) (believes_worldview new stand') shifted)
+    subst (λ (u : Members). AreShifted u (believed_with new) d (length d.kinds) waiting line)
+    (believes_worldview s stand)
+    (subst (λ (v : Members). AreShifted (set_of s.worldview) v d (length d.kinds) waiting line)
+    (believes_worldview new stand') shifted)

@@ -1,5 +1,6 @@
 -- One list at one level after the other, until it is refuted or the side of each choice is believed.
-use Rattle.std.proofs.Common.{◌≡◌, ◌∙◌, ℕ, ◌+◌, ◌-◌, ◌<◌, ◌≤◌, ◌⊎◌, List, [], false, length, refl, sym, ap, subst, inl, inr, arith}
+use Rattle.std.proofs.Common.{◌≡◌, ◌∙◌, ℕ, ◌+◌, ◌-◌, ◌<◌, ◌≤◌, ◌⊎◌, List, [], false, length, refl, sym, ap, subst, inl}
+use Rattle.std.proofs.Common.{inr, arith}
 use Rattle.prop_numbers.specs.Sets.{Members, set_of}
 use Rattle.prop_procedures.specs.Stored.{Stored}
 use Rattle.prop_cells.specs.Problems.{Problem}
@@ -21,19 +22,26 @@ use Rattle.prop_amb.proofs.OnWay.{IsStart, AtLevel, Deepening}
 use Rattle.prop_amb.proofs.SettlingLaws.{same_in, rest_on}
 
 -- what is believed is the same in other words
-pub grown_believed : (d : Data) (s new : Stand) (waiting line : List ℕ) → IsStand s → IsStand new → AreGrown (set_of s.worldview) (set_of new.worldview) d (length d.kinds) waiting line →
+pub grown_believed : (d : Data) (s new : Stand) (waiting line : List ℕ) → IsStand s → IsStand new
+    → AreGrown (set_of s.worldview) (set_of new.worldview) d (length d.kinds) waiting line →
     AreGrown (believed_with s) (believed_with new) d (length d.kinds) waiting line
 grown_believed d s new waiting line stand stand' grown =
     subst (λ u. AreGrown u (believed_with new) d (length d.kinds) waiting line) (believes_worldview s stand)
     (subst (λ v. AreGrown (set_of s.worldview) v d (length d.kinds) waiting line) (believes_worldview new stand') grown)
 
 -- of the same library in other words
-pub at_level : {V O : Type 0} (mean : V → List Stored) (was now : V) (picks : O → ℕ → ℕ → O → Type 0) (s : Stand) (d : Data) (waiting : List ℕ) (order : O) (budget : ℕ) (tried : Tried) (calls : ℕ) (new : Stand) (cells : Data) (after : List ℕ) (next : O) → now ≡ was →
-    AtLevel picks (mean now) s d waiting order budget tried calls new cells after next → AtLevel picks (mean was) s d waiting order budget tried calls new cells after next
-at_level mean was now picks s d waiting order budget tried calls new cells after next same a = subst (λ v. AtLevel picks (mean v) s d waiting order budget tried calls new cells after next) same a
+pub at_level : {V O : Type 0} (mean : V → List Stored) (was now : V) (picks : O → ℕ → ℕ → O → Type 0) (s : Stand)
+    (d : Data) (waiting : List ℕ) (order : O) (budget : ℕ) (tried : Tried) (calls : ℕ) (new : Stand) (cells : Data)
+    (after : List ℕ) (next : O) → now ≡ was →
+    AtLevel picks (mean now) s d waiting order budget tried calls new cells after next
+    → AtLevel picks (mean was) s d waiting order budget tried calls new cells after next
+at_level mean was now picks s d waiting order budget tried calls new cells after next same a =
+    subst (λ v. AtLevel picks (mean v) s d waiting order budget tried calls new cells after next) same a
 
-module _ {O : Type 0} (picks : O → ℕ → ℕ → O → Type 0) (library : List Stored) (s : Stand) (d : Data) (waiting : List ℕ) (order : O) where
-  pub at_first : IsSearch (problem_of library d) s → IsUnderWay library (set_of s.worldview) d waiting → Deepening picks library s d waiting order s d waiting order 0
+module _ {O : Type 0} (picks : O → ℕ → ℕ → O → Type 0) (library : List Stored) (s : Stand) (d : Data) (waiting : List ℕ)
+    (order : O) where
+  pub at_first : IsSearch (problem_of library d) s → IsUnderWay library (set_of s.worldview) d waiting
+      → Deepening picks library s d waiting order s d waiting order 0
   at_first learned under_way = record {
     only = refl;
     kept = λ m t. t;
@@ -46,7 +54,9 @@ module _ {O : Type 0} (picks : O → ℕ → ℕ → O → Type 0) (library : Li
     since = inl (record { stand = refl; cells = refl; waits = refl; none = refl });
   }
 
-  module _ (t : Stand) (mid : Data) (line : List ℕ) (last : O) (steps budget : ℕ) (w : Deepening picks library s d waiting order t mid line last steps) (within : steps ≤ budget) (tried : Tried) (calls : ℕ) (new : Stand) (cells : Data) (after : List ℕ) (next : O)
+  module _ (t : Stand) (mid : Data) (line : List ℕ) (last : O) (steps budget : ℕ)
+      (w : Deepening picks library s d waiting order t mid line last steps) (within : steps ≤ budget) (tried : Tried)
+      (calls : ℕ) (new : Stand) (cells : Data) (after : List ℕ) (next : O)
       (a : AtLevel picks library t mid line last (budget - steps) tried calls new cells after next) where
     same : problem_of library mid ≡ problem_of library d
     same = same_in library d mid w.rest
@@ -74,27 +84,38 @@ module _ {O : Type 0} (picks : O → ℕ → ℕ → O → Type 0) (library : Li
         reasons = ap (λ (x : Stand). x.reasons) a.only ∙ ap (λ (x : Stand). x.reasons) w.only
 
     -- the potential falls by the calls, in the worldview of then
-    fell : potential (problem_of library d) (beliefs (set_of new.worldview) cells.contents) after + calls ≤ potential (problem_of library d) (beliefs (set_of t.worldview) mid.contents) line
+    fell : potential (problem_of library d) (beliefs (set_of new.worldview) cells.contents) after + calls ≤ potential
+        (problem_of library d) (beliefs (set_of t.worldview) mid.contents) line
     fell =
-        subst (λ v. potential (problem_of library d) (beliefs (set_of v) cells.contents) after + calls ≤ potential (problem_of library d) (beliefs (set_of t.worldview) mid.contents) line) (sym worldview_same)
-        (subst (λ p. potential p (beliefs (set_of t.worldview) cells.contents) after + calls ≤ potential p (beliefs (set_of t.worldview) mid.contents) line) same a.falls)
+        subst (λ v. potential (problem_of library d) (beliefs (set_of v) cells.contents) after + calls ≤ potential
+        (problem_of library d) (beliefs (set_of t.worldview) mid.contents) line) (sym worldview_same)
+        (subst (λ p. potential p (beliefs (set_of t.worldview) cells.contents) after + calls ≤ potential p
+        (beliefs (set_of t.worldview) mid.contents) line) same a.falls)
 
     few_now : calls ≤ most_steps (problem_of library d)
     few_now = subst (λ p. calls ≤ most_steps p) same a.few
 
-    most_now : (calls ≡ 0) ⊎ (potential (problem_of library d) (beliefs (set_of t.worldview) mid.contents) line ≤ most_steps (problem_of library d))
-    most_now = subst (λ p. (calls ≡ 0) ⊎ (potential p (beliefs (set_of t.worldview) mid.contents) line ≤ most_steps p)) same a.most
+    most_now : (calls ≡ 0) ⊎ (potential (problem_of library d) (beliefs (set_of t.worldview) mid.contents)
+        line ≤ most_steps (problem_of library d))
+    most_now = subst (λ p. (calls ≡ 0) ⊎ (potential p (beliefs (set_of t.worldview) mid.contents) line ≤ most_steps p))
+        same a.most
 
-    in_all : (steps + calls ≡ 0) ⊎ (potential (problem_of library d) (beliefs (set_of new.worldview) cells.contents) after + (steps + calls) ≤ most_steps (problem_of library d))
-    in_all = elim w.most as (λ _. (steps + calls ≡ 0) ⊎ (potential (problem_of library d) (beliefs (set_of new.worldview) cells.contents) after + (steps + calls) ≤ most_steps (problem_of library d))) [
-      | inl no_step ↦ elim most_now as (λ _. (steps + calls ≡ 0) ⊎ (potential (problem_of library d) (beliefs (set_of new.worldview) cells.contents) after + (steps + calls) ≤ most_steps (problem_of library d))) [
-        | inl no_call ↦ inl (omega (arith, no_step, no_call))
-        | inr bound ↦ inr (omega (arith, no_step, bound, fell))
-      ]
-      | inr bound ↦ inr (omega (arith, bound, fell))
-    ]
+    in_all : (steps + calls ≡ 0) ⊎ (potential (problem_of library d) (beliefs (set_of new.worldview) cells.contents)
+        after + (steps + calls) ≤ most_steps (problem_of library d))
+    in_all = elim w.most as (λ _. (steps + calls ≡ 0)
+        ⊎ (potential (problem_of library d) (beliefs (set_of new.worldview) cells.contents)
+        after + (steps + calls) ≤ most_steps (problem_of library d))) [
+          | inl no_step ↦ elim most_now as (λ _. (steps + calls ≡ 0)
+              ⊎ (potential (problem_of library d) (beliefs (set_of new.worldview) cells.contents)
+              after + (steps + calls) ≤ most_steps (problem_of library d))) [
+                | inl no_call ↦ inl (omega (arith, no_step, no_call))
+                | inr bound ↦ inr (omega (arith, no_step, bound, fell))
+              ]
+          | inr bound ↦ inr (omega (arith, bound, fell))
+        ]
 
-    pub list_tried : (tried ≡ Quiet → new.level ≡ length new.list) → Attempted picks library s d waiting order budget tried (steps + calls) new cells after next
+    pub list_tried : (tried ≡ Quiet → new.level ≡ length new.list)
+        → Attempted picks library s d waiting order budget tried (steps + calls) new cells after next
     list_tried full = record {
       only = only_now;
       kept = λ m x. a.kept m (w.kept m x);
@@ -118,12 +139,15 @@ module _ {O : Type 0} (picks : O → ℕ → ℕ → O → Type 0) (library : Li
         all : calls ≡ budget - steps → steps + calls ≡ budget
         all x = omega (arith, x, within)
 
-        fewer : 0 < length after → calls < most_steps (problem_of library d) → (steps ≡ 0) ⊎ (potential (problem_of library d) (beliefs (set_of t.worldview) mid.contents) line + steps ≤ most_steps (problem_of library d)) →
+        fewer : 0 < length after → calls < most_steps (problem_of library d)
+            → (steps ≡ 0) ⊎ (potential (problem_of library d) (beliefs (set_of t.worldview) mid.contents)
+            line + steps ≤ most_steps (problem_of library d)) →
             steps + calls < most_steps (problem_of library d)
         fewer waits x (inl no_step) = omega (arith, no_step, x)
         fewer waits x (inr bound) = omega (arith, waits, bound, fell)
 
-        stays : IsResting s d waiting → IsStart s t d mid waiting line steps ⊎ (s.level < length s.list) → (tried ≡ Quiet) × (steps + calls ≡ 0)
+        stays : IsResting s d waiting → IsStart s t d mid waiting line steps ⊎ (s.level < length s.list)
+            → (tried ≡ Quiet) × (steps + calls ≡ 0)
         stays r (inl x) =
             let idle : line ≡ [] = x.waits ∙ r.idle in
             let free : IsFree (set_of t.worldview) mid = rw (x.stand, x.cells) r.free in
@@ -133,9 +157,13 @@ module _ {O : Type 0} (picks : O → ℕ → ℕ → O → Type 0) (library : Li
         stays r (inr low) = absurd (let full = r.full in omega (arith, low, full))
 
     -- the side of one choice more is believed
-    pub deepened_on : (later : Stand) (later_line : List ℕ) → tried ≡ Quiet → new.level < length new.list → later ≡ record (deepened new) { worldview = later.worldview } → ((p : Problem) → IsSearch p new → IsSearch p later) →
-        IsUnderWay library (set_of later.worldview) cells later_line → AreGrown (believed_with new) (believed_with later) cells (length cells.kinds) after later_line →
-        potential (problem_of library cells) (beliefs (set_of later.worldview) cells.contents) later_line ≤ potential (problem_of library cells) (beliefs (set_of new.worldview) cells.contents) after →
+    pub deepened_on : (later : Stand) (later_line : List ℕ) → tried ≡ Quiet → new.level < length new.list
+        → later ≡ record (deepened new) { worldview = later.worldview }
+        → ((p : Problem) → IsSearch p new → IsSearch p later) →
+        IsUnderWay library (set_of later.worldview) cells later_line
+        → AreGrown (believed_with new) (believed_with later) cells (length cells.kinds) after later_line →
+        potential (problem_of library cells) (beliefs (set_of later.worldview) cells.contents) later_line ≤ potential
+        (problem_of library cells) (beliefs (set_of new.worldview) cells.contents) after →
         Deepening picks library s d waiting order later cells later_line next (steps + calls)
     deepened_on later later_line quiet left is learns under_way grown falls = record {
       only = λ i. record {
@@ -152,10 +180,12 @@ module _ {O : Type 0} (picks : O → ℕ → ℕ → O → Type 0) (library : Li
       under_way = under_way;
       gone = deeper (steps + calls) (work new cells after next) later later_line (goes_then w.gone a.gone) may is grown;
       falls = (let before = w.falls in omega (arith, before, fell, less));
-      most = elim in_all as (λ _. (steps + calls ≡ 0) ⊎ (potential (problem_of library d) (beliefs (set_of later.worldview) cells.contents) later_line + (steps + calls) ≤ most_steps (problem_of library d))) [
-        | inl nothing ↦ inl nothing
-        | inr bound ↦ inr (omega (arith, bound, less))
-      ];
+      most = elim in_all as (λ _. (steps + calls ≡ 0)
+          ⊎ (potential (problem_of library d) (beliefs (set_of later.worldview) cells.contents)
+          later_line + (steps + calls) ≤ most_steps (problem_of library d))) [
+            | inl nothing ↦ inl nothing
+            | inr bound ↦ inr (omega (arith, bound, less))
+          ];
       since = inr (low w.since);
     }
       where
@@ -174,8 +204,10 @@ module _ {O : Type 0} (picks : O → ℕ → ℕ → O → Type 0) (library : Li
         listed : later.listed ≡ new.listed
         listed = ap (λ (x : Stand). x.listed) is
 
-        less : potential (problem_of library d) (beliefs (set_of later.worldview) cells.contents) later_line ≤ potential (problem_of library d) (beliefs (set_of new.worldview) cells.contents) after
-        less = subst (λ p. potential p (beliefs (set_of later.worldview) cells.contents) later_line ≤ potential p (beliefs (set_of new.worldview) cells.contents) after) (same_in library d cells rest) falls
+        less : potential (problem_of library d) (beliefs (set_of later.worldview) cells.contents) later_line ≤ potential
+            (problem_of library d) (beliefs (set_of new.worldview) cells.contents) after
+        less = subst (λ p. potential p (beliefs (set_of later.worldview) cells.contents) later_line ≤ potential p
+            (beliefs (set_of new.worldview) cells.contents) after) (same_in library d cells rest) falls
 
         believed : set_of t.worldview ≡ believed_with new
         believed = ap set_of (sym worldview_same) ∙ believes_worldview new a.stand
@@ -191,6 +223,7 @@ module _ {O : Type 0} (picks : O → ℕ → ℕ → O → Type 0) (library : Li
         low : IsStart s t d mid waiting line steps ⊎ (s.level < length s.list) → s.level < length s.list
         low (inr l) = l
         low (inl x) =
-            let level : new.level ≡ s.level = ap (λ (y : Stand). y.level) a.only ∙ ap (λ (y : Stand). y.level) x.stand in
+            let level : new.level ≡ s.level = ap (λ (y : Stand). y.level) a.only
+            ∙ ap (λ (y : Stand). y.level) x.stand in
             let sides : length new.list ≡ length s.list = ap (λ (y : Stand). length y.list) only_now in
             omega (arith, left, level, sides)

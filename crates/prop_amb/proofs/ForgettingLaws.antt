@@ -16,10 +16,12 @@ use Rattle.prop_amb.specs.Moving.{restarted}
 use Rattle.prop_amb.proofs.KeepingLaws.{nothing_kept}
 
 -- a set that doesn't hold the premise stays refuted
-pub refuted_forgets : (old new : Problem) (p : ℕ) (choices : List Choice) (n : Members) → Forgets old new p → n p ≡ false → is_hypothetical choices p ≡ false → IsRefuted old choices n → IsRefuted new choices n
+pub refuted_forgets : (old new : Problem) (p : ℕ) (choices : List Choice) (n : Members) → Forgets old new p
+    → n p ≡ false → is_hypothetical choices p ≡ false → IsRefuted old choices n → IsRefuted new choices n
 refuted_forgets old new p choices n less out user r = record {
   one_side = r.one_side;
-  always = λ list is_list takes. contradictory_forgets old new p (union n (hypotheticals_of choices list)) less (neither (n p) (hypotheticals_of choices list p) out (untaken list is_list)) (r.always list is_list takes);
+  always = λ list is_list takes. contradictory_forgets old new p (union n (hypotheticals_of choices list)) less
+      (neither (n p) (hypotheticals_of choices list p) out (untaken list is_list)) (r.always list is_list takes);
 }
   where
     neither : (x y : Bool) → x ≡ false → y ≡ false → (x || y) ≡ false
@@ -32,7 +34,8 @@ refuted_forgets old new p choices n less out user r = record {
         by true e = cc (hypotheticals_are choices list p is_list e, user)
         by false e = refl
 
-pub nogood_forgets : (old new : Problem) (p : ℕ) (choices : List Choice) (n : Members) → Forgets old new p → n p ≡ false → is_hypothetical choices p ≡ false → IsNogood old choices n → IsNogood new choices n
+pub nogood_forgets : (old new : Problem) (p : ℕ) (choices : List Choice) (n : Members) → Forgets old new p → n p ≡ false
+    → is_hypothetical choices p ≡ false → IsNogood old choices n → IsNogood new choices n
 nogood_forgets old new p choices n less out user x = record {
   refuted = refuted_forgets old new p choices n less out user x.refuted;
   cell = x.cell;
@@ -44,14 +47,17 @@ not_true true h = cc
 not_true false h = refl
 
 -- every choice is on its first side again, and the nogoods that hold the premise are gone
-pub search_forgotten : (old new : Problem) (p : ℕ) (s : Stand) (w : List ℕ) → IsNumbered s.premises → IsTrue (is_user_at s.premises p) → Forgets old new p → IsSearch old s →
+pub search_forgotten : (old new : Problem) (p : ℕ) (s : Stand) (w : List ℕ) → IsNumbered s.premises
+    → IsTrue (is_user_at s.premises p) → Forgets old new p → IsSearch old s →
     IsSearch new (record (restarted s) { listed = lacking s.listed p; worldview = w })
 search_forgotten old new p s w numbered user less h = record {
   nogoods = λ k d l.
       let line = get_or (lacking s.listed p) k d in
       nogood_forgets old new p (choices_in s) (set_of line) less
-      (not_true (set_of line p) (All-get_or (λ x. not (set_of x p) ≡ true) (lacking s.listed p) k d l (filter_passes (λ x. not (set_of x p)) s.listed)))
+      (not_true (set_of line p) (All-get_or (λ x. not (set_of x p) ≡ true) (lacking s.listed p) k d l
+      (filter_passes (λ x. not (set_of x p)) s.listed)))
       (numbered.users p user)
-      (All-get_or (λ x. IsNogood old (choices_in s) (set_of x)) (lacking s.listed p) k d l (All-filter (λ x. not (set_of x p)) (λ x. IsNogood old (choices_in s) (set_of x)) s.listed h.nogoods));
+      (All-get_or (λ x. IsNogood old (choices_in s) (set_of x)) (lacking s.listed p) k d l
+      (All-filter (λ x. not (set_of x p)) (λ x. IsNogood old (choices_in s) (set_of x)) s.listed h.nogoods));
   reasons = record { kept = λ j choice side reason at one r. absurd (nothing_kept s.reasons j (side - 1) reason r) };
 }

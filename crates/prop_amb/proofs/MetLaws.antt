@@ -1,5 +1,6 @@
 -- A nogood that is believed with the list on which the choices stand.
-use Rattle.std.proofs.Common.{◌≡◌, ◌∙◌, ℕ, zero, suc, IsTrue, Bool, true, false, List, [], ◌∷◌, Contains, Some, slice_get, refl, sym, inl, inr, arith}
+use Rattle.std.proofs.Common.{◌≡◌, ◌∙◌, ℕ, zero, suc, IsTrue, Bool, true, false, List, [], ◌∷◌, Contains, Some}
+use Rattle.std.proofs.Common.{slice_get, refl, sym, inl, inr, arith}
 use Rattle.std.proofs.lemmas.List.Elements.{All-contains}
 use Rattle.prop_numbers.specs.Sets.{Members, IsPart, set_of, is_within}
 use Rattle.prop_premises.specs.ChoiceLists.{IsBefore}
@@ -21,15 +22,18 @@ pub believes_worldview : (s : Stand) → IsStand s → set_of s.worldview ≡ be
 believes_worldview s stand = λ i p. stand.believes p i
 
 -- a clash of a run is a nogood
-pub clash_nogood : (problem : Problem) (s : Stand) (n : List ℕ) → IsStand s → IsConflict problem (set_of s.worldview) (set_of n) → IsNogood problem (choices_in s) (set_of n)
+pub clash_nogood : (problem : Problem) (s : Stand) (n : List ℕ) → IsStand s
+    → IsConflict problem (set_of s.worldview) (set_of n) → IsNogood problem (choices_in s) (set_of n)
 clash_nogood problem s n stand clash = record {
-  refuted = clash_refuted problem (users_of s) (set_of n) (choices_in s) s.list stand.numbered.in_order stand.is_list (users_no_sides s stand) (λ p t. whole_has s p (sym (stand.believes p) ∙ clash.part p t)) clash.contradictory;
+  refuted = clash_refuted problem (users_of s) (set_of n) (choices_in s) s.list stand.numbered.in_order stand.is_list
+      (users_no_sides s stand) (λ p t. whole_has s p (sym (stand.believes p) ∙ clash.part p t)) clash.contradictory;
   cell = clash.cell;
   related = clash.related;
 }
 
 -- a noted nogood all of which is believed
-pub met_listed : (problem : Problem) (s : Stand) (n : List ℕ) → IsSearch problem s → Contains s.listed n → IsTrue (is_within (set_of s.worldview) n) → IsMet problem s n
+pub met_listed : (problem : Problem) (s : Stand) (n : List ℕ) → IsSearch problem s → Contains s.listed n
+    → IsTrue (is_within (set_of s.worldview) n) → IsMet problem s n
 met_listed problem s n search listed within = record {
   believed = λ p t. within_has (set_of s.worldview) n p within t;
   nogood = All-contains (λ line. IsNogood problem (choices_in s) (set_of line)) s.listed n search.nogoods listed;
@@ -47,7 +51,8 @@ advanced_later (a ∷ list) zero side e = inl (omega arith)
 advanced_later (a ∷ list) (suc j) side e = inr (refl, advanced_later list j side e)
 
 -- a set that was added is listed, where no part of it was
-added_listed : (old new : List (List ℕ)) (n : List ℕ) (w : Members) → AddsSet old new n → IsPart (set_of n) w → has_part old w ≡ false → Contains new n
+added_listed : (old new : List (List ℕ)) (n : List ℕ) (w : Members) → AddsSet old new n → IsPart (set_of n) w
+    → has_part old w ≡ false → Contains new n
 added_listed old new n w adds part unblocked =
     let its = part-listed new (set_of n) adds.has in
     elim (adds.only its.line its.listed_in) [
@@ -56,16 +61,19 @@ added_listed old new n w adds part unblocked =
     ]
 
 -- where no noted nogood is believed, none is part of a clash
-pub clash_is_new : (problem : Problem) (s : Stand) (copy n : List ℕ) → IsConflict problem (set_of s.worldview) (set_of n) → copy ≡ n
+pub clash_is_new : (problem : Problem) (s : Stand) (copy n : List ℕ)
+    → IsConflict problem (set_of s.worldview) (set_of n) → copy ≡ n
     → has_part s.listed (set_of s.worldview) ≡ false → has_part s.listed (set_of copy) ≡ false
 clash_is_new problem s copy n clash same unblocked = by (has_part s.listed (set_of copy)) refl
   where
     by : (b : Bool) → has_part s.listed (set_of copy) ≡ b → b ≡ false
-    by true e = absurd (both (has_part-more s.listed (set_of copy) (set_of s.worldview) (rw same clash.part) e) unblocked)
+    by true e = absurd (both (has_part-more s.listed (set_of copy) (set_of s.worldview) (rw same clash.part) e)
+        unblocked)
     by false e = refl
 
 -- a clash of a run, once it is noted
-pub met_noted : (problem : Problem) (s : Stand) (listed : List (List ℕ)) (copy n : List ℕ) (new : Stand) → IsStand s → IsConflict problem (set_of s.worldview) (set_of n) → copy ≡ n → AddsSet s.listed new.listed copy →
+pub met_noted : (problem : Problem) (s : Stand) (listed : List (List ℕ)) (copy n : List ℕ) (new : Stand) → IsStand s
+    → IsConflict problem (set_of s.worldview) (set_of n) → copy ≡ n → AddsSet s.listed new.listed copy →
     new ≡ record s { listed = new.listed } → has_part s.listed (set_of s.worldview) ≡ false → IsMet problem new n
 met_noted problem s listed copy n new stand clash same adds only unblocked =
     let nogood = clash_nogood problem s n stand clash in

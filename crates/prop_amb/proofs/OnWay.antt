@@ -21,7 +21,8 @@ pub record IsStart (old s : Stand) (start d : Data) (line waiting : List ℕ) (s
   pub none : steps ≡ 0
 
 -- a list is to be tried: the first, or a later one
-pub record OnWay {O : Type 0} (picks : O → ℕ → ℕ → O → Type 0) (library : List Stored) (old : Stand) (start : Data) (line : List ℕ) (first : O) (s : Stand) (d : Data) (waiting : List ℕ) (order : O) (steps : ℕ) : Type 0 where
+pub record OnWay {O : Type 0} (picks : O → ℕ → ℕ → O → Type 0) (library : List Stored) (old : Stand) (start : Data)
+    (line : List ℕ) (first : O) (s : Stand) (d : Data) (waiting : List ℕ) (order : O) (steps : ℕ) : Type 0 where
   pub premises : s.premises ≡ old.premises
   pub listed : (m : Members) → IsTrue (has_part old.listed m) → IsTrue (has_part s.listed m)
   pub search : IsSearch (problem_of library start) s
@@ -34,7 +35,9 @@ pub record OnWay {O : Type 0} (picks : O → ℕ → ℕ → O → Type 0) (libr
   pub since : IsStart old s start d line waiting steps ⊎ ((1 ≤ further) × (IsResting old start line → ⊥))
 
 -- what came of one list at a level
-pub record AtLevel {O : Type 0} (picks : O → ℕ → ℕ → O → Type 0) (library : List Stored) (s : Stand) (d : Data) (waiting : List ℕ) (order : O) (budget : ℕ) (tried : Tried) (calls : ℕ) (new : Stand) (cells : Data) (after : List ℕ) (next : O) : Type 0 where
+pub record AtLevel {O : Type 0} (picks : O → ℕ → ℕ → O → Type 0) (library : List Stored) (s : Stand) (d : Data)
+    (waiting : List ℕ) (order : O) (budget : ℕ) (tried : Tried) (calls : ℕ) (new : Stand) (cells : Data)
+    (after : List ℕ) (next : O) : Type 0 where
   pub only : new ≡ record s { listed = new.listed }
   pub kept : (m : Members) → IsTrue (has_part s.listed m) → IsTrue (has_part new.listed m)
   pub search : IsSearch (problem_of library d) new
@@ -49,25 +52,33 @@ pub record AtLevel {O : Type 0} (picks : O → ℕ → ℕ → O → Type 0) (li
   pub leaves : tried ≡ Spent → MayCall (work new cells after next)
   pub earned : tried ≡ Spent → calls < most_steps (problem_of library d)
   pub steps : calls ≤ budget
-  pub at_rest : waiting ≡ [] → IsFree (set_of s.worldview) d → has_part s.listed (set_of s.worldview) ≡ false → (tried ≡ Quiet) × (calls ≡ 0)
-  pub falls : potential (problem_of library d) (beliefs (set_of s.worldview) cells.contents) after + calls ≤ potential (problem_of library d) (beliefs (set_of s.worldview) d.contents) waiting
+  pub at_rest : waiting ≡ [] → IsFree (set_of s.worldview) d → has_part s.listed (set_of s.worldview) ≡ false
+      → (tried ≡ Quiet) × (calls ≡ 0)
+  pub falls : potential (problem_of library d) (beliefs (set_of s.worldview) cells.contents) after + calls ≤ potential
+      (problem_of library d) (beliefs (set_of s.worldview) d.contents) waiting
   pub few : calls ≤ most_steps (problem_of library d)
-  pub most : (calls ≡ 0) ⊎ (potential (problem_of library d) (beliefs (set_of s.worldview) d.contents) waiting ≤ most_steps (problem_of library d))
+  pub most : (calls ≡ 0) ⊎ (potential (problem_of library d) (beliefs (set_of s.worldview) d.contents)
+      waiting ≤ most_steps (problem_of library d))
 
 -- one list is being tried at one level after the other, and has taken so many steps
-pub record Deepening {O : Type 0} (picks : O → ℕ → ℕ → O → Type 0) (library : List Stored) (s : Stand) (d : Data) (waiting : List ℕ) (order : O) (t : Stand) (cells : Data) (after : List ℕ) (next : O) (steps : ℕ) : Type 0 where
+pub record Deepening {O : Type 0} (picks : O → ℕ → ℕ → O → Type 0) (library : List Stored) (s : Stand) (d : Data)
+    (waiting : List ℕ) (order : O) (t : Stand) (cells : Data) (after : List ℕ) (next : O) (steps : ℕ) : Type 0 where
   pub only : t ≡ record s { level = t.level; listed = t.listed; worldview = t.worldview }
   pub kept : (m : Members) → IsTrue (has_part s.listed m) → IsTrue (has_part t.listed m)
   pub search : IsSearch (problem_of library d) t
   pub rest : cells ≡ record d { contents = cells.contents }
   pub under_way : IsUnderWay library (set_of t.worldview) cells after
   pub gone : Goes picks library (work s d waiting order) steps (work t cells after next)
-  pub falls : potential (problem_of library d) (beliefs (set_of t.worldview) cells.contents) after + steps ≤ potential (problem_of library d) (beliefs (set_of s.worldview) d.contents) waiting
-  pub most : (steps ≡ 0) ⊎ (potential (problem_of library d) (beliefs (set_of t.worldview) cells.contents) after + steps ≤ most_steps (problem_of library d))
+  pub falls : potential (problem_of library d) (beliefs (set_of t.worldview) cells.contents) after + steps ≤ potential
+      (problem_of library d) (beliefs (set_of s.worldview) d.contents) waiting
+  pub most : (steps ≡ 0) ⊎ (potential (problem_of library d) (beliefs (set_of t.worldview) cells.contents)
+      after + steps ≤ most_steps (problem_of library d))
   pub since : IsStart s t d cells waiting after steps ⊎ (s.level < length s.list)
 
 -- a list was tried, after so many steps of the budget
-pub record OnTry {O : Type 0} (picks : O → ℕ → ℕ → O → Type 0) (library : List Stored) (old : Stand) (start : Data) (line : List ℕ) (first : O) (s : Stand) (d : Data) (waiting : List ℕ) (order : O) (steps budget : ℕ) (tried : Tried) : Type 0 where
+pub record OnTry {O : Type 0} (picks : O → ℕ → ℕ → O → Type 0) (library : List Stored) (old : Stand) (start : Data)
+    (line : List ℕ) (first : O) (s : Stand) (d : Data) (waiting : List ℕ) (order : O) (steps budget : ℕ) (tried : Tried)
+    : Type 0 where
   pub premises : s.premises ≡ old.premises
   pub listed : (m : Members) → IsTrue (has_part old.listed m) → IsTrue (has_part s.listed m)
   pub search : IsSearch (problem_of library start) s
@@ -86,4 +97,5 @@ pub record OnTry {O : Type 0} (picks : O → ℕ → ℕ → O → Type 0) (libr
   pub earned : tried ≡ Spent → budget + 1 < (further + 1) * (most_steps (problem_of library start) + 1)
   pub within : steps ≤ budget
   pub at_rest : IsResting old start line → (tried ≡ Quiet) × (steps ≡ 0)
-  pub falls : s.list ≡ old.list → potential (problem_of library start) (beliefs (set_of s.worldview) d.contents) waiting + steps ≤ potential (problem_of library start) (beliefs (set_of old.worldview) start.contents) line
+  pub falls : s.list ≡ old.list → potential (problem_of library start) (beliefs (set_of s.worldview) d.contents)
+      waiting + steps ≤ potential (problem_of library start) (beliefs (set_of old.worldview) start.contents) line

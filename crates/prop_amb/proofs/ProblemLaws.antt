@@ -7,7 +7,8 @@ member_more : (s t : Members) → IsPart s t → (p : Option ℕ) → IsTrue (is
 member_more s t part None h = refl
 member_more s t part (Some p) h = part p h
 
-solution_fewer : (problem : Problem) (s t : Members) (a : Assignment) → IsPart s t → IsSolution problem t a → IsSolution problem s a
+solution_fewer : (problem : Problem) (s t : Members) (a : Assignment) → IsPart s t → IsSolution problem t a
+    → IsSolution problem s a
 solution_fewer problem s t a part sol = record {
   kinds = sol.kinds;
   statements = λ k d l h. sol.statements k d l (member_more s t part (get_or problem.statements k d).premise h);
@@ -15,6 +16,11 @@ solution_fewer problem s t a part sol = record {
 }
 
 -- where fewer premises are contradictory, more are
-pub contradictory_more : (problem : Problem) (s t : Members) → IsPart s t → IsContradictory problem s → IsContradictory problem t
+pub contradictory_more : (problem : Problem) (s t : Members) → IsPart s t → IsContradictory problem s
+    → IsContradictory problem t
 contradictory_more problem s t part none some =
-    none (record { solution = some.solution; solves = solution_fewer problem s t some.solution part some.solves; free = some.free })
+    none (record {
+      solution = some.solution;
+      solves = solution_fewer problem s t some.solution part some.solves;
+      free = some.free;
+    })

@@ -1,4 +1,5 @@
--- What is known of a set while choices are looked at from the last on: that it is refuted, and of which choices it still holds sides.
+-- What is known of a set while choices are looked at from the last on: that it is refuted, and of which choices it
+-- still holds sides.
 use Rattle.std.specs.Prelude.{ℕ, take}
 use Rattle.prop_numbers.specs.Sets.{Members, IsPart, union}
 use Rattle.prop_premises.specs.ChoiceLists.{hypotheticals_of}

@@ -10,7 +10,8 @@ use Rattle.prop_amb.specs.Resolving.{MayAdvance}
 -- reason kept against another side of the choice.
 pub data IsCulprit (s : Stand) (n : List ℕ) : ℕ → Type 0 where
   own : (p : ℕ) → IsTrue (set_of n p) → IsCulprit s n p
-  joined : (j p : ℕ) (choice : Choice) (reason : List ℕ) → slice_get (choices_in s) j ≡ Some choice →
+  joined : (j p : ℕ) (choice : Choice) (reason : List ℕ) → slice_get (choices_in s) j ≡ Some choice
+      →
       IsCulprit s n (hypothetical choice choice.sides) →
       Contains (slice_index_or s.reasons j []) reason → IsTrue (set_of reason p) → IsCulprit s n p
 

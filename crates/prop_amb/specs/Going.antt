@@ -34,8 +34,8 @@ pub record MayCall {O : Type 0} (w : Work O) : Type 0 where
 abbrev pub MayGoOn : {O : Type 0} → Work O → Type 0
 MayGoOn w = MayCall w ⊎ ((j : ℕ) × MayMove w.search j)
 
--- nothing waits, no noted nogood is believed, no cell is believed to hold a contradiction, and there is
--- a choice of which no side is believed
+-- nothing waits, no noted nogood is believed, no cell is believed to hold a contradiction, and
+-- there is a choice of which no side is believed
 pub record MayDeepen {O : Type 0} (w : Work O) : Type 0 where
   pub idle : w.line ≡ []
   pub unblocked : has_part w.search.listed (believed_with w.search) ≡ false
@@ -56,11 +56,12 @@ pub data Passes (old : Stand) : ℕ → Stand → Type 0 where
       } → Passes old (n + 1) later
 
 -- The second work is reached from the first by as many steps: calls of waiting instances, each at
--- the place that the order picks, and moves, between two calls maybe several. After moves the readers
--- and writers of the cells that they shift wait too. Two things take no step: a clash is noted, and
--- where nothing waits the side of one more choice is believed, and the readers of the cells that this
--- shifts wait.
-pub data Goes {O : Type 0} (picks : O → ℕ → ℕ → O → Type 0) (library : List Stored) (start : Work O) :
+-- the place that the order picks, and moves, between two calls maybe several. After moves the
+-- readers and writers of the cells that they shift wait too. Two things take no step: a clash is
+-- noted, and where nothing waits the side of one more choice is believed, and the readers of the
+-- cells that this shifts wait.
+pub data Goes {O : Type 0} (picks : O → ℕ → ℕ → O → Type 0) (library : List Stored) (start : Work O)
+    :
     ℕ → Work O → Type 0 where
   none : Goes picks library start 0 start
   called : (n place : ℕ) (w : Work O) (d : Data) (line : List ℕ) (next : O) →

@@ -1,10 +1,13 @@
 -- How a stand changes: by names, by choices, and by moves from one list to a later one.
-use Rattle.std.specs.Prelude.{◌≡◌, ℕ, zero, suc, ◌+◌, List, [], ◌∷◌, ◌++◌, length, map, cond, if◌then◌else◌, ◌||◌, ◌==◌, nat_lt, nat_le, is_some, Option, Some, None, false}
+use Rattle.std.specs.Prelude.{◌≡◌, ℕ, zero, suc, ◌+◌, List, [], ◌∷◌, ◌++◌, length, map, cond}
+use Rattle.std.specs.Prelude.{if◌then◌else◌, ◌||◌, ◌==◌, nat_lt, nat_le, is_some, Option, Some}
+use Rattle.std.specs.Prelude.{None, false}
 use Rattle.prop_refusals.specs.Refusals.{most}
 use Rattle.prop_refusals.specs.declared.refusal.Limit.TheVariants.{Premises, Choices}
 use Rattle.prop_refusals.specs.declared.refusal.Refusal.{Refusal}
 use Rattle.prop_refusals.specs.declared.refusal.Refusal.TheVariants.{NameTaken, LimitReached}
-use Rattle.prop_premises.specs.Origins.{Origin, premise_number, is_choice, with_name, with_choice, choices_of}
+use Rattle.prop_premises.specs.Origins.{Origin, premise_number, is_choice, with_name, with_choice}
+use Rattle.prop_premises.specs.Origins.{choices_of}
 use Rattle.prop_premises.specs.declared.choice.Choice.{Choice}
 use Rattle.prop_premises.specs.ChoiceLists.{is_side_of}
 use Rattle.prop_cells.specs.Problems.{Problem}
@@ -25,14 +28,23 @@ level_first zero list = 0
 level_first (suc level) [] = 0
 level_first (suc level) (side ∷ list) = if side == 1 then suc (level_first level list) else 0
 
--- every choice stands on its first side, and no reason is kept; the sides that were believed and are first ones still are, up to the first other
+-- every choice stands on its first side, and no reason is kept; the sides that were believed and
+-- are first ones still are, up to the first other
 abbrev pub restarted : Stand → Stand
-restarted s = record s { list = first_sides s.list; level = level_first s.level s.list; reasons = no_reasons s.reasons }
+restarted s = record s {
+  list = first_sides s.list;
+  level = level_first s.level s.list;
+  reasons = no_reasons s.reasons;
+}
 
 -- a new name is believed, and a known one changes nothing
 abbrev pub interned : Stand → List ℕ → Stand
 interned s name =
-    cond (is_some (premise_number s.premises name)) s (record s { premises = with_name s.premises name; worldview = s.worldview ++ length s.premises ∷ [] })
+    cond (is_some (premise_number s.premises name)) s
+    (record s {
+      premises = with_name s.premises name;
+      worldview = s.worldview ++ length s.premises ∷ [];
+    })
 
 -- a new choice stands on its first side, which isn't believed yet, and no reason is kept against it
 abbrev pub declared : Stand → List ℕ → ℕ → Stand
@@ -71,6 +83,7 @@ reasons_advanced (each ∷ reasons) (suc j) reason = each ∷ reasons_advanced r
 -- why no choice with this name and so many sides can be declared
 abbrev pub declare_refusal : Stand → List ℕ → ℕ → Option Refusal
 declare_refusal s name sides =
-    if is_some (premise_number s.premises name) || is_choice s.premises name then Some NameTaken else
+    if is_some (premise_number s.premises name) || is_choice s.premises name then Some NameTaken
+    else
     if nat_lt (most Premises) (length s.premises + sides) then Some (LimitReached Premises) else
     if nat_le (most Choices) (length s.list) then Some (LimitReached Choices) else None

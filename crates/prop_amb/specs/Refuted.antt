@@ -2,27 +2,33 @@
 use Rattle.std.specs.Prelude.{◌≡◌, ℕ, IsTrue, List, false}
 use Rattle.prop_numbers.specs.Sets.{Members, IsPart, union}
 use Rattle.prop_premises.specs.declared.choice.Choice.{Choice}
-use Rattle.prop_premises.specs.ChoiceLists.{IsChoiceList, TakesSidesIn, hypotheticals_of, worldview, is_hypothetical, IsBefore}
+use Rattle.prop_premises.specs.ChoiceLists.{IsChoiceList, TakesSidesIn, hypotheticals_of, worldview}
+use Rattle.prop_premises.specs.ChoiceLists.{is_hypothetical, IsBefore}
 use Rattle.prop_cells.specs.Problems.{Problem, IsConsistent, IsContradictory}
 use Rattle.prop_cells.specs.Reach.{IsRelatedAt}
 use Rattle.prop_nogoods.specs.Stores.{has_part}
 
--- The set names at most one side of each choice, and is contradictory with every choice list that takes these sides.
+-- The set names at most one side of each choice, and is contradictory with every choice list that
+-- takes these sides.
 pub record IsRefuted (problem : Problem) (choices : List Choice) (n : Members) : Type 0 where
   pub one_side : (list : List ℕ) × IsChoiceList choices list × TakesSidesIn n choices list
-  pub always : (list : List ℕ) → IsChoiceList choices list → TakesSidesIn n choices list → IsContradictory problem (union n (hypotheticals_of choices list))
+  pub always : (list : List ℕ) → IsChoiceList choices list → TakesSidesIn n choices list
+      → IsContradictory problem (union n (hypotheticals_of choices list))
 
 -- the worldview of the list is contradictory
 abbrev pub IsListRefuted : Problem → Members → List Choice → List ℕ → Type 0
-IsListRefuted problem believed choices list = IsContradictory problem (worldview believed choices list)
+IsListRefuted problem believed choices list =
+    IsContradictory problem (worldview believed choices list)
 
 -- every choice list before this one is refuted
 abbrev pub AllBeforeRefuted : Problem → Members → List Choice → List ℕ → Type 0
 AllBeforeRefuted problem believed choices list =
-    (earlier : List ℕ) → IsChoiceList choices earlier → IsBefore earlier list → IsListRefuted problem believed choices earlier
+    (earlier : List ℕ) → IsChoiceList choices earlier → IsBefore earlier list
+    → IsListRefuted problem believed choices earlier
 
 -- the choice list that isn't refuted and before which every list is
-pub record IsFirstConsistent (problem : Problem) (believed : Members) (choices : List Choice) (list : List ℕ) : Type 0 where
+pub record IsFirstConsistent (problem : Problem) (believed : Members) (choices : List Choice)
+    (list : List ℕ) : Type 0 where
   pub is_list : IsChoiceList choices list
   pub consistent : IsConsistent problem (worldview believed choices list)
   pub earlier : AllBeforeRefuted problem believed choices list
@@ -40,15 +46,19 @@ pub record IsNogood (problem : Problem) (choices : List Choice) (n : Members) : 
 -- each user's premise in the set belongs to a nogood whose user's premises all lie in the set
 abbrev pub IsGrounded : Problem → List Choice → Members → Type 0
 IsGrounded problem choices n =
-    (p : ℕ) → IsTrue (n p) → is_hypothetical choices p ≡ false → (m : Members) × IsTrue (m p) × IsNogood problem choices m × IsUserPart choices m n
+    (p : ℕ) → IsTrue (n p) → is_hypothetical choices p ≡ false
+    → (m : Members) × IsTrue (m p) × IsNogood problem choices m × IsUserPart choices m n
 
 -- with every choice list, some listed set is part of the set and the list's hypothetical premises
 abbrev pub IsCovered : List Choice → List (List ℕ) → Members → Type 0
 IsCovered choices listed m =
-    (list : List ℕ) → IsChoiceList choices list → IsTrue (has_part listed (union m (hypotheticals_of choices list)))
+    (list : List ℕ) → IsChoiceList choices list
+    → IsTrue (has_part listed (union m (hypotheticals_of choices list)))
 
--- Believed premises of the user's that are refuted, for reasons that lie in the set and are listed: so every choice list is refuted.
-pub record IsRuledOut (problem : Problem) (believed : Members) (choices : List Choice) (listed : List (List ℕ)) (n : Members) : Type 0 where
+-- Believed premises of the user's that are refuted, for reasons that lie in the set and are listed:
+-- so every choice list is refuted.
+pub record IsRuledOut (problem : Problem) (believed : Members) (choices : List Choice)
+    (listed : List (List ℕ)) (n : Members) : Type 0 where
   pub believes : IsPart n believed
   pub refuted : IsRefuted problem choices n
   pub grounded : IsGrounded problem choices n

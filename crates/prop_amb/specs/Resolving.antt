@@ -1,4 +1,5 @@
--- What a nogood shows of the choices: the side that one of them leaves, or that none of their lists holds.
+-- What a nogood shows of the choices: the side that one of them leaves, or that none of their lists
+-- holds.
 use Rattle.std.specs.Prelude.{◌≡◌, ◌<◌, ℕ, List, Some, slice_get}
 use Rattle.prop_numbers.specs.Sets.{Members, set_of}
 use Rattle.prop_premises.specs.declared.choice.Choice.{Choice}
@@ -19,7 +20,8 @@ pub record MayAdvance (s : Stand) (j : ℕ) : Type 0 where
 -- the set is a reason against the side on which the choice at place j stands
 abbrev pub IsReason : Problem → Stand → ℕ → Members → Type 0
 IsReason problem s j n =
-    (choice : Choice) (side : ℕ) → slice_get (choices_in s) j ≡ Some choice → slice_get s.list j ≡ Some side → IsKept problem s j choice side n
+    (choice : Choice) (side : ℕ) → slice_get (choices_in s) j ≡ Some choice
+    → slice_get s.list j ≡ Some side → IsKept problem s j choice side n
 
 -- where a choice leaves its side, its place
 abbrev pub IfAgainst : Resolved → (ℕ → Type 0) → Type 0
@@ -31,7 +33,9 @@ abbrev pub premises_of : Resolved → List ℕ
 premises_of (Against j n) = n
 premises_of (RuledOut n) = n
 
--- what a nogood shows: a reason against the side of one choice, or believed premises with which every list is refuted
+-- what a nogood shows: a reason against the side of one choice, or believed premises with which
+-- every list is refuted
 abbrev pub IsResolved : Problem → Stand → Resolved → Type 0
 IsResolved problem s (Against j n) = IsReason problem s j (set_of n)
-IsResolved problem s (RuledOut n) = IsRuledOut problem (users_of s) (choices_in s) s.listed (set_of n)
+IsResolved problem s (RuledOut n) =
+    IsRuledOut problem (users_of s) (choices_in s) s.listed (set_of n)

@@ -6,7 +6,8 @@ ghost use Rattle.prop_amb.specs.inner.Joined.{others_of};
 use prop_premises::{Premise, PremiseSet};
 use std::alloc::AllocError;
 
-/// What a set has beside one premise, and each of the reasons beside its own premise, of which the first reason's is given and the others follow.
+/// What a set has beside one premise, and each of the reasons beside its own premise, of which the
+/// first reason's is given and the others follow.
 pub(crate) fn joined(
     set: &PremiseSet,
     premise: Premise,
@@ -14,7 +15,8 @@ pub(crate) fn joined(
     own: Premise,
 ) -> Result<PremiseSet, AllocError>
     requires { own + length reasons.now < 2 ^ 16 }
-    ensures { IfOk result (λ s. IsSame (set_of s) (union (without (set_of set.now) premise) (others_of own reasons.now))) }
+    ensures { IfOk result (λ s. IsSame (set_of s)
+        (union (without (set_of set.now) premise) (others_of own reasons.now))) }
 {
     let mut joined = set.without(premise)?;
     let mut own = own;

@@ -61,7 +61,8 @@ pub(crate) fn forget(reasons: &mut [Reasons])
     }
 }
 
-/// Adds a reason at a place, and drops those of all later choices. After want of memory nothing has changed.
+/// Adds a reason at a place, and drops those of all later choices. After want of memory nothing has
+/// changed.
 pub(crate) fn advance_reasons(
     reasons: &mut [Reasons],
     place: usize,

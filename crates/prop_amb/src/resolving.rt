@@ -6,7 +6,8 @@ ghost use Rattle.prop_nogoods.specs.Stores.{has_part};
 ghost use Rattle.prop_amb.specs.Refuted.{IsNogood};
 ghost use Rattle.prop_amb.specs.Search.{choices_in, IsSearch};
 ghost use Rattle.prop_amb.specs.Moving.{advanced, reasons_advanced};
-ghost use Rattle.prop_amb.specs.Resolving.{MayAdvance, IsReason, IsResolved, IfAgainst, premises_of};
+ghost use Rattle.prop_amb.specs.Resolving.{MayAdvance, IsReason, IsResolved, IfAgainst};
+ghost use Rattle.prop_amb.specs.Resolving.{premises_of};
 ghost use Rattle.prop_amb.specs.Culprits.{AreCulprits, MayLeave};
 
 use crate::joining::joined;
@@ -28,14 +29,18 @@ pub enum Resolved {
 }
 
 impl Search {
-    /// What a believed nogood shows: the last choice whose side it holds leaves the side. Where that is its last side, the nogood and
-    /// the reasons against the other sides, without the sides of the choice, are looked at in its place.
+    /// What a believed nogood shows: the last choice whose side it holds leaves the side. Where
+    /// that is its last side, the nogood and the reasons against the other sides, without the sides
+    /// of the choice, are looked at in its place.
     pub fn resolve(&self, nogood: PremiseSet) -> Result<Resolved, AllocError>
         requires believed { IsPart (set_of nogood) (set_of self.now.worldview) }
         ensures may { IfOk result (λ r. IfAgainst r (MayLeave self.now nogood)) }
         ensures below { IfOk result (λ r. IfAgainst r (λ place. place < self.now.level)) }
         ensures culprits { IfOk result (λ r. AreCulprits self.now nogood (set_of (premises_of r))) }
-        ensures resolved { IfOk result (λ r. (problem : Problem) → IsSearch problem self.now → IsNogood problem (choices_in self.now) (set_of nogood) → IsTrue (has_part self.now.listed (set_of nogood)) → IsResolved problem self.now r) }
+        ensures resolved { IfOk result
+            (λ r. (problem : Problem) → IsSearch problem self.now
+            → IsNogood problem (choices_in self.now) (set_of nogood)
+            → IsTrue (has_part self.now.listed (set_of nogood)) → IsResolved problem self.now r) }
     {
         let mut set = nogood;
         for place in (0..self.level).rev() {
@@ -53,9 +58,9 @@ impl Search {
         Ok(Resolved::RuledOut(set))
     }
 
-    /// The choice at a place goes to its next side, and the reason is kept against the side that it leaves. All later choices go to
-    /// their first side, which isn't believed, and no reason is kept of them. Answers the worldview of before. After want of memory nothing
-    /// has changed.
+    /// The choice at a place goes to its next side, and the reason is kept against the side that it
+    /// leaves. All later choices go to their first side, which isn't believed, and no reason is
+    /// kept of them. Answers the worldview of before. After want of memory nothing has changed.
     pub fn advance(&mut self, place: usize, reason: PremiseSet) -> Result<Worldview, AllocError>
         requires may { MayAdvance self.old place }
         requires below { place < self.old.level }
@@ -64,9 +69,11 @@ impl Search {
         ensures before { IfOk result (λ w. w ≡ self.old.worldview) }
         ensures list { OnOk result (self.new.list ≡ advanced self.old.list place) }
         ensures level { OnOk result (self.new.level ≡ place + 1) }
-        ensures reasons { OnOk result (self.new.reasons ≡ reasons_advanced self.old.reasons place reason) }
+        ensures reasons { OnOk result
+            (self.new.reasons ≡ reasons_advanced self.old.reasons place reason) }
         ensures err { OnErr result (self.new ≡ self.old) }
-        ensures search { (problem : Problem) → IsReason problem self.old place (set_of reason) → IsSearch problem self.old → IsSearch problem self.new }
+        ensures search { (problem : Problem) → IsReason problem self.old place (set_of reason)
+            → IsSearch problem self.old → IsSearch problem self.new }
     {
         let choices = self.premises.choices();
         let next = choices[place].first + Premise::from(self.list[place]);

@@ -1,5 +1,6 @@
 //! Where the search for the first consistent list of choices stands, and what it has learned.
-ghost use Rattle.std.specs.Prelude.{◌≡◌, ◌<◌, ◌↔◌, ◌⊎◌, ℕ, List, [], Contains, IsTrue, None, Ok, false, length, IfOk, IfSome, OnOk, OnErr};
+ghost use Rattle.std.specs.Prelude.{◌≡◌, ◌<◌, ◌↔◌, ◌⊎◌, ℕ, List, [], Contains, IsTrue, None, Ok};
+ghost use Rattle.std.specs.Prelude.{false, length, IfOk, IfSome, OnOk, OnErr};
 ghost use Rattle.prop_numbers.specs.Sets.{set_of, is_within, IsPart, IsSame};
 ghost use Rattle.prop_premises.specs.ChoiceLists.{worldview};
 ghost use Rattle.prop_cells.specs.Problems.{Problem};
@@ -14,8 +15,8 @@ use prop_premises::{Premise, PremiseSet, Premises, Worldview};
 use std::alloc::{AllocError, Global};
 use std::marker::Model;
 
-/// The premises, the side on which each choice stands, of how many choices it is believed, why each left the sides before, the nogoods,
-/// and what is believed.
+/// The premises, the side on which each choice stands, of how many choices it is believed, why each
+/// left the sides before, the nogoods, and what is believed.
 #[derive(Drop)]
 pub struct Search {
     pub(crate) premises: Premises,
@@ -31,9 +32,24 @@ pub struct Search {
 impl Model for Search {
     ghost Value = { Stand };
 
-    ghost view = { λ s. record { premises = s.premises; list = s.list.items; level = s.level; reasons = s.reasons.items; listed = s.store; worldview = s.worldview } };
+    ghost view = { λ s. record {
+      premises = s.premises;
+      list = s.list.items;
+      level = s.level;
+      reasons = s.reasons.items;
+      listed = s.store;
+      worldview = s.worldview;
+    } };
 
-    ghost invariant = { λ s. IsStand (record { premises = s.premises; list = s.list.items; level = s.level; reasons = s.reasons.items; listed = s.store; worldview = s.worldview })
+    ghost invariant = { λ s. IsStand
+        (record {
+          premises = s.premises;
+          list = s.list.items;
+          level = s.level;
+          reasons = s.reasons.items;
+          listed = s.store;
+          worldview = s.worldview;
+        })
         × NoneEndsBelow s.store (set_of s.worldview) s.from };
 }
 
@@ -74,7 +90,8 @@ impl Search {
         &self.store
     }
 
-    /// What is believed: the believed premises of the user's and, of the first choices, those below the level, the sides on which they stand.
+    /// What is believed: the believed premises of the user's and, of the first choices, those below
+    /// the level, the sides on which they stand.
     pub fn worldview(&self) -> &Worldview
         ensures same { result.now ≡ self.now.worldview }
         ensures stand { IsStand self.now }
@@ -128,7 +145,9 @@ impl Search {
         ensures adds { OnOk result (AddsSet self.old.listed self.new.listed nogood) }
         ensures stand { IsStand self.new }
         ensures err { OnErr result (self.new ≡ self.old) }
-        ensures search { (problem : Problem) → IsNogood problem (choices_in self.old) (set_of nogood) → IsSearch problem self.old → IsSearch problem self.new }
+        ensures search { (problem : Problem)
+            → IsNogood problem (choices_in self.old) (set_of nogood) → IsSearch problem self.old
+            → IsSearch problem self.new }
     {
         let from = self.from.min(last_of(&nogood));
         self.store.add_new(nogood)?;
@@ -136,12 +155,14 @@ impl Search {
         Ok(())
     }
 
-    /// A noted nogood of which every premise is believed, none where there is no such nogood. It takes
-    /// no memory.
+    /// A noted nogood of which every premise is believed, none where there is no such nogood. It
+    /// takes no memory.
     pub fn blocked(&self) -> Option<&PremiseSet>
         ensures listed { IfSome result (λ s. Contains self.now.listed s.now) }
-        ensures believed { IfSome result (λ s. IsTrue (is_within (set_of self.now.worldview) s.now)) }
-        ensures none { result ≡ None → has_part self.now.listed (set_of self.now.worldview) ≡ false }
+        ensures believed { IfSome result
+            (λ s. IsTrue (is_within (set_of self.now.worldview) s.now)) }
+        ensures none { result ≡ None
+            → has_part self.now.listed (set_of self.now.worldview) ≡ false }
         ensures stand { IsStand self.now }
     {
         self.store.blocks_from(&self.worldview, self.from)

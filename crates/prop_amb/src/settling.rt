@@ -1,5 +1,6 @@
 //! Settling: the first list of choices that isn't refuted, and the least solution with it.
-ghost use Rattle.std.specs.Prelude.{◌≡◌, ◌⊎◌, ℕ, ◌+◌, ◌*◌, ◌<◌, ◌≤◌, [], false, IsTrue, length, Ok, Some, None, IfOk, IfSome, OnOk, OnErr};
+ghost use Rattle.std.specs.Prelude.{◌≡◌, ◌⊎◌, ℕ, ◌+◌, ◌*◌, ◌<◌, ◌≤◌, [], false, IsTrue, length, Ok};
+ghost use Rattle.std.specs.Prelude.{Some, None, IfOk, IfSome, OnOk, OnErr};
 ghost use Rattle.prop_numbers.specs.Sets.{Members, set_of};
 ghost use Rattle.prop_premises.specs.ChoiceLists.{lists_count};
 ghost use Rattle.prop_procedures.specs.Kept.{AllMean, stored_of};
@@ -40,8 +41,8 @@ enum Tried {
     Spent,
 }
 
-/// Looks whether a noted nogood is believed, and else runs the network with the sides that are believed; a clash is noted.
-/// Answers what came of them and how many instances were called.
+/// Looks whether a noted nogood is believed, and else runs the network with the sides that are
+/// believed; a clash is noted. Answers what came of them and how many instances were called.
 fn attempt<R: Rule + Drop, O: Order>(
     alloc: Global,
     search: &mut Search,
@@ -51,37 +52,60 @@ fn attempt<R: Rule + Drop, O: Order>(
     budget: u64,
 ) -> Result<(Tried, u64), AllocError>
     requires means { AllMean R.value_of network.old.library.procedures.items }
-    requires under_way { IsUnderWay (stored_of R.value_of network.old.library) (set_of search.old.worldview) network.old.cells agenda.old.line }
+    requires under_way { IsUnderWay (stored_of R.value_of network.old.library)
+        (set_of search.old.worldview) network.old.cells agenda.old.line }
     requires room { length network.old.cells.instances ≤ agenda.old.room }
-    requires watched { IsWatched (set_of search.old.worldview) network.old.cells agenda.old.watched }
+    requires watched { IsWatched (set_of search.old.worldview) network.old.cells
+        agenda.old.watched }
     requires cells { length network.old.cells.kinds ≤ agenda.old.cells }
-    requires search { IsSearch (problem_of (stored_of R.value_of network.old.library) network.old.cells) search.old }
+    requires search { IsSearch (problem_of (stored_of R.value_of network.old.library)
+        network.old.cells) search.old }
     ensures same { network.new.library ≡ network.old.library }
-    ensures rest { network.new.cells ≡ record network.old.cells { contents = network.new.cells.contents } }
+    ensures rest { network.new.cells
+        ≡ record network.old.cells { contents = network.new.cells.contents } }
     ensures room { agenda.new.room ≡ agenda.old.room }
     ensures watched { IsWatched (set_of search.old.worldview) network.new.cells agenda.new.watched }
     ensures cells { agenda.new.cells ≡ agenda.old.cells }
     ensures only { search.new ≡ record search.old { listed = search.new.listed } }
-    ensures listed { (m : Members) → IsTrue (has_part search.old.listed m) → IsTrue (has_part search.new.listed m) }
-    ensures search { IsSearch (problem_of (stored_of R.value_of network.old.library) network.old.cells) search.new }
+    ensures listed { (m : Members) → IsTrue (has_part search.old.listed m)
+        → IsTrue (has_part search.new.listed m) }
+    ensures search { IsSearch (problem_of (stored_of R.value_of network.old.library)
+        network.old.cells) search.new }
     ensures stand { IsStand search.new }
-    ensures under_way { IsUnderWay (stored_of R.value_of network.old.library) (set_of search.old.worldview) network.new.cells agenda.new.line }
+    ensures under_way { IsUnderWay (stored_of R.value_of network.old.library)
+        (set_of search.old.worldview) network.new.cells agenda.new.line }
     ensures gone { IfOk result (λ r. Goes O.picks (stored_of R.value_of network.old.library)
         (work search.old network.old.cells agenda.old.line order.old) r.1
         (work search.new network.new.cells agenda.new.line order.new)) }
-    ensures quiet { IfOk result (λ r. r.0 ≡ Tried.Quiet → IsSettled (stored_of R.value_of network.old.library) (set_of search.old.worldview) network.new.cells) }
+    ensures quiet { IfOk result (λ r. r.0 ≡ Tried.Quiet
+        → IsSettled (stored_of R.value_of network.old.library) (set_of search.old.worldview)
+        network.new.cells) }
     ensures rests { IfOk result (λ r. r.0 ≡ Tried.Quiet → agenda.new.line ≡ []) }
     ensures unblocked { IfOk result (λ r. r.0 ≡ Tried.Quiet
         → has_part search.new.listed (set_of search.old.worldview) ≡ false) }
-    ensures refuted { IfOk result (λ r. IfRefuted r.0 (IsMet (problem_of (stored_of R.value_of network.old.library) network.old.cells) search.new)) }
+    ensures refuted { IfOk result
+        (λ r. IfRefuted r.0 (IsMet (problem_of (stored_of R.value_of network.old.library)
+        network.old.cells) search.new)) }
     ensures spent { IfOk result (λ r. r.0 ≡ Tried.Spent → r.1 ≡ budget) }
     ensures left { IfOk result (λ r. r.0 ≡ Tried.Spent →
         MayCall (work search.new network.new.cells agenda.new.line order.new)) }
-    ensures earned { IfOk result (λ r. r.0 ≡ Tried.Spent → r.1 < most_steps (problem_of (stored_of R.value_of network.old.library) network.old.cells)) }
+    ensures earned { IfOk result (λ r. r.0 ≡ Tried.Spent
+        → r.1 < most_steps (problem_of (stored_of R.value_of network.old.library)
+        network.old.cells)) }
     ensures steps { IfOk result (λ r. r.1 ≤ budget) }
-    ensures at_rest { IfOk result (λ r. agenda.old.line ≡ [] → IsFree (set_of search.old.worldview) network.old.cells → has_part search.old.listed (set_of search.old.worldview) ≡ false → (r.0 ≡ Tried.Quiet) × (r.1 ≡ 0)) }
-    ensures falls { IfOk result (λ r. potential (problem_of (stored_of R.value_of network.old.library) network.old.cells) (beliefs (set_of search.old.worldview) network.new.cells.contents) agenda.new.line + r.1 ≤ potential (problem_of (stored_of R.value_of network.old.library) network.old.cells) (beliefs (set_of search.old.worldview) network.old.cells.contents) agenda.old.line) }
-    ensures few { IfOk result (λ r. r.1 ≤ most_steps (problem_of (stored_of R.value_of network.old.library) network.old.cells)) }
+    ensures at_rest { IfOk result
+        (λ r. agenda.old.line ≡ [] → IsFree (set_of search.old.worldview) network.old.cells
+        → has_part search.old.listed (set_of search.old.worldview) ≡ false
+        → (r.0 ≡ Tried.Quiet) × (r.1 ≡ 0)) }
+    ensures falls { IfOk result (λ r.
+        potential (problem_of (stored_of R.value_of network.old.library) network.old.cells)
+        (beliefs (set_of search.old.worldview) network.new.cells.contents)
+        agenda.new.line + r.1 ≤ potential
+        (problem_of (stored_of R.value_of network.old.library) network.old.cells)
+        (beliefs (set_of search.old.worldview) network.old.cells.contents) agenda.old.line) }
+    ensures few { IfOk result (λ r.
+        r.1 ≤ most_steps (problem_of (stored_of R.value_of network.old.library)
+        network.old.cells)) }
     ensures most { IfOk result (λ r. (r.1 ≡ 0)
         ⊎ (potential (problem_of (stored_of R.value_of network.old.library) network.old.cells)
         (beliefs (set_of search.old.worldview) network.old.cells.contents) agenda.old.line
@@ -144,8 +168,8 @@ fn believe_more<R: Rule + Drop>(
 }
 
 /// Tries the list on which the choices stand: with the sides that are believed, and where nothing
-/// waits then, with that of one choice more, until the list is refuted or the side of each choice is
-/// believed. Answers what came of the list and how many instances were called.
+/// waits then, with that of one choice more, until the list is refuted or the side of each choice
+/// is believed. Answers what came of the list and how many instances were called.
 fn try_list<R: Rule + Drop, O: Order>(
     alloc: Global,
     search: &mut Search,
@@ -209,7 +233,8 @@ fn try_list<R: Rule + Drop, O: Order>(
 fn go_on(search: &mut Search) -> Result<bool, AllocError>
     ensures premises { search.new.premises ≡ search.old.premises }
     ensures listed { search.new.listed ≡ search.old.listed }
-    ensures search { (problem : Problem) → IsSearch problem search.old → IsSearch problem search.new }
+    ensures search { (problem : Problem) → IsSearch problem search.old
+        → IsSearch problem search.new }
     ensures stays { result ≡ Ok false → search.new ≡ search.old }
     ensures moves { IfOk result (λ moved. IsTrue moved → Passes search.old 1 search.new) }
 {
@@ -226,15 +251,17 @@ fn go_on(search: &mut Search) -> Result<bool, AllocError>
     }
 }
 
-/// The choices go on as long as noted nogoods show that they have to, by so many moves at the most. Answers by how many. After want of memory the
-/// moves that were made stay.
+/// The choices go on as long as noted nogoods show that they have to, by so many moves at the most.
+/// Answers by how many. After want of memory the moves that were made stay.
 ///
-/// A move goes by the nogood that ends earliest, so none that ends before the choice that moves is believed; nor is one after the move, which changes
-/// sides of that choice and later ones alone. So the next move looks at nogoods from that choice on.
+/// A move goes by the nogood that ends earliest, so none that ends before the choice that moves is
+/// believed; nor is one after the move, which changes sides of that choice and later ones alone. So
+/// the next move looks at nogoods from that choice on.
 fn pass(search: &mut Search, most: u64) -> Result<u64, AllocError>
     ensures premises { search.new.premises ≡ search.old.premises }
     ensures listed { search.new.listed ≡ search.old.listed }
-    ensures search { (problem : Problem) → IsSearch problem search.old → IsSearch problem search.new }
+    ensures search { (problem : Problem) → IsSearch problem search.old
+        → IsSearch problem search.new }
     ensures few { IfOk result (λ n. n ≤ most) }
     ensures moves { IfOk result (λ n. Passes search.old n search.new) }
 {
@@ -248,9 +275,10 @@ fn pass(search: &mut Search, most: u64) -> Result<u64, AllocError>
     Ok(moves)
 }
 
-/// What follows where a list was tried: an end, or the choices go on to a later list, and further as far as noted nogoods ask for it, and of the
-/// cells that this shifts the readers and writers wait. Answers the end, if it is one, and how many moves were made, one at least where it is none.
-/// Where no move is allowed, that is an end too.
+/// What follows where a list was tried: an end, or the choices go on to a later list, and further
+/// as far as noted nogoods ask for it, and of the cells that this shifts the readers and writers
+/// wait. Answers the end, if it is one, and how many moves were made, one at least where it is
+/// none. Where no move is allowed, that is an end too.
 fn decide<R: Rule + Drop>(
     search: &mut Search,
     network: &Network<R>,
@@ -259,17 +287,24 @@ fn decide<R: Rule + Drop>(
     most: u64,
 ) -> Result<(Option<Outcome>, u64), AllocError>
     requires room { length network.now.cells.instances ≤ agenda.old.room }
-    requires watched { IsWatched (set_of search.old.worldview) network.now.cells agenda.old.watched }
+    requires watched { IsWatched (set_of search.old.worldview) network.now.cells
+        agenda.old.watched }
     requires cells { length network.now.cells.kinds ≤ agenda.old.cells }
-    requires search { IsSearch (problem_of (stored_of R.value_of network.now.library) network.now.cells) search.old }
-    requires under_way { IsUnderWay (stored_of R.value_of network.now.library) (set_of search.old.worldview) network.now.cells agenda.old.line }
+    requires search { IsSearch (problem_of (stored_of R.value_of network.now.library)
+        network.now.cells) search.old }
+    requires under_way { IsUnderWay (stored_of R.value_of network.now.library)
+        (set_of search.old.worldview) network.now.cells agenda.old.line }
     requires stand { IsStand search.old }
-    requires met { IfRefuted tried (IsMet (problem_of (stored_of R.value_of network.now.library) network.now.cells) search.old) }
+    requires met { IfRefuted tried
+        (IsMet (problem_of (stored_of R.value_of network.now.library) network.now.cells)
+        search.old) }
     ensures premises { search.new.premises ≡ search.old.premises }
     ensures listed { search.new.listed ≡ search.old.listed }
-    ensures search { IsSearch (problem_of (stored_of R.value_of network.now.library) network.now.cells) search.new }
+    ensures search { IsSearch (problem_of (stored_of R.value_of network.now.library)
+        network.now.cells) search.new }
     ensures stand { IsStand search.new }
-    ensures under_way { IsUnderWay (stored_of R.value_of network.now.library) (set_of search.new.worldview) network.now.cells agenda.new.line }
+    ensures under_way { IsUnderWay (stored_of R.value_of network.now.library)
+        (set_of search.new.worldview) network.now.cells agenda.new.line }
     ensures room { agenda.new.room ≡ agenda.old.room }
     ensures watched { IsWatched (set_of search.new.worldview) network.now.cells agenda.new.watched }
     ensures cells { agenda.new.cells ≡ agenda.old.cells }
@@ -277,7 +312,10 @@ fn decide<R: Rule + Drop>(
     ensures same_line { IfOk result (λ r. IfSome r.0 (λ end. agenda.new.line ≡ agenda.old.line)) }
     ensures quiet { tried ≡ Tried.Quiet → result ≡ Ok (Some Outcome.Settled, 0) }
     ensures settled { IfOk result (λ r. r.0 ≡ Some Outcome.Settled → tried ≡ Tried.Quiet) }
-    ensures contradiction { IfOk result (λ r. IfSome r.0 (λ end. IfContradiction end (λ n. IsRuledOut (problem_of (stored_of R.value_of network.now.library) network.now.cells) (users_of search.old) (choices_in search.old) search.old.listed (set_of n)))) }
+    ensures contradiction { IfOk result
+        (λ r. IfSome r.0 (λ end. IfContradiction end
+        (λ n. IsRuledOut (problem_of (stored_of R.value_of network.now.library) network.now.cells)
+        (users_of search.old) (choices_in search.old) search.old.listed (set_of n)))) }
     ensures named { IfOk result (λ r. IfSome r.0 (λ end.
         IfContradiction end (λ n. IsBlamed search.old (set_of n)))) }
     ensures unsettled { IfOk result (λ r. r.0 ≡ Some Outcome.Unsettled →
@@ -309,8 +347,9 @@ fn decide<R: Rule + Drop>(
     }
 }
 
-/// Looks for the first list that isn't refuted, from the one on which the choices stand, and for the least solution with it. The sides of the list
-/// are believed one after the other. Each call of an instance is a step, and each move to a later list. Answers how it ended, and after how many
+/// Looks for the first list that isn't refuted, from the one on which the choices stand, and for
+/// the least solution with it. The sides of the list are believed one after the other. Each call of
+/// an instance is a step, and each move to a later list. Answers how it ended, and after how many
 /// steps.
 ///
 /// After want of memory the steps that were taken stay.
@@ -323,38 +362,68 @@ pub fn settle<R: Rule + Drop, O: Order>(
     budget: u64,
 ) -> Result<(Outcome, u64), AllocError>
     requires means { AllMean R.value_of network.old.library.procedures.items }
-    requires under_way { IsUnderWay (stored_of R.value_of network.old.library) (set_of search.old.worldview) network.old.cells agenda.old.line }
+    requires under_way { IsUnderWay (stored_of R.value_of network.old.library)
+        (set_of search.old.worldview) network.old.cells agenda.old.line }
     requires room { length network.old.cells.instances ≤ agenda.old.room }
-    requires watched { IsWatched (set_of search.old.worldview) network.old.cells agenda.old.watched }
+    requires watched { IsWatched (set_of search.old.worldview) network.old.cells
+        agenda.old.watched }
     requires cells { length network.old.cells.kinds ≤ agenda.old.cells }
-    requires search { IsSearch (problem_of (stored_of R.value_of network.old.library) network.old.cells) search.old }
+    requires search { IsSearch (problem_of (stored_of R.value_of network.old.library)
+        network.old.cells) search.old }
     ensures same { network.new.library ≡ network.old.library }
-    ensures rest { network.new.cells ≡ record network.old.cells { contents = network.new.cells.contents } }
+    ensures rest { network.new.cells
+        ≡ record network.old.cells { contents = network.new.cells.contents } }
     ensures room { agenda.new.room ≡ agenda.old.room }
     ensures watched { IsWatched (set_of search.new.worldview) network.new.cells agenda.new.watched }
     ensures cells { agenda.new.cells ≡ agenda.old.cells }
     ensures premises { search.new.premises ≡ search.old.premises }
-    ensures listed { (m : Members) → IsTrue (has_part search.old.listed m) → IsTrue (has_part search.new.listed m) }
-    ensures search { IsSearch (problem_of (stored_of R.value_of network.old.library) network.old.cells) search.new }
+    ensures listed { (m : Members) → IsTrue (has_part search.old.listed m)
+        → IsTrue (has_part search.new.listed m) }
+    ensures search { IsSearch (problem_of (stored_of R.value_of network.old.library)
+        network.old.cells) search.new }
     ensures stand { IsStand search.new }
-    ensures under_way { IsUnderWay (stored_of R.value_of network.old.library) (set_of search.new.worldview) network.new.cells agenda.new.line }
-    ensures settled { IfOk result (λ r. r.0 ≡ Outcome.Settled → IsSettled (stored_of R.value_of network.old.library) (set_of search.new.worldview) network.new.cells) }
-    ensures first { IfOk result (λ r. r.0 ≡ Outcome.Settled → IsFirstConsistent (problem_of (stored_of R.value_of network.old.library) network.old.cells) (users_of search.new) (choices_in search.new) search.new.list) }
+    ensures under_way { IsUnderWay (stored_of R.value_of network.old.library)
+        (set_of search.new.worldview) network.new.cells agenda.new.line }
+    ensures settled { IfOk result
+        (λ r. r.0 ≡ Outcome.Settled → IsSettled (stored_of R.value_of network.old.library)
+        (set_of search.new.worldview) network.new.cells) }
+    ensures first { IfOk result (λ r. r.0 ≡ Outcome.Settled
+        → IsFirstConsistent (problem_of (stored_of R.value_of network.old.library)
+        network.old.cells) (users_of search.new) (choices_in search.new) search.new.list) }
     ensures rests { IfOk result (λ r. r.0 ≡ Outcome.Settled → agenda.new.line ≡ []) }
-    ensures contradiction { IfOk result (λ r. IfContradiction r.0 (λ n. IsRuledOut (problem_of (stored_of R.value_of network.old.library) network.old.cells) (users_of search.new) (choices_in search.new) search.new.listed (set_of n))) }
+    ensures contradiction { IfOk result
+        (λ r. IfContradiction r.0 (λ n.
+        IsRuledOut (problem_of (stored_of R.value_of network.old.library) network.old.cells)
+        (users_of search.new) (choices_in search.new) search.new.listed (set_of n))) }
     ensures named { IfOk result (λ r. IfContradiction r.0 (λ n. IsBlamed search.new (set_of n))) }
     ensures passed { AllBeforeBlocked search.new }
-    ensures earlier { AllBeforeRefuted (problem_of (stored_of R.value_of network.old.library) network.old.cells) (users_of search.new) (choices_in search.new) search.new.list }
+    ensures earlier { AllBeforeRefuted
+        (problem_of (stored_of R.value_of network.old.library) network.old.cells)
+        (users_of search.new) (choices_in search.new) search.new.list }
     ensures spent { IfOk result (λ r. r.0 ≡ Outcome.Unsettled → r.1 ≡ budget) }
     ensures steps { IfOk result (λ r. r.1 ≤ budget) }
-    ensures moves { IfOk result (λ r. Moves (problem_of (stored_of R.value_of network.old.library) network.old.cells) (choices_in search.new) search.old.list search.new.list r.1) }
-    ensures earned { IfOk result (λ r. r.0 ≡ Outcome.Unsettled → budget + 1 < lists_count (choices_in search.new) * (most_steps (problem_of (stored_of R.value_of network.old.library) network.old.cells) + 1)) }
+    ensures moves { IfOk result (λ r.
+        Moves (problem_of (stored_of R.value_of network.old.library) network.old.cells)
+        (choices_in search.new) search.old.list search.new.list r.1) }
+    ensures earned { IfOk result (λ r. r.0 ≡ Outcome.Unsettled
+        → budget + 1 < lists_count (choices_in search.new)
+        * (most_steps (problem_of (stored_of R.value_of network.old.library) network.old.cells)
+        + 1)) }
     ensures left { IfOk result (λ r. r.0 ≡ Outcome.Unsettled →
         MayGoOn (work search.new network.new.cells agenda.new.line order.new)) }
-    ensures falls { IfOk result (λ r. search.new.list ≡ search.old.list → potential (problem_of (stored_of R.value_of network.old.library) network.old.cells) (beliefs (set_of search.new.worldview) network.new.cells.contents) agenda.new.line + r.1 ≤ potential (problem_of (stored_of R.value_of network.old.library) network.old.cells) (beliefs (set_of search.old.worldview) network.old.cells.contents) agenda.old.line) }
+    ensures falls { IfOk result (λ r. search.new.list ≡ search.old.list
+        → potential (problem_of (stored_of R.value_of network.old.library) network.old.cells)
+        (beliefs (set_of search.new.worldview) network.new.cells.contents)
+        agenda.new.line + r.1 ≤ potential
+        (problem_of (stored_of R.value_of network.old.library) network.old.cells)
+        (beliefs (set_of search.old.worldview) network.old.cells.contents) agenda.old.line) }
     ensures full { IfOk result (λ r. r.0 ≡ Outcome.Settled
         → search.new.level ≡ length search.new.list) }
-    ensures at_rest { IfOk result (λ r. search.old.level ≡ length search.old.list → agenda.old.line ≡ [] → IsFree (set_of search.old.worldview) network.old.cells → has_part search.old.listed (set_of search.old.worldview) ≡ false → (r.0 ≡ Outcome.Settled) × (r.1 ≡ 0)) }
+    ensures at_rest { IfOk result
+        (λ r. search.old.level ≡ length search.old.list → agenda.old.line ≡ []
+        → IsFree (set_of search.old.worldview) network.old.cells
+        → has_part search.old.listed (set_of search.old.worldview) ≡ false
+        → (r.0 ≡ Outcome.Settled) × (r.1 ≡ 0)) }
     ensures gone { IfOk result (λ r. Goes O.picks (stored_of R.value_of network.old.library)
         (work search.old network.old.cells agenda.old.line order.old) r.1
         (work search.new network.new.cells agenda.new.line order.new)) }

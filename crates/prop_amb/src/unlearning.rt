@@ -11,14 +11,19 @@ use crate::search::Search;
 use prop_premises::Premise;
 
 impl Search {
-    /// The nogoods that hold a premise of the user's go, every choice goes to its first side, and no reason is kept. The premise keeps its name, its number and
-    /// whether it is believed. So what is left holds of the problem without the statements under it.
-    /// It takes no memory.
+    /// The nogoods that hold a premise of the user's go, every choice goes to its first side, and
+    /// no reason is kept. The premise keeps its name, its number and whether it is believed. So
+    /// what is left holds of the problem without the statements under it. It takes no memory.
     pub fn forget(&mut self, premise: Premise)
         requires { IsTrue (is_user_at self.old.premises premise) }
-        ensures only { self.new ≡ record (restarted self.old) { listed = lacking self.old.listed premise; worldview = self.new.worldview } }
+        ensures only { self.new ≡ record (restarted self.old) {
+          listed = lacking self.old.listed
+              premise;
+          worldview = self.new.worldview;
+        } }
         ensures stand { IsStand self.new }
-        ensures search { (old new : Problem) → Forgets old new premise → IsSearch old self.old → IsSearch new self.new }
+        ensures search { (old new : Problem) → Forgets old new premise → IsSearch old self.old
+            → IsSearch new self.new }
     {
         self.restart();
         self.store.purge(premise);

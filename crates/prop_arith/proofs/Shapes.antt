@@ -11,7 +11,8 @@ both : (a b : Bool) → (a && b) ≡ true → (a ≡ true) × (b ≡ true)
 both true b e = (refl, e)
 both false b e = let f : false ≡ true = e in cc
 
-same_items : {X : Type 0} (test : X → X → Bool) → ((a b : X) → test a b ≡ true → a ≡ b) → (xs ys : List X) → pointwise test xs ys ≡ true → xs ≡ ys
+same_items : {X : Type 0} (test : X → X → Bool) → ((a b : X) → test a b ≡ true → a ≡ b) → (xs ys : List X)
+    → pointwise test xs ys ≡ true → xs ≡ ys
 same_items test h [] [] e = refl
 same_items test h [] (y ∷ ys) e = let f : false ≡ true = e in cc
 same_items test h (x ∷ xs) [] e = let f : false ≡ true = e in cc

@@ -8,7 +8,8 @@ use Rattle.prop_lattice.specs.Ends.{elements_from}
 use Rattle.prop_lattice.specs.Order.{merge_of, is_contradiction}
 use Rattle.prop_lattice.specs.declared.elements.Elements as sets
 use Rattle.prop_lattice.specs.declared.info.Info.{Info}
-use Rattle.prop_lattice.specs.declared.info.Info.TheVariants.{Nothing, Span, Set, Sym, Contradiction}
+use Rattle.prop_lattice.specs.declared.info.Info.TheVariants.{Nothing, Span, Set, Sym}
+use Rattle.prop_lattice.specs.declared.info.Info.TheVariants.{Contradiction}
 use Rattle.prop_sets.specs.Others as others
 
 -- the information has just these bits
@@ -23,10 +24,12 @@ is_single (Set s) = count_ones s.bits == 1
 is_single (Sym a) = true
 is_single a = false
 
--- whether x is y: no where they share no point, yes where each leaves one point, which is then the same
+-- whether x is y: no where they share no point, yes where each leaves one point, which is then the
+-- same
 abbrev pub comparer_of : Info → Info → Info
 comparer_of x y =
-    if is_contradiction (merge_of x y) then elements_from no_bits else (if is_single x && is_single y then elements_from yes_bits else Nothing)
+    if is_contradiction (merge_of x y) then elements_from no_bits
+    else (if is_single x && is_single y then elements_from yes_bits else Nothing)
 
 -- the number of the first element
 abbrev pub first_element : sets.Elements → ℕ

@@ -5,14 +5,19 @@ use Rattle.prop_procedures.specs.declared.shape.Shape.TheVariants.{Span, Truth, 
 use Rattle.prop_procedures.specs.declared.shape.Need.{Need}
 use Rattle.prop_procedures.specs.declared.shape.Need.TheVariants.{Nothing, Scale, Rows}
 use Rattle.prop_arith.specs.declared.kit.Kit as kits
-use Rattle.prop_arith.specs.declared.kit.Kit.TheVariants.{Add, Sub, Mul, Div, Square, Root, Less, Below, Above, Copy, Alike, Apart, Switch, Not, And, AndBack, Or, OrBack, Image, Coimage}
+use Rattle.prop_arith.specs.declared.kit.Kit.TheVariants.{Add, Sub, Mul, Div, Square, Root, Less}
+use Rattle.prop_arith.specs.declared.kit.Kit.TheVariants.{Below, Above, Copy, Alike, Apart, Switch}
+use Rattle.prop_arith.specs.declared.kit.Kit.TheVariants.{Not, And, AndBack, Or, OrBack, Image}
+use Rattle.prop_arith.specs.declared.kit.Kit.TheVariants.{Coimage}
 
 -- the rules in order
 abbrev pub in_order : List kits.Kit
 in_order =
-    Add ∷ Sub ∷ Mul ∷ Div ∷ Square ∷ Root ∷ Less ∷ Below ∷ Above ∷ Copy ∷ Alike ∷ Apart ∷ Switch ∷ Not ∷ And ∷ AndBack ∷ Or ∷ OrBack ∷ Image ∷ Coimage ∷ []
+    Add ∷ Sub ∷ Mul ∷ Div ∷ Square ∷ Root ∷ Less ∷ Below ∷ Above ∷ Copy ∷ Alike ∷ Apart ∷ Switch
+    ∷ Not ∷ And ∷ AndBack ∷ Or ∷ OrBack ∷ Image ∷ Coimage ∷ []
 
--- the name that a command uses, the shapes of the inputs and of the output, and the parameter that is needed
+-- the name that a command uses, the shapes of the inputs and of the output, and the parameter that
+-- is needed
 pub record Form : Type 0 where
   pub name : List ℕ
   pub ins : List Shape
@@ -21,7 +26,12 @@ pub record Form : Type 0 where
 
 abbrev pub form_of : kits.Kit → Form
 form_of Add = record { name = codes "adder"; ins = Span ∷ Span ∷ []; out = Span; need = Nothing }
-form_of Sub = record { name = codes "subtracter"; ins = Span ∷ Span ∷ []; out = Span; need = Nothing }
+form_of Sub = record {
+  name = codes "subtracter";
+  ins = Span ∷ Span ∷ [];
+  out = Span;
+  need = Nothing;
+}
 form_of Mul = record { name = codes "multiplier"; ins = Span ∷ Span ∷ []; out = Span; need = Scale }
 form_of Div = record { name = codes "divider"; ins = Span ∷ Span ∷ []; out = Span; need = Scale }
 form_of Square = record { name = codes "squarer"; ins = Span ∷ []; out = Span; need = Nothing }
@@ -30,14 +40,49 @@ form_of Less = record { name = codes "lesser"; ins = Span ∷ Span ∷ []; out =
 form_of Below = record { name = codes "below"; ins = Truth ∷ Span ∷ []; out = Span; need = Nothing }
 form_of Above = record { name = codes "above"; ins = Truth ∷ Span ∷ []; out = Span; need = Nothing }
 form_of Copy = record { name = codes "copier"; ins = Any 0 ∷ []; out = Any 0; need = Nothing }
-form_of Alike = record { name = codes "comparer"; ins = Any 0 ∷ Any 0 ∷ []; out = Truth; need = Nothing }
-form_of Apart = record { name = codes "parter"; ins = Truth ∷ Any 0 ∷ Any 0 ∷ []; out = Any 0; need = Nothing }
-form_of Switch = record { name = codes "passer"; ins = Truth ∷ Any 0 ∷ []; out = Any 0; need = Nothing }
+form_of Alike = record {
+  name = codes "comparer";
+  ins = Any 0 ∷ Any 0 ∷ [];
+  out = Truth;
+  need = Nothing;
+}
+form_of Apart = record {
+  name = codes "parter";
+  ins = Truth ∷ Any 0 ∷ Any 0 ∷ [];
+  out = Any 0;
+  need = Nothing;
+}
+form_of Switch = record {
+  name = codes "passer";
+  ins = Truth ∷ Any 0 ∷ [];
+  out = Any 0;
+  need = Nothing;
+}
 form_of Not = record { name = codes "inverter"; ins = Truth ∷ []; out = Truth; need = Nothing }
-form_of And = record { name = codes "conjoiner"; ins = Truth ∷ Truth ∷ []; out = Truth; need = Nothing }
-form_of AndBack = record { name = codes "conjoin_back"; ins = Truth ∷ Truth ∷ []; out = Truth; need = Nothing }
-form_of Or = record { name = codes "disjoiner"; ins = Truth ∷ Truth ∷ []; out = Truth; need = Nothing }
-form_of OrBack = record { name = codes "disjoin_back"; ins = Truth ∷ Truth ∷ []; out = Truth; need = Nothing }
+form_of And = record {
+  name = codes "conjoiner";
+  ins = Truth ∷ Truth ∷ [];
+  out = Truth;
+  need = Nothing;
+}
+form_of AndBack = record {
+  name = codes "conjoin_back";
+  ins = Truth ∷ Truth ∷ [];
+  out = Truth;
+  need = Nothing;
+}
+form_of Or = record {
+  name = codes "disjoiner";
+  ins = Truth ∷ Truth ∷ [];
+  out = Truth;
+  need = Nothing;
+}
+form_of OrBack = record {
+  name = codes "disjoin_back";
+  ins = Truth ∷ Truth ∷ [];
+  out = Truth;
+  need = Nothing;
+}
 form_of Image = record { name = codes "imager"; ins = From ∷ []; out = To; need = Rows }
 form_of Coimage = record { name = codes "coimager"; ins = To ∷ []; out = From; need = Rows }
 

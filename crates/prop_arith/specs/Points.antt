@@ -7,10 +7,14 @@ use Rattle.prop_procedures.specs.declared.shape.Param.TheVariants.{Scale, Rows}
 use Rattle.prop_sets.specs.Relation.{HasPair}
 use Rattle.prop_sets.specs.Truth.{IsNot, IsAnd, IsOr}
 use Rattle.prop_arith.specs.declared.kit.Kit as kits
-use Rattle.prop_arith.specs.declared.kit.Kit.TheVariants.{Add, Sub, Mul, Div, Square, Root, Less, Below, Above, Copy, Alike, Apart, Switch, Not, And, AndBack, Or, OrBack, Image, Coimage}
+use Rattle.prop_arith.specs.declared.kit.Kit.TheVariants.{Add, Sub, Mul, Div, Square, Root, Less}
+use Rattle.prop_arith.specs.declared.kit.Kit.TheVariants.{Below, Above, Copy, Alike, Apart, Switch}
+use Rattle.prop_arith.specs.declared.kit.Kit.TheVariants.{Not, And, AndBack, Or, OrBack, Image}
+use Rattle.prop_arith.specs.declared.kit.Kit.TheVariants.{Coimage}
 
--- the point of the output that belongs to points of the inputs: the root that is answered is the second input's number; y is another
--- point than x where the truth, 0 for `yes`, is `no`, and the same where it is `yes`
+-- the point of the output that belongs to points of the inputs: the root that is answered is the
+-- second input's number; y is another point than x where the truth, 0 for `yes`, is `no`, and the
+-- same where it is `yes`
 abbrev pub Related : kits.Kit → Param → List Point → Point → Type 0
 Related Add param (Number x ∷ Number y ∷ []) (Number z) = IsSum x y z
 Related Sub param (Number z ∷ Number x ∷ []) (Number y) = IsSum x y z

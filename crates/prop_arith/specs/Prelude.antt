@@ -10,9 +10,11 @@ prelude_lines =
     codes "define square x y = squarer x y ; rooter y x x" ∷
     codes "define less x y t = lesser x y t ; below t y x ; above t x y" ∷
     codes "define same x y = copier x y ; copier y x" ∷
-    codes "define alike x y t = comparer x y t ; passer t x y ; passer t y x ; parter t x y y ; parter t y x x" ∷
+    codes
+    "define alike x y t = comparer x y t ; passer t x y ; passer t y x ; parter t x y y ; parter t y x x" ∷
     codes "define switch t x y = passer t x y" ∷
-    codes "define conditional t a b o = local n truth ; inverter t n ; passer t a o ; passer n b o" ∷
+    codes "define conditional t a b o = local n truth ; inverter t n ; passer t a o ; passer n b o"
+    ∷
     codes "define not x y = inverter x y ; inverter y x" ∷
     codes "define and x y z = conjoiner x y z ; conjoin_back z y x ; conjoin_back z x y" ∷
     codes "define or x y z = disjoiner x y z ; disjoin_back z y x ; disjoin_back z x y" ∷

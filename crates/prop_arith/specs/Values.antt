@@ -12,9 +12,13 @@ use Rattle.prop_sets.specs.Images.{image_of, coimage_of}
 use Rattle.prop_sets.specs.Truth.{and_of, and_back_of, or_of, or_back_of, not_of}
 use Rattle.prop_arith.specs.Comparing.{is_just, comparer_of, others_of}
 use Rattle.prop_arith.specs.declared.kit.Kit as kits
-use Rattle.prop_arith.specs.declared.kit.Kit.TheVariants.{Add, Sub, Mul, Div, Square, Root, Less, Below, Above, Copy, Alike, Apart, Switch, Not, And, AndBack, Or, OrBack, Image, Coimage}
+use Rattle.prop_arith.specs.declared.kit.Kit.TheVariants.{Add, Sub, Mul, Div, Square, Root, Less}
+use Rattle.prop_arith.specs.declared.kit.Kit.TheVariants.{Below, Above, Copy, Alike, Apart, Switch}
+use Rattle.prop_arith.specs.declared.kit.Kit.TheVariants.{Not, And, AndBack, Or, OrBack, Image}
+use Rattle.prop_arith.specs.declared.kit.Kit.TheVariants.{Coimage}
 
--- what a rule answers to a parameter and arguments: nothing where too little is known, and where they don't fit
+-- what a rule answers to a parameter and arguments: nothing where too little is known, and where
+-- they don't fit
 abbrev pub value_of : kits.Kit → Param → List Info → Info
 value_of Add param (Span x ∷ Span y ∷ []) = sum_of x y
 value_of Sub param (Span z ∷ Span x ∷ []) = difference_of z x

@@ -61,8 +61,8 @@ fn is_single(info: Info) -> bool
     }
 }
 
-/// What is known of whether `x` and `y` are the same: `no` where they share no point, `yes` where each leaves one
-/// point, which is then the same, and else nothing.
+/// What is known of whether `x` and `y` are the same: `no` where they share no point, `yes` where
+/// each leaves one point, which is then the same, and else nothing.
 pub fn comparer(x: Info, y: Info) -> Info
     ensures { (param : Param) → result ≡ value_of Alike param (x ∷ y ∷ []) }
 {
@@ -128,8 +128,8 @@ fn others(x: Info, y: Info) -> Info
     }
 }
 
-/// What is known of `y` where `t` says whether it is `x`: nothing while `t` isn't just `no` or `x` leaves several
-/// points, and else what `y` leaves other than `x`.
+/// What is known of `y` where `t` says whether it is `x`: nothing while `t` isn't just `no` or `x`
+/// leaves several points, and else what `y` leaves other than `x`.
 pub fn parter(t: Info, x: Info, y: Info) -> Info
     ensures { (param : Param) → result ≡ value_of Apart param (t ∷ x ∷ y ∷ []) }
 {

@@ -3,7 +3,8 @@ ghost use Rattle.std.specs.Prelude.{◌≡◌, ◌∷◌, []};
 ghost use Rattle.prop_procedures.specs.declared.shape.Param.{Param};
 ghost use Rattle.prop_procedures.specs.declared.shape.Param.TheVariants.{Scale};
 ghost use Rattle.prop_arith.specs.Values.{value_of};
-ghost use Rattle.prop_arith.specs.declared.kit.Kit.TheVariants.{Add, Sub, Mul, Div, Square, Root, Copy};
+ghost use Rattle.prop_arith.specs.declared.kit.Kit.TheVariants.{Add, Sub, Mul, Div, Square, Root};
+ghost use Rattle.prop_arith.specs.declared.kit.Kit.TheVariants.{Copy};
 
 use prop_intervals::{add, div, mul, root, square, sub};
 use prop_lattice::Info;
@@ -29,7 +30,8 @@ pub fn subtracter(z: Info, x: Info) -> Info
     }
 }
 
-/// What is known of `z` where it is `x * y` in units of `1 / k`, rounded up or down; nothing where `k` is no scale.
+/// What is known of `z` where it is `x * y` in units of `1 / k`, rounded up or down; nothing where
+/// `k` is no scale.
 pub fn multiplier(x: Info, y: Info, k: i64) -> Info
     ensures { result ≡ value_of Mul (Scale k) (x ∷ y ∷ []) }
 {
@@ -39,7 +41,8 @@ pub fn multiplier(x: Info, y: Info, k: i64) -> Info
     }
 }
 
-/// What is known of `x` where `z` is `x * y` in units of `1 / k`, rounded up or down; nothing where `k` is no scale.
+/// What is known of `x` where `z` is `x * y` in units of `1 / k`, rounded up or down; nothing where
+/// `k` is no scale.
 pub fn divider(z: Info, y: Info, k: i64) -> Info
     ensures { result ≡ value_of Div (Scale k) (z ∷ y ∷ []) }
 {

@@ -4,7 +4,9 @@ ghost use Rattle.prop_arith.specs.Kit.{FormOf, form_of, in_order};
 ghost use Rattle.prop_arith.specs.Points.{Related};
 ghost use Rattle.prop_arith.specs.Values.{value_of};
 ghost use Rattle.prop_arith.specs.laws.KitLaws.{kit_monotone, kit_keeps_kind, kit_sound};
-ghost use Rattle.prop_arith.specs.Narrowest.{AddIsNarrowest, SubIsNarrowest, MulIsNarrowest, SquareIsNarrowest, RootIsNarrowest, ImageIsNarrowest, CoimageIsNarrowest};
+ghost use Rattle.prop_arith.specs.Narrowest.{AddIsNarrowest, SubIsNarrowest, MulIsNarrowest};
+ghost use Rattle.prop_arith.specs.Narrowest.{SquareIsNarrowest, RootIsNarrowest, ImageIsNarrowest};
+ghost use Rattle.prop_arith.specs.Narrowest.{CoimageIsNarrowest};
 
 use crate::comparing::{above, below, comparer, lesser, parter};
 use crate::functions::{adder, copier, divider, multiplier, rooter, squarer, subtracter};
@@ -13,7 +15,8 @@ use crate::logic::{conjoin_back, conjoiner, disjoin_back, disjoiner, inverter, p
 use prop_lattice::Info;
 use prop_procedures::{Need, Param, Rule, Shape};
 
-/// The rules that come with the program. A rule works in one direction: from its inputs to its output.
+/// The rules that come with the program. A rule works in one direction: from its inputs to its
+/// output.
 #[derive(Clone, Copy, Debug, PartialEq, Eq)]
 pub enum Kit {
     /// From x and y to z, where z = x + y.
@@ -157,8 +160,8 @@ impl Kit {
         }
     }
 
-    /// What the rule answers, `Info::Nothing` where the parameter is none that it needs or the arguments
-    /// are not as many as its inputs.
+    /// What the rule answers, `Info::Nothing` where the parameter is none that it needs or the
+    /// arguments are not as many as its inputs.
     pub fn run(self, param: &Param, args: &[Info]) -> Info
         ensures { result ≡ value_of self param.now args.now }
     {
@@ -234,9 +237,10 @@ impl Kit {
         ensures { KITS ≡ in_order }
     {}
 
-    /// Where nothing has to be cut off, what these rules answer to spans is the narrowest information that holds
-    /// each point that belongs to points of those. For `Kit::Root`, whose answers lie in range, that is so
-    /// always, also where nothing is known of the root; and so it is for what goes along a relation, from sets.
+    /// Where nothing has to be cut off, what these rules answer to spans is the narrowest
+    /// information that holds each point that belongs to points of those. For `Kit::Root`, whose
+    /// answers lie in range, that is so always, also where nothing is known of the root; and so it
+    /// is for what goes along a relation, from sets.
     pub fn narrowest_where_in_range()
         ensures add { AddIsNarrowest }
         ensures sub { SubIsNarrowest }

@@ -3,7 +3,8 @@ ghost use Rattle.std.specs.Prelude.{◌≡◌, ◌∷◌, []};
 ghost use Rattle.prop_procedures.specs.declared.shape.Param.{Param};
 ghost use Rattle.prop_arith.specs.Comparing.{is_just};
 ghost use Rattle.prop_arith.specs.Values.{value_of};
-ghost use Rattle.prop_arith.specs.declared.kit.Kit.TheVariants.{Switch, Not, And, AndBack, Or, OrBack};
+ghost use Rattle.prop_arith.specs.declared.kit.Kit.TheVariants.{Switch, Not, And, AndBack, Or};
+ghost use Rattle.prop_arith.specs.declared.kit.Kit.TheVariants.{OrBack};
 
 use prop_intervals::comparisons::YES;
 use prop_lattice::Info;

@@ -1,5 +1,6 @@
 -- What an added entry changes, in each worldview.
-use Rattle.std.proofs.Common.{◌≡◌, ◌∙◌, ℕ, Bool, true, false, IsTrue, if◌then◌else◌, List, refl, sym, ap, Option, Some, None, inl, inr, All, subst}
+use Rattle.std.proofs.Common.{◌≡◌, ◌∙◌, ℕ, Bool, true, false, IsTrue, if◌then◌else◌, List, refl, sym, ap, Option, Some}
+use Rattle.std.proofs.Common.{None, inl, inr, All, subst}
 use Rattle.std.proofs.lemmas.Bool.Decides.{eqb_tells}
 use Rattle.std.proofs.lemmas.Option.{get_or_from_slice_get}
 use Rattle.std.proofs.lemmas.List.Elements.{All-contains}
@@ -24,14 +25,18 @@ pub beliefs_of_kinds : (d : Data) → IsWellMade d → (s : Premises) → AreOfK
 beliefs_of_kinds d made s = record {
   of_kind = λ cell k at.
       let k_is : kind_at d.kinds cell ≡ k = get_or_from_slice_get d.kinds cell k span_kind at in
-      let each : All (λ e. IsOf k.kind k.size e.value) (content_of d.contents cell) = subst (λ (q : Kinded). All (λ e. IsOf q.kind q.size e.value) (content_of d.contents cell)) k_is (made.of_kinds cell) in
-      said_kept Nothing merge_of (λ e. is_within s e.support) (IsOf k.kind k.size) tt (merge_of_kind k.kind k.size) (content_of d.contents cell)
+      let each : All (λ e. IsOf k.kind k.size e.value) (content_of d.contents cell) =
+      subst (λ (q : Kinded). All (λ e. IsOf q.kind q.size e.value) (content_of d.contents cell)) k_is
+      (made.of_kinds cell) in
+      said_kept Nothing merge_of (λ e. is_within s e.support) (IsOf k.kind k.size) tt (merge_of_kind k.kind k.size)
+      (content_of d.contents cell)
       (λ x c on. All-contains (λ e. IsOf k.kind k.size e.value) (content_of d.contents cell) x each c);
 }
 
 module _ (old new : List (List Entry)) (cell : ℕ) (e : Entry) (a : AddsAt old new cell e) where
   -- to one who believes its premises, its value was merged into the cell
-  pub adds_merges : (t : Premises) → is_within t e.support ≡ true → MergesAt (beliefs t old) (beliefs t new) cell e.value
+  pub adds_merges : (t : Premises) → is_within t e.support ≡ true
+      → MergesAt (beliefs t old) (beliefs t new) cell e.value
   adds_merges t on = record {
     merged = a.adds.beliefs t ∙ ap (λ b. if b then merge_of (beliefs t old cell) e.value else beliefs t old cell) on;
     others = λ c ne. ap (belief_of Nothing merge_of t) (a.others c ne);
@@ -41,7 +46,8 @@ module _ (old new : List (List Entry)) (cell : ℕ) (e : Entry) (a : AddsAt old 
   pub adds_same : (t : Premises) → is_within t e.support ≡ false → (c : ℕ) → beliefs t new c ≡ beliefs t old c
   adds_same t off c =
       elim (eqb_tells c cell) as (λ _. beliefs t new c ≡ beliefs t old c) [
-        | inl same ↦ rw same.1 (a.adds.beliefs t ∙ ap (λ b. if b then merge_of (beliefs t old cell) e.value else beliefs t old cell) off)
+        | inl same ↦ rw same.1 (a.adds.beliefs t
+            ∙ ap (λ b. if b then merge_of (beliefs t old cell) e.value else beliefs t old cell) off)
         | inr other ↦ ap (belief_of Nothing merge_of t) (a.others c other.1)
       ]
 
@@ -52,15 +58,20 @@ module _ (old new : List (List Entry)) (cell : ℕ) (e : Entry) (a : AddsAt old 
       by true on = merges_grow (beliefs t old) (beliefs t new) cell e.value (adds_merges t on) c
       by false off = rw (adds_same t off c) (info_laws.reflexive (beliefs t old c))
 
-  pub adds_of_kinds : (kinds : List Kinded) → IsOf (kind_at kinds cell).kind (kind_at kinds cell).size e.value → ((c : ℕ) → All (λ x. IsOf (kind_at kinds c).kind (kind_at kinds c).size x.value) (content_of old c)) →
+  pub adds_of_kinds : (kinds : List Kinded) → IsOf (kind_at kinds cell).kind (kind_at kinds cell).size e.value
+      → ((c : ℕ) → All (λ x. IsOf (kind_at kinds c).kind (kind_at kinds c).size x.value) (content_of old c)) →
       (c : ℕ) → All (λ x. IsOf (kind_at kinds c).kind (kind_at kinds c).size x.value) (content_of new c)
   adds_of_kinds kinds of_kind h c =
-      elim (eqb_tells c cell) as (λ _. All (λ x. IsOf (kind_at kinds c).kind (kind_at kinds c).size x.value) (content_of new c)) [
+      elim (eqb_tells c cell) as (λ _. All (λ x. IsOf (kind_at kinds c).kind (kind_at kinds c).size x.value)
+      (content_of new c)) [
         | inl same ↦
             (let k = kind_at kinds cell in
-            rw same.1 (All-from_contains (λ x. IsOf k.kind k.size x.value) (content_of new cell) (λ x at. elim (a.adds.only x at) as (λ _. IsOf k.kind k.size x.value) [
+            rw same.1 (All-from_contains (λ x. IsOf k.kind k.size x.value) (content_of new cell)
+            (λ x at. elim (a.adds.only x at) as (λ _. IsOf k.kind k.size x.value) [
               | inl there ↦ All-contains (λ y. IsOf k.kind k.size y.value) (content_of old cell) x (h cell) there
-              | inr is ↦ rw is (merge_of_kind k.kind k.size e.value _ of_kind (said_kept Nothing merge_of (λ y. is_alike y.support e.support) (IsOf k.kind k.size) tt (merge_of_kind k.kind k.size) (content_of old cell)
+              | inr is ↦ rw is (merge_of_kind k.kind k.size e.value _ of_kind
+                  (said_kept Nothing merge_of (λ y. is_alike y.support e.support) (IsOf k.kind k.size) tt
+                  (merge_of_kind k.kind k.size) (content_of old cell)
                   (λ y c on. All-contains (λ z. IsOf k.kind k.size z.value) (content_of old cell) y (h cell) c)))
             ])))
         | inr other ↦ rw (a.others c other.1) (h c)
@@ -72,11 +83,13 @@ within_own t None m = refl
 within_own t (Some p) m = rw m refl
 
 -- what knows the value already stays as it is, and what does not changes
-pub merges_as : (old new : Assignment) (cell : ℕ) (v : Info) (grown : Bool) → MergesAt old new cell v → (grown ≡ false → Below v (old cell)) → (grown ≡ true → ¬ (Below v (old cell))) → Merges old new cell v grown
+pub merges_as : (old new : Assignment) (cell : ℕ) (v : Info) (grown : Bool) → MergesAt old new cell v
+    → (grown ≡ false → Below v (old cell)) → (grown ≡ true → ¬ (Below v (old cell))) → Merges old new cell v grown
 merges_as old new cell v grown m known unknown = record {
   at = m;
   unchanged = λ f.
       let least = info_laws.least_above (old cell) v in
-      m.merged ∙ info_laws.antisymmetric _ _ (least.least (old cell) (info_laws.reflexive _) (known f)) least.above_first;
+      m.merged ∙ info_laws.antisymmetric _ _ (least.least (old cell) (info_laws.reflexive _) (known f))
+      least.above_first;
   changed = λ t same. unknown t (rw (sym m.merged ∙ same) at (info_laws.least_above (old cell) v).above_second);
 }

@@ -1,8 +1,11 @@
 -- What stays where the statements under a premise go.
-use Rattle.std.proofs.Common.{◌≡◌, ◌∙◌, ◌==◌, ℕ, Bool, true, false, not, ◌&&◌, IsTrue, All, Contains, List, [], ◌∷◌, Option, Some, None, map, filter, length, get_or, slice_index_or, refl, sym, ap, ◌⊎◌, inl, inr, zero, suc, arith, ◌<◌, ◌≤◌, ◌++◌, take, drop, slice_set}
+use Rattle.std.proofs.Common.{◌≡◌, ◌∙◌, ◌==◌, ℕ, Bool, true, false, not, ◌&&◌, IsTrue, All, Contains, List, [], ◌∷◌}
+use Rattle.std.proofs.Common.{Option, Some, None, map, filter, length, get_or, slice_index_or, refl, sym, ap, ◌⊎◌, inl}
+use Rattle.std.proofs.Common.{inr, zero, suc, arith, ◌<◌, ◌≤◌, ◌++◌, take, drop, slice_set}
 use Rattle.std.proofs.lemmas.Bool.Decides.{eqb_tells}
 use Rattle.std.proofs.lemmas.List.{length-map, take-append-le, take_all}
-use Rattle.std.proofs.lemmas.List.Elements.{All-contains, All-cons, All-filter, All-get_or, All-weaker, filter_passes, All-contains_itself}
+use Rattle.std.proofs.lemmas.List.Elements.{All-contains, All-cons, All-filter, All-get_or, All-weaker, filter_passes}
+use Rattle.std.proofs.lemmas.List.Elements.{All-contains_itself}
 use Rattle.prop_lattice.specs.declared.info.Info.{Info}
 use Rattle.prop_lattice.specs.declared.info.Info.TheVariants.{Nothing}
 use Rattle.prop_lattice.specs.Order.{merge_of}
@@ -13,7 +16,8 @@ use Rattle.prop_tms.proofs.BeliefUses.{belief_of-without, belief_of-more}
 use Rattle.prop_procedures.specs.Stored.{Stored}
 use Rattle.prop_procedures.specs.Fitting.{kind_at}
 use Rattle.prop_cells.specs.declared.instance.Statement.{Statement}
-use Rattle.prop_cells.specs.Problems.{Problem, Premises, Assignment, Satisfies, Meets, IsSolution, Entails, IsContradictory, is_member}
+use Rattle.prop_cells.specs.Problems.{Problem, Premises, Assignment, Satisfies, Meets, IsSolution, Entails}
+use Rattle.prop_cells.specs.Problems.{IsContradictory, is_member}
 use Rattle.prop_cells.specs.Reach.{Reaches, IsRelatedAt}
 use Rattle.prop_cells.specs.Reach.Reaches.{stated, passed}
 use Rattle.prop_cells.specs.Data.{Data, Entry, IsStated, IsWellMade, IsFounded, IsKept, beliefs, content_of, problem_of}
@@ -23,11 +27,13 @@ use Rattle.prop_cells.specs.Forgetting.{Forgets, forgotten, not_on, not_under, i
 -- ---- a problem
 
 -- a premise that isn't in the set bears on no solution over it
-solution_forgets : (old new : Problem) (p : ℕ) (s : Premises) (a : Assignment) → Forgets old new p → s p ≡ false → IsSolution new s a → IsSolution old s a
+solution_forgets : (old new : Problem) (p : ℕ) (s : Premises) (a : Assignment) → Forgets old new p → s p ≡ false
+    → IsSolution new s a → IsSolution old s a
 solution_forgets old new p s a less out sol = record {
   kinds = record { of_kind = λ cell k e. sol.kinds.of_kind cell k (less.cells cell k e) };
   statements = λ k d l. at (get_or old.statements k d) (less.statements k d l);
-  instances = λ k d l. All-contains (Meets a) new.constraints (get_or old.constraints k d) sol.instances (less.constraints k d l);
+  instances = λ k d l. All-contains (Meets a) new.constraints (get_or old.constraints k d) sol.instances
+      (less.constraints k d l);
 }
   where
     not_in : (q : Option ℕ) → q ≡ Some p → IsTrue (is_member s q) → ⊥
@@ -43,16 +49,26 @@ solution_forgets old new p s a less out sol = record {
     at x (inl e) h = absurd (not_in x.premise e h)
     at x (inr c) h = All-contains (Satisfies s a) new.statements x sol.statements c h
 
-pub entails_forgets : (old new : Problem) (p : ℕ) (s : Premises) (cell : ℕ) (v : Info) → Forgets old new p → s p ≡ false → Entails old s cell v → Entails new s cell v
-entails_forgets old new p s cell v less out e = record { below = λ a sol. e.below a (solution_forgets old new p s a less out sol) }
+pub entails_forgets : (old new : Problem) (p : ℕ) (s : Premises) (cell : ℕ) (v : Info) → Forgets old new p → s p ≡ false
+    → Entails old s cell v → Entails new s cell v
+entails_forgets old new p s cell v less out e =
+    record { below = λ a sol. e.below a (solution_forgets old new p s a less out sol) }
 
-pub contradictory_forgets : (old new : Problem) (p : ℕ) (s : Premises) → Forgets old new p → s p ≡ false → IsContradictory old s → IsContradictory new s
+pub contradictory_forgets : (old new : Problem) (p : ℕ) (s : Premises) → Forgets old new p → s p ≡ false
+    → IsContradictory old s → IsContradictory new s
 contradictory_forgets old new p s less out none some =
-    none (record { solution = some.solution; solves = solution_forgets old new p s some.solution less out some.solves; free = some.free })
+    none (record {
+      solution = some.solution;
+      solves = solution_forgets old new p s some.solution less out some.solves;
+      free = some.free;
+    })
 
 -- other premises still reach what they reached
-pub reaches_forgets : (old new : Problem) (p q : ℕ) (cell : ℕ) → Forgets old new p → (q ≡ p → ⊥) → Reaches old q cell → Reaches new q cell
-reaches_forgets old new p q _ less other (stated x is_in e) = stated x (kept (All-contains (λ y. (y.premise ≡ Some p) ⊎ Contains new.statements y) old.statements x less.statements is_in)) e
+pub reaches_forgets : (old new : Problem) (p q : ℕ) (cell : ℕ) → Forgets old new p → (q ≡ p → ⊥) → Reaches old q cell
+    → Reaches new q cell
+reaches_forgets old new p q _ less other (stated x is_in e) =
+    stated x (kept (All-contains (λ y. (y.premise ≡ Some p) ⊎ Contains new.statements y) old.statements x
+    less.statements is_in)) e
   where
     same : Some q ≡ Some p → q ≡ p
     same f = cc
@@ -64,10 +80,12 @@ reaches_forgets old new p q _ less other (stated x is_in e) = stated x (kept (Al
     kept (inl f) = absurd (other (same (meet f)))
     kept (inr c) = c
 reaches_forgets old new p q _ less other (passed c input is_in reads r) =
-    passed c input (All-contains (Contains new.constraints) old.constraints c less.constraints is_in) reads (reaches_forgets old new p q input less other r)
+    passed c input (All-contains (Contains new.constraints) old.constraints c less.constraints is_in) reads
+    (reaches_forgets old new p q input less other r)
 
 -- a set that lacks p is still related where it was
-pub related_forgets : (old new : Problem) (p cell : ℕ) (s : Premises) → Forgets old new p → s p ≡ false → IsRelatedAt old cell s → IsRelatedAt new cell s
+pub related_forgets : (old new : Problem) (p cell : ℕ) (s : Premises) → Forgets old new p → s p ≡ false
+    → IsRelatedAt old cell s → IsRelatedAt new cell s
 related_forgets old new p cell s less out r q h = reaches_forgets old new p q cell less (λ e. other (ap s e)) (r q h)
   where
     other : s q ≡ s p → ⊥
@@ -82,7 +100,8 @@ contains_there : {X : Type 0} (x y : X) (xs : List X) → Contains xs y → Cont
 contains_there x y xs h = (suc h.0, omega (arith, h.1), h.2)
 
 -- each statement stands under p, or is left
-left_or_under : (p : ℕ) (statements : List Statement) → All (λ x. (x.premise ≡ Some p) ⊎ Contains (not_under p statements) x) statements
+left_or_under : (p : ℕ) (statements : List Statement)
+    → All (λ x. (x.premise ≡ Some p) ⊎ Contains (not_under p statements) x) statements
 left_or_under p [] = λ k d l. absurd (omega (arith, l))
 left_or_under p (x ∷ xs) = by (left_or_under p xs) (is_under p x.premise) refl
   where
@@ -90,27 +109,34 @@ left_or_under p (x ∷ xs) = by (left_or_under p xs) (is_under p x.premise) refl
     under None e = cc
     under (Some q) e = elim (eqb_tells q p) [ inl at ↦ ap Some at.1 | inr off ↦ cc (off.0, e) ]
 
-    by : All (λ y. (y.premise ≡ Some p) ⊎ Contains (not_under p xs) y) xs → (b : Bool) → is_under p x.premise ≡ b → All (λ y. (y.premise ≡ Some p) ⊎ Contains (not_under p (x ∷ xs)) y) (x ∷ xs)
-    by rest true e = All-cons (λ y. (y.premise ≡ Some p) ⊎ Contains (not_under p (x ∷ xs)) y) x xs (inl (under x.premise e)) (rw e rest)
+    by : All (λ y. (y.premise ≡ Some p) ⊎ Contains (not_under p xs) y) xs → (b : Bool) → is_under p x.premise ≡ b
+        → All (λ y. (y.premise ≡ Some p) ⊎ Contains (not_under p (x ∷ xs)) y) (x ∷ xs)
+    by rest true e = All-cons (λ y. (y.premise ≡ Some p) ⊎ Contains (not_under p (x ∷ xs)) y) x xs
+        (inl (under x.premise e)) (rw e rest)
     by rest false e =
-        All-cons (λ y. (y.premise ≡ Some p) ⊎ Contains (not_under p (x ∷ xs)) y) x xs (inr (rw e (contains_here x (not_under p xs))))
-        (rw e (All-weaker (λ y. (y.premise ≡ Some p) ⊎ Contains (not_under p xs) y) (λ y. (y.premise ≡ Some p) ⊎ Contains (x ∷ not_under p xs) y)
+        All-cons (λ y. (y.premise ≡ Some p) ⊎ Contains (not_under p (x ∷ xs)) y) x xs
+        (inr (rw e (contains_here x (not_under p xs))))
+        (rw e (All-weaker (λ y. (y.premise ≡ Some p) ⊎ Contains (not_under p xs) y)
+        (λ y. (y.premise ≡ Some p) ⊎ Contains (x ∷ not_under p xs) y)
         (λ y h. elim h [ inl at ↦ inl at | inr c ↦ inr (contains_there x y (not_under p xs) c) ]) xs rest))
 
-pub forgets_data : (library : List Stored) (p : ℕ) (d : Data) → Forgets (problem_of library d) (problem_of library (forgotten p d)) p
+pub forgets_data : (library : List Stored) (p : ℕ) (d : Data)
+    → Forgets (problem_of library d) (problem_of library (forgotten p d)) p
 forgets_data library p d = record {
   cells = λ cell k e. e;
   statements = left_or_under p d.statements;
   constraints = All-contains_itself _;
 }
 
-content_forgotten : (p : ℕ) (contents : List (List Entry)) (cell : ℕ) → content_of (map (λ entries. not_on p entries) contents) cell ≡ not_on p (content_of contents cell)
+content_forgotten : (p : ℕ) (contents : List (List Entry)) (cell : ℕ)
+    → content_of (map (λ entries. not_on p entries) contents) cell ≡ not_on p (content_of contents cell)
 content_forgotten p [] cell = refl
 content_forgotten p (entries ∷ contents) zero = refl
 content_forgotten p (entries ∷ contents) (suc cell) = content_forgotten p contents cell
 
 -- who doesn't believe p believes what they did
-pub beliefs_forgotten : (p : ℕ) (s : Premises) (contents : List (List Entry)) (cell : ℕ) → s p ≡ false → beliefs s (map (λ entries. not_on p entries) contents) cell ≡ beliefs s contents cell
+pub beliefs_forgotten : (p : ℕ) (s : Premises) (contents : List (List Entry)) (cell : ℕ) → s p ≡ false
+    → beliefs s (map (λ entries. not_on p entries) contents) cell ≡ beliefs s contents cell
 beliefs_forgotten p s contents cell lacks =
     rw (content_forgotten p contents cell) (belief_of-without Nothing merge_of p s lacks (content_of contents cell))
 
@@ -122,28 +148,35 @@ first_gone p zero contents = contents
 first_gone p (suc n) [] = []
 first_gone p (suc n) (entries ∷ contents) = not_on p entries ∷ first_gone p n contents
 
-pub first_gone-at : (p n : ℕ) (contents : List (List Entry)) (d : List Entry) → get_or (first_gone p n contents) n d ≡ get_or contents n d
+pub first_gone-at : (p n : ℕ) (contents : List (List Entry)) (d : List Entry)
+    → get_or (first_gone p n contents) n d ≡ get_or contents n d
 first_gone-at p zero contents d = refl
 first_gone-at p (suc n) [] d = refl
 first_gone-at p (suc n) (entries ∷ contents) d = first_gone-at p n contents d
 
-pub first_gone-more : (p n : ℕ) (contents : List (List Entry)) (d : List Entry) → n < length contents → slice_set (first_gone p n contents) n (not_on p (get_or contents n d)) ≡ first_gone p (suc n) contents
+pub first_gone-more : (p n : ℕ) (contents : List (List Entry)) (d : List Entry) → n < length contents
+    → slice_set (first_gone p n contents) n (not_on p (get_or contents n d)) ≡ first_gone p (suc n) contents
 first_gone-more p n [] d l = absurd (omega (arith, l))
 first_gone-more p zero (entries ∷ contents) d l = refl
-first_gone-more p (suc n) (entries ∷ contents) d l = ap (λ x. not_on p entries ∷ x) (first_gone-more p n contents d (omega (arith, l)))
+first_gone-more p (suc n) (entries ∷ contents) d l =
+    ap (λ x. not_on p entries ∷ x) (first_gone-more p n contents d (omega (arith, l)))
 
-pub first_gone-all : (p n : ℕ) (contents : List (List Entry)) → length contents ≤ n → first_gone p n contents ≡ map (λ entries. not_on p entries) contents
+pub first_gone-all : (p n : ℕ) (contents : List (List Entry)) → length contents ≤ n
+    → first_gone p n contents ≡ map (λ entries. not_on p entries) contents
 first_gone-all p zero [] l = refl
 first_gone-all p zero (entries ∷ contents) l = absurd (omega (arith, l))
 first_gone-all p (suc n) [] l = refl
-first_gone-all p (suc n) (entries ∷ contents) l = ap (λ x. not_on p entries ∷ x) (first_gone-all p n contents (omega (arith, l)))
+first_gone-all p (suc n) (entries ∷ contents) l =
+    ap (λ x. not_on p entries ∷ x) (first_gone-all p n contents (omega (arith, l)))
 
 -- ---- what the data keeps
 
 -- what is left passed the test, and keeps what it kept
-left_keeps : {X : Type 0} (t : X → Bool) (P Q : X → Type 0) → ((x : X) → P x → t x ≡ true → Q x) → (xs : List X) → All P xs → All Q (filter t xs)
+left_keeps : {X : Type 0} (t : X → Bool) (P Q : X → Type 0) → ((x : X) → P x → t x ≡ true → Q x) → (xs : List X)
+    → All P xs → All Q (filter t xs)
 left_keeps t P Q h xs all k d l =
-    h (get_or (filter t xs) k d) (All-get_or P (filter t xs) k d l (All-filter t P xs all)) (All-get_or (λ x. t x ≡ true) (filter t xs) k d l (filter_passes t xs))
+    h (get_or (filter t xs) k d) (All-get_or P (filter t xs) k d l (All-filter t P xs all))
+    (All-get_or (λ x. t x ≡ true) (filter t xs) k d l (filter_passes t xs))
 
 not_true : (b : Bool) → not b ≡ true → b ≡ false
 not_true true h = cc
@@ -164,24 +197,29 @@ module _ (p : ℕ) where
       by true c h = refl
       by false c h = cc
 
-  still_member : (s : Premises) (q : Option ℕ) → is_under p q ≡ false → IsTrue (is_member s q) → IsTrue (is_member (without s p) q)
+  still_member : (s : Premises) (q : Option ℕ) → is_under p q ≡ false → IsTrue (is_member s q)
+      → IsTrue (is_member (without s p) q)
   still_member s None off h = h
   still_member s (Some q) off h = elim (eqb_tells p q) [ inl e ↦ absurd (other (sym e.1)) | inr e ↦ rw (h, e.0) refl ]
     where
       other : q ≡ p → ⊥
       other e = elim (eqb_tells q p) [ inl f ↦ cc (f.0, off) | inr f ↦ f.1 e ]
 
-  still_stated : (n : ℕ) (contents : List (List Entry)) (x : Statement) → IsStated n contents x → not (is_under p x.premise) ≡ true → IsStated n (map (λ entries. not_on p entries) contents) x
+  still_stated : (n : ℕ) (contents : List (List Entry)) (x : Statement) → IsStated n contents x
+      → not (is_under p x.premise) ≡ true → IsStated n (map (λ entries. not_on p entries) contents) x
   still_stated n contents x h t = record {
     within = h.within;
     below = λ s member.
-        info_laws.transitive x.info (beliefs (without s p) contents x.cell) (beliefs s (map (λ entries. not_on p entries) contents) x.cell)
+        info_laws.transitive x.info (beliefs (without s p) contents x.cell)
+        (beliefs s (map (λ entries. not_on p entries) contents) x.cell)
         (h.below (without s p) (still_member s x.premise (not_true (is_under p x.premise) t) member))
         (rw (← beliefs_forgotten p (without s p) contents x.cell (lacks s))
-        (belief_of-more info_laws (content_of (map (λ entries. not_on p entries) contents) x.cell) (without s p) s (part s)));
+        (belief_of-more info_laws (content_of (map (λ entries. not_on p entries) contents) x.cell) (without s p) s
+        (part s)));
   }
 
-  still_founded : (library : List Stored) (d : Data) (cell : ℕ) (e : Entry) → IsFounded (problem_of library d) cell e → not (set_of e.support p) ≡ true → IsFounded (problem_of library (forgotten p d)) cell e
+  still_founded : (library : List Stored) (d : Data) (cell : ℕ) (e : Entry) → IsFounded (problem_of library d) cell e
+      → not (set_of e.support p) ≡ true → IsFounded (problem_of library (forgotten p d)) cell e
   still_founded library d cell e h t =
       let out = not_true (set_of e.support p) t in
       record {
@@ -193,8 +231,12 @@ module _ (p : ℕ) where
   made_forgotten d h = record {
     contents_length = length-map d.contents (λ entries. not_on p entries) ∙ h.contents_length;
     within = h.within;
-    of_kinds = λ cell. rw (content_forgotten p d.contents cell) (All-filter (λ e. not (set_of e.support p)) (λ e. IsOf (kind_at d.kinds cell).kind (kind_at d.kinds cell).size e.value) (content_of d.contents cell) (h.of_kinds cell));
-    stated = left_keeps (λ x. not (is_under p x.premise)) (IsStated (length d.kinds) d.contents) (IsStated (length d.kinds) (map (λ entries. not_on p entries) d.contents))
+    of_kinds = λ cell. rw (content_forgotten p d.contents cell)
+        (All-filter (λ e. not (set_of e.support p))
+        (λ e. IsOf (kind_at d.kinds cell).kind (kind_at d.kinds cell).size e.value) (content_of d.contents cell)
+        (h.of_kinds cell));
+    stated = left_keeps (λ x. not (is_under p x.premise)) (IsStated (length d.kinds) d.contents)
+        (IsStated (length d.kinds) (map (λ entries. not_on p entries) d.contents))
         (still_stated (length d.kinds) d.contents) d.statements h.stated;
   }
 
@@ -203,19 +245,29 @@ module _ (p : ℕ) where
     made = made_forgotten d h.made;
     fits = h.fits;
     founded = λ cell. rw (content_forgotten p d.contents cell)
-        (left_keeps (λ e. not (set_of e.support p)) (IsFounded (problem_of library d) cell) (IsFounded (problem_of library (forgotten p d)) cell) (still_founded library d cell) (content_of d.contents cell) (h.founded cell));
+        (left_keeps (λ e. not (set_of e.support p)) (IsFounded (problem_of library d) cell)
+        (IsFounded (problem_of library (forgotten p d)) cell) (still_founded library d cell)
+        (content_of d.contents cell) (h.founded cell));
   }
 
-  pub stored_forgotten : (d : Data) (reading writing told : List (List ℕ)) → IsStored d reading writing told → IsStored (forgotten p d) reading writing told
+  pub stored_forgotten : (d : Data) (reading writing told : List (List ℕ)) → IsStored d reading writing told
+      → IsStored (forgotten p d) reading writing told
   stored_forgotten d reading writing told h = record {
     made = made_forgotten d h.made;
     readers = h.readers;
     writers = h.writers;
-    told = record { count = h.told.count; each = All-filter (λ x. not (is_under p x.premise)) (λ x. (q : ℕ) → x.premise ≡ Some q → IsTrue (set_of (slice_index_or told x.cell []) q)) d.statements h.told.each };
+    told = record {
+      count = h.told.count;
+      each = All-filter (λ x. not (is_under p x.premise))
+          (λ x. (q : ℕ) → x.premise ≡ Some q → IsTrue (set_of (slice_index_or told x.cell []) q)) d.statements
+          h.told.each;
+    };
   }
 
 -- all contents, written back in their place
-pub written_back : (p : ℕ) (old new : List (List Entry)) (n : ℕ) → n ≡ length old → new ≡ map (λ entries. not_on p entries) old → take n (new ++ drop (length new) old) ≡ map (λ entries. not_on p entries) old
+pub written_back : (p : ℕ) (old new : List (List Entry)) (n : ℕ) → n ≡ length old
+    → new ≡ map (λ entries. not_on p entries) old
+    → take n (new ++ drop (length new) old) ≡ map (λ entries. not_on p entries) old
 written_back p old new n count is =
     let all : length new ≡ n = ap length is ∙ length-map old (λ entries. not_on p entries) ∙ sym count in
     take-append-le n new (drop (length new) old) (omega (arith, all)) ∙ take_all n new (omega (arith, all)) ∙ is

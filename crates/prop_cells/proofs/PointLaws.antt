@@ -1,5 +1,6 @@
 -- Points that satisfy everything lie in all that is entailed: the points alone are a solution.
-use Rattle.std.proofs.Common.{◌≡◌, ◌≢◌, ℕ, ◌<◌, ◌^◌, Bool, true, false, ◌==◌, ◌||◌, List, [], ◌∷◌, ◌++◌, length, map, zip, refl, subst, arith, rules, All, get_or, inl, inr, ◌⊎◌, eqb-true, eq-eqb, ℤ}
+use Rattle.std.proofs.Common.{◌≡◌, ◌≢◌, ℕ, ◌<◌, ◌^◌, Bool, true, false, ◌==◌, ◌||◌, List, [], ◌∷◌, ◌++◌, length, map}
+use Rattle.std.proofs.Common.{zip, refl, subst, arith, rules, All, get_or, inl, inr, ◌⊎◌, eqb-true, eq-eqb, ℤ}
 use Rattle.std.specs.List.{list_any, list_all}
 use Rattle.std.specs.Int.{bit_at}
 use Rattle.std.proofs.Math.Pow.{pow-lt}
@@ -28,7 +29,8 @@ use Rattle.prop_procedures.specs.Stored.{Stored, is_same, span_kind}
 use Rattle.prop_cells.specs.Problems.{Premises, AreOfKinds, Meets, IsSolution}
 use Rattle.prop_procedures.specs.Fitting.{kind_at}
 use Rattle.prop_cells.specs.Instances.{Instance, IsFitting, IsWithin, constraint_of}
-use Rattle.prop_cells.specs.Points.{AreSoundBy, Attached, AreFitting, problem_of, ArePoints, EntailedHoldsPoints, PointsAreConsistent}
+use Rattle.prop_cells.specs.Points.{AreSoundBy, Attached, AreFitting, problem_of, ArePoints, EntailedHoldsPoints}
+use Rattle.prop_cells.specs.Points.{PointsAreConsistent}
 use Rattle.prop_cells.proofs.Fitted.{and_both, same_kinded, any_at, right_at, is_call_at}
 
 -- ---- the information that holds one point
@@ -51,7 +53,8 @@ element_fits : (bits i : ℕ) → bits < 2 ^ 64 → bit_at bits i ≡ 1 → AreS
 element_fits bits i l h = (pow_pos i, pow-lt (below_top bits l i h))
 
 -- what is below neither a span nor nothing is not below the information of a number
-no_number : (v : Info) (w : ℤ) → (Below v Nothing → ⊥) → ((t : spans.Span) → Below v (Span t) → ⊥) → Below v (single (Number w)) → ⊥
+no_number : (v : Info) (w : ℤ) → (Below v Nothing → ⊥) → ((t : spans.Span) → Below v (Span t) → ⊥)
+    → Below v (single (Number w)) → ⊥
 unfolding single number_if
 no_number v w f g h = by (ends_or_not w w) h
   where
@@ -59,7 +62,8 @@ no_number v w f g h = by (ends_or_not w w) h
     by (inl e) k = g _ k
     by (inr e) k = f k
 
-no_element : (v : Info) (i : ℕ) → (Below v Nothing → ⊥) → ((t : sets.Elements) → Below v (Set t) → ⊥) → Below v (single (Element i)) → ⊥
+no_element : (v : Info) (i : ℕ) → (Below v Nothing → ⊥) → ((t : sets.Elements) → Below v (Set t) → ⊥)
+    → Below v (single (Element i)) → ⊥
 unfolding single element_if
 no_element v i f g h = by (some_or_not (2 ^ i)) h
   where
@@ -150,7 +154,8 @@ not_contradiction v e = λ h. cc
 
 -- ---- the points of an instance
 
-singles_clear : (points : ℕ → Point) (cells : List ℕ) → list_any is_contradiction (map (λ c. single (points c)) cells) ≡ false
+singles_clear : (points : ℕ → Point) (cells : List ℕ)
+    → list_any is_contradiction (map (λ c. single (points c)) cells) ≡ false
 singles_clear points [] = refl
 singles_clear points (c ∷ cs) = neither _ _ (single_clear (points c)) (singles_clear points cs)
   where
@@ -160,7 +165,10 @@ singles_clear points (c ∷ cs) = neither _ _ (single_clear (points c)) (singles
 
 each_holds : (points : ℕ → Point) (cells : List ℕ) → EachHolds (map (λ c. single (points c)) cells) (map points cells)
 each_holds points [] = tt
-each_holds points (c ∷ cs) = (single_holding (single (points c)) (points c) (info_laws.reflexive (single (points c))), each_holds points cs)
+each_holds points (c ∷ cs) = (
+  single_holding (single (points c)) (points c) (info_laws.reflexive (single (points c))),
+  each_holds points cs,
+)
 
 abbrev is_place : (Shape → Kinded) → (Shape × Kinded) → Bool
 is_place any place = is_same place.1 (kind_of any place.0)
@@ -168,33 +176,46 @@ is_place any place = is_same place.1 (kind_of any place.0)
 abbrev IsPointAt : List Kinded → (ℕ → Point) → ℕ → Type 0
 IsPointAt kinds points c = IsPointOf (kind_at kinds c).kind (kind_at kinds c).size (points c)
 
-points_of : (any : Shape → Kinded) (ins : List Shape) (out : Shape) (kinds : List Kinded) (points : ℕ → Point) (inputs : List ℕ) (o : ℕ) → length inputs ≡ length ins → list_all (is_place any) (zip (ins ++ out ∷ []) (map (kind_at kinds) (inputs ++ o ∷ []))) ≡ true → All (IsPointAt kinds points) inputs → IsPointAt kinds points o → ArePointsOf any ins (map points inputs) × IsPointOf (kind_of any out).kind (kind_of any out).size (points o)
+points_of : (any : Shape → Kinded) (ins : List Shape) (out : Shape) (kinds : List Kinded) (points : ℕ → Point)
+    (inputs : List ℕ) (o : ℕ) → length inputs ≡ length ins
+    → list_all (is_place any) (zip (ins ++ out ∷ []) (map (kind_at kinds) (inputs ++ o ∷ []))) ≡ true
+    → All (IsPointAt kinds points) inputs → IsPointAt kinds points o
+    → ArePointsOf any ins (map points inputs) × IsPointOf (kind_of any out).kind (kind_of any out).size (points o)
 points_of any [] out kinds points [] o l e h k =
     let P : Kinded → Type 0 = λ d. IsPointOf d.kind d.size (points o) in
     (tt, subst P (same_kinded _ _ (and_both (is_same (kind_at kinds o) (kind_of any out)) true e).0) k)
 points_of any [] out kinds points (c ∷ cs) o l e h k = absurd (omega (arith, l))
 points_of any (s ∷ ss) out kinds points [] o l e h k = absurd (omega (arith, l))
 points_of any (s ∷ ss) out kinds points (c ∷ cs) o l e h k =
-    let both = and_both (is_same (kind_at kinds c) (kind_of any s)) (list_all (is_place any) (zip (ss ++ out ∷ []) (map (kind_at kinds) (cs ++ o ∷ [])))) e in
+    let both = and_both (is_same (kind_at kinds c) (kind_of any s))
+    (list_all (is_place any) (zip (ss ++ out ∷ []) (map (kind_at kinds) (cs ++ o ∷ [])))) e in
     let here : IsPointAt kinds points c = All-head (IsPointAt kinds points) c cs h in
     let P : Kinded → Type 0 = λ d. IsPointOf d.kind d.size (points c) in
-    let rest = points_of any ss out kinds points cs o (omega (arith, l)) both.1 (All-tail (IsPointAt kinds points) c cs h) k in
+    let rest = points_of any ss out kinds points cs o (omega (arith, l)) both.1
+    (All-tail (IsPointAt kinds points) c cs h) k in
     ((subst P (same_kinded _ _ both.0) here, rest.0), rest.1)
 
-module _ (library : List Stored) (related : ℕ → Param → List Point → Point → Type 0) (sound : AreSoundBy library related) (n : Attached) (s : Premises) (points : ℕ → Point) (fit : AreFitting library n) (p : ArePoints related n s points) where
+module _ (library : List Stored) (related : ℕ → Param → List Point → Point → Type 0)
+    (sound : AreSoundBy library related) (n : Attached) (s : Premises) (points : ℕ → Point) (fit : AreFitting library n)
+    (p : ArePoints related n s points) where
   in_range : (c : ℕ) → c < length n.kinds → IsPointAt n.kinds points c
   in_range c l = p.of_kind c (kind_at n.kinds c) (slice_get-get_or n.kinds c span_kind l)
 
   singles_are_of_kinds : AreOfKinds n.kinds (λ c. single (points c))
   singles_are_of_kinds = record { of_kind = λ c k at. single_of_kind k.kind k.size (points c) (p.of_kind c k at) }
 
-  met : (x : Instance) → IsFitting library n.kinds x → IsWithin (length n.kinds) x → related x.procedure x.param (map points x.inputs) (points x.output) → Meets (λ c. single (points c)) (constraint_of library x)
+  met : (x : Instance) → IsFitting library n.kinds x → IsWithin (length n.kinds) x
+      → related x.procedure x.param (map points x.inputs) (points x.output)
+      → Meets (λ c. single (points c)) (constraint_of library x)
   met x f w r =
       let q = f.procedure in
-      let call = is_call_at q n.kinds x (λ c. single (points c)) f.fits w singles_are_of_kinds (singles_clear points x.inputs) in
+      let call = is_call_at q n.kinds x (λ c. single (points c)) f.fits w singles_are_of_kinds
+      (singles_clear points x.inputs) in
       let inputs = All-weaker (λ c. c < length n.kinds) (IsPointAt n.kinds points) in_range x.inputs w.inputs in
-      let at = points_of (any_at q n.kinds x) q.ins q.out n.kinds points x.inputs x.output f.fits.count (right_at q n.kinds x f.fits) inputs (in_range x.output w.output) in
-      let holds = sound x.procedure q f.at (any_at q n.kinds x) x.param (map (λ c. single (points c)) x.inputs) (map points x.inputs) (points x.output) call at.0 at.1 (each_holds points x.inputs) r in
+      let at = points_of (any_at q n.kinds x) q.ins q.out n.kinds points x.inputs x.output f.fits.count
+      (right_at q n.kinds x f.fits) inputs (in_range x.output w.output) in
+      let holds = sound x.procedure q f.at (any_at q n.kinds x) x.param (map (λ c. single (points c)) x.inputs)
+      (map points x.inputs) (points x.output) call at.0 at.1 (each_holds points x.inputs) r in
       record { below = rw (f.at, singles_clear points x.inputs) (single_above _ _ holds) }
 
   solved : IsSolution (problem_of library n) s (λ c. single (points c))
@@ -205,11 +226,13 @@ module _ (library : List Stored) (related : ℕ → Param → List Point → Poi
         (λ k d l. met (get_or n.instances k d) (fit.fitting k d l) (fit.within k d l) (p.together k d l));
   }
 
-pub entailed_holds : (library : List Stored) (related : ℕ → Param → List Point → Point → Type 0) → AreSoundBy library related → EntailedHoldsPoints library related
+pub entailed_holds : (library : List Stored) (related : ℕ → Param → List Point → Point → Type 0)
+    → AreSoundBy library related → EntailedHoldsPoints library related
 entailed_holds library related sound n s points fit p cell v e =
     single_holding v (points cell) (e.below (λ c. single (points c)) (solved library related sound n s points fit p))
 
-pub points_consistent : (library : List Stored) (related : ℕ → Param → List Point → Point → Type 0) → AreSoundBy library related → PointsAreConsistent library related
+pub points_consistent : (library : List Stored) (related : ℕ → Param → List Point → Point → Type 0)
+    → AreSoundBy library related → PointsAreConsistent library related
 points_consistent library related sound n s points fit p = record {
   solution = λ c. single (points c);
   solves = solved library related sound n s points fit p;

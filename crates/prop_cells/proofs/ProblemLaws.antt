@@ -14,12 +14,18 @@ least_unique problem s a b p q cell =
 
 pub contradictory_extends : ContradictionStays
 contradictory_extends old new s more none some =
-    none (record { solution = some.solution; solves = solution_old old new s some.solution more some.solves; free = some.free })
+    none (record {
+      solution = some.solution;
+      solves = solution_old old new s some.solution more some.solves;
+      free = some.free;
+    })
 
 pub reaches_extends : (old new : Problem) (p : ℕ) (cell : ℕ) → Extends old new → Reaches old p cell → Reaches new p cell
-reaches_extends old new p _ more (stated x is_in e) = stated x (All-contains (Contains new.statements) old.statements x more.statements is_in) e
+reaches_extends old new p _ more (stated x is_in e) =
+    stated x (All-contains (Contains new.statements) old.statements x more.statements is_in) e
 reaches_extends old new p _ more (passed c input is_in reads r) =
-    passed c input (All-contains (Contains new.constraints) old.constraints c more.constraints is_in) reads (reaches_extends old new p input more r)
+    passed c input (All-contains (Contains new.constraints) old.constraints c more.constraints is_in) reads
+    (reaches_extends old new p input more r)
 
 pub related_extends : RelationStays
 related_extends old new cell s more r = λ p h. reaches_extends old new p cell more (r p h)

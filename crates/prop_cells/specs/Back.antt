@@ -5,4 +5,9 @@ use Rattle.prop_cells.specs.Data.{Data}
 -- the cells, the parameters and the instances below these numbers, and every statement
 abbrev pub taken_back : ℕ → ℕ → ℕ → Data → Data
 taken_back cells params instances d =
-    record d { kinds = take cells d.kinds; contents = take cells d.contents; params = take params d.params; instances = take instances d.instances }
+    record d {
+      kinds = take cells d.kinds;
+      contents = take cells d.contents;
+      params = take params d.params;
+      instances = take instances d.instances;
+    }

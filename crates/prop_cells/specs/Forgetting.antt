@@ -1,5 +1,6 @@
 -- What is left where the statements under a premise go.
-use Rattle.std.specs.Prelude.{◌≡◌, ◌⊎◌, ◌==◌, ℕ, Bool, false, not, map, filter, All, Contains, List, Option, Some, None, slice_get}
+use Rattle.std.specs.Prelude.{◌≡◌, ◌⊎◌, ◌==◌, ℕ, Bool, false, not, map, filter, All, Contains, List}
+use Rattle.std.specs.Prelude.{Option, Some, None, slice_get}
 use Rattle.prop_numbers.specs.Sets.{set_of}
 use Rattle.prop_procedures.specs.declared.shape.Kinded.{Kinded}
 use Rattle.prop_cells.specs.declared.instance.Statement.{Statement}
@@ -21,10 +22,14 @@ not_on p entries = filter (λ e. not (set_of e.support p)) entries
 
 -- no statement under p, and no entry that rests on it
 abbrev pub forgotten : ℕ → Data → Data
-forgotten p d = record d { contents = map (λ entries. not_on p entries) d.contents; statements = not_under p d.statements }
+forgotten p d = record d {
+  contents = map (λ entries. not_on p entries) d.contents;
+  statements = not_under p d.statements;
+}
 
 -- the second problem lacks at most statements under p
 pub record Forgets (old new : Problem) (p : ℕ) : Type 0 where
-  pub cells : (cell : ℕ) (k : Kinded) → slice_get old.cells cell ≡ Some k → slice_get new.cells cell ≡ Some k
+  pub cells : (cell : ℕ) (k : Kinded) → slice_get old.cells cell ≡ Some k
+      → slice_get new.cells cell ≡ Some k
   pub statements : All (λ x. (x.premise ≡ Some p) ⊎ Contains new.statements x) old.statements
   pub constraints : All (Contains new.constraints) old.constraints

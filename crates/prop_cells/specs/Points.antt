@@ -13,7 +13,8 @@ use Rattle.prop_cells.specs.declared.instance.Statement.{Statement}
 -- the answers of each procedure hold the points that belong to points of its arguments
 abbrev pub AreSoundBy : List Stored → (ℕ → Param → List Point → Point → Type 0) → Type 0
 AreSoundBy library related =
-    (n : ℕ) (p : Stored) → slice_get library n ≡ Some p → IsSound p.value (related n) p.ins p.out p.need
+    (n : ℕ) (p : Stored) → slice_get library n ≡ Some p
+    → IsSound p.value (related n) p.ins p.out p.need
 
 -- cells, what was stated of them and what is attached to them
 pub record Attached : Type 0 where
@@ -22,25 +23,36 @@ pub record Attached : Type 0 where
   pub instances : List Instance
 
 abbrev pub problem_of : List Stored → Attached → Problem
-problem_of library n = record { cells = n.kinds; statements = n.statements; constraints = map (constraint_of library) n.instances }
+problem_of library n = record {
+  cells = n.kinds;
+  statements = n.statements;
+  constraints = map (constraint_of library) n.instances;
+}
 
 -- each instance is one of the library's procedures, on cells that are there and fit it
 pub record AreFitting (library : List Stored) (n : Attached) : Type 0 where
   pub fitting : All (IsFitting library n.kinds) n.instances
   pub within : All (IsWithin (length n.kinds)) n.instances
 
--- a point for each cell, of its kind, that lies in each statement of the set; the points of each instance belong together
-pub record ArePoints (related : ℕ → Param → List Point → Point → Type 0) (n : Attached) (s : Premises) (points : ℕ → Point) : Type 0 where
-  pub of_kind : (cell : ℕ) (k : Kinded) → slice_get n.kinds cell ≡ Some k → IsPointOf k.kind k.size (points cell)
+-- a point for each cell, of its kind, that lies in each statement of the set; the points of each
+-- instance belong together
+pub record ArePoints (related : ℕ → Param → List Point → Point → Type 0) (n : Attached)
+    (s : Premises) (points : ℕ → Point) : Type 0 where
+  pub of_kind : (cell : ℕ) (k : Kinded) → slice_get n.kinds cell ≡ Some k
+      → IsPointOf k.kind k.size (points cell)
   pub stated : All (λ x. IsTrue (is_member s x.premise) → Holds x.info (points x.cell)) n.statements
-  pub together : All (λ x. related x.procedure x.param (map points x.inputs) (points x.output)) n.instances
+  pub together : All (λ x. related x.procedure x.param (map points x.inputs) (points x.output))
+      n.instances
 
 -- what a set entails holds such points
 abbrev pub EntailedHoldsPoints : List Stored → (ℕ → Param → List Point → Point → Type 0) → Type 0
 EntailedHoldsPoints library related =
-    (n : Attached) (s : Premises) (points : ℕ → Point) → AreFitting library n → ArePoints related n s points → (cell : ℕ) (v : Info) → Entails (problem_of library n) s cell v → Holds v (points cell)
+    (n : Attached) (s : Premises) (points : ℕ → Point) → AreFitting library n
+    → ArePoints related n s points → (cell : ℕ) (v : Info)
+    → Entails (problem_of library n) s cell v → Holds v (points cell)
 
 -- a set that has such points is consistent
 abbrev pub PointsAreConsistent : List Stored → (ℕ → Param → List Point → Point → Type 0) → Type 0
 PointsAreConsistent library related =
-    (n : Attached) (s : Premises) (points : ℕ → Point) → AreFitting library n → ArePoints related n s points → IsConsistent (problem_of library n) s
+    (n : Attached) (s : Premises) (points : ℕ → Point) → AreFitting library n
+    → ArePoints related n s points → IsConsistent (problem_of library n) s

@@ -3,38 +3,47 @@ use Rattle.std.specs.Prelude.{◌≡◌, ℕ}
 use Rattle.prop_lattice.specs.declared.info.Info.{Info}
 use Rattle.prop_lattice.specs.declared.info.Info.TheVariants.{Contradiction}
 use Rattle.prop_numbers.specs.Sets.{IsPart}
-use Rattle.prop_cells.specs.Problems.{Problem, Premises, Assignment, IsLeastSolution, Entails, IsContradictory, Extends}
+use Rattle.prop_cells.specs.Problems.{Problem, Premises, Assignment, IsLeastSolution, Entails}
+use Rattle.prop_cells.specs.Problems.{IsContradictory, Extends}
 use Rattle.prop_cells.specs.Reach.{Reaches, IsRelatedAt}
 
 -- two least solutions are one, cell by cell
 abbrev pub LeastIsUnique : Type 0
 LeastIsUnique =
-    (problem : Problem) (s : Premises) (a b : Assignment) → IsLeastSolution problem s a → IsLeastSolution problem s b → (cell : ℕ) → a cell ≡ b cell
+    (problem : Problem) (s : Premises) (a b : Assignment) → IsLeastSolution problem s a
+    → IsLeastSolution problem s b → (cell : ℕ) → a cell ≡ b cell
 
 -- what fewer premises entail, more entail
 abbrev pub EntailmentGrows : Type 0
-EntailmentGrows = (problem : Problem) (s t : Premises) (cell : ℕ) (v : Info) → IsPart s t → Entails problem s cell v → Entails problem t cell v
+EntailmentGrows = (problem : Problem) (s t : Premises) (cell : ℕ) (v : Info) → IsPart s t
+    → Entails problem s cell v → Entails problem t cell v
 
 -- where fewer premises are contradictory, more are
 abbrev pub ContradictionGrows : Type 0
-ContradictionGrows = (problem : Problem) (s t : Premises) → IsPart s t → IsContradictory problem s → IsContradictory problem t
+ContradictionGrows = (problem : Problem) (s t : Premises) → IsPart s t → IsContradictory problem s
+    → IsContradictory problem t
 
 -- a set that entails a contradiction at some cell is contradictory
 abbrev pub EntailedClashRefutes : Type 0
-EntailedClashRefutes = (problem : Problem) (s : Premises) (cell : ℕ) → Entails problem s cell Contradiction → IsContradictory problem s
+EntailedClashRefutes = (problem : Problem) (s : Premises) (cell : ℕ)
+    → Entails problem s cell Contradiction → IsContradictory problem s
 
 -- what is entailed stays so as cells, statements and instances are added
 abbrev pub EntailmentStays : Type 0
-EntailmentStays = (old new : Problem) (s : Premises) (cell : ℕ) (v : Info) → Extends old new → Entails old s cell v → Entails new s cell v
+EntailmentStays = (old new : Problem) (s : Premises) (cell : ℕ) (v : Info) → Extends old new
+    → Entails old s cell v → Entails new s cell v
 
 -- what is contradictory stays so
 abbrev pub ContradictionStays : Type 0
-ContradictionStays = (old new : Problem) (s : Premises) → Extends old new → IsContradictory old s → IsContradictory new s
+ContradictionStays = (old new : Problem) (s : Premises) → Extends old new → IsContradictory old s
+    → IsContradictory new s
 
 -- what a premise reaches, it still reaches
 abbrev pub ReachStays : Type 0
-ReachStays = (old new : Problem) (p cell : ℕ) → Extends old new → Reaches old p cell → Reaches new p cell
+ReachStays = (old new : Problem) (p cell : ℕ) → Extends old new → Reaches old p cell
+    → Reaches new p cell
 
 -- a set that is related at a cell stays so
 abbrev pub RelationStays : Type 0
-RelationStays = (old new : Problem) (cell : ℕ) (s : Premises) → Extends old new → IsRelatedAt old cell s → IsRelatedAt new cell s
+RelationStays = (old new : Problem) (cell : ℕ) (s : Premises) → Extends old new
+    → IsRelatedAt old cell s → IsRelatedAt new cell s

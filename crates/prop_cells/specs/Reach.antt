@@ -7,15 +7,19 @@ use Rattle.prop_cells.specs.Problems.{Premises, Problem, Constraint, Entails, Is
 
 -- a premise reaches the cells of its statements and, with an instance's input, also its output
 pub data Reaches (problem : Problem) (p : ℕ) : ℕ → Type 0 where
-  stated : (x : Statement) → Contains problem.statements x → x.premise ≡ Some p → Reaches problem p x.cell
-  passed : (c : Constraint) (input : ℕ) → Contains problem.constraints c → Contains c.inputs input → Reaches problem p input → Reaches problem p c.output
+  stated : (x : Statement) → Contains problem.statements x → x.premise ≡ Some p
+      → Reaches problem p x.cell
+  passed : (c : Constraint) (input : ℕ) → Contains problem.constraints c → Contains c.inputs input
+      → Reaches problem p input → Reaches problem p c.output
 
 -- each premise of the set reaches the cell
 abbrev pub IsRelatedAt : Problem → ℕ → Premises → Type 0
 IsRelatedAt problem cell s = (p : ℕ) → IsTrue (s p) → Reaches problem p cell
 
--- the premises are a part of what is believed, entail at least the information at the cell by themselves, and each reaches the cell
-pub record Explains (problem : Problem) (believed : Premises) (cell : ℕ) (v : Info) (s : Premises) : Type 0 where
+-- the premises are a part of what is believed, entail at least the information at the cell by
+-- themselves, and each reaches the cell
+pub record Explains (problem : Problem) (believed : Premises) (cell : ℕ) (v : Info) (s : Premises) :
+    Type 0 where
   pub part : IsPart s believed
   pub entails : Entails problem s cell v
   pub related : IsRelatedAt problem cell s

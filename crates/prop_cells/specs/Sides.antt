@@ -1,13 +1,16 @@
--- The sides of a choice at a cell: statements under premises with numbers in a row, which are made all or none.
+-- The sides of a choice at a cell: statements under premises with numbers in a row, which are made
+-- all or none.
 use Rattle.std.specs.Prelude.{◌≡◌, ◌<◌, ℕ, suc, List, [], ◌∷◌, Some, All}
 use Rattle.prop_lattice.specs.declared.info.Info.{Info}
 use Rattle.prop_cells.specs.declared.instance.Statement.{Statement}
 use Rattle.prop_cells.specs.Data.{Data, States}
 
--- a statement at the cell for each information, the first under this premise and each further one under the next
+-- a statement at the cell for each information, the first under this premise and each further one
+-- under the next
 abbrev pub sides_at : ℕ → ℕ → List Info → List Statement
 sides_at first cell [] = []
-sides_at first cell (info ∷ infos) = record { premise = Some first; cell = cell; info = info } ∷ sides_at (suc first) cell infos
+sides_at first cell (info ∷ infos) =
+    record { premise = Some first; cell = cell; info = info } ∷ sides_at (suc first) cell infos
 
 -- the statements were made, one after the other
 abbrev pub StatesAll : Data → Data → List Statement → Type 0

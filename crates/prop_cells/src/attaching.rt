@@ -1,5 +1,6 @@
 //! What is tested where a statement is made or a procedure attached.
-ghost use Rattle.std.specs.Prelude.{◌≡◌, ◌<◌, ◌≤◌, ◌+◌, ◌++◌, ◌∷◌, [], nat_le, ℕ, List, length, map, zip, All, IfOk, Some, false, is_none, slice_index_or};
+ghost use Rattle.std.specs.Prelude.{◌≡◌, ◌<◌, ◌≤◌, ◌+◌, ◌++◌, ◌∷◌, [], nat_le, ℕ, List, length};
+ghost use Rattle.std.specs.Prelude.{map, zip, All, IfOk, Some, false, is_none, slice_index_or};
 ghost use Rattle.std.specs.List.{list_any};
 ghost use Rattle.prop_procedures.specs.Stored.{span_kind, sides_of};
 ghost use Rattle.prop_procedures.specs.Kept.{stored_as};
@@ -15,7 +16,8 @@ use prop_sets::Side;
 use smallvec::SmallVec;
 use std::alloc::{AllocError, Global};
 
-/// Whether an information may be stated at a cell of a kind: it is of the kind, and no contradiction.
+/// Whether an information may be stated at a cell of a kind: it is of the kind, and no
+/// contradiction.
 pub(crate) fn may_be_stated(kind: Kinded, info: Info) -> bool
     ensures { result ≡ may_be_stated kind.kind kind.size info }
 {
@@ -47,7 +49,8 @@ fn is_unfit(need: Need, given: &Param) -> bool
     }
 }
 
-/// Whether there is no parameter that an instance has where one is given by its number or none is. It takes no memory.
+/// Whether there is no parameter that an instance has where one is given by its number or none is.
+/// It takes no memory.
 pub(crate) fn lacks_param(need: Need, params: &[Param], given: Option<usize>) -> bool
     ensures { result ≡ is_none (param_in need params.now given) }
 {
@@ -58,8 +61,8 @@ pub(crate) fn lacks_param(need: Need, params: &[Param], given: Option<usize>) ->
     }
 }
 
-/// The parameter that an instance has where one is given by its number or none is. It takes no memory; of a relation there can be too
-/// many owners to count.
+/// The parameter that an instance has where one is given by its number or none is. It takes no
+/// memory; of a relation there can be too many owners to count.
 pub(crate) fn param_in(
     alloc: Global,
     need: Need,
@@ -108,7 +111,8 @@ fn places(
     requires few { length ins.now ≤ 8 }
     requires count { length ins.now ≡ length shapes.now }
     requires cells { All (λ c. c < length held.now.kinds) (ins.now ++ out ∷ []) }
-    ensures { result.items ≡ zip (shapes.now ++ shape ∷ []) (map (kind_at held.now.kinds) (ins.now ++ out ∷ [])) }
+    ensures { result.items ≡ zip (shapes.now ++ shape ∷ [])
+        (map (kind_at held.now.kinds) (ins.now ++ out ∷ [])) }
 {
     let mut places = SmallVec::new(alloc);
     for i in 0..ins.len() + 1 {
@@ -117,8 +121,8 @@ fn places(
     places
 }
 
-/// Whether the kinds of as many cells as the procedure has places fit them, with the parameter of a number or without one. It takes
-/// no memory.
+/// Whether the kinds of as many cells as the procedure has places fit them, with the parameter of a
+/// number or without one. It takes no memory.
 pub(crate) fn kinds_fit<R: Rule + Drop>(
     alloc: Global,
     p: &Procedure<R>,
@@ -129,7 +133,8 @@ pub(crate) fn kinds_fit<R: Rule + Drop>(
 ) -> bool
     requires count { length ins.now ≡ length p.now.ins.items }
     requires cells { All (λ c. c < length held.now.kinds) (ins.now ++ out ∷ []) }
-    ensures { result ≡ kinds_fit (stored_as R.value_of p.now) held.now.kinds (sides_given held.now.params param) (ins.now ++ out ∷ []) }
+    ensures { result ≡ kinds_fit (stored_as R.value_of p.now) held.now.kinds
+        (sides_given held.now.params param) (ins.now ++ out ∷ []) }
 {
     let given = sides_given(held.params(), param);
     let places = places(alloc, p.ins(), p.out(), held, ins, out);

@@ -1,10 +1,13 @@
 //! The entries of cells, in one worldview.
-ghost use Rattle.std.specs.Prelude.{◌≡◌, ◌≢◌, ◌<◌, ◌≤◌, ◌⊎◌, ℕ, List, [], length, filter, not, map, All, Contains, IsTrue, IsOk, IfOk, IfSome, OnOk, OnErr, None, false};
+ghost use Rattle.std.specs.Prelude.{◌≡◌, ◌≢◌, ◌<◌, ◌≤◌, ◌⊎◌, ℕ, List, [], length, filter, not, map};
+ghost use Rattle.std.specs.Prelude.{All, Contains, IsTrue, IsOk, IfOk, IfSome, OnOk, OnErr, None};
+ghost use Rattle.std.specs.Prelude.{false};
 ghost use Rattle.std.specs.List.{list_any};
 ghost use Rattle.prop_lattice.specs.Order.{merge_of, is_contradiction};
 ghost use Rattle.prop_tms.specs.Beliefs.{AreNeeded};
 ghost use Rattle.prop_numbers.specs.Sets.{set_of, union, is_within, is_at_most_one_of, IsSame};
-ghost use Rattle.prop_cells.specs.Data.{beliefs, support_of, IsSupport, IsLeanAt, AddsAt, TrimsAt, Entry, content_of, derived_of, most_derived};
+ghost use Rattle.prop_cells.specs.Data.{beliefs, support_of, IsSupport, IsLeanAt, AddsAt, TrimsAt};
+ghost use Rattle.prop_cells.specs.Data.{Entry, content_of, derived_of, most_derived};
 ghost use Rattle.prop_cells.specs.inner.Sides.{StandsAt, entries_below};
 
 use prop_lattice::{Info, Partial};
@@ -29,8 +32,12 @@ pub(crate) fn is_shifted(
     after: &Worldview,
 ) -> bool
     requires { cell < length contents.now }
-    ensures shifted { IsTrue result → beliefs (set_of before.now) contents.now cell ≢ beliefs (set_of after.now) contents.now cell }
-    ensures stays { result ≡ false → beliefs (set_of before.now) contents.now cell ≡ beliefs (set_of after.now) contents.now cell }
+    ensures shifted { IsTrue result
+        → beliefs (set_of before.now) contents.now cell ≢ beliefs (set_of after.now) contents.now
+        cell }
+    ensures stays { result ≡ false
+        → beliefs (set_of before.now) contents.now cell ≡ beliefs (set_of after.now) contents.now
+        cell }
 {
     contents[cell].shifted(before, after)
 }
@@ -42,7 +49,8 @@ pub(crate) fn strongest_of(
     worldview: &Worldview,
 ) -> Result<Supported<Info>, AllocError>
     requires { cell < length contents.now }
-    ensures nothing { beliefs (set_of worldview.now) contents.now cell ≡ Info.Nothing → IsOk result }
+    ensures nothing { beliefs (set_of worldview.now) contents.now cell ≡ Info.Nothing
+        → IsOk result }
     ensures value { IfOk result (λ e. e.value ≡ beliefs (set_of worldview.now) contents.now cell) }
     ensures lean { IfOk result (λ e. IsLeanAt (set_of worldview.now) contents.now cell e.support) }
 {
@@ -51,8 +59,11 @@ pub(crate) fn strongest_of(
 
 /// The first cell that is believed to hold a contradiction.
 pub(crate) fn first_clash(contents: &[Tms<Info>], worldview: &Worldview) -> Option<usize>
-    ensures found { IfSome result (λ cell. (cell < length contents.now) × (beliefs (set_of worldview.now) contents.now cell ≡ Info.Contradiction)) }
-    ensures none { result ≡ None → (cell : ℕ) → beliefs (set_of worldview.now) contents.now cell ≢ Info.Contradiction }
+    ensures found { IfSome result
+        (λ cell. (cell < length contents.now)
+        × (beliefs (set_of worldview.now) contents.now cell ≡ Info.Contradiction)) }
+    ensures none { result ≡ None → (cell : ℕ)
+        → beliefs (set_of worldview.now) contents.now cell ≢ Info.Contradiction }
 {
     for cell in 0..contents.len() {
         if belief_of(contents, cell, worldview).is_contradiction() {
@@ -81,7 +92,8 @@ pub(crate) fn gather(
     worldview: &Worldview,
 ) -> Result<SmallVec<Info, 4>, AllocError>
     requires { All (λ c. c < length contents.now) cells.now }
-    ensures { IfOk result (λ v. v.items ≡ map (beliefs (set_of worldview.now) contents.now) cells.now) }
+    ensures { IfOk result (λ v. v.items ≡ map (beliefs (set_of worldview.now) contents.now)
+        cells.now) }
 {
     let mut args = SmallVec::new(alloc);
     for c in cells {
@@ -90,7 +102,8 @@ pub(crate) fn gather(
     Ok(args)
 }
 
-/// Adds the premises of a lean support for a cell. Where just one entry of the cell is believed, its support is not copied.
+/// Adds the premises of a lean support for a cell. Where just one entry of the cell is believed,
+/// its support is not copied.
 #[inline]
 fn unite_support(
     support: &mut PremiseSet,
@@ -99,7 +112,8 @@ fn unite_support(
     worldview: &Worldview,
 ) -> Result<(), AllocError>
     requires { cell < length contents.now }
-    ensures { OnOk result ((part : List ℕ) × IsLeanAt (set_of worldview.now) contents.now cell part × IsSame (set_of support.new) (union (set_of support.old) (set_of part))) }
+    ensures { OnOk result ((part : List ℕ) × IsLeanAt (set_of worldview.now) contents.now cell part
+        × IsSame (set_of support.new) (union (set_of support.old) (set_of part))) }
 {
     if let Some(sole) = contents[cell].sole_support(worldview) {
         return support.unite(sole);
@@ -143,8 +157,10 @@ pub(crate) fn add_to(
     support: PremiseSet,
 ) -> Result<(), AllocError>
     requires { cell < length contents.old.items }
-    ensures ok { OnOk result (AddsAt contents.old.items contents.new.items cell (record { value = value; support = support })) }
-    ensures stands { OnOk result (StandsAt contents.old.items contents.new.items cell (record { value = value; support = support })) }
+    ensures ok { OnOk result (AddsAt contents.old.items contents.new.items cell
+        (record { value = value; support = support })) }
+    ensures stands { OnOk result (StandsAt contents.old.items contents.new.items cell
+        (record { value = value; support = support })) }
     ensures same_length { length contents.new.items ≡ length contents.old.items }
     ensures err { OnErr result (contents.new.items ≡ contents.old.items) }
 {
@@ -155,17 +171,20 @@ pub(crate) fn add_to(
 /// How many derived entries a cell may keep that the present worldview does without.
 const MOST_DERIVED: usize = 8;
 
-/// Whether more entries than a cell may keep rest on something else than one of the premises that were told of it.
+/// Whether more entries than a cell may keep rest on something else than one of the premises that
+/// were told of it.
 #[inline]
 fn has_many_derived(content: &Tms<Info>, told: &PremiseSet) -> bool
-    ensures few { result ≡ false → length (derived_of (set_of told.now) content.now) ≤ most_derived }
-    ensures many { IsTrue result → most_derived < length (derived_of (set_of told.now) content.now) }
+    ensures few { result ≡ false → length
+        (derived_of (set_of told.now) content.now) ≤ most_derived }
+    ensures many { IsTrue result → most_derived < length
+        (derived_of (set_of told.now) content.now) }
 {
     content.len() > MOST_DERIVED && content.derived(told) > MOST_DERIVED
 }
 
-/// Drops entries of a cell that the worldview does without, where there are too many that rest on something else than one of the
-/// premises that were told of it. It takes no memory.
+/// Drops entries of a cell that the worldview does without, where there are too many that rest on
+/// something else than one of the premises that were told of it. It takes no memory.
 pub(crate) fn trim_at(
     contents: &mut Vec<Tms<Info>>,
     cell: usize,
@@ -179,8 +198,11 @@ pub(crate) fn trim_at(
         contents.old.items
         contents.new.items
         cell }
-    ensures kept { (e : Entry) → Contains (content_of contents.old.items cell) e → IsTrue (is_at_most_one_of (set_of told.now) e.support) → Contains (content_of contents.new.items cell) e }
-    ensures bounded { (length (derived_of (set_of told.now) (content_of contents.new.items cell)) ≤ most_derived)
+    ensures kept { (e : Entry) → Contains (content_of contents.old.items cell) e
+        → IsTrue (is_at_most_one_of (set_of told.now) e.support)
+        → Contains (content_of contents.new.items cell) e }
+    ensures bounded { (length (derived_of (set_of told.now) (content_of contents.new.items cell))
+        ≤ most_derived)
         ⊎ AreNeeded
         Info.Nothing
         merge_of

@@ -1,5 +1,6 @@
 //! Which instances each cell has: a row of numbers for each cell.
-ghost use Rattle.std.specs.Prelude.{◌≡◌, ℕ, ◌<◌, ◌==◌, cond, List, [], ◌∷◌, ◌++◌, length, map, take, All, OnOk, slice_index};
+ghost use Rattle.std.specs.Prelude.{◌≡◌, ℕ, ◌<◌, ◌==◌, cond, List, [], ◌∷◌, ◌++◌, length, map};
+ghost use Rattle.std.specs.Prelude.{take, All, OnOk, slice_index};
 ghost use Rattle.std.specs.List.{list_any};
 ghost use Rattle.prop_cells.specs.inner.Rooms.{row_items, HasRoom, Noted, TakenBack};
 

@@ -12,9 +12,11 @@ use Rattle.prop_compound.proofs.Latest.{latest_at}
 use Rattle.prop_compound.proofs.Walking.{kept_at, kept_here, bare_at, params_at}
 
 module _ (definitions : List Definition) where
-  -- the n-th has as many parameters as uses of it name cells, and its steps name places that are there and use earlier ones
+  -- the n-th has as many parameters as uses of it name cells, and its steps name places that are there and use earlier
+  -- ones
   pub record IsWellMade (latest : List Definition) (n : ℕ) (d : Definition) : Type 0 where
-    pub params : option_map_or (λ (d : Definition). d.params) (slice_get definitions n) 0 ≡ (latest_at latest n d).params
+    pub params : option_map_or (λ (d : Definition). d.params) (slice_get definitions n)
+        0 ≡ (latest_at latest n d).params
     pub scope : AreInScope (latest_at latest n d).params (latest_at latest n d).steps
     pub below : All (IsUseBelow definitions n) (latest_at latest n d).steps
 

@@ -1,4 +1,5 @@
--- What a use is refused for at once, before any memory is taken, so that want of memory never stands in its place.
+-- What a use is refused for at once, before any memory is taken, so that want of memory never
+-- stands in its place.
 use Rattle.std.specs.Prelude.{ℕ, ◌-◌, List, [], ◌∷◌, Option, length, is_none}
 use Rattle.prop_refusals.specs.declared.refusal.Refusal.{Refusal}
 use Rattle.prop_refusals.specs.declared.refusal.Refusal.TheVariants.{NoSuchProcedure, WrongCount}
@@ -11,8 +12,10 @@ use Rattle.prop_compound.specs.Definitions.{Definitions, used_named, is_miscount
 use Rattle.prop_compound.specs.Expansion.{expanded}
 use Rattle.prop_compound.specs.Expanding.{size_refusal}
 
--- the name stands for nothing, or for something that wants another number of cells or is over its size
-abbrev pub refused_at_once : List Stored → Vocabulary → Definitions → List ℕ → List Kinded → Option Param → Option Refusal
+-- the name stands for nothing, or for something that wants another number of cells or is over its
+-- size
+abbrev pub refused_at_once : List Stored → Vocabulary → Definitions → List ℕ → List Kinded
+    → Option Param → Option Refusal
 refused_at_once library words definitions name kinds given =
     let e = expanded library words definitions name kinds given in
     first_of (

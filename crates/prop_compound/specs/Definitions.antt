@@ -1,5 +1,6 @@
 -- Definitions of compounds, their words resolved to numbers.
-use Rattle.std.specs.Prelude.{ℕ, ◌+◌, List, [], Bool, true, false, not, ◌==◌, Option, length, slice_get}
+use Rattle.std.specs.Prelude.{ℕ, ◌+◌, List, [], Bool, true, false, not, ◌==◌, Option, length}
+use Rattle.std.specs.Prelude.{slice_get}
 use Rattle.std.specs.List.{list_any}
 use Rattle.std.specs.Option.{option_map, option_map_or, option_or}
 use Rattle.prop_procedures.specs.Stored.{Stored, procedure_number}
@@ -35,14 +36,18 @@ is_taking d = list_any is_passing_on d.steps
 -- what the name stands for in a use: a procedure or a definition
 abbrev pub used_named : List Stored → Definitions → List ℕ → Option Used
 used_named library definitions name =
-    option_or (option_map uses.Procedure (procedure_number library name)) (option_map uses.Definition (number_in definitions.names name))
+    option_or (option_map uses.Procedure (procedure_number library name))
+    (option_map uses.Definition (number_in definitions.names name))
 
 -- how many cells a use names
 abbrev pub cells_wanted : List Stored → Definitions → Used → ℕ
-cells_wanted library definitions (uses.Procedure n) = option_map_or (λ p. length p.ins + 1) (slice_get library n) 0
-cells_wanted library definitions (uses.Definition n) = option_map_or (λ d. d.params) (slice_get definitions.definitions n) 0
+cells_wanted library definitions (uses.Procedure n) =
+    option_map_or (λ p. length p.ins + 1) (slice_get library n) 0
+cells_wanted library definitions (uses.Definition n) =
+    option_map_or (λ d. d.params) (slice_get definitions.definitions n) 0
 
 -- the name stands for something that wants another number of cells
 abbrev pub is_miscounted : List Stored → Definitions → List ℕ → ℕ → Bool
 is_miscounted library definitions name count =
-    option_map_or (λ used. not (count == cells_wanted library definitions used)) (used_named library definitions name) false
+    option_map_or (λ used. not (count == cells_wanted library definitions used))
+    (used_named library definitions name) false

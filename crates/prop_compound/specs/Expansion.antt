@@ -1,5 +1,7 @@
 -- The instances and fresh cells that a use of a procedure or of a definition stands for.
-use Rattle.std.specs.Prelude.{ℕ, List, [], ◌∷◌, ◌++◌, Bool, true, false, cond, not, ◌||◌, ◌&&◌, ◌==◌, Option, Some, None, length, map, reverse, is_some, slice_get, slice_index_or}
+use Rattle.std.specs.Prelude.{ℕ, List, [], ◌∷◌, ◌++◌, Bool, true, false, cond, not, ◌||◌, ◌&&◌}
+use Rattle.std.specs.Prelude.{◌==◌, Option, Some, None, length, map, reverse, is_some, slice_get}
+use Rattle.std.specs.Prelude.{slice_index_or}
 use Rattle.std.specs.List.{list_any, range_with_len}
 use Rattle.std.specs.Option.{option_map, option_map_or}
 use Rattle.prop_procedures.specs.declared.shape.Kinded.{Kinded}
@@ -22,8 +24,8 @@ pub record Placed (G : Type 0) : Type 0 where
   pub given : G
   pub cells : List ℕ
 
--- The kinds of the given cells and, after them, of the fresh ones; the instances, in order; and whether a definition was given
--- a parameter that it doesn't take.
+-- The kinds of the given cells and, after them, of the fresh ones; the instances, in order; and
+-- whether a definition was given a parameter that it doesn't take.
 pub record Expansion (G : Type 0) : Type 0 where
   pub kinds : List Kinded
   pub placed : List (Placed G)
@@ -56,34 +58,45 @@ with_placed e p = record e { placed = e.placed ++ p ∷ [] }
 abbrev pub param_passed : Vocabulary → Option Param → Passing → Option Param
 param_passed words given passings.Nothing = None
 param_passed words given (passings.Scale k) = Some (params.Scale k)
-param_passed words given (passings.Relation n) = option_map params.Rows (slice_get words.relations n)
+param_passed words given (passings.Relation n) =
+    option_map params.Rows (slice_get words.relations n)
 param_passed words given passings.Own = given
 
 -- what a use adds: one instance for a procedure, and for a definition what `definition` says
-abbrev pub use_expanded : {G : Type 0} → (ℕ → List ℕ → G → Expansion G → Expansion G) → Used → List ℕ → G → Expansion G → Expansion G
-use_expanded definition (uses.Procedure n) cells given e = with_placed e (record { procedure = n; given = given; cells = cells })
+abbrev pub use_expanded : {G : Type 0} → (ℕ → List ℕ → G → Expansion G → Expansion G) → Used
+    → List ℕ → G → Expansion G → Expansion G
+use_expanded definition (uses.Procedure n) cells given e =
+    with_placed e (record { procedure = n; given = given; cells = cells })
 use_expanded definition (uses.Definition n) cells given e = definition n cells given e
 
--- What steps add, in order: a local is a fresh cell, of its kind or of that of the cell that it is like, and has the next place. What a
--- use passes in a definition that is itself given something is as `pass` says.
-abbrev pub steps_expanded : {G : Type 0} → (G → Passing → G) → (ℕ → List ℕ → G → Expansion G → Expansion G) → G → List ℕ → List NumberedStep → Expansion G → Expansion G
+-- What steps add, in order: a local is a fresh cell, of its kind or of that of the cell that it is
+-- like, and has the next place. What a use passes in a definition that is itself given something is
+-- as `pass` says.
+abbrev pub steps_expanded : {G : Type 0} → (G → Passing → G)
+    → (ℕ → List ℕ → G → Expansion G → Expansion G) → G → List ℕ → List NumberedStep → Expansion G
+    → Expansion G
 steps_expanded pass definition given cells [] e = e
 steps_expanded pass definition given cells (Local kind ∷ steps) e =
     steps_expanded pass definition given (cells ++ length e.kinds ∷ []) steps (with_fresh e kind)
 steps_expanded pass definition given cells (Like place ∷ steps) e =
-    steps_expanded pass definition given (cells ++ length e.kinds ∷ []) steps (with_fresh e (kind_at e.kinds (cell_at cells place)))
+    steps_expanded pass definition given (cells ++ length e.kinds ∷ []) steps
+    (with_fresh e (kind_at e.kinds (cell_at cells place)))
 steps_expanded pass definition given cells (Use used places passing ∷ steps) e =
-    steps_expanded pass definition given cells steps (use_expanded definition used (cells_at cells places) (pass given passing) e)
+    steps_expanded pass definition given cells steps
+    (use_expanded definition used (cells_at cells places) (pass given passing) e)
 
--- What a use of the definition with the number adds, the definitions being listed from the latest on: what its steps add, which use
--- earlier definitions alone.
-abbrev pub definition_expanded : {G : Type 0} → (G → Passing → G) → List Definition → ℕ → List ℕ → G → Expansion G → Expansion G
+-- What a use of the definition with the number adds, the definitions being listed from the latest
+-- on: what its steps add, which use earlier definitions alone.
+abbrev pub definition_expanded : {G : Type 0} → (G → Passing → G) → List Definition → ℕ → List ℕ → G
+    → Expansion G → Expansion G
 definition_expanded pass [] n cells given e = e
 definition_expanded pass (d ∷ earlier) n cells given e =
-    cond (n == length earlier) (steps_expanded pass (definition_expanded pass earlier) given cells d.steps e) (definition_expanded pass earlier n cells given e)
+    cond (n == length earlier) (steps_expanded pass (definition_expanded pass earlier) given cells
+    d.steps e) (definition_expanded pass earlier n cells given e)
 
 -- what a use adds among these definitions
-abbrev pub expanded_in : {G : Type 0} → (G → Passing → G) → List Definition → Used → List ℕ → G → Expansion G → Expansion G
+abbrev pub expanded_in : {G : Type 0} → (G → Passing → G) → List Definition → Used → List ℕ → G
+    → Expansion G → Expansion G
 expanded_in pass definitions used cells given e =
     use_expanded (definition_expanded pass (reverse definitions)) used cells given e
 
@@ -95,21 +108,24 @@ passes_something given passings.Own = given
 passes_something given passings.Nothing = false
 passes_something given passing = true
 
--- the use gives some definition a parameter that it does not take, where a use of a definition does so as `spare` says
+-- the use gives some definition a parameter that it does not take, where a use of a definition does
+-- so as `spare` says
 abbrev pub spare_used : (ℕ → Bool → Bool) → Used → Bool → Bool
 spare_used spare (uses.Procedure n) given = false
 spare_used spare (uses.Definition n) given = spare n given
 
 -- the step does, in a definition that is itself given something, or is not
 abbrev pub spare_of : (ℕ → Bool → Bool) → Bool → NumberedStep → Bool
-spare_of spare given (Use used places passing) = spare_used spare used (passes_something given passing)
+spare_of spare given (Use used places passing) =
+    spare_used spare used (passes_something given passing)
 spare_of spare given step = false
 
 -- a use of the definition with the number does, the definitions being listed from the latest on
 abbrev pub spare_in : List Definition → ℕ → Bool → Bool
 spare_in [] n given = false
 spare_in (d ∷ earlier) n given =
-    cond (n == length earlier) ((given && not (is_taking d)) || list_any (spare_of (spare_in earlier) given) d.steps) (spare_in earlier n given)
+    cond (n == length earlier) ((given && not (is_taking d)) || list_any
+    (spare_of (spare_in earlier) given) d.steps) (spare_in earlier n given)
 
 -- the same, listed in order
 abbrev pub is_spare : List Definition → ℕ → Bool → Bool
@@ -119,14 +135,18 @@ is_spare definitions n given = spare_in (reverse definitions) n given
 
 -- before a use that is given this is expanded, on cells of these kinds
 abbrev pub before : List Definition → Used → List Kinded → Option Param → Walk
-before definitions used kinds given = start kinds (spare_used (is_spare definitions) used (is_some given))
+before definitions used kinds given =
+    start kinds (spare_used (is_spare definitions) used (is_some given))
 
 -- what a use stands for, on cells of these kinds, which have the numbers from 0 on
 abbrev pub stands_for : Vocabulary → List Definition → Used → List Kinded → Option Param → Walk
 stands_for words definitions used kinds given =
-    expanded_in (param_passed words) definitions used (range_with_len 0 (length kinds)) given (before definitions used kinds given)
+    expanded_in (param_passed words) definitions used (range_with_len 0 (length kinds)) given
+    (before definitions used kinds given)
 
 -- what a use of the name stands for, nothing where it is nobody's
-abbrev pub expanded : List Stored → Vocabulary → Definitions → List ℕ → List Kinded → Option Param → Walk
+abbrev pub expanded : List Stored → Vocabulary → Definitions → List ℕ → List Kinded → Option Param
+    → Walk
 expanded library words definitions name kinds given =
-    option_map_or (λ used. stands_for words definitions.definitions used kinds given) (used_named library definitions name) (start kinds false)
+    option_map_or (λ used. stands_for words definitions.definitions used kinds given)
+    (used_named library definitions name) (start kinds false)

@@ -1,5 +1,7 @@
--- What is handed out for a use: its fresh cells and instances, in one list each; and what is at hand of it while it is made.
-use Rattle.std.specs.Prelude.{◌≡◌, ◌<◌, ℕ, ◌+◌, List, ◌++◌, All, Option, Some, false, length, map, slice_get}
+-- What is handed out for a use: its fresh cells and instances, in one list each; and what is at
+-- hand of it while it is made.
+use Rattle.std.specs.Prelude.{◌≡◌, ◌<◌, ℕ, ◌+◌, List, ◌++◌, All, Option, Some, false, length, map}
+use Rattle.std.specs.Prelude.{slice_get}
 use Rattle.prop_procedures.specs.declared.shape.Kinded.{Kinded}
 use Rattle.prop_procedures.specs.declared.shape.Param.{Param}
 use Rattle.prop_procedures.specs.Stored.{Stored}
@@ -10,7 +12,11 @@ use Rattle.prop_compound.specs.Expansion.{Placed, Expansion}
 
 -- the instance, with its parameter looked up among these
 abbrev pub placed_of : List Param → instances.Placed → Placed (Option Param)
-placed_of params x = record { procedure = x.procedure; given = param_at params x.param; cells = cells_of x }
+placed_of params x = record {
+  procedure = x.procedure;
+  given = param_at params x.param;
+  cells = cells_of x;
+}
 
 -- the expansion that it is, on cells of these kinds
 abbrev pub expansion_of_flat : List Kinded → Flat → Expansion (Option Param)
@@ -20,7 +26,8 @@ expansion_of_flat kinds flat = record {
   spare = false;
 }
 
--- the instance is one of a procedure of the library, with the count of inputs that it has, on cells below n
+-- the instance is one of a procedure of the library, with the count of inputs that it has, on cells
+-- below n
 pub record IsInstanceOver (library : List Stored) (n : ℕ) (x : instances.Placed) : Type 0 where
   pub procedure : Stored
   pub at : slice_get library x.procedure ≡ Some procedure
@@ -29,4 +36,5 @@ pub record IsInstanceOver (library : List Stored) (n : ℕ) (x : instances.Place
 
 -- each instance is, where so many cells are given
 abbrev pub IsFlatOver : List Stored → ℕ → Flat → Type 0
-IsFlatOver library count flat = All (IsInstanceOver library (count + length flat.fresh.items)) flat.instances.items
+IsFlatOver library count flat =
+    All (IsInstanceOver library (count + length flat.fresh.items)) flat.instances.items

@@ -14,21 +14,25 @@ use Rattle.prop_compound.specs.Expansion.{Placed, Expansion, Walk, start, param_
 use Rattle.prop_compound.specs.Shortcuts.{passed}
 use Rattle.prop_compound.specs.Kept.{IsUseThere}
 
--- The flat list of a procedure or a definition over its own parameters, which are of these kinds: they are the first cells, the fresh
--- ones are numbered on behind them, and what a use is given stands as steps say it, as what the definition itself is given.
+-- The flat list of a procedure or a definition over its own parameters, which are of these kinds:
+-- they are the first cells, the fresh ones are numbered on behind them, and what a use is given
+-- stands as steps say it, as what the definition itself is given.
 abbrev pub flat_list : List Definition → Used → List Kinded → Expansion Passing
 flat_list definitions used kinds =
     expanded_in passed definitions used (range_with_len 0 (length kinds)) Own (start kinds false)
 
--- an instance of a flat list on these cells, where fresh ones are numbered from next on, in a use that is given this
-abbrev pub placed_at : Vocabulary → Option Param → List ℕ → ℕ → Placed Passing → Placed (Option Param)
+-- an instance of a flat list on these cells, where fresh ones are numbered from next on, in a use
+-- that is given this
+abbrev pub placed_at : Vocabulary → Option Param → List ℕ → ℕ → Placed Passing
+    → Placed (Option Param)
 placed_at words given cells next x = record {
   procedure = x.procedure;
   given = param_passed words given x.given;
   cells = map (cell_placed cells next) x.cells;
 }
 
--- behind what was expanded so far, the flat list put in place on these cells: its fresh cells are the next ones
+-- behind what was expanded so far, the flat list put in place on these cells: its fresh cells are
+-- the next ones
 abbrev pub put_in_place : Vocabulary → Option Param → List ℕ → Expansion Passing → Walk → Walk
 put_in_place words given cells flat e = record {
   kinds = e.kinds ++ drop (length cells) flat.kinds;
@@ -39,5 +43,7 @@ put_in_place words given cells flat e = record {
 -- whatever was expanded so far, a use on cells that are there adds just its flat list put in place
 abbrev pub UsesArePutInPlace : List Definition → Type 0
 UsesArePutInPlace definitions =
-    (words : Vocabulary) (used : Used) (cells : List ℕ) (given : Option Param) (e : Walk) → IsUseThere definitions used (length cells) → All (λ cell. cell < length e.kinds) cells →
-    expanded_in (param_passed words) definitions used cells given e ≡ put_in_place words given cells (flat_list definitions used (map (kind_at e.kinds) cells)) e
+    (words : Vocabulary) (used : Used) (cells : List ℕ) (given : Option Param) (e : Walk)
+    → IsUseThere definitions used (length cells) → All (λ cell. cell < length e.kinds) cells →
+    expanded_in (param_passed words) definitions used cells given e ≡ put_in_place words given cells
+    (flat_list definitions used (map (kind_at e.kinds) cells)) e

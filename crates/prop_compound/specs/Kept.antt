@@ -18,7 +18,8 @@ all_bare definitions = map bare definitions
 
 -- ---- what is kept
 
--- the use is of a procedure on one cell at least, or of a definition that there is on as many cells as it wants
+-- the use is of a procedure on one cell at least, or of a definition that there is on as many cells
+-- as it wants
 abbrev pub IsUseThere : List Definition → Used → ℕ → Type 0
 IsUseThere definitions (uses.Procedure n) count = 0 < count
 IsUseThere definitions (uses.Definition n) count =
@@ -28,9 +29,11 @@ IsUseThere definitions (uses.Definition n) count =
 
 -- the step uses no procedure, or one of the library on as many cells as it wants
 abbrev pub IsUseOver : List Stored → NumberedStep → Type 0
-IsUseOver library (Use (uses.Procedure n) cells passing) = (n < length library) × (option_map_or (λ p. length p.ins + 1) (slice_get library n) 0 ≡ length cells)
+IsUseOver library (Use (uses.Procedure n) cells passing) = (n < length library)
+    × (option_map_or (λ p. length p.ins + 1) (slice_get library n) 0 ≡ length cells)
 IsUseOver library step = ⊤
 
--- the definitions were made over the library: they use its procedures, each on as many cells as it wants
+-- the definitions were made over the library: they use its procedures, each on as many cells as it
+-- wants
 pub record IsDefinedOver (library : List Stored) (definitions : Definitions) : Type 0 where
   pub uses : All (λ d. All (IsUseOver library) d.steps) definitions.definitions

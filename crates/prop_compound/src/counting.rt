@@ -5,7 +5,8 @@ ghost use Rattle.prop_refusals.specs.Refusals.{most};
 ghost use Rattle.prop_refusals.specs.declared.refusal.Limit.TheVariants.{Cells, Instances};
 ghost use Rattle.prop_compound.specs.Definitions.{is_passing_on};
 ghost use Rattle.prop_compound.specs.Kept.{all_bare};
-ghost use Rattle.prop_compound.specs.inner.Kept.{fresh_of, instances_of, total_of, IsUseBelow, AreKept, IsCounted};
+ghost use Rattle.prop_compound.specs.inner.Kept.{fresh_of, instances_of, total_of, IsUseBelow};
+ghost use Rattle.prop_compound.specs.inner.Kept.{AreKept, IsCounted};
 ghost use Rattle.prop_compound.specs.Expansion.{spare_of, is_spare};
 
 use crate::definition::{KeptDefinition, NumberedStep, Passing, Used, passes_something};
@@ -24,7 +25,8 @@ fn is_taking(steps: &[NumberedStep]) -> bool
     )
 }
 
-/// Whether the step, in a definition that is given something or is not, gives some definition a parameter that it does not take.
+/// Whether the step, in a definition that is given something or is not, gives some definition a
+/// parameter that it does not take.
 fn is_spare(definitions: &[KeptDefinition], step: &NumberedStep, given: bool) -> bool
     requires kept { AreKept definitions.now }
     requires used { IsUseBelow (all_bare definitions.now) (length definitions.now) step.now }
@@ -59,7 +61,8 @@ fn has_spare(definitions: &[KeptDefinition], steps: &[NumberedStep], given: bool
 fn fresh_of(definitions: &[KeptDefinition], step: &NumberedStep) -> usize
     requires kept { AreKept definitions.now }
     requires used { IsUseBelow (all_bare definitions.now) (length definitions.now) step.now }
-    ensures { result ≡ min (most Cells + 1) (fresh_of (total_of fresh_of (all_bare definitions.now)) step.now) }
+    ensures { result ≡ min (most Cells + 1)
+        (fresh_of (total_of fresh_of (all_bare definitions.now)) step.now) }
 {
     match step {
         NumberedStep::Local(_) | NumberedStep::Like(_) => 1,
@@ -72,7 +75,8 @@ fn fresh_of(definitions: &[KeptDefinition], step: &NumberedStep) -> usize
 fn instances_of(definitions: &[KeptDefinition], step: &NumberedStep) -> usize
     requires kept { AreKept definitions.now }
     requires used { IsUseBelow (all_bare definitions.now) (length definitions.now) step.now }
-    ensures { result ≡ min (most Instances + 1) (instances_of (total_of instances_of (all_bare definitions.now)) step.now) }
+    ensures { result ≡ min (most Instances + 1)
+        (instances_of (total_of instances_of (all_bare definitions.now)) step.now) }
 {
     match step {
         NumberedStep::Local(_) | NumberedStep::Like(_) => 0,
@@ -85,7 +89,8 @@ fn instances_of(definitions: &[KeptDefinition], step: &NumberedStep) -> usize
 fn all_fresh(definitions: &[KeptDefinition], steps: &[NumberedStep]) -> usize
     requires kept { AreKept definitions.now }
     requires used { All (IsUseBelow (all_bare definitions.now) (length definitions.now)) steps.now }
-    ensures { result ≡ min (most Cells + 1) (sum_by (fresh_of (total_of fresh_of (all_bare definitions.now))) steps.now) }
+    ensures { result ≡ min (most Cells + 1)
+        (sum_by (fresh_of (total_of fresh_of (all_bare definitions.now))) steps.now) }
 {
     let mut total = 0;
     for step in steps {
@@ -98,7 +103,8 @@ fn all_fresh(definitions: &[KeptDefinition], steps: &[NumberedStep]) -> usize
 fn all_instances(definitions: &[KeptDefinition], steps: &[NumberedStep]) -> usize
     requires kept { AreKept definitions.now }
     requires used { All (IsUseBelow (all_bare definitions.now) (length definitions.now)) steps.now }
-    ensures { result ≡ min (most Instances + 1) (sum_by (instances_of (total_of instances_of (all_bare definitions.now))) steps.now) }
+    ensures { result ≡ min (most Instances + 1)
+        (sum_by (instances_of (total_of instances_of (all_bare definitions.now))) steps.now) }
 {
     let mut total = 0;
     for step in steps {
@@ -115,7 +121,8 @@ pub(crate) fn counted(
     steps: Vec<NumberedStep>,
 ) -> Result<KeptDefinition, Refusal>
     requires kept { AreKept definitions.now }
-    requires used { All (IsUseBelow (all_bare definitions.now) (length definitions.now)) steps.items }
+    requires used { All (IsUseBelow (all_bare definitions.now) (length definitions.now))
+        steps.items }
     ensures counted { IfOk result (IsCounted definitions.now params steps.items) }
     ensures err { IfErr result (λ e. e ≡ Refusal.Memory) }
 {

@@ -1,5 +1,6 @@
 //! Making a definition.
-ghost use Rattle.std.specs.Prelude.{◌≡◌, ◌≤◌, ◌++◌, ◌∷◌, [], false, All, length, map, take, drop, IfOk, IfErr, IfSome, OnOk, OnErr, Err, None, Some};
+ghost use Rattle.std.specs.Prelude.{◌≡◌, ◌≤◌, ◌++◌, ◌∷◌, [], false, All, length, map, take, drop};
+ghost use Rattle.std.specs.Prelude.{IfOk, IfErr, IfSome, OnOk, OnErr, Err, None, Some};
 ghost use Rattle.std.specs.List.{flat_map};
 ghost use Rattle.prop_refusals.specs.Refusals.{first_of};
 ghost use Rattle.prop_procedures.specs.Kept.{stored_of};
@@ -7,7 +8,9 @@ ghost use Rattle.prop_vocabulary.specs.Names.{number_in};
 ghost use Rattle.prop_vocabulary.specs.Refusing.{IsReason};
 ghost use Rattle.prop_language.specs.Said.{words as words_of, step_of};
 ghost use Rattle.prop_compound.specs.Definitions.{used_named};
-ghost use Rattle.prop_compound.specs.Defining.{locals_of, scope_of, definition_of, with_definition, is_name_taken, words_refusals, uses_refusals, define_refusal};
+ghost use Rattle.prop_compound.specs.Defining.{locals_of, scope_of, definition_of, with_definition};
+ghost use Rattle.prop_compound.specs.Defining.{is_name_taken, words_refusals, uses_refusals};
+ghost use Rattle.prop_compound.specs.Defining.{define_refusal};
 ghost use Rattle.prop_compound.specs.inner.Defining.{IsNameReason, steps_refusal};
 ghost use Rattle.prop_compound.specs.Kinds.{IsSized, IsLocalOf, AreLocalsOf};
 ghost use Rattle.prop_compound.specs.Kept.{bare, IsUseOver, IsDefinedOver};
@@ -32,7 +35,8 @@ struct Said<'a> {
     steps: &'a [Step<'a>],
 }
 
-/// Why steps may not stand for their words' sake, where the first so many names of the scope are the parameters: 8, 19 or 9.
+/// Why steps may not stand for their words' sake, where the first so many names of the scope are
+/// the parameters: 8, 19 or 9.
 fn words_refusal(
     words: &Vocabulary,
     scope: &Names,
@@ -41,7 +45,8 @@ fn words_refusal(
 ) -> Option<Refusal>
     requires count { params ≤ length scope.now }
     requires locals { drop params scope.now ≡ flat_map locals_of (map step_of steps.now) }
-    ensures { result ≡ first_of (words_refusals words.now (take params scope.now) (map step_of steps.now)) }
+    ensures { result ≡ first_of (words_refusals words.now (take params scope.now)
+        (map step_of steps.now)) }
 {
     if has_domain_missing(words, steps) {
         return Some(Refusal::NoSuchDomain);
@@ -56,9 +61,11 @@ fn words_refusal(
 }
 
 impl Definitions {
-    /// Why steps may not be defined for what they use, or for the count of definitions: 11, 12 or 16.
+    /// Why steps may not be defined for what they use, or for the count of definitions: 11, 12 or
+    /// 16.
     fn uses_refusal<R: Rule + Drop>(&self, library: &Library<R>, steps: &[Step]) -> Option<Refusal>
-        ensures { result ≡ first_of (uses_refusals (stored_of R.value_of library.now) self.now (map step_of steps.now)) }
+        ensures { result ≡ first_of (uses_refusals (stored_of R.value_of library.now) self.now
+            (map step_of steps.now)) }
     {
         if self.has_unknown(library, steps) {
             return Some(Refusal::NoSuchProcedure);
@@ -72,8 +79,8 @@ impl Definitions {
         None
     }
 
-    /// Puts the parameters and locals by name into an empty scope, `NameTaken` where a procedure or a definition has the name or
-    /// one of them would stand twice.
+    /// Puts the parameters and locals by name into an empty scope, `NameTaken` where a procedure or
+    /// a definition has the name or one of them would stand twice.
     fn name_all<R: Rule + Drop>(
         &self,
         alloc: Global,
@@ -82,10 +89,16 @@ impl Definitions {
         said: &Said,
     ) -> Result<(), Refusal>
         requires { scope.old ≡ [] }
-        ensures scope { OnOk result (scope.new ≡ scope_of (words_of said.now.params.now) (map step_of said.now.steps.now)) }
-        ensures new { OnOk result (is_name_taken (stored_of R.value_of library.now) self.now said.now.name.now (words_of said.now.params.now) (map step_of said.now.steps.now) ≡ false) }
-        ensures why { IfErr result (IsNameReason (is_name_taken (stored_of R.value_of library.now) self.now said.now.name.now (words_of said.now.params.now) (map step_of said.now.steps.now))) }
-        ensures at_once { IfSome (used_named (stored_of R.value_of library.now) self.now said.now.name.now) (λ _. result ≡ Err Refusal.NameTaken) }
+        ensures scope { OnOk result (scope.new ≡ scope_of (words_of said.now.params.now)
+            (map step_of said.now.steps.now)) }
+        ensures new { OnOk result (is_name_taken (stored_of R.value_of library.now) self.now
+            said.now.name.now (words_of said.now.params.now)
+            (map step_of said.now.steps.now) ≡ false) }
+        ensures why { IfErr result (IsNameReason
+            (is_name_taken (stored_of R.value_of library.now) self.now said.now.name.now
+            (words_of said.now.params.now) (map step_of said.now.steps.now))) }
+        ensures at_once { IfSome (used_named (stored_of R.value_of library.now) self.now
+            said.now.name.now) (λ _. result ≡ Err Refusal.NameTaken) }
     {
         if library.find(said.name).is_some() || self.find(said.name).is_some() {
             return Err(Refusal::NameTaken);
@@ -93,8 +106,8 @@ impl Definitions {
         push_names(alloc, scope, said.params, said.steps)
     }
 
-    /// The definition by numbers, with what is known of its uses, or why its steps may not stand in this scope: 8, 19, 9, 11, 12
-    /// or 16, and 90.
+    /// The definition by numbers, with what is known of its uses, or why its steps may not stand in
+    /// this scope: 8, 19, 9, 11, 12 or 16, and 90.
     fn resolved<R: Rule + Drop>(
         &self,
         alloc: Global,
@@ -103,13 +116,20 @@ impl Definitions {
         scope: &Names,
         said: &Said,
     ) -> Result<KeptDefinition, Refusal>
-        requires { scope.now ≡ scope_of (words_of said.now.params.now) (map step_of said.now.steps.now) }
-        ensures definition { IfOk result (λ k. bare k ≡ definition_of (stored_of R.value_of library.now) words.now self.now (words_of said.now.params.now) (map step_of said.now.steps.now)) }
+        requires { scope.now ≡ scope_of (words_of said.now.params.now)
+            (map step_of said.now.steps.now) }
+        ensures definition { IfOk result
+            (λ k. bare k ≡ definition_of (stored_of R.value_of library.now) words.now self.now
+            (words_of said.now.params.now) (map step_of said.now.steps.now)) }
         ensures kept { IfOk result (IsKeptNext self.now.definitions) }
-        ensures over { IfOk result (λ k. All (IsUseOver (stored_of R.value_of library.now)) k.steps.items) }
+        ensures over { IfOk result (λ k.
+            All (IsUseOver (stored_of R.value_of library.now)) k.steps.items) }
         ensures locals { IfOk result (λ k. All (IsLocalOf (IsSized words.now)) k.steps.items) }
-        ensures fits { OnOk result (steps_refusal (stored_of R.value_of library.now) words.now self.now (words_of said.now.params.now) (map step_of said.now.steps.now) ≡ None) }
-        ensures err { IfErr result (IsReason (steps_refusal (stored_of R.value_of library.now) words.now self.now (words_of said.now.params.now) (map step_of said.now.steps.now))) }
+        ensures fits { OnOk result (steps_refusal (stored_of R.value_of library.now) words.now
+            self.now (words_of said.now.params.now) (map step_of said.now.steps.now) ≡ None) }
+        ensures err { IfErr result (IsReason
+            (steps_refusal (stored_of R.value_of library.now) words.now self.now
+            (words_of said.now.params.now) (map step_of said.now.steps.now))) }
     {
         if let Some(refusal) = words_refusal(words, scope, said.params.len(), said.steps) {
             return Err(refusal);
@@ -124,7 +144,8 @@ impl Definitions {
         }
     }
 
-    /// The definition by numbers, with what is known of its uses, or why it may not be made, where this scope is empty.
+    /// The definition by numbers, with what is known of its uses, or why it may not be made, where
+    /// this scope is empty.
     fn made_in<R: Rule + Drop>(
         &self,
         alloc: Global,
@@ -134,13 +155,21 @@ impl Definitions {
         said: &Said,
     ) -> Result<KeptDefinition, Refusal>
         requires { scope.old ≡ [] }
-        ensures definition { IfOk result (λ k. bare k ≡ definition_of (stored_of R.value_of library.now) words.now self.now (words_of said.now.params.now) (map step_of said.now.steps.now)) }
+        ensures definition { IfOk result
+            (λ k. bare k ≡ definition_of (stored_of R.value_of library.now) words.now self.now
+            (words_of said.now.params.now) (map step_of said.now.steps.now)) }
         ensures kept { IfOk result (IsKeptNext self.now.definitions) }
-        ensures over { IfOk result (λ k. All (IsUseOver (stored_of R.value_of library.now)) k.steps.items) }
+        ensures over { IfOk result (λ k.
+            All (IsUseOver (stored_of R.value_of library.now)) k.steps.items) }
         ensures locals { IfOk result (λ k. All (IsLocalOf (IsSized words.now)) k.steps.items) }
-        ensures fits { OnOk result (define_refusal (stored_of R.value_of library.now) words.now self.now said.now.name.now (words_of said.now.params.now) (map step_of said.now.steps.now) ≡ None) }
-        ensures err { IfErr result (IsReason (define_refusal (stored_of R.value_of library.now) words.now self.now said.now.name.now (words_of said.now.params.now) (map step_of said.now.steps.now))) }
-        ensures at_once { IfSome (used_named (stored_of R.value_of library.now) self.now said.now.name.now) (λ _. result ≡ Err Refusal.NameTaken) }
+        ensures fits { OnOk result (define_refusal (stored_of R.value_of library.now) words.now
+            self.now said.now.name.now (words_of said.now.params.now)
+            (map step_of said.now.steps.now) ≡ None) }
+        ensures err { IfErr result (IsReason
+            (define_refusal (stored_of R.value_of library.now) words.now self.now said.now.name.now
+            (words_of said.now.params.now) (map step_of said.now.steps.now))) }
+        ensures at_once { IfSome (used_named (stored_of R.value_of library.now) self.now
+            said.now.name.now) (λ _. result ≡ Err Refusal.NameTaken) }
     {
         self.name_all(alloc, library, scope, said)?;
         self.resolved(alloc, library, words, scope, said)
@@ -154,13 +183,21 @@ impl Definitions {
         words: &Vocabulary,
         said: &Said,
     ) -> Result<KeptDefinition, Refusal>
-        ensures definition { IfOk result (λ k. bare k ≡ definition_of (stored_of R.value_of library.now) words.now self.now (words_of said.now.params.now) (map step_of said.now.steps.now)) }
+        ensures definition { IfOk result
+            (λ k. bare k ≡ definition_of (stored_of R.value_of library.now) words.now self.now
+            (words_of said.now.params.now) (map step_of said.now.steps.now)) }
         ensures kept { IfOk result (IsKeptNext self.now.definitions) }
-        ensures over { IfOk result (λ k. All (IsUseOver (stored_of R.value_of library.now)) k.steps.items) }
+        ensures over { IfOk result (λ k.
+            All (IsUseOver (stored_of R.value_of library.now)) k.steps.items) }
         ensures locals { IfOk result (λ k. All (IsLocalOf (IsSized words.now)) k.steps.items) }
-        ensures fits { OnOk result (define_refusal (stored_of R.value_of library.now) words.now self.now said.now.name.now (words_of said.now.params.now) (map step_of said.now.steps.now) ≡ None) }
-        ensures err { IfErr result (IsReason (define_refusal (stored_of R.value_of library.now) words.now self.now said.now.name.now (words_of said.now.params.now) (map step_of said.now.steps.now))) }
-        ensures at_once { IfSome (used_named (stored_of R.value_of library.now) self.now said.now.name.now) (λ _. result ≡ Err Refusal.NameTaken) }
+        ensures fits { OnOk result (define_refusal (stored_of R.value_of library.now) words.now
+            self.now said.now.name.now (words_of said.now.params.now)
+            (map step_of said.now.steps.now) ≡ None) }
+        ensures err { IfErr result (IsReason
+            (define_refusal (stored_of R.value_of library.now) words.now self.now said.now.name.now
+            (words_of said.now.params.now) (map step_of said.now.steps.now))) }
+        ensures at_once { IfSome (used_named (stored_of R.value_of library.now) self.now
+            said.now.name.now) (λ _. result ≡ Err Refusal.NameTaken) }
     {
         let mut scope = Names::new(alloc);
         self.made_in(alloc, library, words, &mut scope, said)
@@ -170,7 +207,11 @@ impl Definitions {
     fn push(&mut self, alloc: Global, name: &str, definition: KeptDefinition) -> Result<(), Refusal>
         requires new { number_in self.old.names name.now ≡ None }
         requires kept { IsKeptNext self.old.definitions definition }
-        ensures ok { OnOk result (self.new ≡ record { names = self.old.names ++ name.now ∷ []; definitions = self.old.definitions ++ bare definition ∷ [] }) }
+        ensures ok { OnOk result (self.new
+            ≡ record {
+              names = self.old.names ++ name.now ∷ [];
+              definitions = self.old.definitions ++ bare definition ∷ [];
+            }) }
         ensures err { IfErr result (λ e. e ≡ Refusal.Memory) }
         ensures err_same { OnErr result (self.new ≡ self.old) }
     {
@@ -186,13 +227,16 @@ impl Definitions {
         }
     }
 
-    /// Defines a compound: the steps, in order, are what a use of the name on as many cells as there are parameters stands for.
+    /// Defines a compound: the steps, in order, are what a use of the name on as many cells as
+    /// there are parameters stands for.
     ///
-    /// Refused with 7 where a procedure or a definition has the name or a parameter or local stands twice, with 8 where the kind
-    /// of a local names no domain, with 19 where there is no such relation, with 9 where a step names a cell that is neither a
-    /// parameter nor an earlier local, with 11 where it uses what is neither a procedure nor a definition that is there already,
-    /// with 12 where it does so on another number of cells, with 16 where there are 1,024 definitions, and with 90, which never stands
-    /// in the place of 7 for a name that a procedure or a definition has. A refusal changes nothing.
+    /// Refused with 7 where a procedure or a definition has the name or a parameter or local stands
+    /// twice, with 8 where the kind of a local names no domain, with 19 where there is no such
+    /// relation, with 9 where a step names a cell that is neither a parameter nor an earlier local,
+    /// with 11 where it uses what is neither a procedure nor a definition that is there already,
+    /// with 12 where it does so on another number of cells, with 16 where there are 1,024
+    /// definitions, and with 90, which never stands in the place of 7 for a name that a procedure
+    /// or a definition has. A refusal changes nothing.
     pub fn define<R: Rule + Drop>(
         &mut self,
         alloc: Global,
@@ -204,12 +248,18 @@ impl Definitions {
     ) -> Result<(), Refusal>
         requires over { IsDefinedOver (stored_of R.value_of library.now) self.old }
         ensures over { IsDefinedOver (stored_of R.value_of library.now) self.new }
-        ensures locals { AreLocalsOf (IsSized words.now) self.old → AreLocalsOf (IsSized words.now) self.new }
-        ensures fits { OnOk result (define_refusal (stored_of R.value_of library.now) words.now self.old name.now (words_of params.now) (map step_of steps.now) ≡ None) }
-        ensures ok { OnOk result (self.new ≡ with_definition (stored_of R.value_of library.now) words.now self.old name.now (words_of params.now) (map step_of steps.now)) }
-        ensures err { IfErr result (IsReason (define_refusal (stored_of R.value_of library.now) words.now self.old name.now (words_of params.now) (map step_of steps.now))) }
+        ensures locals { AreLocalsOf (IsSized words.now) self.old
+            → AreLocalsOf (IsSized words.now) self.new }
+        ensures fits { OnOk result (define_refusal (stored_of R.value_of library.now) words.now
+            self.old name.now (words_of params.now) (map step_of steps.now) ≡ None) }
+        ensures ok { OnOk result (self.new ≡ with_definition (stored_of R.value_of library.now)
+            words.now self.old name.now (words_of params.now) (map step_of steps.now)) }
+        ensures err { IfErr result (IsReason
+            (define_refusal (stored_of R.value_of library.now) words.now self.old name.now
+            (words_of params.now) (map step_of steps.now))) }
         ensures err_same { OnErr result (self.new ≡ self.old) }
-        ensures at_once { IfSome (used_named (stored_of R.value_of library.now) self.old name.now) (λ _. result ≡ Err Refusal.NameTaken) }
+        ensures at_once { IfSome (used_named (stored_of R.value_of library.now) self.old name.now)
+            (λ _. result ≡ Err Refusal.NameTaken) }
     {
         let said = Said {
             name,

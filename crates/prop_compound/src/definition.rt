@@ -6,7 +6,8 @@ ghost use Rattle.prop_compound.specs.Shortcuts.{passed};
 use prop_procedures::Kinded;
 use std::marker::Model;
 
-/// What a use is given: nothing, a scale, the relation with this number, or what the definition itself is given.
+/// What a use is given: nothing, a scale, the relation with this number, or what the definition
+/// itself is given.
 #[derive(Clone, Copy, PartialEq, Eq)]
 pub enum Passing {
     Nothing,
@@ -52,7 +53,8 @@ impl Places {
     }
 }
 
-/// A step of a definition, resolved: a local of a kind, a local like the cell at a place, or a use on the cells at places.
+/// A step of a definition, resolved: a local of a kind, a local like the cell at a place, or a use
+/// on the cells at places.
 #[derive(Drop)]
 pub enum NumberedStep {
     Local(Kinded),
@@ -81,9 +83,9 @@ pub(crate) fn passes_something(given: bool, passing: Passing) -> bool
     }
 }
 
-/// A definition, with what is known of its uses: shorter steps that make the same, whether a use that is given something or nothing
-/// gives some definition a parameter that it does not take, and for how many fresh cells and instances one stands, each counted up to
-/// one past its limit.
+/// A definition, with what is known of its uses: shorter steps that make the same, whether a use
+/// that is given something or nothing gives some definition a parameter that it does not take, and
+/// for how many fresh cells and instances one stands, each counted up to one past its limit.
 #[derive(Drop)]
 pub(crate) struct KeptDefinition {
     pub(crate) params: usize,
@@ -96,7 +98,8 @@ pub(crate) struct KeptDefinition {
 }
 
 impl KeptDefinition {
-    /// Whether a use that is given something, or is not, gives some definition a parameter that it does not take.
+    /// Whether a use that is given something, or is not, gives some definition a parameter that it
+    /// does not take.
     pub(crate) fn is_spare(&self, given: bool) -> bool
         ensures { result ≡ cond given self.now.spare_given self.now.spare_bare }
     {

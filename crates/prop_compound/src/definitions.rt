@@ -12,8 +12,9 @@ use prop_vocabulary::Names;
 use std::alloc::Global;
 use std::marker::Model;
 
-/// Definitions of compounds, each numbered in the order in which it was made and known by its name. They are resolved: names
-/// neither go nor change what they stand for, so that what a definition means is settled when it is made.
+/// Definitions of compounds, each numbered in the order in which it was made and known by its name.
+/// They are resolved: names neither go nor change what they stand for, so that what a definition
+/// means is settled when it is made.
 #[derive(Drop)]
 pub struct Definitions {
     pub(crate) names: Names,
@@ -30,7 +31,8 @@ impl Model for Definitions {
 
     ghost view = { λ d. record { names = d.names; definitions = all_bare d.definitions.items } };
 
-    ghost invariant = { λ d. (length d.names ≡ length d.definitions.items) × AreKept d.definitions.items };
+    ghost invariant = { λ d. (length d.names ≡ length d.definitions.items)
+        × AreKept d.definitions.items };
 }
 
 impl Definitions {
@@ -45,8 +47,9 @@ impl Definitions {
         }
     }
 
-    /// A use equals its flat list put in place: whatever was made before, on cells that are there it adds just the fresh cells and the
-    /// instances of the flat list, each parameter replaced by the given cell and each fresh cell by the next one.
+    /// A use equals its flat list put in place: whatever was made before, on cells that are there
+    /// it adds just the fresh cells and the instances of the flat list, each parameter replaced by
+    /// the given cell and each fresh cell by the next one.
     pub fn uses_are_put_in_place(&self)
         ensures { UsesArePutInPlace self.now.definitions }
     {

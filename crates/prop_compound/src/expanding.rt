@@ -61,8 +61,8 @@ pub(crate) fn placed(procedure: usize, param: Option<usize>, mut cells: Vec<usiz
     }
 }
 
-/// A definition under way: its number, its next step, its cells by their places so far, and the place of the parameter that it is
-/// given.
+/// A definition under way: its number, its next step, its cells by their places so far, and the
+/// place of the parameter that it is given.
 #[derive(Drop)]
 pub(crate) struct Frame {
     pub(crate) number: usize,
@@ -71,8 +71,8 @@ pub(crate) struct Frame {
     pub(crate) given: Option<usize>,
 }
 
-/// Takes the next step of a definition under way: adds its cell or its instance, or answers the definition that it uses, before the
-/// first step of that.
+/// Takes the next step of a definition under way: adds its cell or its instance, or answers the
+/// definition that it uses, before the first step of that.
 fn take_step(
     alloc: Global,
     words: &Vocabulary,
@@ -121,8 +121,9 @@ fn take_step(
     }
 }
 
-/// Adds the cells and instances that a use of a definition stands for, which is before its first step. While one that it uses is under
-/// way a definition waits in a list, so that no use takes more of the stack than another.
+/// Adds the cells and instances that a use of a definition stands for, which is before its first
+/// step. While one that it uses is under way a definition waits in a list, so that no use takes
+/// more of the stack than another.
 pub(crate) fn expand_definition(
     alloc: Global,
     definitions: &[KeptDefinition],

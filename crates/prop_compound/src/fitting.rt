@@ -1,5 +1,6 @@
 //! Whether the cells and parameters of instances fit their procedures.
-ghost use Rattle.std.specs.Prelude.{◌≡◌, ◌<◌, ◌≤◌, ◌++◌, ◌∷◌, [], is_none, All, length, map, zip, IfOk, IfErr, OnOk, None, Some};
+ghost use Rattle.std.specs.Prelude.{◌≡◌, ◌<◌, ◌≤◌, ◌++◌, ◌∷◌, [], is_none, All, length, map, zip};
+ghost use Rattle.std.specs.Prelude.{IfOk, IfErr, OnOk, None, Some};
 ghost use Rattle.std.specs.List.{list_any};
 ghost use Rattle.prop_procedures.specs.Kept.{stored_of};
 ghost use Rattle.prop_vocabulary.specs.Refusing.{IsReason};
@@ -26,7 +27,8 @@ fn rejects(need: Need, param: &Param) -> bool
     }
 }
 
-/// Whether a procedure with this need does not take the parameter at the place, or not do without one.
+/// Whether a procedure with this need does not take the parameter at the place, or not do without
+/// one.
 fn is_param_wrong(need: Need, params: &[Param], place: Option<usize>) -> bool
     ensures { result ≡ is_none (fitting_param need (param_at params.now place)) }
 {
@@ -45,7 +47,8 @@ fn places(
     instance: &Placed,
 ) -> Result<Vec<(Shape, Kinded)>, AllocError>
     requires { length instance.now.inputs.items ≡ length ins.now }
-    ensures { IfOk result (λ v. v.items ≡ zip (ins.now ++ out ∷ []) (map (kind_at kinds.now) (instance.now.inputs.items ++ instance.now.output ∷ []))) }
+    ensures { IfOk result (λ v. v.items ≡ zip (ins.now ++ out ∷ [])
+        (map (kind_at kinds.now) (instance.now.inputs.items ++ instance.now.output ∷ []))) }
 {
     let mut places = Vec::new(alloc);
     for (i, cell) in instance.inputs.iter().enumerate() {
@@ -64,7 +67,8 @@ fn is_kind_wrong<R: Rule + Drop>(
     instance: &Placed,
 ) -> Result<bool, AllocError>
     requires { IsInstanceOver (stored_of R.value_of library.now) (length kinds.now) instance.now }
-    ensures { IfOk result (λ b. b ≡ is_kind_wrong (stored_of R.value_of library.now) kinds.now (placed_of params.now instance.now)) }
+    ensures { IfOk result (λ b. b ≡ is_kind_wrong (stored_of R.value_of library.now) kinds.now
+        (placed_of params.now instance.now)) }
 {
     let p = library.get(instance.procedure);
     let places = places(alloc, p.ins(), p.out(), kinds, instance)?;
@@ -83,8 +87,11 @@ fn has_kind_wrong<R: Rule + Drop>(
     kinds: &[Kinded],
     instances: &[Placed],
 ) -> Result<bool, AllocError>
-    requires { All (IsInstanceOver (stored_of R.value_of library.now) (length kinds.now)) instances.now }
-    ensures { IfOk result (λ b. b ≡ list_any (λ x. is_kind_wrong (stored_of R.value_of library.now) kinds.now (placed_of params.now x)) instances.now) }
+    requires { All (IsInstanceOver (stored_of R.value_of library.now) (length kinds.now))
+        instances.now }
+    ensures { IfOk result (λ b. b ≡ list_any
+        (λ x. is_kind_wrong (stored_of R.value_of library.now) kinds.now (placed_of params.now x))
+        instances.now) }
 {
     for instance in instances {
         if is_kind_wrong(alloc, library, params, kinds, instance)? {
@@ -101,7 +108,8 @@ fn has_param_wrong<R: Rule + Drop>(
     instances: &[Placed],
 ) -> bool
     requires { All (λ x. x.procedure < length (stored_of R.value_of library.now)) instances.now }
-    ensures { result ≡ list_any (λ x. is_param_wrong (stored_of R.value_of library.now) (placed_of params.now x)) instances.now }
+    ensures { result ≡ list_any (λ x.
+        is_param_wrong (stored_of R.value_of library.now) (placed_of params.now x)) instances.now }
 {
     for instance in instances {
         let need = library.get(instance.procedure).need();
@@ -112,11 +120,14 @@ fn has_param_wrong<R: Rule + Drop>(
     false
 }
 
-/// Refuses what a use stands for where its cells or parameters do not fit: with 13 and 14, and with 90.
+/// Refuses what a use stands for where its cells or parameters do not fit: with 13 and 14, and with
+/// 90.
 fn judge<R: Rule + Drop>(alloc: Global, library: &Library<R>, walk: &Walk) -> Result<(), Refusal>
     requires { AreRight (stored_of R.value_of library.now) walk.now }
-    ensures fits { OnOk result (fit_refusal (stored_of R.value_of library.now) (walk_of walk.now) ≡ None) }
-    ensures err { IfErr result (IsReason (fit_refusal (stored_of R.value_of library.now) (walk_of walk.now))) }
+    ensures fits { OnOk result (fit_refusal (stored_of R.value_of library.now)
+        (walk_of walk.now) ≡ None) }
+    ensures err { IfErr result (IsReason
+        (fit_refusal (stored_of R.value_of library.now) (walk_of walk.now))) }
 {
     match has_kind_wrong(alloc, library, &walk.params, &walk.kinds, &walk.instances) {
         Ok(false) => {}
@@ -129,7 +140,8 @@ fn judge<R: Rule + Drop>(alloc: Global, library: &Library<R>, walk: &Walk) -> Re
     Ok(())
 }
 
-/// What is handed out for a use of so many cells, or the refusal where its cells or parameters do not fit: 13 and 14, and 90.
+/// What is handed out for a use of so many cells, or the refusal where its cells or parameters do
+/// not fit: 13 and 14, and 90.
 pub(crate) fn fitted<R: Rule + Drop>(
     alloc: Global,
     library: &Library<R>,
@@ -138,9 +150,11 @@ pub(crate) fn fitted<R: Rule + Drop>(
 ) -> Result<Flat, Refusal>
     requires right { AreRight (stored_of R.value_of library.now) walk }
     requires count { count ≤ length walk.kinds.items }
-    ensures fits { OnOk result (fit_refusal (stored_of R.value_of library.now) (walk_of walk) ≡ None) }
+    ensures fits { OnOk result (fit_refusal (stored_of R.value_of library.now)
+        (walk_of walk) ≡ None) }
     ensures flat { IfOk result (IsBehind walk count) }
-    ensures err { IfErr result (IsReason (fit_refusal (stored_of R.value_of library.now) (walk_of walk))) }
+    ensures err { IfErr result (IsReason
+        (fit_refusal (stored_of R.value_of library.now) (walk_of walk))) }
 {
     if let Err(refusal) = judge(alloc, library, &walk) {
         drop(walk);

@@ -1,5 +1,5 @@
-//! What a name that is put between cells stands for: definitions, and the procedures that they come down to. With them it
-//! hands on the language that they are written in.
+//! What a name that is put between cells stands for: definitions, and the procedures that they come
+//! down to. With them it hands on the language that they are written in.
 //!
 //! A definition is resolved when it is made, and refused by the first condition
 //! (`Definitions::define`). What a use of a name stands for is its expansion, recursively on the

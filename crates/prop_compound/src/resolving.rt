@@ -4,7 +4,8 @@ ghost use Rattle.std.specs.List.{list_any};
 ghost use Rattle.prop_procedures.specs.Kept.{stored_of};
 ghost use Rattle.prop_language.specs.Said.{passed_of, step_of};
 ghost use Rattle.prop_compound.specs.Kinds.{IsSized, IsLocalOf};
-ghost use Rattle.prop_compound.specs.Defining.{passing_named, step_numbered, is_domain_missing, is_relation_missing, is_unknown, is_count_wrong};
+ghost use Rattle.prop_compound.specs.Defining.{passing_named, step_numbered, is_domain_missing};
+ghost use Rattle.prop_compound.specs.Defining.{is_relation_missing, is_unknown, is_count_wrong};
 
 use crate::definition::{NumberedStep, Passing, Places, Used};
 use crate::definitions::Definitions;
@@ -74,7 +75,8 @@ pub(crate) fn has_relation_missing(words: &Vocabulary, steps: &[Step]) -> bool
 impl Definitions {
     /// Whether the step uses what is neither a procedure nor a definition.
     fn is_unknown<R: Rule + Drop>(&self, library: &Library<R>, step: &Step) -> bool
-        ensures { result ≡ is_unknown (stored_of R.value_of library.now) self.now (step_of step.now) }
+        ensures { result ≡ is_unknown (stored_of R.value_of library.now) self.now
+            (step_of step.now) }
     {
         match step {
             Step::Use(name, _, _) => self.used(library, name).is_none(),
@@ -84,18 +86,21 @@ impl Definitions {
 
     /// Whether some step does.
     pub(crate) fn has_unknown<R: Rule + Drop>(&self, library: &Library<R>, steps: &[Step]) -> bool
-        ensures { result ≡ list_any (λ step. is_unknown (stored_of R.value_of library.now) self.now (step_of step)) steps.now }
+        ensures { result ≡ list_any (λ step.
+            is_unknown (stored_of R.value_of library.now) self.now (step_of step)) steps.now }
     {
         steps.iter().any(
             |step: &Step| -> bool
-                ensures { result ≡ is_unknown (stored_of R.value_of library.entry.now) self.entry.now (step_of step.now) }
+                ensures { result ≡ is_unknown (stored_of R.value_of library.entry.now)
+                    self.entry.now (step_of step.now) }
             { self.is_unknown(library, step) },
         )
     }
 
     /// Whether the step uses a procedure or a definition on another number of cells than it wants.
     fn is_count_wrong<R: Rule + Drop>(&self, library: &Library<R>, step: &Step) -> bool
-        ensures { result ≡ is_count_wrong (stored_of R.value_of library.now) self.now (step_of step.now) }
+        ensures { result ≡ is_count_wrong (stored_of R.value_of library.now) self.now
+            (step_of step.now) }
     {
         let Step::Use(name, cells, _) = step else {
             return false;
@@ -112,11 +117,13 @@ impl Definitions {
         library: &Library<R>,
         steps: &[Step],
     ) -> bool
-        ensures { result ≡ list_any (λ step. is_count_wrong (stored_of R.value_of library.now) self.now (step_of step)) steps.now }
+        ensures { result ≡ list_any (λ step.
+            is_count_wrong (stored_of R.value_of library.now) self.now (step_of step)) steps.now }
     {
         steps.iter().any(
             |step: &Step| -> bool
-                ensures { result ≡ is_count_wrong (stored_of R.value_of library.entry.now) self.entry.now (step_of step.now) }
+                ensures { result ≡ is_count_wrong (stored_of R.value_of library.entry.now)
+                    self.entry.now (step_of step.now) }
             { self.is_count_wrong(library, step) },
         )
     }
@@ -130,7 +137,9 @@ impl Definitions {
         scope: &Names,
         step: &Step,
     ) -> Result<NumberedStep, AllocError>
-        ensures numbered { IfOk result (λ numbered. numbered ≡ step_numbered (stored_of R.value_of library.now) words.now self.now scope.now (step_of step.now)) }
+        ensures numbered { IfOk result
+            (λ numbered. numbered ≡ step_numbered (stored_of R.value_of library.now) words.now
+            self.now scope.now (step_of step.now)) }
         ensures local { IfOk result (IsLocalOf (IsSized words.now)) }
     {
         match step {
@@ -158,7 +167,9 @@ impl Definitions {
         all: &mut Vec<NumberedStep>,
     ) -> Result<(), AllocError>
         requires { all.old.items ≡ [] }
-        ensures steps { OnOk result (all.new.items ≡ map (step_numbered (stored_of R.value_of library.now) words.now self.now scope.now) (map step_of steps.now)) }
+        ensures steps { OnOk result (all.new.items ≡ map
+            (step_numbered (stored_of R.value_of library.now) words.now self.now scope.now)
+            (map step_of steps.now)) }
         ensures locals { OnOk result (All (IsLocalOf (IsSized words.now)) all.new.items) }
     {
         for step in steps {

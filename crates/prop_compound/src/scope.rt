@@ -1,5 +1,6 @@
 //! The parameters and locals of a definition by name.
-ghost use Rattle.std.specs.Prelude.{◌≡◌, ◌≤◌, ◌+◌, ◌++◌, ◌∷◌, [], false, is_none, length, map, take, drop, IfErr, OnOk};
+ghost use Rattle.std.specs.Prelude.{◌≡◌, ◌≤◌, ◌+◌, ◌++◌, ◌∷◌, [], false, is_none, length, map};
+ghost use Rattle.std.specs.Prelude.{take, drop, IfErr, OnOk};
 ghost use Rattle.std.specs.List.{flat_map, list_any};
 ghost use Rattle.prop_sets.specs.Names.{is_among, has_repeat};
 ghost use Rattle.prop_vocabulary.specs.Names.{number_in, is_missing};
@@ -43,7 +44,8 @@ fn push_local(alloc: Global, scope: &mut Names, step: &Step) -> Result<(), Refus
     requires { has_repeat scope.old ≡ false }
     ensures ok { OnOk result (scope.new ≡ scope.old ++ locals_of (step_of step.now)) }
     ensures apart { OnOk result (has_repeat scope.new ≡ false) }
-    ensures why { IfErr result (IsNameReason (has_repeat (scope.old ++ locals_of (step_of step.now)))) }
+    ensures why { IfErr result (IsNameReason
+        (has_repeat (scope.old ++ locals_of (step_of step.now)))) }
 {
     match step {
         Step::Local(name, _) | Step::Like(name, _) => push_new(alloc, scope, name),
@@ -56,7 +58,8 @@ fn push_locals(alloc: Global, scope: &mut Names, steps: &[Step]) -> Result<(), R
     requires { has_repeat scope.old ≡ false }
     ensures ok { OnOk result (scope.new ≡ scope.old ++ flat_map locals_of (map step_of steps.now)) }
     ensures apart { OnOk result (has_repeat scope.new ≡ false) }
-    ensures why { IfErr result (IsNameReason (has_repeat (scope.old ++ flat_map locals_of (map step_of steps.now)))) }
+    ensures why { IfErr result (IsNameReason
+        (has_repeat (scope.old ++ flat_map locals_of (map step_of steps.now)))) }
 {
     for step in steps {
         push_local(alloc, scope, step)?;
@@ -64,7 +67,8 @@ fn push_locals(alloc: Global, scope: &mut Names, steps: &[Step]) -> Result<(), R
     Ok(())
 }
 
-/// Puts the parameters and after them the locals into an empty scope, `NameTaken` where a name would stand twice.
+/// Puts the parameters and after them the locals into an empty scope, `NameTaken` where a name
+/// would stand twice.
 pub(crate) fn push_names(
     alloc: Global,
     scope: &mut Names,
@@ -73,8 +77,10 @@ pub(crate) fn push_names(
 ) -> Result<(), Refusal>
     requires { scope.old ≡ [] }
     ensures ok { OnOk result (scope.new ≡ scope_of (words_of params.now) (map step_of steps.now)) }
-    ensures apart { OnOk result (has_repeat (scope_of (words_of params.now) (map step_of steps.now)) ≡ false) }
-    ensures why { IfErr result (IsNameReason (has_repeat (scope_of (words_of params.now) (map step_of steps.now)))) }
+    ensures apart { OnOk result (has_repeat
+        (scope_of (words_of params.now) (map step_of steps.now)) ≡ false) }
+    ensures why { IfErr result (IsNameReason
+        (has_repeat (scope_of (words_of params.now) (map step_of steps.now)))) }
 {
     push_params(alloc, scope, params)?;
     push_locals(alloc, scope, steps)
@@ -92,7 +98,8 @@ fn is_unseen(scope: &Names, seen: usize, name: &str) -> bool
 
 /// Whether one of the names is none of the first so many.
 fn has_unseen(scope: &Names, seen: usize, names: &[&str]) -> bool
-    ensures { result ≡ list_any (λ name. is_none (number_in (take seen scope.now) name.now)) names.now }
+    ensures { result ≡ list_any (λ name. is_none (number_in (take seen scope.now) name.now))
+        names.now }
 {
     names.iter().any(
         |name: &&str| -> bool
@@ -123,7 +130,8 @@ fn count_locals(step: &Step) -> usize
     }
 }
 
-/// Whether a step names a cell that is neither a parameter, of which there are so many, nor an earlier local.
+/// Whether a step names a cell that is neither a parameter, of which there are so many, nor an
+/// earlier local.
 pub(crate) fn is_cell_missing(scope: &Names, params: usize, steps: &[Step]) -> bool
     requires count { params ≤ length scope.now }
     requires locals { drop params scope.now ≡ flat_map locals_of (map step_of steps.now) }

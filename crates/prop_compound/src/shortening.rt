@@ -1,5 +1,5 @@
-//! Shorter steps that make the same cells and instances: a use of what makes nothing is left out, and one of what is itself a single use
-//! goes straight on to that.
+//! Shorter steps that make the same cells and instances: a use of what makes nothing is left out,
+//! and one of what is itself a single use goes straight on to that.
 ghost use Rattle.std.specs.Prelude.{◌≡◌, ◌++◌, [], All, length, OnOk};
 ghost use Rattle.std.specs.List.{flat_map};
 ghost use Rattle.prop_compound.specs.Kept.{all_bare};
@@ -20,7 +20,8 @@ fn push_through(
     plan: &mut Vec<NumberedStep>,
 ) -> Result<(), AllocError>
     requires { AreInScope (length places.now) inner.now }
-    ensures { OnOk result (plan.new.items ≡ plan.old.items ++ through inner.now used places.now passing) }
+    ensures { OnOk result (plan.new.items ≡ plan.old.items ++ through inner.now used places.now
+        passing) }
 {
     if inner.is_empty() {
         return Ok(());

@@ -1,5 +1,6 @@
 //! What a use of a name stands for, and why it is refused.
-ghost use Rattle.std.specs.Prelude.{◌≡◌, ◌<◌, ◌+◌, ◌==◌, [], not, length, IfOk, IfErr, IfSome, OnOk, Err, None, Some};
+ghost use Rattle.std.specs.Prelude.{◌≡◌, ◌<◌, ◌+◌, ◌==◌, [], not, length, IfOk, IfErr, IfSome};
+ghost use Rattle.std.specs.Prelude.{OnOk, Err, None, Some};
 ghost use Rattle.std.specs.List.{range_with_len};
 ghost use Rattle.prop_procedures.specs.Kept.{stored_of};
 ghost use Rattle.prop_vocabulary.specs.Refusing.{IsReason};
@@ -10,7 +11,8 @@ ghost use Rattle.prop_compound.specs.Expanding.{size_refusal, expand_refusal};
 ghost use Rattle.prop_compound.specs.AtOnce.{refused_at_once};
 ghost use Rattle.prop_compound.specs.inner.Flattened.{walk_of, IsAdded, IsPlaceIn};
 ghost use Rattle.prop_compound.specs.Flattened.{expansion_of_flat, IsFlatOver};
-ghost use Rattle.prop_compound.specs.inner.Kept.{fresh_used, instances_used, fresh_of, instances_of, total_of, IsThere};
+ghost use Rattle.prop_compound.specs.inner.Kept.{fresh_used, instances_used, fresh_of};
+ghost use Rattle.prop_compound.specs.inner.Kept.{instances_of, total_of, IsThere};
 ghost use Rattle.prop_compound.specs.Kept.{IsDefinedOver, IsUseThere};
 
 use crate::definition::Used;
@@ -60,7 +62,8 @@ impl Definitions {
     /// What the name stands for in a use, looked up among the procedures first.
     pub(crate) fn used<R: Rule + Drop>(&self, library: &Library<R>, name: &str) -> Option<Used>
         ensures used { result ≡ used_named (stored_of R.value_of library.now) self.now name.now }
-        ensures there { IfSome result (IsThere (length (stored_of R.value_of library.now)) (length self.now.definitions)) }
+        ensures there { IfSome result
+            (IsThere (length (stored_of R.value_of library.now)) (length self.now.definitions)) }
     {
         match library.find(name) {
             Some(number) => Some(Used::Procedure(number)),
@@ -78,8 +81,10 @@ impl Definitions {
         used: Used,
         count: usize,
     ) -> bool
-        requires { IsThere (length (stored_of R.value_of library.now)) (length self.now.definitions) used }
-        ensures { result ≡ not (count == cells_wanted (stored_of R.value_of library.now) self.now used) }
+        requires { IsThere (length (stored_of R.value_of library.now)) (length self.now.definitions)
+            used }
+        ensures { result ≡ not (count == cells_wanted (stored_of R.value_of library.now) self.now
+            used) }
     {
         match used {
             Used::Procedure(number) => !is_one_more(count, library.get(number).ins().len()),
@@ -90,7 +95,8 @@ impl Definitions {
     /// The limit that what the use stands for is over, if it is over one.
     fn size_refusal(&self, used: Used, procedures: usize) -> Option<Refusal>
         requires { IsThere procedures (length self.now.definitions) used }
-        ensures { result ≡ size_refusal (fresh_used (total_of fresh_of self.now.definitions) used) (instances_used (total_of instances_of self.now.definitions) used) }
+        ensures { result ≡ size_refusal (fresh_used (total_of fresh_of self.now.definitions) used)
+            (instances_used (total_of instances_of self.now.definitions) used) }
     {
         let Used::Definition(number) = used else {
             return None;
@@ -118,7 +124,8 @@ impl Definitions {
         requires there { IsUseThere self.now.definitions used (length cells.items) }
         requires given { IsPlaceIn walk.old.params.items given }
         requires empty { walk.old.instances.items ≡ [] }
-        ensures { OnOk result (IsAdded words.now self.now.definitions used cells.items given walk.old walk.new) }
+        ensures { OnOk result (IsAdded words.now self.now.definitions used cells.items given
+            walk.old walk.new) }
     {
         match used {
             Used::Procedure(number) => {
@@ -147,7 +154,8 @@ impl Definitions {
         given: Option<Param>,
     ) -> Result<Walk, AllocError>
         requires { IsUseThere self.now.definitions used (length cells.now) }
-        ensures walk { IfOk result (λ walk. walk_of walk ≡ stands_for words.now self.now.definitions used cells.now given) }
+        ensures walk { IfOk result (λ walk.
+            walk_of walk ≡ stands_for words.now self.now.definitions used cells.now given) }
     {
         let spare = match used {
             Used::Procedure(_) => false,
@@ -171,12 +179,14 @@ impl Definitions {
         }
     }
 
-    /// What a use of the name stands for, on cells of these kinds and given this: the kinds of its fresh cells, and its instances
-    /// of procedures. Its size is known before anything is made.
+    /// What a use of the name stands for, on cells of these kinds and given this: the kinds of its
+    /// fresh cells, and its instances of procedures. Its size is known before anything is made.
     ///
-    /// Refused with 11 where the name is neither a procedure's nor a definition's, with 12 for the count of cells, with 16 for
-    /// more than 100,000 fresh cells or 200,000 instances, with 13 where the kinds of some instance's cells do not fit, with 14 where
-    /// an instance or a definition does not take what it is given, and with 90, which never stands in the place of 11, 12 or 16.
+    /// Refused with 11 where the name is neither a procedure's nor a definition's, with 12 for the
+    /// count of cells, with 16 for more than 100,000 fresh cells or 200,000 instances, with 13
+    /// where the kinds of some instance's cells do not fit, with 14 where an instance or a
+    /// definition does not take what it is given, and with 90, which never stands in the place of
+    /// 11, 12 or 16.
     pub fn expand<R: Rule + Drop>(
         &self,
         alloc: Global,
@@ -187,11 +197,18 @@ impl Definitions {
         given: Option<Param>,
     ) -> Result<Flat, Refusal>
         requires over { IsDefinedOver (stored_of R.value_of library.now) self.now }
-        ensures fits { OnOk result (expand_refusal (stored_of R.value_of library.now) words.now self.now name.now cells.now given ≡ None) }
-        ensures ok { IfOk result (λ flat. expansion_of_flat cells.now flat ≡ expanded (stored_of R.value_of library.now) words.now self.now name.now cells.now given) }
-        ensures safe { IfOk result (λ flat. IsFlatOver (stored_of R.value_of library.now) (length cells.now) flat) }
-        ensures err { IfErr result (IsReason (expand_refusal (stored_of R.value_of library.now) words.now self.now name.now cells.now given)) }
-        ensures at_once { IfSome (refused_at_once (stored_of R.value_of library.now) words.now self.now name.now cells.now given) (λ e. result ≡ Err e) }
+        ensures fits { OnOk result (expand_refusal (stored_of R.value_of library.now) words.now
+            self.now name.now cells.now given ≡ None) }
+        ensures ok { IfOk result (λ flat.
+            expansion_of_flat cells.now flat ≡ expanded (stored_of R.value_of library.now) words.now
+            self.now name.now cells.now given) }
+        ensures safe { IfOk result (λ flat.
+            IsFlatOver (stored_of R.value_of library.now) (length cells.now) flat) }
+        ensures err { IfErr result (IsReason
+            (expand_refusal (stored_of R.value_of library.now) words.now self.now name.now cells.now
+            given)) }
+        ensures at_once { IfSome (refused_at_once (stored_of R.value_of library.now) words.now
+            self.now name.now cells.now given) (λ e. result ≡ Err e) }
     {
         let _ = &self.names;
         let Some(used) = self.used(library, name) else {

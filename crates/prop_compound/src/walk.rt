@@ -12,8 +12,8 @@ use prop_procedures::{Flat, Kinded, Param, Placed};
 use prop_vocabulary::Vocabulary;
 use std::alloc::{AllocError, Global};
 
-/// The kinds of the given cells and after them of the fresh ones, the parameters and the instances so far, and whether a definition
-/// is given a parameter that it does not take.
+/// The kinds of the given cells and after them of the fresh ones, the parameters and the instances
+/// so far, and whether a definition is given a parameter that it does not take.
 #[derive(Drop)]
 pub(crate) struct Walk {
     pub(crate) kinds: Vec<Kinded>,
@@ -42,7 +42,8 @@ pub(crate) fn param_at(params: &[Param], place: Option<usize>) -> Option<&Param>
     }
 }
 
-/// Puts what a step passes last among the parameters where the step says it. Answers its place, where something is passed.
+/// Puts what a step passes last among the parameters where the step says it. Answers its place,
+/// where something is passed.
 pub(crate) fn param_place(
     alloc: Global,
     words: &Vocabulary,
@@ -51,9 +52,12 @@ pub(crate) fn param_place(
     passing: Passing,
 ) -> Result<Option<usize>, AllocError>
     requires { IsPlaceIn params.old.items own }
-    ensures param { IfOk result (λ p. param_at params.new.items p ≡ param_passed words.now (param_at params.old.items own) passing) }
+    ensures param { IfOk result (λ p.
+        param_at params.new.items p ≡ param_passed words.now (param_at params.old.items own)
+        passing) }
     ensures there { IfOk result (IsPlaceIn params.new.items) }
-    ensures more { OnOk result ((more : List Parameter) × (params.new.items ≡ params.old.items ++ more)) }
+    ensures more { OnOk result ((more : List Parameter)
+        × (params.new.items ≡ params.old.items ++ more)) }
 {
     let param = match passing {
         Passing::Nothing => return Ok(None),

@@ -1,5 +1,6 @@
 -- Known bytes over several calls.
-use Rattle.std.proofs.Common.{◌≡◌, ℕ, ◌+◌, List, [], ◌++◌, length, take, drop, refl, sym, ◌∙◌, ap, append_assoc, append-nil, subst, Bool, true, false, ◌-◌, inl, inr}
+use Rattle.std.proofs.Common.{◌≡◌, ℕ, ◌+◌, List, [], ◌++◌, length, take, drop, refl, sym, ◌∙◌, ap, append_assoc}
+use Rattle.std.proofs.Common.{append-nil, subst, Bool, true, false, ◌-◌, inl, inr}
 use Rattle.std.proofs.lemmas.Bool.Decides.{eqb_tells}
 use Rattle.std.specs.Prelude.{◌||◌, ◌&&◌, not, ◌==◌}
 use Rattle.std.proofs.lemmas.List.{take_rest}
@@ -46,9 +47,11 @@ pub take_next : (k n : ℕ) (xs : List ℕ) → take k xs ++ take n (drop k xs) 
 take_next k n xs = sym (take-add k n xs)
 
 -- a write that took n of the bytes after the first at
-pub written_more : (a b c : Option (List ℕ)) (at n : ℕ) (bytes : List ℕ) → Appends a b (take at bytes) → Appends b c (take n (take (length bytes - at) (drop at bytes))) → Appends a c (take (at + n) bytes)
+pub written_more : (a b c : Option (List ℕ)) (at n : ℕ) (bytes : List ℕ) → Appends a b (take at bytes)
+    → Appends b c (take n (take (length bytes - at) (drop at bytes))) → Appends a c (take (at + n) bytes)
 written_more a b c at n bytes p q =
-    let r : Appends b c (take n (drop at bytes)) = subst (λ (xs : List ℕ). Appends b c (take n xs)) (take_rest bytes at) q in
+    let r : Appends b c (take n (drop at bytes)) =
+    subst (λ (xs : List ℕ). Appends b c (take n xs)) (take_rest bytes at) q in
     subst (λ (xs : List ℕ). Appends a c xs) (take_next at n bytes) (appends_more a b c _ _ p r)
 
 -- a call that moved something left the flags as they were

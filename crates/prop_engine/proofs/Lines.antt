@@ -13,7 +13,8 @@ pub at_feed : (part more : List ℕ) → IsWithoutFeed part → lines_of (part +
 at_feed [] more h = refl
 at_feed (b ∷ part) more h = rw (not_feed b h.0, at_feed part more h.1) refl
 
-pub ended_at_feed : (part more : List ℕ) → IsWithoutFeed part → ended_lines (part ++ 10 ∷ more) ≡ part ∷ ended_lines more
+pub ended_at_feed : (part more : List ℕ) → IsWithoutFeed part
+    → ended_lines (part ++ 10 ∷ more) ≡ part ∷ ended_lines more
 ended_at_feed [] more h = refl
 ended_at_feed (b ∷ part) more h = rw (not_feed b h.0, ended_at_feed part more h.1) refl
 

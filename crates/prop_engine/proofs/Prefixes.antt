@@ -1,5 +1,6 @@
 -- A session that stopped can be taken to its end.
-use Rattle.std.proofs.Common.{◌≡◌, ℕ, List, [], ◌∷◌, ◌++◌, length, Bool, true, false, cond, eqb, refl, sym, ◌∙◌, ap, subst, append_assoc, append-nil}
+use Rattle.std.proofs.Common.{◌≡◌, ℕ, List, [], ◌∷◌, ◌++◌, length, Bool, true, false, cond, eqb, refl, sym, ◌∙◌, ap}
+use Rattle.std.proofs.Common.{subst, append_assoc, append-nil}
 use Rattle.std.specs.Prelude.{flat_map, count_by}
 use Rattle.std.proofs.lemmas.Grind.{flat_map-append}
 use Rattle.prop_engine.specs.Lines.{lines_of, ended_lines, onto_first, onto_ended}
@@ -8,7 +9,9 @@ use Rattle.prop_engine.specs.Transcripts.{Machine, Run, WriteStopped, ReadStoppe
 use Rattle.prop_engine.specs.Machines.{IsTotal}
 
 -- a run over some lines goes on over the rest
-pub run_on : {S : Type 0} (machine : Machine S) → IsTotal machine → (old : S) (lines rest : List (List ℕ)) (answers : List Answer) (mid : S) → Run machine old lines answers mid → (more : List Answer) × (new : S) × Run machine old (lines ++ rest) (answers ++ more) new
+pub run_on : {S : Type 0} (machine : Machine S) → IsTotal machine
+    → (old : S) (lines rest : List (List ℕ)) (answers : List Answer) (mid : S) → Run machine old lines answers mid
+    → (more : List Answer) × (new : S) × Run machine old (lines ++ rest) (answers ++ more) new
 run_on machine total old [] [] [] mid r = ([], old, refl)
 run_on machine total old [] (line ∷ rest) [] mid r =
     let step = total old line in
@@ -20,7 +23,10 @@ run_on machine total old (l ∷ lines) rest (a ∷ answers) mid (m, s, r) =
 run_on machine total old [] rest (a ∷ answers) mid r = absurd r
 run_on machine total old (l ∷ lines) rest [] mid r = absurd r
 
-prefix : {S : Type 0} (machine : Machine S) → IsTotal machine → (old : S) (input output : List ℕ) (lines rest : List (List ℕ)) (answers : List Answer) (mid : S) (missing : List ℕ) → lines_of input ≡ lines ++ rest → Run machine old lines answers mid → flat_map text_written answers ≡ output ++ missing → IsPrefixOfTranscript machine old input output
+prefix : {S : Type 0} (machine : Machine S) → IsTotal machine
+    → (old : S) (input output : List ℕ) (lines rest : List (List ℕ)) (answers : List Answer) (mid : S)
+    (missing : List ℕ) → lines_of input ≡ lines ++ rest → Run machine old lines answers mid
+    → flat_map text_written answers ≡ output ++ missing → IsPrefixOfTranscript machine old input output
 prefix machine total old input output lines rest answers mid missing e r o =
     let on = run_on machine total old lines rest answers mid r in record {
       rest = missing ++ flat_map text_written on.0;
@@ -30,29 +36,40 @@ prefix machine total old input output lines rest answers mid missing e r o =
       transcript = record {
         answers = answers ++ on.0;
         run = subst (λ (l : List (List ℕ)). Run machine old l (answers ++ on.0) on.1) (sym e) on.2;
-        output_is = sym (flat_map-append text_written answers on.0 ∙ ap (λ l. l ++ flat_map text_written on.0) o ∙ append_assoc output missing (flat_map text_written on.0));
+        output_is = sym (flat_map-append text_written answers on.0 ∙ ap (λ l. l ++ flat_map text_written on.0) o
+            ∙ append_assoc output missing (flat_map text_written on.0));
         lines_counted = refl;
         refused_counted = refl;
       };
     }
 
-pub write_prefix : {S : Type 0} (machine : Machine S) → IsTotal machine → (old : S) (input output : List ℕ) (new : S) → WriteStopped machine old input output new → IsPrefixOfTranscript machine old input output
+pub write_prefix : {S : Type 0} (machine : Machine S) → IsTotal machine → (old : S) (input output : List ℕ) (new : S)
+    → WriteStopped machine old input output new → IsPrefixOfTranscript machine old input output
 write_prefix machine total old input output new w =
     prefix machine total old input output w.lines w.rest (w.before ++ w.last ∷ []) new w.missing w.split w.run
-    (flat_map-append text_written w.before (w.last ∷ []) ∙ ap (λ l. flat_map text_written w.before ++ l) (append-nil (text_written w.last) ∙ w.last_is) ∙ sym (append_assoc (flat_map text_written w.before) w.prefix w.missing) ∙ ap (λ l. l ++ w.missing) (sym w.output_is))
+    (flat_map-append text_written w.before (w.last ∷ [])
+    ∙ ap (λ l. flat_map text_written w.before ++ l) (append-nil (text_written w.last) ∙ w.last_is)
+    ∙ sym (append_assoc (flat_map text_written w.before) w.prefix w.missing)
+    ∙ ap (λ l. l ++ w.missing) (sym w.output_is))
 
-first_ended : (feed : Bool) (b : ℕ) (lines ended rest : List (List ℕ)) → lines ≡ ended ++ rest → (more : List (List ℕ)) × (cond feed ([] ∷ lines) (onto_first b lines) ≡ cond feed ([] ∷ ended) (onto_ended b ended) ++ more)
+first_ended : (feed : Bool) (b : ℕ) (lines ended rest : List (List ℕ)) → lines ≡ ended ++ rest
+    → (more : List (List ℕ)) × (cond feed ([] ∷ lines) (onto_first b lines) ≡ cond feed ([] ∷ ended)
+    (onto_ended b ended) ++ more)
 first_ended true b lines ended rest e = (rest, ap (λ l. [] ∷ l) e)
 first_ended false b lines [] rest e = (onto_first b lines, refl)
 first_ended false b lines (l ∷ ended) rest e = (rest, ap (onto_first b) e)
 
-pub ended_first : (input more : List ℕ) → (rest : List (List ℕ)) × (lines_of (input ++ more) ≡ ended_lines input ++ rest)
+pub ended_first : (input more : List ℕ)
+    → (rest : List (List ℕ)) × (lines_of (input ++ more) ≡ ended_lines input ++ rest)
 ended_first [] more = (lines_of more, refl)
 ended_first (b ∷ input) more =
     let on = ended_first input more in
     first_ended (eqb b 10) b (lines_of (input ++ more)) (ended_lines input) on.0 on.1
 
-pub read_prefix : {S : Type 0} (machine : Machine S) → IsTotal machine → (old : S) (input output more : List ℕ) (new : S) → ReadStopped machine old input output new → IsPrefixOfTranscript machine old (input ++ more) output
+pub read_prefix : {S : Type 0} (machine : Machine S) → IsTotal machine
+    → (old : S) (input output more : List ℕ) (new : S) → ReadStopped machine old input output new
+    → IsPrefixOfTranscript machine old (input ++ more) output
 read_prefix machine total old input output more new w =
     let on = ended_first input more in
-    prefix machine total old (input ++ more) output (ended_lines input) on.0 w.answers new [] on.1 w.run (sym (append-nil output ∙ w.output_is))
+    prefix machine total old (input ++ more) output (ended_lines input) on.0 w.answers new [] on.1 w.run
+    (sym (append-nil output ∙ w.output_is))

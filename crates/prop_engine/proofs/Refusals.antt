@@ -4,9 +4,15 @@ use Rattle.std.specs.Prelude.{codes}
 use Rattle.std.specs.Fmt.{decimal}
 use Rattle.std.proofs.lemmas.Fmt.{length-decimal-le}
 use Rattle.std.proofs.lemmas.List.{length-append}
-use Rattle.prop_refusals.specs.declared.refusal.Limit.TheVariants.{Cells, Instances, Premises, Choices, Statements, Domains, Elements, Relations, Definitions, Symbols}
+use Rattle.prop_refusals.specs.declared.refusal.Limit.TheVariants.{Cells, Instances, Premises, Choices, Statements}
+use Rattle.prop_refusals.specs.declared.refusal.Limit.TheVariants.{Domains, Elements, Relations, Definitions, Symbols}
 use Rattle.prop_refusals.specs.declared.refusal.Refusal.{Refusal}
-use Rattle.prop_refusals.specs.declared.refusal.Refusal.TheVariants.{LineTooLong, NotUtf8, UnknownCommand, WrongForm, NotAName, NotANumber, NameTaken, NoSuchDomain, NoSuchRelation, NoSuchCell, NoSuchPremise, NoSuchProcedure, WrongCount, WrongKind, WrongParameter, NotInTheDomain, EmptyValue, IsAChoice, LimitReached, Memory}
+use Rattle.prop_refusals.specs.declared.refusal.Refusal.TheVariants.{LineTooLong, NotUtf8, UnknownCommand, WrongForm}
+use Rattle.prop_refusals.specs.declared.refusal.Refusal.TheVariants.{NotAName, NotANumber, NameTaken, NoSuchDomain}
+use Rattle.prop_refusals.specs.declared.refusal.Refusal.TheVariants.{NoSuchRelation, NoSuchCell, NoSuchPremise}
+use Rattle.prop_refusals.specs.declared.refusal.Refusal.TheVariants.{NoSuchProcedure, WrongCount, WrongKind}
+use Rattle.prop_refusals.specs.declared.refusal.Refusal.TheVariants.{WrongParameter, NotInTheDomain, EmptyValue}
+use Rattle.prop_refusals.specs.declared.refusal.Refusal.TheVariants.{IsAChoice, LimitReached, Memory}
 use Rattle.prop_refusals.specs.Refusals.{told_as, number_of, reply_to}
 
 short_number : (n : ℕ) → n < 100 → length (decimal n) ≤ 2
@@ -43,7 +49,8 @@ short_told (LimitReached Definitions) = (lit< tt, lit< tt)
 short_told (LimitReached Symbols) = (lit< tt, lit< tt)
 short_told Memory = (lit< tt, lit< tt)
 
-told_length : (digits text : List ℕ) → length (codes "error " ++ digits ++ codes ": " ++ text) ≡ 8 + (length digits + length text)
+told_length : (digits text : List ℕ)
+    → length (codes "error " ++ digits ++ codes ": " ++ text) ≡ 8 + (length digits + length text)
 told_length digits text = omega (arith, length-append (digits ++ codes ": ") text, length-append digits (codes ": "))
 
 -- with a line feed it fits 64 bytes

@@ -19,11 +19,14 @@ pub in_turn : {Rd W : Type 0} (d : Devices Rd W) (old new : Bool) → IsPassedOn
 in_turn d old new p e = e ∙ or_false old (waits d) (none_waits d p)
 
 -- a call that left the writer alone and wrote nothing of what is owed
-pub still_passed_on : {Rd W : Type 0} (d d' : Devices Rd W) → writer d' ≡ writer d → owed d' ≡ owed d → IsPassedOn d → IsPassedOn d'
+pub still_passed_on : {Rd W : Type 0} (d d' : Devices Rd W) → writer d' ≡ writer d → owed d' ≡ owed d → IsPassedOn d
+    → IsPassedOn d'
 still_passed_on d d' w o p = record { fresh = rw w p.fresh; paid = o ∙ p.paid }
 
 -- nor has a write of what is left of the bytes, where all of them were owed
-pub owed_in_turn : (bytes : List ℕ) (at owed start : ℕ) (old new : Bool) → length bytes ≤ start → owed ≡ start - at → new ≡ (old || ltb owed (length (take (length bytes - at) (drop at bytes)))) → new ≡ old
+pub owed_in_turn : (bytes : List ℕ) (at owed start : ℕ) (old new : Bool) → length bytes ≤ start
+    → owed ≡ start - at → new ≡ (old || ltb owed (length (take (length bytes - at) (drop at bytes)))) → new ≡ old
 owed_in_turn bytes at owed start old new h e q =
-    let rest : length (take (length bytes - at) (drop at bytes)) ≤ owed = omega (arith, ap length (take_rest bytes at), length-drop at bytes) in
+    let rest : length (take (length bytes - at) (drop at bytes)) ≤ owed =
+    omega (arith, ap length (take_rest bytes at), length-drop at bytes) in
     q ∙ or_false old _ (le-ltb owed _ rest)

@@ -1,5 +1,6 @@
 -- What a clause reads of watched devices, and of what one call of them did.
-use Rattle.std.specs.Prelude.{◌≡◌, ℕ, ◌+◌, ◌-◌, ◌^◌, min, Bool, List, length, Result, ◌==◌, ◌&&◌, not, true, false, Option, ◌++◌, ◌⊎◌}
+use Rattle.std.specs.Prelude.{◌≡◌, ℕ, ◌+◌, ◌-◌, ◌^◌, min, Bool, List, length, Result, ◌==◌, ◌&&◌}
+use Rattle.std.specs.Prelude.{not, true, false, Option, ◌++◌, ◌⊎◌}
 use Rattle.std.specs.Io.KnownBytes.{Appends}
 use Rattle.prop_engine.specs.declared.watched.Watched.{Watched}
 use Rattle.prop_engine.specs.declared.watched.Devices.{Devices}
@@ -16,7 +17,8 @@ writer d = d.writer
 abbrev pub owed : {Rd W : Type 0} → Devices Rd W → ℕ
 owed d = d.owed
 
--- whether a read came, or a line was carried out, while a reply was to be written or passed on; or a write was asked for more than was owed
+-- whether a read came, or a line was carried out, while a reply was to be written or passed on; or
+-- a write was asked for more than was owed
 abbrev pub has_gone_ahead : {Rd W : Type 0} → Devices Rd W → Bool
 has_gone_ahead d = d.has_gone_ahead
 
@@ -28,7 +30,8 @@ device w = w.device
 abbrev pub has_failed : {T : Type 0} → Watched T → Bool
 has_failed w = w.has_failed
 
--- whether a call with bytes to move has moved none: a read that told the end, a write that took no byte
+-- whether a call with bytes to move has moved none: a read that told the end, a write that took no
+-- byte
 abbrev pub has_stopped : {T : Type 0} → Watched T → Bool
 has_stopped w = w.has_stopped
 
@@ -87,4 +90,5 @@ taken (Result.Err _) = 0
 
 -- a writer took a prefix of the bytes
 abbrev pub AppendsFront : Option (List ℕ) → Option (List ℕ) → List ℕ → Type 0
-AppendsFront old new bytes = (prefix : List ℕ) × (missing : List ℕ) × Appends old new prefix × (bytes ≡ prefix ++ missing)
+AppendsFront old new bytes = (prefix : List ℕ) × (missing : List ℕ) × Appends old new prefix
+    × (bytes ≡ prefix ++ missing)

@@ -1,8 +1,11 @@
 //! The engine: reads pieces, carries out lines, writes replies.
-ghost use Rattle.std.specs.Prelude.{◌≡◌, ◌≢◌, ◌↔◌, ◌⊎◌, ℕ, ◌+◌, ◌<◌, ◌≤◌, ◌^◌, List, length, min, max, true, false};
+ghost use Rattle.std.specs.Prelude.{◌≡◌, ◌≢◌, ◌↔◌, ◌⊎◌, ℕ, ◌+◌, ◌<◌, ◌≤◌, ◌^◌, List, length, min};
+ghost use Rattle.std.specs.Prelude.{max, true, false};
 ghost use Rattle.std.specs.Prelude.{OnOk, OnErr, IfOk, IfErr, MatchResult, IsErrOf};
 ghost use Rattle.std.specs.Io.KnownBytes.{Appends, Consumes};
-ghost use Rattle.prop_engine.specs.Watched.{reader, writer, has_gone_ahead, device, has_failed, has_stopped, has_flushed_idly, calls, widest, narrowest, AppendsFront, IsFaulty, IsFresh, IsPassedOn};
+ghost use Rattle.prop_engine.specs.Watched.{reader, writer, has_gone_ahead, device, has_failed};
+ghost use Rattle.prop_engine.specs.Watched.{has_stopped, has_flushed_idly, calls, widest};
+ghost use Rattle.prop_engine.specs.Watched.{narrowest, AppendsFront, IsFaulty, IsFresh, IsPassedOn};
 ghost use Rattle.prop_engine.specs.Answers.{Answer, Silent, text_written};
 ghost use Rattle.prop_engine.specs.inner.Progress.{CountsAnswer, Advances, Stops, GrowsAtMost};
 ghost use Rattle.prop_engine.specs.Endings.{Tells, WritesTranscript, WritesPrefix};
@@ -134,7 +137,8 @@ pub fn run_session<M: Interpreter, Rd: Read, W: Write>(
     ensures write { IsErrOf result EngineFault.Write → IsFaulty (writer devices.new) }
     ensures reads { IsErrOf result EngineFault.Reads → (has_stopped (reader devices.new) ≡ false)
         × (calls (reader devices.new) ≡ min (calls (reader devices.old) + reads) u64.MAX) }
-    // No read came and no line was carried out before each reply so far was written whole and passed on.
+    // No read came and no line was carried out before each reply so far was written whole and
+    // passed on.
     ensures in_turn { has_gone_ahead devices.new ≡ has_gone_ahead devices.old }
     // Where no write stopped it, so was the last.
     ensures passed_on { IsErrOf result EngineFault.Write ⊎ IsPassedOn devices.new }

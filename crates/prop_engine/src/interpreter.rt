@@ -9,8 +9,8 @@ use crate::reply::Reply;
 /// What carries out lines, one after another, as a machine.
 ///
 /// A line takes the machine from a state to the next, and leaves the setting as it was. The machine
-/// has to answer a line as it may answer the prefix of it that is kept, its first 4,097 bytes, and has
-/// to have some answer to each line that leaves the state as it was.
+/// has to answer a line as it may answer the prefix of it that is kept, its first 4,097 bytes, and
+/// has to have some answer to each line that leaves the state as it was.
 pub trait Interpreter {
     /// What no line changes, such as what words mean.
     type Setting;
@@ -35,7 +35,8 @@ pub trait Interpreter {
         requires ready { is_ready self.old }
         ensures ready { is_ready self.new }
         ensures same { setting self.new ≡ setting self.old }
-        ensures step { machine (setting self.old) (state self.old) line.now (answer_of result) (state self.new) };
+        ensures step { machine (setting self.old) (state self.old) line.now (answer_of result)
+            (state self.new) };
 
     ghost asks_by_prefix: { (at : Self.Setting) → AsksByPrefix (machine at) };
 

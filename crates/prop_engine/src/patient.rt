@@ -10,7 +10,8 @@ use std::io::{ErrorKind, Read, Write};
 const TRIES: u32 = 1 << 16;
 
 /// A reader or a writer of which each call is tried again where a signal interrupted it, as a
-/// terminal's change of size does. After 65,536 such tries the interruption is told as any other fault.
+/// terminal's change of size does. After 65,536 such tries the interruption is told as any other
+/// fault.
 #[derive(Drop)]
 pub struct Patient<T> {
     device: T,

@@ -1,7 +1,10 @@
 //! Replies, written and passed on.
-ghost use Rattle.std.specs.Prelude.{◌≡◌, ◌<◌, ◌≤◌, ◌-◌, ◌++◌, ◌∷◌, ◌||◌, [], length, OnOk, OnErr, IfErr, IsOk, true, false};
+ghost use Rattle.std.specs.Prelude.{◌≡◌, ◌<◌, ◌≤◌, ◌-◌, ◌++◌, ◌∷◌, ◌||◌, [], length, OnOk, OnErr};
+ghost use Rattle.std.specs.Prelude.{IfErr, IsOk, true, false};
 ghost use Rattle.std.specs.Io.KnownBytes.{Appends, Keeps};
-ghost use Rattle.prop_engine.specs.Watched.{reader, writer, owed, has_gone_ahead, device, is_flushed, has_flushed_idly, AppendsFront, IsFaulty, IsFresh, IsPassedOn};
+ghost use Rattle.prop_engine.specs.Watched.{reader, writer, owed, has_gone_ahead, device};
+ghost use Rattle.prop_engine.specs.Watched.{is_flushed, has_flushed_idly, AppendsFront, IsFaulty};
+ghost use Rattle.prop_engine.specs.Watched.{IsFresh, IsPassedOn};
 ghost use Rattle.prop_engine.specs.inner.Watched.{IsUnharmed};
 ghost use Rattle.prop_engine.specs.Answers.{Silent, text_written, answer_of};
 
@@ -80,9 +83,10 @@ fn send<Rd: Read, W: Write>(devices: &mut Devices<Rd, W>, bytes: &[u8]) -> Resul
     flush(devices)
 }
 
-/// Writes the reply that is owed with its line feed, in one write where the writer takes it, and passes it on.
-/// A silent reply leaves the devices as they are. `EngineFault::Write` where a write or the flush fails, or a write
-/// takes no byte: then a prefix of the reply was written, and the writer tells the fault.
+/// Writes the reply that is owed with its line feed, in one write where the writer takes it, and
+/// passes it on. A silent reply leaves the devices as they are. `EngineFault::Write` where a write
+/// or the flush fails, or a write takes no byte: then a prefix of the reply was written, and the
+/// writer tells the fault.
 #[tactic(auto, using(crate::proofs::Refusals::short_reply))]
 pub fn write_reply<Rd: Read, W: Write>(
     devices: &mut Devices<Rd, W>,

@@ -1,5 +1,6 @@
 //! A reader and a writer that keep what was asked of them and what came of it.
-ghost use Rattle.std.specs.Prelude.{◌≡◌, ◌<◌, ◌-◌, ◌^◌, ◌||◌, is_err, is_ok, min, max, length, ltb, false};
+ghost use Rattle.std.specs.Prelude.{◌≡◌, ◌<◌, ◌-◌, ◌^◌, ◌||◌, is_err, is_ok, min, max, length, ltb};
+ghost use Rattle.std.specs.Prelude.{false};
 ghost use Rattle.std.specs.Io.{ReadsAtMost, WritesAtMost};
 ghost use Rattle.std.specs.Io.KnownBytes.{Keeps, ReadConsumes, WriteAppends};
 ghost use Rattle.prop_engine.specs.Answers.{answer_of, text_written};
@@ -24,7 +25,8 @@ pub struct Watched<T> {
 }
 
 impl<T> Watched<T> {
-    ghost use Rattle.prop_engine.specs.Watched.{device, calls, widest, narrowest, has_flushed_idly, IsFresh};
+    ghost use Rattle.prop_engine.specs.Watched.{device, calls, widest, narrowest, has_flushed_idly};
+    ghost use Rattle.prop_engine.specs.Watched.{IsFresh};
 
     /// A device of which no call was made yet.
     fn new(inner: T) -> Watched<T>
@@ -59,7 +61,10 @@ pub struct Devices<Rd, W> {
 }
 
 impl<Rd: Read, W: Write> Devices<Rd, W> {
-    ghost use Rattle.prop_engine.specs.Watched.{reader, writer, owed, waits, has_gone_ahead, device, has_failed, has_stopped, is_flushed, calls, widest, narrowest, has_flushed_idly, one_more, moved_none, taken, IsFresh, IsPassedOn};
+    ghost use Rattle.prop_engine.specs.Watched.{reader, writer, owed, waits, has_gone_ahead};
+    ghost use Rattle.prop_engine.specs.Watched.{device, has_failed, has_stopped, is_flushed, calls};
+    ghost use Rattle.prop_engine.specs.Watched.{widest, narrowest, has_flushed_idly, one_more};
+    ghost use Rattle.prop_engine.specs.Watched.{moved_none, taken, IsFresh, IsPassedOn};
 
     /// A reader and a writer of which no call was made yet.
     pub fn new(input: Rd, output: W) -> Devices<Rd, W>

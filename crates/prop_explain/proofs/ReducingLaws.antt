@@ -1,5 +1,6 @@
 -- What a run over some premises tells of what they entail.
-use Rattle.std.proofs.Common.{◌≡◌, ◌∙◌, ◌+◌, ◌-◌, ◌*◌, ◌<◌, ◌≤◌, ◌++◌, ◌∷◌, [], ℕ, List, Contains, IsTrue, Option, Some, None, get_or, length, refl, sym, ap, subst, arith}
+use Rattle.std.proofs.Common.{◌≡◌, ◌∙◌, ◌+◌, ◌-◌, ◌*◌, ◌<◌, ◌≤◌, ◌++◌, ◌∷◌, [], ℕ, List, Contains, IsTrue, Option, Some}
+use Rattle.std.proofs.Common.{None, get_or, length, refl, sym, ap, subst, arith}
 use Rattle.prop_lattice.specs.declared.info.Info.{Info}
 use Rattle.prop_lattice.specs.Order.{Below}
 use Rattle.prop_numbers.specs.Sets.{Members, IsPart, set_of, without}
@@ -16,14 +17,16 @@ use Rattle.prop_explain.specs.Trying.TriesOf.{none, tried}
 use Rattle.prop_explain.proofs.TryingLaws.{AreHeld, few_more, held_next, lacks_itself, next_believed, next_held}
 
 -- at rest, what is entailed is below what is believed
-pub settled_below : (library : List Stored) (s : Members) (d : Data) (cell : ℕ) (v : Info) → IsSettled library s d → Entails (problem_of library d) s cell v → Below v (beliefs s d.contents cell)
+pub settled_below : (library : List Stored) (s : Members) (d : Data) (cell : ℕ) (v : Info) → IsSettled library s d
+    → Entails (problem_of library d) s cell v → Below v (beliefs s d.contents cell)
 settled_below library s d cell v settled e = e.below (beliefs s d.contents) settled.least.solves
 
 member_more : (s t : Members) → IsPart s t → (p : Option ℕ) → IsTrue (is_member s p) → IsTrue (is_member t p)
 member_more s t part None h = refl
 member_more s t part (Some p) h = part p h
 
-solution_fewer : (problem : Problem) (s t : Members) (a : Assignment) → IsPart s t → IsSolution problem t a → IsSolution problem s a
+solution_fewer : (problem : Problem) (s t : Members) (a : Assignment) → IsPart s t → IsSolution problem t a
+    → IsSolution problem s a
 solution_fewer problem s t a part sol = record {
   kinds = sol.kinds;
   statements = λ k d l h. sol.statements k d l (member_more s t part (get_or problem.statements k d).premise h);
@@ -31,24 +34,30 @@ solution_fewer problem s t a part sol = record {
 }
 
 -- fewer premises than consistent ones are consistent, and no conflict lies among them
-pub consistent_fewer : (problem : Problem) (s t : Members) → IsPart s t → IsConsistent problem t → IsConsistent problem s
-consistent_fewer problem s t part c = record { solution = c.solution; solves = solution_fewer problem s t c.solution part c.solves; free = c.free }
+pub consistent_fewer : (problem : Problem) (s t : Members) → IsPart s t → IsConsistent problem t
+    → IsConsistent problem s
+consistent_fewer problem s t part c =
+    record { solution = c.solution; solves = solution_fewer problem s t c.solution part c.solves; free = c.free }
 
 pub no_conflict : (problem : Problem) (s n : Members) → IsConsistent problem s → IsConflict problem s n → ⊥
 no_conflict problem s n c conflict = conflict.contradictory (consistent_fewer problem n s conflict.part c)
 
 -- a network whose cells hold other things is the same problem
-pub same_problem : (library library' : List Stored) (start new : Data) → library' ≡ library → new ≡ record start { contents = new.contents } → problem_of library' new ≡ problem_of library start
+pub same_problem : (library library' : List Stored) (start new : Data) → library' ≡ library
+    → new ≡ record start { contents = new.contents } → problem_of library' new ≡ problem_of library start
 same_problem library library' start new same rest = λ i. problem_of (same i) (rest i)
 
 -- ---- one try after another
 
 -- a network in which nothing was tried is ready as it was
-pub as_ready : (library : List Stored) (d : Data) (agenda : Waiting) → IsReady library d agenda → StaysReady library d d agenda agenda
+pub as_ready : (library : List Stored) (d : Data) (agenda : Waiting) → IsReady library d agenda
+    → StaysReady library d d agenda agenda
 as_ready library d agenda ready = record { rest = refl; ready = ready; room = refl; cells = refl }
 
 -- what a try leaves of what another left
-pub stays_then : (library : List Stored) (old middle new : Data) (before between after : Waiting) → StaysReady library old middle before between → StaysReady library middle new between after → StaysReady library old new before after
+pub stays_then : (library : List Stored) (old middle new : Data) (before between after : Waiting)
+    → StaysReady library old middle before between → StaysReady library middle new between after
+    → StaysReady library old new before after
 stays_then library old middle new before between after first then = record {
   rest = then.rest ∙ (λ i. record (first.rest i) { contents = new.contents });
   ready = then.ready;
@@ -56,8 +65,11 @@ stays_then library old middle new before between after first then = record {
   cells = then.cells ∙ first.cells;
 }
 
--- the instances that were called in so many steps, each premise of the list having been tried and the rest not, and the network that this left
-pub record HasTried {O : Type 0} (picks : O → ℕ → ℕ → O → Type 0) (library : List Stored) (believed : Members) (start : Data) (before : Waiting) (first : O) (budget : ℕ) (ps rest : List ℕ) (s : Members) (steps : ℕ) (d : Data) (agenda : Waiting) (order : O) : Type 0 where
+-- the instances that were called in so many steps, each premise of the list having been tried and the rest not, and the
+-- network that this left
+pub record HasTried {O : Type 0} (picks : O → ℕ → ℕ → O → Type 0) (library : List Stored) (believed : Members)
+    (start : Data) (before : Waiting) (first : O) (budget : ℕ) (ps rest : List ℕ) (s : Members) (steps : ℕ) (d : Data)
+    (agenda : Waiting) (order : O) : Type 0 where
   pub left : StaysReady library start d before agenda
   pub within : steps ≤ budget
   pub few : steps ≤ length ps * most_steps (problem_of library start)
@@ -65,30 +77,54 @@ pub record HasTried {O : Type 0} (picks : O → ℕ → ℕ → O → Type 0) (l
   pub held : AreHeld believed tries.0 s rest
 
 -- so many calls, for which every instance waited
-abbrev pub Called : {O : Type 0} → (O → ℕ → ℕ → O → Type 0) → List Stored → Members → Data → O → ℕ → Data → List ℕ → O → Type 0
-Called picks library s d order calls new after next = (all : List ℕ) × ((j : ℕ) → j < length d.instances → Contains all j) × Turns picks library s d all order calls new after next
+abbrev pub Called : {O : Type 0} → (O → ℕ → ℕ → O → Type 0) → List Stored → Members → Data → O → ℕ → Data → List ℕ → O
+    → Type 0
+Called picks library s d order calls new after next = (all : List ℕ)
+    × ((j : ℕ) → j < length d.instances → Contains all j) × Turns picks library s d all order calls new after next
 
 -- without the next premise what is left is tried, in so many calls
-abbrev pub tried_on : {O : Type 0} {picks : O → ℕ → ℕ → O → Type 0} {start d : Data} {line now rest : List ℕ} {first order next : O} {believed s : Members} {steps calls : ℕ} (library : List Stored) (p : ℕ) (less : Members) (new : Data) (after : List ℕ) → less ≡ without s p →
-    (tries : Tries picks library believed start line first steps d now order) → AreHeld believed tries.0 s (p ∷ rest) → IsPart less believed → Called picks library less d order calls new after next → Tries picks library believed start line first (steps + calls) new after next
-tried_on {rest} {s} library p less new after is tries held part called =
-    (less ∷ tries.0, tried tries.0 _ _ less p _ new _ called.0 after _ _ part (next_believed p rest held) (ap (λ (t : Members). t p) is ∙ lacks_itself s p) (next_held p rest held) tries.1 called.1 called.2)
+abbrev pub tried_on : {O : Type 0} {picks : O → ℕ → ℕ → O
+    → Type 0} {start d : Data} {line now rest : List ℕ} {first order next : O} {believed s : Members} {steps calls : ℕ}
+    (library : List Stored) (p : ℕ) (less : Members) (new : Data) (after : List ℕ) → less ≡ without s p →
+    (tries : Tries picks library believed start line first steps d now order) → AreHeld believed tries.0 s (p ∷ rest)
+    → IsPart less believed → Called picks library less d order calls new after next
+    → Tries picks library believed start line first (steps + calls) new after next
+tried_on {rest} {s} library p less new after is tries held part called = (
+  less ∷ tries.0,
+  tried tries.0 _ _ less p _ new _ called.0 after _ _ part (next_believed p rest held)
+      (ap (λ (t : Members). t p) is ∙ lacks_itself s p) (next_held p rest held) tries.1 called.1 called.2,
+)
 
 -- one premise more was tried: the network was run without it
-pub one_more : {O : Type 0} {picks : O → ℕ → ℕ → O → Type 0} {new : Data} {before agenda after : Waiting} {first order next : O} {believed s : Members} {budget : ℕ} (library : List Stored) (start d : Data) (ps rest : List ℕ) (p steps calls : ℕ) (less now : Members) → less ≡ without s p → HasTried picks library believed start before first budget ps (p ∷ rest) s steps d agenda order →
-    IsPart less believed → IsPart (set_of rest) now → StaysReady library d new agenda after → calls ≤ budget - steps → calls ≤ most_steps (problem_of library d) → Called picks library less d order calls new after.line next →
+pub one_more : {O : Type 0} {picks : O → ℕ → ℕ → O
+    → Type 0} {new : Data} {before agenda after : Waiting} {first order next : O} {believed s : Members} {budget : ℕ}
+    (library : List Stored) (start d : Data) (ps rest : List ℕ) (p steps calls : ℕ) (less now : Members)
+    → less ≡ without s p → HasTried picks library believed start before first budget ps (p ∷ rest) s steps d agenda
+    order →
+    IsPart less believed → IsPart (set_of rest) now → StaysReady library d new agenda after → calls ≤ budget - steps
+    → calls ≤ most_steps (problem_of library d) → Called picks library less d order calls new after.line next →
     HasTried picks library believed start before first budget (ps ++ p ∷ []) rest now (steps + calls) new after next
-one_more {believed} library start d ps rest p steps calls less now is so_far part holds left within falls called = record {
-  left = stays_then library start d _ _ _ _ so_far.left left;
-  within = omega (arith, within, so_far.within);
-  few = few_more ps p (most_steps (problem_of library start)) steps calls so_far.few (subst (λ (q : Problem). calls ≤ most_steps q) (same_problem library library start d refl so_far.left.rest) falls);
-  tries = tried_on library p less _ _ is so_far.tries so_far.held part called;
-  held = subst (λ (t : Members). AreHeld believed (t ∷ so_far.tries.0) now rest) (sym is) (held_next p rest so_far.held now holds);
-}
+one_more {believed} library start d ps rest p steps calls less now is so_far part holds left within falls called =
+    record {
+      left = stays_then library start d _ _ _ _ so_far.left left;
+      within = omega (arith, within, so_far.within);
+      few = few_more ps p (most_steps (problem_of library start)) steps calls so_far.few
+          (subst (λ (q : Problem). calls ≤ most_steps q) (same_problem library library start d refl so_far.left.rest)
+          falls);
+      tries = tried_on library p less _ _ is so_far.tries so_far.held part called;
+      held = subst (λ (t : Members). AreHeld believed (t ∷ so_far.tries.0) now rest) (sym is)
+          (held_next p rest so_far.held now holds);
+    }
 
 -- what was tried of some premises was tried of more
-pub tries_of_more : {O : Type 0} (picks : O → ℕ → ℕ → O → Type 0) (library : List Stored) (s t : Members) (start : Data) (line : List ℕ) (order : O) (sets : List Members) (n : ℕ) (new : Data) (after : List ℕ) (next : O) → IsPart s t →
-    TriesOf picks library s start line order sets n new after next → TriesOf picks library t start line order sets n new after next
+pub tries_of_more : {O : Type 0} (picks : O → ℕ → ℕ → O → Type 0) (library : List Stored) (s t : Members) (start : Data)
+    (line : List ℕ) (order : O) (sets : List Members) (n : ℕ) (new : Data) (after : List ℕ) (next : O) → IsPart s t →
+    TriesOf picks library s start line order sets n new after next
+    → TriesOf picks library t start line order sets n new after next
 tries_of_more picks library s t start line order sets n new after next part none = none
-tries_of_more picks library s t start line order sets n new after next part (tried before_sets k m set p d last before all behind first following within is_believed lacks hold earlier waits turns) =
-    tried before_sets k m set p d new before all after first next (λ q h. part q (within q h)) (part p is_believed) lacks hold (tries_of_more picks library s t start line order before_sets k d before first part earlier) waits turns
+tries_of_more picks library s t start line order sets n new after next part
+    (tried before_sets k m set p d last before all behind first following within is_believed lacks hold earlier waits
+    turns) =
+    tried before_sets k m set p d new before all after first next (λ q h. part q (within q h)) (part p is_believed)
+    lacks hold (tries_of_more picks library s t start line order before_sets k d before first part earlier) waits
+    turns

@@ -1,5 +1,6 @@
 -- Premises that are tried one after the other, and left out where the others are enough.
-use Rattle.std.proofs.Common.{◌≡◌, ◌⊎◌, ◌∙◌, ℕ, ◌<◌, ◌≤◌, ◌+◌, ◌*◌, Bool, true, false, ◌==◌, ◌||◌, ◌&&◌, not, IsTrue, List, [], ◌∷◌, ◌++◌, length, All, inl, inr, refl, sym, arith}
+use Rattle.std.proofs.Common.{◌≡◌, ◌⊎◌, ◌∙◌, ℕ, ◌<◌, ◌≤◌, ◌+◌, ◌*◌, Bool, true, false, ◌==◌, ◌||◌, ◌&&◌, not, IsTrue}
+use Rattle.std.proofs.Common.{List, [], ◌∷◌, ◌++◌, length, All, inl, inr, refl, sym, arith}
 use Rattle.std.specs.List.{AllByRecursion}
 use Rattle.std.proofs.lemmas.Bool.Decides.{eqb_tells}
 use Rattle.std.proofs.lemmas.List.{length-append}
@@ -42,7 +43,8 @@ same_test p = elim (eqb_tells p p) [ inl e ↦ e.0 | inr e ↦ absurd (e.1 refl)
 
 -- what is left without a premise is a part of what was there without it
 part_without : (s t : Members) (p : ℕ) → IsPart t s → IsPart (without t p) (without s p)
-part_without s t p part q h = and_both (s q) (not (p == q)) (part q (and_first (t q) (not (p == q)) h)) (and_second (t q) (not (p == q)) h)
+part_without s t p part q h = and_both (s q) (not (p == q)) (part q (and_first (t q) (not (p == q)) h))
+    (and_second (t q) (not (p == q)) h)
 
 pub without_part : (s : Members) (p : ℕ) → IsPart (without s p) s
 without_part s p q h = and_first (s q) (not (p == q)) h
@@ -59,19 +61,24 @@ not_itself s p h =
 
 -- one more was tried: a premise was tried before, or is the last
 tried_cases : (tried : List ℕ) (q p : ℕ) → IsTrue (set_of (tried ++ q ∷ []) p) → IsTrue (set_of tried p) ⊎ (q ≡ p)
-tried_cases tried q p h = elim (or_cases (set_of tried p) (q == p) (sym (list_any-append (λ k. k == p) tried (q ∷ [])) ∙ h)) [ inl e ↦ inl e | inr e ↦ inr (same q p e) ]
+tried_cases tried q p h = elim (or_cases (set_of tried p) (q == p)
+    (sym (list_any-append (λ k. k == p) tried (q ∷ [])) ∙ h)) [ inl e ↦ inl e | inr e ↦ inr (same q p e) ]
 
 -- nothing was tried
-pub none_tried : (problem : Problem) (cell : ℕ) (v : Info) (s : Members) → Entails problem s cell v → AreTried problem cell v [] s
+pub none_tried : (problem : Problem) (cell : ℕ) (v : Info) (s : Members) → Entails problem s cell v
+    → AreTried problem cell v [] s
 none_tried problem cell v s e = record { entails = e; needed = λ p h. cc }
 
-module _ (problem : Problem) (cell : ℕ) (v : Info) (tried : List ℕ) (s : Members) (q : ℕ) (known : AreTried problem cell v tried s) where
+module _ (problem : Problem) (cell : ℕ) (v : Info) (tried : List ℕ) (s : Members) (q : ℕ)
+    (known : AreTried problem cell v tried s) where
   -- the others are enough, so the premise is left out
   pub left_out : Entails problem (without s q) cell v → AreTried problem cell v (tried ++ q ∷ []) (without s q)
   left_out e = record {
     entails = e;
     needed = λ p h there enough. elim (tried_cases tried q p h) as (λ _. ⊥) [
-      | inl before ↦ known.needed p before (without_part s q p there) (entails_more problem (without (without s q) p) (without s p) cell v (part_without s (without s q) p (without_part s q)) enough)
+      | inl before ↦ known.needed p before (without_part s q p there)
+          (entails_more problem (without (without s q) p) (without s p) cell v
+          (part_without s (without s q) p (without_part s q)) enough)
       | inr last ↦ not_itself s p (rw last at there)
     ];
   }
@@ -87,8 +94,10 @@ module _ (problem : Problem) (cell : ℕ) (v : Info) (tried : List ℕ) (s : Mem
   }
 
 -- one try more, which takes at most so many steps
-pub few_more : (ps : List ℕ) (p most steps calls : ℕ) → steps ≤ length ps * most → calls ≤ most → steps + calls ≤ length (ps ++ p ∷ []) * most
-few_more ps p most steps calls few more = rw (length-append ps (p ∷ []), add-mul (length ps) 1 most) (omega (arith, few, more))
+pub few_more : (ps : List ℕ) (p most steps calls : ℕ) → steps ≤ length ps * most → calls ≤ most
+    → steps + calls ≤ length (ps ++ p ∷ []) * most
+few_more ps p most steps calls few more =
+    rw (length-append ps (p ∷ []), add-mul (length ps) 1 most) (omega (arith, few, more))
 
 -- ---- which sets are tried
 
@@ -125,7 +134,8 @@ above p q (x ∷ xs) all h = elim (either_of (x == q) (set_of xs q) h) [
 ]
 
 -- what comes later is no premise that is left out now
-later_stays : (s : Members) (p : ℕ) (rest : List ℕ) → AllByRecursion (λ y. p < y) rest → IsPart (set_of rest) s → IsPart (set_of rest) (without s p)
+later_stays : (s : Members) (p : ℕ) (rest : List ℕ) → AllByRecursion (λ y. p < y) rest → IsPart (set_of rest) s
+    → IsPart (set_of rest) (without s p)
 later_stays s p rest all part q h = and_both (s q) (not (p == q)) (part q h) (elim (eqb_tells p q) [
   | inl e ↦ (let l = above p q rest all h in absurd (omega (arith, l, e.1)))
   | inr e ↦ rw e.0 refl
@@ -138,12 +148,14 @@ lacks_itself s p = by (without s p p) refl
     by true h = absurd (not_itself s p h)
     by false h = refl
 
-module _ {believed : Members} {sets : List Members} {s : Members} (p : ℕ) (rest : List ℕ) (held : AreHeld believed sets s (p ∷ rest)) where
+module _ {believed : Members} {sets : List Members} {s : Members} (p : ℕ) (rest : List ℕ)
+    (held : AreHeld believed sets s (p ∷ rest)) where
   pub next_believed : IsTrue (believed p)
   next_believed = held.part p (first_in p rest)
 
   pub next_held : All (λ t. IsTrue (t p)) sets
-  next_held = All-weaker (IsPart (set_of (p ∷ rest))) (λ t. IsTrue (t p)) (λ t part. part p (first_in p rest)) sets held.tried
+  next_held = All-weaker (IsPart (set_of (p ∷ rest))) (λ t. IsTrue (t p)) (λ t part. part p (first_in p rest)) sets
+      held.tried
 
   pub less_holds : IsPart (set_of rest) (without s p)
   less_holds = later_stays s p rest held.rising.0 (λ q h. held.left q (rest_in p rest q h))
@@ -156,6 +168,7 @@ module _ {believed : Members} {sets : List Members} {s : Members} (p : ℕ) (res
     rising = held.rising.1;
     part = λ q h. held.part q (rest_in p rest q h);
     tried = All-cons (IsPart (set_of rest)) (without s p) sets less_holds
-        (All-weaker (IsPart (set_of (p ∷ rest))) (IsPart (set_of rest)) (λ t part q h. part q (rest_in p rest q h)) sets held.tried);
+        (All-weaker (IsPart (set_of (p ∷ rest))) (IsPart (set_of rest)) (λ t part q h. part q (rest_in p rest q h)) sets
+        held.tried);
     left = left;
   }

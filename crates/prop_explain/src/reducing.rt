@@ -1,4 +1,5 @@
-//! The reduction of an explanation: premises are left out, one after the other, as long as what is left entails the value.
+//! The reduction of an explanation: premises are left out, one after the other, as long as what is
+//! left entails the value.
 ghost use Rattle.std.specs.Prelude.{◌≡◌, ◌≢◌, ◌<◌, ◌≤◌, ◌*◌, ℕ, List, All, Contains, length, IfOk};
 ghost use Rattle.prop_lattice.specs.Order.{Below};
 ghost use Rattle.std.specs.List.Sorted.{IsStrictlyIncreasing};
@@ -51,8 +52,9 @@ enum Tried {
     Spent,
 }
 
-/// What is believed of a cell of a network at rest, with premises of which none can be left out, and how many instances were called for that.
-/// The premises of the explanation are tried in order of number: one is left out where the others are enough.
+/// What is believed of a cell of a network at rest, with premises of which none can be left out,
+/// and how many instances were called for that. The premises of the explanation are tried in order
+/// of number: one is left out where the others are enough.
 ///
 /// Afterwards every instance waits and every cell is watched, after want of memory too.
 pub fn reduce<R: Rule + Drop, O: Order>(
@@ -71,22 +73,40 @@ pub fn reduce<R: Rule + Drop, O: Order>(
     requires room { length network.old.cells.instances ≤ agenda.old.room }
     requires cells { length network.old.cells.kinds ≤ agenda.old.cells }
     requires cell { cell < length network.old.cells.kinds }
-    requires settled { IsSettled (stored_of R.value_of network.old.library) (set_of worldview.now) network.old.cells }
+    requires settled { IsSettled (stored_of R.value_of network.old.library) (set_of worldview.now)
+        network.old.cells }
     ensures same { network.new.library ≡ network.old.library }
-    ensures rest { network.new.cells ≡ record network.old.cells { contents = network.new.cells.contents } }
-    ensures under_way { (s : Premises) → IsUnderWay (stored_of R.value_of network.new.library) s network.new.cells agenda.new.line }
+    ensures rest { network.new.cells
+        ≡ record network.old.cells { contents = network.new.cells.contents } }
+    ensures under_way { (s : Premises)
+        → IsUnderWay (stored_of R.value_of network.new.library) s network.new.cells
+        agenda.new.line }
     ensures all { (j : ℕ) → j < length network.new.cells.instances → Contains agenda.new.line j }
     ensures watched { (s : Premises) → IsWatched s network.new.cells agenda.new.watched }
     ensures room { agenda.new.room ≡ agenda.old.room }
     ensures cells { agenda.new.cells ≡ agenda.old.cells }
-    ensures explains { IfOk result (λ r. OfCore r.0 (λ v s. (v ≡ beliefs (set_of worldview.now) network.old.cells.contents cell) × Explains (problem_of (stored_of R.value_of network.old.library) network.old.cells) (set_of worldview.now) cell v (set_of s))) }
-    ensures least { IfOk result (λ r. IfLeast r.0 (λ v s. IsIrreducible (problem_of (stored_of R.value_of network.old.library) network.old.cells) (set_of s) cell v)) }
+    ensures explains { IfOk result
+        (λ r. OfCore r.0 (λ v s. (v ≡ beliefs (set_of worldview.now) network.old.cells.contents
+        cell) × Explains (problem_of (stored_of R.value_of network.old.library) network.old.cells)
+        (set_of worldview.now) cell v (set_of s))) }
+    ensures least { IfOk result (λ r.
+        IfLeast r.0 (λ v s. IsIrreducible
+        (problem_of (stored_of R.value_of network.old.library) network.old.cells) (set_of s) cell
+        v)) }
     ensures spent { IfOk result (λ r. IfNotReduced r.0 (λ v s. r.1 ≡ budget)) }
     ensures steps { IfOk result (λ r. r.1 ≤ budget) }
 
-    // The steps are those of the tries. The budget was used only where it is less than a try of each premise of some explanation may take.
-    ensures tries { IfOk result (λ r. (line : List ℕ) × Tries O.picks (stored_of R.value_of network.old.library) (set_of worldview.now) network.old.cells agenda.old.line order.old r.1 network.new.cells line order.new) }
-    ensures earned { IfOk result (λ r. IfNotReduced r.0 (λ v s. (ps : List ℕ) × IsStrictlyIncreasing ps × Explains (problem_of (stored_of R.value_of network.old.library) network.old.cells) (set_of worldview.now) cell v (set_of ps) × (budget < length ps * most_steps (problem_of (stored_of R.value_of network.old.library) network.old.cells)))) }
+    // The steps are those of the tries. The budget was used only where it is less than a try of
+    // each premise of some explanation may take.
+    ensures tries { IfOk result (λ r. (line : List ℕ)
+        × Tries O.picks (stored_of R.value_of network.old.library) (set_of worldview.now)
+        network.old.cells agenda.old.line order.old r.1 network.new.cells line order.new) }
+    ensures earned { IfOk result (λ r.
+        IfNotReduced r.0 (λ v s. (ps : List ℕ) × IsStrictlyIncreasing ps
+        × Explains (problem_of (stored_of R.value_of network.old.library) network.old.cells)
+        (set_of worldview.now) cell v (set_of ps)
+        × (budget < length ps * most_steps
+        (problem_of (stored_of R.value_of network.old.library) network.old.cells)))) }
 {
     let reduced = explained_least(alloc, network, agenda, order, worldview, cell, budget);
     wake_all(network, agenda);
@@ -104,17 +124,34 @@ fn explained_least<R: Rule + Drop, O: Order>(
     budget: u64,
 ) -> Result<(Core, u64), AllocError>
     requires means { AllMean R.value_of network.old.library.procedures.items }
-    requires ready { IsReady (stored_of R.value_of network.old.library) network.old.cells agenda.old }
+    requires ready { IsReady (stored_of R.value_of network.old.library) network.old.cells
+        agenda.old }
     requires cell { cell < length network.old.cells.kinds }
-    requires settled { IsSettled (stored_of R.value_of network.old.library) (set_of worldview.now) network.old.cells }
+    requires settled { IsSettled (stored_of R.value_of network.old.library) (set_of worldview.now)
+        network.old.cells }
     ensures same { network.new.library ≡ network.old.library }
-    ensures left { StaysReady (stored_of R.value_of network.old.library) network.old.cells network.new.cells agenda.old agenda.new }
-    ensures explains { IfOk result (λ r. OfCore r.0 (λ v s. (v ≡ beliefs (set_of worldview.now) network.old.cells.contents cell) × Explains (problem_of (stored_of R.value_of network.old.library) network.old.cells) (set_of worldview.now) cell v (set_of s))) }
-    ensures least { IfOk result (λ r. IfLeast r.0 (λ v s. IsIrreducible (problem_of (stored_of R.value_of network.old.library) network.old.cells) (set_of s) cell v)) }
+    ensures left { StaysReady (stored_of R.value_of network.old.library) network.old.cells
+        network.new.cells agenda.old agenda.new }
+    ensures explains { IfOk result
+        (λ r. OfCore r.0 (λ v s. (v ≡ beliefs (set_of worldview.now) network.old.cells.contents
+        cell) × Explains (problem_of (stored_of R.value_of network.old.library) network.old.cells)
+        (set_of worldview.now) cell v (set_of s))) }
+    ensures least { IfOk result (λ r.
+        IfLeast r.0 (λ v s. IsIrreducible
+        (problem_of (stored_of R.value_of network.old.library) network.old.cells) (set_of s) cell
+        v)) }
     ensures spent { IfOk result (λ r. IfNotReduced r.0 (λ v s. r.1 ≡ budget)) }
     ensures steps { IfOk result (λ r. r.1 ≤ budget) }
-    ensures tries { IfOk result (λ r. Tries O.picks (stored_of R.value_of network.old.library) (set_of worldview.now) network.old.cells agenda.old.line order.old r.1 network.new.cells agenda.new.line order.new) }
-    ensures earned { IfOk result (λ r. IfNotReduced r.0 (λ v s. (ps : List ℕ) × IsStrictlyIncreasing ps × Explains (problem_of (stored_of R.value_of network.old.library) network.old.cells) (set_of worldview.now) cell v (set_of ps) × (budget < length ps * most_steps (problem_of (stored_of R.value_of network.old.library) network.old.cells)))) }
+    ensures tries { IfOk result (λ r.
+        Tries O.picks (stored_of R.value_of network.old.library) (set_of worldview.now)
+        network.old.cells agenda.old.line order.old r.1 network.new.cells agenda.new.line
+        order.new) }
+    ensures earned { IfOk result (λ r.
+        IfNotReduced r.0 (λ v s. (ps : List ℕ) × IsStrictlyIncreasing ps
+        × Explains (problem_of (stored_of R.value_of network.old.library) network.old.cells)
+        (set_of worldview.now) cell v (set_of ps)
+        × (budget < length ps * most_steps
+        (problem_of (stored_of R.value_of network.old.library) network.old.cells)))) }
 {
     let why = network.explanation(cell, worldview)?;
     let (support, end, steps) = left_of(alloc, network, agenda, order, &why, cell, budget)?;
@@ -128,7 +165,8 @@ fn explained_least<R: Rule + Drop, O: Order>(
     }
 }
 
-/// What is left of the support of a value when each of its premises was tried, or the budget was used; which of them; and in how many steps.
+/// What is left of the support of a value when each of its premises was tried, or the budget was
+/// used; which of them; and in how many steps.
 fn left_of<R: Rule + Drop, O: Order>(
     alloc: Global,
     network: &mut Network<R>,
@@ -139,20 +177,34 @@ fn left_of<R: Rule + Drop, O: Order>(
     budget: u64,
 ) -> Result<(PremiseSet, End, u64), AllocError>
     requires means { AllMean R.value_of network.old.library.procedures.items }
-    requires ready { IsReady (stored_of R.value_of network.old.library) network.old.cells agenda.old }
+    requires ready { IsReady (stored_of R.value_of network.old.library) network.old.cells
+        agenda.old }
     requires cell { cell < length network.old.cells.kinds }
-    requires entails { Entails (problem_of (stored_of R.value_of network.old.library) network.old.cells) (set_of why.now.support) cell why.now.value }
-    requires consistent { IsConsistent (problem_of (stored_of R.value_of network.old.library) network.old.cells) (set_of why.now.support) }
+    requires entails { Entails (problem_of (stored_of R.value_of network.old.library)
+        network.old.cells) (set_of why.now.support) cell why.now.value }
+    requires consistent { IsConsistent
+        (problem_of (stored_of R.value_of network.old.library) network.old.cells)
+        (set_of why.now.support) }
     ensures same { network.new.library ≡ network.old.library }
-    ensures left { StaysReady (stored_of R.value_of network.old.library) network.old.cells network.new.cells agenda.old agenda.new }
+    ensures left { StaysReady (stored_of R.value_of network.old.library) network.old.cells
+        network.new.cells agenda.old agenda.new }
     ensures part { IfOk result (λ r. IsPart (set_of r.0) (set_of why.now.support)) }
-    ensures entails { IfOk result (λ r. Entails (problem_of (stored_of R.value_of network.old.library) network.old.cells) (set_of r.0) cell why.now.value) }
-    ensures least { IfOk result (λ r. r.1 ≡ End.AllTried → IsIrreducible (problem_of (stored_of R.value_of network.old.library) network.old.cells) (set_of r.0) cell why.now.value) }
+    ensures entails { IfOk result
+        (λ r. Entails (problem_of (stored_of R.value_of network.old.library) network.old.cells)
+        (set_of r.0) cell why.now.value) }
+    ensures least { IfOk result (λ r. r.1 ≡ End.AllTried
+        → IsIrreducible (problem_of (stored_of R.value_of network.old.library) network.old.cells)
+        (set_of r.0) cell why.now.value) }
     ensures spent { IfOk result (λ r. r.1 ≡ End.Spent → r.2 ≡ budget) }
     ensures steps { IfOk result (λ r. r.2 ≤ budget) }
-    ensures earned { IfOk result (λ r. r.1 ≡ End.Spent → budget < length why.now.support * most_steps (problem_of (stored_of R.value_of network.old.library) network.old.cells)) }
+    ensures earned { IfOk result (λ r. r.1 ≡ End.Spent
+        → budget < length why.now.support * most_steps
+        (problem_of (stored_of R.value_of network.old.library) network.old.cells)) }
     ensures in_order { IfOk result (λ r. IsStrictlyIncreasing why.now.support) }
-    ensures tries { IfOk result (λ r. Tries O.picks (stored_of R.value_of network.old.library) (set_of why.now.support) network.old.cells agenda.old.line order.old r.2 network.new.cells agenda.new.line order.new) }
+    ensures tries { IfOk result (λ r.
+        Tries O.picks (stored_of R.value_of network.old.library) (set_of why.now.support)
+        network.old.cells agenda.old.line order.old r.2 network.new.cells agenda.new.line
+        order.new) }
 {
     let mut support = why.support.copy()?;
     let mut steps: u64 = 0;
@@ -181,7 +233,8 @@ fn left_of<R: Rule + Drop, O: Order>(
     Ok((support, End::AllTried, steps))
 }
 
-/// Runs the network in the worldview of the set alone, and tells whether the value is believed there, and how many instances were called.
+/// Runs the network in the worldview of the set alone, and tells whether the value is believed
+/// there, and how many instances were called.
 fn attempt<R: Rule + Drop, O: Order>(
     alloc: Global,
     network: &mut Network<R>,
@@ -193,17 +246,32 @@ fn attempt<R: Rule + Drop, O: Order>(
     budget: u64,
 ) -> Result<(Tried, u64), AllocError>
     requires means { AllMean R.value_of network.old.library.procedures.items }
-    requires ready { IsReady (stored_of R.value_of network.old.library) network.old.cells agenda.old }
+    requires ready { IsReady (stored_of R.value_of network.old.library) network.old.cells
+        agenda.old }
     requires cell { cell < length network.old.cells.kinds }
-    requires consistent { IsConsistent (problem_of (stored_of R.value_of network.old.library) network.old.cells) (set_of set.now) }
+    requires consistent { IsConsistent
+        (problem_of (stored_of R.value_of network.old.library) network.old.cells) (set_of set.now) }
     ensures same { network.new.library ≡ network.old.library }
-    ensures left { StaysReady (stored_of R.value_of network.old.library) network.old.cells network.new.cells agenda.old agenda.new }
-    ensures enough { IfOk result (λ r. r.0 ≡ Tried.Enough → Entails (problem_of (stored_of R.value_of network.old.library) network.old.cells) (set_of set.now) cell value) }
-    ensures too_few { IfOk result (λ r. r.0 ≡ Tried.TooFew → ¬ (Entails (problem_of (stored_of R.value_of network.old.library) network.old.cells) (set_of set.now) cell value)) }
-    ensures falls { IfOk result (λ r. r.1 ≤ most_steps (problem_of (stored_of R.value_of network.old.library) network.old.cells)) }
-    ensures turns { IfOk result (λ r. (all : List ℕ) × ((j : ℕ) → j < length network.old.cells.instances → Contains all j) × Turns O.picks (stored_of R.value_of network.old.library) (set_of set.now) network.old.cells all order.old r.1 network.new.cells agenda.new.line order.new) }
+    ensures left { StaysReady (stored_of R.value_of network.old.library) network.old.cells
+        network.new.cells agenda.old agenda.new }
+    ensures enough { IfOk result (λ r. r.0 ≡ Tried.Enough
+        → Entails (problem_of (stored_of R.value_of network.old.library) network.old.cells)
+        (set_of set.now) cell value) }
+    ensures too_few { IfOk result
+        (λ r. r.0 ≡ Tried.TooFew → ¬
+        (Entails (problem_of (stored_of R.value_of network.old.library) network.old.cells)
+        (set_of set.now) cell value)) }
+    ensures falls { IfOk result (λ r.
+        r.1 ≤ most_steps (problem_of (stored_of R.value_of network.old.library)
+        network.old.cells)) }
+    ensures turns { IfOk result (λ r. (all : List ℕ)
+        × ((j : ℕ) → j < length network.old.cells.instances → Contains all j)
+        × Turns O.picks (stored_of R.value_of network.old.library) (set_of set.now)
+        network.old.cells all order.old r.1 network.new.cells agenda.new.line order.new) }
     ensures spent { IfOk result (λ r. r.0 ≡ Tried.Spent → r.1 ≡ budget) }
-    ensures earned { IfOk result (λ r. r.0 ≡ Tried.Spent → budget < most_steps (problem_of (stored_of R.value_of network.old.library) network.old.cells)) }
+    ensures earned { IfOk result (λ r. r.0 ≡ Tried.Spent
+        → budget < most_steps (problem_of (stored_of R.value_of network.old.library)
+        network.old.cells)) }
     ensures steps { IfOk result (λ r. r.1 ≤ budget) }
 {
     let worldview = Worldview::of(alloc, set)?;

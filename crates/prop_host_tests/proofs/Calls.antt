@@ -19,5 +19,6 @@ spans_call x y = (
   },
 )
 
-pub stored_call : (o : Option Stored) (p : Stored) (x y : spans.Span) → o ≡ Some p → p.ins ≡ Span ∷ Span ∷ [] → p.need ≡ Nothing → IfSome o (λ q. IsCall q.ins q.need Plain (span x ∷ span y ∷ []))
+pub stored_call : (o : Option Stored) (p : Stored) (x y : spans.Span) → o ≡ Some p → p.ins ≡ Span ∷ Span ∷ []
+    → p.need ≡ Nothing → IfSome o (λ q. IsCall q.ins q.need Plain (span x ∷ span y ∷ []))
 stored_call o p x y at ins need = rw (at, ins, need) (spans_call x y)

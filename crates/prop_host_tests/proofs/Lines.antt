@@ -10,8 +10,14 @@ use Rattle.prop_workbench.specs.Steps.{Shown}
 use Rattle.prop_workbench.specs.Engine.{learning, Shows}
 
 -- one line more of a list
-pub run_next : (library : List Stored) (old mid new : Shown) (lines : List (List ℕ)) (i : ℕ) (line : List ℕ) (replies all : List Reply) (reply : Reply) → i < length lines → line ≡ get_or lines i [] → all ≡ replies ++ reply ∷ [] →
-    Run (learning library) old (take i lines) (map answer_of replies) mid → Shows library mid line (answer_of reply) new → Run (learning library) old (take (i + 1) lines) (map answer_of all) new
+pub run_next : (library : List Stored) (old mid new : Shown) (lines : List (List ℕ)) (i : ℕ) (line : List ℕ)
+    (replies all : List Reply) (reply : Reply) → i < length lines → line ≡ get_or lines i []
+    → all ≡ replies ++ reply ∷ [] →
+    Run (learning library) old (take i lines) (map answer_of replies) mid → Shows library mid line (answer_of reply) new
+    → Run (learning library) old (take (i + 1) lines) (map answer_of all) new
 run_next library old mid new lines i line replies all reply l at e run step =
     rw (e, map-append answer_of replies (reply ∷ []))
-    (subst (λ (xs : List (List ℕ)). Run (learning library) old xs (map answer_of replies ++ answer_of reply ∷ []) new) ((λ j. take i lines ++ at j ∷ []) ∙ sym (take_more lines i [] l)) (run_more (learning library) old (take i lines) (map answer_of replies) mid line (answer_of reply) new run step))
+    (subst (λ (xs : List (List ℕ)). Run (learning library) old xs (map answer_of replies ++ answer_of reply ∷ []) new)
+    ((λ j. take i lines ++ at j ∷ []) ∙ sym (take_more lines i [] l))
+    (run_more (learning library) old (take i lines) (map answer_of replies) mid line (answer_of reply) new run
+    step))

@@ -26,8 +26,20 @@ host_rules = map One in_order ++ Two Maxer ∷ []
 
 -- the procedure of a rule
 abbrev pub stored_rule : Both Kit Host → Stored
-stored_rule (One rule) = record { name = (form_of rule).name; ins = (form_of rule).ins; out = (form_of rule).out; need = (form_of rule).need; value = value_of rule }
-stored_rule (Two Maxer) = record { name = codes "maxer"; ins = Span ∷ Span ∷ []; out = Span; need = Nothing; value = host_value Maxer }
+stored_rule (One rule) = record {
+  name = (form_of rule).name;
+  ins = (form_of rule).ins;
+  out = (form_of rule).out;
+  need = (form_of rule).need;
+  value = value_of rule;
+}
+stored_rule (Two Maxer) = record {
+  name = codes "maxer";
+  ins = Span ∷ Span ∷ [];
+  out = Span;
+  need = Nothing;
+  value = host_value Maxer;
+}
 
 -- the procedures of the rules, in order
 abbrev pub host_library : List Stored
@@ -35,8 +47,11 @@ host_library = map stored_rule host_rules
 
 -- the points that belong together at the procedure of this number
 abbrev pub host_related : ℕ → Param → List Point → Point → Type 0
-host_related n param points point = IsSomeAnd (slice_get host_rules n) (λ rule. either_of Related host_points rule param points point)
+host_related n param points point =
+    IsSomeAnd (slice_get host_rules n)
+    (λ rule. either_of Related host_points rule param points point)
 
 -- a new session with these procedures may give these answers to these lines, one after another
 abbrev pub IsAnswered : List (List ℕ) → List Answer → Type 0
-IsAnswered lines answers = (new : Shown) × Run (learning host_library) (new_shown 1_000_000_000) lines answers new
+IsAnswered lines answers = (new : Shown)
+    × Run (learning host_library) (new_shown 1_000_000_000) lines answers new

@@ -19,7 +19,8 @@ FormOf Maxer ins out need = (ins ≡ Span ∷ Span ∷ []) × (out ≡ Span) × 
 
 -- what the rule answers
 abbrev pub value_of : hosts.Host → Param → List Info → Info
-value_of Maxer param (infos.Span a ∷ infos.Span b ∷ []) = clip (int_max a.lo b.lo) (int_max a.hi b.hi)
+value_of Maxer param (infos.Span a ∷ infos.Span b ∷ []) =
+    clip (int_max a.lo b.lo) (int_max a.hi b.hi)
 value_of rule param args = infos.Nothing
 
 -- the points that belong together

@@ -1,5 +1,6 @@
 //! Calls of procedures on two spans, through a library and alone.
-ghost use Rattle.std.specs.Prelude.{◌≡◌, ◌<◌, ◌↔◌, [], ◌∷◌, length, IsTrue, IsSome, IfSome, IfOk, slice_get};
+ghost use Rattle.std.specs.Prelude.{◌≡◌, ◌<◌, ◌↔◌, [], ◌∷◌, length, IsTrue, IsSome, IfSome, IfOk};
+ghost use Rattle.std.specs.Prelude.{slice_get};
 ghost use Rattle.prop_procedures.specs.Kept.{AllMean, stored_of};
 ghost use Rattle.prop_procedures.specs.Stored.{value_of};
 ghost use Rattle.prop_host_tests.specs.Host.{value_of as host_value};
@@ -20,8 +21,11 @@ pub fn call_on_spans<R: Rule + Drop>(
 ) -> Option<Info>
     requires means { AllMean R.value_of library.now.procedures.items }
     requires in_range { i < length (stored_of R.value_of library.now) }
-    ensures takes { IfSome (slice_get (stored_of R.value_of library.now) i) (λ p. IsSome result ↔ ((p.ins ≡ Shape.Span ∷ Shape.Span ∷ []) × (p.need ≡ Need.Nothing))) }
-    ensures value { IfSome result (λ r. r ≡ value_of (stored_of R.value_of library.now) i Param.Plain (Info.Span x ∷ Info.Span y ∷ [])) }
+    ensures takes { IfSome (slice_get (stored_of R.value_of library.now) i)
+        (λ p. IsSome result ↔ ((p.ins ≡ Shape.Span ∷ Shape.Span ∷ []) × (p.need ≡ Need.Nothing))) }
+    ensures value { IfSome result
+        (λ r. r ≡ value_of (stored_of R.value_of library.now) i Param.Plain
+        (Info.Span x ∷ Info.Span y ∷ [])) }
 {
     let procedure = library.get(i);
     if !takes_spans(procedure.ins(), procedure.need()) {
@@ -39,7 +43,8 @@ fn takes_spans(ins: &[Shape], need: Need) -> bool
 
 /// The larger of a number of `x` and a number of `y`, as a procedure of the host's rule answers.
 pub fn larger(alloc: Global, x: Span, y: Span) -> Result<Info, AllocError>
-    ensures { IfOk result (λ r. r ≡ host_value Host.Maxer Param.Plain (Info.Span x ∷ Info.Span y ∷ [])) }
+    ensures { IfOk result (λ r. r ≡ host_value Host.Maxer Param.Plain
+        (Info.Span x ∷ Info.Span y ∷ [])) }
 {
     let rule = Host::Maxer;
     let ins = SmallVec::<Shape, 8>::from_slice(alloc, &[Shape::Span, Shape::Span])?;

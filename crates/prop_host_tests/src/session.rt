@@ -1,4 +1,5 @@
-//! A host of the workbench: it makes the kit's procedures and its own, and has a session with them carry out lines.
+//! A host of the workbench: it makes the kit's procedures and its own, and has a session with them
+//! carry out lines.
 ghost use Rattle.std.specs.Prelude.{◌≡◌, IfOk, map};
 ghost use Rattle.prop_arith.specs.Values.{value_of};
 ghost use Rattle.prop_procedures.specs.Both.{either_of};
@@ -25,7 +26,8 @@ use std::alloc::{AllocError, Global};
 /// How many steps a line may take.
 const LIMIT: u64 = 1_000_000_000;
 
-/// Makes the kit's procedures in order and the host's behind them, and tells what these lines are answered in a session with them.
+/// Makes the kit's procedures in order and the host's behind them, and tells what these lines are
+/// answered in a session with them.
 pub fn replies(alloc: Global, lines: &[&str]) -> Result<Vec<Reply>, AllocError>
     ensures { IfOk result (λ replies. IsAnswered (words lines.now) (map answer_of replies.items)) }
 {
@@ -66,7 +68,8 @@ pub fn replies(alloc: Global, lines: &[&str]) -> Result<Vec<Reply>, AllocError>
     serve(alloc, procedures, lines)
 }
 
-/// The procedures' answers hold the points that belong together, so numbers that belong together and satisfy all that is believed lie in each answer of the session.
+/// The procedures' answers hold the points that belong together, so numbers that belong together
+/// and satisfy all that is believed lie in each answer of the session.
 pub fn answers_hold_points()
     ensures { AreSoundBy host_library host_related }
 {}
@@ -78,7 +81,8 @@ fn serve(
     lines: &[&str],
 ) -> Result<Vec<Reply>, AllocError>
     requires means { AllMean (either_of value_of host_value) procedures.items }
-    requires listed { map (stored_as (either_of value_of host_value)) procedures.items ≡ host_library }
+    requires listed { map (stored_as (either_of value_of host_value))
+        procedures.items ≡ host_library }
     ensures { IfOk result (λ replies. IsAnswered (words lines.now) (map answer_of replies.items)) }
 {
     let network = Network::new(alloc, Library::new(procedures));

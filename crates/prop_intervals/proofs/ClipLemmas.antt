@@ -9,7 +9,8 @@ use Rattle.prop_lattice.specs.declared.info.Info.{Info}
 use Rattle.prop_lattice.specs.declared.info.Info.TheVariants.{Contradiction}
 use Rattle.prop_intervals.specs.Clip.{clip}
 
-pub clip_from : (lo hi l h : ℤ) (r : Info) → r ≡ span_from l h → l ≡ int_max lo (neg_ℤ B) → h ≡ int_min hi B → r ≡ clip lo hi
+pub clip_from : (lo hi l h : ℤ) (r : Info) → r ≡ span_from l h → l ≡ int_max lo (neg_ℤ B) → h ≡ int_min hi B
+    → r ≡ clip lo hi
 unfolding clip
 clip_from lo hi l h r e p q = e ∙ (λ t. span_from (p t) (q t))
 

@@ -1,5 +1,6 @@
 -- The roots and ends that the code computes.
-use Rattle.std.specs.Prelude.{◌≡◌, Bool, true, false, ℤ, pos, ◌+ℤ◌, ◌-ℤ◌, ◌≤ℤ◌, ◌<ℤ◌, int_le, unsigned_abs, if◌then◌else◌}
+use Rattle.std.specs.Prelude.{◌≡◌, Bool, true, false, ℤ, pos, ◌+ℤ◌, ◌-ℤ◌, ◌≤ℤ◌, ◌<ℤ◌, int_le, unsigned_abs}
+use Rattle.std.specs.Prelude.{if◌then◌else◌}
 use Rattle.std.specs.Int.{IsIsqrt}
 use Rattle.std.proofs.Common.{arith, refl, ap, ◌∙◌, zero, suc, negsuc}
 use Rattle.std.proofs.lemmas.Int.{ints}

@@ -1,5 +1,6 @@
 -- Square roots.
-use Rattle.std.specs.Prelude.{ℕ, ◌*◌, ℤ, pos, neg_ℤ, ◌*ℤ◌, ◌≤ℤ◌, nat_le, int_le, int_lt, if◌then◌else◌, Option, Some, None}
+use Rattle.std.specs.Prelude.{ℕ, ◌*◌, ℤ, pos, neg_ℤ, ◌*ℤ◌, ◌≤ℤ◌, nat_le, int_le, int_lt}
+use Rattle.std.specs.Prelude.{if◌then◌else◌, Option, Some, None}
 use Rattle.std.specs.Int.{int_max, int_min}
 use Rattle.std.proofs.Common.{zero, suc, negsuc}
 use Rattle.prop_lattice.specs.declared.span.TheConstants.{B}
@@ -12,7 +13,8 @@ use Rattle.prop_lattice.specs.declared.info.Info.TheVariants.{Contradiction}
 unfoldable pub root_floor : ℕ → ℕ
 root_floor zero = zero
 root_floor (suc n) =
-    if nat_le (suc (root_floor n) * suc (root_floor n)) (suc n) then suc (root_floor n) else root_floor n
+    if nat_le (suc (root_floor n) * suc (root_floor n)) (suc n) then suc (root_floor n)
+    else root_floor n
 
 -- the least number, not below 0, whose square is at least m
 unfoldable pub least_root : ℤ → ℕ
@@ -41,12 +43,17 @@ pub record IsRoot (y : spans.Span) (x : Option spans.Span) (v : ℤ) : Type 0 wh
   pub square_from : y.lo ≤ℤ (v *ℤ v)
   pub square_to : (v *ℤ v) ≤ℤ y.hi
 
--- the span of the numbers from lo to hi whose distance from 0 is at least `least` and at most `greatest`:
--- it begins below 0 where there is such a number there, and ends above 0 where there is one there
+-- the span of the numbers from lo to hi whose distance from 0 is at least `least` and at most
+-- `greatest`: it begins below 0 where there is such a number there, and ends above 0 where there is
+-- one there
 abbrev pub span_at_distance : ℤ → ℤ → ℤ → ℤ → Info
 span_at_distance least greatest lo hi =
-    span_from (if int_le (int_max lo (neg_ℤ greatest)) (int_min hi (neg_ℤ least)) then int_max lo (neg_ℤ greatest) else int_max lo least) (if int_le (int_max lo least) (int_min hi greatest) then int_min hi greatest else int_min hi (neg_ℤ least))
+    span_from (if int_le (int_max lo (neg_ℤ greatest)) (int_min hi (neg_ℤ least)) then int_max lo
+    (neg_ℤ greatest) else int_max lo least)
+    (if int_le (int_max lo least) (int_min hi greatest) then int_min hi greatest else int_min hi
+    (neg_ℤ least))
 
 abbrev pub root_of : spans.Span → Option spans.Span → Info
 root_of y x =
-    if int_lt y.hi (pos 0) then Contradiction else span_at_distance (pos (least_root y.lo)) (pos (greatest_root y.hi)) (first_of x) (last_of x)
+    if int_lt y.hi (pos 0) then Contradiction else span_at_distance (pos (least_root y.lo))
+    (pos (greatest_root y.hi)) (first_of x) (last_of x)

@@ -1,5 +1,6 @@
 -- What the operations on spans answer.
-use Rattle.std.specs.Prelude.{Bool, ℤ, pos, neg_ℤ, ◌+ℤ◌, ◌-ℤ◌, ◌*ℤ◌, int_le, int_lt, ◌&&◌, if◌then◌else◌}
+use Rattle.std.specs.Prelude.{Bool, ℤ, pos, neg_ℤ, ◌+ℤ◌, ◌-ℤ◌, ◌*ℤ◌, int_le, int_lt, ◌&&◌}
+use Rattle.std.specs.Prelude.{if◌then◌else◌}
 use Rattle.std.specs.Int.{int_max, int_min}
 use Rattle.prop_intervals.specs.Clip.{clip}
 use Rattle.prop_intervals.specs.Quotients.{int_div_floor, int_div_ceil}
@@ -31,7 +32,8 @@ greatest_product x y =
 
 -- the products by units of 1/k, rounded outwards
 abbrev pub product_of : spans.Span → spans.Span → ℤ → Info
-product_of x y k = clip (int_div_floor (least_product x y) k) (int_div_ceil (greatest_product x y) k)
+product_of x y k = clip (int_div_floor (least_product x y) k)
+    (int_div_ceil (greatest_product x y) k)
 
 -- ---- squares
 
@@ -71,6 +73,8 @@ factors_of a b lo hi = clip (least_factor a lo hi) (greatest_factor b lo hi)
 abbrev pub quotient_of : spans.Span → spans.Span → ℤ → Info
 quotient_of z y k =
     if holds_zero y then Nothing else (
-    if int_lt (pos 0) y.lo then factors_of (least_dividend z k) (greatest_dividend z k) y.lo y.hi else
-    factors_of (neg_ℤ (greatest_dividend z k)) (neg_ℤ (least_dividend z k)) (neg_ℤ y.hi) (neg_ℤ y.lo)
+    if int_lt (pos 0) y.lo then factors_of (least_dividend z k) (greatest_dividend z k) y.lo y.hi
+    else
+    factors_of (neg_ℤ (greatest_dividend z k)) (neg_ℤ (least_dividend z k)) (neg_ℤ y.hi)
+    (neg_ℤ y.lo)
     )

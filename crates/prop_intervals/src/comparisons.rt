@@ -11,7 +11,8 @@ pub const YES: u64 = 1;
 /// The bits of the truth `no` alone, which is element 1 of its domain.
 pub const NO: u64 = 2;
 
-/// Whether a number of `x` is less than one of `y`: a truth, or nothing where that depends on the numbers.
+/// Whether a number of `x` is less than one of `y`: a truth, or nothing where that depends on the
+/// numbers.
 pub fn less(x: Span, y: Span) -> Info
     ensures { result ≡ less_of x y }
 {
@@ -24,8 +25,8 @@ pub fn less(x: Span, y: Span) -> Info
     }
 }
 
-/// The numbers that are less than a number of `y` where `t` is `yes`, and those that are not less than one
-/// where it is `no`; else nothing.
+/// The numbers that are less than a number of `y` where `t` is `yes`, and those that are not less
+/// than one where it is `no`; else nothing.
 pub fn below(t: Elements, y: Span) -> Info
     ensures { result ≡ below_of t y }
 {
@@ -36,8 +37,8 @@ pub fn below(t: Elements, y: Span) -> Info
     }
 }
 
-/// The numbers than which a number of `x` is less where `t` is `yes`, and those than which one is not less
-/// where it is `no`; else nothing.
+/// The numbers than which a number of `x` is less where `t` is `yes`, and those than which one is
+/// not less where it is `no`; else nothing.
 pub fn above(t: Elements, x: Span) -> Info
     ensures { result ≡ above_of t x }
 {

@@ -4,21 +4,23 @@ ghost use Rattle.prop_lattice.specs.Ends.{AreEnds};
 ghost use Rattle.prop_intervals.specs.Narrowest.{IsNarrowest};
 ghost use Rattle.prop_intervals.specs.Quotients.{int_div_floor, int_div_ceil};
 ghost use Rattle.prop_intervals.specs.Relations.{IsProduct, IsSquare, BelongsToOne, BelongsToTwo};
-ghost use Rattle.prop_intervals.specs.Spans.{least_product, greatest_product, product_of, least_square, greatest_square, square_of};
+ghost use Rattle.prop_intervals.specs.Spans.{least_product, greatest_product, product_of};
+ghost use Rattle.prop_intervals.specs.Spans.{least_square, greatest_square, square_of};
 
 use crate::clipping::clipped;
 use crate::wide::{div_ceil, div_floor, product};
 use crate::zero::has_zero;
 use prop_lattice::{Info, Span};
 
-/// The products of a number of `x` and a number of `y`, both in units of `1 / k`, rounded outwards to
-/// such units; a contradiction where none is in range.
+/// The products of a number of `x` and a number of `y`, both in units of `1 / k`, rounded outwards
+/// to such units; a contradiction where none is in range.
 pub fn mul(x: Span, y: Span, k: i64) -> Info
     requires { (pos 1 ≤ℤ k) × (k ≤ℤ pos 1_000_000_000) }
     ensures value { result ≡ product_of x y k }
 
     // Where each of them is in range, no narrower information holds them all.
-    ensures narrowest { AreEnds (int_div_floor (least_product x y) k) (int_div_ceil (greatest_product x y) k)
+    ensures narrowest { AreEnds (int_div_floor (least_product x y) k)
+        (int_div_ceil (greatest_product x y) k)
         → IsNarrowest (BelongsToTwo (IsProduct k) x y) result }
 {
     let low = div_floor(smallest_product(x, y), i128::from(k));

@@ -1,14 +1,15 @@
 //! Quotients of spans.
 ghost use Rattle.std.specs.Prelude.{◌≡◌, ◌^◌, pos, neg_ℤ, ◌≤ℤ◌, ◌<ℤ◌};
-ghost use Rattle.prop_intervals.specs.Spans.{least_dividend, greatest_dividend, least_factor, greatest_factor, factors_of, quotient_of};
+ghost use Rattle.prop_intervals.specs.Spans.{least_dividend, greatest_dividend, least_factor};
+ghost use Rattle.prop_intervals.specs.Spans.{greatest_factor, factors_of, quotient_of};
 
 use crate::clipping::clipped;
 use crate::wide::{div_ceil, div_floor, product};
 use crate::zero::has_zero;
 use prop_lattice::{Info, Span};
 
-/// What a number of `y` can be multiplied by to give a number of `z`, all in units of `1 / k` and the
-/// product rounded to such a unit, up or down; nothing where `y` holds zero.
+/// What a number of `y` can be multiplied by to give a number of `z`, all in units of `1 / k` and
+/// the product rounded to such a unit, up or down; nothing where `y` holds zero.
 pub fn div(z: Span, y: Span, k: i64) -> Info
     requires { (pos 1 ≤ℤ k) × (k ≤ℤ pos 1_000_000_000) }
     ensures { result ≡ quotient_of z y k }

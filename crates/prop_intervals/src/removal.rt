@@ -5,7 +5,8 @@ ghost use Rattle.prop_intervals.specs.Narrowest.{IsNarrowest};
 
 use prop_lattice::{Info, Span};
 
-/// The narrowest span that holds the numbers of `y` other than `x`, a contradiction where there are none.
+/// The narrowest span that holds the numbers of `y` other than `x`, a contradiction where there are
+/// none.
 pub fn without(y: Span, x: i64) -> Info
     ensures value { result ≡ without_of y x }
     ensures narrowest { IsNarrowest (IsOther y x) result }

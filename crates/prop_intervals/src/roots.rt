@@ -2,13 +2,14 @@
 ghost use Rattle.std.specs.Prelude.{◌≡◌, pos, ◌≤ℤ◌};
 ghost use Rattle.prop_lattice.specs.declared.span.TheConstants.{B};
 ghost use Rattle.prop_intervals.specs.Narrowest.{IsNarrowest};
-ghost use Rattle.prop_intervals.specs.Roots.{least_root, greatest_root, span_at_distance, IsRoot, root_of};
+ghost use Rattle.prop_intervals.specs.Roots.{least_root, greatest_root, span_at_distance, IsRoot};
+ghost use Rattle.prop_intervals.specs.Roots.{root_of};
 
 use prop_lattice::span::B;
 use prop_lattice::{Info, Span};
 
-/// The narrowest span that holds each number of `x` whose square lies in `y`, of the whole range where there
-/// is no `x`; a contradiction where there is no such number.
+/// The narrowest span that holds each number of `x` whose square lies in `y`, of the whole range
+/// where there is no `x`; a contradiction where there is no such number.
 pub fn root(y: Span, x: Option<Span>) -> Info
     ensures value { result ≡ root_of y x }
     ensures narrowest { IsNarrowest (IsRoot y x) result }

@@ -1,5 +1,6 @@
 -- What the parts of a choice make together.
-use Rattle.std.proofs.Common.{◌≡◌, ℕ, List, [], ◌∷◌, ◌++◌, Bool, true, false, cond, refl, sym, ◌∙◌, ap, Some, None, Ok, Err, inl, inr}
+use Rattle.std.proofs.Common.{◌≡◌, ℕ, List, [], ◌∷◌, ◌++◌, Bool, true, false, cond, refl, sym, ◌∙◌, ap, Some, None, Ok}
+use Rattle.std.proofs.Common.{Err, inl, inr}
 use Rattle.std.specs.Prelude.{Option, ⊤, ◌⊎◌, ◌≢◌, bytes_eq, codes}
 use Rattle.std.specs.Option.{option_map, option_and_then}
 use Rattle.std.specs.List.{list_all}
@@ -40,44 +41,54 @@ Precedes v ts rest = values ts ≡ join (Some v) (values rest)
 pub last_side : (ts rest : List Token) (v : Value) → Precedes v ts rest → rest ≡ [] → sides_in ts ≡ Some (v ∷ [])
 last_side ts rest v p e = ap (option_and_then sides) (p ∙ ap (λ l. join (Some v) (values l)) e)
 
-side_before : (v : Value) (others : Option (List Value)) → option_and_then sides (join (Some v) (join (Some (Bare (codes "or"))) others)) ≡ join (Some v) (option_and_then sides others)
+side_before : (v : Value) (others : Option (List Value))
+    → option_and_then sides (join (Some v) (join (Some (Bare (codes "or"))) others)) ≡ join (Some v)
+    (option_and_then sides others)
 side_before v None = refl
 side_before v (Some vs) = refl
 
-pub next_side : (ts rest behind : List Token) (v : Value) → Precedes v ts rest → rest ≡ Word (codes "or") ∷ behind → sides_in ts ≡ join (Some v) (sides_in behind)
+pub next_side : (ts rest behind : List Token) (v : Value) → Precedes v ts rest → rest ≡ Word (codes "or") ∷ behind
+    → sides_in ts ≡ join (Some v) (sides_in behind)
 next_side ts rest behind v p e =
     ap (option_and_then sides) (p ∙ ap (λ l. join (Some v) (values l)) e) ∙ side_before v (values behind)
 
 -- a value, and behind it a word other than `or`
-side_at_word : (v : Value) (w : List ℕ) (ts : List Token) (b : Bool) (others : Option (List Value)) → bytes_eq w (codes "or") ≡ b → cond b (Some ts) None ≡ None → option_and_then sides (join (Some v) (join (Some (Bare w)) others)) ≡ None
+side_at_word : (v : Value) (w : List ℕ) (ts : List Token) (b : Bool) (others : Option (List Value))
+    → bytes_eq w (codes "or") ≡ b → cond b (Some ts) None ≡ None
+    → option_and_then sides (join (Some v) (join (Some (Bare w)) others)) ≡ None
 side_at_word v w ts true others e h = cc
 side_at_word v w ts false None e h = refl
 side_at_word v w ts false (Some vs) e h = rw e refl
 
 -- a value, and behind it one in braces
-side_at_braces : (v : Value) (others : Option (List Value)) → BeginBraced others → option_and_then sides (join (Some v) others) ≡ None
+side_at_braces : (v : Value) (others : Option (List Value)) → BeginBraced others
+    → option_and_then sides (join (Some v) others) ≡ None
 side_at_braces v None h = refl
 side_at_braces v (Some []) h = absurd h
 side_at_braces v (Some (Bare w ∷ vs)) h = absurd h
 side_at_braces v (Some (Braces ws ∷ vs)) h = refl
 
-side_at : (v : Value) (rest : List Token) → rest ≢ [] → behind_word (codes "or") rest ≡ None → option_and_then sides (join (Some v) (values rest)) ≡ None
+side_at : (v : Value) (rest : List Token) → rest ≢ [] → behind_word (codes "or") rest ≡ None
+    → option_and_then sides (join (Some v) (values rest)) ≡ None
 side_at v [] n h = absurd (n refl)
 side_at v (Word w ∷ ts) n h = side_at_word v w ts (bytes_eq w (codes "or")) (values ts) refl h
 side_at v (Open ∷ ts) n h = side_at_braces v (in_braces [] ts) (braced [] ts)
 side_at v (t ∷ ts) n h = refl
 
-pub no_next_side : (ts rest : List Token) (v : Value) → Precedes v ts rest → rest ≢ [] → behind_word (codes "or") rest ≡ None → sides_in ts ≡ None
+pub no_next_side : (ts rest : List Token) (v : Value) → Precedes v ts rest → rest ≢ []
+    → behind_word (codes "or") rest ≡ None → sides_in ts ≡ None
 no_next_side ts rest v p n h = ap (option_and_then sides) p ∙ side_at v rest n h
 
 pub no_side : (ts : List Token) → some_values ts ≡ None → sides_in ts ≡ None
 no_side [] h = refl
 no_side (t ∷ ts) h = ap (option_and_then sides) h
 
-pub behind_or : (rest : List Token) (word : List ℕ) (behind : List Token) → word ≡ codes "or" → Some behind ≡ behind_word word rest → rest ≡ Word (codes "or") ∷ behind
+pub behind_or : (rest : List Token) (word : List ℕ) (behind : List Token) → word ≡ codes "or"
+    → Some behind ≡ behind_word word rest → rest ≡ Word (codes "or") ∷ behind
 behind_or (Word w ∷ ts) word behind e h = at (bytes_eq w word) (bytes_eq-Decides w word) h
   where
-    at : (b : Bool) → Decides b (w ≡ word) → Some behind ≡ cond b (Some ts) None → Word w ∷ ts ≡ Word (codes "or") ∷ behind
+    at : (b : Bool) → Decides b (w ≡ word) → Some behind ≡ cond b (Some ts) None
+        → Word w ∷ ts ≡ Word (codes "or") ∷ behind
     at true d h =
         let same : ts ≡ behind = cc in
         ap (λ v. Word v ∷ ts) (d.0 refl ∙ e) ∙ ap (λ l. Word (codes "or") ∷ l) same
@@ -90,7 +101,8 @@ none_after : (vs : List Value) → before_sides vs None ≡ None
 none_after [] = refl
 none_after (v ∷ vs) = ap (join (Some v)) (none_after vs)
 
-one_more : (vs : List Value) (v : Value) (others : Option (List Value)) → before_sides (vs ++ v ∷ []) others ≡ before_sides vs (join (Some v) others)
+one_more : (vs : List Value) (v : Value) (others : Option (List Value))
+    → before_sides (vs ++ v ∷ []) others ≡ before_sides vs (join (Some v) others)
 one_more [] v others = refl
 one_more (u ∷ vs) v others = ap (join (Some u)) (one_more vs v others)
 
@@ -106,14 +118,18 @@ pub none_remain : (vs : List Value) (ts all : List Token) → Remain vs ts all �
 none_remain vs ts all r h = sym r ∙ ap (before_sides vs) h ∙ none_after vs
 
 -- the refusal of a value
-pub value_refused : (vs : List Value) (ts all : List Token) (refusal : Refusal) → Remain vs ts all → (refusal ≡ Memory) ⊎ ((refusal ≡ WrongForm) × (some_values ts ≡ None)) → (refusal ≡ Memory) ⊎ ((refusal ≡ WrongForm) × (sides_in all ≡ None))
+pub value_refused : (vs : List Value) (ts all : List Token) (refusal : Refusal) → Remain vs ts all
+    → (refusal ≡ Memory) ⊎ ((refusal ≡ WrongForm) × (some_values ts ≡ None))
+    → (refusal ≡ Memory) ⊎ ((refusal ≡ WrongForm) × (sides_in all ≡ None))
 value_refused vs ts all refusal r (inl memory) = inl memory
 value_refused vs ts all refusal r (inr h) = inr (h.0, none_remain vs ts all r (no_side ts h.1))
 
-pub no_more_remain : (vs us : List Value) (ts all : List Token) (v : Value) → Remain vs ts all → us ≡ vs ++ v ∷ [] → sides_in ts ≡ Some (v ∷ []) → sides_in all ≡ Some us
+pub no_more_remain : (vs us : List Value) (ts all : List Token) (v : Value) → Remain vs ts all → us ≡ vs ++ v ∷ []
+    → sides_in ts ≡ Some (v ∷ []) → sides_in all ≡ Some us
 no_more_remain vs us ts all v r e h = sym r ∙ ap (before_sides vs) h ∙ all_before vs (v ∷ []) ∙ ap Some (sym e)
 
-pub one_more_remains : (vs us : List Value) (ts behind all : List Token) (v : Value) → Remain vs ts all → us ≡ vs ++ v ∷ [] → sides_in ts ≡ join (Some v) (sides_in behind) → Remain us behind all
+pub one_more_remains : (vs us : List Value) (ts behind all : List Token) (v : Value) → Remain vs ts all
+    → us ≡ vs ++ v ∷ [] → sides_in ts ≡ join (Some v) (sides_in behind) → Remain us behind all
 one_more_remains vs us ts behind all v r e h =
     ap (λ l. before_sides l (sides_in behind)) e ∙ one_more vs v (sides_in behind) ∙ ap (before_sides vs) (sym h) ∙ r
 
@@ -126,18 +142,25 @@ no_choice (Word a ∷ Word b ∷ ts) h = cc
 no_choice (Word a ∷ t ∷ ts) h = refl
 no_choice (t ∷ ts) h = refl
 
-pub nothing_chosen : (ts rest : List Token) (c x : List ℕ) (refusal : Refusal) → ts ≡ Word c ∷ Word x ∷ rest → (refusal ≡ Memory) ⊎ ((refusal ≡ WrongForm) × (few_sides_in rest ≡ None)) → (refusal ≡ Memory) ⊎ (command_in_form (choose ts) ≡ Err refusal)
+pub nothing_chosen : (ts rest : List Token) (c x : List ℕ) (refusal : Refusal) → ts ≡ Word c ∷ Word x ∷ rest
+    → (refusal ≡ Memory) ⊎ ((refusal ≡ WrongForm) × (few_sides_in rest ≡ None))
+    → (refusal ≡ Memory) ⊎ (command_in_form (choose ts) ≡ Err refusal)
 nothing_chosen ts rest c x refusal e (inl memory) = inl memory
 nothing_chosen ts rest c x refusal e (inr h) =
     inr (misread (choose ts) refusal (h.0, ap choose e ∙ ap (option_map (Command.Choose c x)) h.1))
 
-chosen : (ts rest : List Token) (c x : List ℕ) (vs : List Value) → ts ≡ Word c ∷ Word x ∷ rest → few_sides_in rest ≡ Some vs → choose ts ≡ Some (Command.Choose c x vs)
+chosen : (ts rest : List Token) (c x : List ℕ) (vs : List Value) → ts ≡ Word c ∷ Word x ∷ rest
+    → few_sides_in rest ≡ Some vs → choose ts ≡ Some (Command.Choose c x vs)
 chosen ts rest c x vs e f = ap choose e ∙ ap (option_map (Command.Choose c x)) f
 
-pub choice_unnamed : (ts rest : List Token) (c x : List ℕ) (vs : List Value) (refusal : Refusal) → ts ≡ Word c ∷ Word x ∷ rest → few_sides_in rest ≡ Some vs → (refusal ≡ NotAName) × (list_all is_name (c ∷ x ∷ []) ≡ false) → command_in_form (choose ts) ≡ Err refusal
+pub choice_unnamed : (ts rest : List Token) (c x : List ℕ) (vs : List Value) (refusal : Refusal)
+    → ts ≡ Word c ∷ Word x ∷ rest → few_sides_in rest ≡ Some vs
+    → (refusal ≡ NotAName) × (list_all is_name (c ∷ x ∷ []) ≡ false) → command_in_form (choose ts) ≡ Err refusal
 choice_unnamed ts rest c x vs refusal e f h =
     ap command_in_form (chosen ts rest c x vs e f) ∙ unnamed (c ∷ x ∷ []) true (Some (Command.Choose c x vs)) refusal h
 
-pub choice_read : (ts rest : List Token) (c x : List ℕ) (vs : List Value) → ts ≡ Word c ∷ Word x ∷ rest → few_sides_in rest ≡ Some vs → list_all is_name (c ∷ x ∷ []) ≡ true → command_in_form (choose ts) ≡ Ok (Some (Command.Choose c x vs))
+pub choice_read : (ts rest : List Token) (c x : List ℕ) (vs : List Value) → ts ≡ Word c ∷ Word x ∷ rest
+    → few_sides_in rest ≡ Some vs → list_all is_name (c ∷ x ∷ []) ≡ true
+    → command_in_form (choose ts) ≡ Ok (Some (Command.Choose c x vs))
 choice_read ts rest c x vs e f h =
     ap command_in_form (chosen ts rest c x vs e f) ∙ all_named (c ∷ x ∷ []) (Some (Command.Choose c x vs)) h

@@ -1,5 +1,6 @@
 -- A line has one reading, and the reader finds it.
-use Rattle.std.proofs.Common.{◌≡◌, inl, inr, ℕ, List, [], ◌∷◌, length, Bool, true, false, cond, refl, sym, ◌∙◌, ap, subst, Some, None, Ok, Err, map, arith}
+use Rattle.std.proofs.Common.{◌≡◌, inl, inr, ℕ, List, [], ◌∷◌, length, Bool, true, false, cond, refl, sym, ◌∙◌, ap}
+use Rattle.std.proofs.Common.{subst, Some, None, Ok, Err, map, arith}
 use Rattle.std.specs.Prelude.{Option, Result, bytes_eq, find, is_some, not, ◌||◌}
 use Rattle.std.specs.Str.{is_utf8}
 use Rattle.std.proofs.lemmas.Option.{none-some}
@@ -11,7 +12,8 @@ use Rattle.prop_language.specs.Tokens.{Token, Word, tokens}
 use Rattle.prop_language.specs.Names.{is_among}
 use Rattle.prop_language.specs.Commands.{Value, Command}
 use Rattle.prop_language.specs.Spelling.{Spells, AreTwoToEight, command_words}
-use Rattle.prop_language.specs.Reading.{without_return, is_silent, command_in_range, begins_as_command, AskFor, IsReadingOf, IsReading, HaveOneReading}
+use Rattle.prop_language.specs.Reading.{without_return, is_silent, command_in_range, begins_as_command, AskFor}
+use Rattle.prop_language.specs.Reading.{IsReadingOf, IsReading, HaveOneReading}
 use Rattle.prop_language.specs.Said.{Reads}
 use Rattle.prop_language.specs.declared.command.Command as made
 use Rattle.prop_language.specs.inner.Forms.{forms}
@@ -21,11 +23,14 @@ use Rattle.prop_language.proofs.SpellingLaws.{read_form, spelled_is_read, read_i
 
 -- ---- tokens
 
-found_among : (known : List (List ℕ × (List Token → Option Command))) (w : List ℕ) → is_some (find (λ form. bytes_eq form.0 w) known) ≡ is_among (map (λ form. form.0) known) w
+found_among : (known : List (List ℕ × (List Token → Option Command))) (w : List ℕ)
+    → is_some (find (λ form. bytes_eq form.0 w) known) ≡ is_among (map (λ form. form.0) known) w
 found_among [] w = refl
 found_among (form ∷ known) w = by (bytes_eq form.0 w) (found_among known w)
   where
-    by : (b : Bool) → is_some (find (λ form. bytes_eq form.0 w) known) ≡ is_among (map (λ form. form.0) known) w → is_some (cond b (Some form) (find (λ form. bytes_eq form.0 w) known)) ≡ (b || is_among (map (λ form. form.0) known) w)
+    by : (b : Bool) → is_some (find (λ form. bytes_eq form.0 w) known) ≡ is_among (map (λ form. form.0) known) w
+        → is_some (cond b (Some form) (find (λ form. bytes_eq form.0 w) known))
+        ≡ (b || is_among (map (λ form. form.0) known) w)
     by true h = refl
     by false h = h
 
@@ -34,11 +39,14 @@ data Read (ts : List Token) : Type 0 where
   Formless : read_form ts ≡ None → command_of ts ≡ Err (cond (begins_as_command ts) WrongForm UnknownCommand) → Read ts
   Formed : (command : Command) → read_form ts ≡ Some command → command_of ts ≡ command_in_range command → Read ts
 
-by_form : (w : List ℕ) (ts : List Token) (read : Option Command) (form : List ℕ × (List Token → Option Command)) → is_among command_words w ≡ true → find (λ form. bytes_eq form.0 w) forms ≡ Some form → form.1 ts ≡ read → Read (Word w ∷ ts)
+by_form : (w : List ℕ) (ts : List Token) (read : Option Command) (form : List ℕ × (List Token → Option Command))
+    → is_among command_words w ≡ true → find (λ form. bytes_eq form.0 w) forms ≡ Some form → form.1 ts ≡ read
+    → Read (Word w ∷ ts)
 by_form w ts None form among f e = Formless (rw (f, e) refl) (rw (f, e, among) refl)
 by_form w ts (Some command) form among f e = Formed command (rw (f, e) refl) (rw (f, e) refl)
 
-by_word : (w : List ℕ) (ts : List Token) (found : Option (List ℕ × (List Token → Option Command))) → find (λ form. bytes_eq form.0 w) forms ≡ found → Read (Word w ∷ ts)
+by_word : (w : List ℕ) (ts : List Token) (found : Option (List ℕ × (List Token → Option Command)))
+    → find (λ form. bytes_eq form.0 w) forms ≡ found → Read (Word w ∷ ts)
 by_word w ts None f =
     let among : is_among command_words w ≡ false = sym (found_among forms w) ∙ ap is_some f in
     Formless (rw f refl) (rw (f, among) refl)
@@ -59,7 +67,8 @@ one_command ts command other s o =
     let g : read_form ts ≡ Some other = spelled_is_read ts other o in
     cc
 
-one_asked : (ts : List Token) (read other : Result (Option Command) Refusal) → AskFor ts read → AskFor ts other → other ≡ read
+one_asked : (ts : List Token) (read other : Result (Option Command) Refusal) → AskFor ts read → AskFor ts other
+    → other ≡ read
 one_asked ts read other (inl (c, s, e)) (inl (d, o, f)) = f ∙ ap command_in_range (one_command ts c d s o) ∙ sym e
 one_asked ts read other (inl (c, s, e)) (inr (n, f)) = absurd (n c s)
 one_asked ts read other (inr (n, e)) (inl (d, o, f)) = absurd (n d o)
@@ -67,15 +76,18 @@ one_asked ts read other (inr (n, e)) (inr (m, f)) = f ∙ sym e
 
 -- ---- lines
 
-by_silence : (bytes : List ℕ) (silent : Bool) → is_utf8 bytes ≡ true → is_silent bytes ≡ silent → IsReadingOf bytes (reading_of bytes)
+by_silence : (bytes : List ℕ) (silent : Bool) → is_utf8 bytes ≡ true → is_silent bytes ≡ silent
+    → IsReadingOf bytes (reading_of bytes)
 by_silence bytes true u s = inr (inl (IsUtf8-from_is_utf8 bytes u, s, rw (u, s) refl))
-by_silence bytes false u s = inr (inr (IsUtf8-from_is_utf8 bytes u, s, rw (u, s) (asked_by (tokens bytes) (read (tokens bytes)))))
+by_silence bytes false u s = inr (inr
+    (IsUtf8-from_is_utf8 bytes u, s, rw (u, s) (asked_by (tokens bytes) (read (tokens bytes)))))
 
 by_text : (bytes : List ℕ) (text : Bool) → is_utf8 bytes ≡ text → IsReadingOf bytes (reading_of bytes)
 by_text bytes true u = by_silence bytes _ u refl
 by_text bytes false u = inl (λ t. false≢true (sym u ∙ is_utf8-from_IsUtf8 bytes t), rw u refl)
 
-one_of : (bytes : List ℕ) (read other : Result (Option Command) Refusal) → IsReadingOf bytes read → IsReadingOf bytes other → other ≡ read
+one_of : (bytes : List ℕ) (read other : Result (Option Command) Refusal) → IsReadingOf bytes read
+    → IsReadingOf bytes other → other ≡ read
 one_of bytes read other (inl (n, e)) (inl (m, f)) = f ∙ sym e
 one_of bytes read other (inl (n, e)) (inr (inl (t, s, f))) = absurd (n t)
 one_of bytes read other (inl (n, e)) (inr (inr (t, s, a))) = absurd (n t)
@@ -93,7 +105,8 @@ is_reading line = elim (cases_lt 4096 (length line)) [
   | inr short ↦ inr (omega arith, rw (le-ltb 4096 (length line) short) (by_text (without_return line) _ refl))
 ]
 
-pub one_reading : (line : List ℕ) (read other : Result (Option Command) Refusal) → IsReading line read → IsReading line other → other ≡ read
+pub one_reading : (line : List ℕ) (read other : Result (Option Command) Refusal) → IsReading line read
+    → IsReading line other → other ≡ read
 one_reading line read other (inl (l, e)) (inl (k, f)) = f ∙ sym e
 one_reading line read other (inl (l, e)) (inr (k, f)) = absurd (omega arith)
 one_reading line read other (inr (l, e)) (inl (k, f)) = absurd (omega arith)
@@ -106,14 +119,17 @@ reading_is line read r = one_reading line read (reading line) r (is_reading line
 pub have_one_reading : HaveOneReading
 have_one_reading line = (reading line, is_reading line, λ other r. sym (reading_is line other r))
 
-pub reads_line : (line : List ℕ) (result : Result made.Command Refusal) → ReadsAs result (reading line) → Reads result (IsReading line)
+pub reads_line : (line : List ℕ) (result : Result made.Command Refusal) → ReadsAs result (reading line)
+    → Reads result (IsReading line)
 reads_line line (Ok command) r = subst (IsReading line) r (is_reading line)
 reads_line line (Err refusal) (inl m) = inl m
 reads_line line (Err refusal) (inr r) = inr (subst (IsReading line) r (is_reading line))
 
 -- ---- what is read is spelled
 
-ranged : (command other : Command) (names range : Bool) → Ok (Some other) ≡ cond (not names) (Err NotAName) (cond (not range) (Err NotANumber) (Ok (Some command))) → command ≡ other
+ranged : (command other : Command) (names range : Bool)
+    → Ok (Some other) ≡ cond (not names) (Err NotAName) (cond (not range) (Err NotANumber) (Ok (Some command)))
+    → command ≡ other
 ranged command other false range e = cc
 ranged command other true false e = cc
 ranged command other true true e = cc
@@ -122,17 +138,20 @@ asked_is_spelled : (ts : List Token) (command : Command) → AskFor ts (Ok (Some
 asked_is_spelled ts command (inl (c, s, e)) = subst (Spells ts) (ranged c command _ _ e) s
 asked_is_spelled ts command (inr (n, e)) = cc
 
-pub spelled : (line : List ℕ) (command : Command) → IsReading line (Ok (Some command)) → Spells (tokens (without_return line)) command
+pub spelled : (line : List ℕ) (command : Command) → IsReading line (Ok (Some command))
+    → Spells (tokens (without_return line)) command
 spelled line command (inl (l, e)) = cc
 spelled line command (inr (l, inl (n, e))) = cc
 spelled line command (inr (l, inr (inl (u, s, e)))) = cc
 spelled line command (inr (l, inr (inr (u, s, a)))) = asked_is_spelled (tokens (without_return line)) command a
 
 -- a choice that is spelled has two to eight values
-counted : (ts : List Token) (name cell : List ℕ) (values : List Value) → Spells ts (Command.Choose name cell values) → AreTwoToEight values
+counted : (ts : List Token) (name cell : List ℕ) (values : List Value) → Spells ts (Command.Choose name cell values)
+    → AreTwoToEight values
 counted ts name cell [] s = absurd s
 counted ts name cell (v ∷ values) s = s.1
 
-pub choose_counts : (line name cell : List ℕ) (values : List Value) → IsReading line (Ok (Some (Command.Choose name cell values))) → AreTwoToEight values
+pub choose_counts : (line name cell : List ℕ) (values : List Value)
+    → IsReading line (Ok (Some (Command.Choose name cell values))) → AreTwoToEight values
 choose_counts line name cell values r =
     counted (tokens (without_return line)) name cell values (spelled line (Command.Choose name cell values) r)

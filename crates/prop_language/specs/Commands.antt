@@ -19,7 +19,8 @@ pub data By : Type 0 where
   Number : Option ℤ → By
   Relation : List ℕ → By
 
--- what a step's use is given: what stands behind its `by`, as in a command, or what the definition itself is given
+-- what a step's use is given: what stands behind its `by`, as in a command, or what the definition
+-- itself is given
 pub data Passed : Type 0 where
   Said : By → Passed
   Own : Passed

@@ -1,8 +1,12 @@
 -- What a line asks for, or the first reason in the line alone why it is refused.
-use Rattle.std.specs.Prelude.{◌≡◌, ◌⊎◌, ℕ, ◌<◌, ◌≤◌, List, [], ◌∷◌, ◌++◌, Bool, true, false, cond, not, ◌==◌, length, Option, Some, None, Result, Ok, Err, flat_map, is_some, IsUtf8}
+use Rattle.std.specs.Prelude.{◌≡◌, ◌⊎◌, ℕ, ◌<◌, ◌≤◌, List, [], ◌∷◌, ◌++◌, Bool, true, false, cond}
+use Rattle.std.specs.Prelude.{not, ◌==◌, length, Option, Some, None, Result, Ok, Err, flat_map}
+use Rattle.std.specs.Prelude.{is_some, IsUtf8}
 use Rattle.std.specs.List.{list_all}
 use Rattle.prop_refusals.specs.declared.refusal.Refusal.{Refusal}
-use Rattle.prop_refusals.specs.declared.refusal.Refusal.TheVariants.{LineTooLong, NotUtf8, UnknownCommand, WrongForm, NotAName, NotANumber}
+use Rattle.prop_refusals.specs.declared.refusal.Refusal.TheVariants.{LineTooLong, NotUtf8}
+use Rattle.prop_refusals.specs.declared.refusal.Refusal.TheVariants.{UnknownCommand, WrongForm}
+use Rattle.prop_refusals.specs.declared.refusal.Refusal.TheVariants.{NotAName, NotANumber}
 use Rattle.prop_language.specs.Tokens.{Token, Word, tokens, is_blank}
 use Rattle.prop_language.specs.Names.{is_name, is_among}
 use Rattle.prop_language.specs.Commands.{KindWord, Named, By, Passed, Step, Command}
@@ -37,7 +41,8 @@ step_names (Step.Local n kind) = n ∷ kind_names kind
 step_names (Step.Like n p) = n ∷ p ∷ []
 step_names (Step.Use m cells passed) = m ∷ cells ++ passed_names passed
 
--- the words that stand in a name's place; those in values are left to the cell, and those in pairs to the domains
+-- the words that stand in a name's place; those in values are left to the cell, and those in pairs
+-- to the domains
 abbrev pub names_in : Command → List (List ℕ)
 names_in (Command.Domain name elements) = name ∷ elements
 names_in (Command.Relation name d e pairs) = name ∷ d ∷ e ∷ []
@@ -80,7 +85,8 @@ is_in_range command = true
 -- the command, where its names are names and its numbers in range
 abbrev pub command_in_range : Command → Result (Option Command) Refusal
 command_in_range command =
-    cond (not (list_all is_name (names_in command))) (Err NotAName) (cond (not (is_in_range command)) (Err NotANumber) (Ok (Some command)))
+    cond (not (list_all is_name (names_in command))) (Err NotAName)
+    (cond (not (is_in_range command)) (Err NotANumber) (Ok (Some command)))
 
 -- the first token is the word of a command
 abbrev pub begins_as_command : List Token → Bool
@@ -91,7 +97,8 @@ begins_as_command ts = false
 abbrev pub AskFor : List Token → Result (Option Command) Refusal → Type 0
 AskFor ts read =
     ((command : Command) × Spells ts command × (read ≡ command_in_range command))
-    ⊎ (((command : Command) → ¬ (Spells ts command)) × (read ≡ Err (cond (begins_as_command ts) WrongForm UnknownCommand)))
+    ⊎ (((command : Command) → ¬ (Spells ts command))
+    × (read ≡ Err (cond (begins_as_command ts) WrongForm UnknownCommand)))
 
 -- what a line without its carriage return asks for, None where it gets no reply
 abbrev pub IsReadingOf : List ℕ → Result (Option Command) Refusal → Type 0
@@ -103,7 +110,8 @@ IsReadingOf bytes read =
 -- what a line asks for
 abbrev pub IsReading : List ℕ → Result (Option Command) Refusal → Type 0
 IsReading line read =
-    ((4096 < length line) × (read ≡ Err LineTooLong)) ⊎ ((length line ≤ 4096) × IsReadingOf (without_return line) read)
+    ((4096 < length line) × (read ≡ Err LineTooLong))
+    ⊎ ((length line ≤ 4096) × IsReadingOf (without_return line) read)
 
 -- it holds of what the line asks for
 abbrev pub AsRead : List ℕ → (Result (Option Command) Refusal → Type 0) → Type 0
@@ -112,4 +120,5 @@ AsRead line Holds = (read : Result (Option Command) Refusal) × IsReading line r
 -- each line asks for one thing and no other
 abbrev pub HaveOneReading : Type 0
 HaveOneReading =
-    (line : List ℕ) → AsRead line (λ read. (other : Result (Option Command) Refusal) → IsReading line other → other ≡ read)
+    (line : List ℕ) → AsRead line
+    (λ read. (other : Result (Option Command) Refusal) → IsReading line other → other ≡ read)

@@ -21,8 +21,10 @@ const MOST_SIDES: usize = 8;
 
 /// Values, with the word `or` between each two.
 fn sides<'a>(alloc: Global, bytes: &'a [u8]) -> Result<Vec<Value<'a>>, Refusal>
-    ensures ok { IfOk result (λ found. sides_in (tokens bytes.now) ≡ Some (map value_of found.items)) }
-    ensures err { IfErr result (λ refusal. (refusal ≡ Refusal.Memory) ⊎ ((refusal ≡ Refusal.WrongForm) × (sides_in (tokens bytes.now) ≡ None))) }
+    ensures ok { IfOk result (λ found.
+        sides_in (tokens bytes.now) ≡ Some (map value_of found.items)) }
+    ensures err { IfErr result (λ refusal. (refusal ≡ Refusal.Memory)
+        ⊎ ((refusal ≡ Refusal.WrongForm) × (sides_in (tokens bytes.now) ≡ None))) }
 {
     let mut found = Vec::new(alloc);
     let mut left = bytes;
@@ -43,8 +45,10 @@ fn sides<'a>(alloc: Global, bytes: &'a [u8]) -> Result<Vec<Value<'a>>, Refusal>
 
 /// The same, where there are two to eight values.
 fn few_sides<'a>(alloc: Global, bytes: &'a [u8]) -> Result<Vec<Value<'a>>, Refusal>
-    ensures ok { IfOk result (λ found. few_sides_in (tokens bytes.now) ≡ Some (map value_of found.items)) }
-    ensures err { IfErr result (λ refusal. (refusal ≡ Refusal.Memory) ⊎ ((refusal ≡ Refusal.WrongForm) × (few_sides_in (tokens bytes.now) ≡ None))) }
+    ensures ok { IfOk result (λ found.
+        few_sides_in (tokens bytes.now) ≡ Some (map value_of found.items)) }
+    ensures err { IfErr result (λ refusal. (refusal ≡ Refusal.Memory)
+        ⊎ ((refusal ≡ Refusal.WrongForm) × (few_sides_in (tokens bytes.now) ≡ None))) }
 {
     let found = sides(alloc, bytes)?;
     if (FEWEST_SIDES..=MOST_SIDES).contains(&found.len()) {
@@ -66,7 +70,8 @@ pub fn choose<'a>(alloc: Global, rest: &'a [u8]) -> Result<Command<'a>, Refusal>
 
 /// `nogoods`, behind its first word.
 pub fn nogoods(rest: &[u8]) -> Result<Command<'_>, Refusal>
-    ensures read { ReadsAs result (command_in_form (forms.bare commands.Command.Nogoods (tokens rest.now))) }
+    ensures read { ReadsAs result
+        (command_in_form (forms.bare commands.Command.Nogoods (tokens rest.now))) }
     ensures memory { result ≢ Err Refusal.Memory }
 {
     if is_end(rest) {

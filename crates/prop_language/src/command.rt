@@ -24,14 +24,16 @@ pub enum By<'a> {
     Relation(&'a str),
 }
 
-/// What a step's use is given: what stands behind its `by`, as in a command, or behind `by *` what the definition itself is given.
+/// What a step's use is given: what stands behind its `by`, as in a command, or behind `by *` what
+/// the definition itself is given.
 #[derive(Clone, Copy)]
 pub enum Passed<'a> {
     Said(By<'a>),
     Own,
 }
 
-/// A step of a definition: `local n KIND`, `local n like p`, or a use of a procedure or of an earlier definition on cells.
+/// A step of a definition: `local n KIND`, `local n like p`, or a use of a procedure or of an
+/// earlier definition on cells.
 #[derive(Drop)]
 pub enum Step<'a> {
     Local(&'a str, KindWord<'a>),
@@ -39,9 +41,10 @@ pub enum Step<'a> {
     Use(&'a str, Vec<&'a str>, Passed<'a>),
 }
 
-/// A command with its words and numbers as read, in the order in which they stand on the line: of `Tell` the premise, then the
-/// cell, of `Choose` the name, the cell and two to eight values, of `Relation` the name, the two domains, and the pairs, whose words need not be names, and of `Define` the name, the
-/// parameters and the steps. `Silent` is a line that gets no reply.
+/// A command with its words and numbers as read, in the order in which they stand on the line: of
+/// `Tell` the premise, then the cell, of `Choose` the name, the cell and two to eight values, of
+/// `Relation` the name, the two domains, and the pairs, whose words need not be names, and of
+/// `Define` the name, the parameters and the steps. `Silent` is a line that gets no reply.
 #[derive(Drop)]
 pub enum Command<'a> {
     Silent,

@@ -57,7 +57,8 @@ fn is_identifier(text: &str) -> bool
 /// The name that the word is.
 pub fn name(word: &[u8]) -> Result<&str, Refusal>
     ensures ok { IfOk result (λ name. (name.now ≡ word.now) × (is_name word.now ≡ true)) }
-    ensures err { IfErr result (λ refusal. (refusal ≡ Refusal.NotAName) × (is_name word.now ≡ false)) }
+    ensures err { IfErr result (λ refusal. (refusal ≡ Refusal.NotAName)
+        × (is_name word.now ≡ false)) }
 {
     match str::from_utf8(word) {
         Ok(text) if is_identifier(text) && !is_reserved(word) => Ok(text),

@@ -40,8 +40,8 @@ fn signed(word: &[u8]) -> Option<i64>
     }
 }
 
-/// The whole number that the word is, where it is one from `low` to `high`: an optional minus sign and one or more ASCII
-/// digits, of which the first may be zeros.
+/// The whole number that the word is, where it is one from `low` to `high`: an optional minus sign
+/// and one or more ASCII digits, of which the first may be zeros.
 pub fn number_in(low: i64, high: i64, word: &[u8]) -> Option<i64>
     ensures { result ≡ number_in low high word.now }
 {
@@ -49,7 +49,8 @@ pub fn number_in(low: i64, high: i64, word: &[u8]) -> Option<i64>
     (low <= number && number <= high).then_some(number)
 }
 
-/// The whole number that the word is, where it is one from 0 to `high`; it is written as for `number_in`.
+/// The whole number that the word is, where it is one from 0 to `high`; it is written as for
+/// `number_in`.
 pub fn natural_in(high: u64, word: &[u8]) -> Option<u64>
     ensures { result ≡ option_map unsigned_abs (number_in (pos 0) (pos high) word.now) }
 {

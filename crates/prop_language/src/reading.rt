@@ -4,8 +4,10 @@ ghost use Rattle.std.specs.List.{list_all};
 ghost use Rattle.prop_language.specs.Tokens as words;
 ghost use Rattle.prop_language.specs.Tokens.{tokens};
 ghost use Rattle.prop_language.specs.Reading.{is_silent, without_return, IsReading, HaveOneReading};
-ghost use Rattle.prop_language.specs.inner.Parsing.{reading_of, command_of, by_form_of, command_in_form};
-ghost use Rattle.prop_language.specs.inner.Parts.{form_of, form_entry, read_by, word_of, is_worded, KeepsWordsOf, ReadsAs};
+ghost use Rattle.prop_language.specs.inner.Parsing.{reading_of, command_of, by_form_of};
+ghost use Rattle.prop_language.specs.inner.Parsing.{command_in_form};
+ghost use Rattle.prop_language.specs.inner.Parts.{form_of, form_entry, read_by, word_of, is_worded};
+ghost use Rattle.prop_language.specs.inner.Parts.{KeepsWordsOf, ReadsAs};
 ghost use Rattle.prop_language.specs.Said.{Reads, KeepsWords};
 
 use crate::command::Command;
@@ -27,7 +29,8 @@ fn without_return(line: &[u8]) -> &[u8]
     if *last == b'\r' { front } else { line }
 }
 
-/// Whether the line gets no reply: it has spaces and tabs alone, or a number sign as its first other byte.
+/// Whether the line gets no reply: it has spaces and tabs alone, or a number sign as its first
+/// other byte.
 fn is_silent(text: &[u8]) -> bool
     ensures { result ≡ is_silent text.now }
 {
@@ -86,8 +89,11 @@ const COMMANDS: [(&[u8], CommandWord); 18] = [
 
 /// The first of these commands that has this word.
 fn find_command(commands: &[(&[u8], CommandWord)], word: &[u8]) -> Option<CommandWord>
-    ensures read { (ts : List words.Token) → by_form_of (find (λ form. bytes_eq form.0 word.now) (map form_entry commands.now)) ts ≡ read_by result ts }
-    ensures word { IfSome result (λ command. IsTrue (list_all is_worded commands.now) → word.now ≡ word_of command) }
+    ensures read { (ts : List words.Token)
+        → by_form_of (find (λ form. bytes_eq form.0 word.now) (map form_entry commands.now))
+        ts ≡ read_by result ts }
+    ensures word { IfSome result (λ command. IsTrue (list_all is_worded commands.now)
+        → word.now ≡ word_of command) }
 {
     for (known, command) in commands {
         if *known == word {
@@ -155,9 +161,9 @@ fn read_text<'a>(alloc: Global, text: &'a [u8]) -> Result<Command<'a>, Refusal>
 
 /// What a line, without its line feed, asks for.
 ///
-/// The refusal is the first that applies: the line is too long, is not UTF-8, begins with no command, has another form than
-/// its command's, has a word in a name's place that is no name, or a number out of its range. Or it is `Refusal::Memory`,
-/// where there was no memory for the words.
+/// The refusal is the first that applies: the line is too long, is not UTF-8, begins with no
+/// command, has another form than its command's, has a word in a name's place that is no name, or a
+/// number out of its range. Or it is `Refusal::Memory`, where there was no memory for the words.
 pub fn read_line<'a>(alloc: Global, line: &'a [u8]) -> Result<Command<'a>, Refusal>
     ensures read { Reads result (IsReading line.now) }
     ensures memory { (result ≡ Err Refusal.Memory) → KeepsWords (tokens (without_return line.now)) }

@@ -1,5 +1,6 @@
 //! The words and marks of a line.
-ghost use Rattle.std.specs.Prelude.{◌≡◌, ◌≤◌, ◌<◌, ◌∷◌, [], MatchOption, IfSome, length, take, drop};
+ghost use Rattle.std.specs.Prelude.{◌≡◌, ◌≤◌, ◌<◌, ◌∷◌, [], MatchOption, IfSome, length, take};
+ghost use Rattle.std.specs.Prelude.{drop};
 ghost use Rattle.std.specs.List.{AllByRecursion};
 ghost use Rattle.std.specs.Option.{option_map};
 ghost use Rattle.prop_language.specs.Tokens.{tokens, is_blank, mark_of};
@@ -68,7 +69,8 @@ fn word_len(bytes: &[u8]) -> usize
 
 /// The next token and the bytes after it.
 pub fn next_token(bytes: &[u8]) -> Option<(Token<'_>, &[u8])>
-    ensures found { MatchOption result (tokens bytes.now ≡ []) (λ found. tokens bytes.now ≡ token_of found.0 ∷ tokens found.1.now) }
+    ensures found { MatchOption result (tokens bytes.now ≡ [])
+        (λ found. tokens bytes.now ≡ token_of found.0 ∷ tokens found.1.now) }
     ensures shorter { IfSome result (λ found. length found.1.now < length bytes.now) }
 {
     let bytes = skip_blanks(bytes);

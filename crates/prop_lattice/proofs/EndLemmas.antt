@@ -4,7 +4,8 @@ use Rattle.prop_lattice.specs.declared.span.TheConstants.{B}
 use Rattle.prop_lattice.specs.declared.span.Span as spans
 use Rattle.prop_lattice.specs.declared.elements.Elements as sets
 use Rattle.prop_lattice.specs.declared.info.Info.TheVariants.{Span, Set, Contradiction}
-use Rattle.prop_lattice.specs.Ends.{AreEnds, AreSome, ends_or_not, some_or_not, span_if, elements_if, span_from, elements_from}
+use Rattle.prop_lattice.specs.Ends.{AreEnds, AreSome, ends_or_not, some_or_not, span_if, elements_if, span_from}
+use Rattle.prop_lattice.specs.Ends.{elements_from}
 use Rattle.prop_lattice.specs.laws.OrderLaws.{same_span, same_elements}
 
 pub span_from-ends : (lo hi : ℤ) (s : spans.Span) → s.lo ≡ lo → s.hi ≡ hi → span_from lo hi ≡ Span s
@@ -12,7 +13,8 @@ unfolding span_from
 span_from-ends lo hi s p q = by (ends_or_not lo hi)
   where
     by : (d : AreEnds lo hi ⊎ ¬ (AreEnds lo hi)) → span_if lo hi d ≡ Span s
-    by (inl e) = ap Span (same_span (record { lo = lo; hi = hi; above = e.0; ordered = e.1; below = e.2 }) s (sym p) (sym q))
+    by (inl e) = ap Span (same_span (record { lo = lo; hi = hi; above = e.0; ordered = e.1; below = e.2 }) s (sym p)
+        (sym q))
     by (inr f) = absurd (f (subst (λ x. neg_ℤ B ≤ℤ x) p s.above, rw (← p, ← q) s.ordered, rw (← q) s.below))
 
 pub span_from-none : (lo hi : ℤ) → ¬ (AreEnds lo hi) → span_from lo hi ≡ Contradiction

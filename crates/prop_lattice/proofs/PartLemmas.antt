@@ -1,8 +1,10 @@
 -- Tests of bits, and how many bits are set.
-use Rattle.std.specs.Prelude.{◌≡◌, ℕ, ◌<◌, ◌≤◌, ◌+◌, ◌^◌, ◌%◌, ◌/◌, bit_and, ◌==◌, IsTrue, ◌↔◌, count_ones, ◌-◌, zero, suc}
+use Rattle.std.specs.Prelude.{◌≡◌, ℕ, ◌<◌, ◌≤◌, ◌+◌, ◌^◌, ◌%◌, ◌/◌, bit_and, ◌==◌, IsTrue, ◌↔◌, count_ones, ◌-◌, zero}
+use Rattle.std.specs.Prelude.{suc}
 use Rattle.std.specs.Int.{bit_at}
 use Rattle.std.proofs.Common.{inl, inr, arith, ap, sym, subst, ◌∙◌, eqb-true, eq-eqb, pow-suc}
-use Rattle.std.proofs.lemmas.Nat.Bits.{same_from_bits, bit_at-zero, bit_at-suc, bit_at_lowest, bit_at_above, bit_at_ones}
+use Rattle.std.proofs.lemmas.Nat.Bits.{same_from_bits, bit_at-zero, bit_at-suc, bit_at_lowest, bit_at_above}
+use Rattle.std.proofs.lemmas.Nat.Bits.{bit_at_ones}
 use Rattle.std.proofs.lemmas.Nat.{shr-shr, pow_pos}
 use Rattle.std.proofs.lemmas.Bool.{cases_lt}
 use Rattle.std.specs.Int.Count.{ones_step, ones-ones}
@@ -27,7 +29,14 @@ bit_of_shr n k i = ap (λ m. m % 2) (shr-shr n k i)
 pub below_from_shr : (n k : ℕ) → n / 2 ^ k ≡ 0 → AllBelow k n
 below_from_shr n k e i h = elim (cases_lt i k) [
   | inl l ↦ l
-  | inr g ↦ absurd (omega (arith, h, bit_of_shr n k (i - k), ap (λ m. bit_at m (i - k)) e, bit_at-zero (i - k), ap (λ j. bit_at n j) (back i k g)))
+  | inr g ↦ absurd (omega (
+    arith,
+    h,
+    bit_of_shr n k (i - k),
+    ap (λ m. bit_at m (i - k)) e,
+    bit_at-zero (i - k),
+    ap (λ j. bit_at n j) (back i k g),
+  ))
 ]
   where
     back : (i k : ℕ) → k ≤ i → k + (i - k) ≡ i
@@ -47,14 +56,16 @@ below_top n l i h = elim (cases_lt i 64) [ inl b ↦ b | inr g ↦ absurd (omega
 
 -- ---- how many bits are set
 
-pub ones_part : (k a b : ℕ) → a < 2 ^ k → HasBitsOf a b → (count_ones b ≤ count_ones a) × (count_ones b ≡ count_ones a → a ≡ b)
+pub ones_part : (k a b : ℕ) → a < 2 ^ k → HasBitsOf a b
+    → (count_ones b ≤ count_ones a) × (count_ones b ≡ count_ones a → a ≡ b)
 ones_part zero a b l p =
     let ea : a ≡ 0 = omega arith in
     let eb : b ≡ 0 = part_of_none a b ea p in
     (omega (arith, ap count_ones ea, ap count_ones eb), λ e. omega arith)
 ones_part (suc k) a b l p =
     let half : a / 2 < 2 ^ k = omega (arith, pow-suc 2 k) in
-    let ih : (count_ones (b / 2) ≤ count_ones (a / 2)) × (count_ones (b / 2) ≡ count_ones (a / 2) → a / 2 ≡ b / 2) = ones_part k (a / 2) (b / 2) half (λ i h. sym (bit_at-suc a i) ∙ p (suc i) (bit_at-suc b i ∙ h)) in
+    let ih : (count_ones (b / 2) ≤ count_ones (a / 2)) × (count_ones (b / 2) ≡ count_ones (a / 2) → a / 2 ≡ b / 2) =
+    ones_part k (a / 2) (b / 2) half (λ i h. sym (bit_at-suc a i) ∙ p (suc i) (bit_at-suc b i ∙ h)) in
     let low : b % 2 ≤ a % 2 = low_bit a b (p 0) in (
       omega (arith, ones_step a, ones_step b, ih.0),
       λ e.
@@ -66,4 +77,9 @@ ones_part (suc k) a b l p =
     low_bit a b q = grind (arith, bit_at_lowest a, bit_at_lowest b)
 
 pub ones_of_below : (n k : ℕ) → AllBelow k n → count_ones n ≤ k
-ones_of_below n k p = omega (arith, (ones_part k (2 ^ k - 1) n (omega (arith, pow_pos k)) (λ i h. bit_at_ones k i (p i h))).0, ones-ones k)
+ones_of_below n k p = omega (
+  arith,
+  (ones_part k (2 ^ k - 1) n (omega (arith, pow_pos k))
+      (λ i h. bit_at_ones k i (p i h))).0,
+  ones-ones k,
+)

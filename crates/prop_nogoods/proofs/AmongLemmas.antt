@@ -1,5 +1,7 @@
 -- Parts of a set, and sets that it is part of, found in some of the groups alone.
-use Rattle.std.proofs.Common.{◌≡◌, ◌∙◌, ◌<◌, ◌≤◌, ◌-◌, ℕ, suc, Bool, true, false, nat_eq, nat_lt, Option, None, Some, List, [], ◌∷◌, length, get_or, get_or-drop, length-drop, drop, refl, sym, ap, subst, arith, inl, inr, All}
+use Rattle.std.proofs.Common.{◌≡◌, ◌∙◌, ◌<◌, ◌≤◌, ◌-◌, ℕ, suc, Bool, true, false, nat_eq, nat_lt, Option, None, Some}
+use Rattle.std.proofs.Common.{List, [], ◌∷◌, length, get_or, get_or-drop, length-drop, drop, refl, sym, ap, subst}
+use Rattle.std.proofs.Common.{arith, inl, inr, All}
 use Rattle.std.specs.Option.{option_eq}
 use Rattle.std.proofs.lemmas.Bool.{leb-true}
 use Rattle.std.proofs.lemmas.Bool.Decides.{eqb_tells, leb_tells}
@@ -23,7 +25,8 @@ option_eq-itself (Some p) = elim (eqb_tells p p) [ inl e ↦ e.0 | inr e ↦ abs
 -- ---- parts of a set
 
 -- the group with a last premise stands at its place
-at_place : (last : Option ℕ) (gs : List Group) (i : ℕ) → IsPlaceFor last gs i → AreInOrder gs → (k : ℕ) (d : Group) → k < length gs
+at_place : (last : Option ℕ) (gs : List Group) (i : ℕ) → IsPlaceFor last gs i → AreInOrder gs → (k : ℕ) (d : Group)
+    → k < length gs
     → (get_or gs k d).last ≡ last → i ≡ k
 at_place last gs i place order k d l same = elim (leb_tells (suc k) i) [
   | inl e ↦ let before = place.0 k d (omega arith) e.1 in absurd (omega (arith, before, ap end_of same))
@@ -38,30 +41,35 @@ at_place last gs i place order k d l same = elim (leb_tells (suc k) i) [
 
 -- where the group at the place has no part, or ends otherwise, none is found that ends so
 pub no_part_at : (last : Option ℕ) (gs : List Group) (i : ℕ) (w : Members) → IsPlaceFor last gs i → AreInOrder gs
-    → ((d : Group) → i < length gs → (get_or gs i d).last ≡ last → has_part (get_or gs i d).sets w ≡ false) → NoPartEnds gs w last
+    → ((d : Group) → i < length gs → (get_or gs i d).last ≡ last → has_part (get_or gs i d).sets w ≡ false)
+    → NoPartEnds gs w last
 no_part_at last gs i w place order none k d l same =
     let here = at_place last gs i place order k d l same in
     subst (λ j. has_part (get_or gs j d).sets w ≡ false) here
     (none d (omega (arith, here, l)) (subst (λ j. (get_or gs j d).last ≡ last) (sym here) same))
 
 -- a part in a group is one in all
-pub part_of_all : (gs : List Group) (i : ℕ) (d : Group) (w : Members) → i < length gs → has_part (get_or gs i d).sets w ≡ true → has_part (sets_of gs) w ≡ true
+pub part_of_all : (gs : List Group) (i : ℕ) (d : Group) (w : Members) → i < length gs
+    → has_part (get_or gs i d).sets w ≡ true → has_part (sets_of gs) w ≡ true
 part_of_all gs i d w l h =
     let its = part-listed (get_or gs i d).sets w h in
     has_part-from (sets_of gs) w its.line (group_contains gs i d its.line l its.listed_in) its.is_part
 
-no_part_of_groups : (gs : List Group) (w : Members) → All (λ g. has_part g.sets w ≡ false) gs → has_part (sets_of gs) w ≡ false
+no_part_of_groups : (gs : List Group) (w : Members) → All (λ g. has_part g.sets w ≡ false) gs
+    → has_part (sets_of gs) w ≡ false
 no_part_of_groups [] w all = refl
 no_part_of_groups (g ∷ gs) w all =
     list_any-append (λ line. is_within w line) g.sets (sets_of gs)
     ∙ rw (all 0 g (omega arith)) (no_part_of_groups gs w (λ k d l. all (suc k) d (omega (arith, l))))
 
 -- where no group has a part that ends with a premise of the set or has none, there is no part
-pub no_part_anywhere : (gs : List Group) (w : Members) → AreInOrder gs → NoPartEnds gs w None → ((p : ℕ) → w p ≡ true → NoPartEnds gs w (Some p))
+pub no_part_anywhere : (gs : List Group) (w : Members) → AreInOrder gs → NoPartEnds gs w None
+    → ((p : ℕ) → w p ≡ true → NoPartEnds gs w (Some p))
     → has_part (sets_of gs) w ≡ false
 no_part_anywhere gs w order none each = no_part_of_groups gs w (λ k d l. of k d l (get_or gs k d).last refl)
   where
-    of : (k : ℕ) (d : Group) → k < length gs → (last : Option ℕ) → (get_or gs k d).last ≡ last → has_part (get_or gs k d).sets w ≡ false
+    of : (k : ℕ) (d : Group) → k < length gs → (last : Option ℕ) → (get_or gs k d).last ≡ last
+        → has_part (get_or gs k d).sets w ≡ false
     of k d l None same = none k d l same
     of k d l (Some p) same = by (w p) refl
       where
@@ -85,19 +93,22 @@ pub has_part-same : (a b : List (List ℕ)) (w : Members) → HaveSame a b → h
 has_part-same a b w same = by (has_part b w) refl
   where
     by : (t : Bool) → has_part b w ≡ t → has_part b w ≡ has_part a w
-    by true e = let its = part-listed b w e in e ∙ sym (has_part-from a w its.line (same.second its.line its.listed_in) its.is_part)
+    by true e = let its = part-listed b w e in e
+        ∙ sym (has_part-from a w its.line (same.second its.line its.listed_in) its.is_part)
     by false e = e ∙ sym (no_part-same a b w same e)
 
 -- ---- sets that a set is part of
 
 -- a set is part of none that ends earlier
-none_earlier : (last : Option ℕ) (n : List ℕ) (g : Group) → EndsSo last n → EndTogether g → end_of g.last < end_of last → IsPartOfNone g.sets n
+none_earlier : (last : Option ℕ) (n : List ℕ) (g : Group) → EndsSo last n → EndTogether g → end_of g.last < end_of last
+    → IsPartOfNone g.sets n
 none_earlier None n g ends together early k d l = absurd (omega (arith, early))
 none_earlier (Some p) n g ends together early k d l =
     never (is_within (set_of (get_or g.sets k d)) n) (λ t.
     let line = get_or g.sets k d in
     let has = within_has (set_of line) n p t ends.0 in
-    let below = leb-true (suc p) (end_of g.last) (within_has (λ q. nat_lt q (end_of g.last)) line p (together k d l).1 has) in
+    let below = leb-true (suc p) (end_of g.last)
+    (within_has (λ q. nat_lt q (end_of g.last)) line p (together k d l).1 has) in
     omega (arith, early, below))
 
 all_part_of_none : (gs : List Group) (n : List ℕ) → All (λ g. IsPartOfNone g.sets n) gs → IsPartOfNone (sets_of gs) n
@@ -107,18 +118,21 @@ all_part_of_none (g ∷ gs) n all =
     (all_part_of_none gs n (λ k d l. all (suc k) d (omega (arith, l))))
 
 -- what is part of none of the groups behind its place is part of none
-pub part_of_none_behind : (last : Option ℕ) (gs : List Group) (i : ℕ) (n : List ℕ) → EndsSo last n → IsPlaceFor last gs i → AreInOrder gs
+pub part_of_none_behind : (last : Option ℕ) (gs : List Group) (i : ℕ) (n : List ℕ) → EndsSo last n
+    → IsPlaceFor last gs i → AreInOrder gs
     → All (λ g. IsPartOfNone g.sets n) (drop i gs) → IsPartOfNone (sets_of gs) n
 part_of_none_behind last gs i n ends place order none = all_part_of_none gs n (λ k d l. elim (leb_tells (suc k) i) [
   | inl e ↦ none_earlier last n (get_or gs k d) ends (order.together k d l) (place.0 k d (omega arith) e.1)
   | inr e ↦
       let from : i ≤ k = omega (arith, e.1) in
-      let there : get_or (drop i gs) (k - i) d ≡ get_or gs k d = rw (get_or-drop i gs (k - i) d) (ap (λ j. get_or gs j d) (omega (arith, from))) in
+      let there : get_or (drop i gs) (k - i) d ≡ get_or gs k d =
+      rw (get_or-drop i gs (k - i) d) (ap (λ j. get_or gs j d) (omega (arith, from))) in
       subst (λ (g : Group). IsPartOfNone g.sets n) there (none (k - i) d (omega (arith, from, l, length-drop i gs)))
 ])
 
 -- where there is no part, no group behind a place has one
-pub no_part_behind : (gs : List Group) (i k : ℕ) (d : Group) (w : Members) → k < length (drop i gs) → has_part (sets_of gs) w ≡ false
+pub no_part_behind : (gs : List Group) (i k : ℕ) (d : Group) (w : Members) → k < length (drop i gs)
+    → has_part (sets_of gs) w ≡ false
     → has_part (get_or (drop i gs) k d).sets w ≡ false
 no_part_behind gs i k d w l none =
     never (has_part (get_or (drop i gs) k d).sets w) (λ t.

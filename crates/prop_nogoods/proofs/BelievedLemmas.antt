@@ -1,5 +1,6 @@
 -- Whether a nogood is believed, told by the groups.
-use Rattle.std.proofs.Common.{◌≡◌, ◌≤◌, ℕ, Bool, true, false, Some, List, [], ◌∷◌, length, get_or, refl, arith, ap, Contains, IsTrue}
+use Rattle.std.proofs.Common.{◌≡◌, ◌≤◌, ℕ, Bool, true, false, Some, List, [], ◌∷◌, length, get_or, refl, arith, ap}
+use Rattle.std.proofs.Common.{Contains, IsTrue}
 use Rattle.std.specs.Prelude.{slice_get}
 use Rattle.std.proofs.lemmas.List.Elements.{All-contains, Contains-get_or}
 use Rattle.prop_numbers.specs.Sets.{Members, is_within, is_below}
@@ -9,13 +10,15 @@ use Rattle.prop_nogoods.specs.inner.Stores.{HaveSame}
 use Rattle.prop_nogoods.proofs.StoreLaws.{part-listed}
 
 -- what the nogoods of one list show, those of the other show too
-pub end_below_same : (a b : List (List ℕ)) (w : Members) (n : ℕ) → HaveSame a b → PartsEndBelow b w n → PartsEndBelow a w n
+pub end_below_same : (a b : List (List ℕ)) (w : Members) (n : ℕ) → HaveSame a b → PartsEndBelow b w n
+    → PartsEndBelow a w n
 end_below_same a b w n same below = λ k d l.
     All-contains (λ line. IsTrue (is_within w line) → IsTrue (is_below n line)) b (get_or a k d) below
     (same.first (get_or a k d) (Contains-get_or a k d l))
 
 -- where the first set has a premise, each has one
-pub each_has_one : (listed : List (List ℕ)) → AreBySize listed → ((line : List ℕ) → slice_get listed 0 ≡ Some line → ¬ (length line ≡ 0))
+pub each_has_one : (listed : List (List ℕ)) → AreBySize listed
+    → ((line : List ℕ) → slice_get listed 0 ≡ Some line → ¬ (length line ≡ 0))
     → (line : List ℕ) → Contains listed line → ¬ (length line ≡ 0)
 each_has_one [] up first line c e = absurd (omega (arith, c.1))
 each_has_one (x ∷ xs) up first line c e =
@@ -34,7 +37,10 @@ no_part_from listed w p below none each = by (has_part listed w) refl
     by true t =
         let its = part-listed listed w t in
         let within : is_within w its.line ≡ true = within_from w its.line its.is_part in
-        let low = All-contains (λ line. IsTrue (is_within w line) → IsTrue (is_below p line)) listed its.line below its.listed_in within in
-        let empty : its.line ≡ [] = All-contains (λ line. IsTrue (is_within w line) → IsTrue (is_below p line) → line ≡ []) listed its.line none its.listed_in within low in
+        let low = All-contains (λ line. IsTrue (is_within w line) → IsTrue (is_below p line)) listed its.line below
+        its.listed_in within in
+        let empty : its.line ≡ [] = All-contains
+        (λ line. IsTrue (is_within w line) → IsTrue (is_below p line) → line ≡ []) listed its.line none
+        its.listed_in within low in
         absurd (each its.line its.listed_in (ap length empty))
     by false t = refl

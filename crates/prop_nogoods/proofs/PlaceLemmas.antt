@@ -1,5 +1,7 @@
 -- The place of a set in a list in order of size: behind those that are no larger, and before the larger ones.
-use Rattle.std.proofs.Common.{◌≡◌, ◌∙◌, ◌<◌, ◌≤◌, ◌-◌, ◌+◌, ◌⊎◌, ℕ, zero, suc, Bool, true, false, nat_lt, List, [], ◌∷◌, ◌++◌, length, get_or, get_or-drop, length-drop, take, drop, insert, AllPairs, refl, sym, subst, ap, arith, inl, inr}
+use Rattle.std.proofs.Common.{◌≡◌, ◌∙◌, ◌<◌, ◌≤◌, ◌-◌, ◌+◌, ◌⊎◌, ℕ, zero, suc, Bool, true, false, nat_lt, List, [], ◌∷◌}
+use Rattle.std.proofs.Common.{◌++◌, length, get_or, get_or-drop, length-drop, take, drop, insert, AllPairs, refl, sym}
+use Rattle.std.proofs.Common.{subst, ap, arith, inl, inr}
 use Rattle.std.specs.List.{list_any}
 use Rattle.std.specs.List.Sorted.{IsStrictlyIncreasing, IsPartitionPoint}
 use Rattle.std.proofs.lemmas.Bool.{leb-true}
@@ -26,7 +28,8 @@ place_from listed n i h = (
 )
 
 -- a set that no listed one is part of is part of none if it is part of none of those behind its place
-pub part_of_none : (listed : List (List ℕ)) (n : List ℕ) (i : ℕ) → IsStrictlyIncreasing n → IsPlace listed n i → has_part listed (set_of n) ≡ false
+pub part_of_none : (listed : List (List ℕ)) (n : List ℕ) (i : ℕ) → IsStrictlyIncreasing n → IsPlace listed n i
+    → has_part listed (set_of n) ≡ false
     → list_any (λ line. is_within (set_of line) n) (drop i listed) ≡ false → IsPartOfNone listed n
 part_of_none listed n i up place no_part none k d l = by (is_within (set_of (get_or listed k d)) n) refl
   where
@@ -34,36 +37,46 @@ part_of_none listed n i up place no_part none k d l = by (is_within (set_of (get
     whole t below =
         let line = get_or listed k d in
         let back = part_is_whole n line up t (place.0 k d (omega arith) below) in
-        let has = has_part-from listed (set_of n) line (Contains-get_or listed k d l) (λ p s. within_has (set_of n) line p back s) in
+        let has = has_part-from listed (set_of n) line (Contains-get_or listed k d l)
+        (λ p s. within_has (set_of n) line p back s) in
         cc (has, no_part)
 
     behind : is_within (set_of (get_or listed k d)) n ≡ true → i ≤ k → ⊥
     behind t from =
-        let there : get_or (drop i listed) (k - i) d ≡ get_or listed k d = rw (get_or-drop i listed (k - i) d) (ap (λ j. get_or listed j d) (omega (arith, from))) in
-        let has = list_any_at (λ line. is_within (set_of line) n) (drop i listed) (k - i) d (omega (arith, from, l, length-drop i listed))
+        let there : get_or (drop i listed) (k - i) d ≡ get_or listed k d =
+        rw (get_or-drop i listed (k - i) d) (ap (λ j. get_or listed j d) (omega (arith, from))) in
+        let has = list_any_at (λ line. is_within (set_of line) n) (drop i listed) (k - i) d
+        (omega (arith, from, l, length-drop i listed))
         (rw there t) in
         cc (has, none)
 
     by : (b : Bool) → is_within (set_of (get_or listed k d)) n ≡ b → b ≡ false
-    by true t = elim (leb_tells (suc k) i) [ inl e ↦ absurd (whole t e.1) | inr e ↦ absurd (behind t (omega (arith, e.1))) ]
+    by true t = elim (leb_tells (suc k) i)
+        [ inl e ↦ absurd (whole t e.1) | inr e ↦ absurd (behind t (omega (arith, e.1))) ]
     by false t = refl
 
 module _ {X : Type 0} (xs : List X) (i : ℕ) (y : X) (inside : i ≤ length xs) where
   placed : (k : ℕ) (d : X)
-      → ((k < i) × (get_or (insert xs i y) k d ≡ get_or xs k d)) ⊎ (((k ≡ i) × (get_or (insert xs i y) k d ≡ y)) ⊎ ((i < k) × (get_or (insert xs i y) k d ≡ get_or xs (k - 1) d)))
+      → ((k < i) × (get_or (insert xs i y) k d ≡ get_or xs k d))
+      ⊎ (((k ≡ i) × (get_or (insert xs i y) k d ≡ y)) ⊎ ((i < k) × (get_or (insert xs i y) k d ≡ get_or xs (k - 1) d)))
   placed k d = elim (eqb_tells k i) [
     | inl e ↦ inr (inl (e.1, rw e.1 (get_or-insert_at xs i y d inside)))
     | inr e ↦ elim (leb_tells k i) [
       | inl l ↦ let below : k < i = omega (arith, l.1, e.1) in inl (below, get_or-insert_below xs i y d k below inside)
       | inr l ↦
           let back : k ≡ k - 1 + 1 = omega (arith, l.1) in
-          inr (inr (l.1, ap (λ j. get_or (insert xs i y) j d) back ∙ get_or-insert_above xs i y d (k - 1) (omega (arith, l.1)) inside))
+          inr (inr (
+            l.1,
+            ap (λ j. get_or (insert xs i y) j d) back
+                ∙ get_or-insert_above xs i y d (k - 1) (omega (arith, l.1)) inside,
+          ))
     ]
   ]
 
   -- what holds of each pair in order holds with one more where it holds of those before it and of those behind
   pub pairs_insert : (R : X → X → Type 0) → AllPairs R xs
-      → ((k : ℕ) (d : X) → k < i → R (get_or xs k d) y) → ((k : ℕ) (d : X) → i ≤ k → k < length xs → R y (get_or xs k d)) → AllPairs R (insert xs i y)
+      → ((k : ℕ) (d : X) → k < i → R (get_or xs k d) y)
+      → ((k : ℕ) (d : X) → i ≤ k → k < length xs → R y (get_or xs k d)) → AllPairs R (insert xs i y)
   pairs_insert R apart before behind a b d l m = elim (placed a d) [
     | inl p ↦ elim (placed b d) [
       | inl q ↦ both (p.1, q.1) (apart a b d l (omega (arith, q.0, inside)))
@@ -102,13 +115,18 @@ module _ (n : List ℕ) where
   is_larger line = nat_lt (length n) (length line)
 
   is_larger_true : (line : List ℕ) → length n < length line → is_larger line ≡ true
-  is_larger_true line l = elim (leb_tells (suc (length n)) (length line)) [ inl e ↦ e.0 | inr e ↦ absurd (omega (arith, l, e.1)) ]
+  is_larger_true line l = elim (leb_tells (suc (length n)) (length line))
+      [ inl e ↦ e.0 | inr e ↦ absurd (omega (arith, l, e.1)) ]
 
   is_larger_false : (line : List ℕ) → length line ≤ length n → is_larger line ≡ false
-  is_larger_false line l = elim (leb_tells (suc (length n)) (length line)) [ inl e ↦ absurd (omega (arith, l, e.1)) | inr e ↦ e.0 ]
+  is_larger_false line l = elim (leb_tells (suc (length n)) (length line))
+      [ inl e ↦ absurd (omega (arith, l, e.1)) | inr e ↦ e.0 ]
 
   first_place : (x : List ℕ) (xs : List (List ℕ)) → IsPlace (x ∷ xs) n 0 → IsPlace xs n 0
-  first_place x xs place = (λ k d l m. absurd (omega (arith, m)), λ k d l m. place.1 (suc k) d (omega arith) (omega (arith, m)))
+  first_place x xs place = (
+    λ k d l m. absurd (omega (arith, m)),
+    λ k d l m. place.1 (suc k) d (omega arith) (omega (arith, m)),
+  )
 
   next_place : (x : List ℕ) (xs : List (List ℕ)) (i : ℕ) → IsPlace (x ∷ xs) n (suc i) → IsPlace xs n i
   next_place x xs i place = (
@@ -119,17 +137,23 @@ module _ (n : List ℕ) where
   before_place : (listed : List (List ℕ)) (i : ℕ) → IsPlace listed n i → take i listed ≡ no_larger listed n
   before_place [] zero place = refl
   before_place [] (suc i) place = refl
-  before_place (x ∷ xs) zero place = rw (is_larger_true x (place.1 0 x (omega arith) (omega arith))) (before_place xs 0 (first_place x xs place))
+  before_place (x ∷ xs) zero place = rw (is_larger_true x (place.1 0 x (omega arith) (omega arith)))
+      (before_place xs 0 (first_place x xs place))
   before_place (x ∷ xs) (suc i) place =
-      rw (is_larger_false x (place.0 0 x (omega arith) (omega arith))) (ap (λ ys. x ∷ ys) (before_place xs i (next_place x xs i place)))
+      rw (is_larger_false x (place.0 0 x (omega arith) (omega arith)))
+      (ap (λ ys. x ∷ ys) (before_place xs i (next_place x xs i place)))
 
   behind_place : (listed : List (List ℕ)) (i : ℕ) → IsPlace listed n i → drop i listed ≡ larger listed n
   behind_place [] zero place = refl
   behind_place [] (suc i) place = refl
   behind_place (x ∷ xs) zero place =
-      rw (is_larger_true x (place.1 0 x (omega arith) (omega arith))) (ap (λ ys. x ∷ ys) (behind_place xs 0 (first_place x xs place)))
-  behind_place (x ∷ xs) (suc i) place = rw (is_larger_false x (place.0 0 x (omega arith) (omega arith))) (behind_place xs i (next_place x xs i place))
+      rw (is_larger_true x (place.1 0 x (omega arith) (omega arith)))
+      (ap (λ ys. x ∷ ys) (behind_place xs 0 (first_place x xs place)))
+  behind_place (x ∷ xs) (suc i) place =
+      rw (is_larger_false x (place.0 0 x (omega arith) (omega arith))) (behind_place xs i (next_place x xs i place))
 
-  pub insert_behind : (listed : List (List ℕ)) (i : ℕ) → IsPlace listed n i → insert listed i n ≡ no_larger listed n ++ n ∷ larger listed n
+  pub insert_behind : (listed : List (List ℕ)) (i : ℕ) → IsPlace listed n i
+      → insert listed i n ≡ no_larger listed n ++ n ∷ larger listed n
   insert_behind listed i place =
-      ap (λ ys. ys ++ n ∷ drop i listed) (before_place listed i place) ∙ ap (λ ys. no_larger listed n ++ n ∷ ys) (behind_place listed i place)
+      ap (λ ys. ys ++ n ∷ drop i listed) (before_place listed i place)
+      ∙ ap (λ ys. no_larger listed n ++ n ∷ ys) (behind_place listed i place)

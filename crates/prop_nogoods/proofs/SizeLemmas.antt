@@ -1,5 +1,6 @@
 -- A set is no larger than one that it is part of, so that in a list in order of size the parts of a set stand in front.
-use Rattle.std.proofs.Common.{◌≡◌, ◌∙◌, ◌<◌, ◌≤◌, ◌==◌, ℕ, zero, suc, ◌∷◌, Bool, true, false, Decides, leb, List, length, get_or, refl, sym, subst, ap, arith, inl, inr}
+use Rattle.std.proofs.Common.{◌≡◌, ◌∙◌, ◌<◌, ◌≤◌, ◌==◌, ℕ, zero, suc, ◌∷◌, Bool, true, false, Decides, leb, List}
+use Rattle.std.proofs.Common.{length, get_or, refl, sym, subst, ap, arith, inl, inr}
 use Rattle.std.specs.Cmp.{IsEquivalence}
 use Rattle.std.specs.List.Sorted.{IsStrictlyIncreasing}
 use Rattle.std.proofs.lemmas.Bool.Decides.{eqb_tells, leb_tells}
@@ -38,7 +39,8 @@ at_tells p q = (at_same p q, λ e. subst (λ x. is_at p x ≡ true) e (at_itself
 pub part_no_larger : (a b : List ℕ) → IsStrictlyIncreasing a → is_within (set_of b) a ≡ true → length a ≤ length b
 part_no_larger a b up w =
     length-le_from_is_member equals a b
-    (IsDistinct-from_AllPairs at_tells a (λ i j d l m e. let below = AllPairs-from_increasing a up i j d l m in absurd (omega (arith, below, e))))
+    (IsDistinct-from_AllPairs at_tells a
+    (λ i j d l m e. let below = AllPairs-from_increasing a up i j d l m in absurd (omega (arith, below, e))))
     (λ q m. within_has (set_of b) a q w m)
 
 -- no part of a set is larger than it
@@ -50,16 +52,20 @@ larger_no_part a b up l = by (is_within (set_of b) a) refl
     by false w = refl
 
 -- a set that is part of one no larger than it has all of that one
-pub part_is_whole : (a b : List ℕ) → IsStrictlyIncreasing a → is_within (set_of b) a ≡ true → length b ≤ length a → is_within (set_of a) b ≡ true
+pub part_is_whole : (a b : List ℕ) → IsStrictlyIncreasing a → is_within (set_of b) a ≡ true → length b ≤ length a
+    → is_within (set_of a) b ≡ true
 part_is_whole a b up w no_larger = within_from (set_of a) b (λ p t. by p t (set_of a p) refl)
   where
-    apart : (p : ℕ) → set_of a p ≡ false → (i j d : ℕ) → i < j → j < length (p ∷ a) → ¬ (get_or (p ∷ a) i d ≡ get_or (p ∷ a) j d)
+    apart : (p : ℕ) → set_of a p ≡ false → (i j d : ℕ) → i < j → j < length (p ∷ a)
+        → ¬ (get_or (p ∷ a) i d ≡ get_or (p ∷ a) j d)
     apart p lacks i zero d l m e = absurd (omega (arith, l))
     apart p lacks zero (suc j) d l m e =
-        let has : set_of a p ≡ true = list_any_at (is_at p) a j d (omega (arith, m)) (subst (λ q. is_at p q ≡ true) e (at_itself p)) in
+        let has : set_of a p ≡ true = list_any_at (is_at p) a j d (omega (arith, m))
+        (subst (λ q. is_at p q ≡ true) e (at_itself p)) in
         cc (has, lacks)
     apart p lacks (suc i) (suc j) d l m e =
-        let below = AllPairs-from_increasing a up i j d (omega (arith, l)) (omega (arith, m)) in absurd (omega (arith, below, e))
+        let below = AllPairs-from_increasing a up i j d (omega (arith, l)) (omega (arith, m)) in absurd
+        (omega (arith, below, e))
 
     one_of : (p q : ℕ) → set_of b p ≡ true → set_of (p ∷ a) q ≡ true → set_of b q ≡ true
     one_of p q t m = elim (eqb_tells p q) [
@@ -71,7 +77,8 @@ part_is_whole a b up w no_larger = within_from (set_of a) b (λ p t. by p t (set
     by p t true e = e
     by p t false e =
         let most : length (p ∷ a) ≤ length b =
-        length-le_from_is_member equals (p ∷ a) b (IsDistinct-from_AllPairs at_tells (p ∷ a) (apart p e)) (λ q m. one_of p q t m) in
+        length-le_from_is_member equals (p ∷ a) b (IsDistinct-from_AllPairs at_tells (p ∷ a) (apart p e))
+        (λ q m. one_of p q t m) in
         absurd (omega (arith, most, no_larger))
 
 -- no larger than n

@@ -20,13 +20,15 @@ part-listed listed n h =
       is_part = λ p t. within_has n some.1 p some.4 t;
     }
 
-pub has_part-from : (listed : List (List ℕ)) (n : Members) (line : List ℕ) → Contains listed line → IsPart (set_of line) n → IsTrue (has_part listed n)
+pub has_part-from : (listed : List (List ℕ)) (n : Members) (line : List ℕ) → Contains listed line
+    → IsPart (set_of line) n → IsTrue (has_part listed n)
 has_part-from listed n line c part =
     let its : is_within n line ≡ true = within_from n line part in
     list_any_at (λ x. is_within n x) listed c.0 line c.1 (rw c.2 its)
 
 -- a larger set has the listed parts too
-pub has_part-more : (listed : List (List ℕ)) (n m : Members) → IsPart n m → IsTrue (has_part listed n) → IsTrue (has_part listed m)
+pub has_part-more : (listed : List (List ℕ)) (n m : Members) → IsPart n m → IsTrue (has_part listed n)
+    → IsTrue (has_part listed m)
 has_part-more listed n m part h =
     let its = part-listed listed n h in
     has_part-from listed m its.line its.listed_in (λ p t. part p (its.is_part p t))

@@ -1,9 +1,13 @@
 //! Nogoods that end with the same premise.
-ghost use Rattle.std.specs.Prelude.{◌≡◌, ◌<◌, ◌≤◌, ◌++◌, ◌∷◌, ℕ, [], length, get_or, insert, map, nat_lt, vec_capacity, false, All, None, Contains, IsTrue, IfOk, IfSome, OnOk, OnErr};
+ghost use Rattle.std.specs.Prelude.{◌≡◌, ◌<◌, ◌≤◌, ◌++◌, ◌∷◌, ℕ, [], length, get_or, insert, map};
+ghost use Rattle.std.specs.Prelude.{nat_lt, vec_capacity, false, All, None, Contains, IsTrue, IfOk};
+ghost use Rattle.std.specs.Prelude.{IfSome, OnOk, OnErr};
 ghost use Rattle.std.specs.List.Sorted.{IsPartitionPoint, IsStrictlyIncreasing};
 ghost use Rattle.prop_numbers.specs.Sets.{set_of, is_within};
 ghost use Rattle.prop_nogoods.specs.Stores.{has_part, staying, AreBySize, PartsEndBelow};
-ghost use Rattle.prop_nogoods.specs.inner.Endings.{Group, EndsSo, AreInOrder, end_of, sets_of, HasOneMore, HasRoom, NoPartEnds, left_of, lacking_of};
+ghost use Rattle.prop_nogoods.specs.inner.Endings.{Group, EndsSo, AreInOrder, end_of, sets_of};
+ghost use Rattle.prop_nogoods.specs.inner.Endings.{HasOneMore, HasRoom, NoPartEnds, left_of};
+ghost use Rattle.prop_nogoods.specs.inner.Endings.{lacking_of};
 ghost use Rattle.prop_nogoods.specs.inner.Stores.{IsPartOfNone};
 
 use crate::listed::{Listed, drop_holding, drop_larger, first_believed, has_larger, place_of};
@@ -23,7 +27,11 @@ pub(crate) struct Ending {
 impl Model for Ending {
     ghost Value = { Group };
 
-    ghost view = { λ e. record { last = e.last; sets = e.nogoods.items; capacity = vec_capacity e.nogoods } };
+    ghost view = { λ e. record {
+      last = e.last;
+      sets = e.nogoods.items;
+      capacity = vec_capacity e.nogoods;
+    } };
 
     ghost invariant = { λ e. All (EndsSo e.last) e.nogoods.items × AreBySize e.nogoods.items };
 }
@@ -106,7 +114,8 @@ impl Ending {
         has_larger(&self.nogoods, nogood)
     }
 
-    /// The first nogood of which every premise is believed. Where the last premise isn't, or has a number below this one, it looks at no nogood.
+    /// The first nogood of which every premise is believed. Where the last premise isn't, or has a
+    /// number below this one, it looks at no nogood.
     #[inline]
     fn first_believed(&self, worldview: &Worldview, from: Premise) -> Option<&Listed>
         ensures listed { IfSome result (λ s. Contains self.now.sets s.now) }
@@ -126,7 +135,8 @@ impl Ending {
 fn place_for(endings: &[Ending], last: Option<Premise>) -> usize
     requires { AreInOrder endings.now }
     ensures bound { result ≤ length endings.now }
-    ensures between { IsPartitionPoint (λ g. end_of g.last < end_of last) (λ g. end_of last ≤ end_of g.last) endings.now result }
+    ensures between { IsPartitionPoint (λ g. end_of g.last < end_of last)
+        (λ g. end_of last ≤ end_of g.last) endings.now result }
 {
     endings.partition_point(|ending| ending.is_before(last))
 }
@@ -176,8 +186,8 @@ pub(crate) fn has_larger_among(endings: &[Ending], nogood: &Listed) -> bool
     false
 }
 
-/// The place of the ending with this last premise, with room for one nogood more. One that is missing is added, behind those whose last
-/// premise comes earlier.
+/// The place of the ending with this last premise, with room for one nogood more. One that is
+/// missing is added, behind those whose last premise comes earlier.
 fn room_for(endings: &mut Vec<Ending>, last: Option<Premise>) -> Result<usize, AllocError>
     requires { AreInOrder endings.old.items }
     ensures in_order { AreInOrder endings.new.items }
@@ -205,7 +215,8 @@ fn drop_larger_everywhere(endings: &mut [Ending], nogood: &Listed)
     }
 }
 
-/// Drops the nogoods that this one is part of, at each ending, where there may be some. It takes no memory.
+/// Drops the nogoods that this one is part of, at each ending, where there may be some. It takes no
+/// memory.
 fn drop_any_larger_everywhere(endings: &mut [Ending], nogood: &Listed, has_larger: bool)
     requires none { has_larger ≡ false → IsPartOfNone (sets_of endings.old) nogood.now }
     ensures { endings.new ≡ map (left_of nogood.now) endings.old }
@@ -224,8 +235,8 @@ pub(crate) fn purge_everywhere(endings: &mut [Ending], premise: Premise)
     }
 }
 
-/// Adds the set to those that end with its last premise; the nogoods that it is part of go, where there may be some. After want of memory the
-/// nogoods are the same.
+/// Adds the set to those that end with its last premise; the nogoods that it is part of go, where
+/// there may be some. After want of memory the nogoods are the same.
 pub(crate) fn join(
     endings: &mut Vec<Ending>,
     nogood: &Listed,
@@ -234,7 +245,9 @@ pub(crate) fn join(
     requires in_order { AreInOrder endings.old.items }
     requires none { has_larger ≡ false → IsPartOfNone (sets_of endings.old.items) nogood.now }
     ensures in_order { AreInOrder endings.new.items }
-    ensures ok { OnOk result ((place : ℕ) × (sets_of endings.new.items ≡ insert (staying (sets_of endings.old.items) nogood.now) place nogood.now)) }
+    ensures ok { OnOk result ((place : ℕ)
+        × (sets_of endings.new.items ≡ insert (staying (sets_of endings.old.items) nogood.now) place
+        nogood.now)) }
     ensures err { OnErr result (sets_of endings.new.items ≡ sets_of endings.old.items) }
 {
     let again = nogood.again()?;
@@ -244,8 +257,8 @@ pub(crate) fn join(
     Ok(())
 }
 
-/// A nogood of which every premise is believed, of the first ending that has one. It looks at no ending whose premise has a number below this one,
-/// and takes no memory.
+/// A nogood of which every premise is believed, of the first ending that has one. It looks at no
+/// ending whose premise has a number below this one, and takes no memory.
 pub(crate) fn earliest_believed<'a>(
     endings: &'a [Ending],
     worldview: &Worldview,

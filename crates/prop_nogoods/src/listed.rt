@@ -1,5 +1,6 @@
 //! A nogood beside what is looked at first of it.
-ghost use Rattle.std.specs.Prelude.{◌≡◌, ◌<◌, ◌≤◌, List, ℕ, length, false, All, None, Contains, IsTrue, IfOk, IfSome, vec_capacity, vec_len};
+ghost use Rattle.std.specs.Prelude.{◌≡◌, ◌<◌, ◌≤◌, List, ℕ, length, false, All, None, Contains};
+ghost use Rattle.std.specs.Prelude.{IsTrue, IfOk, IfSome, vec_capacity, vec_len};
 ghost use Rattle.std.specs.List.Sorted.{IsPartitionPoint, IsStrictlyIncreasing};
 ghost use Rattle.prop_numbers.specs.Sets.{set_of, is_within};
 ghost use Rattle.prop_nogoods.specs.Stores.{has_part, staying, lacking, AreBySize};
@@ -12,8 +13,8 @@ use std::marker::Model;
 use std::rc::Rc;
 
 /// A set of premises that can't all be believed, with how many they are and the last three of them.
-/// Of most sets that aren't believed these tell it, so that the set itself isn't looked at. It stands
-/// in memory once, in however many lists it is.
+/// Of most sets that aren't believed these tell it, so that the set itself isn't looked at. It
+/// stands in memory once, in however many lists it is.
 #[derive(Drop)]
 pub(crate) struct Listed {
     size: usize,
@@ -132,8 +133,8 @@ impl Listed {
         self.premises.is_subset(other)
     }
 
-    /// Whether each premise of this set is in the other. Of a larger set it is known by the sizes alone, and of most others by the last premise. It takes
-    /// no memory.
+    /// Whether each premise of this set is in the other. Of a larger set it is known by the sizes
+    /// alone, and of most others by the last premise. It takes no memory.
     #[inline(always)]
     pub(crate) fn is_part_of(&self, other: &Listed) -> bool
         ensures { result ≡ is_within (set_of other.now) self.now }
@@ -164,7 +165,8 @@ fn lacks(worldview: &Worldview, premise: Option<Premise>) -> bool
 pub(crate) fn place_of(listed: &[Listed], nogood: &Listed) -> usize
     requires { AreBySize listed.now }
     ensures bound { result ≤ length listed.now }
-    ensures between { IsPartitionPoint (λ line. length line ≤ length nogood.now) (λ line. length nogood.now < length line) listed.now result }
+    ensures between { IsPartitionPoint (λ line. length line ≤ length nogood.now)
+        (λ line. length nogood.now < length line) listed.now result }
 {
     listed.partition_point(|other| other.size() <= nogood.size())
 }
@@ -216,7 +218,9 @@ pub(crate) fn drop_holding(listed: &mut Vec<Listed>, premise: Premise)
 pub(crate) fn first_believed<'a>(listed: &'a [Listed], worldview: &Worldview) -> Option<&'a Listed>
     ensures listed { IfSome result (λ s. Contains listed.now s.now) }
     ensures believed { IfSome result (λ s. IsTrue (is_within (set_of worldview.now) s.now)) }
-    ensures smallest { AreBySize listed.now → IfSome result (λ s. All (λ line. IsTrue (is_within (set_of worldview.now) line) → length s.now ≤ length line) listed.now) }
+    ensures smallest { AreBySize listed.now
+        → IfSome result (λ s. All (λ line. IsTrue (is_within (set_of worldview.now) line)
+        → length s.now ≤ length line) listed.now) }
     ensures none { result ≡ None → has_part listed.now (set_of worldview.now) ≡ false }
 {
     listed.iter().find(|nogood| nogood.is_believed(worldview))

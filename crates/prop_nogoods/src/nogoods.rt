@@ -5,7 +5,8 @@ use crate::listed::Listed;
 use prop_premises::PremiseSet;
 use std::marker::Model;
 
-/// The nogoods of a store that are still to come, the smallest first, and those of one size in the order in which they were added.
+/// The nogoods of a store that are still to come, the smallest first, and those of one size in the
+/// order in which they were added.
 #[derive(Drop)]
 pub struct Nogoods<'a> {
     rest: &'a [Listed],

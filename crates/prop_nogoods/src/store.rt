@@ -1,9 +1,11 @@
 //! A store of nogoods, none of which is part of another.
-ghost use Rattle.std.specs.Prelude.{◌≡◌, ◌↔◌, ◌≤◌, ◌<◌, ◌+◌, List, ℕ, [], length, not, false, All, None, Ok, Contains, IsTrue, IfOk, IfSome, OnOk, OnErr};
+ghost use Rattle.std.specs.Prelude.{◌≡◌, ◌↔◌, ◌≤◌, ◌<◌, ◌+◌, List, ℕ, [], length, not, false, All};
+ghost use Rattle.std.specs.Prelude.{None, Ok, Contains, IsTrue, IfOk, IfSome, OnOk, OnErr};
 ghost use Rattle.std.specs.List.Sorted.{IsStrictlyIncreasing, IsPartitionPoint};
 ghost use Rattle.prop_numbers.specs.Sets.{set_of, is_within};
 ghost use Rattle.prop_nogoods.specs.inner.Endings.{AreInOrder, sets_of};
-ghost use Rattle.prop_nogoods.specs.Stores.{has_part, lacking, with_set, AreMinimal, AreBySize, NoneEndsBelow, AddsSet};
+ghost use Rattle.prop_nogoods.specs.Stores.{has_part, lacking, with_set, AreMinimal, AreBySize};
+ghost use Rattle.prop_nogoods.specs.Stores.{NoneEndsBelow, AddsSet};
 ghost use Rattle.prop_nogoods.specs.inner.Stores.{HaveSame, IsPartOfNone};
 
 use crate::ending::{
@@ -21,7 +23,8 @@ use std::marker::Model;
 #[derive(Drop)]
 pub struct Store {
     nogoods: Vec<Listed>,
-    /// The same nogoods, each with those that end with the same premise; those come first whose last premise comes early.
+    /// The same nogoods, each with those that end with the same premise; those come first whose
+    /// last premise comes early.
     by_last: Vec<Ending>,
 }
 
@@ -30,7 +33,9 @@ impl Model for Store {
 
     ghost view = { λ s. s.nogoods.items };
 
-    ghost invariant = { λ s. AreMinimal s.nogoods.items × All IsStrictlyIncreasing s.nogoods.items × AreBySize s.nogoods.items × HaveSame s.nogoods.items (sets_of s.by_last.items) × AreInOrder s.by_last.items };
+    ghost invariant = { λ s. AreMinimal s.nogoods.items × All IsStrictlyIncreasing s.nogoods.items
+        × AreBySize s.nogoods.items × HaveSame s.nogoods.items (sets_of s.by_last.items)
+        × AreInOrder s.by_last.items };
 }
 
 impl Store {
@@ -57,8 +62,8 @@ impl Store {
         self.nogoods.is_empty()
     }
 
-    /// The nogoods, the smallest first, and those of one size in the order in which they were added. None is part of another, and the premises of each are
-    /// in order of number.
+    /// The nogoods, the smallest first, and those of one size in the order in which they were
+    /// added. None is part of another, and the premises of each are in order of number.
     pub fn iter(&self) -> Nogoods<'_>
         ensures all { result ≡ self.now }
         ensures minimal { AreMinimal self.now }
@@ -77,14 +82,18 @@ impl Store {
         has_larger_among(&self.by_last, nogood)
     }
 
-    /// Adds a nogood behind those that are no larger, and answers whether it says more than those listed; the listed ones that it is part of go.
+    /// Adds a nogood behind those that are no larger, and answers whether it says more than those
+    /// listed; the listed ones that it is part of go.
     ///
-    /// Where a part of it is listed it takes no memory, and nothing changes. After want of memory nothing has changed.
+    /// Where a part of it is listed it takes no memory, and nothing changes. After want of memory
+    /// nothing has changed.
     pub fn add(&mut self, nogood: PremiseSet) -> Result<bool, AllocError>
         ensures adds { OnOk result (AddsSet self.old self.new nogood) }
         ensures new { IfOk result (λ is_new. is_new ≡ not (has_part self.old (set_of nogood))) }
-        ensures joins { IfOk result (λ is_new. IsTrue is_new → self.new ≡ with_set self.old nogood) }
-        ensures known { IsTrue (has_part self.old (set_of nogood)) → (result ≡ Ok false) × (self.new ≡ self.old) }
+        ensures joins { IfOk result (λ is_new. IsTrue is_new
+            → self.new ≡ with_set self.old nogood) }
+        ensures known { IsTrue (has_part self.old (set_of nogood))
+            → (result ≡ Ok false) × (self.new ≡ self.old) }
         ensures minimal { AreMinimal self.new }
         ensures in_order { All IsStrictlyIncreasing self.new }
         ensures by_size { AreBySize self.new }
@@ -98,7 +107,8 @@ impl Store {
         Ok(true)
     }
 
-    /// Adds a nogood of which no part is listed, behind those that are no larger; the listed ones that it is part of go.
+    /// Adds a nogood of which no part is listed, behind those that are no larger; the listed ones
+    /// that it is part of go.
     ///
     /// After want of memory nothing has changed.
     pub fn add_new(&mut self, nogood: PremiseSet) -> Result<(), AllocError>
@@ -121,20 +131,24 @@ impl Store {
         Ok(())
     }
 
-    /// A nogood of which every premise is believed, of the smallest size that there is, none where there is no such nogood. It takes no memory.
+    /// A nogood of which every premise is believed, of the smallest size that there is, none where
+    /// there is no such nogood. It takes no memory.
     pub fn blocks(&self, worldview: &Worldview) -> Option<&PremiseSet>
         ensures listed { IfSome result (λ s. Contains self.now s.now) }
         ensures believed { IfSome result (λ s. IsTrue (is_within (set_of worldview.now) s.now)) }
-        ensures smallest { IfSome result (λ s. All (λ line. IsTrue (is_within (set_of worldview.now) line) → length s.now ≤ length line) self.now) }
+        ensures smallest { IfSome result
+            (λ s. All (λ line. IsTrue (is_within (set_of worldview.now) line)
+            → length s.now ≤ length line) self.now) }
         ensures none { result ≡ None → has_part self.now (set_of worldview.now) ≡ false }
     {
         let nogood = first_believed(&self.nogoods, worldview)?;
         Some(nogood.premises())
     }
 
-    /// A nogood of which every premise is believed, none where there is no such nogood, of a store in
-    /// which each that is believed ends with this premise or a later one, or has none. It looks at no
-    /// nogood whose last premise isn't believed or comes before this one, and takes no memory.
+    /// A nogood of which every premise is believed, none where there is no such nogood, of a store
+    /// in which each that is believed ends with this premise or a later one, or has none. It looks
+    /// at no nogood whose last premise isn't believed or comes before this one, and takes no
+    /// memory.
     pub fn blocks_from(&self, worldview: &Worldview, from: Premise) -> Option<&PremiseSet>
         requires { NoneEndsBelow self.now (set_of worldview.now) from }
         ensures listed { IfSome result (λ s. Contains self.now s.now) }

@@ -1,12 +1,15 @@
 -- The bits of one word.
-use Rattle.std.proofs.Common.{◌≡◌, ◌≢◌, ℕ, suc, ◌+◌, ◌-◌, ◌*◌, ◌%◌, ◌^◌, ◌<◌, ◌≤◌, Bool, true, false, not, ◌||◌, ◌&&◌, ◌==◌, min, max, refl, sym, ap, ◌∙◌, arith, inl, inr, nat_lt, nat_eq, bit_and, bit_or}
+use Rattle.std.proofs.Common.{◌≡◌, ◌≢◌, ℕ, suc, ◌+◌, ◌-◌, ◌*◌, ◌%◌, ◌^◌, ◌<◌, ◌≤◌, Bool, true, false, not, ◌||◌, ◌&&◌}
+use Rattle.std.proofs.Common.{◌==◌, min, max, refl, sym, ap, ◌∙◌, arith, inl, inr, nat_lt, nat_eq, bit_and, bit_or}
 use Rattle.std.specs.Int.{bit_at, bit_not, w64, trailing_zeros, leading_zeros}
 use Rattle.std.proofs.Math.Pow.{pow-lt}
 use Rattle.std.proofs.Math.Nat.{pow-suc}
 use Rattle.std.proofs.lemmas.Nat.{pow_pos, leading_top, and_le_l}
 use Rattle.std.proofs.lemmas.Bool.{cases_eq, cases_lt}
 use Rattle.std.proofs.lemmas.Bool.Decides.{nat_tests}
-use Rattle.std.proofs.lemmas.Nat.Bits.{bit_at-zero, bit_at-lt, bit_at_and, bit_at_or, bit_at_not, bit_at-pow_same, bit_at-pow_other, bit_at_ones, bit_at_ones_above, bit_at_above, bit_at_cat_high, bit_at-trailing_zeros, bit_at_clear_same, bit_at_clear_other, and_pow}
+use Rattle.std.proofs.lemmas.Nat.Bits.{bit_at-zero, bit_at-lt, bit_at_and, bit_at_or, bit_at_not, bit_at-pow_same}
+use Rattle.std.proofs.lemmas.Nat.Bits.{bit_at-pow_other, bit_at_ones, bit_at_ones_above, bit_at_above, bit_at_cat_high}
+use Rattle.std.proofs.lemmas.Nat.Bits.{bit_at-trailing_zeros, bit_at_clear_same, bit_at_clear_other, and_pow}
 use Rattle.prop_numbers.specs.Words.{is_set}
 
 and_true : (b : Bool) → (b && true) ≡ b
@@ -29,11 +32,13 @@ is_set-zero i = rw (bit_at-zero i) refl
 
 pub is_set-or : (a b i : ℕ) → is_set (bit_or a b) i ≡ (is_set a i || is_set b i)
 unfolding is_set
-is_set-or a b i = either_is_one (bit_at a i) (bit_at b i) (bit_at (bit_or a b) i) (bit_at-lt a i) (bit_at-lt b i) (bit_at_or a b i)
+is_set-or a b i = either_is_one (bit_at a i) (bit_at b i) (bit_at (bit_or a b) i) (bit_at-lt a i) (bit_at-lt b i)
+    (bit_at_or a b i)
 
 pub is_set-and : (a b i : ℕ) → is_set (bit_and a b) i ≡ (is_set a i && is_set b i)
 unfolding is_set
-is_set-and a b i = both_are_one (bit_at a i) (bit_at b i) (bit_at (bit_and a b) i) (bit_at-lt a i) (bit_at-lt b i) (bit_at_and a b i)
+is_set-and a b i = both_are_one (bit_at a i) (bit_at b i) (bit_at (bit_and a b) i) (bit_at-lt a i) (bit_at-lt b i)
+    (bit_at_and a b i)
 
 flips : (a b : ℕ) → a < 2 → b ≡ 1 - a → (b == 1) ≡ not (a == 1)
 flips a b l e = grind (arith, nat_tests)
@@ -79,20 +84,24 @@ unfolding is_set
 tested word k = rw (and_pow word k) (product_test (bit_at word k) (2 ^ k) (bit_at-lt word k) (pow_pos k))
 
 -- a word without its bit k
-pub is_set-cleared : (word k i : ℕ) → k < 64 → i < 64 → is_set (bit_and word (bit_not w64 (1 * 2 ^ k % 2 ^ 64))) i ≡ (is_set word i && not (k == i))
+pub is_set-cleared : (word k i : ℕ) → k < 64 → i < 64
+    → is_set (bit_and word (bit_not w64 (1 * 2 ^ k % 2 ^ 64))) i ≡ (is_set word i && not (k == i))
 unfolding is_set
 is_set-cleared word k i l m = elim (cases_eq i k) [
   | inl same ↦ (
       let e : (k == i) ≡ true = grind (arith, nat_tests) in
-      ap (λ b. b == 1) (ap (bit_at (bit_and word (bit_not w64 (1 * 2 ^ k % 2 ^ 64)))) same ∙ bit_at_clear_same w64 word k l)
+      ap (λ b. b == 1) (ap (bit_at (bit_and word (bit_not w64 (1 * 2 ^ k % 2 ^ 64)))) same
+      ∙ bit_at_clear_same w64 word k l)
       ∙ sym (ap (λ b. (bit_at word i == 1) && not b) e ∙ and_false (bit_at word i == 1)))
   | inr other ↦ (
       let e : (k == i) ≡ false = grind (arith, nat_tests) in
-      ap (λ b. b == 1) (bit_at_clear_other w64 word k l i m other) ∙ sym (ap (λ b. (bit_at word i == 1) && not b) e ∙ and_true (bit_at word i == 1)))
+      ap (λ b. b == 1) (bit_at_clear_other w64 word k l i m other)
+      ∙ sym (ap (λ b. (bit_at word i == 1) && not b) e ∙ and_true (bit_at word i == 1)))
 ]
 
 -- the lowest bit of a word that has one
-pub lowest : (word : ℕ) → word ≢ 0 → word < 2 ^ 64 → (trailing_zeros w64 word < 64) × (is_set word (trailing_zeros w64 word) ≡ true) × ((i : ℕ) →
+pub lowest : (word : ℕ) → word ≢ 0 → word < 2 ^ 64
+    → (trailing_zeros w64 word < 64) × (is_set word (trailing_zeros w64 word) ≡ true) × ((i : ℕ) →
     i < trailing_zeros w64 word → is_set word i ≡ false)
 unfolding is_set
 lowest word some fits =
@@ -110,7 +119,8 @@ top_is_set word j l u =
     let rest : word - 2 ^ j < 2 ^ j = omega (arith, u, l, pow-suc 2 j) in
     let whole : 1 * 2 ^ j + (word - 2 ^ j) ≡ word = omega (arith, l) in
     let none : j - j ≡ 0 = omega arith in
-    ap (λ b. b == 1) (ap (λ n. bit_at n j) (sym whole) ∙ bit_at_cat_high 1 j (word - 2 ^ j) j rest (omega arith) ∙ ap (bit_at 1) none)
+    ap (λ b. b == 1) (ap (λ n. bit_at n j) (sym whole) ∙ bit_at_cat_high 1 j (word - 2 ^ j) j rest (omega arith)
+    ∙ ap (bit_at 1) none)
 
 none_above_top : (word j : ℕ) → word < 2 ^ suc j → (i : ℕ) → is_set word i ≡ true → i ≤ j
 unfolding is_set
@@ -137,20 +147,25 @@ only_first true true e = cc
 only_first true false e = (refl, refl)
 only_first false c e = cc
 
-pub is_set-part : (word other i : ℕ) → other < 2 ^ 64 → i < 64 → bit_and word (bit_not w64 other) ≡ 0 → is_set word i ≡ true → is_set other i ≡ true
+pub is_set-part : (word other i : ℕ) → other < 2 ^ 64 → i < 64 → bit_and word (bit_not w64 other) ≡ 0
+    → is_set word i ≡ true → is_set other i ≡ true
 is_set-part word other i fits l none h =
     and_not (is_set word i) (is_set other i)
-    (ap (λ b. is_set word i && b) (sym (is_set-not other i fits l)) ∙ sym (is_set-and word (bit_not w64 other) i) ∙ ap (λ w. is_set w i) none ∙ is_set-zero i)
+    (ap (λ b. is_set word i && b) (sym (is_set-not other i fits l)) ∙ sym (is_set-and word (bit_not w64 other) i)
+    ∙ ap (λ w. is_set w i) none ∙ is_set-zero i)
     h
 
 pub is_set-apart : (word other : ℕ) → word < 2 ^ 64 → other < 2 ^ 64 → bit_and word (bit_not w64 other) ≢ 0 →
     (i : ℕ) × (i < 64) × (is_set word i ≡ true) × (is_set other i ≡ false)
 is_set-apart word other fits other_fits some =
-    let first = lowest (bit_and word (bit_not w64 other)) some (omega (arith, fits, and_le_l word (bit_not w64 other))) in
+    let first = lowest (bit_and word (bit_not w64 other)) some (omega (arith, fits, and_le_l word (bit_not w64 other)))
+    in
     at (trailing_zeros w64 (bit_and word (bit_not w64 other))) first.0 first.1
   where
-    at : (i : ℕ) → i < 64 → is_set (bit_and word (bit_not w64 other)) i ≡ true → (i : ℕ) × (i < 64) × (is_set word i ≡ true) × (is_set other i ≡ false)
+    at : (i : ℕ) → i < 64 → is_set (bit_and word (bit_not w64 other)) i ≡ true
+        → (i : ℕ) × (i < 64) × (is_set word i ≡ true) × (is_set other i ≡ false)
     at i l h =
-        let both = only_first (is_set word i) (is_set other i) (ap (λ b. is_set word i && b) (sym (is_set-not other i other_fits l))
+        let both = only_first (is_set word i) (is_set other i)
+        (ap (λ b. is_set word i && b) (sym (is_set-not other i other_fits l))
         ∙ sym (is_set-and word (bit_not w64 other) i) ∙ h) in
         (i, l, both.0, both.1)

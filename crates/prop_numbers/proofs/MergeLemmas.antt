@@ -1,5 +1,6 @@
 -- Lists of numbers in which each is below all later ones.
-use Rattle.std.proofs.Common.{◌≡◌, ℕ, zero, suc, ◌+◌, ◌<◌, ◌≤◌, Bool, true, false, ◌||◌, ◌==◌, List, [], ◌∷◌, ◌++◌, refl, sym, ap, ◌∙◌, arith, inl, inr, ◌⊎◌, subst}
+use Rattle.std.proofs.Common.{◌≡◌, ℕ, zero, suc, ◌+◌, ◌<◌, ◌≤◌, Bool, true, false, ◌||◌, ◌==◌, List, [], ◌∷◌, ◌++◌}
+use Rattle.std.proofs.Common.{refl, sym, ap, ◌∙◌, arith, inl, inr, ◌⊎◌, subst}
 use Rattle.std.specs.List.{AllByRecursion}
 use Rattle.std.specs.List.Sorted.{IsStrictlyIncreasing}
 use Rattle.std.proofs.lemmas.Bool.Decides.{eqb_tells}
@@ -15,8 +16,10 @@ Rising (x ∷ xs) = AllByRecursion (λ y. x < y) xs × Rising xs
 pub rising_from_increasing : (xs : List ℕ) → IsStrictlyIncreasing xs → Rising xs
 rising_from_increasing [] up = tt
 rising_from_increasing (x ∷ xs) up = (
-  recursion_from_All (λ y. x < y) xs (λ k d l. AllPairs-from_increasing (x ∷ xs) up 0 (suc k) d (omega arith) (omega arith)),
-  rising_from_increasing xs (λ k l. let e : suc k + 1 ≡ suc (k + 1) = omega arith in rw e at (up (suc k) (omega arith))),
+  recursion_from_All (λ y. x < y) xs (λ k d l.
+      AllPairs-from_increasing (x ∷ xs) up 0 (suc k) d (omega arith) (omega arith)),
+  rising_from_increasing xs (λ k l. let e : suc k + 1 ≡ suc (k + 1) = omega arith in rw e
+      at (up (suc k) (omega arith))),
 )
 
 pub increasing_from_rising : (xs : List ℕ) → Rising xs → IsStrictlyIncreasing xs
@@ -69,19 +72,25 @@ not_in x p xs h l = by (set_of xs p) refl
 -- each number is below all that are in the list
 pub all_above : (x : ℕ) (xs : List ℕ) → ((p : ℕ) → set_of xs p ≡ true → x < p) → AllByRecursion (λ y. x < y) xs
 all_above x [] h = tt
-all_above x (y ∷ ys) h = (h y (or_first (y == y) (set_of ys y) (same_test y)), all_above x ys (λ p t. h p (or_last (y == p) (set_of ys p) t)))
+all_above x (y ∷ ys) h = (
+  h y (or_first (y == y) (set_of ys y) (same_test y)),
+  all_above x ys (λ p t. h p (or_last (y == p) (set_of ys p) t)),
+)
 
-heads : (x y : ℕ) (xs ys : List ℕ) → AllByRecursion (λ z. x < z) xs → AllByRecursion (λ z. y < z) ys → IsSame (set_of (x ∷ xs)) (set_of (y ∷ ys)) → x ≡ y
+heads : (x y : ℕ) (xs ys : List ℕ) → AllByRecursion (λ z. x < z) xs → AllByRecursion (λ z. y < z) ys
+    → IsSame (set_of (x ∷ xs)) (set_of (y ∷ ys)) → x ≡ y
 heads x y xs ys h k s =
     elim (or_cases (y == x) (set_of ys x) (sym (s x) ∙ or_first (x == x) (set_of xs x) (same_test x))) as (λ _. x ≡ y) [
       | inl e ↦ sym (same y x e)
-      | inr e ↦ elim (or_cases (x == y) (set_of xs y) (s y ∙ or_first (y == y) (set_of ys y) (same_test y))) as (λ _. x ≡ y) [
-        | inl f ↦ same x y f
-        | inr f ↦ absurd (omega (arith, above y x ys k e, above x y xs h f))
-      ]
+      | inr e ↦ elim (or_cases (x == y) (set_of xs y) (s y ∙ or_first (y == y) (set_of ys y) (same_test y))) as (λ _.
+          x ≡ y) [
+            | inl f ↦ same x y f
+            | inr f ↦ absurd (omega (arith, above y x ys k e, above x y xs h f))
+          ]
     ]
 
-tails : (x : ℕ) (xs ys : List ℕ) → AllByRecursion (λ z. x < z) xs → AllByRecursion (λ z. x < z) ys → IsSame (set_of (x ∷ xs)) (set_of (x ∷ ys)) →
+tails : (x : ℕ) (xs ys : List ℕ) → AllByRecursion (λ z. x < z) xs → AllByRecursion (λ z. x < z) ys
+    → IsSame (set_of (x ∷ xs)) (set_of (x ∷ ys)) →
     IsSame (set_of xs) (set_of ys)
 tails x xs ys h k s p = by (x == p) refl
   where
@@ -99,10 +108,12 @@ same_rising (x ∷ xs) [] h k s = absurd (cc (s x, or_first (x == x) (set_of xs 
 same_rising (x ∷ xs) (y ∷ ys) h k s =
     let e : y ≡ x = sym (heads x y xs ys h.0 k.0 s) in
     let above_too : AllByRecursion (λ z. x < z) ys = subst (λ n. AllByRecursion (λ z. n < z) ys) e k.0 in
-    let same_sets : IsSame (set_of (x ∷ xs)) (set_of (x ∷ ys)) = subst (λ n. IsSame (set_of (x ∷ xs)) (set_of (n ∷ ys))) e s in
+    let same_sets : IsSame (set_of (x ∷ xs)) (set_of (x ∷ ys)) =
+    subst (λ n. IsSame (set_of (x ∷ xs)) (set_of (n ∷ ys))) e s in
     ap (λ l. x ∷ l) (same_rising xs ys h.1 k.1 (tails x xs ys h.0 above_too same_sets)) ∙ ap (λ n. n ∷ ys) (sym e)
 
-pub same_increasing : (xs ys : List ℕ) → IsStrictlyIncreasing xs → IsStrictlyIncreasing ys → IsSame (set_of xs) (set_of ys) → xs ≡ ys
+pub same_increasing : (xs ys : List ℕ) → IsStrictlyIncreasing xs → IsStrictlyIncreasing ys
+    → IsSame (set_of xs) (set_of ys) → xs ≡ ys
 same_increasing xs ys h k s = same_rising xs ys (rising_from_increasing xs h) (rising_from_increasing ys k) s
 
 all_push : (x n : ℕ) (xs : List ℕ) → AllByRecursion (λ y. x < y) xs → x < n → AllByRecursion (λ y. x < y) (xs ++ n ∷ [])

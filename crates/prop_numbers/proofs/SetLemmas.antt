@@ -1,5 +1,6 @@
 -- Sets of numbers, as tests and as lists.
-use Rattle.std.proofs.Common.{◌≡◌, ◌∙◌, ℕ, Bool, true, false, ◌||◌, ◌&&◌, ◌==◌, cond, List, [], ◌∷◌, refl, sym, ap, inl, inr, filter}
+use Rattle.std.proofs.Common.{◌≡◌, ◌∙◌, ℕ, Bool, true, false, ◌||◌, ◌&&◌, ◌==◌, cond, List, [], ◌∷◌, refl, sym, ap, inl}
+use Rattle.std.proofs.Common.{inr, filter}
 use Rattle.std.proofs.lemmas.Bool.Decides.{eqb_tells}
 use Rattle.prop_numbers.specs.Sets.{set_of}
 
@@ -20,7 +21,8 @@ pub set_of-filter : (t : ℕ → Bool) (xs : List ℕ) (p : ℕ) → set_of (fil
 set_of-filter t [] p = refl
 set_of-filter t (x ∷ xs) p = step t x xs p (t x) refl (set_of-filter t xs p)
   where
-    step : (t : ℕ → Bool) (x : ℕ) (xs : List ℕ) (p : ℕ) (b : Bool) → t x ≡ b → set_of (filter t xs) p ≡ (set_of xs p && t p) →
+    step : (t : ℕ → Bool) (x : ℕ) (xs : List ℕ) (p : ℕ) (b : Bool) → t x ≡ b
+        → set_of (filter t xs) p ≡ (set_of xs p && t p) →
         set_of (cond b (x ∷ filter t xs) (filter t xs)) p ≡ (((x == p) || set_of xs p) && t p)
     step t x xs p true e ih = rw ih (or_and (x == p) (set_of xs p) (t p) (λ h. same_test t x p h ∙ e))
     step t x xs p false e ih = ih ∙ and_out (x == p) (set_of xs p) (t p) (λ h. same_test t x p h ∙ e)

@@ -37,14 +37,16 @@ within_has s (n ∷ ns) p w h =
 -- the list is in the set where each of its numbers is
 pub within_from : (s : Members) (ns : List ℕ) → ((p : ℕ) → set_of ns p ≡ true → s p ≡ true) → is_within s ns ≡ true
 within_from s [] h = refl
-within_from s (n ∷ ns) h = and_both (s n) (is_within s ns) (h n (rw (same_test n) refl)) (within_from s ns (λ p t. h p (or_second (n == p) (set_of ns p) t)))
+within_from s (n ∷ ns) h = and_both (s n) (is_within s ns) (h n (rw (same_test n) refl))
+    (within_from s ns (λ p t. h p (or_second (n == p) (set_of ns p) t)))
   where
     or_second : (b c : Bool) → c ≡ true → (b || c) ≡ true
     or_second true c e = refl
     or_second false c e = e
 
 -- whether a list is in a set, by what tells it
-pub is_within-told : (s : Members) (ns : List ℕ) (b : Bool) → (b ≡ true → (p : ℕ) → set_of ns p ≡ true → s p ≡ true) → (b ≡ false → (p : ℕ) × (set_of ns p ≡ true) × (s p ≡ false)) → b ≡ is_within s ns
+pub is_within-told : (s : Members) (ns : List ℕ) (b : Bool) → (b ≡ true → (p : ℕ) → set_of ns p ≡ true → s p ≡ true)
+    → (b ≡ false → (p : ℕ) × (set_of ns p ≡ true) × (s p ≡ false)) → b ≡ is_within s ns
 is_within-told s ns true h k = sym (within_from s ns (h refl))
 is_within-told s ns false h k = by (is_within s ns) refl
   where
@@ -52,7 +54,8 @@ is_within-told s ns false h k = by (is_within s ns) refl
     by true e = let out = k refl in cc (within_has s ns out.0 e out.1, out.2)
     by false e = sym e
 
-pub is_within-trans : (s : Members) (ns ms : List ℕ) → is_within s ms ≡ true → is_within (set_of ms) ns ≡ true → is_within s ns ≡ true
+pub is_within-trans : (s : Members) (ns ms : List ℕ) → is_within s ms ≡ true → is_within (set_of ms) ns ≡ true
+    → is_within s ns ≡ true
 is_within-trans s ns ms w h = within_from s ns (λ p t. within_has s ms p w (within_has (set_of ms) ns p h t))
 
 -- ---- the numbers of two sets

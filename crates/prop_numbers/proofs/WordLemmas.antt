@@ -1,5 +1,8 @@
 -- Sets of numbers as words of bits: what is in them, and in which order.
-use Rattle.std.proofs.Common.{◌≡◌, ◌≢◌, ℕ, zero, suc, ◌+◌, ◌-◌, ◌*◌, ◌/◌, ◌%◌, ◌^◌, ◌<◌, ◌≤◌, Bool, true, false, not, ◌||◌, ◌&&◌, ◌==◌, List, [], ◌∷◌, ◌++◌, length, take, drop, replicate, get_or, refl, sym, ap, subst, ◌∙◌, arith, inl, inr, ◌⊎◌, nat_lt, nat_le, nat_eq, bit_and, bit_or, Result, Ok, Err, IfOk}
+use Rattle.std.proofs.Common.{◌≡◌, ◌≢◌, ℕ, zero, suc, ◌+◌, ◌-◌, ◌*◌, ◌/◌, ◌%◌, ◌^◌, ◌<◌, ◌≤◌, Bool, true, false, not}
+use Rattle.std.proofs.Common.{◌||◌, ◌&&◌, ◌==◌, List, [], ◌∷◌, ◌++◌, length, take, drop, replicate, get_or, refl, sym}
+use Rattle.std.proofs.Common.{ap, subst, ◌∙◌, arith, inl, inr, ◌⊎◌, nat_lt, nat_le, nat_eq, bit_and, bit_or, Result, Ok}
+use Rattle.std.proofs.Common.{Err, IfOk}
 use Rattle.std.specs.Int.{bit_not, w64, trailing_zeros, leading_zeros}
 use Rattle.std.specs.List.{range_with_len, refill, AllByRecursion, AppendsClonesOf}
 use Rattle.std.specs.List.Sorted.{IsStrictlyIncreasing}
@@ -15,9 +18,11 @@ use Rattle.std.proofs.lemmas.Nat.Bits.{bit_at-zero}
 use Rattle.prop_numbers.specs.Sets.{set_of, IsBelow}
 use Rattle.prop_numbers.specs.Words.{is_set, has_bit, numbers_from}
 use Rattle.prop_numbers.specs.inner.Words.{numbers_of, HaveSameBits, HasFrom, IsTrimmed}
-use Rattle.prop_numbers.proofs.BitLemmas.{tested, is_set-or, is_set-and, is_set-not, is_set-pow, is_set-zero, is_set-ones, is_set-cleared, pow_fits, lowest, Highest, highest}
+use Rattle.prop_numbers.proofs.BitLemmas.{tested, is_set-or, is_set-and, is_set-not, is_set-pow, is_set-zero}
+use Rattle.prop_numbers.proofs.BitLemmas.{is_set-ones, is_set-cleared, pow_fits, lowest, Highest, highest}
 use Rattle.prop_numbers.proofs.SetLemmas.{set_of-filter}
-use Rattle.prop_numbers.proofs.MergeLemmas.{Rising, same_increasing, all_above, rising_push, rising_from_increasing, increasing_from_rising}
+use Rattle.prop_numbers.proofs.MergeLemmas.{Rising, same_increasing, all_above, rising_push, rising_from_increasing}
+use Rattle.prop_numbers.proofs.MergeLemmas.{increasing_from_rising}
 
 set_of-range : (n m p : ℕ) → set_of (range_with_len n m) p ≡ (nat_le n p && nat_lt p (n + m))
 set_of-range n zero p = grind (arith, nat_tests)
@@ -28,12 +33,17 @@ set_of-range n (suc m) p =
 increasing-range : (n m : ℕ) → IsStrictlyIncreasing (range_with_len n m)
 increasing-range n m k l =
     let len = length-range_with_len n m in
-    omega (arith, get_or-range_with_len n m k 0 (omega (arith, l, len)), get_or-range_with_len n m (k + 1) 0 (omega (arith, l, len)))
+    omega (
+      arith,
+      get_or-range_with_len n m k 0 (omega (arith, l, len)),
+      get_or-range_with_len n m (k + 1) 0 (omega (arith, l, len)),
+    )
 
 -- the numbers are in order
 pub increasing-numbers_from : (n : ℕ) (words : List ℕ) → IsStrictlyIncreasing (numbers_from n words)
 unfolding numbers_from
-increasing-numbers_from n words = IsStrictlyIncreasing-filter (λ p. has_bit words (p - n)) (range_with_len n (64 * length words))
+increasing-numbers_from n words = IsStrictlyIncreasing-filter (λ p. has_bit words (p - n))
+    (range_with_len n (64 * length words))
     (increasing-range n (64 * length words))
 
 -- there are at most as many as there are bits
@@ -54,16 +64,20 @@ has_bit-past words p l =
     let none : get_or words (p / 64) 0 ≡ 0 = get_or_past words (p / 64) 0 (omega (arith, l)) in
     rw none (rw (bit_at-zero (p % 64)) refl)
 
-in_range : (words : List ℕ) (n p : ℕ) → ((nat_le n p && nat_lt p (n + 64 * length words)) && has_bit words (p - n)) ≡ (nat_le n p && has_bit words (p - n))
+in_range : (words : List ℕ) (n p : ℕ)
+    → ((nat_le n p && nat_lt p (n + 64 * length words)) && has_bit words (p - n))
+    ≡ (nat_le n p && has_bit words (p - n))
 in_range words n p = by (nat_le n p) refl (nat_lt p (n + 64 * length words)) refl
   where
-    by : (b : Bool) → nat_le n p ≡ b → (c : Bool) → nat_lt p (n + 64 * length words) ≡ c → ((b && c) && has_bit words (p - n)) ≡ (b && has_bit words (p - n))
+    by : (b : Bool) → nat_le n p ≡ b → (c : Bool) → nat_lt p (n + 64 * length words) ≡ c
+        → ((b && c) && has_bit words (p - n)) ≡ (b && has_bit words (p - n))
     by false e c f = refl
     by true e true f = refl
     by true e false f = sym (has_bit-past words (p - n) (grind (arith, nat_tests)))
 
 -- what is among the numbers
-pub set_of-numbers_from : (n : ℕ) (words : List ℕ) (p : ℕ) → set_of (numbers_from n words) p ≡ (nat_le n p && has_bit words (p - n))
+pub set_of-numbers_from : (n : ℕ) (words : List ℕ) (p : ℕ)
+    → set_of (numbers_from n words) p ≡ (nat_le n p && has_bit words (p - n))
 unfolding numbers_from
 set_of-numbers_from n words p =
     set_of-filter (λ p. has_bit words (p - n)) (range_with_len n (64 * length words)) p
@@ -88,7 +102,8 @@ numbers_from-nothing n (w ∷ ws) e = absurd (omega (arith, e))
 
 -- ---- what changes of words do
 
-pub has_bit-tested : (words : List ℕ) (p word : ℕ) → word ≡ get_or words (p / 64) 0 → not (nat_eq (bit_and word (2 ^ (p % 64))) 0) ≡ has_bit words p
+pub has_bit-tested : (words : List ℕ) (p word : ℕ) → word ≡ get_or words (p / 64) 0
+    → not (nat_eq (bit_and word (2 ^ (p % 64))) 0) ≡ has_bit words p
 unfolding has_bit
 has_bit-tested words p word e = tested word (p % 64) ∙ ap (λ w. is_set w (p % 64)) e
 
@@ -103,7 +118,8 @@ other_place : (n p : ℕ) → p / 64 ≢ n / 64 → (n == p) ≡ false
 other_place n p e = grind (arith, nat_tests)
 
 -- a word that is written
-has_bit-set : (words : List ℕ) (place word p : ℕ) → place < length words → p / 64 ≡ place → has_bit (set words place word) p ≡ is_set word (p % 64)
+has_bit-set : (words : List ℕ) (place word p : ℕ) → place < length words → p / 64 ≡ place
+    → has_bit (set words place word) p ≡ is_set word (p % 64)
 unfolding has_bit
 has_bit-set words place word p l e = ap (λ w. is_set w (p % 64)) (get_or-set_at words place (p / 64) word 0 e l)
 
@@ -138,20 +154,23 @@ has_bit-added words n p l = elim (cases_eq (p / 64) (n / 64)) [
 
 -- one number less
 pub has_bit-cleared : (words : List ℕ) (n p : ℕ) → n / 64 < length words →
-    has_bit (set words (n / 64) (bit_and (get_or words (n / 64) 0) (bit_not w64 (2 ^ (n % 64))))) p ≡ (has_bit words p && not (n == p))
+    has_bit (set words (n / 64) (bit_and (get_or words (n / 64) 0) (bit_not w64 (2 ^ (n % 64)))))
+    p ≡ (has_bit words p && not (n == p))
 has_bit-cleared words n p l = elim (cases_eq (p / 64) (n / 64)) [
   | inl here ↦ (
       has_bit-set words (n / 64) (bit_and (get_or words (n / 64) 0) (bit_not w64 (2 ^ (n % 64)))) p l here
       ∙ is_set-and (get_or words (n / 64) 0) (bit_not w64 (2 ^ (n % 64))) (p % 64)
       ∙ ap (λ b. b && is_set (bit_not w64 (2 ^ (n % 64))) (p % 64)) (at_word words (n / 64) p here)
-      ∙ ap (λ b. has_bit words p && b) (is_set-not (2 ^ (n % 64)) (p % 64) (pow_fits (n % 64) (omega arith)) (omega arith)
+      ∙ ap (λ b. has_bit words p && b) (is_set-not (2 ^ (n % 64)) (p % 64) (pow_fits (n % 64) (omega arith))
+      (omega arith)
       ∙ ap not (is_set-pow (n % 64) (p % 64) ∙ same_place n p here)))
   | inr there ↦ has_bit-kept words (n / 64) (bit_and (get_or words (n / 64) 0) (bit_not w64 (2 ^ (n % 64)))) p there
       ∙ and_on (has_bit words p) (not (n == p)) (ap not (other_place n p there))
 ]
 
 -- a number past all words
-pub has_bit-not_there : (words : List ℕ) (n p : ℕ) → length words ≤ n / 64 → has_bit words p ≡ (has_bit words p && not (n == p))
+pub has_bit-not_there : (words : List ℕ) (n p : ℕ) → length words ≤ n / 64
+    → has_bit words p ≡ (has_bit words p && not (n == p))
 has_bit-not_there words n p l = elim (cases_lt (p / 64) (length words)) [
   | inl below ↦ (
       let apart : (n == p) ≡ false = grind (arith, nat_tests) in
@@ -163,10 +182,12 @@ has_bit-not_there words n p l = elim (cases_lt (p / 64) (length words)) [
 
 -- words that are written in place
 pub refilled : (words written : List ℕ) → length written ≡ length words → refill (length words) words written ≡ written
-refilled words written e = take-append-le (length words) written (drop (length written) words) (omega (arith, e)) ∙ take_all (length words) written (omega (arith, e))
+refilled words written e = take-append-le (length words) written (drop (length written) words) (omega (arith, e))
+    ∙ take_all (length words) written (omega (arith, e))
 
 -- the words up to a length, past which there are no bits
-pub has_bit-trimmed : (words : List ℕ) (len : ℕ) → ((k : ℕ) → len ≤ k → get_or words k 0 ≡ 0) → (p : ℕ) → has_bit (take len words) p ≡ has_bit words p
+pub has_bit-trimmed : (words : List ℕ) (len : ℕ) → ((k : ℕ) → len ≤ k → get_or words k 0 ≡ 0) → (p : ℕ)
+    → has_bit (take len words) p ≡ has_bit words p
 has_bit-trimmed words len h p = has_bit-same (take len words) words (λ k. elim (cases_lt k len) [
   | inl below ↦ get_or-take len words k 0 below
   | inr above ↦ get_or_past (take len words) k 0 (omega (arith, above, length-take len words)) ∙ sym (h k above)
@@ -227,23 +248,30 @@ from_below n p b l = let out : nat_le n p ≡ false = grind (arith, nat_tests) i
 pub from_above : (n p : ℕ) (b : Bool) → n ≤ p → (nat_le n p && b) ≡ b
 from_above n p b l = let in_it : nat_le n p ≡ true = grind (arith, nat_tests) in rw in_it refl
 
-numbers_from-is : (n : ℕ) (words ns : List ℕ) → IsStrictlyIncreasing ns → ((p : ℕ) → (nat_le n p && has_bit words (p - n)) ≡ set_of ns p) →
+numbers_from-is : (n : ℕ) (words ns : List ℕ) → IsStrictlyIncreasing ns
+    → ((p : ℕ) → (nat_le n p && has_bit words (p - n)) ≡ set_of ns p) →
     numbers_from n words ≡ ns
-numbers_from-is n words ns up h = same_increasing (numbers_from n words) ns (increasing-numbers_from n words) up (λ p. set_of-numbers_from n words p ∙ h p)
+numbers_from-is n words ns up h = same_increasing (numbers_from n words) ns (increasing-numbers_from n words) up
+    (λ p. set_of-numbers_from n words p ∙ h p)
 
 -- a word without bits is passed by
 pub numbers_from-skip : (n m : ℕ) (words : List ℕ) → m ≡ n + 64 → numbers_from n (0 ∷ words) ≡ numbers_from m words
 numbers_from-skip n m words e =
-    numbers_from-is n (0 ∷ words) (numbers_from m words) (increasing-numbers_from m words) (λ p. by p (cases_lt p n) (cases_lt p m) ∙ sym (set_of-numbers_from m words p))
+    numbers_from-is n (0 ∷ words) (numbers_from m words) (increasing-numbers_from m words)
+    (λ p. by p (cases_lt p n) (cases_lt p m) ∙ sym (set_of-numbers_from m words p))
   where
-    by : (p : ℕ) → (p < n) ⊎ (n ≤ p) → (p < m) ⊎ (m ≤ p) → (nat_le n p && has_bit (0 ∷ words) (p - n)) ≡ (nat_le m p && has_bit words (p - m))
-    by p (inl before) at = from_below n p (has_bit (0 ∷ words) (p - n)) before ∙ sym (from_below m p (has_bit words (p - m)) (omega (arith, before, e)))
+    by : (p : ℕ) → (p < n) ⊎ (n ≤ p) → (p < m) ⊎ (m ≤ p)
+        → (nat_le n p && has_bit (0 ∷ words) (p - n)) ≡ (nat_le m p && has_bit words (p - m))
+    by p (inl before) at = from_below n p (has_bit (0 ∷ words) (p - n)) before
+        ∙ sym (from_below m p (has_bit words (p - m)) (omega (arith, before, e)))
     by p (inr past) (inl inside) =
-        from_above n p (has_bit (0 ∷ words) (p - n)) past ∙ has_bit-first 0 words (p - n) (omega (arith, inside, past, e)) ∙ is_set-zero (p - n)
+        from_above n p (has_bit (0 ∷ words) (p - n)) past
+        ∙ has_bit-first 0 words (p - n) (omega (arith, inside, past, e)) ∙ is_set-zero (p - n)
         ∙ sym (from_below m p (has_bit words (p - m)) inside)
     by p (inr past) (inr after) =
         let rest : (p - n) - 64 ≡ p - m = omega (arith, after, e) in
-        from_above n p (has_bit (0 ∷ words) (p - n)) past ∙ has_bit-later 0 words (p - n) (omega (arith, after, e)) ∙ ap (has_bit words) rest
+        from_above n p (has_bit (0 ∷ words) (p - n)) past ∙ has_bit-later 0 words (p - n) (omega (arith, after, e))
+        ∙ ap (has_bit words) rest
         ∙ sym (from_above m p (has_bit words (p - m)) after)
 
 and_first : (b c : Bool) → (b && c) ≡ true → b ≡ true
@@ -259,7 +287,8 @@ same_number n p h = elim (eqb_tells n p) [ inl e ↦ e.1 | inr e ↦ cc (e.0, h)
 
 -- no number is left
 pub numbers_from-none : (n word : ℕ) (words : List ℕ) → word ≡ 0 → length words ≡ 0 → numbers_from n (word ∷ words) ≡ []
-numbers_from-none n word [] e l = ap (λ w. numbers_from n (w ∷ [])) e ∙ numbers_from-skip n (n + 64) [] refl ∙ numbers_from-nil (n + 64)
+numbers_from-none n word [] e l = ap (λ w. numbers_from n (w ∷ [])) e ∙ numbers_from-skip n (n + 64) [] refl
+    ∙ numbers_from-nil (n + 64)
 numbers_from-none n word (w ∷ ws) e l = absurd (omega (arith, l))
 
 or_drop : (b c d : Bool) → b ≡ (c && not d) → (d ≡ true → c ≡ true) → c ≡ (d || b)
@@ -279,7 +308,8 @@ numbers_from-first n word t words is some fits =
     after : List ℕ
     after = numbers_from n (cleared ∷ words)
 
-    found : (trailing_zeros w64 word < 64) × (is_set word (trailing_zeros w64 word) ≡ true) × ((i : ℕ) → i < trailing_zeros w64 word → is_set word i ≡ false)
+    found : (trailing_zeros w64 word < 64) × (is_set word (trailing_zeros w64 word) ≡ true)
+        × ((i : ℕ) → i < trailing_zeros w64 word → is_set word i ≡ false)
     found = lowest word some fits
 
     within : t < 64
@@ -287,14 +317,19 @@ numbers_from-first n word t words is some fits =
 
     left : (i : ℕ) → i < 64 → is_set cleared i ≡ true → t < i
     left i l h = elim (cases_lt i t) [
-      | inl below ↦ cc (found.2 i (omega (arith, below, is)), and_first (is_set word i) (not (t == i)) (sym (is_set-cleared word t i within l) ∙ h))
-      | inr above ↦ (let apart = and_second (is_set word i) (not (t == i)) (sym (is_set-cleared word t i within l) ∙ h) in grind (arith, nat_tests))
+      | inl below ↦ cc (
+        found.2 i (omega (arith, below, is)),
+        and_first (is_set word i) (not (t == i)) (sym (is_set-cleared word t i within l) ∙ h),
+      )
+      | inr above ↦ (let apart = and_second (is_set word i) (not (t == i)) (sym (is_set-cleared word t i within l) ∙ h)
+          in grind (arith, nat_tests))
     ]
 
     higher : (p : ℕ) → set_of after p ≡ true → n + t < p
     higher p h = by (cases_lt p n) (cases_lt (p - n) 64) (sym (set_of-numbers_from n (cleared ∷ words) p) ∙ h)
       where
-        by : (p < n) ⊎ (n ≤ p) → (p - n < 64) ⊎ (64 ≤ p - n) → (nat_le n p && has_bit (cleared ∷ words) (p - n)) ≡ true → n + t < p
+        by : (p < n) ⊎ (n ≤ p) → (p - n < 64) ⊎ (64 ≤ p - n) → (nat_le n p && has_bit (cleared ∷ words) (p - n)) ≡ true
+            → n + t < p
         by (inl before) at k = cc (k, from_below n p (has_bit (cleared ∷ words) (p - n)) before)
         by (inr past) (inr later) k = omega (arith, later, within)
         by (inr past) (inl here) k =
@@ -311,25 +346,34 @@ numbers_from-first n word t words is some fits =
         subst (λ k. is_set word k ≡ true) at found.1
 
     rising : Rising ((n + t) ∷ after)
-    rising = (all_above (n + t) after higher, rising_from_increasing after (increasing-numbers_from n (cleared ∷ words)))
+    rising = (
+      all_above (n + t) after higher,
+      rising_from_increasing after (increasing-numbers_from n (cleared ∷ words)),
+    )
 
     same : (p : ℕ) → (nat_le n p && has_bit (word ∷ words) (p - n)) ≡ ((n + t == p) || set_of after p)
-    same p = by (cases_lt p n) (cases_lt (p - n) 64) ∙ ap (λ b. (n + t == p) || b) (sym (set_of-numbers_from n (cleared ∷ words) p))
+    same p = by (cases_lt p n) (cases_lt (p - n) 64)
+        ∙ ap (λ b. (n + t == p) || b) (sym (set_of-numbers_from n (cleared ∷ words) p))
       where
-        by : (p < n) ⊎ (n ≤ p) → (p - n < 64) ⊎ (64 ≤ p - n) → (nat_le n p && has_bit (word ∷ words) (p - n)) ≡ ((n + t == p) ||
+        by : (p < n) ⊎ (n ≤ p) → (p - n < 64) ⊎ (64 ≤ p - n)
+            → (nat_le n p && has_bit (word ∷ words) (p - n)) ≡ ((n + t == p) ||
             (nat_le n p && has_bit (cleared ∷ words) (p - n)))
         by (inl before) at =
             let apart : (n + t == p) ≡ false = grind (arith, nat_tests) in
-            from_below n p (has_bit (word ∷ words) (p - n)) before ∙ sym (rw apart (from_below n p (has_bit (cleared ∷ words) (p - n)) before))
+            from_below n p (has_bit (word ∷ words) (p - n)) before
+            ∙ sym (rw apart (from_below n p (has_bit (cleared ∷ words) (p - n)) before))
         by (inr past) (inr later) =
             let apart : (n + t == p) ≡ false = grind (arith, nat_tests, within) in
-            rw apart (ap (λ b. nat_le n p && b) (has_bit-later word words (p - n) later ∙ sym (has_bit-later cleared words (p - n) later)))
+            rw apart (ap (λ b. nat_le n p && b)
+            (has_bit-later word words (p - n) later ∙ sym (has_bit-later cleared words (p - n) later)))
         by (inr past) (inl here) =
             let number : (n + t == p) ≡ (t == p - n) = grind (arith, nat_tests) in
             from_above n p (has_bit (word ∷ words) (p - n)) past ∙ has_bit-first word words (p - n) here
-            ∙ or_drop (is_set cleared (p - n)) (is_set word (p - n)) (t == p - n) (is_set-cleared word t (p - n) within here) (lowest_here (p - n))
+            ∙ or_drop (is_set cleared (p - n)) (is_set word (p - n)) (t == p - n)
+            (is_set-cleared word t (p - n) within here) (lowest_here (p - n))
             ∙ sym (ap (λ b. b || (nat_le n p && has_bit (cleared ∷ words) (p - n))) number
-            ∙ ap (λ b. (t == p - n) || b) (from_above n p (has_bit (cleared ∷ words) (p - n)) past ∙ has_bit-first cleared words (p - n) here))
+            ∙ ap (λ b. (t == p - n) || b) (from_above n p (has_bit (cleared ∷ words) (p - n)) past
+            ∙ has_bit-first cleared words (p - n) here))
 
 -- ---- the numbers below a bound
 
@@ -342,13 +386,15 @@ lower_place n p e = grind (arith, nat_tests)
 
 -- what is kept of the words below a bound
 abbrev pub kept_below : List ℕ → ℕ → List ℕ
-kept_below words n = set (take (n / 64 + 1) words) (n / 64) (bit_and (get_or (take (n / 64 + 1) words) (n / 64) 0) (2 ^ (n % 64) - 1))
+kept_below words n = set (take (n / 64 + 1) words) (n / 64)
+    (bit_and (get_or (take (n / 64 + 1) words) (n / 64) 0) (2 ^ (n % 64) - 1))
 
 has_bit-front : (words : List ℕ) (m p : ℕ) → p / 64 < m → has_bit (take m words) p ≡ has_bit words p
 unfolding has_bit
 has_bit-front words m p l = ap (λ w. is_set w (p % 64)) (get_or-take m words (p / 64) 0 l)
 
-pub has_bit-below : (words : List ℕ) (n p : ℕ) → n / 64 < length words → has_bit (kept_below words n) p ≡ (has_bit words p && nat_lt p n)
+pub has_bit-below : (words : List ℕ) (n p : ℕ) → n / 64 < length words
+    → has_bit (kept_below words n) p ≡ (has_bit words p && nat_lt p n)
 has_bit-below words n p l = by (cases_lt (n / 64) (p / 64)) (cases_eq (p / 64) (n / 64))
   where
     front : List ℕ
@@ -360,15 +406,18 @@ has_bit-below words n p l = by (cases_lt (n / 64) (p / 64)) (cases_eq (p / 64) (
     word : ℕ
     word = bit_and (get_or front (n / 64) 0) (2 ^ (n % 64) - 1)
 
-    by : (n / 64 < p / 64) ⊎ (p / 64 ≤ n / 64) → (p / 64 ≡ n / 64) ⊎ (p / 64 ≢ n / 64) → has_bit (kept_below words n) p ≡ (has_bit words p && nat_lt p n)
+    by : (n / 64 < p / 64) ⊎ (p / 64 ≤ n / 64) → (p / 64 ≡ n / 64) ⊎ (p / 64 ≢ n / 64)
+        → has_bit (kept_below words n) p ≡ (has_bit words p && nat_lt p n)
     by (inl past) at =
         let out : nat_lt p n ≡ false = grind (arith, nat_tests) in
-        has_bit-past (kept_below words n) p (omega (arith, past, length-take (n / 64 + 1) words, length-set front (n / 64) word))
+        has_bit-past (kept_below words n) p
+        (omega (arith, past, length-take (n / 64 + 1) words, length-set front (n / 64) word))
         ∙ sym (ap (λ b. has_bit words p && b) out ∙ and_false (has_bit words p))
     by (inr low) (inl here) =
         has_bit-set front (n / 64) word p within here
         ∙ is_set-and (get_or front (n / 64) 0) (2 ^ (n % 64) - 1) (p % 64)
-        ∙ ap (λ b. b && is_set (2 ^ (n % 64) - 1) (p % 64)) (at_word front (n / 64) p here ∙ has_bit-front words (n / 64 + 1) p (omega (arith, low)))
+        ∙ ap (λ b. b && is_set (2 ^ (n % 64) - 1) (p % 64))
+        (at_word front (n / 64) p here ∙ has_bit-front words (n / 64 + 1) p (omega (arith, low)))
         ∙ ap (λ b. has_bit words p && b) (is_set-ones (n % 64) (p % 64) ∙ lower_place n p here)
     by (inr low) (inr there) =
         let in_it : nat_lt p n ≡ true = grind (arith, nat_tests) in
@@ -377,7 +426,8 @@ has_bit-below words n p l = by (cases_lt (n / 64) (p / 64)) (cases_eq (p / 64) (
         ∙ and_on (has_bit words p) (nat_lt p n) in_it
 
 -- all numbers of so few words are below it
-pub has_bit-all_below : (words : List ℕ) (n p : ℕ) → length words ≤ n / 64 → has_bit words p ≡ (has_bit words p && nat_lt p n)
+pub has_bit-all_below : (words : List ℕ) (n p : ℕ) → length words ≤ n / 64
+    → has_bit words p ≡ (has_bit words p && nat_lt p n)
 has_bit-all_below words n p l = elim (cases_lt p n) [
   | inl below ↦ and_on (has_bit words p) (nat_lt p n) (grind (arith, nat_tests))
   | inr above ↦ (
@@ -397,7 +447,8 @@ last_word words n trimmed len none =
     let place : some.0 / 64 ≡ n = omega (arith, some.1, len, within_words words some.0 some.2) in
     cc (some.2, sym (at_word words n some.0 place) ∙ ap (λ w. is_set w (some.0 % 64)) none ∙ is_set-zero (some.0 % 64))
 
-pub end_is : (words : List ℕ) (n word : ℕ) → IsTrimmed words → length words ≡ n + 1 → word ≡ get_or words n 0 → word < 2 ^ 64 →
+pub end_is : (words : List ℕ) (n word : ℕ) → IsTrimmed words → length words ≡ n + 1 → word ≡ get_or words n 0
+    → word < 2 ^ 64 →
     IsEnd words (64 * length words - leading_zeros w64 word)
 end_is words n word trimmed len is fits = record { above = above; last = last }
   where
@@ -409,14 +460,21 @@ end_is words n word trimmed len is fits = record { above = above; last = last }
 
     above : (p : ℕ) → has_bit words p ≡ true → p < 64 * length words - leading_zeros w64 word
     above p h = elim (cases_eq (p / 64) n) [
-      | inl here ↦ omega (arith, len, here, top.1, top.2.last (p % 64) (ap (λ w. is_set w (p % 64)) is ∙ at_word words n p here ∙ h))
+      | inl here ↦ omega (
+        arith,
+        len,
+        here,
+        top.1,
+        top.2.last (p % 64) (ap (λ w. is_set w (p % 64)) is ∙ at_word words n p here ∙ h),
+      )
       | inr there ↦ omega (arith, len, there, top.1, within_words words p h)
     ]
 
     last : (p : ℕ) → 64 * length words - leading_zeros w64 word ≡ p + 1 → has_bit words p ≡ true
     last p e =
         let at : 64 * n + top.0 ≡ p = omega (arith, len, top.1, e) in
-        subst (λ q. has_bit words q ≡ true) at (is_number words n top.0 (omega (arith, top.1)) ∙ ap (λ w. is_set w top.0) (sym is) ∙ top.2.on)
+        subst (λ q. has_bit words q ≡ true)
+        at (is_number words n top.0 (omega (arith, top.1)) ∙ ap (λ w. is_set w top.0) (sym is) ∙ top.2.on)
 
 -- ---- one more number
 
@@ -424,8 +482,10 @@ pub or_none : (b : Bool) → (b || false) ≡ b
 or_none true = refl
 or_none false = refl
 
-pub increasing-push : (ns : List ℕ) (n : ℕ) → IsStrictlyIncreasing ns → IsBelow n (set_of ns) → IsStrictlyIncreasing (ns ++ n ∷ [])
-increasing-push ns n up below = increasing_from_rising (ns ++ n ∷ []) (rising_push ns n (rising_from_increasing ns up) below)
+pub increasing-push : (ns : List ℕ) (n : ℕ) → IsStrictlyIncreasing ns → IsBelow n (set_of ns)
+    → IsStrictlyIncreasing (ns ++ n ∷ [])
+increasing-push ns n up below = increasing_from_rising (ns ++ n ∷ [])
+    (rising_push ns n (rising_from_increasing ns up) below)
 
 -- ---- one of two tests
 
@@ -438,10 +498,12 @@ or_last true c e = refl
 or_last false c e = e
 
 -- what is written below a bound
-pub kept_written : (words front lent : List ℕ) (place mask n : ℕ) → front ≡ take (place + 1) words → lent ≡ front → place ≡ n / 64 → mask ≡ 2 ^ (n % 64) →
+pub kept_written : (words front lent : List ℕ) (place mask n : ℕ) → front ≡ take (place + 1) words → lent ≡ front
+    → place ≡ n / 64 → mask ≡ 2 ^ (n % 64) →
     refill (length front) front (set lent place (bit_and (get_or lent place 0) (mask - 1))) ≡ kept_below words n
 kept_written words front lent place mask n is same at bit =
-    rw (same, is, at, bit) (refilled (take (n / 64 + 1) words) (kept_below words n) (length-set (take (n / 64 + 1) words) (n / 64) (bit_and (get_or
+    rw (same, is, at, bit) (refilled (take (n / 64 + 1) words) (kept_below words n)
+    (length-set (take (n / 64 + 1) words) (n / 64) (bit_and (get_or
     (take (n / 64 + 1) words) (n / 64) 0) (2 ^ (n % 64) - 1))))
 
 -- further words without bits
@@ -450,16 +512,19 @@ zeros [] k h = refl
 zeros (y ∷ ys) zero h = elim h.0 [ inl e ↦ e | inr e ↦ e ]
 zeros (y ∷ ys) (suc k) h = zeros ys k h.1
 
-padded : (words ys : List ℕ) (k : ℕ) → AllByRecursion (λ y. (y ≡ 0) ⊎ (y ≡ 0)) ys → get_or (words ++ ys) k 0 ≡ get_or words k 0
+padded : (words ys : List ℕ) (k : ℕ) → AllByRecursion (λ y. (y ≡ 0) ⊎ (y ≡ 0)) ys
+    → get_or (words ++ ys) k 0 ≡ get_or words k 0
 padded [] ys k h = zeros ys k h
 padded (w ∷ ws) ys zero h = refl
 padded (w ∷ ws) ys (suc k) h = padded ws ys k h
 
-pub has_bit-grown : (words grown : List ℕ) (len : ℕ) → length words ≤ len → AppendsClonesOf (λ x y. y ≡ x) (take len words) grown 0 → (p : ℕ) →
+pub has_bit-grown : (words grown : List ℕ) (len : ℕ) → length words ≤ len
+    → AppendsClonesOf (λ x y. y ≡ x) (take len words) grown 0 → (p : ℕ) →
     has_bit grown p ≡ has_bit words p
 has_bit-grown words grown len l h p =
     let whole : take len words ≡ words = grind (arith, common_steps) in
-    has_bit-same grown words (λ k. ap (λ ws. get_or ws k 0) h.1 ∙ padded (take len words) h.0 k h.2 ∙ ap (λ ws. get_or ws k 0) whole) p
+    has_bit-same grown words (λ k. ap (λ ws. get_or ws k 0) h.1 ∙ padded (take len words) h.0 k h.2
+    ∙ ap (λ ws. get_or ws k 0) whole) p
 
 same_word : (n k w : ℕ) → get_or (replicate n w) k w ≡ w
 same_word zero k w = refl
@@ -470,12 +535,14 @@ pub has_bit-blank : (n p : ℕ) → has_bit (replicate n 0) p ≡ false
 unfolding has_bit
 has_bit-blank n p = ap (λ w. is_set w (p % 64)) (same_word n (p / 64) 0) ∙ is_set-zero (p % 64)
 
-pub if_ok : {T E : Type 0} {P : T → Type 0} {Q : T → Type 0} (r : Result T E) → ((x : T) → P x → Q x) → IfOk r P → IfOk r Q
+pub if_ok : {T E : Type 0} {P : T → Type 0} {Q : T → Type 0} (r : Result T E) → ((x : T) → P x → Q x) → IfOk r P
+    → IfOk r Q
 if_ok (Ok x) f h = f x h
 if_ok (Err e) f h = tt
 
 -- words that are cut after the last that has a bit
-pub IsTrimmed-cut : (words cut : List ℕ) (len : ℕ) → cut ≡ take len words → len ≤ length words → ((k : ℕ) → len ≤ k → get_or words k 0 ≡ 0) →
+pub IsTrimmed-cut : (words cut : List ℕ) (len : ℕ) → cut ≡ take len words → len ≤ length words
+    → ((k : ℕ) → len ≤ k → get_or words k 0 ≡ 0) →
     ((n : ℕ) → len ≡ n + 1 → HasFrom words n) → IsTrimmed cut
 IsTrimmed-cut words cut len is within rest last n e =
     let some = last n (omega (arith, e, within, ap length is, length-take len words)) in

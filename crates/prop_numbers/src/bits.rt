@@ -1,5 +1,6 @@
 //! Bits of words.
-ghost use Rattle.std.specs.Prelude.{◌≡◌, ◌<◌, ◌≤◌, ◌+◌, ◌-◌, ◌*◌, ◌/◌, ◌%◌, ◌^◌, ℕ, true, false, not, ◌&&◌, ◌||◌, ◌==◌, length, slice_index, IsTrue};
+ghost use Rattle.std.specs.Prelude.{◌≡◌, ◌<◌, ◌≤◌, ◌+◌, ◌-◌, ◌*◌, ◌/◌, ◌%◌, ◌^◌, ℕ, true, false};
+ghost use Rattle.std.specs.Prelude.{not, ◌&&◌, ◌||◌, ◌==◌, length, slice_index, IsTrue};
 ghost use Rattle.prop_numbers.specs.Sets.{set_of};
 ghost use Rattle.prop_numbers.specs.Words.{has_bit, numbers_from};
 ghost use Rattle.prop_numbers.specs.inner.Words.{HasFrom, IsTrimmed};
@@ -80,7 +81,8 @@ pub fn clear(words: &mut [u64], number: u16)
 pub fn unite(words: &mut [u64], at: usize, more: &[u64])
     requires { at + length more.now ≤ length words.old }
     ensures len { length words.new ≡ length words.old }
-    ensures bits { (p : ℕ) → has_bit words.new p ≡ (has_bit words.old p || set_of (numbers_from (64 * at) more.now) p) }
+    ensures bits { (p : ℕ) → has_bit words.new
+        p ≡ (has_bit words.old p || set_of (numbers_from (64 * at) more.now) p) }
 {
     for place in 0..more.len() {
         words[at + place] |= more[place];
@@ -100,12 +102,16 @@ pub fn word_from(first: usize, words: &[u64], number: usize) -> u64
     }
 }
 
-/// Whether each number of the words is one of the others, where their first words have these numbers.
+/// Whether each number of the words is one of the others, where their first words have these
+/// numbers.
 #[inline]
 pub fn is_part(first: usize, words: &[u64], others_first: usize, others: &[u64]) -> bool
     requires { first + length words.now ≤ 1_024 }
-    ensures part { result ≡ true → (p : ℕ) → IsTrue (set_of (numbers_from (64 * first) words.now) p) → IsTrue (set_of (numbers_from (64 * others_first) others.now) p) }
-    ensures apart { result ≡ false → (p : ℕ) × IsTrue (set_of (numbers_from (64 * first) words.now) p) × (set_of (numbers_from (64 * others_first) others.now) p ≡ false) }
+    ensures part { result ≡ true → (p : ℕ) → IsTrue (set_of (numbers_from (64 * first) words.now) p)
+        → IsTrue (set_of (numbers_from (64 * others_first) others.now) p) }
+    ensures apart { result ≡ false
+        → (p : ℕ) × IsTrue (set_of (numbers_from (64 * first) words.now) p)
+        × (set_of (numbers_from (64 * others_first) others.now) p ≡ false) }
 {
     for place in 0..words.len() {
         if words[place] & !word_from(others_first, others, first + place) != 0 {

@@ -1,7 +1,9 @@
 //! Sets of numbers, of which those of one word stand in the value itself.
-ghost use Rattle.std.specs.Prelude.{◌≡◌, ◌↔◌, ◌<◌, ◌≤◌, ◌+◌, ◌*◌, ℕ, [], ◌∷◌, ◌++◌, length, nat_lt, filter, IsTrue, IsOk, IfOk, OnOk, OnErr};
+ghost use Rattle.std.specs.Prelude.{◌≡◌, ◌↔◌, ◌<◌, ◌≤◌, ◌+◌, ◌*◌, ℕ, [], ◌∷◌, ◌++◌, length, nat_lt};
+ghost use Rattle.std.specs.Prelude.{filter, IsTrue, IsOk, IfOk, OnOk, OnErr};
 ghost use Rattle.std.specs.List.Sorted.{IsStrictlyIncreasing};
-ghost use Rattle.prop_numbers.specs.Sets.{set_of, union, without, is_within, is_below, is_at_most_one_of, IsSame, IsBelow};
+ghost use Rattle.prop_numbers.specs.Sets.{set_of, union, without, is_within, is_below};
+ghost use Rattle.prop_numbers.specs.Sets.{is_at_most_one_of, IsSame, IsBelow};
 ghost use Rattle.prop_numbers.specs.Words.{is_set};
 ghost use Rattle.prop_numbers.specs.inner.NumberSets.{numbers_in};
 
@@ -22,7 +24,8 @@ enum Form {
     Many(Words),
 }
 
-/// A set of numbers below 2^16. Most sets are of one word, and quick to make, to compare and to copy.
+/// A set of numbers below 2^16. Most sets are of one word, and quick to make, to compare and to
+/// copy.
 #[derive(Drop)]
 pub struct NumberSet {
     form: Form,
@@ -179,8 +182,10 @@ impl NumberSet {
 
     /// One more number is in the set. After want of memory nothing has changed.
     pub fn insert(&mut self, number: u16) -> Result<(), AllocError>
-        ensures has { OnOk result (IsSame (set_of self.new) (union (set_of self.old) (set_of (number ∷ [])))) }
-        ensures last { OnOk result (IsBelow number (set_of self.old) → self.new ≡ self.old ++ number ∷ []) }
+        ensures has { OnOk result (IsSame (set_of self.new)
+            (union (set_of self.old) (set_of (number ∷ [])))) }
+        ensures last { OnOk result (IsBelow number (set_of self.old)
+            → self.new ≡ self.old ++ number ∷ []) }
         ensures err { OnErr result (self.new ≡ self.old) }
     {
         let empty = NumberSet::empty(self.alloc);
@@ -213,7 +218,8 @@ impl NumberSet {
     /// The numbers of both sets. Where both have the same one word it takes no memory.
     #[inline]
     pub fn union(&self, other: &NumberSet) -> Result<NumberSet, AllocError>
-        ensures has { IfOk result (λ s. IsSame (set_of s) (union (set_of self.now) (set_of other.now))) }
+        ensures has { IfOk result (λ s.
+            IsSame (set_of s) (union (set_of self.now) (set_of other.now))) }
         ensures ordered { IfOk result IsStrictlyIncreasing }
     {
         match &self.form {
@@ -226,7 +232,8 @@ impl NumberSet {
     #[inline]
     fn union_one(&self, one: OneWord) -> Result<NumberSet, AllocError>
         requires { one.place < 1_024 }
-        ensures has { IfOk result (λ s. IsSame (set_of s) (union (set_of (numbers_in one)) (set_of self.now))) }
+        ensures has { IfOk result (λ s.
+            IsSame (set_of s) (union (set_of (numbers_in one)) (set_of self.now))) }
         ensures ordered { IfOk result IsStrictlyIncreasing }
     {
         if let Form::One(own) = &self.form {
@@ -239,7 +246,8 @@ impl NumberSet {
 
     /// The numbers of the words and those of the set.
     fn union_words(&self, words: &Words) -> Result<NumberSet, AllocError>
-        ensures has { IfOk result (λ s. IsSame (set_of s) (union (set_of words.now) (set_of self.now))) }
+        ensures has { IfOk result (λ s.
+            IsSame (set_of s) (union (set_of words.now) (set_of self.now))) }
         ensures ordered { IfOk result IsStrictlyIncreasing }
     {
         let both = match &self.form {

@@ -1,5 +1,6 @@
 //! The numbers of one word.
-ghost use Rattle.std.specs.Prelude.{◌≡◌, ◌↔◌, ◌<◌, ◌+◌, ◌*◌, ◌/◌, ◌%◌, ℕ, [], true, false, IsTrue, IfSome};
+ghost use Rattle.std.specs.Prelude.{◌≡◌, ◌↔◌, ◌<◌, ◌+◌, ◌*◌, ◌/◌, ◌%◌, ℕ, [], true, false, IsTrue};
+ghost use Rattle.std.specs.Prelude.{IfSome};
 ghost use Rattle.prop_numbers.specs.Sets.{set_of, without, union, IsSame};
 ghost use Rattle.prop_numbers.specs.Words.{is_set};
 ghost use Rattle.prop_numbers.specs.inner.NumberSets.{numbers_in};
@@ -34,7 +35,9 @@ impl OneWord {
     #[inline]
     pub fn union(self, other: OneWord) -> Option<OneWord>
         ensures place { IfSome result (λ o. o.place ≡ self.place) }
-        ensures has { IfSome result (λ o. IsSame (set_of (numbers_in o)) (union (set_of (numbers_in self)) (set_of (numbers_in other)))) }
+        ensures has { IfSome result (λ o.
+            IsSame (set_of (numbers_in o))
+            (union (set_of (numbers_in self)) (set_of (numbers_in other)))) }
     {
         if self.place != other.place {
             return None;
@@ -56,8 +59,11 @@ impl OneWord {
     /// Whether this word, of another set, has the bit of each number.
     #[inline(always)]
     pub fn is_within_word(self, word: u64) -> bool
-        ensures part { result ≡ true → (p : ℕ) → IsTrue (set_of (numbers_in self) p) → (p / 64 ≡ self.place) × IsTrue (is_set word (p % 64)) }
-        ensures apart { result ≡ false → (i : ℕ) × (i < 64) × IsTrue (set_of (numbers_in self) (64 * self.place + i)) × (is_set word i ≡ false) }
+        ensures part { result ≡ true → (p : ℕ) → IsTrue (set_of (numbers_in self) p)
+            → (p / 64 ≡ self.place) × IsTrue (is_set word (p % 64)) }
+        ensures apart { result ≡ false
+            → (i : ℕ) × (i < 64) × IsTrue (set_of (numbers_in self) (64 * self.place + i))
+            × (is_set word i ≡ false) }
     {
         self.word & !word == 0
     }
@@ -66,7 +72,8 @@ impl OneWord {
     #[inline]
     pub fn without(self, number: u16) -> OneWord
         ensures place { result.place ≡ self.place }
-        ensures has { IsSame (set_of (numbers_in result)) (without (set_of (numbers_in self)) number) }
+        ensures has { IsSame (set_of (numbers_in result))
+            (without (set_of (numbers_in self)) number) }
     {
         if place_of(number) != self.place {
             return self;

@@ -1,7 +1,10 @@
 //! Sets of numbers as words of bits.
-ghost use Rattle.std.specs.Prelude.{◌≡◌, ◌↔◌, ◌<◌, ◌≤◌, ◌+◌, ◌*◌, ◌&&◌, ◌==◌, not, ℕ, List, [], ◌∷◌, ◌++◌, false, length, max, nat_lt, filter, IsTrue, IsOk, IfOk, IfSome, OnOk, OnErr};
+ghost use Rattle.std.specs.Prelude.{◌≡◌, ◌↔◌, ◌<◌, ◌≤◌, ◌+◌, ◌*◌, ◌&&◌, ◌==◌, not, ℕ, List, []};
+ghost use Rattle.std.specs.Prelude.{◌∷◌, ◌++◌, false, length, max, nat_lt, filter, IsTrue, IsOk};
+ghost use Rattle.std.specs.Prelude.{IfOk, IfSome, OnOk, OnErr};
 ghost use Rattle.std.specs.List.Sorted.{IsStrictlyIncreasing};
-ghost use Rattle.prop_numbers.specs.Sets.{set_of, union, without, is_within, is_below, is_at_most_one_of, IsSame, IsBelow};
+ghost use Rattle.prop_numbers.specs.Sets.{set_of, union, without, is_within, is_below};
+ghost use Rattle.prop_numbers.specs.Sets.{is_at_most_one_of, IsSame, IsBelow};
 ghost use Rattle.prop_numbers.specs.Words.{is_set, has_bit, numbers_from};
 ghost use Rattle.prop_numbers.specs.inner.NumberSets.{numbers_in};
 ghost use Rattle.prop_numbers.specs.inner.Words.{IsTrimmed, IsForm};
@@ -16,9 +19,10 @@ use smallvec::SmallVec;
 use std::alloc::{AllocError, Global};
 use std::marker::Model;
 
-/// A set of numbers below 2^16: number `p` is in it where bit `p % 64` of the word with number `p / 64` is set.
-/// Words before the first and after the last that has a bit need not stand here, so that a set costs what lies between its least and its
-/// largest number. Two words stand in the value itself, so no call takes memory for sets of numbers below 128.
+/// A set of numbers below 2^16: number `p` is in it where bit `p % 64` of the word with number `p /
+/// 64` is set. Words before the first and after the last that has a bit need not stand here, so
+/// that a set costs what lies between its least and its largest number. Two words stand in the
+/// value itself, so no call takes memory for sets of numbers below 128.
 #[derive(Drop)]
 pub struct Words {
     /// The number of the first word that stands here.
@@ -79,7 +83,8 @@ fn grow(words: &mut SmallVec<u64, 2>, count: usize) -> Result<(), AllocError>
 fn led(alloc: Global, words: &[u64], count: usize) -> Result<SmallVec<u64, 2>, AllocError>
     requires { count + length words.now ≤ 1_024 }
     ensures len { IfOk result (λ w. length w.items ≡ count + length words.now) }
-    ensures bits { IfOk result (λ w. (p : ℕ) → has_bit w.items p ≡ set_of (numbers_from (64 * count) words.now) p) }
+    ensures bits { IfOk result (λ w. (p : ℕ)
+        → has_bit w.items p ≡ set_of (numbers_from (64 * count) words.now) p) }
 {
     let mut longer = SmallVec::from_elem(alloc, 0, count + words.len())?;
     unite(&mut longer, count, words);
@@ -96,13 +101,16 @@ fn start(first: usize, words: &[u64], number: usize) -> usize
     if words.is_empty() { number } else { first }
 }
 
-/// Words from the first to the one with this number, or to the last where that is later, and the number of the first. After want of memory nothing has changed.
+/// Words from the first to the one with this number, or to the last where that is later, and the
+/// number of the first. After want of memory nothing has changed.
 fn reach(first: usize, words: &mut SmallVec<u64, 2>, number: usize) -> Result<usize, AllocError>
     requires room { first + length words.old.items ≤ 1_024 }
     requires number { number < 1_024 }
     ensures first { IfOk result (λ f. f ≤ number) }
-    ensures len { IfOk result (λ f. f + length words.new.items ≡ max (first + length words.old.items) (number + 1)) }
-    ensures numbers { IfOk result (λ f. numbers_from (64 * f) words.new.items ≡ numbers_from (64 * first) words.old.items) }
+    ensures len { IfOk result (λ f.
+        f + length words.new.items ≡ max (first + length words.old.items) (number + 1)) }
+    ensures numbers { IfOk result
+        (λ f. numbers_from (64 * f) words.new.items ≡ numbers_from (64 * first) words.old.items) }
     ensures err { OnErr result (words.new.items ≡ words.old.items) }
 {
     if first <= number {
@@ -125,7 +133,9 @@ fn united(
     requires some { 0 < length words.now }
     requires others_form { IsForm others_first others.now }
     requires others { 0 < length others.now }
-    ensures has { IfOk result (λ w. IsSame (set_of w) (union (set_of (numbers_from (64 * first) words.now)) (set_of (numbers_from (64 * others_first) others.now)))) }
+    ensures has { IfOk result (λ w.
+        IsSame (set_of w) (union (set_of (numbers_from (64 * first) words.now))
+        (set_of (numbers_from (64 * others_first) others.now)))) }
     ensures ordered { IfOk result IsStrictlyIncreasing }
 {
     let least = first.min(others_first);
@@ -159,7 +169,8 @@ fn tight(first: usize, mut words: SmallVec<u64, 2>) -> Result<Words, AllocError>
 
 /// Only the numbers below the bound stay. It takes no memory.
 fn cut(words: &mut SmallVec<u64, 2>, bound: u16)
-    ensures bits { (p : ℕ) → has_bit words.new.items p ≡ (has_bit words.old.items p && nat_lt p bound) }
+    ensures bits { (p : ℕ) → has_bit words.new.items
+        p ≡ (has_bit words.old.items p && nat_lt p bound) }
     ensures trimmed { IsTrimmed words.old.items → IsTrimmed words.new.items }
     ensures len { length words.new.items ≤ length words.old.items }
 {
@@ -268,8 +279,10 @@ impl Words {
 
     /// One more number is in the set. After want of memory nothing has changed.
     pub fn insert(&mut self, number: u16) -> Result<(), AllocError>
-        ensures has { OnOk result (IsSame (set_of self.new) (union (set_of self.old) (set_of (number ∷ [])))) }
-        ensures last { OnOk result (IsBelow number (set_of self.old) → self.new ≡ self.old ++ number ∷ []) }
+        ensures has { OnOk result (IsSame (set_of self.new)
+            (union (set_of self.old) (set_of (number ∷ [])))) }
+        ensures last { OnOk result (IsBelow number (set_of self.old)
+            → self.new ≡ self.old ++ number ∷ []) }
         ensures err { OnErr result (self.new ≡ self.old) }
     {
         let place = place_of(number);
@@ -303,7 +316,8 @@ impl Words {
 
     /// The numbers of both sets.
     pub fn union(&self, other: &Words) -> Result<Words, AllocError>
-        ensures has { IfOk result (λ w. IsSame (set_of w) (union (set_of self.now) (set_of other.now))) }
+        ensures has { IfOk result (λ w.
+            IsSame (set_of w) (union (set_of self.now) (set_of other.now))) }
         ensures ordered { IfOk result IsStrictlyIncreasing }
     {
         if other.words.is_empty() {

@@ -1,5 +1,7 @@
 -- Which premises are believed, name after name.
-use Rattle.std.proofs.Common.{◌≡◌, ℕ, zero, suc, ◌+◌, ◌<◌, ◌≤◌, Bool, true, false, ◌||◌, ◌&&◌, ◌==◌, List, [], ◌∷◌, ◌++◌, length, take, refl, sym, ap, subst, ◌∙◌, arith, slice_get, Some, map, String, string_bytes, append-nil, length-append}
+use Rattle.std.proofs.Common.{◌≡◌, ℕ, zero, suc, ◌+◌, ◌<◌, ◌≤◌, Bool, true, false, ◌||◌, ◌&&◌, ◌==◌, List, [], ◌∷◌}
+use Rattle.std.proofs.Common.{◌++◌, length, take, refl, sym, ap, subst, ◌∙◌, arith, slice_get, Some, map, String}
+use Rattle.std.proofs.Common.{string_bytes, append-nil, length-append}
 use Rattle.std.proofs.lemmas.Bool.Decides.{nat_tests}
 use Rattle.prop_premises.specs.declared.named.Named.{Named}
 use Rattle.prop_premises.specs.declared.named.Kind.{Kind}
@@ -21,17 +23,21 @@ or_false : (b : Bool) → (b || false) ≡ b
 or_false true = refl
 or_false false = refl
 
-with_user : (os : List Origin) (name : List ℕ) (b : Bool) (p : ℕ) → believed_in (os ++ User name b ∷ []) p ≡ (believed_in os p || (b && (length os == p)))
+with_user : (os : List Origin) (name : List ℕ) (b : Bool) (p : ℕ)
+    → believed_in (os ++ User name b ∷ []) p ≡ (believed_in os p || (b && (length os == p)))
 with_user [] name b zero = sym (and_true b)
-with_user [] name b (suc p) = let apart : (0 == suc p) ≡ false = grind (arith, nat_tests) in sym (ap (λ c. b && c) apart ∙ and_false b)
+with_user [] name b (suc p) = let apart : (0 == suc p) ≡ false =
+    grind (arith, nat_tests) in sym (ap (λ c. b && c) apart ∙ and_false b)
 with_user (o ∷ os) name b zero =
     let apart : (length (o ∷ os) == 0) ≡ false = grind (arith, nat_tests) in
-    sym (ap (λ c. believed_in (o ∷ os) 0 || c) (ap (λ c. b && c) apart ∙ and_false b) ∙ or_false (believed_in (o ∷ os) 0))
+    sym (ap (λ c. believed_in (o ∷ os) 0 || c) (ap (λ c. b && c) apart ∙ and_false b)
+    ∙ or_false (believed_in (o ∷ os) 0))
 with_user (o ∷ os) name b (suc p) =
     let next : (length (o ∷ os) == suc p) ≡ (length os == p) = grind (arith, nat_tests) in
     with_user os name b p ∙ ap (λ c. believed_in os p || (b && c)) (sym next)
 
-with_kind : (os : List Origin) (name : List ℕ) (k : Kind) (p : ℕ) → believed_in (os ++ origins_of_kind name k) p ≡ (believed_in os p ||
+with_kind : (os : List Origin) (name : List ℕ) (k : Kind) (p : ℕ)
+    → believed_in (os ++ origins_of_kind name k) p ≡ (believed_in os p ||
     (is_believed_kind k && (length os == p)))
 with_kind os name (kind.User b) p = with_user os name b p
 with_kind os name (kind.Choice sides) p = believed_in-with_choice os name sides p ∙ sym (or_false (believed_in os p))
@@ -54,9 +60,18 @@ same_some : {X : Type 0} (x y : X) → Some x ≡ Some y → x ≡ y
 same_some x y e = cc
 
 module _ {A : Type 0} where
-  cut_at : (es : List (String A × Named)) (k : ℕ) (named : Named) → slice_get (map (λ e. e.1) es) k ≡ Some named → Cut es k named
+  cut_at : (es : List (String A × Named)) (k : ℕ) (named : Named) → slice_get (map (λ e. e.1) es) k ≡ Some named
+      → Cut es k named
   cut_at [] k named h = cc
-  cut_at (e ∷ es) zero named h = record { front = []; entry = e; rest = es; whole = refl; is = same_some e.1 named h; before = refl; upto = refl }
+  cut_at (e ∷ es) zero named h = record {
+    front = [];
+    entry = e;
+    rest = es;
+    whole = refl;
+    is = same_some e.1 named h;
+    before = refl;
+    upto = refl;
+  }
   cut_at (e ∷ es) (suc k) named h =
       let c = cut_at es k named h in
       record {
@@ -69,13 +84,16 @@ module _ {A : Type 0} where
         upto = ap (λ l. e ∷ l) c.upto;
       }
 
-  first_of : (es : List (String A × Named)) (k : ℕ) (named : Named) (c : Cut es k named) → AreNumberedFrom 0 es → named.first ≡ length (origins_of c.front)
+  first_of : (es : List (String A × Named)) (k : ℕ) (named : Named) (c : Cut es k named) → AreNumberedFrom 0 es
+      → named.first ≡ length (origins_of c.front)
   first_of es k named c h =
-      sym (ap (λ n. n.first) c.is) ∙ (numbered-second 0 c.front (c.entry ∷ c.rest) (length (origins_of c.front)) (omega arith) (subst
+      sym (ap (λ n. n.first) c.is) ∙ (numbered-second 0 c.front (c.entry ∷ c.rest) (length (origins_of c.front))
+      (omega arith) (subst
       (AreNumberedFrom 0) c.whole h)).0
 
   -- the number of a believed premise is one of the table's
-  pub first_within : (es : List (String A × Named)) (k : ℕ) (named : Named) → AreNumberedFrom 0 es → slice_get (map (λ e. e.1) es) k ≡ Some named →
+  pub first_within : (es : List (String A × Named)) (k : ℕ) (named : Named) → AreNumberedFrom 0 es
+      → slice_get (map (λ e. e.1) es) k ≡ Some named →
       is_believed_kind named.kind ≡ true → named.first < length (origins_of es)
   first_within es k named h at b =
       let c = cut_at es k named at in
@@ -85,9 +103,11 @@ module _ {A : Type 0} where
       omega (arith, first_of es k named c h, some, count, length-cons c.entry c.rest)
 
   -- what is believed with one name more
-  pub believed_in-next : (es : List (String A × Named)) (k m : ℕ) (named : Named) (p : ℕ) → m ≡ k + 1 → AreNumberedFrom 0 es →
+  pub believed_in-next : (es : List (String A × Named)) (k m : ℕ) (named : Named) (p : ℕ) → m ≡ k + 1
+      → AreNumberedFrom 0 es →
       slice_get (map (λ e. e.1) es) k ≡ Some named →
-      believed_in (origins_of (take m es)) p ≡ (believed_in (origins_of (take k es)) p || (is_believed_kind named.kind && (named.first == p)))
+      believed_in (origins_of (take m es))
+      p ≡ (believed_in (origins_of (take k es)) p || (is_believed_kind named.kind && (named.first == p)))
   believed_in-next es k m named p next h at =
       let c = cut_at es k named at in
       let after : m ≡ suc k = omega (arith, next) in
@@ -97,8 +117,10 @@ module _ {A : Type 0} where
       ∙ ap (λ os. believed_in os p) (origins_of-append c.front (c.entry ∷ [])
       ∙ ap (λ l. origins_of c.front ++ l) (append-nil (origins_of_kind name c.entry.1.kind)))
       ∙ with_kind (origins_of c.front) name c.entry.1.kind p
-      ∙ ap (λ n. believed_in (origins_of c.front) p || (is_believed_kind n.kind && (length (origins_of c.front) == p))) c.is
-      ∙ ap (λ n. believed_in (origins_of c.front) p || (is_believed_kind named.kind && (n == p))) (sym (first_of es k named c h))
+      ∙ ap (λ n. believed_in (origins_of c.front) p || (is_believed_kind n.kind && (length (origins_of c.front) == p)))
+      c.is
+      ∙ ap (λ n. believed_in (origins_of c.front) p || (is_believed_kind named.kind && (n == p)))
+      (sym (first_of es k named c h))
       ∙ ap (λ l. believed_in (origins_of l) p || (is_believed_kind named.kind && (named.first == p))) (sym c.before)
 
 -- one bit more where the name is believed, and else none

@@ -1,5 +1,7 @@
 -- The premises of a table of names, part by part.
-use Rattle.std.proofs.Common.{◌≡◌, ℕ, zero, suc, ◌+◌, ◌-◌, ◌<◌, ◌≤◌, List, [], ◌∷◌, ◌++◌, length, take, replicate, refl, sym, ap, ◌∙◌, inl, inr, arith, slice_get, Some, String, string_bytes, append_assoc, length-append}
+use Rattle.std.proofs.Common.{◌≡◌, ℕ, zero, suc, ◌+◌, ◌-◌, ◌<◌, ◌≤◌, List, [], ◌∷◌, ◌++◌, length, take, replicate, refl}
+use Rattle.std.proofs.Common.{sym, ap, ◌∙◌, inl, inr, arith, slice_get, Some, String, string_bytes, append_assoc}
+use Rattle.std.proofs.Common.{length-append}
 use Rattle.std.proofs.lemmas.Bool.{cases_lt}
 use Rattle.std.proofs.lemmas.List.{take_all}
 use Rattle.prop_premises.specs.declared.named.Named.{Named}
@@ -26,9 +28,11 @@ kind_some (kind.User believed) h = omega arith
 kind_some (kind.Choice sides) h = omega (arith, h.0)
 
 -- places that are made room for
-pub resized : (items : List ℕ) (k n w place : ℕ) → k ≡ n + w → n ≡ length items → take k items ++ replicate (k - n) place ≡ items ++ replicate w place
+pub resized : (items : List ℕ) (k n w place : ℕ) → k ≡ n + w → n ≡ length items
+    → take k items ++ replicate (k - n) place ≡ items ++ replicate w place
 resized items k n w place e f =
-    ap (λ l. l ++ replicate (k - n) place) (take_all k items (omega (arith, e, f))) ∙ ap (λ m. items ++ replicate m place) (omega (arith, e))
+    ap (λ l. l ++ replicate (k - n) place) (take_all k items (omega (arith, e, f)))
+    ∙ ap (λ m. items ++ replicate m place) (omega (arith, e))
 
 -- ---- two parts
 
@@ -38,37 +42,57 @@ module _ {A : Type 0} where
   length-places k [] = refl
   length-places k (e ∷ es) =
       length-append (replicate (width e.1.kind) k) (places_from (suc k) es)
-      ∙ omega (arith, length-replicate (width e.1.kind) k, length-places (suc k) es, length-kind (string_bytes e.0) e.1.kind, length-append (origins_of_kind (string_bytes e.0) e.1.kind) (origins_of es))
+      ∙ omega (
+        arith,
+        length-replicate (width e.1.kind) k,
+        length-places (suc k) es,
+        length-kind (string_bytes e.0) e.1.kind,
+        length-append (origins_of_kind (string_bytes e.0) e.1.kind) (origins_of es),
+      )
 
   pub origins_of-append : (es fs : List (String A × Named)) → origins_of (es ++ fs) ≡ origins_of es ++ origins_of fs
   origins_of-append [] fs = refl
   origins_of-append (e ∷ es) fs =
-      ap (λ l. origins_of_kind (string_bytes e.0) e.1.kind ++ l) (origins_of-append es fs) ∙ sym (append_assoc (origins_of_kind (string_bytes e.0) e.1.kind) (origins_of es) (origins_of fs))
+      ap (λ l. origins_of_kind (string_bytes e.0) e.1.kind ++ l) (origins_of-append es fs)
+      ∙ sym (append_assoc (origins_of_kind (string_bytes e.0) e.1.kind) (origins_of es) (origins_of fs))
 
-  pub places_from-append : (k : ℕ) (es fs : List (String A × Named)) (m : ℕ) → m ≡ k + length es → places_from k (es ++ fs) ≡ places_from k es ++ places_from m fs
+  pub places_from-append : (k : ℕ) (es fs : List (String A × Named)) (m : ℕ) → m ≡ k + length es
+      → places_from k (es ++ fs) ≡ places_from k es ++ places_from m fs
   places_from-append k [] fs m e = ap (λ n. places_from n fs) (omega (arith, e))
   places_from-append k (x ∷ es) fs m e =
-      ap (λ l. replicate (width x.1.kind) k ++ l) (places_from-append (suc k) es fs m (omega (arith, e))) ∙ sym (append_assoc (replicate (width x.1.kind) k) (places_from (suc k) es) (places_from m fs))
+      ap (λ l. replicate (width x.1.kind) k ++ l) (places_from-append (suc k) es fs m (omega (arith, e)))
+      ∙ sym (append_assoc (replicate (width x.1.kind) k) (places_from (suc k) es) (places_from m fs))
 
-  pub length-cons : (e : String A × Named) (es : List (String A × Named)) → length (origins_of (e ∷ es)) ≡ width e.1.kind + length (origins_of es)
-  length-cons e es = length-append (origins_of_kind (string_bytes e.0) e.1.kind) (origins_of es) ∙ ap (λ n. n + length (origins_of es)) (length-kind (string_bytes e.0) e.1.kind)
+  pub length-cons : (e : String A × Named) (es : List (String A × Named))
+      → length (origins_of (e ∷ es)) ≡ width e.1.kind + length (origins_of es)
+  length-cons e es = length-append (origins_of_kind (string_bytes e.0) e.1.kind) (origins_of es)
+      ∙ ap (λ n. n + length (origins_of es)) (length-kind (string_bytes e.0) e.1.kind)
 
   pub numbered-first : (n : ℕ) (es fs : List (String A × Named)) → AreNumberedFrom n (es ++ fs) → AreNumberedFrom n es
   numbered-first n [] fs h = tt
   numbered-first n (e ∷ es) fs h = (h.0, h.1, numbered-first (n + width e.1.kind) es fs h.2)
 
-  pub numbered-second : (n : ℕ) (es fs : List (String A × Named)) (m : ℕ) → m ≡ n + length (origins_of es) → AreNumberedFrom n (es ++ fs) → AreNumberedFrom m fs
+  pub numbered-second : (n : ℕ) (es fs : List (String A × Named)) (m : ℕ) → m ≡ n + length (origins_of es)
+      → AreNumberedFrom n (es ++ fs) → AreNumberedFrom m fs
   numbered-second n [] fs m e h = let same : m ≡ n = omega (arith, e) in rw same h
-  numbered-second n (x ∷ es) fs m e h = numbered-second (n + width x.1.kind) es fs m (omega (arith, e, length-cons x es)) h.2
+  numbered-second n (x ∷ es) fs m e h =
+      numbered-second (n + width x.1.kind) es fs m (omega (arith, e, length-cons x es)) h.2
 
-  pub numbered-both : (n : ℕ) (es fs : List (String A × Named)) (m : ℕ) → m ≡ n + length (origins_of es) → AreNumberedFrom n es → AreNumberedFrom m fs → AreNumberedFrom n (es ++ fs)
+  pub numbered-both : (n : ℕ) (es fs : List (String A × Named)) (m : ℕ) → m ≡ n + length (origins_of es)
+      → AreNumberedFrom n es → AreNumberedFrom m fs → AreNumberedFrom n (es ++ fs)
   numbered-both n [] fs m e h k = let same : n ≡ m = omega (arith, e) in rw same k
-  numbered-both n (x ∷ es) fs m e h k = (h.0, h.1, numbered-both (n + width x.1.kind) es fs m (omega (arith, e, length-cons x es)) h.2 k)
+  numbered-both n (x ∷ es) fs m e h k =
+      (h.0, h.1, numbered-both (n + width x.1.kind) es fs m (omega (arith, e, length-cons x es)) h.2 k)
 
   -- there are no more names than numbers
   pub names_within : (n : ℕ) (es : List (String A × Named)) → AreNumberedFrom n es → length es ≤ length (origins_of es)
   names_within n [] h = omega arith
-  names_within n (e ∷ es) h = omega (arith, kind_some e.1.kind h.1, names_within (n + width e.1.kind) es h.2, length-cons e es)
+  names_within n (e ∷ es) h = omega (
+    arith,
+    kind_some e.1.kind h.1,
+    names_within (n + width e.1.kind) es h.2,
+    length-cons e es,
+  )
 
 -- ---- the name that has a number
 
@@ -86,17 +110,30 @@ pub record Cut {A : Type 0} (k : ℕ) (es : List (String A × Named)) (p q : ℕ
 same_some : {X : Type 0} (x y : X) → Some x ≡ Some y → x ≡ y
 same_some x y e = cc
 
-pub cut : {A : Type 0} (k : ℕ) (es : List (String A × Named)) (p q : ℕ) → slice_get (places_from k es) p ≡ Some q → Cut k es p q
+pub cut : {A : Type 0} (k : ℕ) (es : List (String A × Named)) (p q : ℕ) → slice_get (places_from k es) p ≡ Some q
+    → Cut k es p q
 cut k [] p q h = cc
 cut k (e ∷ es) p q h = elim (cases_lt p (width e.1.kind)) [
   | inl below ↦ (
-      let here = slice_get-front (replicate (width e.1.kind) k) (places_from (suc k) es) p (omega (arith, below, length-replicate (width e.1.kind) k)) ∙ slice_get-replicate (width e.1.kind) p k below in
+      let here = slice_get-front (replicate (width e.1.kind) k) (places_from (suc k) es) p
+      (omega (arith, below, length-replicate (width e.1.kind) k))
+      ∙ slice_get-replicate (width e.1.kind) p k below in
       let same = same_some q k (sym h ∙ here) in
-      record { front = []; entry = e; rest = es; side = p; whole = refl; place = omega (arith, same); number = omega arith; inside = below })
+      record {
+        front = [];
+        entry = e;
+        rest = es;
+        side = p;
+        whole = refl;
+        place = omega (arith, same);
+        number = omega arith;
+        inside = below;
+      })
   | inr above ↦ (
       let w = width e.1.kind in
       let split : p ≡ w + (p - w) = omega (arith, above) in
-      let there = sym (slice_get-skip (replicate w k) (places_from (suc k) es) (p - w) p (omega (arith, split, length-replicate w k))) ∙ h in
+      let there = sym (slice_get-skip (replicate w k) (places_from (suc k) es) (p - w) p
+      (omega (arith, split, length-replicate w k))) ∙ h in
       let c = cut (suc k) es (p - w) q there in
       record {
         front = e ∷ c.front;

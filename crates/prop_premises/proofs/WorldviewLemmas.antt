@@ -1,8 +1,10 @@
 -- The hypothetical premises that a choice list takes, and what is believed with it.
-use Rattle.std.proofs.Common.{◌≡◌, ℕ, ◌+◌, ◌-◌, ◌≤◌, Bool, true, false, ◌||◌, ◌==◌, List, [], ◌∷◌, ◌++◌, refl, ap, ◌∙◌, inl, inr, ◌⊎◌, arith, IsTrue}
+use Rattle.std.proofs.Common.{◌≡◌, ℕ, ◌+◌, ◌-◌, ◌≤◌, Bool, true, false, ◌||◌, ◌==◌, List, [], ◌∷◌, ◌++◌, refl, ap, ◌∙◌}
+use Rattle.std.proofs.Common.{inl, inr, ◌⊎◌, arith, IsTrue}
 use Rattle.std.proofs.lemmas.Bool.Decides.{nat_tests, eqb_tells}
 use Rattle.prop_premises.specs.declared.choice.Choice.{Choice}
-use Rattle.prop_premises.specs.ChoiceLists.{hypothetical, IsSide, is_side_of, is_hypothetical, IsChoiceList, hypotheticals_of}
+use Rattle.prop_premises.specs.ChoiceLists.{hypothetical, IsSide, is_side_of, is_hypothetical, IsChoiceList}
+use Rattle.prop_premises.specs.ChoiceLists.{hypotheticals_of}
 
 or_cases : (b c : Bool) → (b || c) ≡ true → (b ≡ true) ⊎ (c ≡ true)
 or_cases true c h = inl refl
@@ -27,7 +29,8 @@ own_side c s p side h =
     grind (arith, nat_tests)
 
 -- what the list takes is hypothetical
-pub hypotheticals_are : (choices : List Choice) (list : List ℕ) (p : ℕ) → IsChoiceList choices list → IsTrue (hypotheticals_of choices list p) → IsTrue (is_hypothetical choices p)
+pub hypotheticals_are : (choices : List Choice) (list : List ℕ) (p : ℕ) → IsChoiceList choices list
+    → IsTrue (hypotheticals_of choices list p) → IsTrue (is_hypothetical choices p)
 hypotheticals_are [] list p l h = cc
 hypotheticals_are (c ∷ cs) [] p l h = absurd l
 hypotheticals_are (c ∷ cs) (s ∷ ss) p l h = elim (or_cases (hypothetical c s == p) (hypotheticals_of cs ss p) h) [
@@ -49,9 +52,12 @@ or_none true = refl
 or_none false = refl
 
 -- one more choice, and the side that is taken of it
-pub hypotheticals_of-push : (choices : List Choice) (list : List ℕ) (c : Choice) (s p : ℕ) → IsChoiceList choices list → hypotheticals_of (choices ++ c ∷ []) (list ++ s ∷ []) p ≡ (hypotheticals_of choices list p || (hypothetical c s == p))
+pub hypotheticals_of-push : (choices : List Choice) (list : List ℕ) (c : Choice) (s p : ℕ) → IsChoiceList choices list
+    → hypotheticals_of (choices ++ c ∷ []) (list ++ s ∷ [])
+    p ≡ (hypotheticals_of choices list p || (hypothetical c s == p))
 hypotheticals_of-push [] [] c s p l = or_none (hypothetical c s == p)
 hypotheticals_of-push [] (y ∷ ys) c s p l = absurd l
 hypotheticals_of-push (x ∷ xs) [] c s p l = absurd l
 hypotheticals_of-push (x ∷ xs) (y ∷ ys) c s p l =
-    ap (λ b. (hypothetical x y == p) || b) (hypotheticals_of-push xs ys c s p l.1) ∙ or_assoc (hypothetical x y == p) (hypotheticals_of xs ys p) (hypothetical c s == p)
+    ap (λ b. (hypothetical x y == p) || b) (hypotheticals_of-push xs ys c s p l.1)
+    ∙ or_assoc (hypothetical x y == p) (hypotheticals_of xs ys p) (hypothetical c s == p)

@@ -1,5 +1,6 @@
 -- Choices, lists that take one side of each, and what is believed with such a list.
-use Rattle.std.specs.Prelude.{◌≡◌, ℕ, ◌+◌, ◌-◌, ◌*◌, ◌<◌, ◌≤◌, Bool, false, ◌==◌, ◌||◌, ◌&&◌, nat_le, nat_lt, IsTrue, List, [], ◌∷◌, ◌⊎◌, ⊤}
+use Rattle.std.specs.Prelude.{◌≡◌, ℕ, ◌+◌, ◌-◌, ◌*◌, ◌<◌, ◌≤◌, Bool, false, ◌==◌, ◌||◌, ◌&&◌}
+use Rattle.std.specs.Prelude.{nat_le, nat_lt, IsTrue, List, [], ◌∷◌, ◌⊎◌, ⊤}
 use Rattle.std.specs.List.{AllZip, AllByRecursion, list_any}
 use Rattle.prop_numbers.specs.Sets.{Members, union}
 use Rattle.prop_premises.specs.declared.choice.Choice.{Choice}
@@ -25,13 +26,15 @@ IsChoiceList choices list = AllZip IsSide choices list
 
 -- the hypothetical premises that the list takes
 abbrev pub hypotheticals_of : List Choice → List ℕ → Members
-hypotheticals_of (choice ∷ choices) (side ∷ list) p = (hypothetical choice side == p) || hypotheticals_of choices list p
+hypotheticals_of (choice ∷ choices) (side ∷ list) p =
+    (hypothetical choice side == p) || hypotheticals_of choices list p
 hypotheticals_of choices list p = false
 
 -- the list takes each side that is in the set
 abbrev pub TakesSidesIn : Members → List Choice → List ℕ → Type 0
 TakesSidesIn n choices list =
-    AllZip (λ choice side. (i : ℕ) → IsSide choice i → IsTrue (n (hypothetical choice i)) → i ≡ side) choices list
+    AllZip (λ choice side. (i : ℕ) → IsSide choice i → IsTrue (n (hypothetical choice i))
+    → i ≡ side) choices list
 
 -- what is believed with a choice list
 abbrev pub worldview : Members → List Choice → List ℕ → Members
@@ -55,7 +58,8 @@ place_of choices list = 0
 -- the sides of later choices have larger numbers
 abbrev pub AreInOrder : List Choice → Type 0
 AreInOrder [] = ⊤
-AreInOrder (choice ∷ choices) = AllByRecursion (λ later. choice.first + choice.sides ≤ later.first) choices × AreInOrder choices
+AreInOrder (choice ∷ choices) =
+    AllByRecursion (λ later. choice.first + choice.sides ≤ later.first) choices × AreInOrder choices
 
 -- each choice has two to eight sides
 abbrev pub AreOfSides : List Choice → Type 0

@@ -1,11 +1,14 @@
 -- Premises in order of number: where each comes from, and which of the user's are believed.
-use Rattle.std.specs.Prelude.{◌≡◌, ◌<◌, ℕ, zero, suc, ◌==◌, Bool, true, false, cond, bytes_eq, IsTrue, List, [], ◌∷◌, ◌++◌, length, position, Option, Some, None, is_some}
+use Rattle.std.specs.Prelude.{◌≡◌, ◌<◌, ℕ, zero, suc, ◌==◌, Bool, true, false, cond, bytes_eq}
+use Rattle.std.specs.Prelude.{IsTrue, List, [], ◌∷◌, ◌++◌, length, position, Option, Some, None}
+use Rattle.std.specs.Prelude.{is_some}
 use Rattle.std.specs.List.{list_any}
 use Rattle.prop_numbers.specs.Sets.{Members}
 use Rattle.prop_premises.specs.declared.choice.Choice.{Choice}
 use Rattle.prop_premises.specs.ChoiceLists.{is_hypothetical, AreInOrder, AreOfSides}
 
--- a premise of the user's, by its name, believed or not; or one side of a choice, by the choice's name, which of its sides, and how many it has
+-- a premise of the user's, by its name, believed or not; or one side of a choice, by the choice's
+-- name, which of its sides, and how many it has
 pub data Origin : Type 0 where
   User : List ℕ → Bool → Origin
   Side : List ℕ → ℕ → ℕ → Origin
@@ -61,7 +64,8 @@ with_belief_at (o ∷ os) (suc p) believed = o ∷ with_belief_at os p believed
 
 -- a new name is the last premise, and believed; a known one changes nothing
 abbrev pub with_name : List Origin → List ℕ → List Origin
-with_name origins name = cond (is_some (premise_number origins name)) origins (origins ++ User name true ∷ [])
+with_name origins name = cond (is_some (premise_number origins name)) origins
+    (origins ++ User name true ∷ [])
 
 -- the first n sides of a choice with so many
 abbrev pub sides_below : List ℕ → ℕ → ℕ → List Origin
@@ -76,7 +80,9 @@ with_choice origins name sides = origins ++ sides_below name sides sides
 abbrev pub choices_from : ℕ → List Origin → List Choice
 choices_from n [] = []
 choices_from n (User name believed ∷ os) = choices_from (suc n) os
-choices_from n (Side name side sides ∷ os) = cond (side == 1) (record { first = n; sides = sides } ∷ choices_from (suc n) os) (choices_from (suc n) os)
+choices_from n (Side name side sides ∷ os) =
+    cond (side == 1) (record { first = n; sides = sides } ∷ choices_from (suc n) os)
+    (choices_from (suc n) os)
 
 -- the choices in order of declaration
 abbrev pub choices_of : List Origin → List Choice
@@ -105,9 +111,11 @@ is_start [] (suc p) = false
 is_start (o ∷ os) zero = starts o
 is_start (o ∷ os) (suc p) = is_start os p
 
--- The sides of a choice have numbers in a row, those of later choices larger ones; each of them is one of these premises, and none is the user's.
+-- The sides of a choice have numbers in a row, those of later choices larger ones; each of them is
+-- one of these premises, and none is the user's.
 pub record IsNumbered (origins : List Origin) : Type 0 where
   pub in_order : AreInOrder (choices_of origins)
   pub of_sides : AreOfSides (choices_of origins)
   pub below : (p : ℕ) → IsTrue (is_hypothetical (choices_of origins) p) → p < length origins
-  pub users : (p : ℕ) → IsTrue (is_user_at origins p) → is_hypothetical (choices_of origins) p ≡ false
+  pub users : (p : ℕ) → IsTrue (is_user_at origins p)
+      → is_hypothetical (choices_of origins) p ≡ false

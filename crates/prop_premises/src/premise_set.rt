@@ -1,14 +1,17 @@
 //! Sets of premises.
-ghost use Rattle.std.specs.Prelude.{◌≡◌, ◌↔◌, ◌≤◌, List, ℕ, [], ◌∷◌, length, IsTrue, IfOk, OnOk, OnErr};
+ghost use Rattle.std.specs.Prelude.{◌≡◌, ◌↔◌, ◌≤◌, List, ℕ, [], ◌∷◌, length, IsTrue, IfOk, OnOk};
+ghost use Rattle.std.specs.Prelude.{OnErr};
 ghost use Rattle.std.specs.List.Sorted.{IsStrictlyIncreasing};
-ghost use Rattle.prop_numbers.specs.Sets.{set_of, union, without, is_below, is_within, is_alike, is_at_most_one_of, IsSame};
+ghost use Rattle.prop_numbers.specs.Sets.{set_of, union, without, is_below, is_within, is_alike};
+ghost use Rattle.prop_numbers.specs.Sets.{is_at_most_one_of, IsSame};
 
 use prop_numbers::{NumberSet, Numbers};
 use std::alloc::{AllocError, Global};
 use std::default::MadeWith;
 use std::marker::Model;
 
-/// A premise, by its number. Premises are numbered from 0 on, in the order in which their names first appeared.
+/// A premise, by its number. Premises are numbered from 0 on, in the order in which their names
+/// first appeared.
 pub type Premise = u16;
 
 /// A set of premises. No call takes memory for sets of which all numbers are below 128.
@@ -54,16 +57,19 @@ impl PremiseSet {
 
     /// The premises of both sets.
     pub fn union(&self, other: &PremiseSet) -> Result<PremiseSet, AllocError>
-        ensures { IfOk result (λ s. IsSame (set_of s) (union (set_of self.now) (set_of other.now))) }
+        ensures { IfOk result (λ s. IsSame (set_of s)
+            (union (set_of self.now) (set_of other.now))) }
     {
         let numbers = self.numbers.union(&other.numbers)?;
         Ok(PremiseSet { numbers })
     }
 
-    /// The premises of another set are in this one too. Where they are already it takes no memory; after want of memory nothing has changed.
+    /// The premises of another set are in this one too. Where they are already it takes no memory;
+    /// after want of memory nothing has changed.
     #[inline]
     pub fn unite(&mut self, other: &PremiseSet) -> Result<(), AllocError>
-        ensures ok { OnOk result (IsSame (set_of self.new) (union (set_of self.old) (set_of other.now))) }
+        ensures ok { OnOk result (IsSame (set_of self.new)
+            (union (set_of self.old) (set_of other.now))) }
         ensures err { OnErr result (self.new ≡ self.old) }
     {
         if !other.is_subset(self) {
@@ -103,7 +109,8 @@ impl PremiseSet {
         self.is_subset(other) && other.is_subset(self)
     }
 
-    /// Whether the set has no premise, or a single one that is in the other set. It takes no memory.
+    /// Whether the set has no premise, or a single one that is in the other set. It takes no
+    /// memory.
     pub fn is_at_most_one_of(&self, other: &PremiseSet) -> bool
         ensures { result ≡ is_at_most_one_of (set_of other.now) self.now }
     {

@@ -1,10 +1,16 @@
 //! The names of premises and choices, and which premises are believed.
-ghost use Rattle.std.specs.Prelude.{◌≡◌, ◌≤◌, ◌<◌, ◌+◌, ◌*◌, ◌↔◌, ◌⊎◌, ℕ, List, [], ◌∷◌, ◌++◌, length, take, Some, None, Ok, Err, true, false, unwrap_or, slice_get, option_map, IsTrue, IfOk, IfErr, OnOk, OnErr, MatchResult};
+ghost use Rattle.std.specs.Prelude.{◌≡◌, ◌≤◌, ◌<◌, ◌+◌, ◌*◌, ◌↔◌, ◌⊎◌, ℕ, List, [], ◌∷◌, ◌++◌};
+ghost use Rattle.std.specs.Prelude.{length, take, Some, None, Ok, Err, true, false, unwrap_or};
+ghost use Rattle.std.specs.Prelude.{slice_get, option_map, IsTrue, IfOk, IfErr, OnOk, OnErr};
+ghost use Rattle.std.specs.Prelude.{MatchResult};
 ghost use Rattle.prop_refusals.specs.Refusals.{most};
 ghost use Rattle.prop_numbers.specs.Sets.{Members, set_of, union, without, IsSame};
 ghost use Rattle.prop_numbers.specs.Words.{has_bit};
-ghost use Rattle.prop_premises.specs.Origins.{Origin, name_of, is_user_at, premise_number, is_choice, believed_in, with_belief_at, with_name, with_choice, choices_of, side_at, is_start};
-ghost use Rattle.prop_premises.specs.ChoiceLists.{hypotheticals_of, is_hypothetical, worldview, IsChoiceList};
+ghost use Rattle.prop_premises.specs.Origins.{Origin, name_of, is_user_at, premise_number};
+ghost use Rattle.prop_premises.specs.Origins.{is_choice, believed_in, with_belief_at, with_name};
+ghost use Rattle.prop_premises.specs.Origins.{with_choice, choices_of, side_at, is_start};
+ghost use Rattle.prop_premises.specs.ChoiceLists.{hypotheticals_of, is_hypothetical, worldview};
+ghost use Rattle.prop_premises.specs.ChoiceLists.{IsChoiceList};
 
 use crate::choice::Choice;
 use crate::named::Kind;
@@ -23,7 +29,8 @@ const MOST: usize = 4_096;
 
 /// The premises and choices by name, and which premises are believed.
 ///
-/// Premises are numbered in the order in which their names first appeared. A choice has a number for each of its sides, one after the other.
+/// Premises are numbered in the order in which their names first appeared. A choice has a number
+/// for each of its sides, one after the other.
 #[derive(Drop)]
 pub struct Premises {
     table: Table,
@@ -44,7 +51,8 @@ fn set_sides(words: &mut [u64], choices: &[Choice], sides: &[u8])
     requires bound { length words.old ≤ 1_024 }
     requires room { (p : ℕ) → IsTrue (is_hypothetical choices.now p) → p < 64 * length words.old }
     ensures len { length words.new ≡ length words.old }
-    ensures bits { IsSame (has_bit words.new) (union (has_bit words.old) (hypotheticals_of choices.now sides.now)) }
+    ensures bits { IsSame (has_bit words.new)
+        (union (has_bit words.old) (hypotheticals_of choices.now sides.now)) }
 {
     for place in 0..choices.len() {
         let side = Premise::from(sides[place]) - 1;
@@ -63,7 +71,8 @@ impl Premises {
         }
     }
 
-    /// How many numbers there are: one for each premise of the user's, and one for each side of a choice.
+    /// How many numbers there are: one for each premise of the user's, and one for each side of a
+    /// choice.
     pub fn len(&self) -> usize
         ensures len { result ≡ length self.now }
         ensures bound { result ≤ most Limit.Premises }
@@ -77,17 +86,24 @@ impl Premises {
         self.table.len() == 0
     }
 
-    /// The premise with this name. A name that appears for the first time gets the next number, and is believed.
+    /// The premise with this name. A name that appears for the first time gets the next number, and
+    /// is believed.
     ///
-    /// `IsAChoice` where a choice has the name. There can be 4,096 numbers: one more is `LimitReached`. Want of memory is `Memory`. After each of these nothing has changed.
+    /// `IsAChoice` where a choice has the name. There can be 4,096 numbers: one more is
+    /// `LimitReached`. Want of memory is `Memory`. After each of these nothing has changed.
     pub fn intern(&mut self, name: &str) -> Result<Premise, Refusal>
-        ensures number { IfOk result (λ p. p ≡ unwrap_or (premise_number self.old name.now) (length self.old)) }
+        ensures number { IfOk result
+            (λ p. p ≡ unwrap_or (premise_number self.old name.now) (length self.old)) }
         ensures ok { OnOk result (self.new ≡ with_name self.old name.now) }
         ensures user { IfOk result (λ p. IsTrue (is_user_at self.new p)) }
         ensures err { OnErr result (self.new ≡ self.old) }
         ensures choice { (result ≡ Err Refusal.IsAChoice) ↔ IsTrue (is_choice self.old name.now) }
-        ensures full { (result ≡ Err (Refusal.LimitReached Limit.Premises)) ↔ ((premise_number self.old name.now ≡ None) × (is_choice self.old name.now ≡ false) × (most Limit.Premises ≤ length self.old)) }
-        ensures why { IfErr result (λ e. (premise_number self.old name.now ≡ None) × ((e ≡ Refusal.IsAChoice) ⊎ (e ≡ Refusal.LimitReached Limit.Premises) ⊎ (e ≡ Refusal.Memory))) }
+        ensures full { (result ≡ Err (Refusal.LimitReached Limit.Premises))
+            ↔ ((premise_number self.old name.now ≡ None) × (is_choice self.old name.now ≡ false)
+            × (most Limit.Premises ≤ length self.old)) }
+        ensures why { IfErr result (λ e. (premise_number self.old name.now ≡ None)
+            × ((e ≡ Refusal.IsAChoice) ⊎ (e ≡ Refusal.LimitReached Limit.Premises)
+            ⊎ (e ≡ Refusal.Memory))) }
     {
         match self.find(name) {
             Err(Refusal::NoSuchPremise) if self.table.len() == MOST => {
@@ -114,12 +130,15 @@ impl Premises {
         Ok(number)
     }
 
-    /// The premise with this name. `IsAChoice` where a choice has it, `NoSuchPremise` where neither a premise nor a choice has it.
+    /// The premise with this name. `IsAChoice` where a choice has it, `NoSuchPremise` where neither
+    /// a premise nor a choice has it.
     pub fn find(&self, name: &str) -> Result<Premise, Refusal>
-        ensures found { MatchResult result (λ p. premise_number self.now name.now ≡ Some p) (λ e. premise_number self.now name.now ≡ None) }
+        ensures found { MatchResult result (λ p. premise_number self.now name.now ≡ Some p)
+            (λ e. premise_number self.now name.now ≡ None) }
         ensures user { IfOk result (λ p. IsTrue (is_user_at self.now p)) }
         ensures choice { (result ≡ Err Refusal.IsAChoice) ↔ IsTrue (is_choice self.now name.now) }
-        ensures none { (result ≡ Err Refusal.NoSuchPremise) ↔ ((premise_number self.now name.now ≡ None) × (is_choice self.now name.now ≡ false)) }
+        ensures none { (result ≡ Err Refusal.NoSuchPremise)
+            ↔ ((premise_number self.now name.now ≡ None) × (is_choice self.now name.now ≡ false)) }
         ensures why { IfErr result (λ e. (e ≡ Refusal.IsAChoice) ⊎ (e ≡ Refusal.NoSuchPremise)) }
     {
         match self.table.number_of(name) {
@@ -138,7 +157,8 @@ impl Premises {
 
     /// A new choice with this name. Its sides get the next numbers.
     ///
-    /// `NameTaken` where a premise or a choice has the name. There can be 4,096 numbers: more are `LimitReached`. Want of memory is `Memory`. After each of these nothing has changed.
+    /// `NameTaken` where a premise or a choice has the name. There can be 4,096 numbers: more are
+    /// `LimitReached`. Want of memory is `Memory`. After each of these nothing has changed.
     pub fn hypothetical(&mut self, name: &str, sides: u8) -> Result<Choice, Refusal>
         requires least { 2 ≤ sides }
         requires most { sides ≤ 8 }
@@ -146,10 +166,16 @@ impl Premises {
         ensures ok { OnOk result (self.new ≡ with_choice self.old name.now sides) }
         ensures choices { IfOk result (λ c. choices_of self.new ≡ choices_of self.old ++ c ∷ []) }
         ensures err { OnErr result (self.new ≡ self.old) }
-        ensures free { OnOk result ((premise_number self.old name.now ≡ None) × (is_choice self.old name.now ≡ false)) }
-        ensures taken { (result ≡ Err Refusal.NameTaken) ↔ (((p : ℕ) × (premise_number self.old name.now ≡ Some p)) ⊎ IsTrue (is_choice self.old name.now)) }
-        ensures full { (result ≡ Err (Refusal.LimitReached Limit.Premises)) ↔ ((premise_number self.old name.now ≡ None) × (is_choice self.old name.now ≡ false) × (most Limit.Premises < length self.old + sides)) }
-        ensures why { IfErr result (λ e. (e ≡ Refusal.NameTaken) ⊎ (e ≡ Refusal.LimitReached Limit.Premises) ⊎ (e ≡ Refusal.Memory)) }
+        ensures free { OnOk result ((premise_number self.old name.now ≡ None)
+            × (is_choice self.old name.now ≡ false)) }
+        ensures taken { (result ≡ Err Refusal.NameTaken)
+            ↔ (((p : ℕ) × (premise_number self.old name.now ≡ Some p))
+            ⊎ IsTrue (is_choice self.old name.now)) }
+        ensures full { (result ≡ Err (Refusal.LimitReached Limit.Premises))
+            ↔ ((premise_number self.old name.now ≡ None) × (is_choice self.old name.now ≡ false)
+            × (most Limit.Premises < length self.old + sides)) }
+        ensures why { IfErr result (λ e. (e ≡ Refusal.NameTaken)
+            ⊎ (e ≡ Refusal.LimitReached Limit.Premises) ⊎ (e ≡ Refusal.Memory)) }
     {
         if !matches!(self.find(name), Err(Refusal::NoSuchPremise)) {
             return Err(Refusal::NameTaken);
@@ -206,7 +232,8 @@ impl Premises {
     pub fn bring(&mut self, premise: Premise)
         requires { IsTrue (is_user_at self.old premise) }
         ensures only { self.new ≡ with_belief_at self.old premise true }
-        ensures beliefs { IsSame (believed_in self.new) (union (believed_in self.old) (set_of (premise ∷ []))) }
+        ensures beliefs { IsSame (believed_in self.new)
+            (union (believed_in self.old) (set_of (premise ∷ []))) }
     {
         self.table.set_belief(premise, true);
     }
@@ -225,12 +252,14 @@ impl Premises {
     pub fn name(&self, premise: Premise) -> &str
         requires { premise < length self.now }
         ensures name { option_map name_of (slice_get self.now premise) ≡ Some result.now }
-        ensures found { IsTrue (is_user_at self.now premise) → premise_number self.now result.now ≡ Some premise }
+        ensures found { IsTrue (is_user_at self.now premise)
+            → premise_number self.now result.now ≡ Some premise }
     {
         self.table.name(premise)
     }
 
-    /// Which side of its choice the premise is, counted from 1, `None` where it is one of the user's.
+    /// Which side of its choice the premise is, counted from 1, `None` where it is one of the
+    /// user's.
     pub fn side(&self, premise: Premise) -> Option<u8>
         requires { premise < length self.now }
         ensures { result ≡ side_at self.now premise }
@@ -238,10 +267,12 @@ impl Premises {
         self.table.source(premise)?.side()
     }
 
-    /// The worldview that believes just the believed premises and, of each choice, the side that the list takes.
+    /// The worldview that believes just the believed premises and, of each choice, the side that
+    /// the list takes.
     pub fn worldview(&self, sides: &[u8]) -> Result<Worldview, AllocError>
         requires { IsChoiceList (choices_of self.now) sides.now }
-        ensures { IfOk result (λ w. IsSame (set_of w) (worldview (believed_in self.now) (choices_of self.now) sides.now)) }
+        ensures { IfOk result (λ w. IsSame (set_of w)
+            (worldview (believed_in self.now) (choices_of self.now) sides.now)) }
     {
         let mut words = blank(self.table.alloc(), self.table.len())?;
         self.table.set_believed(&mut words);

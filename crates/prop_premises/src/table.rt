@@ -1,12 +1,18 @@
 //! The names of premises and choices, each with its numbers.
-ghost use Rattle.std.specs.Prelude.{◌≡◌, ◌≤◌, ◌<◌, ◌+◌, ◌*◌, ◌++◌, ℕ, List, [], Some, length, take, replicate, None, true, false, is_some, slice_get, option_map, IsTrue, IsOk, IfSome, OnOk, OnErr};
+ghost use Rattle.std.specs.Prelude.{◌≡◌, ◌≤◌, ◌<◌, ◌+◌, ◌*◌, ◌++◌, ℕ, List, [], Some, length, take};
+ghost use Rattle.std.specs.Prelude.{replicate, None, true, false, is_some, slice_get, option_map};
+ghost use Rattle.std.specs.Prelude.{IsTrue, IsOk, IfSome, OnOk, OnErr};
 ghost use Rattle.std.specs.HashMap.{IsUnique};
 ghost use Rattle.std.specs.String.{string_eq};
 ghost use Rattle.prop_numbers.specs.Sets.{union, IsSame};
 ghost use Rattle.prop_numbers.specs.Words.{has_bit};
-ghost use Rattle.prop_premises.specs.Origins.{Origin, premise_number, is_choice, is_user_at, with_belief_at, is_start, name_of, IsNumbered, choices_of, believed_in};
+ghost use Rattle.prop_premises.specs.Origins.{Origin, premise_number, is_choice, is_user_at};
+ghost use Rattle.prop_premises.specs.Origins.{with_belief_at, is_start, name_of, IsNumbered};
+ghost use Rattle.prop_premises.specs.Origins.{choices_of, believed_in};
 ghost use Rattle.prop_premises.specs.ChoiceLists.{is_hypothetical};
-ghost use Rattle.prop_premises.specs.inner.Named.{origins_of, origins_of_kind, places_from, width, told, number_of, is_choices, IsKind, AreNumberedFrom};
+ghost use Rattle.prop_premises.specs.inner.Named.{origins_of, origins_of_kind, places_from, width};
+ghost use Rattle.prop_premises.specs.inner.Named.{told, number_of, is_choices, IsKind};
+ghost use Rattle.prop_premises.specs.inner.Named.{AreNumberedFrom};
 
 use crate::named::{Kind, Named, Source};
 use crate::premise_set::Premise;
@@ -29,7 +35,8 @@ impl Model for Table {
 
     ghost view = { λ t. origins_of t.names.entries };
 
-    ghost invariant = { λ t. (length t.places.items ≤ 4_096) × AreNumberedFrom 0 t.names.entries × (t.places.items ≡ places_from 0 t.names.entries) };
+    ghost invariant = { λ t. (length t.places.items ≤ 4_096) × AreNumberedFrom 0 t.names.entries
+        × (t.places.items ≡ places_from 0 t.names.entries) };
 }
 
 /// What the name stands for, `None` where it is new.
@@ -54,9 +61,11 @@ fn push_name(
     requires numbered { AreNumberedFrom 0 names.old.entries }
     requires next { named.first ≡ length (origins_of names.old.entries) }
     requires kind { IsKind named.kind }
-    ensures ok { OnOk result (origins_of names.new.entries ≡ origins_of names.old.entries ++ origins_of_kind name.now named.kind) }
+    ensures ok { OnOk result (origins_of names.new.entries ≡ origins_of
+        names.old.entries ++ origins_of_kind name.now named.kind) }
     ensures numbered { OnOk result (AreNumberedFrom 0 names.new.entries) }
-    ensures places { OnOk result (places_from 0 names.new.entries ≡ places_from 0 names.old.entries ++ replicate (width named.kind) (length names.old.entries)) }
+    ensures places { OnOk result (places_from 0 names.new.entries ≡ places_from 0
+        names.old.entries ++ replicate (width named.kind) (length names.old.entries)) }
     ensures err { OnErr result (names.new.entries ≡ names.old.entries) }
 {
     let alloc = *names.allocator();
@@ -84,7 +93,8 @@ impl Table {
     pub(crate) fn len(&self) -> usize
         ensures len { result ≡ length self.now }
         ensures bound { result ≤ 4_096 }
-        ensures below { (p : ℕ) → IsTrue (is_hypothetical (choices_of self.now) p) → p < length self.now }
+        ensures below { (p : ℕ) → IsTrue (is_hypothetical (choices_of self.now) p)
+            → p < length self.now }
     {
         self.places.len()
     }
@@ -131,7 +141,8 @@ impl Table {
     pub(crate) fn name(&self, premise: Premise) -> &str
         requires { premise < length self.now }
         ensures name { option_map name_of (slice_get self.now premise) ≡ Some result.now }
-        ensures found { IsTrue (is_user_at self.now premise) → premise_number self.now result.now ≡ Some premise }
+        ensures found { IsTrue (is_user_at self.now premise)
+            → premise_number self.now result.now ≡ Some premise }
     {
         let place = usize::from(self.places[usize::from(premise)]);
         prove!(place < self.names.len());
@@ -179,7 +190,8 @@ impl Table {
     pub(crate) fn set_believed(&self, words: &mut [u64])
         requires { length self.now ≤ 64 * length words.old }
         ensures len { length words.new ≡ length words.old }
-        ensures bits { IsSame (has_bit words.new) (union (has_bit words.old) (believed_in self.now)) }
+        ensures bits { IsSame (has_bit words.new)
+            (union (has_bit words.old) (believed_in self.now)) }
     {
         for place in 0..self.names.len() {
             let named = self.names[place];

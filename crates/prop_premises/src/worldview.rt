@@ -1,5 +1,6 @@
 //! What is believed.
-ghost use Rattle.std.specs.Prelude.{◌≡◌, List, [], ◌∷◌, ◌++◌, ℕ, nat_lt, filter, IsOk, IfOk, OnOk, OnErr};
+ghost use Rattle.std.specs.Prelude.{◌≡◌, List, [], ◌∷◌, ◌++◌, ℕ, nat_lt, filter, IsOk, IfOk, OnOk};
+ghost use Rattle.std.specs.Prelude.{OnErr};
 ghost use Rattle.prop_numbers.specs.Sets.{set_of, union, without, is_within, IsSame, IsBelow};
 
 use crate::premise_set::{Premise, PremiseSet};
@@ -29,7 +30,8 @@ impl Worldview {
         }
     }
 
-    /// The worldview that believes just the premises of the set. It takes no memory where there are none.
+    /// The worldview that believes just the premises of the set. It takes no memory where there are
+    /// none.
     pub fn of(alloc: Global, premises: &PremiseSet) -> Result<Worldview, AllocError>
         ensures none { premises.now ≡ [] → IsOk result }
         ensures of { IfOk result (λ w. w ≡ premises.now) }

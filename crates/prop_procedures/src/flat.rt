@@ -2,7 +2,8 @@
 
 use crate::shape::{Kinded, Param};
 
-/// An instance: a procedure by its number, the place of its parameter in a list where it is given one, and its cells.
+/// An instance: a procedure by its number, the place of its parameter in a list where it is given
+/// one, and its cells.
 #[derive(Drop)]
 pub struct Placed {
     pub procedure: usize,
@@ -11,8 +12,8 @@ pub struct Placed {
     pub output: usize,
 }
 
-/// The kinds of the fresh cells, parameters, and the instances in order. A cell is a place among the given cells followed by the
-/// fresh ones.
+/// The kinds of the fresh cells, parameters, and the instances in order. A cell is a place among
+/// the given cells followed by the fresh ones.
 #[derive(Drop)]
 pub struct Flat {
     pub fresh: Vec<Kinded>,

@@ -4,11 +4,18 @@ use Rattle.std.specs.Prelude.{get_or}
 use Rattle.prop_refusals.specs.Refusals.{number_of}
 use Rattle.prop_refusals.specs.Refusals.{NumbersTellApart}
 use Rattle.prop_refusals.specs.declared.refusal.Refusal.{Refusal}
-use Rattle.prop_refusals.specs.declared.refusal.Refusal.TheVariants.{LineTooLong, NotUtf8, UnknownCommand, WrongForm, NotAName, NotANumber, NameTaken, NoSuchDomain, NoSuchRelation, NoSuchCell, NoSuchPremise, NoSuchProcedure, WrongCount, WrongKind, WrongParameter, NotInTheDomain, EmptyValue, IsAChoice, LimitReached, Memory}
+use Rattle.prop_refusals.specs.declared.refusal.Refusal.TheVariants.{LineTooLong, NotUtf8, UnknownCommand, WrongForm}
+use Rattle.prop_refusals.specs.declared.refusal.Refusal.TheVariants.{NotAName, NotANumber, NameTaken, NoSuchDomain}
+use Rattle.prop_refusals.specs.declared.refusal.Refusal.TheVariants.{NoSuchRelation, NoSuchCell, NoSuchPremise}
+use Rattle.prop_refusals.specs.declared.refusal.Refusal.TheVariants.{NoSuchProcedure, WrongCount, WrongKind}
+use Rattle.prop_refusals.specs.declared.refusal.Refusal.TheVariants.{WrongParameter, NotInTheDomain, EmptyValue}
+use Rattle.prop_refusals.specs.declared.refusal.Refusal.TheVariants.{IsAChoice, LimitReached, Memory}
 
 -- the refusals in the order of their numbers, with want of memory in the place of a reached limit
 abbrev refusals : List Refusal
-refusals = Memory ∷ LineTooLong ∷ NotUtf8 ∷ UnknownCommand ∷ WrongForm ∷ NotAName ∷ NotANumber ∷ NameTaken ∷ NoSuchDomain ∷ NoSuchCell ∷ NoSuchPremise ∷ NoSuchProcedure ∷ WrongCount ∷ WrongKind ∷ WrongParameter ∷ NotInTheDomain ∷ Memory ∷ IsAChoice ∷ EmptyValue ∷ NoSuchRelation ∷ []
+refusals = Memory ∷ LineTooLong ∷ NotUtf8 ∷ UnknownCommand ∷ WrongForm ∷ NotAName ∷ NotANumber ∷ NameTaken
+    ∷ NoSuchDomain ∷ NoSuchCell ∷ NoSuchPremise ∷ NoSuchProcedure ∷ WrongCount ∷ WrongKind ∷ WrongParameter
+    ∷ NotInTheDomain ∷ Memory ∷ IsAChoice ∷ EmptyValue ∷ NoSuchRelation ∷ []
 
 -- the refusal with a number
 abbrev refusal_at : ℕ → Refusal

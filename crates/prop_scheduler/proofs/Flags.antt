@@ -1,11 +1,15 @@
 -- The flags of the instances, and the line.
-use Rattle.std.proofs.Common.{◌≡◌, ◌∙◌, ℕ, suc, ◌+◌, ◌-◌, ◌<◌, ◌≤◌, ◌==◌, Bool, true, false, cond, List, [], ◌∷◌, ◌++◌, length, get_or, count_by, refl, sym, ap, arith, Contains, inl, inr, get_or-set_other, get_or-set_same}
+use Rattle.std.proofs.Common.{◌≡◌, ◌∙◌, ℕ, suc, ◌+◌, ◌-◌, ◌<◌, ◌≤◌, ◌==◌, Bool, true, false, cond, List, [], ◌∷◌, ◌++◌}
+use Rattle.std.proofs.Common.{length, get_or, count_by, refl, sym, ap, arith, Contains, inl, inr, get_or-set_other}
+use Rattle.std.proofs.Common.{get_or-set_same}
 use Rattle.std.specs.List.{remove}
 use Rattle.std.proofs.Math.ListN.{set, replicate, length-set}
 use Rattle.std.proofs.lemmas.Bool.{cases_lt, eq-eqb}
 use Rattle.std.proofs.lemmas.Bool.Decides.{eqb_tells}
-use Rattle.std.proofs.lemmas.List.{length-append, length-replicate, get_or_append_left, get_or-append_right, get_or-replicate, get_or_past, get_or_default}
-use Rattle.std.proofs.lemmas.List.Sums.{sum_by-cons, sum_by-set, sum_by-remove, sum_by_push, sum_by-append, count_by-le-length, get_or-le-sum_by}
+use Rattle.std.proofs.lemmas.List.{length-append, length-replicate, get_or_append_left, get_or-append_right}
+use Rattle.std.proofs.lemmas.List.{get_or-replicate, get_or_past, get_or_default}
+use Rattle.std.proofs.lemmas.List.Sums.{sum_by-cons, sum_by-set, sum_by-remove, sum_by_push, sum_by-append}
+use Rattle.std.proofs.lemmas.List.Sums.{count_by-le-length, get_or-le-sum_by}
 use Rattle.std.proofs.lemmas.List.Folds.{sum_by-replicate}
 use Rattle.std.proofs.lemmas.List.Edits.{length-remove}
 use Rattle.prop_scheduler.specs.inner.Agendas.{IsFlagged}
@@ -27,7 +31,8 @@ set_if_one true h = refl
 set_if_one false h = absurd (omega (arith, h))
 
 -- what stands in the line is flagged
-pub listed : (line : List ℕ) (flags : List Bool) (capacity p j : ℕ) → IsFlagged line flags capacity → p < length line → j ≡ get_or line p j → get_or flags j false ≡ true
+pub listed : (line : List ℕ) (flags : List Bool) (capacity p j : ℕ) → IsFlagged line flags capacity → p < length line
+    → j ≡ get_or line p j → get_or flags j false ≡ true
 listed line flags capacity p j a l e =
     let here : get_or line p j ≡ j = sym e in
     let one : (get_or line p j == j) ≡ true = eq-eqb (get_or line p j) j here in
@@ -38,14 +43,20 @@ listed line flags capacity p j a l e =
 
 pub flag_within : (flags : List Bool) (j : ℕ) → get_or flags j false ≡ true → j < length flags
 flag_within flags j e =
-    elim (cases_lt j (length flags)) [ inl h ↦ h | inr h ↦ (let past = get_or_past flags j false h in let clash : true ≡ false = sym e ∙ past in absurd (cc)) ]
+    elim (cases_lt j (length flags)) [
+      | inl h ↦ h
+      | inr h ↦
+          (let past = get_or_past flags j false h in let clash : true ≡ false = sym e ∙ past in absurd (cc))
+    ]
 
-flag_is : (line : List ℕ) (flags : List Bool) (capacity j : ℕ) (b : Bool) → IsFlagged line flags capacity → get_or flags j false ≡ b → times line j ≡ cond b 1 0
+flag_is : (line : List ℕ) (flags : List Bool) (capacity j : ℕ) (b : Bool) → IsFlagged line flags capacity
+    → get_or flags j false ≡ b → times line j ≡ cond b 1 0
 flag_is line flags capacity j b a e = a.flagged j ∙ ap (λ t. cond t 1 0) e
 
 -- ---- one that waits no longer
 
-module _ (line : List ℕ) (flags : List Bool) (capacity place j : ℕ) (a : IsFlagged line flags capacity) (l : place < length line) (e : j ≡ get_or line place j) where
+module _ (line : List ℕ) (flags : List Bool) (capacity place j : ℕ) (a : IsFlagged line flags capacity)
+    (l : place < length line) (e : j ≡ get_or line place j) where
   on : get_or flags j false ≡ true
   on = listed line flags capacity place j a l e
 
@@ -53,7 +64,8 @@ module _ (line : List ℕ) (flags : List Bool) (capacity place j : ℕ) (a : IsF
   in_flags = flag_within flags j on
 
   taken_at : (k : ℕ) → times (remove line place) k + cond (j == k) 1 0 ≡ times line k
-  taken_at k = ap (λ x. times (remove line place) k + cond (x == k) 1 0) e ∙ sum_by-remove (λ x. cond (x == k) 1 0) line place j l
+  taken_at k = ap (λ x. times (remove line place) k + cond (x == k) 1 0) e
+      ∙ sum_by-remove (λ x. cond (x == k) 1 0) line place j l
 
   taken_flag : (k : ℕ) → times (remove line place) k ≡ cond (get_or (set flags j false) k false) 1 0
   taken_flag k =
@@ -63,13 +75,15 @@ module _ (line : List ℕ) (flags : List Bool) (capacity place j : ℕ) (a : IsF
             let one : one_for (j == k) ≡ 1 = ap (λ b. cond b 1 0) same.0 in
             let here = taken_at k in
             let gone : times (remove line place) k ≡ 0 = omega (arith, was, one, here) in
-            let off : get_or (set flags j false) k false ≡ false = rw (← same.1) (get_or-set_same flags j false false in_flags) in
+            let off : get_or (set flags j false) k false ≡ false =
+            rw (← same.1) (get_or-set_same flags j false false in_flags) in
             gone ∙ sym (ap (λ b. cond b 1 0) off))
         | inr other ↦
             (let none : one_for (j == k) ≡ 0 = ap (λ b. cond b 1 0) other.0 in
             let here = taken_at k in
             let kept : times (remove line place) k ≡ times line k = omega (arith, none, here) in
-            kept ∙ a.flagged k ∙ sym (ap (λ b. cond b 1 0) (get_or-set_other flags j k false false (λ h. other.1 (sym h)))))
+            kept ∙ a.flagged k ∙ sym (ap (λ b. cond b 1 0)
+            (get_or-set_other flags j k false false (λ h. other.1 (sym h)))))
       ]
 
   pub taken : IsFlagged (remove line place) (set flags j false) capacity
@@ -87,7 +101,8 @@ module _ (line : List ℕ) (flags : List Bool) (capacity place j : ℕ) (a : IsF
 
 -- ---- one more that waits
 
-module _ (line : List ℕ) (flags : List Bool) (capacity j : ℕ) (a : IsFlagged line flags capacity) (l : j < length flags) (off : get_or flags j false ≡ false) where
+module _ (line : List ℕ) (flags : List Bool) (capacity j : ℕ) (a : IsFlagged line flags capacity) (l : j < length flags)
+    (off : get_or flags j false ≡ false) where
   set_count : count_by (λ flag. flag) (set flags j true) ≡ count_by (λ flag. flag) flags + 1
   set_count =
       let s = sum_by-set (λ b. cond b 1 0) flags j true false l in
@@ -121,7 +136,8 @@ module _ (line : List ℕ) (flags : List Bool) (capacity j : ℕ) (a : IsFlagged
         | inr other ↦
             (let none : one_for (j == k) ≡ 0 = ap (λ b. cond b 1 0) other.0 in
             let now : times (line ++ j ∷ []) k ≡ times line k = omega (arith, none, push) in
-            now ∙ a.flagged k ∙ sym (ap (λ b. cond b 1 0) (get_or-set_other flags j k true false (λ h. other.1 (sym h)))))
+            now ∙ a.flagged k ∙ sym (ap (λ b. cond b 1 0)
+            (get_or-set_other flags j k true false (λ h. other.1 (sym h)))))
       ]
 
   pub pushed : (capacity' : ℕ) → capacity ≤ capacity' → IsFlagged (line ++ j ∷ []) (set flags j true) capacity'
@@ -143,7 +159,8 @@ counted_in (x ∷ xs) j h =
           (suc (rest.0), omega (arith, rest.1), rest.2))
     ]
 
-pub is_listed : (line : List ℕ) (flags : List Bool) (capacity j : ℕ) → IsFlagged line flags capacity → get_or flags j false ≡ true → Contains line j
+pub is_listed : (line : List ℕ) (flags : List Bool) (capacity j : ℕ) → IsFlagged line flags capacity
+    → get_or flags j false ≡ true → Contains line j
 is_listed line flags capacity j a on = counted_in line j (omega (arith, flag_is line flags capacity j true a on))
 
 -- ---- more room
@@ -152,7 +169,8 @@ filled_flag : (flags : List Bool) (m k : ℕ) → get_or (flags ++ replicate m f
 filled_flag flags m k =
     elim (cases_lt k (length flags)) [
       | inl h ↦ get_or_append_left flags (replicate m false) false k h
-      | inr h ↦ get_or-append_right flags (replicate m false) (length flags) k false refl h ∙ none m (k - length flags) ∙ sym (get_or_past flags k false h)
+      | inr h ↦ get_or-append_right flags (replicate m false) (length flags) k false refl h ∙ none m (k - length flags)
+          ∙ sym (get_or_past flags k false h)
     ]
   where
     none : (m k : ℕ) → get_or (replicate m false) k false ≡ false
@@ -161,7 +179,8 @@ filled_flag flags m k =
       | inr h ↦ get_or_past (replicate m false) k false (let n = length-replicate m false in omega (arith, n, h))
     ]
 
-pub filled : (line : List ℕ) (flags : List Bool) (capacity capacity' m : ℕ) → IsFlagged line flags capacity → length flags + m ≤ capacity' → IsFlagged line (flags ++ replicate m false) capacity'
+pub filled : (line : List ℕ) (flags : List Bool) (capacity capacity' m : ℕ) → IsFlagged line flags capacity
+    → length flags + m ≤ capacity' → IsFlagged line (flags ++ replicate m false) capacity'
 filled line flags capacity capacity' m a room = record {
   flagged = λ j. a.flagged j ∙ sym (ap (λ b. cond b 1 0) (filled_flag flags m j));
   counted = (
@@ -170,16 +189,21 @@ filled line flags capacity capacity' m a room = record {
       let z = sum_by-replicate (λ b. cond b 1 0) m false in
       omega (arith, c, s, z)
       );
-  room = (let n = length-append flags (replicate m false) in let r = length-replicate m false in omega (arith, n, r, room));
+  room = (let n = length-append flags (replicate m false) in let r = length-replicate m false in omega
+      (arith, n, r, room));
 }
 
 -- ---- what callers see
 
-pub is_line : (line : List ℕ) (flags : List Bool) (capacity : ℕ) → IsFlagged line flags capacity → IsLine line (length flags)
+pub is_line : (line : List ℕ) (flags : List Bool) (capacity : ℕ) → IsFlagged line flags capacity
+    → IsLine line (length flags)
 is_line line flags capacity a = record {
   once = λ j. let f = a.flagged j in let o = one_if (get_or flags j false) in omega (arith, f, o);
-  below = λ k d l. flag_within flags (get_or line k d) (listed line flags capacity k (get_or line k d) a l (get_or_default line k d (get_or line k d) l));
+  below = λ k d l. flag_within flags (get_or line k d)
+      (listed line flags capacity k (get_or line k d) a l (get_or_default line k d (get_or line k d) l));
 }
 
-pub short_line : (line : List ℕ) (flags : List Bool) (capacity : ℕ) → IsFlagged line flags capacity → length line ≤ length flags
-short_line line flags capacity a = let c = a.counted in let m = count_by-le-length (λ flag. flag) flags in omega (arith, c, m)
+pub short_line : (line : List ℕ) (flags : List Bool) (capacity : ℕ) → IsFlagged line flags capacity
+    → length line ≤ length flags
+short_line line flags capacity a = let c = a.counted in let m =
+    count_by-le-length (λ flag. flag) flags in omega (arith, c, m)

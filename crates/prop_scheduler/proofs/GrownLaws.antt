@@ -1,5 +1,6 @@
 -- What is kept as the readers of cells of which more is believed are alerted, and that no potential rises.
-use Rattle.std.proofs.Common.{◌≡◌, ◌≢◌, ◌∙◌, ◌<◌, ◌≤◌, ◌⊎◌, ℕ, ◌+◌, if◌then◌else◌, List, Some, All, Contains, length, slice_get, sym, ap, subst, arith, inl, inr}
+use Rattle.std.proofs.Common.{◌≡◌, ◌≢◌, ◌∙◌, ◌<◌, ◌≤◌, ◌⊎◌, ℕ, ◌+◌, if◌then◌else◌, List, Some, All, Contains, length}
+use Rattle.std.proofs.Common.{slice_get, sym, ap, subst, arith, inl, inr}
 use Rattle.std.specs.Prelude.{nat_le}
 use Rattle.std.proofs.lemmas.Bool.Decides.{eqb_tells, leb_tells}
 use Rattle.std.proofs.lemmas.List.Elements.{All-contains, All-weaker}
@@ -28,68 +29,91 @@ use Rattle.prop_scheduler.proofs.WatchLaws.{beyond}
 -- ---- who waits
 
 pub grown_none : (s t : Premises) (d : Data) (line : List ℕ) → AreGrown s t d 0 line line
-grown_none s t d line = record { behind = behind_none (ReadsShifted s t d) line; waits = λ cell l. absurd (omega (arith, l)) }
+grown_none s t d line = record {
+  behind = behind_none (ReadsShifted s t d) line;
+  waits = λ cell l. absurd (omega (arith, l));
+}
 
 -- the next cell is believed as before
-pub grown_same : (s t : Premises) (d : Data) (n : ℕ) (old new : List ℕ) → AreGrown s t d n old new → beliefs s d.contents n ≡ beliefs t d.contents n → AreGrown s t d (n + 1) old new
+pub grown_same : (s t : Premises) (d : Data) (n : ℕ) (old new : List ℕ) → AreGrown s t d n old new
+    → beliefs s d.contents n ≡ beliefs t d.contents n → AreGrown s t d (n + 1) old new
 grown_same s t d n old new h same = record {
   behind = h.behind;
   waits = λ cell l.
-      elim (eqb_tells cell n) as (λ _. (beliefs s d.contents cell ≡ beliefs t d.contents cell) ⊎ All (Contains new) (readers_of d.instances cell)) [
+      elim (eqb_tells cell n) as (λ _. (beliefs s d.contents cell ≡ beliefs t d.contents cell)
+      ⊎ All (Contains new) (readers_of d.instances cell)) [
         | inl e ↦ inl (rw e.1 same)
         | inr e ↦ h.waits cell (let ne = e.1 in omega (arith, l, ne))
       ];
 }
 
 -- the readers of the next cell wait too
-pub grown_more : (s t : Premises) (d : Data) (n : ℕ) (old new after : List ℕ) → AreGrown s t d n old new → beliefs s d.contents n ≢ beliefs t d.contents n → AllAlerted new after (readers_of d.instances n) →
+pub grown_more : (s t : Premises) (d : Data) (n : ℕ) (old new after : List ℕ) → AreGrown s t d n old new
+    → beliefs s d.contents n ≢ beliefs t d.contents n → AllAlerted new after (readers_of d.instances n) →
     after ≡ all_alerted new (readers_of d.instances n) → AreGrown s t d (n + 1) old after
 grown_more s t d n old new after h shifted read read_line =
     let reads = ReadsShifted s t d in
     record {
       behind = behind_then reads old new after h.behind
-          (rw read_line (behind_all reads new (readers_of d.instances n) (All-from_contains reads (readers_of d.instances n) (λ j is. record { cell = n; shifted = shifted; reads = is }))));
+          (rw read_line (behind_all reads new (readers_of d.instances n)
+          (All-from_contains reads (readers_of d.instances n)
+          (λ j is. record { cell = n; shifted = shifted; reads = is }))));
       waits = λ cell l.
-          elim (eqb_tells cell n) as (λ _. (beliefs s d.contents cell ≡ beliefs t d.contents cell) ⊎ All (Contains after) (readers_of d.instances cell)) [
+          elim (eqb_tells cell n) as (λ _. (beliefs s d.contents cell ≡ beliefs t d.contents cell)
+          ⊎ All (Contains after) (readers_of d.instances cell)) [
             | inl e ↦ inr (rw e.1 read.alerted)
-            | inr e ↦ elim (h.waits cell (let ne = e.1 in omega (arith, l, ne))) as (λ _. (beliefs s d.contents cell ≡ beliefs t d.contents cell) ⊎ All (Contains after) (readers_of d.instances cell)) [
-              | inl same ↦ inl same
-              | inr all ↦ inr (All-weaker (Contains new) (Contains after) read.kept (readers_of d.instances cell) all)
-            ]
+            | inr e ↦ elim (h.waits cell (let ne = e.1 in omega (arith, l, ne))) as (λ _.
+                (beliefs s d.contents cell ≡ beliefs t d.contents cell)
+                ⊎ All (Contains after) (readers_of d.instances cell)) [
+                  | inl same ↦ inl same
+                  | inr all ↦ inr (All-weaker (Contains new) (Contains after) read.kept (readers_of d.instances cell) all)
+                ]
           ];
     }
 
 -- the waiting instances stay instances
-grown_below : (s t : Premises) (d : Data) (n : ℕ) (old new : List ℕ) → AreGrown s t d n old new → All (λ j. j < length d.instances) old → All (λ j. j < length d.instances) new
+grown_below : (s t : Premises) (d : Data) (n : ℕ) (old new : List ℕ) → AreGrown s t d n old new
+    → All (λ j. j < length d.instances) old → All (λ j. j < length d.instances) new
 grown_below s t d n old new h below =
-    All-from_contains (λ j. j < length d.instances) new (λ j w. elim (behind_only (ReadsShifted s t d) old new h.behind j w) as (λ _. j < length d.instances) [
+    All-from_contains (λ j. j < length d.instances) new
+    (λ j w. elim (behind_only (ReadsShifted s t d) old new h.behind j w) as (λ _. j < length d.instances) [
       | inl was ↦ All-contains (λ i. i < length d.instances) old j below was
-      | inr more ↦ All-contains (λ i. i < length d.instances) (readers_of d.instances more.cell) j (readers_are d.instances more.cell).below more.reads
+      | inr more ↦ All-contains (λ i. i < length d.instances) (readers_of d.instances more.cell) j
+          (readers_are d.instances more.cell).below more.reads
     ])
 
 -- ---- what is met
 
 -- who believes more knows more of each cell
-beliefs_rise : (s t : Premises) (d : Data) → IsPart s t → (cell : ℕ) → Below (beliefs s d.contents cell) (beliefs t d.contents cell)
+beliefs_rise : (s t : Premises) (d : Data) → IsPart s t → (cell : ℕ)
+    → Below (beliefs s d.contents cell) (beliefs t d.contents cell)
 beliefs_rise s t d more cell = belief_of-more info_laws (content_of d.contents cell) s t more
 
-module _ (library : List Stored) (s t : Premises) (d : Data) (old new : List ℕ) (more : IsPart s t) (within : All (IsWithin (length d.kinds)) d.instances) (u : IsUnderWay library s d old) (h : AreGrown s t d (length d.kinds) old new) where
+module _ (library : List Stored) (s t : Premises) (d : Data) (old new : List ℕ) (more : IsPart s t)
+    (within : All (IsWithin (length d.kinds)) d.instances) (u : IsUnderWay library s d old)
+    (h : AreGrown s t d (length d.kinds) old new) where
   -- what no waiting instance reads is believed as before
-  read_same : (j : ℕ) (x : Instance) → slice_get d.instances j ≡ Some x → (Contains new j → ⊥) → (cell : ℕ) → Contains x.inputs cell → beliefs s d.contents cell ≡ beliefs t d.contents cell
+  read_same : (j : ℕ) (x : Instance) → slice_get d.instances j ≡ Some x → (Contains new j → ⊥) → (cell : ℕ)
+      → Contains x.inputs cell → beliefs s d.contents cell ≡ beliefs t d.contents cell
   read_same j x at idle cell reads =
       let w = All-at (IsWithin (length d.kinds)) d.instances j x within at in
-      elim (h.waits cell (All-contains (λ k. k < length d.kinds) x.inputs cell w.inputs reads)) as (λ _. beliefs s d.contents cell ≡ beliefs t d.contents cell) [
+      elim (h.waits cell (All-contains (λ k. k < length d.kinds) x.inputs cell w.inputs reads)) as (λ _.
+      beliefs s d.contents cell ≡ beliefs t d.contents cell) [
         | inl same ↦ same
-        | inr all ↦ absurd (idle (All-contains (Contains new) (readers_of d.instances cell) j all ((readers_are d.instances cell).covers j x at reads)))
+        | inr all ↦ absurd (idle (All-contains (Contains new) (readers_of d.instances cell) j all
+            ((readers_are d.instances cell).covers j x at reads)))
       ]
 
   -- and what it writes may only be known better
-  met_still : (j : ℕ) (x : Instance) → slice_get d.instances j ≡ Some x → (Contains new j → ⊥) → Meets (beliefs s d.contents) (constraint_of library x) → Meets (beliefs t d.contents) (constraint_of library x)
+  met_still : (j : ℕ) (x : Instance) → slice_get d.instances j ≡ Some x → (Contains new j → ⊥)
+      → Meets (beliefs s d.contents) (constraint_of library x) → Meets (beliefs t d.contents) (constraint_of library x)
   met_still j x at idle met =
       let a = beliefs s d.contents in
       let b = beliefs t d.contents in
-      meets_same a b (constraint_of library x) (map_agree a b x.inputs (All-from_contains (λ k. a k ≡ b k) x.inputs (read_same j x at idle)))
-      (info_laws.transitive (value_at (constraint_of library x) a) (a x.output) (b x.output) met.below (beliefs_rise s t d more x.output))
+      meets_same a b (constraint_of library x)
+      (map_agree a b x.inputs (All-from_contains (λ k. a k ≡ b k) x.inputs (read_same j x at idle)))
+      (info_laws.transitive (value_at (constraint_of library x) a) (a x.output) (b x.output) met.below
+      (beliefs_rise s t d more x.output))
 
   pub under_way_grown : IsUnderWay library t d new
   under_way_grown = record {
@@ -99,7 +123,9 @@ module _ (library : List Stored) (s t : Premises) (d : Data) (old new : List ℕ
       met = λ j c at idle.
           let x = from_map (constraint_of library) d.instances j c at in
           let same : c ≡ constraint_of library x.0 = x.2 in
-          let was : Meets (beliefs s d.contents) (constraint_of library x.0) = subst (λ (q : Constraint). Meets (beliefs s d.contents) q) same (u.met.met j c at (λ w. idle (behind_kept (ReadsShifted s t d) old new h.behind j w))) in
+          let was : Meets (beliefs s d.contents) (constraint_of library x.0) =
+          subst (λ (q : Constraint). Meets (beliefs s d.contents) q) same
+          (u.met.met j c at (λ w. idle (behind_kept (ReadsShifted s t d) old new h.behind j w))) in
           subst (λ (q : Constraint). Meets (beliefs t d.contents) q) (sym same) (met_still j x.0 x.1 idle was);
     };
   }
@@ -127,8 +153,10 @@ before_it s t d n cell below = elim (leb_tells n cell) as (λ _. partly s t d n 
 -- but for the next cell, one cell more changes nothing
 but_for_it : (s t : Premises) (d : Data) (n cell : ℕ) → cell ≢ n → partly s t d (n + 1) cell ≡ partly s t d n cell
 but_for_it s t d n cell other = elim (leb_tells n cell) as (λ _. partly s t d (n + 1) cell ≡ partly s t d n cell) [
-  | inl h ↦ (let past = h.1 in from_there s t d (n + 1) cell (omega (arith, past, other)) ∙ sym (from_there s t d n cell past))
-  | inr h ↦ (let below = h.1 in before_it s t d (n + 1) cell (omega (arith, below)) ∙ sym (before_it s t d n cell below))
+  | inl h ↦ (let past = h.1 in from_there s t d (n + 1) cell (omega (arith, past, other))
+      ∙ sym (from_there s t d n cell past))
+  | inr h ↦ (let below = h.1 in before_it s t d (n + 1) cell (omega (arith, below))
+      ∙ sym (before_it s t d n cell below))
 ]
 
 -- the least above two of which the second knows more is the second
@@ -146,43 +174,60 @@ module _ (library : List Stored) (s t : Premises) (d : Data) (made : IsWellMade 
     ];
   }
 
-  pub potential_at_first : (line : List ℕ) → potential (problem_of library d) (partly s t d 0) line ≤ potential (problem_of library d) (beliefs s d.contents) line
+  pub potential_at_first : (line : List ℕ)
+      → potential (problem_of library d) (partly s t d 0) line ≤ potential (problem_of library d) (beliefs s d.contents)
+      line
   potential_at_first line =
-      let same = ranks_same d.kinds (beliefs s d.contents) (partly s t d 0) (λ k. from_there s t d 0 k (omega arith)) (input_places (problem_of library d)) in
+      let same = ranks_same d.kinds (beliefs s d.contents) (partly s t d 0) (λ k. from_there s t d 0 k (omega arith))
+      (input_places (problem_of library d)) in
       omega (arith, same)
 
-  pub potential_same : (n : ℕ) (line : List ℕ) → beliefs s d.contents n ≡ beliefs t d.contents n → potential (problem_of library d) (partly s t d (n + 1)) line ≤ potential (problem_of library d) (partly s t d n) line
+  pub potential_same : (n : ℕ) (line : List ℕ) → beliefs s d.contents n ≡ beliefs t d.contents n
+      → potential (problem_of library d) (partly s t d (n + 1)) line ≤ potential (problem_of library d) (partly s t d n)
+      line
   potential_same n line alike =
-      let here : partly s t d (n + 1) n ≡ partly s t d n n = before_it s t d (n + 1) n (omega arith) ∙ sym alike ∙ sym (from_there s t d n n (omega arith)) in
-      let each : (k : ℕ) → partly s t d (n + 1) k ≡ partly s t d n k = λ k. elim (eqb_tells k n) as (λ _. partly s t d (n + 1) k ≡ partly s t d n k) [
+      let here : partly s t d (n + 1) n ≡ partly s t d n n = before_it s t d (n + 1) n (omega arith) ∙ sym alike
+      ∙ sym (from_there s t d n n (omega arith)) in
+      let each : (k : ℕ) → partly s t d (n + 1) k ≡ partly s t d n k =
+      λ k. elim (eqb_tells k n) as (λ _. partly s t d (n + 1) k ≡ partly s t d n k) [
         | inl e ↦ rw e.1 here
         | inr e ↦ but_for_it s t d n k e.1
       ] in
-      let same = ranks_same d.kinds (partly s t d n) (partly s t d (n + 1)) each (input_places (problem_of library d)) in
+      let same = ranks_same d.kinds (partly s t d n) (partly s t d (n + 1)) each (input_places (problem_of library d))
+      in
       omega (arith, same)
 
   -- each reader that now waits is paid for by its places
-  pub potential_falls : (n : ℕ) (line after : List ℕ) → n < length d.kinds → beliefs s d.contents n ≢ beliefs t d.contents n → AllAlerted line after (readers_of d.instances n) →
-      potential (problem_of library d) (partly s t d (n + 1)) after ≤ potential (problem_of library d) (partly s t d n) line
+  pub potential_falls : (n : ℕ) (line after : List ℕ) → n < length d.kinds
+      → beliefs s d.contents n ≢ beliefs t d.contents n → AllAlerted line after (readers_of d.instances n) →
+      potential (problem_of library d) (partly s t d (n + 1)) after ≤ potential (problem_of library d) (partly s t d n)
+      line
   potential_falls n line after within shifted read =
       let a = partly s t d n in
       let b = partly s t d (n + 1) in
       let was : a n ≡ beliefs s d.contents n = from_there s t d n n (omega arith) in
       let is : b n ≡ beliefs t d.contents n = before_it s t d (n + 1) n (omega arith) in
       let merges : MergesAt a b n (beliefs t d.contents n) = record {
-        merged = is ∙ merged_rises (beliefs s d.contents n) (beliefs t d.contents n) (beliefs_rise s t d more n) ∙ ap (λ v. merge_of v (beliefs t d.contents n)) (sym was);
+        merged = is ∙ merged_rises (beliefs s d.contents n) (beliefs t d.contents n) (beliefs_rise s t d more n)
+            ∙ ap (λ v. merge_of v (beliefs t d.contents n)) (sym was);
         others = but_for_it s t d n;
       } in
-      let ranks = ranks_fall d.kinds a b n (beliefs t d.contents n) merges within (of_kinds n) (of_kinds (n + 1)) (λ same. shifted (sym was ∙ sym same ∙ is)) (input_places (problem_of library d)) in
+      let ranks = ranks_fall d.kinds a b n (beliefs t d.contents n) merges within (of_kinds n) (of_kinds (n + 1))
+      (λ same. shifted (sym was ∙ sym same ∙ is)) (input_places (problem_of library d)) in
       let readers = few_readers library n 0 d.instances in
       let few = read.few in
       omega (arith, few, ranks, readers)
 
-  pub potential_at_last : (line : List ℕ) → length d.contents ≡ length d.kinds → potential (problem_of library d) (beliefs t d.contents) line ≤ potential (problem_of library d) (partly s t d (length d.kinds)) line
+  pub potential_at_last : (line : List ℕ) → length d.contents ≡ length d.kinds
+      → potential (problem_of library d) (beliefs t d.contents) line ≤ potential (problem_of library d)
+      (partly s t d (length d.kinds)) line
   potential_at_last line contents =
-      let each : (k : ℕ) → beliefs t d.contents k ≡ partly s t d (length d.kinds) k = λ k. elim (leb_tells (length d.kinds) k) as (λ _. beliefs t d.contents k ≡ partly s t d (length d.kinds) k) [
-        | inl h ↦ beyond t d k contents h.1 ∙ sym (beyond s d k contents h.1) ∙ sym (from_there s t d (length d.kinds) k h.1)
+      let each : (k : ℕ) → beliefs t d.contents k ≡ partly s t d (length d.kinds) k =
+      λ k. elim (leb_tells (length d.kinds) k) as (λ _. beliefs t d.contents k ≡ partly s t d (length d.kinds) k) [
+        | inl h ↦ beyond t d k contents h.1 ∙ sym (beyond s d k contents h.1)
+            ∙ sym (from_there s t d (length d.kinds) k h.1)
         | inr h ↦ sym (before_it s t d (length d.kinds) k h.1)
       ] in
-      let same = ranks_same d.kinds (partly s t d (length d.kinds)) (beliefs t d.contents) each (input_places (problem_of library d)) in
+      let same = ranks_same d.kinds (partly s t d (length d.kinds)) (beliefs t d.contents) each
+      (input_places (problem_of library d)) in
       omega (arith, same)

@@ -6,10 +6,12 @@ use Rattle.prop_cells.specs.Problems.{Problem, Assignment, AreOfKinds}
 use Rattle.prop_scheduler.specs.Agendas.{IsLine}
 use Rattle.prop_scheduler.specs.Potential.{input_places, potential, most_steps}
 
--- where no instance waits twice and the assignment is of the kinds of the cells, the potential is no more than the most steps
+-- where no instance waits twice and the assignment is of the kinds of the cells, the potential is
+-- no more than the most steps
 abbrev pub MostIsMost : Type 0
 MostIsMost =
-    (problem : Problem) (a : Assignment) (line : List ℕ) → AreOfKinds problem.cells a → IsLine line (length problem.constraints) → potential problem a line ≤ most_steps problem
+    (problem : Problem) (a : Assignment) (line : List ℕ) → AreOfKinds problem.cells a
+    → IsLine line (length problem.constraints) → potential problem a line ≤ most_steps problem
 
 -- a kind of sets of 64 elements at most, or of symbols
 pub record IsSmall (k : Kinded) : Type 0 where
@@ -18,4 +20,5 @@ pub record IsSmall (k : Kinded) : Type 0 where
 
 -- over sets and symbols alone, the most steps are at most the instances and 65 for each input place
 abbrev pub MostOfSmall : Type 0
-MostOfSmall = (problem : Problem) → All IsSmall problem.cells → most_steps problem ≤ length problem.constraints + 65 * length (input_places problem)
+MostOfSmall = (problem : Problem) → All IsSmall problem.cells
+    → most_steps problem ≤ length problem.constraints + 65 * length (input_places problem)

@@ -1,5 +1,6 @@
 -- What a use stands for, made in a network.
-use Rattle.std.specs.Prelude.{◌≡◌, ◌<◌, ◌^◌, ℕ, ◌+◌, ◌-◌, List, [], ◌++◌, All, true, false, nat_lt, Option, Some, length, map, is_none, slice_get, unwrap_or}
+use Rattle.std.specs.Prelude.{◌≡◌, ◌<◌, ◌^◌, ℕ, ◌+◌, ◌-◌, List, [], ◌++◌, All, true, false, nat_lt}
+use Rattle.std.specs.Prelude.{Option, Some, length, map, is_none, slice_get, unwrap_or}
 use Rattle.std.specs.Option.{option_and_then, option_or}
 use Rattle.prop_refusals.specs.Refusals.{most, when}
 use Rattle.prop_refusals.specs.declared.refusal.Limit.TheVariants.{Cells, Instances}
@@ -18,34 +19,42 @@ use Rattle.prop_cells.specs.Instances.{Instance}
 
 -- so many cells, or instances, are more than there can be
 abbrev pub room_refusal : ℕ → ℕ → Option Refusal
-room_refusal cells instances = option_or (when (LimitReached Cells) (nat_lt (most Cells) cells)) (when (LimitReached Instances) (nat_lt (most Instances) instances))
+room_refusal cells instances =
+    option_or (when (LimitReached Cells) (nat_lt (most Cells) cells))
+    (when (LimitReached Instances) (nat_lt (most Instances) instances))
 
 -- the numbers of an instance's cells
 abbrev pub cells_made : List ℕ → ℕ → Placed → List ℕ
 cells_made cells next x = map (cell_placed cells next) (cells_of x)
 
 -- the instance may be made between cells of these kinds, with one of these parameters
-pub record MayBeMade (library : List Stored) (kinds : List Kinded) (params : List Param) (cells : List ℕ) (next : ℕ) (x : Placed) : Type 0 where
+pub record MayBeMade (library : List Stored) (kinds : List Kinded) (params : List Param)
+    (cells : List ℕ) (next : ℕ) (x : Placed) : Type 0 where
   pub procedure : Stored
   pub at : slice_get library x.procedure ≡ Some procedure
   pub count : length x.inputs.items ≡ length procedure.ins
   pub small : All (λ place. next + (place - length cells) < 2 ^ 64) (cells_of x)
   pub below : All (λ cell. cell < length kinds) (cells_made cells next x)
-  pub right : kinds_fit procedure kinds (option_and_then sides_of (param_at params x.param)) (cells_made cells next x) ≡ true
+  pub right : kinds_fit procedure kinds (option_and_then sides_of (param_at params x.param))
+      (cells_made cells next x) ≡ true
   pub takes : is_none (fitting_param procedure.need (param_at params x.param)) ≡ false
 
 -- the instance that is made
 abbrev pub made_of : List Stored → List Param → List ℕ → ℕ → Placed → Instance
 made_of library params cells next x = record {
   procedure = x.procedure;
-  param = unwrap_or (option_and_then (λ p. fitting_param p.need (param_at params x.param)) (slice_get library x.procedure)) Plain;
+  param = unwrap_or (option_and_then (λ p. fitting_param p.need (param_at params x.param))
+      (slice_get library x.procedure)) Plain;
   inputs = map (cell_placed cells next) x.inputs.items;
   output = cell_placed cells next x.output;
 }
 
 -- the data with fresh cells, of which nothing is known
 abbrev pub with_fresh_cells : Data → List Kinded → Data
-with_fresh_cells d fresh = record d { kinds = d.kinds ++ fresh; contents = d.contents ++ map (λ k. []) fresh }
+with_fresh_cells d fresh = record d {
+  kinds = d.kinds ++ fresh;
+  contents = d.contents ++ map (λ k. []) fresh;
+}
 
 -- the data with all that the use stands for
 abbrev pub with_flat : List Stored → Data → List ℕ → Flat → Data
@@ -53,9 +62,12 @@ with_flat library d cells flat = record d {
   kinds = d.kinds ++ flat.fresh.items;
   contents = d.contents ++ map (λ k. []) flat.fresh.items;
   params = d.params ++ flat.params.items;
-  instances = d.instances ++ map (made_of library flat.params.items cells (length d.kinds)) flat.instances.items;
+  instances = d.instances ++ map (made_of library flat.params.items cells (length d.kinds))
+      flat.instances.items;
 }
 
 -- each of its instances may be made, once its fresh cells are
 abbrev pub MayMake : List Stored → Data → List ℕ → Flat → Type 0
-MayMake library d cells flat = All (MayBeMade library (d.kinds ++ flat.fresh.items) flat.params.items cells (length d.kinds)) flat.instances.items
+MayMake library d cells flat =
+    All (MayBeMade library (d.kinds ++ flat.fresh.items) flat.params.items cells (length d.kinds))
+    flat.instances.items

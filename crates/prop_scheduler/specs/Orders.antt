@@ -22,4 +22,5 @@ mixed_place n waiting = n / 2 ^ 33 % waiting
 
 -- any of them, by a row of numbers
 abbrev pub picks_mixed : Mixed → ℕ → ℕ → Mixed → Type 0
-picks_mixed old waiting place new = (new.number ≡ mixed_after old.number) × (place ≡ mixed_place new.number waiting)
+picks_mixed old waiting place new = (new.number ≡ mixed_after old.number)
+    × (place ≡ mixed_place new.number waiting)

@@ -18,9 +18,11 @@ input_places problem = flat_map (λ c. c.inputs) problem.constraints
 -- the waiting instances, and the ranks of what is believed at the input places
 abbrev pub potential : Problem → Assignment → List ℕ → ℕ
 potential problem believed waiting =
-    length waiting + sum_by (λ cell. rank_in (slice_get problem.cells cell) (believed cell)) (input_places problem)
+    length waiting + sum_by (λ cell. rank_in (slice_get problem.cells cell) (believed cell))
+    (input_places problem)
 
 -- no potential of the problem is larger: every instance waits, and nothing is believed
 abbrev pub most_steps : Problem → ℕ
 most_steps problem =
-    length problem.constraints + sum_by (λ cell. rank_in (slice_get problem.cells cell) Nothing) (input_places problem)
+    length problem.constraints + sum_by (λ cell. rank_in (slice_get problem.cells cell) Nothing)
+    (input_places problem)

@@ -1,5 +1,8 @@
-//! Making what a use stands for in a network: fresh cells, parameters and instances, which wait. All of them are made or none.
-ghost use Rattle.std.specs.Prelude.{◌≡◌, ◌≤◌, ◌<◌, ◌^◌, ◌+◌, ◌-◌, ◌++◌, ◌∷◌, [], ◌⊎◌, ℕ, List, All, Contains, None, Some, drop, length, map, IfOk, IfErr, OnOk, OnErr};
+//! Making what a use stands for in a network: fresh cells, parameters and instances, which wait.
+//! All of them are made or none.
+ghost use Rattle.std.specs.Prelude.{◌≡◌, ◌≤◌, ◌<◌, ◌^◌, ◌+◌, ◌-◌, ◌++◌, ◌∷◌, [], ◌⊎◌, ℕ, List, All};
+ghost use Rattle.std.specs.Prelude.{Contains, None, Some, drop, length, map, IfOk, IfErr, OnOk};
+ghost use Rattle.std.specs.Prelude.{OnErr};
 ghost use Rattle.prop_refusals.specs.Refusals.{most};
 ghost use Rattle.prop_refusals.specs.declared.refusal.Limit.TheVariants.{Cells, Instances};
 ghost use Rattle.prop_procedures.specs.Flats.{cell_placed};
@@ -8,7 +11,8 @@ ghost use Rattle.prop_cells.specs.Data.{Data as Held, IsKept, IsWellMade};
 ghost use Rattle.prop_cells.specs.Problems.{Premises};
 ghost use Rattle.prop_cells.specs.inner.Back.{GoesBackTo};
 ghost use Rattle.prop_cells.specs.Refusing.{cell_refusal};
-ghost use Rattle.prop_scheduler.specs.Making.{room_refusal, made_of, with_fresh_cells, with_flat, MayBeMade, MayMake};
+ghost use Rattle.prop_scheduler.specs.Making.{room_refusal, made_of, with_fresh_cells, with_flat};
+ghost use Rattle.prop_scheduler.specs.Making.{MayBeMade, MayMake};
 ghost use Rattle.prop_scheduler.specs.inner.Making.{param_number};
 ghost use Rattle.prop_scheduler.specs.Shifts.{IsBehind, AreStirred};
 ghost use Rattle.prop_scheduler.specs.Turns.{IsUnderWay};
@@ -29,13 +33,19 @@ pub fn new_cell<R: Rule + Drop>(
     requires kept { IsKept (stored_of R.value_of network.old.library) network.old.cells }
     ensures same { network.new.library ≡ network.old.library }
     ensures line { agenda.new.line ≡ agenda.old.line }
-    ensures under_way { (s : Premises) → IsUnderWay (stored_of R.value_of network.old.library) s network.old.cells agenda.old.line → IsUnderWay (stored_of R.value_of network.new.library) s network.new.cells agenda.new.line }
-    ensures watched { (s : Premises) → IsWatched s network.old.cells agenda.old.watched → IsWatched s network.new.cells agenda.new.watched }
+    ensures under_way { (s : Premises)
+        → IsUnderWay (stored_of R.value_of network.old.library) s network.old.cells agenda.old.line
+        → IsUnderWay (stored_of R.value_of network.new.library) s network.new.cells
+        agenda.new.line }
+    ensures watched { (s : Premises) → IsWatched s network.old.cells agenda.old.watched
+        → IsWatched s network.new.cells agenda.new.watched }
     ensures room { agenda.new.room ≡ agenda.old.room }
-    ensures cells { length network.old.cells.kinds ≤ agenda.old.cells → length network.new.cells.kinds ≤ agenda.new.cells }
+    ensures cells { length network.old.cells.kinds ≤ agenda.old.cells
+        → length network.new.cells.kinds ≤ agenda.new.cells }
     ensures fits { OnOk result (cell_refusal network.old.cells ≡ None) }
     ensures ok { OnOk result (network.new.cells ≡ with_fresh_cells network.old.cells (kind ∷ [])) }
-    ensures err { IfErr result (λ e. (cell_refusal network.old.cells ≡ Some e) ⊎ (e ≡ Refusal.Memory)) }
+    ensures err { IfErr result (λ e. (cell_refusal network.old.cells ≡ Some e)
+        ⊎ (e ≡ Refusal.Memory)) }
     ensures err_same { OnErr result (network.new.cells ≡ network.old.cells) }
 {
     room_for_cell(network, agenda)?;
@@ -43,13 +53,15 @@ pub fn new_cell<R: Rule + Drop>(
     network.new_cell(kind, size)
 }
 
-/// Makes room to watch one more cell, where there can be one more. Refused with 90, it changes nothing.
+/// Makes room to watch one more cell, where there can be one more. Refused with 90, it changes
+/// nothing.
 fn room_for_cell<R: Rule + Drop>(network: &Network<R>, agenda: &mut Agenda) -> Result<(), Refusal>
     ensures line { agenda.new.line ≡ agenda.old.line }
     ensures room { agenda.new.room ≡ agenda.old.room }
     ensures watched { agenda.new.watched ≡ agenda.old.watched }
     ensures more { agenda.old.cells ≤ agenda.new.cells }
-    ensures cells { OnOk result (length network.now.cells.kinds < most Cells → length network.now.cells.kinds + 1 ≤ agenda.new.cells) }
+    ensures cells { OnOk result (length network.now.cells.kinds < most Cells
+        → length network.now.cells.kinds + 1 ≤ agenda.new.cells) }
     ensures err { IfErr result (λ e. e ≡ Refusal.Memory) }
 {
     let count = network.cells();
@@ -68,7 +80,8 @@ struct Base {
     instance: usize,
 }
 
-/// The number of the cell at a place: these cells have the first places, and the fresh ones, numbered from `next` on, those behind.
+/// The number of the cell at a place: these cells have the first places, and the fresh ones,
+/// numbered from `next` on, those behind.
 fn cell_placed(cells: &[usize], next: usize, place: usize) -> usize
     requires { next + (place - length cells.now) < 2 ^ 64 }
     ensures { result ≡ cell_placed cells.now next place }
@@ -97,7 +110,8 @@ fn cells_placed(
     Ok(numbers)
 }
 
-/// The number of the parameter at a place, where there are `count` and those of the use begin with `first`.
+/// The number of the parameter at a place, where there are `count` and those of the use begin with
+/// `first`.
 fn param_number(first: usize, count: usize, place: Option<usize>) -> Option<usize>
     requires { first ≤ count }
     ensures { result ≡ param_number first count place }
@@ -116,7 +130,8 @@ fn make_cells<R: Rule + Drop>(network: &mut Network<R>, fresh: &[Kinded]) -> Res
     ensures kept { IsKept (stored_of R.value_of network.new.library) network.new.cells }
     ensures ok { OnOk result (network.new.cells ≡ with_fresh_cells network.old.cells fresh.now) }
     ensures err { IfErr result (λ e. e ≡ Refusal.Memory) }
-    ensures back { (before : Held) → IsWellMade before → GoesBackTo before network.old.cells → GoesBackTo before network.new.cells }
+    ensures back { (before : Held) → IsWellMade before → GoesBackTo before network.old.cells
+        → GoesBackTo before network.new.cells }
 {
     for kind in fresh {
         network.new_cell(kind.kind, kind.size)?;
@@ -129,9 +144,11 @@ fn add_params<R: Rule + Drop>(network: &mut Network<R>, params: Vec<Param>) -> R
     requires kept { IsKept (stored_of R.value_of network.old.library) network.old.cells }
     ensures same { network.new.library ≡ network.old.library }
     ensures kept { IsKept (stored_of R.value_of network.new.library) network.new.cells }
-    ensures ok { OnOk result (network.new.cells ≡ record network.old.cells { params = network.old.cells.params ++ params.items }) }
+    ensures ok { OnOk result (network.new.cells
+        ≡ record network.old.cells { params = network.old.cells.params ++ params.items }) }
     ensures err { IfErr result (λ e. e ≡ Refusal.Memory) }
-    ensures back { (before : Held) → GoesBackTo before network.old.cells → GoesBackTo before network.new.cells }
+    ensures back { (before : Held) → GoesBackTo before network.old.cells
+        → GoesBackTo before network.new.cells }
 {
     for param in params {
         network.add_param(param)?;
@@ -149,11 +166,17 @@ fn make_instance<R: Rule + Drop>(
 ) -> Result<(), Refusal>
     requires kept { IsKept (stored_of R.value_of network.old.library) network.old.cells }
     requires params { base.param ≤ length network.old.cells.params }
-    requires may { MayBeMade (stored_of R.value_of network.old.library) network.old.cells.kinds (drop base.param network.old.cells.params) cells.now base.cell x.now }
+    requires may { MayBeMade (stored_of R.value_of network.old.library) network.old.cells.kinds
+        (drop base.param network.old.cells.params) cells.now base.cell x.now }
     requires room { length network.old.cells.instances < most Instances }
     ensures same { network.new.library ≡ network.old.library }
     ensures kept { IsKept (stored_of R.value_of network.new.library) network.new.cells }
-    ensures ok { OnOk result (network.new.cells ≡ record network.old.cells { instances = network.old.cells.instances ++ made_of (stored_of R.value_of network.old.library) (drop base.param network.old.cells.params) cells.now base.cell x.now ∷ [] }) }
+    ensures ok { OnOk result (network.new.cells
+        ≡ record network.old.cells {
+          instances = network.old.cells.instances ++ made_of
+              (stored_of R.value_of network.old.library) (drop base.param network.old.cells.params)
+              cells.now base.cell x.now ∷ [];
+        }) }
     ensures err { IfErr result (λ e. e ≡ Refusal.Memory) }
     ensures err_same { OnErr result (network.new.cells ≡ network.old.cells) }
 {
@@ -175,13 +198,20 @@ fn make_instances<R: Rule + Drop>(
 ) -> Result<(), Refusal>
     requires kept { IsKept (stored_of R.value_of network.old.library) network.old.cells }
     requires params { base.param ≤ length network.old.cells.params }
-    requires may { All (MayBeMade (stored_of R.value_of network.old.library) network.old.cells.kinds (drop base.param network.old.cells.params) cells.now base.cell) instances.now }
+    requires may { All (MayBeMade (stored_of R.value_of network.old.library) network.old.cells.kinds
+        (drop base.param network.old.cells.params) cells.now base.cell) instances.now }
     requires room { length network.old.cells.instances + length instances.now ≤ most Instances }
     ensures same { network.new.library ≡ network.old.library }
     ensures kept { IsKept (stored_of R.value_of network.new.library) network.new.cells }
-    ensures ok { OnOk result (network.new.cells ≡ record network.old.cells { instances = network.old.cells.instances ++ map (made_of (stored_of R.value_of network.old.library) (drop base.param network.old.cells.params) cells.now base.cell) instances.now }) }
+    ensures ok { OnOk result (network.new.cells
+        ≡ record network.old.cells {
+          instances = network.old.cells.instances ++ map
+              (made_of (stored_of R.value_of network.old.library)
+              (drop base.param network.old.cells.params) cells.now base.cell) instances.now;
+        }) }
     ensures err { IfErr result (λ e. e ≡ Refusal.Memory) }
-    ensures back { (before : Held) → GoesBackTo before network.old.cells → GoesBackTo before network.new.cells }
+    ensures back { (before : Held) → GoesBackTo before network.old.cells
+        → GoesBackTo before network.new.cells }
 {
     for x in instances {
         make_instance(alloc, network, cells, base, x)?;
@@ -189,7 +219,8 @@ fn make_instances<R: Rule + Drop>(
     Ok(())
 }
 
-/// Makes the cells, the parameters and the instances of a use, up to the first for which memory is refused.
+/// Makes the cells, the parameters and the instances of a use, up to the first for which memory is
+/// refused.
 fn make_some<R: Rule + Drop>(
     alloc: Global,
     network: &mut Network<R>,
@@ -200,12 +231,15 @@ fn make_some<R: Rule + Drop>(
     requires kept { IsKept (stored_of R.value_of network.old.library) network.old.cells }
     requires cell { base.cell ≡ length network.old.cells.kinds }
     requires param { base.param ≡ length network.old.cells.params }
-    requires may { MayMake (stored_of R.value_of network.old.library) network.old.cells cells.now flat }
+    requires may { MayMake (stored_of R.value_of network.old.library) network.old.cells cells.now
+        flat }
     requires few_cells { length network.old.cells.kinds + length flat.fresh.items ≤ most Cells }
-    requires few_instances { length network.old.cells.instances + length flat.instances.items ≤ most Instances }
+    requires few_instances { length network.old.cells.instances + length flat.instances.items ≤ most
+        Instances }
     ensures same { network.new.library ≡ network.old.library }
     ensures kept { IsKept (stored_of R.value_of network.new.library) network.new.cells }
-    ensures ok { OnOk result (network.new.cells ≡ with_flat (stored_of R.value_of network.old.library) network.old.cells cells.now flat) }
+    ensures ok { OnOk result (network.new.cells ≡ with_flat
+        (stored_of R.value_of network.old.library) network.old.cells cells.now flat) }
     ensures err { IfErr result (λ e. e ≡ Refusal.Memory) }
     ensures back { GoesBackTo network.old.cells network.new.cells }
 {
@@ -230,7 +264,8 @@ fn make_some<R: Rule + Drop>(
     made
 }
 
-/// Makes what a use on these cells stands for, for which there is room. Refused with 90, it makes nothing.
+/// Makes what a use on these cells stands for, for which there is room. Refused with 90, it makes
+/// nothing.
 fn make_all<R: Rule + Drop>(
     alloc: Global,
     network: &mut Network<R>,
@@ -238,12 +273,15 @@ fn make_all<R: Rule + Drop>(
     flat: Flat,
 ) -> Result<(), Refusal>
     requires kept { IsKept (stored_of R.value_of network.old.library) network.old.cells }
-    requires may { MayMake (stored_of R.value_of network.old.library) network.old.cells cells.now flat }
+    requires may { MayMake (stored_of R.value_of network.old.library) network.old.cells cells.now
+        flat }
     requires few_cells { length network.old.cells.kinds + length flat.fresh.items ≤ most Cells }
-    requires few_instances { length network.old.cells.instances + length flat.instances.items ≤ most Instances }
+    requires few_instances { length network.old.cells.instances + length flat.instances.items ≤ most
+        Instances }
     ensures same { network.new.library ≡ network.old.library }
     ensures kept { IsKept (stored_of R.value_of network.new.library) network.new.cells }
-    ensures ok { OnOk result (network.new.cells ≡ with_flat (stored_of R.value_of network.old.library) network.old.cells cells.now flat) }
+    ensures ok { OnOk result (network.new.cells ≡ with_flat
+        (stored_of R.value_of network.old.library) network.old.cells cells.now flat) }
     ensures err { IfErr result (λ e. e ≡ Refusal.Memory) }
     ensures err_same { OnErr result (network.new.cells ≡ network.old.cells) }
 {
@@ -267,7 +305,8 @@ fn alert_between(agenda: &mut Agenda, first: usize, end: usize)
     ensures behind { IsBehind (λ i. first ≤ i) agenda.old.line agenda.new.line }
     ensures before { (i : ℕ) → Contains agenda.old.line i → Contains agenda.new.line i }
     ensures alerted { (i : ℕ) → first ≤ i → i < end → Contains agenda.new.line i }
-    ensures below { (n : ℕ) → end ≤ n → All (λ i. i < n) agenda.old.line → All (λ i. i < n) agenda.new.line }
+    ensures below { (n : ℕ) → end ≤ n → All (λ i. i < n) agenda.old.line
+        → All (λ i. i < n) agenda.new.line }
     ensures room { agenda.new.room ≡ agenda.old.room }
     ensures watched { agenda.new.watched ≡ agenda.old.watched }
     ensures cells { agenda.new.cells ≡ agenda.old.cells }
@@ -287,10 +326,17 @@ fn make_room<R: Rule + Drop>(
     ensures more { agenda.old.room ≤ agenda.new.room }
     ensures watched { agenda.new.watched ≡ agenda.old.watched }
     ensures more_cells { agenda.old.cells ≤ agenda.new.cells }
-    ensures cells { OnOk result (length network.now.cells.kinds + length flat.now.fresh.items ≤ agenda.new.cells) }
-    ensures room { OnOk result (length network.now.cells.instances + length flat.now.instances.items ≤ agenda.new.room) }
-    ensures fits { OnOk result (room_refusal (length network.now.cells.kinds + length flat.now.fresh.items) (length network.now.cells.instances + length flat.now.instances.items) ≡ None) }
-    ensures err { IfErr result (λ e. (room_refusal (length network.now.cells.kinds + length flat.now.fresh.items) (length network.now.cells.instances + length flat.now.instances.items) ≡ Some e) ⊎ (e ≡ Refusal.Memory)) }
+    ensures cells { OnOk result (length network.now.cells.kinds + length
+        flat.now.fresh.items ≤ agenda.new.cells) }
+    ensures room { OnOk result (length network.now.cells.instances + length
+        flat.now.instances.items ≤ agenda.new.room) }
+    ensures fits { OnOk result (room_refusal
+        (length network.now.cells.kinds + length flat.now.fresh.items)
+        (length network.now.cells.instances + length flat.now.instances.items) ≡ None) }
+    ensures err { IfErr result (λ e.
+        (room_refusal (length network.now.cells.kinds + length flat.now.fresh.items)
+        (length network.now.cells.instances + length flat.now.instances.items) ≡ Some e)
+        ⊎ (e ≡ Refusal.Memory)) }
 {
     let cells = network.cells().saturating_add(flat.fresh.len());
     if cells > Limit::Cells.most() {
@@ -306,8 +352,8 @@ fn make_room<R: Rule + Drop>(
     Ok(())
 }
 
-/// Makes what a use on these cells stands for, and its instances wait. Refused, it makes nothing: with 16 for more cells or instances
-/// than there can be, with 90.
+/// Makes what a use on these cells stands for, and its instances wait. Refused, it makes nothing:
+/// with 16 for more cells or instances than there can be, with 90.
 pub fn make<R: Rule + Drop>(
     alloc: Global,
     network: &mut Network<R>,
@@ -316,17 +362,32 @@ pub fn make<R: Rule + Drop>(
     flat: Flat,
 ) -> Result<(), Refusal>
     requires kept { IsKept (stored_of R.value_of network.old.library) network.old.cells }
-    requires may { length network.old.cells.kinds + length flat.fresh.items ≤ most Cells → MayMake (stored_of R.value_of network.old.library) network.old.cells cells.now flat }
+    requires may { length network.old.cells.kinds + length flat.fresh.items ≤ most Cells
+        → MayMake (stored_of R.value_of network.old.library) network.old.cells cells.now flat }
     ensures same { network.new.library ≡ network.old.library }
-    ensures under_way { (s : Premises) → IsUnderWay (stored_of R.value_of network.old.library) s network.old.cells agenda.old.line → IsUnderWay (stored_of R.value_of network.new.library) s network.new.cells agenda.new.line }
-    ensures watched { (s : Premises) → IsWatched s network.old.cells agenda.old.watched → IsWatched s network.new.cells agenda.new.watched }
-    ensures room { length network.old.cells.instances ≤ agenda.old.room → length network.new.cells.instances ≤ agenda.new.room }
-    ensures cells { length network.old.cells.kinds ≤ agenda.old.cells → length network.new.cells.kinds ≤ agenda.new.cells }
-    ensures fits { OnOk result (room_refusal (length network.old.cells.kinds + length flat.fresh.items) (length network.old.cells.instances + length flat.instances.items) ≡ None) }
-    ensures ok { OnOk result (network.new.cells ≡ with_flat (stored_of R.value_of network.old.library) network.old.cells cells.now flat) }
-    ensures err { IfErr result (λ e. (room_refusal (length network.old.cells.kinds + length flat.fresh.items) (length network.old.cells.instances + length flat.instances.items) ≡ Some e) ⊎ (e ≡ Refusal.Memory)) }
+    ensures under_way { (s : Premises)
+        → IsUnderWay (stored_of R.value_of network.old.library) s network.old.cells agenda.old.line
+        → IsUnderWay (stored_of R.value_of network.new.library) s network.new.cells
+        agenda.new.line }
+    ensures watched { (s : Premises) → IsWatched s network.old.cells agenda.old.watched
+        → IsWatched s network.new.cells agenda.new.watched }
+    ensures room { length network.old.cells.instances ≤ agenda.old.room
+        → length network.new.cells.instances ≤ agenda.new.room }
+    ensures cells { length network.old.cells.kinds ≤ agenda.old.cells
+        → length network.new.cells.kinds ≤ agenda.new.cells }
+    ensures fits { OnOk result (room_refusal
+        (length network.old.cells.kinds + length flat.fresh.items)
+        (length network.old.cells.instances + length flat.instances.items) ≡ None) }
+    ensures ok { OnOk result (network.new.cells ≡ with_flat
+        (stored_of R.value_of network.old.library) network.old.cells cells.now flat) }
+    ensures err { IfErr result (λ e.
+        (room_refusal (length network.old.cells.kinds + length flat.fresh.items)
+        (length network.old.cells.instances + length flat.instances.items) ≡ Some e)
+        ⊎ (e ≡ Refusal.Memory)) }
     ensures err_same { OnErr result (network.new.cells ≡ network.old.cells) }
-    ensures stirred { OnOk result ((s t : Premises) → AreStirred s t network.old.cells network.new.cells agenda.old.line agenda.new.line) }
+    ensures stirred { OnOk result
+        ((s t : Premises) → AreStirred s t network.old.cells network.new.cells agenda.old.line
+        agenda.new.line) }
     ensures err_line { OnErr result (agenda.new.line ≡ agenda.old.line) }
 {
     if let Err(refusal) = make_room(network, agenda, &flat) {

@@ -1,8 +1,11 @@
 //! Numbers in a queue, each at most once.
-ghost use Rattle.std.specs.Prelude.{◌≡◌, ◌↔◌, ℕ, ◌<◌, ◌≤◌, max, List, [], length, OnOk, OnErr, OnSome, IfSome, IsSome, All, slice_get, slice_index_or, remove, Some};
+ghost use Rattle.std.specs.Prelude.{◌≡◌, ◌↔◌, ℕ, ◌<◌, ◌≤◌, max, List, [], length, OnOk, OnErr};
+ghost use Rattle.std.specs.Prelude.{OnSome, IfSome, IsSome, All, slice_get, slice_index_or, remove};
+ghost use Rattle.std.specs.Prelude.{Some};
 ghost use Rattle.std.specs.VecDeque.{deque_capacity};
 ghost use Rattle.prop_scheduler.specs.inner.Agendas.{Queued, IsFlagged};
-ghost use Rattle.prop_scheduler.specs.Agendas.{Alerted, AllAlerted, FirstAlerted, all_alerted, numbers_below, IsLine};
+ghost use Rattle.prop_scheduler.specs.Agendas.{Alerted, AllAlerted, FirstAlerted, all_alerted};
+ghost use Rattle.prop_scheduler.specs.Agendas.{numbers_below, IsLine};
 
 use std::alloc::{AllocError, Global};
 use std::collections::VecDeque;
@@ -23,7 +26,8 @@ impl Model for Queue {
     ghost invariant = { λ a. IsFlagged a.line.items a.flags.items (deque_capacity a.line) };
 }
 
-/// The number at a place leaves the line. The first one, which leaves most often, is taken off its front.
+/// The number at a place leaves the line. The first one, which leaves most often, is taken off its
+/// front.
 #[inline]
 fn leave(line: &mut VecDeque<usize>, place: usize) -> Option<usize>
     ensures value { IfSome result (λ n. n ≡ slice_index_or line.old.items place n) }
@@ -75,7 +79,8 @@ impl Queue {
         }
     }
 
-    /// Makes room for the numbers below this one, those that have some included. Refused memory changes nothing.
+    /// Makes room for the numbers below this one, those that have some included. Refused memory
+    /// changes nothing.
     pub(crate) fn room(&mut self, count: usize) -> Result<(), AllocError>
         ensures ok { OnOk result (self.new ≡ record self.old { room = max self.old.room count }) }
         ensures err { OnErr result (self.new ≡ self.old) }
@@ -88,7 +93,8 @@ impl Queue {
         Ok(())
     }
 
-    /// The number is queued: it keeps its place where it has one, and else it is the last. It takes no memory.
+    /// The number is queued: it keeps its place where it has one, and else it is the last. It takes
+    /// no memory.
     pub(crate) fn join(&mut self, number: usize)
         requires { number < self.old.room }
         ensures alerted { Alerted self.old.line self.new.line number }

@@ -14,14 +14,17 @@ use prop_cells::Network;
 use prop_premises::Worldview;
 use prop_procedures::Rule;
 
-/// Every instance waits and every cell is watched, so the network is under way in whatever worldview. It takes no memory.
+/// Every instance waits and every cell is watched, so the network is under way in whatever
+/// worldview. It takes no memory.
 pub fn wake_all<R: Rule + Drop>(network: &Network<R>, agenda: &mut Agenda)
     requires kept { IsKept (stored_of R.value_of network.now.library) network.now.cells }
     requires line { All (λ j. j < length network.now.cells.instances) agenda.old.line }
     requires room { length network.now.cells.instances ≤ agenda.old.room }
     requires watched { All (λ cell. cell < length network.now.cells.kinds) agenda.old.watched }
     requires cells { length network.now.cells.kinds ≤ agenda.old.cells }
-    ensures under_way { (s : Premises) → IsUnderWay (stored_of R.value_of network.now.library) s network.now.cells agenda.new.line }
+    ensures under_way { (s : Premises)
+        → IsUnderWay (stored_of R.value_of network.now.library) s network.now.cells
+        agenda.new.line }
     ensures all { (j : ℕ) → j < length network.now.cells.instances → Contains agenda.new.line j }
     ensures watched { (s : Premises) → IsWatched s network.now.cells agenda.new.watched }
     ensures room { agenda.new.room ≡ agenda.old.room }
@@ -31,20 +34,24 @@ pub fn wake_all<R: Rule + Drop>(network: &Network<R>, agenda: &mut Agenda)
     agenda.watch_first(network.cells());
 }
 
-/// Each cell that the second worldview believes something else of than the first is watched, and its readers and writers wait, so a network that was
-/// under way in the first is so in the second. It takes no memory.
+/// Each cell that the second worldview believes something else of than the first is watched, and
+/// its readers and writers wait, so a network that was under way in the first is so in the second.
+/// It takes no memory.
 pub fn alert_shifted<R: Rule + Drop>(
     network: &Network<R>,
     agenda: &mut Agenda,
     before: &Worldview,
     after: &Worldview,
 )
-    requires under_way { IsUnderWay (stored_of R.value_of network.now.library) (set_of before.now) network.now.cells agenda.old.line }
+    requires under_way { IsUnderWay (stored_of R.value_of network.now.library) (set_of before.now)
+        network.now.cells agenda.old.line }
     requires room { length network.now.cells.instances ≤ agenda.old.room }
     requires watched { IsWatched (set_of before.now) network.now.cells agenda.old.watched }
     requires cells { length network.now.cells.kinds ≤ agenda.old.cells }
-    ensures under_way { IsUnderWay (stored_of R.value_of network.now.library) (set_of after.now) network.now.cells agenda.new.line }
-    ensures shifted { AreShifted (set_of before.now) (set_of after.now) network.now.cells (length network.now.cells.kinds) agenda.old.line agenda.new.line }
+    ensures under_way { IsUnderWay (stored_of R.value_of network.now.library) (set_of after.now)
+        network.now.cells agenda.new.line }
+    ensures shifted { AreShifted (set_of before.now) (set_of after.now) network.now.cells
+        (length network.now.cells.kinds) agenda.old.line agenda.new.line }
     ensures watched { IsWatched (set_of after.now) network.now.cells agenda.new.watched }
     ensures room { agenda.new.room ≡ agenda.old.room }
     ensures cells { agenda.new.cells ≡ agenda.old.cells }

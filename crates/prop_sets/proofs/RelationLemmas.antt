@@ -15,14 +15,17 @@ whole_from_tied m columns t = record {
 }
 
 -- what is a pair of the one is a bit of the other
-bit_from_same : (m n : Relation) → IsWhole m → ((i j : ℕ) → HasPair m i j → HasPair n i j) → (i j : ℕ) → bit_at (get_or m.rows i 0) j ≡ 1 → bit_at (get_or n.rows i 0) j ≡ 1
+bit_from_same : (m n : Relation) → IsWhole m → ((i j : ℕ) → HasPair m i j → HasPair n i j) → (i j : ℕ)
+    → bit_at (get_or m.rows i 0) j ≡ 1 → bit_at (get_or n.rows i 0) j ≡ 1
 bit_from_same m n w h i j b =
     let within = word_within m.rows i j b in
     (h i j (record { first = omega (arith, w.each_has_one); second = w.in_range i j b; partners = b })).partners
 
-same_rows : (m n : Relation) → IsWhole m → IsWhole n → m.from ≡ n.from → ((i j : ℕ) → HasPair m i j ↔ HasPair n i j) → m.rows ≡ n.rows
+same_rows : (m n : Relation) → IsWhole m → IsWhole n → m.from ≡ n.from → ((i j : ℕ) → HasPair m i j ↔ HasPair n i j)
+    → m.rows ≡ n.rows
 same_rows m n v w e h =
-    same_number_lists m.rows n.rows (v.each_has_one ∙ ap (λ s. s.size) e ∙ sym w.each_has_one) (λ k l. same_parts _ _ (bit_from_same n m w (λ i j. (h i j).1) k) (bit_from_same m n v (λ i j. (h i j).0) k))
+    same_number_lists m.rows n.rows (v.each_has_one ∙ ap (λ s. s.size) e ∙ sym w.each_has_one)
+    (λ k l. same_parts _ _ (bit_from_same n m w (λ i j. (h i j).1) k) (bit_from_same m n v (λ i j. (h i j).0) k))
 
 pub same_pairs : SamePairsAreOne
 same_pairs m n v w e f h =

@@ -12,7 +12,8 @@ pick a b (suc t) = b
 abbrev pub bits_of : Bool → Bool → ℕ
 bits_of a b = cond a 1 0 + 2 * cond b 1 0
 
-and-bits_at : (a b c d : Bool) → outputs_of (is_and) (pick a b) (pick c d) ≡ bits_of (a && c) ((b && (c || d)) || (a && d))
+and-bits_at : (a b c d : Bool) → outputs_of (is_and) (pick a b) (pick c d) ≡ bits_of (a && c)
+    ((b && (c || d)) || (a && d))
 unfolding bits_where any_below
 and-bits_at true true true true = refl
 and-bits_at true true true false = refl
@@ -35,7 +36,8 @@ pub and-bits : (x y : ℕ → Bool) → outputs_of (is_and) x y ≡ bits_of (x 0
 unfolding bits_where any_below
 and-bits x y = and-bits_at (x 0) (x 1) (y 0) (y 1)
 
-and_back-bits_at : (a b c d : Bool) → outputs_of (λ z y x. is_and x y z) (pick a b) (pick c d) ≡ bits_of ((a && c) || (b && d)) (b && (c || d))
+and_back-bits_at : (a b c d : Bool) → outputs_of (λ z y x. is_and x y z) (pick a b) (pick c d) ≡ bits_of
+    ((a && c) || (b && d)) (b && (c || d))
 unfolding bits_where any_below
 and_back-bits_at true true true true = refl
 and_back-bits_at true true true false = refl
@@ -54,11 +56,13 @@ and_back-bits_at false false true false = refl
 and_back-bits_at false false false true = refl
 and_back-bits_at false false false false = refl
 
-pub and_back-bits : (x y : ℕ → Bool) → outputs_of (λ z y x. is_and x y z) x y ≡ bits_of ((x 0 && y 0) || (x 1 && y 1)) (x 1 && (y 0 || y 1))
+pub and_back-bits : (x y : ℕ → Bool)
+    → outputs_of (λ z y x. is_and x y z) x y ≡ bits_of ((x 0 && y 0) || (x 1 && y 1)) (x 1 && (y 0 || y 1))
 unfolding bits_where any_below
 and_back-bits x y = and_back-bits_at (x 0) (x 1) (y 0) (y 1)
 
-or-bits_at : (a b c d : Bool) → outputs_of (is_or) (pick a b) (pick c d) ≡ bits_of ((a && (c || d)) || (b && c)) (b && d)
+or-bits_at : (a b c d : Bool) → outputs_of (is_or) (pick a b) (pick c d) ≡ bits_of ((a && (c || d)) || (b && c))
+    (b && d)
 unfolding bits_where any_below
 or-bits_at true true true true = refl
 or-bits_at true true true false = refl
@@ -81,7 +85,8 @@ pub or-bits : (x y : ℕ → Bool) → outputs_of (is_or) x y ≡ bits_of ((x 0 
 unfolding bits_where any_below
 or-bits x y = or-bits_at (x 0) (x 1) (y 0) (y 1)
 
-or_back-bits_at : (a b c d : Bool) → outputs_of (λ z y x. is_or x y z) (pick a b) (pick c d) ≡ bits_of (a && (c || d)) ((a && c) || (b && d))
+or_back-bits_at : (a b c d : Bool) → outputs_of (λ z y x. is_or x y z) (pick a b) (pick c d) ≡ bits_of (a && (c || d))
+    ((a && c) || (b && d))
 unfolding bits_where any_below
 or_back-bits_at true true true true = refl
 or_back-bits_at true true true false = refl
@@ -100,7 +105,8 @@ or_back-bits_at false false true false = refl
 or_back-bits_at false false false true = refl
 or_back-bits_at false false false false = refl
 
-pub or_back-bits : (x y : ℕ → Bool) → outputs_of (λ z y x. is_or x y z) x y ≡ bits_of (x 0 && (y 0 || y 1)) ((x 0 && y 0) || (x 1 && y 1))
+pub or_back-bits : (x y : ℕ → Bool) → outputs_of (λ z y x. is_or x y z) x y ≡ bits_of (x 0 && (y 0 || y 1))
+    ((x 0 && y 0) || (x 1 && y 1))
 unfolding bits_where any_below
 or_back-bits x y = or_back-bits_at (x 0) (x 1) (y 0) (y 1)
 

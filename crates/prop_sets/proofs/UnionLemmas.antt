@@ -3,7 +3,8 @@ use Rattle.std.proofs.Common.{◌≡◌, ◌≢◌, ℕ, ◌*◌, ◌%◌, ◌^�
 use Rattle.std.specs.Int.{bit_at, bit_not, w64, trailing_zeros}
 use Rattle.std.proofs.lemmas.Bool.{cases_eq, cases_lt}
 use Rattle.std.proofs.lemmas.Nat.{and_le_l}
-use Rattle.std.proofs.lemmas.Nat.Bits.{bit_at-zero, bit_at-lt, bit_at_above, bit_at_and, bit_at_or, bit_at_clear_same, bit_at_clear_other, bit_at-trailing_zeros}
+use Rattle.std.proofs.lemmas.Nat.Bits.{bit_at-zero, bit_at-lt, bit_at_above, bit_at_and, bit_at_or, bit_at_clear_same}
+use Rattle.std.proofs.lemmas.Nat.Bits.{bit_at_clear_other, bit_at-trailing_zeros}
 use Rattle.prop_lattice.specs.laws.Parts.{HasBitsOf}
 use Rattle.prop_lattice.specs.Ends.{elements_from}
 use Rattle.prop_lattice.specs.declared.elements.Elements as sets
@@ -15,7 +16,8 @@ use Rattle.prop_sets.specs.inner.Words.{IsUnionOf}
 pub record IsUnionSoFar (words : List ℕ) (chosen union rest : ℕ) : Type 0 where
   pub within : HasBitsOf chosen rest
   pub from_words : (j : ℕ) → bit_at union j ≡ 1 → (i : ℕ) × ((bit_at chosen i ≡ 1) × (bit_at (get_or words i 0) j ≡ 1))
-  pub from_each : (i j : ℕ) → bit_at chosen i ≡ 1 → bit_at (get_or words i 0) j ≡ 1 → (bit_at union j ≡ 1) ⊎ (bit_at rest i ≡ 1)
+  pub from_each : (i j : ℕ) → bit_at chosen i ≡ 1 → bit_at (get_or words i 0) j ≡ 1
+      → (bit_at union j ≡ 1) ⊎ (bit_at rest i ≡ 1)
 
 pub at_start : (words : List ℕ) (chosen : ℕ) → IsUnionSoFar words chosen 0 chosen
 at_start words chosen = record {
@@ -24,14 +26,17 @@ at_start words chosen = record {
   from_each = λ i j h k. inr h;
 }
 
-pub at_end : (words : List ℕ) (chosen union rest : ℕ) → rest ≡ 0 → IsUnionSoFar words chosen union rest → IsUnionOf words chosen union
+pub at_end : (words : List ℕ) (chosen union rest : ℕ) → rest ≡ 0 → IsUnionSoFar words chosen union rest
+    → IsUnionOf words chosen union
 at_end words chosen union rest e p = record {
   from_words = p.from_words;
-  from_each = λ i j h k. elim (p.from_each i j h k) [ inl here ↦ here | inr there ↦ absurd (omega (arith, bit_at-zero i, rw e at there)) ];
+  from_each = λ i j h k. elim (p.from_each i j h k)
+      [ inl here ↦ here | inr there ↦ absurd (omega (arith, bit_at-zero i, rw e at there)) ];
 }
 
 -- the number of the first word of the rest
-pub first_in : (rest : ℕ) → rest ≢ 0 → rest < 2 ^ 64 → (trailing_zeros w64 rest < 64) × (bit_at rest (trailing_zeros w64 rest) ≡ 1)
+pub first_in : (rest : ℕ) → rest ≢ 0 → rest < 2 ^ 64
+    → (trailing_zeros w64 rest < 64) × (bit_at rest (trailing_zeros w64 rest) ≡ 1)
 first_in rest some fits =
     let first = bit_at-trailing_zeros w64 rest (omega arith) fits in
     (first.0, first.1)
@@ -61,21 +66,32 @@ cleared-lt rest k l h = by (cases_eq (cleared rest k) rest)
     by (inr other) = omega (arith, and_le_l rest (bit_not w64 (1 * 2 ^ k % 2 ^ 64)))
 
 -- the word k joins the union
-pub joined : (words : List ℕ) (chosen union rest k word : ℕ) → rest < 2 ^ 64 → k < 64 → bit_at rest k ≡ 1 → word ≡ get_or words k 0 → IsUnionSoFar words chosen union rest → IsUnionSoFar words chosen (bit_or union word) (cleared rest k)
+pub joined : (words : List ℕ) (chosen union rest k word : ℕ) → rest < 2 ^ 64 → k < 64 → bit_at rest k ≡ 1
+    → word ≡ get_or words k 0 → IsUnionSoFar words chosen union rest
+    → IsUnionSoFar words chosen (bit_or union word) (cleared rest k)
 joined words chosen union rest k word fits l here is p = record {
   within = λ i h. p.within i (was rest k i h);
   from_words = from_words;
   from_each = λ i j h w. each i j h w (cases_eq i k);
 }
   where
-    from_words : (j : ℕ) → bit_at (bit_or union word) j ≡ 1 → (i : ℕ) × ((bit_at chosen i ≡ 1) × (bit_at (get_or words i 0) j ≡ 1))
+    from_words : (j : ℕ) → bit_at (bit_or union word) j ≡ 1
+        → (i : ℕ) × ((bit_at chosen i ≡ 1) × (bit_at (get_or words i 0) j ≡ 1))
     from_words j h = by (cases_eq (bit_at union j) 1)
       where
-        by : (bit_at union j ≡ 1) ⊎ (bit_at union j ≢ 1) → (i : ℕ) × ((bit_at chosen i ≡ 1) × (bit_at (get_or words i 0) j ≡ 1))
+        by : (bit_at union j ≡ 1) ⊎ (bit_at union j ≢ 1)
+            → (i : ℕ) × ((bit_at chosen i ≡ 1) × (bit_at (get_or words i 0) j ≡ 1))
         by (inl old) = p.from_words j old
-        by (inr new) = (k, (p.within k here, rw (← is) (omega (arith, bit_at_or union word j, h, bit_at-lt union j, bit_at-lt word j))))
+        by (inr new) = (
+          k,
+          (
+            p.within k here,
+            rw (← is) (omega (arith, bit_at_or union word j, h, bit_at-lt union j, bit_at-lt word j)),
+          ),
+        )
 
-    each : (i j : ℕ) → bit_at chosen i ≡ 1 → bit_at (get_or words i 0) j ≡ 1 → (i ≡ k) ⊎ (i ≢ k) → (bit_at (bit_or union word) j ≡ 1) ⊎ (bit_at (cleared rest k) i ≡ 1)
+    each : (i j : ℕ) → bit_at chosen i ≡ 1 → bit_at (get_or words i 0) j ≡ 1 → (i ≡ k) ⊎ (i ≢ k)
+        → (bit_at (bit_or union word) j ≡ 1) ⊎ (bit_at (cleared rest k) i ≡ 1)
     each i j h w (inl same) =
         let added : bit_at word j ≡ 1 = rw is (rw same at w) in
         inl (omega (arith, bit_at_or union word j, bit_at-lt union j))

@@ -1,9 +1,11 @@
 -- Relations between two domains, as sets of pairs.
-use Rattle.std.specs.Prelude.{◌≡◌, ℕ, ◌<◌, ◌^◌, List, length, slice_index, slice_set, bit_or, replicate, ◌↔◌, ◌⊎◌}
+use Rattle.std.specs.Prelude.{◌≡◌, ℕ, ◌<◌, ◌^◌, List, length, slice_index, slice_set, bit_or}
+use Rattle.std.specs.Prelude.{replicate, ◌↔◌, ◌⊎◌}
 use Rattle.std.specs.Int.{bit_at}
 use Rattle.prop_sets.specs.declared.side.Side as sides
 
--- the two domains, and for each element of the first a word with the bits of its partners in the second
+-- the two domains, and for each element of the first a word with the bits of its partners in the
+-- second
 pub record Relation : Type 0 where
   pub from : sides.Side
   pub to : sides.Side
@@ -15,7 +17,8 @@ pub record HasPair (m : Relation) (i j : ℕ) : Type 0 where
   pub second : j < m.to.size
   pub partners : bit_at (slice_index m.rows i) j ≡ 1
 
--- one word for each element of the first domain, and in it no bits but those of elements of the second
+-- one word for each element of the first domain, and in it no bits but those of elements of the
+-- second
 pub record IsWhole (m : Relation) : Type 0 where
   pub each_has_one : length m.rows ≡ m.from.size
   pub in_range : (i j : ℕ) → bit_at (slice_index m.rows i) j ≡ 1 → j < m.to.size

@@ -1,5 +1,6 @@
 -- Truth: the sets over the domain 0, of which element 0 is `yes` and element 1 is `no`.
-use Rattle.std.specs.Prelude.{◌≡◌, ◌≢◌, ◌↔◌, ◌⊎◌, ℕ, ◌<◌, Bool, true, false, not, ◌&&◌, ◌||◌, ◌==◌, if◌then◌else◌}
+use Rattle.std.specs.Prelude.{◌≡◌, ◌≢◌, ◌↔◌, ◌⊎◌, ℕ, ◌<◌, Bool, true, false, not, ◌&&◌, ◌||◌, ◌==◌}
+use Rattle.std.specs.Prelude.{if◌then◌else◌}
 use Rattle.prop_lattice.specs.Ends.{elements_from}
 use Rattle.prop_lattice.specs.Points.{Element, Holds}
 use Rattle.prop_lattice.specs.declared.info.Info.{Info}
@@ -56,7 +57,8 @@ abbrev pub outputs_of : (ℕ → ℕ → ℕ → Bool) → (ℕ → Bool) → (�
 outputs_of test x y =
     bits_where 2 (λ z. any_below 2 (λ a. any_below 2 (λ b. (x a && y b) && test a b z)))
 
--- the truths with these bits, a contradiction where there are none; both, found where an input is unknown, are nothing
+-- the truths with these bits, a contradiction where there are none; both, found where an input is
+-- unknown, are nothing
 abbrev pub told : Bool → ℕ → Info
 told unknown bits = if unknown && (bits == 3) then Nothing else elements_from bits
 

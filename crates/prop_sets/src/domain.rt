@@ -1,7 +1,10 @@
 //! Domains: finite lists of named elements.
-ghost use Rattle.std.specs.Prelude.{◌≡◌, ◌<◌, ◌++◌, ◌∷◌, [], List, ℕ, false, true, length, bytes_eq, position, slice_get, Some, IfSome, IfOk, OnOk, MatchResult};
+ghost use Rattle.std.specs.Prelude.{◌≡◌, ◌<◌, ◌++◌, ◌∷◌, [], List, ℕ, false, true, length};
+ghost use Rattle.std.specs.Prelude.{bytes_eq, position, slice_get, Some, IfSome, IfOk, OnOk};
+ghost use Rattle.std.specs.Prelude.{MatchResult};
 ghost use Rattle.std.specs.List.{list_any};
-ghost use Rattle.prop_sets.specs.Names.{texts_of, names_of, is_among, has_repeat, AreElements, IsWhy};
+ghost use Rattle.prop_sets.specs.Names.{texts_of, names_of, is_among, has_repeat, AreElements};
+ghost use Rattle.prop_sets.specs.Names.{IsWhy};
 
 use indexmap::IndexSet;
 use prop_lattice::{Limit, Refusal};
@@ -49,7 +52,8 @@ fn repeats(alloc: Global, names: &[&str]) -> Result<bool, AllocError>
     Ok(false)
 }
 
-/// Whether a name stands twice. Of few names each is compared with those before it, and of many too where memory is refused.
+/// Whether a name stands twice. Of few names each is compared with those before it, and of many too
+/// where memory is refused.
 pub fn has_repeat(alloc: Global, names: &[&str]) -> bool
     ensures { result ≡ has_repeat (texts_of names.now) }
 {
@@ -92,11 +96,13 @@ fn in_order(alloc: Global, names: &[&str]) -> Result<IndexSet<String>, AllocErro
 impl Domain {
     /// A domain with these elements, in order.
     ///
-    /// A name that stands twice is `NameTaken`, more than 64 of them are `LimitReached`; want of memory is `Memory`, and stands in the
-    /// place of neither.
+    /// A name that stands twice is `NameTaken`, more than 64 of them are `LimitReached`; want of
+    /// memory is `Memory`, and stands in the place of neither.
     pub fn new(alloc: Global, names: &[&str]) -> Result<Domain, Refusal>
         requires { 0 < length names.now }
-        ensures { MatchResult result (λ d. (d ≡ texts_of names.now) × AreElements (texts_of names.now)) (IsWhy (texts_of names.now)) }
+        ensures { MatchResult result
+            (λ d. (d ≡ texts_of names.now) × AreElements (texts_of names.now))
+            (IsWhy (texts_of names.now)) }
     {
         if has_repeat(alloc, names) {
             return Err(Refusal::NameTaken);

@@ -10,7 +10,8 @@ use std::alloc::{AllocError, Global};
 use std::marker::Model;
 use std::rc::Rc;
 
-/// A relation to which no pair is added any more. It may have several owners, and its pairs stand in memory once.
+/// A relation to which no pair is added any more. It may have several owners, and its pairs stand
+/// in memory once.
 #[derive(Debug, Drop)]
 pub struct Relation {
     rows: Rc<Rows>,
@@ -35,7 +36,8 @@ impl Relation {
         }
     }
 
-    /// The same relation, with one owner more. It takes no memory; an error is that of as many owners as can be counted.
+    /// The same relation, with one owner more. It takes no memory; an error is that of as many
+    /// owners as can be counted.
     pub fn copy(&self, _alloc: Global) -> Result<Relation, AllocError>
         ensures { IfOk result (λ m. m ≡ self.now) }
     {
@@ -58,7 +60,8 @@ impl Relation {
         self.rows.to()
     }
 
-    /// All elements of the second domain that are paired with an element of `x`, a contradiction where there are none.
+    /// All elements of the second domain that are paired with an element of `x`, a contradiction
+    /// where there are none.
     pub fn image(&self, x: Elements) -> Info
         ensures value { result ≡ image_of self.now x }
         ensures pairs { HoldsJust (IsInImage self.now x) result }
@@ -66,7 +69,8 @@ impl Relation {
         self.rows.image(x)
     }
 
-    /// All elements of the first domain that are paired with an element of `y`, a contradiction where there are none.
+    /// All elements of the first domain that are paired with an element of `y`, a contradiction
+    /// where there are none.
     pub fn coimage(&self, y: Elements) -> Info
         ensures value { result ≡ coimage_of self.now y }
         ensures pairs { HoldsJust (IsInCoimage self.now y) result }

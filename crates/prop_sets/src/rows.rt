@@ -1,6 +1,7 @@
 //! Relations between two domains.
 ghost use Rattle.std.specs.Prelude.{◌≡◌, ◌<◌, IfOk};
-ghost use Rattle.prop_sets.specs.Promises.{SamePairsAreOne, IsMonotone, ImageIsNarrowest, CoimageIsNarrowest};
+ghost use Rattle.prop_sets.specs.Promises.{SamePairsAreOne, IsMonotone, ImageIsNarrowest};
+ghost use Rattle.prop_sets.specs.Promises.{CoimageIsNarrowest};
 ghost use Rattle.prop_sets.specs.Relation.{Relation, IsWhole, no_pairs, with_pair, AddsPair};
 ghost use Rattle.prop_sets.specs.Images.{image_of, coimage_of, IsInImage, IsInCoimage, HoldsJust};
 
@@ -10,7 +11,8 @@ use prop_lattice::{Elements, Info};
 use std::alloc::{AllocError, Global};
 use std::marker::Model;
 
-/// A relation that is being made: pairs of an element of one domain and an element of another, or of the same.
+/// A relation that is being made: pairs of an element of one domain and an element of another, or
+/// of the same.
 #[derive(Debug, Drop)]
 pub struct Rows {
     from: Side,
@@ -60,7 +62,8 @@ impl Rows {
         self.to
     }
 
-    /// Adds the pair of element `i` of the first domain and element `j` of the second. It takes no memory.
+    /// Adds the pair of element `i` of the first domain and element `j` of the second. It takes no
+    /// memory.
     pub fn set(&mut self, i: u8, j: u8)
         requires first { i < self.old.from.size }
         requires second { j < self.old.to.size }
@@ -71,7 +74,8 @@ impl Rows {
         set_bit(&mut self.columns, j, i);
     }
 
-    /// All elements of the second domain that are paired with an element of `x`, a contradiction where there are none.
+    /// All elements of the second domain that are paired with an element of `x`, a contradiction
+    /// where there are none.
     pub fn image(&self, x: Elements) -> Info
         ensures value { result ≡ image_of self.now x }
         ensures pairs { HoldsJust (IsInImage self.now x) result }
@@ -79,7 +83,8 @@ impl Rows {
         Info::from_bits(union_of(&self.rows, x.bits()))
     }
 
-    /// All elements of the first domain that are paired with an element of `y`, a contradiction where there are none.
+    /// All elements of the first domain that are paired with an element of `y`, a contradiction
+    /// where there are none.
     pub fn coimage(&self, y: Elements) -> Info
         ensures value { result ≡ coimage_of self.now y }
         ensures pairs { HoldsJust (IsInCoimage self.now y) result }

@@ -1,8 +1,12 @@
-//! The functions of truth, on informations. Truth is the set kind over the domain 0: element 0 is `yes`, element 1 is `no`.
+//! The functions of truth, on informations. Truth is the set kind over the domain 0: element 0 is
+//! `yes`, element 1 is `no`.
 ghost use Rattle.std.specs.Prelude.{◌≡◌, ◌↔◌, ◌⊎◌, ◌+◌, ◌*◌, ◌<◌, ◌||◌, cond, true, IsTrue};
 ghost use Rattle.prop_sets.specs.Images.{is_set};
-ghost use Rattle.prop_sets.specs.Promises.{IsMonotoneInOne, IsMonotoneInTwo, IsSoundInOne, IsSoundInTwo};
-ghost use Rattle.prop_sets.specs.Truth.{IsAnd, IsOr, IsNot, IsLeftByOne, IsLeftByTwo, LeavesJust, leaves, is_nothing, told, and_of, and_back_of, or_of, or_back_of, not_of};
+ghost use Rattle.prop_sets.specs.Promises.{IsMonotoneInOne, IsMonotoneInTwo, IsSoundInOne};
+ghost use Rattle.prop_sets.specs.Promises.{IsSoundInTwo};
+ghost use Rattle.prop_sets.specs.Truth.{IsAnd, IsOr, IsNot, IsLeftByOne, IsLeftByTwo, LeavesJust};
+ghost use Rattle.prop_sets.specs.Truth.{leaves, is_nothing, told, and_of, and_back_of, or_of};
+ghost use Rattle.prop_sets.specs.Truth.{or_back_of, not_of};
 
 use prop_lattice::{Elements, Info};
 
@@ -49,7 +53,8 @@ fn is_unknown(info: Info) -> bool
     matches!(&info, Info::Nothing)
 }
 
-/// The truths as an information, a contradiction where there are none. Both of them say nothing where an input is unknown.
+/// The truths as an information, a contradiction where there are none. Both of them say nothing
+/// where an input is unknown.
 fn told(truths: Truths, unknown: bool) -> Info
     ensures { result ≡ told unknown (cond truths.yes 1 0 + 2 * cond truths.no 1 0) }
 {

@@ -1,5 +1,6 @@
 -- The texts of values and replies.
-use Rattle.std.specs.Prelude.{ℕ, Bool, true, false, not, List, [], ◌∷◌, ◌++◌, length, filter, flat_map, slice_get, codes, decimal, if◌then◌else◌}
+use Rattle.std.specs.Prelude.{ℕ, Bool, true, false, not, List, [], ◌∷◌, ◌++◌, length, filter}
+use Rattle.std.specs.Prelude.{flat_map, slice_get, codes, decimal, if◌then◌else◌}
 use Rattle.std.specs.List.{range_with_len}
 use Rattle.std.specs.Option.{option_map_or}
 use Rattle.prop_numbers.specs.Sets.{Members}
@@ -44,8 +45,12 @@ members_text premises s = premises_text premises (filter s (range_with_len 0 (le
 
 -- which premises are believed, and on a second line which are not
 abbrev pub worldview_text : List Origin → Members → List ℕ
-worldview_text premises w = codes "in:" ++ (members_text premises (is_listed true w) ++ (10 ∷ codes "out:" ++ members_text premises (is_listed false w)))
+worldview_text premises w = codes
+    "in:" ++ (members_text premises
+    (is_listed true w) ++ (10 ∷ codes "out:" ++ members_text premises (is_listed false w)))
 
 -- how many nogoods there are, and a line for each
 abbrev pub nogoods_text : List Origin → List (List ℕ) → List ℕ
-nogoods_text premises nogoods = codes "nogoods " ++ (decimal (length nogoods) ++ flat_map (λ nogood. 10 ∷ codes "nogood:" ++ support_text premises nogood) nogoods)
+nogoods_text premises nogoods =
+    codes "nogoods " ++ (decimal (length nogoods) ++ flat_map
+    (λ nogood. 10 ∷ codes "nogood:" ++ support_text premises nogood) nogoods)

@@ -7,15 +7,16 @@ use prop_premises::{Premise, PremiseSet, Premises};
 use std::alloc::{AllocError, Global};
 use std::fmt::Write;
 
-/// Writes a space and the label of a premise behind the text: a user's premise by its name, a side of a choice by the
-/// choice's name, `=` and the side's number.
+/// Writes a space and the label of a premise behind the text: a user's premise by its name, a side
+/// of a choice by the choice's name, `=` and the side's number.
 pub(crate) fn push_label(
     text: &mut String,
     premises: &Premises,
     premise: Premise,
 ) -> Result<(), AllocError>
     requires { premise < length premises.now }
-    ensures { OnOk result (string_bytes text.new ≡ string_bytes text.old ++ (32 ∷ label_at premises.now premise)) }
+    ensures { OnOk result (string_bytes text.new ≡ string_bytes
+        text.old ++ (32 ∷ label_at premises.now premise)) }
 {
     let name = premises.name(premise);
     match premises.side(premise) {
@@ -64,7 +65,8 @@ pub fn because(
     support: &PremiseSet,
 ) -> Result<String, AllocError>
     requires { All (λ p. p < length premises.now) support.now }
-    ensures text { IfOk result (λ text. string_bytes text ≡ because premises.now mark.now support.now) }
+    ensures text { IfOk result (λ text.
+        string_bytes text ≡ because premises.now mark.now support.now) }
     ensures in_order { IsStrictlyIncreasing support.now }
 {
     let names = print_set(alloc, premises, support)?;

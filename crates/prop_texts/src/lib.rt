@@ -1,4 +1,5 @@
-//! The replies that say a text: values, what they rest on, contradictions, nogoods and the worldview.
+//! The replies that say a text: values, what they rest on, contradictions, nogoods and the
+//! worldview.
 //!
 //! Each function answers the text that the specs state of its arguments, or want of memory
 //! (`value_reply`, `because`, `contradiction_reply`, `worldview_reply`, `nogoods_reply`,

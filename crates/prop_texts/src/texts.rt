@@ -1,8 +1,10 @@
 //! The texts of values and replies.
-ghost use Rattle.std.specs.Prelude.{◌≡◌, ◌<◌, ℕ, not, if◌then◌else◌, All, IfOk, length, string_bytes};
+ghost use Rattle.std.specs.Prelude.{◌≡◌, ◌<◌, ℕ, not, if◌then◌else◌, All, IfOk, length};
+ghost use Rattle.std.specs.Prelude.{string_bytes};
 ghost use Rattle.std.specs.List.Sorted.{IsStrictlyIncreasing};
 ghost use Rattle.prop_numbers.specs.Sets.{set_of};
-ghost use Rattle.prop_texts.specs.Texts.{equation, contradiction_text, is_listed, members_text, worldview_text};
+ghost use Rattle.prop_texts.specs.Texts.{equation, contradiction_text, is_listed, members_text};
+ghost use Rattle.prop_texts.specs.Texts.{worldview_text};
 ghost use Rattle.prop_engine.specs.Answers.{answer_of, Says};
 
 use crate::labels::{print_set, push_label};
@@ -44,14 +46,16 @@ fn is_listed(is_in: bool, believed: bool) -> bool
     is_in == believed
 }
 
-/// The labels of the premises that are believed, or of those that are not, each with one space before it.
+/// The labels of the premises that are believed, or of those that are not, each with one space
+/// before it.
 fn listed(
     alloc: Global,
     premises: &Premises,
     worldview: &Worldview,
     believed: bool,
 ) -> Result<String, AllocError>
-    ensures { IfOk result (λ text. string_bytes text ≡ members_text premises.now (is_listed believed (set_of worldview.now))) }
+    ensures { IfOk result (λ text.
+        string_bytes text ≡ members_text premises.now (is_listed believed (set_of worldview.now))) }
 {
     let mut text = String::new(alloc);
     for number in 0..premises.len() {
@@ -69,7 +73,8 @@ fn worldview_text(
     premises: &Premises,
     worldview: &Worldview,
 ) -> Result<String, AllocError>
-    ensures { IfOk result (λ text. string_bytes text ≡ worldview_text premises.now (set_of worldview.now)) }
+    ensures { IfOk result (λ text.
+        string_bytes text ≡ worldview_text premises.now (set_of worldview.now)) }
 {
     let believed = listed(alloc, premises, worldview, true)?;
     let others = listed(alloc, premises, worldview, false)?;

@@ -1,19 +1,24 @@
 -- Entries that are enough for a value, and of which none can be left out.
-use Rattle.std.proofs.Common.{◌≡◌, ◌≢◌, ◌∙◌, ◌<◌, ◌≤◌, ◌+◌, ap, ℕ, zero, suc, true, List, [], ◌∷◌, ◌++◌, length, take, drop, get_or, refl, sym, subst, arith, Contains, All, append_assoc, append-nil}
+use Rattle.std.proofs.Common.{◌≡◌, ◌≢◌, ◌∙◌, ◌<◌, ◌≤◌, ◌+◌, ap, ℕ, zero, suc, true, List, [], ◌∷◌, ◌++◌, length, take}
+use Rattle.std.proofs.Common.{drop, get_or, refl, sym, subst, arith, Contains, All, append_assoc, append-nil}
 use Rattle.std.proofs.lemmas.List.{map-append, length-append, length-take-le, take-append-drop}
 use Rattle.std.proofs.Math.Seq.{take-append_seam}
 use Rattle.std.specs.List.{AllByRecursion, list_any, remove, take-map}
-use Rattle.std.proofs.lemmas.List.Elements.{All-nil, All-cons, All-contains, Contains-push, All-from_recursion, recursion_from_All, All-take, All-drop, All-append}
+use Rattle.std.proofs.lemmas.List.Elements.{All-nil, All-cons, All-contains, Contains-push, All-from_recursion}
+use Rattle.std.proofs.lemmas.List.Elements.{recursion_from_All, All-take, All-drop, All-append}
 use Rattle.prop_lattice.specs.InformationOrder.{IsInformationOrder}
 use Rattle.prop_numbers.specs.Sets.{Members, set_of, union, is_within, IsSame}
 use Rattle.prop_tms.specs.Beliefs.{merge_of_all, IsLean}
 use Rattle.prop_tms.specs.inner.Gains.{AreGains, entry_of, gained_of}
 use Rattle.prop_tms.specs.declared.supported.Supported.{Supported}
 use Rattle.prop_tms.specs.declared.gain.Gain.{Gain}
-use Rattle.prop_tms.proofs.MergedLemmas.{merged_below, below_merged, merge_of_all-append, merge_of_all-push, join-bottom, bottom-join, join-assoc, all_first, all_second, all_both}
+use Rattle.prop_tms.proofs.MergedLemmas.{merged_below, below_merged, merge_of_all-append, merge_of_all-push}
+use Rattle.prop_tms.proofs.MergedLemmas.{join-bottom, bottom-join, join-assoc, all_first, all_second, all_both}
 
--- Some of the entries that were looked at were chosen: with those that are left to look at they give the value, and none of them can be left out.
-pub record IsThinned {V : Type 0} (bottom : V) (join : V → V → V) (entries : List (Supported V)) (w : Members) (v : V) (left : List (Supported V)) (after : V) (support : List ℕ) : Type 0 where
+-- Some of the entries that were looked at were chosen: with those that are left to look at they give the value, and
+-- none of them can be left out.
+pub record IsThinned {V : Type 0} (bottom : V) (join : V → V → V) (entries : List (Supported V)) (w : Members) (v : V)
+    (left : List (Supported V)) (after : V) (support : List ℕ) : Type 0 where
   pub chosen : List (Supported V)
   pub among : All (Contains entries) chosen
   pub believed : All (λ e. is_within w e.support ≡ true) chosen
@@ -23,31 +28,41 @@ pub record IsThinned {V : Type 0} (bottom : V) (join : V → V → V) (entries :
   pub joined : IsSame (set_of support) (λ p. list_any (λ e. set_of e.support p) chosen)
 
 -- The entries give the value with what comes after them, and without the last of them they do not.
-pub record AreEnough {V : Type 0} (below : V → V → Type 0) (bottom : V) (join : V → V → V) (row : List (Gain V)) (after v : V) : Type 0 where
+pub record AreEnough {V : Type 0} (below : V → V → Type 0) (bottom : V) (join : V → V → V) (row : List (Gain V))
+    (after v : V) : Type 0 where
   pub gains : AreGains join bottom row
   pub says : below v (join (merge_of_all bottom join (gained_of row)) after)
-  pub needed : (front : List (Gain V)) (g : Gain V) → row ≡ front ++ g ∷ [] → ¬ (below v (join (merge_of_all bottom join (gained_of front)) after))
+  pub needed : (front : List (Gain V)) (g : Gain V) → row ≡ front ++ g ∷ []
+      → ¬ (below v (join (merge_of_all bottom join (gained_of front)) after))
 
-module _ {V : Type 0} {below : V → V → Type 0} {bottom top : V} {join : V → V → V} (laws : IsInformationOrder below bottom top join) where
-  under : (a b : List (Supported V)) → ((P : Supported V → Type 0) → AllByRecursion P b → AllByRecursion P a) → below (merge_of_all bottom join a) (merge_of_all bottom join b)
+module _ {V : Type 0} {below : V → V → Type 0} {bottom top : V} {join : V → V → V}
+    (laws : IsInformationOrder below bottom top join) where
+  under : (a b : List (Supported V)) → ((P : Supported V → Type 0) → AllByRecursion P b → AllByRecursion P a)
+      → below (merge_of_all bottom join a) (merge_of_all bottom join b)
   under a b h =
       let z = merge_of_all bottom join b in
       merged_below laws a z (h (λ e. below e.value z) (below_merged laws b))
 
-  all_remove : (P : Supported V → Type 0) (c : List (Supported V)) (k : ℕ) → AllByRecursion P c → AllByRecursion P (remove c k)
+  all_remove : (P : Supported V → Type 0) (c : List (Supported V)) (k : ℕ) → AllByRecursion P c
+      → AllByRecursion P (remove c k)
   all_remove P c k h =
       let all = All-from_recursion P c h in
-      recursion_from_All P (remove c k) (All-append P (take k c) (drop (suc k) c) (All-take P k c all) (All-drop P (suc k) c all))
+      recursion_from_All P (remove c k) (All-append P (take k c) (drop (suc k) c) (All-take P k c all)
+      (All-drop P (suc k) c all))
 
   -- without some entries they say no more
-  less_without : (left c rest : List (Supported V)) → below (merge_of_all bottom join (left ++ c)) (merge_of_all bottom join ((left ++ rest) ++ c))
+  less_without : (left c rest : List (Supported V))
+      → below (merge_of_all bottom join (left ++ c)) (merge_of_all bottom join ((left ++ rest) ++ c))
   less_without left c rest = under (left ++ c) ((left ++ rest) ++ c) (λ P h.
       all_both P left c (all_first P left rest (all_first P (left ++ rest) c h)) (all_second P (left ++ rest) c h))
 
-  less_removed : (left c : List (Supported V)) (k : ℕ) → below (merge_of_all bottom join (left ++ remove c k)) (merge_of_all bottom join (left ++ c))
-  less_removed left c k = under (left ++ remove c k) (left ++ c) (λ P h. all_both P left (remove c k) (all_first P left c h) (all_remove P c k (all_second P left c h)))
+  less_removed : (left c : List (Supported V)) (k : ℕ)
+      → below (merge_of_all bottom join (left ++ remove c k)) (merge_of_all bottom join (left ++ c))
+  less_removed left c k = under (left ++ remove c k) (left ++ c)
+      (λ P h. all_both P left (remove c k) (all_first P left c h) (all_remove P c k (all_second P left c h)))
 
-  pub IsThinned-init : (entries : List (Supported V)) (w : Members) (v : V) (left : List (Supported V)) → merge_of_all bottom join left ≡ v → IsThinned bottom join entries w v left bottom []
+  pub IsThinned-init : (entries : List (Supported V)) (w : Members) (v : V) (left : List (Supported V))
+      → merge_of_all bottom join left ≡ v → IsThinned bottom join entries w v left bottom []
   IsThinned-init entries w v left h = record {
     chosen = [];
     among = All-nil (Contains entries);
@@ -58,16 +73,22 @@ module _ {V : Type 0} {below : V → V → Type 0} {bottom top : V} {join : V �
     joined = λ p. refl;
   }
 
-  split : (left c : List (Supported V)) (after : V) → after ≡ merge_of_all bottom join c → merge_of_all bottom join (left ++ c) ≡ join (merge_of_all bottom join left) after
+  split : (left c : List (Supported V)) (after : V) → after ≡ merge_of_all bottom join c
+      → merge_of_all bottom join (left ++ c) ≡ join (merge_of_all bottom join left) after
   split left c after h = rw h (merge_of_all-append laws left c)
 
   -- those that are left and those that were chosen say the value
-  pub IsThinned-says : (entries : List (Supported V)) (w : Members) (v : V) (left : List (Supported V)) (after : V) (support : List ℕ) → IsThinned bottom join entries w v left after support → below v (join (merge_of_all bottom join left) after)
-  IsThinned-says entries w v left after support t = rw (← split left t.chosen after t.after_is, t.whole) (laws.reflexive v)
+  pub IsThinned-says : (entries : List (Supported V)) (w : Members) (v : V) (left : List (Supported V)) (after : V)
+      (support : List ℕ) → IsThinned bottom join entries w v left after support
+      → below v (join (merge_of_all bottom join left) after)
+  IsThinned-says entries w v left after support t =
+      rw (← split left t.chosen after t.after_is, t.whole) (laws.reflexive v)
 
   -- entries go, since the others give the value too
-  pub IsThinned-skip : (entries : List (Supported V)) (w : Members) (v : V) (left rest : List (Supported V)) (after : V) (support : List ℕ) →
-      IsThinned bottom join entries w v (left ++ rest) after support → below v (join (merge_of_all bottom join left) after) → IsThinned bottom join entries w v left after support
+  pub IsThinned-skip : (entries : List (Supported V)) (w : Members) (v : V) (left rest : List (Supported V)) (after : V)
+      (support : List ℕ) →
+      IsThinned bottom join entries w v (left ++ rest) after support
+      → below v (join (merge_of_all bottom join left) after) → IsThinned bottom join entries w v left after support
   IsThinned-skip entries w v left rest after support t h =
       let c = t.chosen in
       let now = merge_of_all bottom join (left ++ c) in
@@ -88,9 +109,13 @@ module _ {V : Type 0} {below : V → V → Type 0} {bottom top : V} {join : V �
       }
 
   -- an entry is chosen, since without it the value is not reached
-  pub IsThinned-keep : (entries : List (Supported V)) (w : Members) (v : V) (left : List (Supported V)) (e : Supported V) (after : V) (support more : List ℕ) →
-      IsThinned bottom join entries w v (left ++ e ∷ []) after support → ¬ (below v (join (merge_of_all bottom join left) after)) → Contains entries e → is_within w e.support ≡ true →
-      IsSame (set_of more) (union (set_of e.support) (set_of support)) → IsThinned bottom join entries w v left (join e.value after) more
+  pub IsThinned-keep : (entries : List (Supported V)) (w : Members) (v : V) (left : List (Supported V))
+      (e : Supported V) (after : V) (support more : List ℕ) →
+      IsThinned bottom join entries w v (left ++ e ∷ []) after support
+      → ¬ (below v (join (merge_of_all bottom join left) after)) → Contains entries e → is_within w e.support ≡ true
+      →
+      IsSame (set_of more) (union (set_of e.support) (set_of support))
+      → IsThinned bottom join entries w v left (join e.value after) more
   IsThinned-keep entries w v left e after support more t h c b same =
       record {
         chosen = e ∷ t.chosen;
@@ -108,7 +133,8 @@ module _ {V : Type 0} {below : V → V → Type 0} {bottom top : V} {join : V �
           h (rw (split left t.chosen after t.after_is) at whole)
       without (suc k) l is = t.needed k (omega (arith, l)) (rw (append_assoc left (e ∷ []) (remove t.chosen k)) is)
 
-  pub IsLean-thinned : (entries : List (Supported V)) (w : Members) (v : V) (after : V) (support : List ℕ) → IsThinned bottom join entries w v [] after support → IsLean bottom join entries w v support
+  pub IsLean-thinned : (entries : List (Supported V)) (w : Members) (v : V) (after : V) (support : List ℕ)
+      → IsThinned bottom join entries w v [] after support → IsLean bottom join entries w v support
   IsLean-thinned entries w v after support t = record {
     chosen = t.chosen;
     among = t.among;
@@ -120,42 +146,59 @@ module _ {V : Type 0} {below : V → V → Type 0} {bottom top : V} {join : V �
 
   -- ---- entries in a row, each with what those before it say
 
-  AreGains-push : (before : V) (gains : List (Gain V)) (g : Gain V) → AreGains join before gains → g.before ≡ join before (merge_of_all bottom join (gained_of gains)) → AreGains join before (gains ++ g ∷ [])
+  AreGains-push : (before : V) (gains : List (Gain V)) (g : Gain V) → AreGains join before gains
+      → g.before ≡ join before (merge_of_all bottom join (gained_of gains)) → AreGains join before (gains ++ g ∷ [])
   AreGains-push before [] g h e = (e ∙ join-bottom laws before, tt)
-  AreGains-push before (x ∷ gains) g h e =
-      (h.0, AreGains-push (join before x.entry.value) gains g h.1 (e ∙ join-assoc laws before x.entry.value (merge_of_all bottom join (gained_of gains))))
+  AreGains-push before (x ∷ gains) g h e = (
+    h.0,
+    AreGains-push (join before x.entry.value) gains g h.1
+        (e ∙ join-assoc laws before x.entry.value (merge_of_all bottom join (gained_of gains))),
+  )
 
-  pub AreGains-next : (gains : List (Gain V)) (g : Gain V) → AreGains join bottom gains → g.before ≡ merge_of_all bottom join (gained_of gains) → AreGains join bottom (gains ++ g ∷ [])
-  AreGains-next gains g h e = AreGains-push bottom gains g h (e ∙ sym (bottom-join laws (merge_of_all bottom join (gained_of gains))))
+  pub AreGains-next : (gains : List (Gain V)) (g : Gain V) → AreGains join bottom gains
+      → g.before ≡ merge_of_all bottom join (gained_of gains) → AreGains join bottom (gains ++ g ∷ [])
+  AreGains-next gains g h e = AreGains-push bottom gains g h
+      (e ∙ sym (bottom-join laws (merge_of_all bottom join (gained_of gains))))
 
-  pub AreGains-front : (before : V) (gains : List (Gain V)) (g : Gain V) → AreGains join before (gains ++ g ∷ []) → AreGains join before gains
+  pub AreGains-front : (before : V) (gains : List (Gain V)) (g : Gain V) → AreGains join before (gains ++ g ∷ [])
+      → AreGains join before gains
   AreGains-front before [] g h = tt
   AreGains-front before (x ∷ gains) g h = (h.0, AreGains-front (join before x.entry.value) gains g h.1)
 
-  before_last : (before : V) (gains : List (Gain V)) (g : Gain V) → AreGains join before (gains ++ g ∷ []) → g.before ≡ join before (merge_of_all bottom join (gained_of gains))
+  before_last : (before : V) (gains : List (Gain V)) (g : Gain V) → AreGains join before (gains ++ g ∷ [])
+      → g.before ≡ join before (merge_of_all bottom join (gained_of gains))
   before_last before [] g h = h.0 ∙ sym (join-bottom laws before)
   before_last before (x ∷ gains) g h =
-      before_last (join before x.entry.value) gains g h.1 ∙ sym (join-assoc laws before x.entry.value (merge_of_all bottom join (gained_of gains)))
+      before_last (join before x.entry.value) gains g h.1
+      ∙ sym (join-assoc laws before x.entry.value (merge_of_all bottom join (gained_of gains)))
 
-  pub AreGains-take : (before : V) (n : ℕ) (gains : List (Gain V)) → AreGains join before gains → AreGains join before (take n gains)
+  pub AreGains-take : (before : V) (n : ℕ) (gains : List (Gain V)) → AreGains join before gains
+      → AreGains join before (take n gains)
   AreGains-take before zero gains h = tt
   AreGains-take before (suc n) [] h = tt
   AreGains-take before (suc n) (x ∷ gains) h = (h.0, AreGains-take (join before x.entry.value) n gains h.1)
 
-  before_at : (before : V) (gains : List (Gain V)) (n : ℕ) (g : Gain V) → n < length gains → get_or gains n g ≡ g → AreGains join before gains → g.before ≡ join before (merge_of_all bottom join (gained_of (take n gains)))
+  before_at : (before : V) (gains : List (Gain V)) (n : ℕ) (g : Gain V) → n < length gains → get_or gains n g ≡ g
+      → AreGains join before gains → g.before ≡ join before (merge_of_all bottom join (gained_of (take n gains)))
   before_at before [] n g l is h = absurd (omega (arith, l))
-  before_at before (x ∷ gains) zero g l is h = ap (λ (y : Gain V). y.before) (sym is) ∙ h.0 ∙ sym (join-bottom laws before)
+  before_at before (x ∷ gains) zero g l is h = ap (λ (y : Gain V). y.before) (sym is) ∙ h.0
+      ∙ sym (join-bottom laws before)
   before_at before (x ∷ gains) (suc n) g l is h =
-      before_at (join before x.entry.value) gains n g (omega (arith, l)) is h.1 ∙ sym (join-assoc laws before x.entry.value (merge_of_all bottom join (gained_of (take n gains))))
+      before_at (join before x.entry.value) gains n g (omega (arith, l)) is h.1
+      ∙ sym (join-assoc laws before x.entry.value (merge_of_all bottom join (gained_of (take n gains))))
 
   -- each tells what those before it say together
-  pub AreGains-at : (gains : List (Gain V)) (n : ℕ) (g : Gain V) → n < length gains → get_or gains n g ≡ g → AreGains join bottom gains → g.before ≡ merge_of_all bottom join (gained_of (take n gains))
-  AreGains-at gains n g l is h = before_at bottom gains n g l is h ∙ bottom-join laws (merge_of_all bottom join (gained_of (take n gains)))
+  pub AreGains-at : (gains : List (Gain V)) (n : ℕ) (g : Gain V) → n < length gains → get_or gains n g ≡ g
+      → AreGains join bottom gains → g.before ≡ merge_of_all bottom join (gained_of (take n gains))
+  AreGains-at gains n g l is h = before_at bottom gains n g l is h
+      ∙ bottom-join laws (merge_of_all bottom join (gained_of (take n gains)))
 
-  pub AreGains-last : (gains : List (Gain V)) (g : Gain V) → AreGains join bottom (gains ++ g ∷ []) → g.before ≡ merge_of_all bottom join (gained_of gains)
+  pub AreGains-last : (gains : List (Gain V)) (g : Gain V) → AreGains join bottom (gains ++ g ∷ [])
+      → g.before ≡ merge_of_all bottom join (gained_of gains)
   AreGains-last gains g h = before_last bottom gains g h ∙ bottom-join laws (merge_of_all bottom join (gained_of gains))
 
-pub gained_of-push : {V : Type 0} (gains : List (Gain V)) (g : Gain V) → gained_of (gains ++ g ∷ []) ≡ gained_of gains ++ entry_of g.entry ∷ []
+pub gained_of-push : {V : Type 0} (gains : List (Gain V)) (g : Gain V)
+    → gained_of (gains ++ g ∷ []) ≡ gained_of gains ++ entry_of g.entry ∷ []
 gained_of-push gains g = map-append (λ (x : Gain _). entry_of x.entry) gains (g ∷ [])
 
 pub All-front : {X : Type 0} (P : X → Type 0) (xs : List X) (x : X) → All P (xs ++ x ∷ []) → All P xs
@@ -165,15 +208,21 @@ pub All-last : {X : Type 0} (P : X → Type 0) (xs : List X) (x : X) → All P (
 All-last P xs x h = All-contains P (xs ++ x ∷ []) x h (Contains-push xs x)
 
 -- An entry that is the last of the first n is one of the row, and those before it are the first of all.
-pub last_of_first : {X : Type 0} (xs front : List X) (x : X) (n : ℕ) → n ≤ length xs → take n xs ≡ front ++ x ∷ [] → (length front + 1 ≡ n) × (take (length front) xs ≡ front)
+pub last_of_first : {X : Type 0} (xs front : List X) (x : X) (n : ℕ) → n ≤ length xs → take n xs ≡ front ++ x ∷ []
+    → (length front + 1 ≡ n) × (take (length front) xs ≡ front)
 last_of_first xs front x n l is =
     let size = sym (length-take-le n xs l) ∙ ap length is ∙ length-append front (x ∷ []) in
-    let all : xs ≡ front ++ x ∷ drop n xs = sym (take-append-drop n xs) ∙ ap (λ (ys : List _). ys ++ drop n xs) is ∙ append_assoc front (x ∷ []) (drop n xs) in
+    let all : xs ≡ front ++ x ∷ drop n xs = sym (take-append-drop n xs) ∙ ap (λ (ys : List _). ys ++ drop n xs) is
+    ∙ append_assoc front (x ∷ []) (drop n xs) in
     (sym size, ap (take (length front)) all ∙ take-append_seam front (x ∷ drop n xs))
 
 -- of the first entries as many as are enough
-pub first_enough : {V : Type 0} {below : V → V → Type 0} {bottom top : V} {join : V → V → V} (laws : IsInformationOrder below bottom top join) (gains : List (Gain V)) (n : ℕ) (after v : V) → AreGains join bottom gains → n ≤ length gains →
-    below v (join (merge_of_all bottom join (gained_of (take n gains))) after) → ((k : ℕ) → k + 1 ≡ n → ¬ (below v (join (merge_of_all bottom join (gained_of (take k gains))) after))) → AreEnough below bottom join (take n gains) after v
+pub first_enough : {V : Type 0} {below : V → V → Type 0} {bottom top : V} {join : V → V → V}
+    (laws : IsInformationOrder below bottom top join) (gains : List (Gain V)) (n : ℕ) (after v : V)
+    → AreGains join bottom gains → n ≤ length gains →
+    below v (join (merge_of_all bottom join (gained_of (take n gains))) after)
+    → ((k : ℕ) → k + 1 ≡ n → ¬ (below v (join (merge_of_all bottom join (gained_of (take k gains))) after)))
+    → AreEnough below bottom join (take n gains) after v
 first_enough {below = below} {bottom = bottom} {join = join} laws gains n after v h l says needed = record {
   gains = AreGains-take laws bottom n gains h;
   says = says;
@@ -183,20 +232,32 @@ first_enough {below = below} {bottom = bottom} {join = join} laws gains n after 
 }
 
 -- an entry that is kept says what it said
-pub says_kept : {V : Type 0} {below : V → V → Type 0} {bottom top : V} {join : V → V → V} (laws : IsInformationOrder below bottom top join) (left : List (Gain V)) (gain : Gain V) (after v : V) →
-    below v (join (merge_of_all bottom join (gained_of (left ++ gain ∷ []))) after) → below v (join (merge_of_all bottom join (gained_of left)) (join gain.entry.value after))
+pub says_kept : {V : Type 0} {below : V → V → Type 0} {bottom top : V} {join : V → V → V}
+    (laws : IsInformationOrder below bottom top join) (left : List (Gain V)) (gain : Gain V) (after v : V) →
+    below v (join (merge_of_all bottom join (gained_of (left ++ gain ∷ []))) after)
+    → below v (join (merge_of_all bottom join (gained_of left)) (join gain.entry.value after))
 says_kept {below = below} {bottom = bottom} {join = join} laws left gain after v h =
     let front = merge_of_all bottom join (gained_of left) in
-    let whole : merge_of_all bottom join (gained_of (left ++ gain ∷ [])) ≡ join front gain.entry.value = ap (merge_of_all bottom join) (gained_of-push left gain) ∙ merge_of_all-push laws (gained_of left) (entry_of gain.entry) in
+    let whole : merge_of_all bottom join (gained_of (left ++ gain ∷ [])) ≡ join front gain.entry.value =
+    ap (merge_of_all bottom join) (gained_of-push left gain)
+    ∙ merge_of_all-push laws (gained_of left) (entry_of gain.entry) in
     subst (below v) (ap (λ x. join x after) whole ∙ sym (join-assoc laws front gain.entry.value after)) h
 
-pub All-first : {V : Type 0} (P : Supported V → Type 0) (gains : List (Gain V)) (n : ℕ) → All P (gained_of gains) → All P (gained_of (take n gains))
-All-first P gains n h = subst (All P) (take-map (λ (x : Gain _). entry_of x.entry) n gains) (All-take P n (gained_of gains) h)
+pub All-first : {V : Type 0} (P : Supported V → Type 0) (gains : List (Gain V)) (n : ℕ) → All P (gained_of gains)
+    → All P (gained_of (take n gains))
+All-first P gains n h = subst (All P) (take-map (λ (x : Gain _). entry_of x.entry) n gains)
+    (All-take P n (gained_of gains) h)
 
 -- the last entries go, since those before them and those that were chosen give the value too
-pub thinned_first : {V : Type 0} {below : V → V → Type 0} {bottom top : V} {join : V → V → V} (laws : IsInformationOrder below bottom top join) (all : List (Supported V)) (w : Members) (v : V) (gains : List (Gain V)) (n : ℕ) (after : V)
-    (support : List ℕ) → IsThinned bottom join all w v (gained_of gains) after support → below v (join (merge_of_all bottom join (gained_of (take n gains))) after) → IsThinned bottom join all w v (gained_of (take n gains)) after support
+pub thinned_first : {V : Type 0} {below : V → V → Type 0} {bottom top : V} {join : V → V → V}
+    (laws : IsInformationOrder below bottom top join) (all : List (Supported V)) (w : Members) (v : V)
+    (gains : List (Gain V)) (n : ℕ) (after : V)
+    (support : List ℕ) → IsThinned bottom join all w v (gained_of gains) after support
+    → below v (join (merge_of_all bottom join (gained_of (take n gains))) after)
+    → IsThinned bottom join all w v (gained_of (take n gains)) after support
 thinned_first {bottom = bottom} {join = join} laws all w v gains n after support t says =
     let entry = λ (x : Gain _). entry_of x.entry in
-    let parts : gained_of gains ≡ gained_of (take n gains) ++ gained_of (drop n gains) = ap gained_of (sym (take-append-drop n gains)) ∙ map-append entry (take n gains) (drop n gains) in
-    IsThinned-skip laws all w v (gained_of (take n gains)) (gained_of (drop n gains)) after support (subst (λ es. IsThinned bottom join all w v es after support) parts t) says
+    let parts : gained_of gains ≡ gained_of (take n gains) ++ gained_of (drop n gains) =
+    ap gained_of (sym (take-append-drop n gains)) ∙ map-append entry (take n gains) (drop n gains) in
+    IsThinned-skip laws all w v (gained_of (take n gains)) (gained_of (drop n gains)) after support
+    (subst (λ es. IsThinned bottom join all w v es after support) parts t) says

@@ -1,5 +1,6 @@
 -- Entries that are believed in both of two worldviews or in neither.
-use Rattle.std.proofs.Common.{if◌then◌else◌, ◌≡◌, ◌∙◌, ℕ, Bool, true, false, not, ◌&&◌, ◌||◌, List, [], ◌∷◌, ◌++◌, map, refl, sym, ap}
+use Rattle.std.proofs.Common.{if◌then◌else◌, ◌≡◌, ◌∙◌, ℕ, Bool, true, false, not, ◌&&◌, ◌||◌, List, [], ◌∷◌, ◌++◌, map}
+use Rattle.std.proofs.Common.{refl, sym, ap}
 use Rattle.std.specs.List.{list_any}
 use Rattle.std.proofs.lemmas.List.Elements.{filter-append}
 use Rattle.prop_numbers.specs.Sets.{Members, is_within}
@@ -18,24 +19,29 @@ alike true false h = cc
 alike false true h = cc
 alike false false h = refl
 
-keep : {X : Type 0} (a b : Bool) (x : X) (xs ys : List X) → a ≡ b → xs ≡ ys → (if a then x ∷ xs else xs) ≡ (if b then x ∷ ys else ys)
+keep : {X : Type 0} (a b : Bool) (x : X) (xs ys : List X) → a ≡ b → xs ≡ ys
+    → (if a then x ∷ xs else xs) ≡ (if b then x ∷ ys else ys)
 keep true true x xs ys e h = ap (λ l. x ∷ l) h
 keep true false x xs ys e h = cc
 keep false true x xs ys e h = cc
 keep false false x xs ys e h = h
 
 one_alike : {V : Type 0} (w z : Members) (v : V) (ss : List (List ℕ)) → list_any (is_in_one w z) ss ≡ false →
-    believed_of w (map (λ s. record { value = v; support = s }) ss) ≡ believed_of z (map (λ s. record { value = v; support = s }) ss)
+    believed_of w (map (λ s. record { value = v; support = s }) ss) ≡ believed_of z
+    (map (λ s. record { value = v; support = s }) ss)
 one_alike w z v [] h = refl
 one_alike w z v (s ∷ ss) h =
     let both = or_none (is_in_one w z s) (list_any (is_in_one w z) ss) h in
-    keep (is_within w s) (is_within z s) (record { value = v; support = s }) _ _ (alike (is_within w s) (is_within z s) both.0) (one_alike w z v ss both.1)
+    keep (is_within w s) (is_within z s) (record { value = v; support = s }) _ _
+    (alike (is_within w s) (is_within z s) both.0) (one_alike w z v ss both.1)
 
-believed_alike : {V : Type 0} (w z : Members) (xs : List (Valued V)) → list_any (λ x. list_any (is_in_one w z) x.supports.items) xs ≡ false →
+believed_alike : {V : Type 0} (w z : Members) (xs : List (Valued V))
+    → list_any (λ x. list_any (is_in_one w z) x.supports.items) xs ≡ false →
     believed_of w (entries_of xs) ≡ believed_of z (entries_of xs)
 believed_alike w z [] h = refl
 believed_alike w z (x ∷ xs) h =
-    let both = or_none (list_any (is_in_one w z) x.supports.items) (list_any (λ x. list_any (is_in_one w z) x.supports.items) xs) h in
+    let both = or_none (list_any (is_in_one w z) x.supports.items)
+    (list_any (λ x. list_any (is_in_one w z) x.supports.items) xs) h in
     filter-append (λ e. is_within w e.support) (entries_of_one x) (entries_of xs)
     ∙ ap (λ l. l ++ believed_of w (entries_of xs)) (one_alike w z x.value x.supports.items both.0)
     ∙ ap (λ l. believed_of z (entries_of_one x) ++ l) (believed_alike w z xs both.1)
@@ -43,5 +49,6 @@ believed_alike w z (x ∷ xs) h =
 
 -- where no entry is believed in just one of two worldviews, as much is believed in both
 pub belief_alike : {V : Type 0} (bottom : V) (join : V → V → V) (w z : Members) (xs : List (Valued V)) →
-    list_any (λ x. list_any (is_in_one w z) x.supports.items) xs ≡ false → belief_of bottom join w (entries_of xs) ≡ belief_of bottom join z (entries_of xs)
+    list_any (λ x. list_any (is_in_one w z) x.supports.items) xs ≡ false
+    → belief_of bottom join w (entries_of xs) ≡ belief_of bottom join z (entries_of xs)
 belief_alike bottom join w z xs h = ap (merge_of_all bottom join) (believed_alike w z xs h)

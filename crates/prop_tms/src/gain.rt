@@ -10,7 +10,8 @@ pub struct Entry<'a, V: Copy> {
     pub support: &'a PremiseSet,
 }
 
-/// A believed entry, how many premises it rests on, and what the believed entries before it say together.
+/// A believed entry, how many premises it rests on, and what the believed entries before it say
+/// together.
 #[derive(Drop)]
 pub struct Gain<'a, V: Copy> {
     pub before: V,

@@ -20,9 +20,11 @@ fn drop_holding(supports: &mut SmallVec<PremiseSet, 1>, premise: Premise) -> boo
     is_held
 }
 
-/// Drops the entries whose support holds the premise. Tells whether there were any. A value may be left with no support.
+/// Drops the entries whose support holds the premise. Tells whether there were any. A value may be
+/// left with no support.
 pub(crate) fn drop_resting<V: Partial>(values: &mut [Valued<V>], premise: Premise) -> bool
-    ensures left { entries_of values.new ≡ filter (λ e. not (set_of e.support premise)) (entries_of values.old) }
+    ensures left { entries_of values.new ≡ filter (λ e. not (set_of e.support premise))
+        (entries_of values.old) }
     ensures values { values_of values.new ≡ values_of values.old }
     ensures went { result ≡ list_any (λ e. set_of e.support premise) (entries_of values.old) }
 {

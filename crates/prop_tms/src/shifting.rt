@@ -20,21 +20,27 @@ fn differs_at(supports: &[PremiseSet], before: &Worldview, after: &Worldview) ->
 
 /// Whether some entry is believed in just one of the worldviews.
 fn differs<V: Partial>(values: &[Valued<V>], before: &Worldview, after: &Worldview) -> bool
-    ensures { result ≡ list_any (λ x. list_any (is_in_one (set_of before.now) (set_of after.now)) x.supports.items) values.now }
+    ensures { result ≡ list_any (λ x.
+        list_any (is_in_one (set_of before.now) (set_of after.now)) x.supports.items) values.now }
 {
     values
         .iter()
         .any(|valued| differs_at(&valued.supports, before, after))
 }
 
-/// Whether what the believed entries say together differs between the worldviews. Where the same are believed no values are merged.
+/// Whether what the believed entries say together differs between the worldviews. Where the same
+/// are believed no values are merged.
 pub(crate) fn shifted<V: Partial>(
     values: &[Valued<V>],
     before: &Worldview,
     after: &Worldview,
 ) -> bool
-    ensures shifted { IsTrue result → belief_of V.bottom V.join (set_of before.now) (entries_of values.now) ≢ belief_of V.bottom V.join (set_of after.now) (entries_of values.now) }
-    ensures stays { result ≡ false → belief_of V.bottom V.join (set_of before.now) (entries_of values.now) ≡ belief_of V.bottom V.join (set_of after.now) (entries_of values.now) }
+    ensures shifted { IsTrue result
+        → belief_of V.bottom V.join (set_of before.now) (entries_of values.now) ≢ belief_of V.bottom
+        V.join (set_of after.now) (entries_of values.now) }
+    ensures stays { result ≡ false
+        → belief_of V.bottom V.join (set_of before.now) (entries_of values.now) ≡ belief_of V.bottom
+        V.join (set_of after.now) (entries_of values.now) }
 {
     differs(values, before, after) && !is_same(belief(values, before), belief(values, after))
 }

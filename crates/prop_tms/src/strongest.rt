@@ -1,5 +1,6 @@
 //! What the believed entries say together, and few premises that are enough for it.
-ghost use Rattle.std.specs.Prelude.{◌≡◌, ◌≤◌, ◌+◌, ℕ, [], length, map, take, option_to_list, All, Contains, IsTrue, IsOk, IfOk, IfSome, IsSomeAnd};
+ghost use Rattle.std.specs.Prelude.{◌≡◌, ◌≤◌, ◌+◌, ℕ, [], length, map, take, option_to_list, All};
+ghost use Rattle.std.specs.Prelude.{Contains, IsTrue, IsOk, IfOk, IfSome, IsSomeAnd};
 ghost use Rattle.std.specs.List.{list_any};
 ghost use Rattle.prop_numbers.specs.Sets.{Members, set_of, is_within};
 ghost use Rattle.prop_tms.specs.Beliefs.{belief_of, believed_of, merge_of_all, IsLean, IsShort};
@@ -23,9 +24,11 @@ pub(crate) fn believes_any(worldview: &Worldview, supports: &[PremiseSet]) -> bo
     supports.iter().any(|support| worldview.believes(support))
 }
 
-/// What the believed entries say together with a value. A value that says nothing new is passed by, and its supports are not looked at.
+/// What the believed entries say together with a value. A value that says nothing new is passed by,
+/// and its supports are not looked at.
 fn said_with<V: Partial>(values: &[Valued<V>], worldview: &Worldview, first: V) -> V
-    ensures { result ≡ V.join first (belief_of V.bottom V.join (set_of worldview.now) (entries_of values.now)) }
+    ensures { result ≡ V.join first
+        (belief_of V.bottom V.join (set_of worldview.now) (entries_of values.now)) }
 {
     let mut merged = first;
     for valued in values {
@@ -36,7 +39,8 @@ fn said_with<V: Partial>(values: &[Valued<V>], worldview: &Worldview, first: V) 
     merged
 }
 
-/// What the believed entries say together. The value added last is looked at first: it often says more than those before it.
+/// What the believed entries say together. The value added last is looked at first: it often says
+/// more than those before it.
 pub(crate) fn belief<V: Partial>(values: &[Valued<V>], worldview: &Worldview) -> V
     ensures { result ≡ belief_of V.bottom V.join (set_of worldview.now) (entries_of values.now) }
 {
@@ -51,7 +55,8 @@ pub(crate) fn belief<V: Partial>(values: &[Valued<V>], worldview: &Worldview) ->
     said_with(earlier, worldview, first)
 }
 
-/// What the entries of the row say together: what those before the last say, with what the last says.
+/// What the entries of the row say together: what those before the last say, with what the last
+/// says.
 fn said_together<V: Partial>(gains: &[Gain<'_, V>]) -> V
     requires { AreGains V.join V.bottom gains.now }
     ensures { result ≡ merge_of_all V.bottom V.join (gained_of gains.now) }
@@ -67,7 +72,8 @@ fn alone<'a, V: Partial>(gains: &[Gain<'a, V>], value: V) -> Option<Entry<'a, V>
     requires { AreRanked (gained_of gains.now) }
     ensures among { IfSome result (λ e. Contains (gained_of gains.now) (entry_of e)) }
     ensures says { IfSome result (λ e. V.below value e.value) }
-    ensures few { (x : Supported V) → Contains (gained_of gains.now) x → V.below value x.value → IsSomeAnd result (λ e. length e.support.now ≤ length x.support) }
+    ensures few { (x : Supported V) → Contains (gained_of gains.now) x → V.below value x.value
+        → IsSomeAnd result (λ e. length e.support.now ≤ length x.support) }
 {
     for gain in gains {
         let Entry {
@@ -84,14 +90,19 @@ fn alone<'a, V: Partial>(gains: &[Gain<'a, V>], value: V) -> Option<Entry<'a, V>
     None
 }
 
-/// How many entries from the front of the row are enough for the value, together with another one: with one less they aren't. It looks at
-/// few of them, always at the one in the middle of those that it can't tell yet.
+/// How many entries from the front of the row are enough for the value, together with another one:
+/// with one less they aren't. It looks at few of them, always at the one in the middle of those
+/// that it can't tell yet.
 fn enough<V: Partial>(gains: &[Gain<'_, V>], other: V, value: V) -> usize
     requires gains { AreGains V.join V.bottom gains.now }
-    requires all { V.below value (V.join (merge_of_all V.bottom V.join (gained_of gains.now)) other) }
+    requires all { V.below value (V.join (merge_of_all V.bottom V.join (gained_of gains.now))
+        other) }
     ensures bound { result ≤ length gains.now }
-    ensures says { V.below value (V.join (merge_of_all V.bottom V.join (gained_of (take result gains.now))) other) }
-    ensures needed { (k : ℕ) → k + 1 ≡ result → ¬ (V.below value (V.join (merge_of_all V.bottom V.join (gained_of (take k gains.now))) other)) }
+    ensures says { V.below value (V.join
+        (merge_of_all V.bottom V.join (gained_of (take result gains.now))) other) }
+    ensures needed { (k : ℕ) → k + 1 ≡ result
+        → ¬ (V.below value (V.join (merge_of_all V.bottom V.join (gained_of (take k gains.now)))
+        other)) }
 {
     let mut low = 0;
     let mut high = gains.len();
@@ -106,8 +117,9 @@ fn enough<V: Partial>(gains: &[Gain<'_, V>], other: V, value: V) -> usize
     low
 }
 
-/// The premises of entries of the row that say this together, as all of them do, and of which none can be left out. From the last back,
-/// an entry goes where those before it and those kept say as much.
+/// The premises of entries of the row that say this together, as all of them do, and of which none
+/// can be left out. From the last back, an entry goes where those before it and those kept say as
+/// much.
 fn thinned<V: Partial>(
     alloc: Global,
     mut gains: Vec<Gain<'_, V>>,
@@ -117,7 +129,9 @@ fn thinned<V: Partial>(
     requires value { value ≡ merge_of_all V.bottom V.join (gained_of gains.items) }
     ensures nothing { gains.entry.items ≡ [] → IsOk result }
     ensures none { gains.entry.items ≡ [] → IfOk result (λ s. s ≡ []) }
-    ensures lean { IfOk result (λ s. (w : Members) → All (λ e. IsTrue (is_within w e.support)) (gained_of gains.entry.items) → IsLean V.bottom V.join (gained_of gains.entry.items) w value s) }
+    ensures lean { IfOk result (λ s. (w : Members)
+        → All (λ e. IsTrue (is_within w e.support)) (gained_of gains.entry.items)
+        → IsLean V.bottom V.join (gained_of gains.entry.items) w value s) }
 {
     let mut after = V::nothing();
     let mut support = PremiseSet::empty(alloc);
@@ -130,13 +144,16 @@ fn thinned<V: Partial>(
     Ok(support)
 }
 
-/// The believed entry, if there is any; nothing where there are more than one. It looks at no entry past the second believed one.
+/// The believed entry, if there is any; nothing where there are more than one. It looks at no entry
+/// past the second believed one.
 #[inline]
 fn sole<'a, V: Partial>(
     values: &'a [Valued<V>],
     worldview: &Worldview,
 ) -> Option<Option<Entry<'a, V>>>
-    ensures { IfSome result (λ found. map entry_of (option_to_list found) ≡ believed_of (set_of worldview.now) (entries_of values.now)) }
+    ensures { IfSome result (λ found.
+        map entry_of (option_to_list found) ≡ believed_of (set_of worldview.now)
+        (entries_of values.now)) }
 {
     let mut found = None;
     for valued in values {
@@ -153,17 +170,22 @@ fn sole<'a, V: Partial>(
     Some(found)
 }
 
-/// What the believed entries say together, with the support of entries of which none can be left out. Entries of few premises come
-/// first, and no believed entry that says as much alone has fewer premises.
+/// What the believed entries say together, with the support of entries of which none can be left
+/// out. Entries of few premises come first, and no believed entry that says as much alone has fewer
+/// premises.
 fn strongest_of_many<V: Partial>(
     alloc: Global,
     values: &[Valued<V>],
     worldview: &Worldview,
 ) -> Result<Supported<V>, AllocError>
-    ensures nothing { belief_of V.bottom V.join (set_of worldview.now) (entries_of values.now) ≡ V.bottom → IsOk result }
-    ensures value { IfOk result (λ e. e.value ≡ belief_of V.bottom V.join (set_of worldview.now) (entries_of values.now)) }
-    ensures lean { IfOk result (λ e. IsLean V.bottom V.join (entries_of values.now) (set_of worldview.now) e.value e.support) }
-    ensures short { IfOk result (λ e. IsShort (entries_of values.now) (set_of worldview.now) e.value e.support) }
+    ensures nothing { belief_of V.bottom V.join (set_of worldview.now)
+        (entries_of values.now) ≡ V.bottom → IsOk result }
+    ensures value { IfOk result (λ e.
+        e.value ≡ belief_of V.bottom V.join (set_of worldview.now) (entries_of values.now)) }
+    ensures lean { IfOk result (λ e.
+        IsLean V.bottom V.join (entries_of values.now) (set_of worldview.now) e.value e.support) }
+    ensures short { IfOk result (λ e.
+        IsShort (entries_of values.now) (set_of worldview.now) e.value e.support) }
 {
     let gains = gains(alloc, values, worldview)?;
     let value = said_together(&gains);
@@ -177,17 +199,22 @@ fn strongest_of_many<V: Partial>(
     Ok(Supported { value, support })
 }
 
-/// What the believed entries say together, with the support of entries of which none can be left out. No believed entry that says as
-/// much alone has fewer premises. Where just one entry is believed, only its support is copied.
+/// What the believed entries say together, with the support of entries of which none can be left
+/// out. No believed entry that says as much alone has fewer premises. Where just one entry is
+/// believed, only its support is copied.
 pub(crate) fn strongest<V: Partial>(
     alloc: Global,
     values: &[Valued<V>],
     worldview: &Worldview,
 ) -> Result<Supported<V>, AllocError>
-    ensures nothing { belief_of V.bottom V.join (set_of worldview.now) (entries_of values.now) ≡ V.bottom → IsOk result }
-    ensures value { IfOk result (λ e. e.value ≡ belief_of V.bottom V.join (set_of worldview.now) (entries_of values.now)) }
-    ensures lean { IfOk result (λ e. IsLean V.bottom V.join (entries_of values.now) (set_of worldview.now) e.value e.support) }
-    ensures short { IfOk result (λ e. IsShort (entries_of values.now) (set_of worldview.now) e.value e.support) }
+    ensures nothing { belief_of V.bottom V.join (set_of worldview.now)
+        (entries_of values.now) ≡ V.bottom → IsOk result }
+    ensures value { IfOk result (λ e.
+        e.value ≡ belief_of V.bottom V.join (set_of worldview.now) (entries_of values.now)) }
+    ensures lean { IfOk result (λ e.
+        IsLean V.bottom V.join (entries_of values.now) (set_of worldview.now) e.value e.support) }
+    ensures short { IfOk result (λ e.
+        IsShort (entries_of values.now) (set_of worldview.now) e.value e.support) }
 {
     match sole(values, worldview) {
         Some(Some(entry)) if !V::nothing().implies(entry.value) => {
@@ -210,7 +237,9 @@ pub(crate) fn sole_support<'a, V: Partial>(
     values: &'a [Valued<V>],
     worldview: &Worldview,
 ) -> Option<&'a PremiseSet>
-    ensures { IfSome result (λ s. IsLean V.bottom V.join (entries_of values.now) (set_of worldview.now) (belief_of V.bottom V.join (set_of worldview.now) (entries_of values.now)) s.now) }
+    ensures { IfSome result (λ s.
+        IsLean V.bottom V.join (entries_of values.now) (set_of worldview.now)
+        (belief_of V.bottom V.join (set_of worldview.now) (entries_of values.now)) s.now) }
 {
     match sole(values, worldview) {
         Some(Some(entry)) if !V::nothing().implies(entry.value) => Some(entry.support),

@@ -1,8 +1,12 @@
 //! The entries of one value.
-ghost use Rattle.std.specs.Prelude.{◌≡◌, ◌≢◌, ◌↔◌, ◌≤◌, ◌+◌, false, not, List, [], length, filter, IsTrue, Ok, IsOk, IfOk, IfSome, OnOk, OnErr};
+ghost use Rattle.std.specs.Prelude.{◌≡◌, ◌≢◌, ◌↔◌, ◌≤◌, ◌+◌, false, not, List, [], length, filter};
+ghost use Rattle.std.specs.Prelude.{IsTrue, Ok, IsOk, IfOk, IfSome, OnOk, OnErr};
 ghost use Rattle.std.specs.List.{list_any};
-ghost use Rattle.prop_numbers.specs.Sets.{Members, set_of, is_within, is_below, is_at_most_one_of, IsBelow};
-ghost use Rattle.prop_tms.specs.Beliefs.{belief_of, IsLeastBelief, Subsumes, NoneSubsumed, NoneAlike, IsNeedless, Adds, IsLean, IsShort, Trims, AreNeeded, joined_with};
+ghost use Rattle.prop_numbers.specs.Sets.{Members, set_of, is_within, is_below, is_at_most_one_of};
+ghost use Rattle.prop_numbers.specs.Sets.{IsBelow};
+ghost use Rattle.prop_tms.specs.Beliefs.{belief_of, IsLeastBelief, Subsumes, NoneSubsumed};
+ghost use Rattle.prop_tms.specs.Beliefs.{NoneAlike, IsNeedless, Adds, IsLean, IsShort, Trims};
+ghost use Rattle.prop_tms.specs.Beliefs.{AreNeeded, joined_with};
 ghost use Rattle.prop_tms.specs.Kept.{IsGrownBy};
 ghost use Rattle.prop_tms.specs.Values.{entries_of};
 ghost use Rattle.prop_tms.specs.inner.Values.{AreKept};
@@ -29,8 +33,9 @@ pub enum Change {
     Grown,
 }
 
-/// What is known of one thing: entries, each a value with the premises that it rests on. None subsumes another, and no two rest on the
-/// same premises. Each value is kept once, with the supports of its entries.
+/// What is known of one thing: entries, each a value with the premises that it rests on. None
+/// subsumes another, and no two rest on the same premises. Each value is kept once, with the
+/// supports of its entries.
 #[derive(Drop)]
 pub struct Tms<V: Partial> {
     values: Values<V>,
@@ -61,16 +66,24 @@ impl<V: Partial> Tms<V> {
         count(&self.values)
     }
 
-    /// Adds a value that is known where the support is believed; it joins what an entry with the same support says. What says nothing
-    /// new takes no memory; after want of memory nothing has changed. More entries than a `usize` counts are want of memory too.
+    /// Adds a value that is known where the support is believed; it joins what an entry with the
+    /// same support says. What says nothing new takes no memory; after want of memory nothing has
+    /// changed. More entries than a `usize` counts are want of memory too.
     pub fn add(&mut self, value: V, support: PremiseSet) -> Result<Change, AllocError>
-        ensures adds { OnOk result (Adds V.bottom V.join self.old self.new (record { value = value; support = support })) }
-        ensures same { IfOk result (λ change. (change ≡ Change.Same) ↔ IsNeedless V.below V.bottom self.old (record { value = value; support = support })) }
-        ensures needless { IsNeedless V.below V.bottom self.old (record { value = value; support = support }) → result ≡ Ok Change.Same }
+        ensures adds { OnOk result (Adds V.bottom V.join self.old self.new
+            (record { value = value; support = support })) }
+        ensures same { IfOk result (λ change.
+            (change ≡ Change.Same) ↔ IsNeedless V.below V.bottom self.old
+            (record { value = value; support = support })) }
+        ensures needless { IsNeedless V.below V.bottom self.old
+            (record { value = value; support = support }) → result ≡ Ok Change.Same }
         ensures unchanged { IfOk result (λ change. change ≡ Change.Same → self.new ≡ self.old) }
         ensures apart { NoneSubsumed V.below self.new }
         ensures alone { NoneAlike self.new }
-        ensures stay { OnOk result (IsGrownBy (Subsumes V.below (joined_with V.bottom V.join self.old (record { value = value; support = support }))) self.old self.new (joined_with V.bottom V.join self.old (record { value = value; support = support }))) }
+        ensures stay { OnOk result (IsGrownBy
+            (Subsumes V.below (joined_with V.bottom V.join self.old
+            (record { value = value; support = support }))) self.old self.new
+            (joined_with V.bottom V.join self.old (record { value = value; support = support }))) }
         ensures len { length self.new ≤ length self.old + 1 }
         ensures err { OnErr result (self.new ≡ self.old) }
     {
@@ -99,65 +112,87 @@ impl<V: Partial> Tms<V> {
         belief(&self.values, worldview)
     }
 
-    /// Whether what the believed entries say together differs between two worldviews. It takes no memory.
+    /// Whether what the believed entries say together differs between two worldviews. It takes no
+    /// memory.
     pub fn shifted(&self, before: &Worldview, after: &Worldview) -> bool
-        ensures shifted { IsTrue result → belief_of V.bottom V.join (set_of before.now) self.now ≢ belief_of V.bottom V.join (set_of after.now) self.now }
-        ensures stays { result ≡ false → belief_of V.bottom V.join (set_of before.now) self.now ≡ belief_of V.bottom V.join (set_of after.now) self.now }
+        ensures shifted { IsTrue result
+            → belief_of V.bottom V.join (set_of before.now) self.now ≢ belief_of V.bottom V.join
+            (set_of after.now) self.now }
+        ensures stays { result ≡ false
+            → belief_of V.bottom V.join (set_of before.now) self.now ≡ belief_of V.bottom V.join
+            (set_of after.now) self.now }
     {
         shifted(&self.values, before, after)
     }
 
-    /// What the believed entries say together, with the support of believed entries that say so, none of which can be left
-    /// out. It has no more premises than any believed entry that alone says as much. Where they say nothing it takes no memory.
+    /// What the believed entries say together, with the support of believed entries that say so,
+    /// none of which can be left out. It has no more premises than any believed entry that alone
+    /// says as much. Where they say nothing it takes no memory.
     pub fn strongest(&self, worldview: &Worldview) -> Result<Supported<V>, AllocError>
-        ensures value { IfOk result (λ e. e.value ≡ belief_of V.bottom V.join (set_of worldview.now) self.now) }
-        ensures nothing { belief_of V.bottom V.join (set_of worldview.now) self.now ≡ V.bottom → IsOk result }
-        ensures lean { IfOk result (λ e. IsLean V.bottom V.join self.now (set_of worldview.now) e.value e.support) }
+        ensures value { IfOk result (λ e.
+            e.value ≡ belief_of V.bottom V.join (set_of worldview.now) self.now) }
+        ensures nothing { belief_of V.bottom V.join (set_of worldview.now) self.now ≡ V.bottom
+            → IsOk result }
+        ensures lean { IfOk result (λ e.
+            IsLean V.bottom V.join self.now (set_of worldview.now) e.value e.support) }
         ensures believed { IfOk result (λ e. IsTrue (is_within (set_of worldview.now) e.support)) }
-        ensures enough { IfOk result (λ e. belief_of V.bottom V.join (set_of e.support) self.now ≡ e.value) }
-        ensures short { IfOk result (λ e. IsShort self.now (set_of worldview.now) e.value e.support) }
+        ensures enough { IfOk result
+            (λ e. belief_of V.bottom V.join (set_of e.support) self.now ≡ e.value) }
+        ensures short { IfOk result (λ e.
+            IsShort self.now (set_of worldview.now) e.value e.support) }
     {
         strongest(*self.values.allocator(), &self.values, worldview)
     }
 
-    /// The support of the only believed entry, where there is just one and it says something: with it alone as much is believed. It takes no memory.
+    /// The support of the only believed entry, where there is just one and it says something: with
+    /// it alone as much is believed. It takes no memory.
     #[inline]
     pub fn sole_support(&self, worldview: &Worldview) -> Option<&PremiseSet>
-        ensures { IfSome result (λ s. IsLean V.bottom V.join self.now (set_of worldview.now) (belief_of V.bottom V.join (set_of worldview.now) self.now) s.now) }
+        ensures { IfSome result (λ s.
+            IsLean V.bottom V.join self.now (set_of worldview.now)
+            (belief_of V.bottom V.join (set_of worldview.now) self.now) s.now) }
     {
         sole_support(&self.values, worldview)
     }
 
     /// How many entries rest on something else than one told premise. It takes no memory.
     pub fn derived(&self, told: &PremiseSet) -> usize
-        ensures { result ≡ length (filter (λ e. not (is_at_most_one_of (set_of told.now) e.support)) self.now) }
+        ensures { result ≡ length (filter (λ e. not (is_at_most_one_of (set_of told.now) e.support))
+            self.now) }
     {
         count_derived(&self.values, told)
     }
 
-    /// Drops entries that the worldview does without, but for those that rest on nothing or on one told premise alone. It takes no memory.
+    /// Drops entries that the worldview does without, but for those that rest on nothing or on one
+    /// told premise alone. It takes no memory.
     pub fn trim(&mut self, told: &PremiseSet, worldview: &Worldview)
-        ensures trims { Trims V.bottom V.join (set_of told.now) (set_of worldview.now) self.old self.new }
-        ensures needed { AreNeeded V.bottom V.join (set_of told.now) (set_of worldview.now) self.new }
+        ensures trims { Trims V.bottom V.join (set_of told.now) (set_of worldview.now) self.old
+            self.new }
+        ensures needed { AreNeeded V.bottom V.join (set_of told.now) (set_of worldview.now)
+            self.new }
     {
         trim(&mut self.values, told, worldview);
     }
 
-    /// Drops the entries whose support holds a premise with a number of `count` or more. It takes no memory.
+    /// Drops the entries whose support holds a premise with a number of `count` or more. It takes
+    /// no memory.
     pub fn back(&mut self, count: usize)
-        ensures beliefs { (w : Members) → IsBelow count w → belief_of V.bottom V.join w self.new ≡ belief_of V.bottom V.join w self.old }
+        ensures beliefs { (w : Members) → IsBelow count w
+            → belief_of V.bottom V.join w self.new ≡ belief_of V.bottom V.join w self.old }
         ensures left { self.new ≡ filter (λ e. is_below count e.support) self.old }
     {
         drop_from(&mut self.values, count);
         drop_bare(&mut self.values);
     }
 
-    /// Drops the entries whose support holds the premise, and tells whether there were any. No other entry is lost: what an entry with the premise
-    /// subsumed held it too. It takes no memory.
+    /// Drops the entries whose support holds the premise, and tells whether there were any. No
+    /// other entry is lost: what an entry with the premise subsumed held it too. It takes no
+    /// memory.
     pub fn purge(&mut self, premise: Premise) -> bool
         ensures left { self.new ≡ filter (λ e. not (set_of e.support premise)) self.old }
         ensures went { result ≡ list_any (λ e. set_of e.support premise) self.old }
-        ensures beliefs { (w : Members) → w premise ≡ false → belief_of V.bottom V.join w self.new ≡ belief_of V.bottom V.join w self.old }
+        ensures beliefs { (w : Members) → w premise ≡ false
+            → belief_of V.bottom V.join w self.new ≡ belief_of V.bottom V.join w self.old }
     {
         let went = drop_resting(&mut self.values, premise);
         drop_bare(&mut self.values);

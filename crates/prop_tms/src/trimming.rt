@@ -1,5 +1,6 @@
 //! Entries that a belief can do without.
-ghost use Rattle.std.specs.Prelude.{◌≡◌, ◌≢◌, ◌<◌, ◌≤◌, ◌+◌, ◌^◌, IsTrue, false, not, length, filter, get_or};
+ghost use Rattle.std.specs.Prelude.{◌≡◌, ◌≢◌, ◌<◌, ◌≤◌, ◌+◌, ◌^◌, IsTrue, false, not, length};
+ghost use Rattle.std.specs.Prelude.{filter, get_or};
 ghost use Rattle.std.specs.List.{remove};
 ghost use Rattle.prop_numbers.specs.Sets.{set_of, is_at_most_one_of};
 ghost use Rattle.prop_tms.specs.Beliefs.{belief_of, NoneSubsumed, NoneAlike, Trims, AreNeeded};
@@ -14,7 +15,8 @@ use prop_premises::{PremiseSet, Worldview};
 
 /// How many of the supports have something else than one told premise.
 fn derived_in(supports: &[PremiseSet], told: &PremiseSet) -> usize
-    ensures { result ≡ length (filter (λ s. not (is_at_most_one_of (set_of told.now) s)) supports.now) }
+    ensures { result ≡ length (filter (λ s. not (is_at_most_one_of (set_of told.now) s))
+        supports.now) }
 {
     supports
         .iter()
@@ -25,7 +27,8 @@ fn derived_in(supports: &[PremiseSet], told: &PremiseSet) -> usize
 /// How many entries rest on something else than one told premise.
 pub(crate) fn count_derived<V: Partial>(values: &[Valued<V>], told: &PremiseSet) -> usize
     requires { length (entries_of values.now) < 2 ^ 64 }
-    ensures { result ≡ length (filter (λ e. not (is_at_most_one_of (set_of told.now) e.support)) (entries_of values.now)) }
+    ensures { result ≡ length (filter (λ e. not (is_at_most_one_of (set_of told.now) e.support))
+        (entries_of values.now)) }
 {
     let mut count = 0;
     for valued in values {
@@ -34,7 +37,8 @@ pub(crate) fn count_derived<V: Partial>(values: &[Valued<V>], told: &PremiseSet)
     count
 }
 
-/// What the entries say together where they are believed, but for the one of a value's support with this place.
+/// What the entries say together where they are believed, but for the one of a value's support with
+/// this place.
 fn belief_without<V: Partial>(
     values: &[Valued<V>],
     at: usize,
@@ -43,7 +47,8 @@ fn belief_without<V: Partial>(
 ) -> V
     requires at { at < length values.now }
     requires place { (d : Valued V) → place < length (get_or values.now at d).supports.items }
-    ensures { result ≡ belief_of V.bottom V.join (set_of worldview.now) (remove (entries_of values.now) (place_of values.now at place)) }
+    ensures { result ≡ belief_of V.bottom V.join (set_of worldview.now)
+        (remove (entries_of values.now) (place_of values.now at place)) }
 {
     let before = belief(&values[..at], worldview);
     let others = before.merge(belief(&values[at + 1..], worldview));
@@ -67,20 +72,29 @@ fn is_needed<V: Partial>(
 ) -> bool
     requires at { at < length values.now }
     requires place { (d : Valued V) → place < length (get_or values.now at d).supports.items }
-    requires value { value ≡ belief_of V.bottom V.join (set_of worldview.now) (entries_of values.now) }
-    ensures needed { IsTrue result → belief_of V.bottom V.join (set_of worldview.now) (remove (entries_of values.now) (place_of values.now at place)) ≢ belief_of V.bottom V.join (set_of worldview.now) (entries_of values.now) }
-    ensures needless { result ≡ false → belief_of V.bottom V.join (set_of worldview.now) (remove (entries_of values.now) (place_of values.now at place)) ≡ belief_of V.bottom V.join (set_of worldview.now) (entries_of values.now) }
+    requires value { value ≡ belief_of V.bottom V.join (set_of worldview.now)
+        (entries_of values.now) }
+    ensures needed { IsTrue result
+        → belief_of V.bottom V.join (set_of worldview.now)
+        (remove (entries_of values.now) (place_of values.now at place)) ≢ belief_of V.bottom V.join
+        (set_of worldview.now) (entries_of values.now) }
+    ensures needless { result ≡ false
+        → belief_of V.bottom V.join (set_of worldview.now)
+        (remove (entries_of values.now) (place_of values.now at place)) ≡ belief_of V.bottom V.join
+        (set_of worldview.now) (entries_of values.now) }
 {
     worldview.believes(&values[at].supports[place])
         && !belief_without(values, at, place, worldview).implies(value)
 }
 
-/// Drops supports that the worldview does without, from the first on, but for those that are empty or one told premise alone. A value may be
-/// left with no support.
+/// Drops supports that the worldview does without, from the first on, but for those that are empty
+/// or one told premise alone. A value may be left with no support.
 fn drop_needless<V: Partial>(values: &mut [Valued<V>], told: &PremiseSet, worldview: &Worldview)
     requires { AreKept V.below values.old }
-    ensures trims { Trims V.bottom V.join (set_of told.now) (set_of worldview.now) (entries_of values.old) (entries_of values.new) }
-    ensures needed { AreNeeded V.bottom V.join (set_of told.now) (set_of worldview.now) (entries_of values.new) }
+    ensures trims { Trims V.bottom V.join (set_of told.now) (set_of worldview.now)
+        (entries_of values.old) (entries_of values.new) }
+    ensures needed { AreNeeded V.bottom V.join (set_of told.now) (set_of worldview.now)
+        (entries_of values.new) }
     ensures subsumed { NoneSubsumed V.below (entries_of values.new) }
     ensures alike { NoneAlike (entries_of values.new) }
     ensures values { values_of values.new ≡ values_of values.old }
@@ -103,11 +117,14 @@ fn drop_needless<V: Partial>(values: &mut [Valued<V>], told: &PremiseSet, worldv
     }
 }
 
-/// Drops entries that the worldview does without, from the first on, but for those that rest on nothing or on one told premise alone.
+/// Drops entries that the worldview does without, from the first on, but for those that rest on
+/// nothing or on one told premise alone.
 pub(crate) fn trim<V: Partial>(values: &mut Values<V>, told: &PremiseSet, worldview: &Worldview)
     requires { AreKept V.below values.old.items }
-    ensures trims { Trims V.bottom V.join (set_of told.now) (set_of worldview.now) (entries_of values.old.items) (entries_of values.new.items) }
-    ensures needed { AreNeeded V.bottom V.join (set_of told.now) (set_of worldview.now) (entries_of values.new.items) }
+    ensures trims { Trims V.bottom V.join (set_of told.now) (set_of worldview.now)
+        (entries_of values.old.items) (entries_of values.new.items) }
+    ensures needed { AreNeeded V.bottom V.join (set_of told.now) (set_of worldview.now)
+        (entries_of values.new.items) }
     ensures kept { AreKept V.below values.new.items }
 {
     drop_needless(values, told, worldview);

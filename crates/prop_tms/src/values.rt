@@ -1,12 +1,15 @@
 //! Values, each once, with the supports that say so.
-ghost use Rattle.std.specs.Prelude.{◌≡◌, ◌≢◌, ◌↔◌, ◌<◌, ◌≤◌, ◌+◌, ◌^◌, ℕ, [], Any, All, false, not, length, filter, get_or, IsTrue, OnOk, OnErr, IfOk, IfSome, IfNone};
+ghost use Rattle.std.specs.Prelude.{◌≡◌, ◌≢◌, ◌↔◌, ◌<◌, ◌≤◌, ◌+◌, ◌^◌, ℕ, [], Any, All, false, not};
+ghost use Rattle.std.specs.Prelude.{length, filter, get_or, IsTrue, OnOk, OnErr, IfOk, IfSome};
+ghost use Rattle.std.specs.Prelude.{IfNone};
 ghost use Rattle.std.specs.List.{list_any};
 ghost use Rattle.smallvec.specs.SmallVec.{HasRoomFor};
 ghost use Rattle.prop_numbers.specs.Sets.{set_of, is_within, is_alike, is_below};
 ghost use Rattle.prop_tms.specs.Beliefs.{Subsumes, IsNeedless, joined_with};
 ghost use Rattle.prop_tms.specs.Kept.{IsLeftWithout};
 ghost use Rattle.prop_tms.specs.Values.{entries_of, entries_of_one};
-ghost use Rattle.prop_tms.specs.inner.Values.{values_of, AreApart, NoneBare, NoneBareBut, NoneEmptied, HasRoomOf};
+ghost use Rattle.prop_tms.specs.inner.Values.{values_of, AreApart, NoneBare, NoneBareBut};
+ghost use Rattle.prop_tms.specs.inner.Values.{NoneEmptied, HasRoomOf};
 ghost use Rattle.prop_tms.specs.declared.supported.Supported.{Supported};
 ghost use Rattle.prop_tms.specs.declared.values.Valued.{Valued};
 
@@ -17,14 +20,16 @@ use smallvec::SmallVec;
 use std::alloc::{AllocError, Global};
 use std::default::MadeWith;
 
-/// A value, and the supports that say so: it is known where all premises of one of them are believed. One support stands in the value itself.
+/// A value, and the supports that say so: it is known where all premises of one of them are
+/// believed. One support stands in the value itself.
 #[derive(Drop)]
 pub struct Valued<V: Drop> {
     pub value: V,
     pub supports: SmallVec<PremiseSet, 1>,
 }
 
-/// A value that says nothing, with no support, so that the first value of a `Tms` can stand in the `Tms` itself.
+/// A value that says nothing, with no support, so that the first value of a `Tms` can stand in the
+/// `Tms` itself.
 impl<V: Partial> MadeWith<Global> for Valued<V> {
     ghost is_made_with = { λ x. x.supports.items ≡ [] };
 
@@ -91,9 +96,11 @@ fn has_same(supports: &[PremiseSet], support: &PremiseSet) -> bool
     supports.iter().any(|other| other.is_same(support))
 }
 
-/// The value of an entry with this value and support, with what the entries that rest on the same premises say.
+/// The value of an entry with this value and support, with what the entries that rest on the same
+/// premises say.
 pub(crate) fn joined<V: Partial>(values: &[Valued<V>], value: V, support: &PremiseSet) -> V
-    ensures { result ≡ (joined_with V.bottom V.join (entries_of values.now) (record { value = value; support = support.now })).value }
+    ensures { result ≡ (joined_with V.bottom V.join (entries_of values.now)
+        (record { value = value; support = support.now })).value }
 {
     let mut said = V::nothing();
     for valued in values {
@@ -115,7 +122,8 @@ pub(crate) fn is_same<V: Partial>(a: V, b: V) -> bool
 /// The place of the value; nothing where it isn't there.
 #[inline]
 fn find<V: Partial>(values: &[Valued<V>], value: V) -> Option<usize>
-    ensures at { IfSome result (λ at. (at < length values.now) × ((d : Valued V) → (get_or values.now at d).value ≡ value)) }
+    ensures at { IfSome result (λ at. (at < length values.now)
+        × ((d : Valued V) → (get_or values.now at d).value ≡ value)) }
     ensures new { IfNone result (All (λ x. x.value ≢ value) values.now) }
 {
     values
@@ -123,7 +131,8 @@ fn find<V: Partial>(values: &[Valued<V>], value: V) -> Option<usize>
         .position(|valued| is_same(valued.value, value))
 }
 
-/// Makes room for one support more of the value at a place. After want of memory nothing has changed.
+/// Makes room for one support more of the value at a place. After want of memory nothing has
+/// changed.
 #[inline]
 fn make_room<V: Partial>(values: &mut [Valued<V>], place: usize) -> Result<(), AllocError>
     requires { place < length values.old }
@@ -131,20 +140,24 @@ fn make_room<V: Partial>(values: &mut [Valued<V>], place: usize) -> Result<(), A
     ensures same { entries_of values.new ≡ entries_of values.old }
     ensures bare { NoneBare values.old → NoneBare values.new }
     ensures others { NoneBare values.old → NoneBareBut place values.new }
-    ensures room { OnOk result ((d : Valued V) → HasRoomFor (get_or values.new place d).supports 1) }
+    ensures room { OnOk result ((d : Valued V)
+        → HasRoomFor (get_or values.new place d).supports 1) }
 {
     values[place].supports.reserve(1)
 }
 
-/// The place of the value, with room for one support more. A new value stands last, with no support yet. After want of memory nothing
-/// has changed.
+/// The place of the value, with room for one support more. A new value stands last, with no support
+/// yet. After want of memory nothing has changed.
 pub(crate) fn room_for<V: Partial>(values: &mut Values<V>, value: V) -> Result<usize, AllocError>
     requires apart { AreApart values.old.items }
     ensures same { entries_of values.new.items ≡ entries_of values.old.items }
     ensures apart { AreApart values.new.items }
-    ensures place { IfOk result (λ at. (at < length values.new.items) × ((d : Valued V) → (get_or values.new.items at d).value ≡ value)) }
-    ensures room { IfOk result (λ at. (d : Valued V) → HasRoomFor (get_or values.new.items at d).supports 1) }
-    ensures others { IfOk result (λ at. NoneBare values.old.items → NoneBareBut at values.new.items) }
+    ensures place { IfOk result (λ at. (at < length values.new.items)
+        × ((d : Valued V) → (get_or values.new.items at d).value ≡ value)) }
+    ensures room { IfOk result (λ at. (d : Valued V)
+        → HasRoomFor (get_or values.new.items at d).supports 1) }
+    ensures others { IfOk result (λ at. NoneBare values.old.items
+        → NoneBareBut at values.new.items) }
     ensures err { OnErr result (NoneBare values.old.items → NoneBare values.new.items) }
 {
     if let Some(place) = find(values, value) {
@@ -159,7 +172,8 @@ pub(crate) fn room_for<V: Partial>(values: &mut Values<V>, value: V) -> Result<u
 /// Drops the supports that this one is part of, and tells whether it dropped all that there were.
 fn drop_wider(supports: &mut SmallVec<PremiseSet, 1>, support: &PremiseSet) -> bool
     ensures emptied { result ≡ false → supports.new.items ≡ [] → supports.old.items ≡ [] }
-    ensures kept { supports.new.items ≡ filter (λ s. not (is_within (set_of s) support.now)) supports.old.items }
+    ensures kept { supports.new.items ≡ filter (λ s. not (is_within (set_of s) support.now))
+        supports.old.items }
     ensures capacity { supports.new.capacity ≡ supports.old.capacity }
     ensures len { length supports.new.items ≤ length supports.old.items }
 {
@@ -171,9 +185,11 @@ fn drop_wider(supports: &mut SmallVec<PremiseSet, 1>, support: &PremiseSet) -> b
 /// Drops the entries that this one subsumes, and tells whether it left a value with no support.
 pub(crate) fn drop_subsumed<V: Partial>(values: &mut [Valued<V>], entry: &Supported<V>) -> bool
     ensures emptied { result ≡ false → NoneEmptied values.old values.new }
-    ensures kept { IsLeftWithout (Subsumes V.below entry.now) (entries_of values.old) (entries_of values.new) }
+    ensures kept { IsLeftWithout (Subsumes V.below entry.now) (entries_of values.old)
+        (entries_of values.new) }
     ensures values { values_of values.new ≡ values_of values.old }
-    ensures room { (k : ℕ) (d : Valued V) → k < length values.old → HasRoomOf (get_or values.new k d) (get_or values.old k d) }
+    ensures room { (k : ℕ) (d : Valued V) → k < length values.old
+        → HasRoomOf (get_or values.new k d) (get_or values.old k d) }
 {
     let mut emptied = false;
     for valued in values {
@@ -223,9 +239,11 @@ fn drop_wanting(supports: &mut SmallVec<PremiseSet, 1>, count: usize)
     supports.retain(|support| support.is_below(count));
 }
 
-/// Drops the entries whose support holds a premise with a number of `count` or more. A value may be left with no support.
+/// Drops the entries whose support holds a premise with a number of `count` or more. A value may be
+/// left with no support.
 pub(crate) fn drop_from<V: Partial>(values: &mut [Valued<V>], count: usize)
-    ensures left { entries_of values.new ≡ filter (λ e. is_below count e.support) (entries_of values.old) }
+    ensures left { entries_of values.new ≡ filter (λ e. is_below count e.support)
+        (entries_of values.old) }
     ensures values { values_of values.new ≡ values_of values.old }
 {
     for valued in values {

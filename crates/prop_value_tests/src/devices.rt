@@ -1,5 +1,6 @@
-//! Sessions over a reader and a writer that count what they are asked for, since `Devices` tells of its own calls what no contract can tell of a
-//! device: that each is made once, as wide as it was asked for, and no fault made up.
+//! Sessions over a reader and a writer that count what they are asked for, since `Devices` tells of
+//! its own calls what no contract can tell of a device: that each is made once, as wide as it was
+//! asked for, and no fault made up.
 ghost use Rattle.std.specs.Prelude.{⊤};
 ghost use Rattle.prop_engine.specs.Answers.{Silent};
 

@@ -1,5 +1,6 @@
-//! Worked values of informations, sets, premises, supported values, nogoods and spans, and sessions over devices that count, by calls of the crates themselves.
-//! They stand apart, so that no crate is proved a second time for its tests. Whole sessions stand in tests/, at the top.
+//! Worked values of informations, sets, premises, supported values, nogoods and spans, and sessions
+//! over devices that count, by calls of the crates themselves. They stand apart, so that no crate
+//! is proved a second time for its tests. Whole sessions stand in tests/, at the top.
 #![tactic(auto)]
 
 #[cfg(test)]

@@ -1,5 +1,6 @@
 -- Two dots in a row, a byte at a time.
-use Rattle.std.proofs.Common.{◌≡◌, ℕ, ◌<◌, ◌≤◌, ◌+◌, ◌-◌, List, [], ◌∷◌, ◌++◌, length, take, drop, get_or, false, eqb, refl, sym, ◌∙◌, ap, subst, arith, inl, inr, zero, suc, Option, None}
+use Rattle.std.proofs.Common.{◌≡◌, ℕ, ◌<◌, ◌≤◌, ◌+◌, ◌-◌, List, [], ◌∷◌, ◌++◌, length, take, drop, get_or, false, eqb}
+use Rattle.std.proofs.Common.{refl, sym, ◌∙◌, ap, subst, arith, inl, inr, zero, suc, Option, None}
 use Rattle.std.specs.Prelude.{◌&&◌}
 use Rattle.std.proofs.lemmas.List.{take-append-drop, length-drop}
 use Rattle.std.proofs.lemmas.Bool.Decides.{eqb_tells}
@@ -15,14 +16,18 @@ not_both a b h = elim (eqb_tells a 46) [
   | inl p ↦ elim (eqb_tells b 46) [ inr q ↦ rw (p.0, q.0) refl | inl q ↦ absurd (h p.1 q.1) ]
 ]
 
-one_more : (word : List ℕ) (k : ℕ) → suc k < length word → (get_or word k 0 ≡ 46 → get_or word (suc k) 0 ≡ 46 → ⊥) → behind_front (take (suc k) word) (halves (drop (suc k) word)) ≡ behind_front (take k word) (halves (drop k word))
+one_more : (word : List ℕ) (k : ℕ) → suc k < length word → (get_or word k 0 ≡ 46 → get_or word (suc k) 0 ≡ 46 → ⊥)
+    → behind_front (take (suc k) word) (halves (drop (suc k) word)) ≡ behind_front (take k word) (halves (drop k word))
 one_more [] k l h = absurd (omega arith)
 one_more (a ∷ []) k l h = absurd (omega arith)
 one_more (a ∷ b ∷ word) zero l h = rw (not_both a b h) refl
 one_more (a ∷ b ∷ word) (suc k) l h = ap (behind_front (a ∷ [])) (one_more (b ∷ word) k (omega arith) h)
 
 -- two places that aren't both dots
-pub past_place : (word : List ℕ) (i : ℕ) → 1 ≤ i → i < length word → (get_or word (i - 1) 0 ≡ 46 → get_or word i 0 ≡ 46 → ⊥) → behind_front (take (i - 1) word) (halves (drop (i - 1) word)) ≡ halves word → behind_front (take (i + 1 - 1) word) (halves (drop (i + 1 - 1) word)) ≡ halves word
+pub past_place : (word : List ℕ) (i : ℕ) → 1 ≤ i → i < length word
+    → (get_or word (i - 1) 0 ≡ 46 → get_or word i 0 ≡ 46 → ⊥)
+    → behind_front (take (i - 1) word) (halves (drop (i - 1) word)) ≡ halves word
+    → behind_front (take (i + 1 - 1) word) (halves (drop (i + 1 - 1) word)) ≡ halves word
 past_place word zero p l h e = absurd (omega arith)
 past_place word (suc k) p l h e =
     let P : ℕ → Type 0 = λ m. behind_front (take m word) (halves (drop m word)) ≡ halves word in
@@ -36,6 +41,9 @@ no_dots (a ∷ []) l = refl
 no_dots (a ∷ b ∷ word) l = absurd (omega arith)
 
 -- no two dots up to the end
-pub past_all : (word : List ℕ) (i : ℕ) → length word ≤ i → behind_front (take (i - 1) word) (halves (drop (i - 1) word)) ≡ halves word → halves word ≡ (word, None)
+pub past_all : (word : List ℕ) (i : ℕ) → length word ≤ i
+    → behind_front (take (i - 1) word) (halves (drop (i - 1) word)) ≡ halves word → halves word ≡ (word, None)
 past_all word i l e =
-    sym e ∙ ap (behind_front (take (i - 1) word)) (no_dots (drop (i - 1) word) (omega (arith, length-drop (i - 1) word))) ∙ ap (λ w. (w, None)) (take-append-drop (i - 1) word)
+    sym e ∙ ap (behind_front (take (i - 1) word))
+    (no_dots (drop (i - 1) word) (omega (arith, length-drop (i - 1) word)))
+    ∙ ap (λ w. (w, None)) (take-append-drop (i - 1) word)

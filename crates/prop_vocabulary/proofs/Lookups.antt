@@ -1,5 +1,7 @@
 -- Names and their numbers.
-use Rattle.std.proofs.Common.{◌≡◌, ◌∙◌, ◌<◌, ℕ, Bool, true, false, ◌||◌, List, [], ◌∷◌, ◌++◌, Option, Some, None, All, map, length, take, position, bytes_eq, get_or, ◌+◌, refl, sym, ap, arith, is_none, unwrap_or, string_bytes, cond, nat_lt, ◌≤◌}
+use Rattle.std.proofs.Common.{◌≡◌, ◌∙◌, ◌<◌, ℕ, Bool, true, false, ◌||◌, List, [], ◌∷◌, ◌++◌, Option, Some, None, All}
+use Rattle.std.proofs.Common.{map, length, take, position, bytes_eq, get_or, ◌+◌, refl, sym, ap, arith, is_none}
+use Rattle.std.proofs.Common.{unwrap_or, string_bytes, cond, nat_lt, ◌≤◌}
 use Rattle.std.specs.Borrow.{Bor}
 use Rattle.std.specs.List.{list_any}
 use Rattle.std.specs.List.{position_or_len}
@@ -16,21 +18,26 @@ use Rattle.prop_sets.proofs.NameLemmas.{position-names}
 use Rattle.prop_vocabulary.specs.Names.{number_in, numbers_in, is_missing}
 
 -- the number of a name among strings
-pub number_of_name : {Z : Type 0} (names : List (String Z)) (name : List ℕ) (r : Option ℕ) → r ≡ position (λ other. bytes_eq name (string_bytes other)) names → r ≡ number_in (map string_bytes names) name
+pub number_of_name : {Z : Type 0} (names : List (String Z)) (name : List ℕ) (r : Option ℕ)
+    → r ≡ position (λ other. bytes_eq name (string_bytes other)) names → r ≡ number_in (map string_bytes names) name
 number_of_name names name r e = e ∙ sym (position-names name names)
 
-pub list_any-map : {X Y : Type 0} (f : X → Y) (p : Y → Bool) (xs : List X) → list_any p (map f xs) ≡ list_any (λ x. p (f x)) xs
+pub list_any-map : {X Y : Type 0} (f : X → Y) (p : Y → Bool) (xs : List X)
+    → list_any p (map f xs) ≡ list_any (λ x. p (f x)) xs
 list_any-map f p [] = refl
 list_any-map f p (x ∷ xs) = ap (λ b. p (f x) || b) (list_any-map f p xs)
 
-pub missing_among : (names : List (List ℕ)) (cells : List (Bor (List ℕ))) (r : Bool) → r ≡ list_any (λ x. is_none (number_in names x.now)) cells → r ≡ is_missing names (map (λ x. x.now) cells)
-missing_among names cells r e = e ∙ sym (list_any-map (λ (x : Bor (List ℕ)). x.now) (λ name. is_none (number_in names name)) cells)
+pub missing_among : (names : List (List ℕ)) (cells : List (Bor (List ℕ))) (r : Bool)
+    → r ≡ list_any (λ x. is_none (number_in names x.now)) cells → r ≡ is_missing names (map (λ x. x.now) cells)
+missing_among names cells r e = e ∙ sym
+    (list_any-map (λ (x : Bor (List ℕ)). x.now) (λ name. is_none (number_in names name)) cells)
 
 -- a name that is there has a number below the length
 pub number_below : (names : List (List ℕ)) (name : List ℕ) (n : ℕ) → number_in names name ≡ Some n → n < length names
 number_below names name n e = (position-Some (bytes_eq name) names n [] e).0
 
-found_below : (names : List (List ℕ)) (name : List ℕ) (o : Option ℕ) → number_in names name ≡ o → is_none o ≡ false → unwrap_or o 0 < length names
+found_below : (names : List (List ℕ)) (name : List ℕ) (o : Option ℕ) → number_in names name ≡ o → is_none o ≡ false
+    → unwrap_or o 0 < length names
 found_below names name None e h = cc
 found_below names name (Some n) e h = number_below names name n e
 
@@ -38,14 +45,18 @@ pub or_false : (a b : Bool) → (a || b) ≡ false → (a ≡ false) × (b ≡ f
 or_false true b h = cc
 or_false false b h = (refl, h)
 
-pub numbers_below : (names : List (List ℕ)) (cells : List (List ℕ)) → is_missing names cells ≡ false → All (λ c. c < length names) (numbers_in names cells)
+pub numbers_below : (names : List (List ℕ)) (cells : List (List ℕ)) → is_missing names cells ≡ false
+    → All (λ c. c < length names) (numbers_in names cells)
 numbers_below names [] h = λ k d l. absurd (omega (arith, l))
 numbers_below names (name ∷ cells) h =
     let both = or_false (is_none (number_in names name)) (is_missing names cells) h in
-    All-cons (λ c. c < length names) (unwrap_or (number_in names name) 0) (numbers_in names cells) (found_below names name (number_in names name) refl both.0) (numbers_below names cells both.1)
+    All-cons (λ c. c < length names) (unwrap_or (number_in names name) 0) (numbers_in names cells)
+    (found_below names name (number_in names name) refl both.0) (numbers_below names cells both.1)
 
-pub numbers_more : (names : List (List ℕ)) (cells : List (Bor (List ℕ))) (i : ℕ) (d : Bor (List ℕ)) (old new : List ℕ) (n : ℕ) → i < length cells → old ≡ numbers_in names (map (λ x. x.now) (take i cells)) →
-    new ≡ old ++ n ∷ [] → n ≡ unwrap_or (number_in names (get_or cells i d).now) 0 → new ≡ numbers_in names (map (λ x. x.now) (take (i + 1) cells))
+pub numbers_more : (names : List (List ℕ)) (cells : List (Bor (List ℕ))) (i : ℕ) (d : Bor (List ℕ)) (old new : List ℕ)
+    (n : ℕ) → i < length cells → old ≡ numbers_in names (map (λ x. x.now) (take i cells)) →
+    new ≡ old ++ n ∷ [] → n ≡ unwrap_or (number_in names (get_or cells i d).now) 0
+    → new ≡ numbers_in names (map (λ x. x.now) (take (i + 1) cells))
 numbers_more names cells i d old new n l e f k =
     rw (take_more cells i d l, map-append, map-append) (f ∙ (λ t. e t ++ k t ∷ []))
 
@@ -53,18 +64,24 @@ numbers_more names cells i d old new n l e f k =
 pub nowhere : {X : Type 0} (p : X → Bool) (xs : List X) → position p xs ≡ None → list_any p xs ≡ false
 nowhere p xs e = list_any_none p xs (λ k d l. fails_before_first p xs k d (past k l))
   where
-    at_end : (b : Bool) → nat_lt (position_or_len p xs) (length xs) ≡ b → position p xs ≡ None → length xs ≤ position_or_len p xs
-    at_end true t h = let s : Some (position_or_len p xs) ≡ None = sym (ap (λ b. cond b (Some (position_or_len p xs)) None) t) ∙ h in cc
+    at_end : (b : Bool) → nat_lt (position_or_len p xs) (length xs) ≡ b → position p xs ≡ None
+        → length xs ≤ position_or_len p xs
+    at_end true t h = let s : Some (position_or_len p xs) ≡ None =
+        sym (ap (λ b. cond b (Some (position_or_len p xs)) None) t) ∙ h in cc
     at_end false t h = ltb-false (position_or_len p xs) (length xs) t
 
     past : (k : ℕ) → k < length xs → k < position_or_len p xs
     past k l = omega (arith, l, at_end (nat_lt (position_or_len p xs) (length xs)) refl e)
 
-pub absent : {Z : Type 0} (keys : List (String Z)) (name : List ℕ) (owned : String Z) → string_bytes owned ≡ name → number_in (map string_bytes keys) name ≡ None → list_any (string_eq owned) keys ≡ false
+pub absent : {Z : Type 0} (keys : List (String Z)) (name : List ℕ) (owned : String Z) → string_bytes owned ≡ name
+    → number_in (map string_bytes keys) name ≡ None → list_any (string_eq owned) keys ≡ false
 absent keys name owned same none =
-    nowhere (string_eq owned) keys (sym (position-names (string_bytes owned) keys) ∙ ap (λ n. number_in (map string_bytes keys) n) same ∙ none)
+    nowhere (string_eq owned) keys (sym (position-names (string_bytes owned) keys)
+    ∙ ap (λ n. number_in (map string_bytes keys) n) same ∙ none)
 
-pub pushed : {Z : Type 0} (old new : List (String Z)) (name : List ℕ) (owned : String Z) → string_bytes owned ≡ name → number_in (map string_bytes old) name ≡ None →
+pub pushed : {Z : Type 0} (old new : List (String Z)) (name : List ℕ) (owned : String Z) → string_bytes owned ≡ name
+    → number_in (map string_bytes old) name ≡ None →
     new ≡ insert_key string_eq old owned → map string_bytes new ≡ map string_bytes old ++ name ∷ []
 pushed old new name owned same none e =
-    ap (map string_bytes) (e ∙ ap (λ b. cond b old (old ++ owned ∷ [])) (absent old name owned same none)) ∙ map-append string_bytes old (owned ∷ []) ∙ ap (λ n. map string_bytes old ++ n ∷ []) same
+    ap (map string_bytes) (e ∙ ap (λ b. cond b old (old ++ owned ∷ [])) (absent old name owned same none))
+    ∙ map-append string_bytes old (owned ∷ []) ∙ ap (λ n. map string_bytes old ++ n ∷ []) same

@@ -1,5 +1,6 @@
 -- The cells that have a name.
-use Rattle.std.specs.Prelude.{ℕ, ◌-◌, List, [], ◌∷◌, ◌++◌, Bool, Option, length, map, take, is_none, slice_get, unwrap_or}
+use Rattle.std.specs.Prelude.{ℕ, ◌-◌, List, [], ◌∷◌, ◌++◌, Bool, Option, length, map, take, is_none}
+use Rattle.std.specs.Prelude.{slice_get, unwrap_or}
 use Rattle.std.specs.List.{list_any}
 use Rattle.std.specs.Option.{option_and_then}
 use Rattle.prop_vocabulary.specs.Names.{number_in}
@@ -30,4 +31,7 @@ with_cell_name c name cell = record { names = c.names ++ name ∷ []; cells = c.
 
 -- all names but the last
 abbrev pub without_last_cell_name : CellNames → CellNames
-without_last_cell_name c = record { names = take (length c.names - 1) c.names; cells = take (length c.cells - 1) c.cells }
+without_last_cell_name c = record {
+  names = take (length c.names - 1) c.names;
+  cells = take (length c.cells - 1) c.cells;
+}

@@ -23,7 +23,8 @@ with_pairs first second m pairs = fold (with_named_pair first second) m pairs
 
 -- the first word is no element of the first domain, or the second word none of the second
 abbrev pub is_pair_outside : List (List ℕ) → List (List ℕ) → List ℕ × List ℕ → Bool
-is_pair_outside first second pair = is_none (number_in first pair.0) || is_none (number_in second pair.1)
+is_pair_outside first second pair =
+    is_none (number_in first pair.0) || is_none (number_in second pair.1)
 
 -- one of the pairs has such a word
 abbrev pub is_outside : List (List ℕ) → List (List ℕ) → List (List ℕ × List ℕ) → Bool

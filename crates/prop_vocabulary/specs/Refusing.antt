@@ -1,9 +1,13 @@
 -- For what a declaration is refused: each condition by itself, and which of them comes first.
-use Rattle.std.specs.Prelude.{◌≡◌, ◌⊎◌, ℕ, List, [], ◌∷◌, Bool, ◌||◌, ◌&&◌, nat_le, nat_lt, Option, Some, length, is_some, is_none, unwrap_or}
+use Rattle.std.specs.Prelude.{◌≡◌, ◌⊎◌, ℕ, List, [], ◌∷◌, Bool, ◌||◌, ◌&&◌, nat_le, nat_lt, Option}
+use Rattle.std.specs.Prelude.{Some, length, is_some, is_none, unwrap_or}
 use Rattle.prop_refusals.specs.Refusals.{most, when, first_of}
-use Rattle.prop_refusals.specs.declared.refusal.Limit.TheVariants.{Domains, Elements, Relations, Symbols}
+use Rattle.prop_refusals.specs.declared.refusal.Limit.TheVariants.{Domains, Elements, Relations}
+use Rattle.prop_refusals.specs.declared.refusal.Limit.TheVariants.{Symbols}
 use Rattle.prop_refusals.specs.declared.refusal.Refusal.{Refusal}
-use Rattle.prop_refusals.specs.declared.refusal.Refusal.TheVariants.{NameTaken, NoSuchDomain, NotInTheDomain, LimitReached, Memory}
+use Rattle.prop_refusals.specs.declared.refusal.Refusal.TheVariants.{NameTaken, NoSuchDomain}
+use Rattle.prop_refusals.specs.declared.refusal.Refusal.TheVariants.{NotInTheDomain, LimitReached}
+use Rattle.prop_refusals.specs.declared.refusal.Refusal.TheVariants.{Memory}
 use Rattle.prop_sets.specs.Names.{has_repeat}
 use Rattle.prop_vocabulary.specs.Names.{number_in}
 use Rattle.prop_vocabulary.specs.Pairs.{is_outside}
@@ -42,15 +46,18 @@ is_domain_missing v from to = is_none (domain_number v from) || is_none (domain_
 -- a word of a pair is no element of its domain
 abbrev pub is_word_outside : Vocabulary → List ℕ → List ℕ → List (List ℕ × List ℕ) → Bool
 is_word_outside v from to pairs =
-    is_outside (elements_of v (unwrap_or (domain_number v from) 0)) (elements_of v (unwrap_or (domain_number v to) 0)) pairs
+    is_outside (elements_of v (unwrap_or (domain_number v from) 0))
+    (elements_of v (unwrap_or (domain_number v to) 0)) pairs
 
 -- why these are no pairs of the two domains
 abbrev pub pairs_refusal : Vocabulary → List ℕ → List ℕ → List (List ℕ × List ℕ) → Option Refusal
 pairs_refusal v from to pairs =
-    first_of (when NoSuchDomain (is_domain_missing v from to) ∷ when NotInTheDomain (is_word_outside v from to pairs) ∷ [])
+    first_of (when NoSuchDomain (is_domain_missing v from to) ∷ when NotInTheDomain
+    (is_word_outside v from to pairs) ∷ [])
 
 -- why the relation may not be declared
-abbrev pub relation_refusal : Vocabulary → List ℕ → List ℕ → List ℕ → List (List ℕ × List ℕ) → Option Refusal
+abbrev pub relation_refusal : Vocabulary → List ℕ → List ℕ → List ℕ → List (List ℕ × List ℕ)
+    → Option Refusal
 relation_refusal v name from to pairs =
     first_of (
     when NameTaken (is_some (number_in v.relation_names name))
@@ -64,4 +71,5 @@ relation_refusal v name from to pairs =
 -- why the symbol may not be added: it is new, and there are as many as there can be
 abbrev pub symbol_refusal : Vocabulary → List ℕ → Option Refusal
 symbol_refusal v name =
-    when (LimitReached Symbols) (is_none (number_in v.symbols name) && nat_le (most Symbols) (length v.symbols))
+    when (LimitReached Symbols) (is_none (number_in v.symbols name) && nat_le (most Symbols)
+    (length v.symbols))

@@ -1,18 +1,22 @@
 -- The texts of values.
-use Rattle.std.specs.Prelude.{ℕ, zero, suc, ℤ, List, [], ◌∷◌, ◌++◌, Option, None, ◌==◌, codes, if◌then◌else◌, length, slice_get, unwrap_or}
+use Rattle.std.specs.Prelude.{ℕ, zero, suc, ℤ, List, [], ◌∷◌, ◌++◌, Option, None, ◌==◌, codes}
+use Rattle.std.specs.Prelude.{if◌then◌else◌, length, slice_get, unwrap_or}
 use Rattle.std.specs.Fmt.{signed_decimal}
 use Rattle.std.specs.Int.{bit_at}
 use Rattle.std.specs.List.{join_by}
 use Rattle.std.specs.Ordering.{int_eq}
 use Rattle.prop_lattice.specs.declared.info.Info.{Info}
-use Rattle.prop_lattice.specs.declared.info.Info.TheVariants.{Nothing, Span, Set, Sym, Contradiction}
+use Rattle.prop_lattice.specs.declared.info.Info.TheVariants.{Nothing, Span, Set, Sym}
+use Rattle.prop_lattice.specs.declared.info.Info.TheVariants.{Contradiction}
 use Rattle.prop_lattice.specs.declared.info.Kind.{Kind}
-use Rattle.prop_lattice.specs.declared.info.Kind.TheVariants.{Span as SpanKind, Set as SetKind, Symbol as SymbolKind}
+use Rattle.prop_lattice.specs.declared.info.Kind.TheVariants.{Span as SpanKind, Set as SetKind}
+use Rattle.prop_lattice.specs.declared.info.Kind.TheVariants.{Symbol as SymbolKind}
 use Rattle.prop_vocabulary.specs.Vocabulary.{Vocabulary}
 
 -- a..b, or a where both are equal
 abbrev pub span_text : ℤ → ℤ → List ℕ
-span_text low high = if int_eq low high then signed_decimal low else signed_decimal low ++ (codes ".." ++ signed_decimal high)
+span_text low high = if int_eq low high then signed_decimal low else signed_decimal
+    low ++ (codes ".." ++ signed_decimal high)
 
 -- the name of the element with this number, nothing where there is none
 abbrev pub name_at : List (List ℕ) → ℕ → List ℕ

@@ -1,9 +1,12 @@
 -- What a value on a line says at a cell of a kind.
-use Rattle.std.specs.Prelude.{ℕ, ℤ, neg_ℤ, int_lt, List, [], ◌∷◌, length, slice_index_or, cond, ◌==◌, ◌&&◌, Option, Some, None, Result, Ok, Err}
+use Rattle.std.specs.Prelude.{ℕ, ℤ, neg_ℤ, int_lt, List, [], ◌∷◌, length, slice_index_or, cond}
+use Rattle.std.specs.Prelude.{◌==◌, ◌&&◌, Option, Some, None, Result, Ok, Err}
 use Rattle.std.specs.List.{list_all}
 use Rattle.prop_lattice.specs.declared.span.TheConstants.{B}
 use Rattle.prop_refusals.specs.declared.refusal.Refusal.{Refusal}
-use Rattle.prop_refusals.specs.declared.refusal.Refusal.TheVariants.{NotAName, NotANumber, WrongKind, NotInTheDomain, EmptyValue}
+use Rattle.prop_refusals.specs.declared.refusal.Refusal.TheVariants.{NotAName, NotANumber}
+use Rattle.prop_refusals.specs.declared.refusal.Refusal.TheVariants.{WrongKind, NotInTheDomain}
+use Rattle.prop_refusals.specs.declared.refusal.Refusal.TheVariants.{EmptyValue}
 use Rattle.prop_lattice.specs.declared.info.Info.{Info}
 use Rattle.prop_lattice.specs.declared.info.Kind.{Kind}
 use Rattle.prop_lattice.specs.declared.info.Kind.TheVariants.{Span, Set, Symbol}
@@ -20,14 +23,16 @@ onto_left b (left, right) = (b ∷ left, right)
 abbrev pub halves : List ℕ → List ℕ × Option (List ℕ)
 halves [] = ([], None)
 halves (a ∷ []) = (a ∷ [], None)
-halves (a ∷ b ∷ bytes) = cond ((a == 46) && (b == 46)) ([], Some bytes) (onto_left a (halves (b ∷ bytes)))
+halves (a ∷ b ∷ bytes) = cond ((a == 46) && (b == 46)) ([], Some bytes)
+    (onto_left a (halves (b ∷ bytes)))
 
 -- a number of the largest magnitude at most
 abbrev pub bounded_number : List ℕ → Option ℤ
 bounded_number word = number_in (neg_ℤ B) B word
 
 abbrev pub ends_value : Option ℤ → Option ℤ → Result Info Refusal
-ends_value (Some low) (Some high) = cond (int_lt high low) (Err EmptyValue) (Ok (span_from low high))
+ends_value (Some low) (Some high) =
+    cond (int_lt high low) (Err EmptyValue) (Ok (span_from low high))
 ends_value (Some low) None = Err NotANumber
 ends_value None high = Err NotANumber
 
@@ -44,7 +49,8 @@ bits_named names words = bits_where (length names) (λ i. is_among words (slice_
 abbrev pub set_value : List (List ℕ) → List (List ℕ) → Result Info Refusal
 set_value names [] = Err EmptyValue
 set_value names (w ∷ words) =
-    cond (list_all (is_among names) (w ∷ words)) (Ok (elements_from (bits_named names (w ∷ words)))) (Err NotInTheDomain)
+    cond (list_all (is_among names) (w ∷ words)) (Ok (elements_from (bits_named names (w ∷ words))))
+    (Err NotInTheDomain)
 
 -- an information, or the name of a symbol
 pub data Meant : Type 0 where

@@ -1,5 +1,6 @@
 -- The vocabulary of a session: its domains, relations and symbols by name.
-use Rattle.std.specs.Prelude.{◌≡◌, ℕ, ◌+◌, ◌<◌, ◌≤◌, List, [], ◌∷◌, ◌++◌, All, Option, Some, codes, is_some, if◌then◌else◌, length, slice_get, take, unwrap_or}
+use Rattle.std.specs.Prelude.{◌≡◌, ℕ, ◌+◌, ◌<◌, ◌≤◌, List, [], ◌∷◌, ◌++◌, All, Option, Some, codes}
+use Rattle.std.specs.Prelude.{is_some, if◌then◌else◌, length, slice_get, take, unwrap_or}
 use Rattle.std.specs.Option.{option_map, option_and_then}
 use Rattle.prop_refusals.specs.Refusals.{most}
 use Rattle.prop_refusals.specs.declared.refusal.Limit.TheVariants.{Domains, Relations, Symbols}
@@ -10,8 +11,8 @@ use Rattle.prop_vocabulary.specs.Names.{number_in}
 use Rattle.prop_vocabulary.specs.Pairs.{with_pairs}
 use Rattle.prop_vocabulary.specs.Sides.{side_from}
 
--- the names of the declared domains, the elements of each domain by its number, that of truth first, the names of the
--- relations and the relations, and the names of the symbols
+-- the names of the declared domains, the elements of each domain by its number, that of truth
+-- first, the names of the relations and the relations, and the names of the symbols
 pub record Vocabulary : Type 0 where
   pub domain_names : List (List ℕ)
   pub domains : List (List (List ℕ))
@@ -25,11 +26,18 @@ truth_elements = codes "yes" ∷ codes "no" ∷ []
 
 -- nothing is declared
 abbrev pub start_vocabulary : Vocabulary
-start_vocabulary = record { domain_names = []; domains = truth_elements ∷ []; relation_names = []; relations = []; symbols = [] }
+start_vocabulary = record {
+  domain_names = [];
+  domains = truth_elements ∷ [];
+  relation_names = [];
+  relations = [];
+  symbols = [];
+}
 
 -- ---- domains
 
--- the number of the declared domain with the name; truth has the number 0 and no name that can be declared
+-- the number of the declared domain with the name; truth has the number 0 and no name that can be
+-- declared
 abbrev pub domain_number : Vocabulary → List ℕ → Option ℕ
 domain_number v name = option_map (λ n. n + 1) (number_in v.domain_names name)
 
@@ -49,7 +57,8 @@ with_domain v name elements =
 
 -- the relation with the name
 abbrev pub relation_named : Vocabulary → List ℕ → Option Relation
-relation_named v name = option_and_then (λ n. slice_get v.relations n) (number_in v.relation_names name)
+relation_named v name = option_and_then (λ n. slice_get v.relations n)
+    (number_in v.relation_names name)
 
 -- the domain with the number as a side of a relation
 abbrev pub side_at : Vocabulary → ℕ → sides.Side
@@ -58,7 +67,8 @@ side_at v d = side_from d (length (elements_of v d))
 -- the relation between two domains, by their numbers, with just these pairs of elements
 abbrev pub relation_between : Vocabulary → ℕ → ℕ → List (List ℕ × List ℕ) → Relation
 relation_between v first second pairs =
-    with_pairs (elements_of v first) (elements_of v second) (no_pairs (side_at v first) (side_at v second)) pairs
+    with_pairs (elements_of v first) (elements_of v second)
+    (no_pairs (side_at v first) (side_at v second)) pairs
 
 -- the same, of declared domains by their names
 abbrev pub relation_of : Vocabulary → List ℕ → List ℕ → List (List ℕ × List ℕ) → Relation
@@ -71,7 +81,8 @@ with_new_relation v name m =
     record v { relation_names = v.relation_names ++ name ∷ []; relations = v.relations ++ m ∷ [] }
 
 -- one relation more, with just these pairs
-abbrev pub with_relation : Vocabulary → List ℕ → List ℕ → List ℕ → List (List ℕ × List ℕ) → Vocabulary
+abbrev pub with_relation : Vocabulary → List ℕ → List ℕ → List ℕ → List (List ℕ × List ℕ)
+    → Vocabulary
 with_relation v name from to pairs = with_new_relation v name (relation_of v from to pairs)
 
 -- ---- symbols

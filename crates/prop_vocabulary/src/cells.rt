@@ -1,7 +1,10 @@
 //! The names of cells. A cell may have none.
-ghost use Rattle.std.specs.Prelude.{◌≡◌, ◌∷◌, [], ℕ, map, length, is_none, unwrap_or, None, OnOk, OnErr, IfOk, IfSome, Contains};
+ghost use Rattle.std.specs.Prelude.{◌≡◌, ◌∷◌, [], ℕ, map, length, is_none, unwrap_or, None, OnOk};
+ghost use Rattle.std.specs.Prelude.{OnErr, IfOk, IfSome, Contains};
 ghost use Rattle.std.specs.List.{list_any};
-ghost use Rattle.prop_vocabulary.specs.Cells.{no_cell_names, cell_named, cells_named, is_cell_missing, with_cell_name, without_last_cell_name};
+ghost use Rattle.prop_vocabulary.specs.Cells.{no_cell_names, cell_named, cells_named};
+ghost use Rattle.prop_vocabulary.specs.Cells.{is_cell_missing, with_cell_name};
+ghost use Rattle.prop_vocabulary.specs.Cells.{without_last_cell_name};
 
 use crate::names::Names;
 use std::alloc::{AllocError, Global};

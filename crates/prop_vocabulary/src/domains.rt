@@ -1,5 +1,6 @@
 //! The domains of a vocabulary.
-ghost use Rattle.std.specs.Prelude.{◌≡◌, ◌<◌, ◌⊎◌, length, None, Some, Err, IfSome, IfErr, OnOk, OnErr, MatchResult};
+ghost use Rattle.std.specs.Prelude.{◌≡◌, ◌<◌, ◌⊎◌, length, None, Some, Err, IfSome, IfErr, OnOk};
+ghost use Rattle.std.specs.Prelude.{OnErr, MatchResult};
 ghost use Rattle.prop_sets.specs.Names.{texts_of, AreElements};
 ghost use Rattle.prop_vocabulary.specs.Vocabulary.{domain_number, elements_of, with_domain};
 ghost use Rattle.prop_vocabulary.specs.Refusing.{domain_refusal};
@@ -40,16 +41,21 @@ impl Vocabulary {
 
     /// Declares a domain with these elements, in order; it has the next number.
     ///
-    /// `NameTaken` where a declared domain has the name or an element stands twice; then `LimitReached` where there
-    /// are 1,024 declared domains or more than 64 elements. Want of memory is `Memory`, and only where none of these
-    /// holds. After an error nothing has changed.
+    /// `NameTaken` where a declared domain has the name or an element stands twice; then
+    /// `LimitReached` where there are 1,024 declared domains or more than 64 elements. Want of
+    /// memory is `Memory`, and only where none of these holds. After an error nothing has changed.
     pub fn declare_domain(&mut self, name: &str, elements: &[&str]) -> Result<(), Refusal>
         requires { 0 < length elements.now }
-        ensures ok { OnOk result (self.new ≡ with_domain self.old name.now (texts_of elements.now)) }
-        ensures allowed { OnOk result (domain_refusal self.old name.now (texts_of elements.now) ≡ None) }
+        ensures ok { OnOk result (self.new ≡ with_domain self.old name.now
+            (texts_of elements.now)) }
+        ensures allowed { OnOk result
+            (domain_refusal self.old name.now (texts_of elements.now) ≡ None) }
         ensures err { OnErr result (self.new ≡ self.old) }
-        ensures refused { IfSome (domain_refusal self.old name.now (texts_of elements.now)) (λ e. result ≡ Err e) }
-        ensures why { IfErr result (λ e. (domain_refusal self.old name.now (texts_of elements.now) ≡ Some e) ⊎ (e ≡ Refusal.Memory)) }
+        ensures refused { IfSome (domain_refusal self.old name.now (texts_of elements.now))
+            (λ e. result ≡ Err e) }
+        ensures why { IfErr result (λ e.
+            (domain_refusal self.old name.now (texts_of elements.now) ≡ Some e)
+            ⊎ (e ≡ Refusal.Memory)) }
     {
         let domain = self.domain_to_declare(name, elements)?;
         push_named(
@@ -65,9 +71,14 @@ impl Vocabulary {
     /// The domain with these elements, where it may be declared with this name.
     fn domain_to_declare(&self, name: &str, elements: &[&str]) -> Result<Domain, Refusal>
         requires { 0 < length elements.now }
-        ensures ok { MatchResult result (λ d. (d ≡ texts_of elements.now) × AreElements (texts_of elements.now)) (λ e. (domain_refusal self.now name.now (texts_of elements.now) ≡ Some e) ⊎ (e ≡ Refusal.Memory)) }
-        ensures refused { IfSome (domain_refusal self.now name.now (texts_of elements.now)) (λ e. result ≡ Err e) }
-        ensures allowed { OnOk result (domain_refusal self.now name.now (texts_of elements.now) ≡ None) }
+        ensures ok { MatchResult result
+            (λ d. (d ≡ texts_of elements.now) × AreElements (texts_of elements.now))
+            (λ e. (domain_refusal self.now name.now (texts_of elements.now) ≡ Some e)
+            ⊎ (e ≡ Refusal.Memory)) }
+        ensures refused { IfSome (domain_refusal self.now name.now (texts_of elements.now))
+            (λ e. result ≡ Err e) }
+        ensures allowed { OnOk result
+            (domain_refusal self.now name.now (texts_of elements.now) ≡ None) }
     {
         if self.domain_names.find(name).is_some() || has_repeat(self.alloc, elements) {
             return Err(Refusal::NameTaken);

@@ -1,5 +1,7 @@
 //! The names of one space, numbered in order of first appearance.
-ghost use Rattle.std.specs.Prelude.{◌≡◌, ◌<◌, ◌++◌, ◌∷◌, ◌-◌, [], ℕ, List, length, map, take, string_bytes, unwrap_or, is_none, slice_get, Some, None, OnOk, OnErr, IfOk, IfSome};
+ghost use Rattle.std.specs.Prelude.{◌≡◌, ◌<◌, ◌++◌, ◌∷◌, ◌-◌, [], ℕ, List, length, map, take};
+ghost use Rattle.std.specs.Prelude.{string_bytes, unwrap_or, is_none, slice_get, Some, None, OnOk};
+ghost use Rattle.std.specs.Prelude.{OnErr, IfOk, IfSome};
 ghost use Rattle.std.specs.List.{list_any};
 ghost use Rattle.prop_vocabulary.specs.Names.{number_in, numbers_in, is_missing};
 

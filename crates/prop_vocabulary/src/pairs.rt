@@ -1,7 +1,8 @@
 //! Pairs of elements by their names.
 ghost use Rattle.std.specs.Prelude.{◌≡◌, ◌<◌, length};
 ghost use Rattle.std.specs.List.{list_any};
-ghost use Rattle.prop_vocabulary.specs.Pairs.{texts_of_pairs, place_of, with_pairs, is_pair_outside, is_outside};
+ghost use Rattle.prop_vocabulary.specs.Pairs.{texts_of_pairs, place_of, with_pairs};
+ghost use Rattle.prop_vocabulary.specs.Pairs.{is_pair_outside, is_outside};
 
 use prop_sets::{Domain, Rows};
 
@@ -14,11 +15,13 @@ pub(crate) fn is_outside(first: &Domain, second: &Domain, pairs: &[(&[u8], &[u8]
 }
 
 fn has_outside(first: &Domain, second: &Domain, pairs: &[(&[u8], &[u8])]) -> bool
-    ensures { result ≡ list_any (λ pair. is_pair_outside first.now second.now (pair.0.now, pair.1.now)) pairs.now }
+    ensures { result ≡ list_any (λ pair.
+        is_pair_outside first.now second.now (pair.0.now, pair.1.now)) pairs.now }
 {
     pairs.iter().any(
         |pair: &(&[u8], &[u8])| -> bool
-            ensures { result ≡ is_pair_outside first.entry.now second.entry.now (pair.now.0.now, pair.now.1.now) }
+            ensures { result ≡ is_pair_outside first.entry.now second.entry.now
+                (pair.now.0.now, pair.now.1.now) }
         { first.index_of(pair.0).is_none() || second.index_of(pair.1).is_none() },
     )
 }

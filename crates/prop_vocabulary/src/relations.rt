@@ -1,9 +1,12 @@
 //! The relations of a vocabulary.
-ghost use Rattle.std.specs.Prelude.{◌≡◌, ◌<◌, ◌⊎◌, length, None, Some, Err, IfSome, IfErr, IfOk, OnOk, OnErr, MatchResult, option_copied};
+ghost use Rattle.std.specs.Prelude.{◌≡◌, ◌<◌, ◌⊎◌, length, None, Some, Err, IfSome, IfErr, IfOk};
+ghost use Rattle.std.specs.Prelude.{OnOk, OnErr, MatchResult, option_copied};
 ghost use Rattle.prop_sets.specs.Relation.{no_pairs};
 ghost use Rattle.prop_vocabulary.specs.Promises.{HaveJustTheirPairs};
 ghost use Rattle.prop_vocabulary.specs.Pairs.{texts_of_pairs};
-ghost use Rattle.prop_vocabulary.specs.Vocabulary.{elements_of, side_at, domain_number, relation_named, relation_between, relation_of, with_relation, IsSideOf, HasSides};
+ghost use Rattle.prop_vocabulary.specs.Vocabulary.{elements_of, side_at, domain_number};
+ghost use Rattle.prop_vocabulary.specs.Vocabulary.{relation_named, relation_between, relation_of};
+ghost use Rattle.prop_vocabulary.specs.Vocabulary.{with_relation, IsSideOf, HasSides};
 ghost use Rattle.prop_vocabulary.specs.Refusing.{pairs_refusal, relation_refusal};
 
 use crate::growth::push_named;
@@ -23,12 +26,14 @@ impl Vocabulary {
         self.relations.get(number)
     }
 
-    /// Declares the relation between two declared domains that has these pairs of their elements, and no others.
+    /// Declares the relation between two declared domains that has these pairs of their elements,
+    /// and no others.
     ///
-    /// `NameTaken` where a relation has the name, then `NoSuchDomain` where one of the domains is not declared, then
-    /// `NotInTheDomain` where the first word of a pair is no element of the first domain or the second none of the
-    /// second, then `LimitReached` where there are 1,024 relations. Want of memory is `Memory`, and only where
-    /// none of these holds. After an error nothing has changed.
+    /// `NameTaken` where a relation has the name, then `NoSuchDomain` where one of the domains is
+    /// not declared, then `NotInTheDomain` where the first word of a pair is no element of the
+    /// first domain or the second none of the second, then `LimitReached` where there are 1,024
+    /// relations. Want of memory is `Memory`, and only where none of these holds. After an error
+    /// nothing has changed.
     pub fn declare_relation(
         &mut self,
         name: &str,
@@ -36,11 +41,16 @@ impl Vocabulary {
         to: &str,
         pairs: &[(&[u8], &[u8])],
     ) -> Result<(), Refusal>
-        ensures ok { OnOk result (self.new ≡ with_relation self.old name.now from.now to.now (texts_of_pairs pairs.now)) }
-        ensures allowed { OnOk result (relation_refusal self.old name.now from.now to.now (texts_of_pairs pairs.now) ≡ None) }
+        ensures ok { OnOk result (self.new ≡ with_relation self.old name.now from.now to.now
+            (texts_of_pairs pairs.now)) }
+        ensures allowed { OnOk result
+            (relation_refusal self.old name.now from.now to.now (texts_of_pairs pairs.now) ≡ None) }
         ensures err { OnErr result (self.new ≡ self.old) }
-        ensures refused { IfSome (relation_refusal self.old name.now from.now to.now (texts_of_pairs pairs.now)) (λ e. result ≡ Err e) }
-        ensures why { IfErr result (λ e. (relation_refusal self.old name.now from.now to.now (texts_of_pairs pairs.now) ≡ Some e) ⊎ (e ≡ Refusal.Memory)) }
+        ensures refused { IfSome (relation_refusal self.old name.now from.now to.now
+            (texts_of_pairs pairs.now)) (λ e. result ≡ Err e) }
+        ensures why { IfErr result (λ e.
+            (relation_refusal self.old name.now from.now to.now (texts_of_pairs pairs.now) ≡ Some e)
+            ⊎ (e ≡ Refusal.Memory)) }
     {
         let relation = self.relation_to_declare(name, from, to, pairs)?;
         push_named(
@@ -61,9 +71,15 @@ impl Vocabulary {
         to: &str,
         pairs: &[(&[u8], &[u8])],
     ) -> Result<Relation, Refusal>
-        ensures ok { MatchResult result (λ m. (m ≡ relation_of self.now from.now to.now (texts_of_pairs pairs.now)) × HasSides self.now.domains m) (λ e. (relation_refusal self.now name.now from.now to.now (texts_of_pairs pairs.now) ≡ Some e) ⊎ (e ≡ Refusal.Memory)) }
-        ensures refused { IfSome (relation_refusal self.now name.now from.now to.now (texts_of_pairs pairs.now)) (λ e. result ≡ Err e) }
-        ensures allowed { OnOk result (relation_refusal self.now name.now from.now to.now (texts_of_pairs pairs.now) ≡ None) }
+        ensures ok { MatchResult result
+            (λ m. (m ≡ relation_of self.now from.now to.now (texts_of_pairs pairs.now))
+            × HasSides self.now.domains m)
+            (λ e. (relation_refusal self.now name.now from.now to.now
+            (texts_of_pairs pairs.now) ≡ Some e) ⊎ (e ≡ Refusal.Memory)) }
+        ensures refused { IfSome (relation_refusal self.now name.now from.now to.now
+            (texts_of_pairs pairs.now)) (λ e. result ≡ Err e) }
+        ensures allowed { OnOk result
+            (relation_refusal self.now name.now from.now to.now (texts_of_pairs pairs.now) ≡ None) }
     {
         if self.relation_names.find(name).is_some() {
             return Err(Refusal::NameTaken);
@@ -75,7 +91,8 @@ impl Vocabulary {
         Ok(self.relation_with(first, second, pairs)?)
     }
 
-    /// The numbers of two declared domains, where each word of the pairs is an element of its domain. It takes no memory.
+    /// The numbers of two declared domains, where each word of the pairs is an element of its
+    /// domain. It takes no memory.
     #[tactic(auto, using(crate::proofs::PairLemmas::words_inside, crate::proofs::PairLemmas::words_outside, crate::proofs::RefusalLemmas::no_from, crate::proofs::RefusalLemmas::no_to))]
     fn domains_of(
         &self,
@@ -83,7 +100,9 @@ impl Vocabulary {
         to: &str,
         pairs: &[(&[u8], &[u8])],
     ) -> Result<(u16, u16), Refusal>
-        ensures ok { MatchResult result (λ n. pairs_refusal self.now from.now to.now (texts_of_pairs pairs.now) ≡ None) (λ e. pairs_refusal self.now from.now to.now (texts_of_pairs pairs.now) ≡ Some e) }
+        ensures ok { MatchResult result
+            (λ n. pairs_refusal self.now from.now to.now (texts_of_pairs pairs.now) ≡ None)
+            (λ e. pairs_refusal self.now from.now to.now (texts_of_pairs pairs.now) ≡ Some e) }
         ensures from { IfOk result (λ n. domain_number self.now from.now ≡ Some n.0) }
         ensures to { IfOk result (λ n. domain_number self.now to.now ≡ Some n.1) }
         ensures first { IfOk result (λ n. n.0 < length self.now.domains) }
@@ -111,7 +130,8 @@ impl Vocabulary {
     ) -> Result<Relation, AllocError>
         requires first { first < length self.now.domains }
         requires second { second < length self.now.domains }
-        ensures rows { IfOk result (λ m. m ≡ relation_between self.now first second (texts_of_pairs pairs.now)) }
+        ensures rows { IfOk result (λ m.
+            m ≡ relation_between self.now first second (texts_of_pairs pairs.now)) }
         ensures sides { IfOk result (λ m. HasSides self.now.domains m) }
     {
         let mut rows = self.rows_between(first, second)?;
@@ -123,7 +143,8 @@ impl Vocabulary {
     fn rows_between(&self, first: u16, second: u16) -> Result<Rows, AllocError>
         requires first { first < length self.now.domains }
         requires second { second < length self.now.domains }
-        ensures rows { IfOk result (λ m. m ≡ no_pairs (side_at self.now first) (side_at self.now second)) }
+        ensures rows { IfOk result (λ m.
+            m ≡ no_pairs (side_at self.now first) (side_at self.now second)) }
         ensures first_size { IfOk result (λ m. m.from.size ≡ length (elements_of self.now first)) }
         ensures second_size { IfOk result (λ m. m.to.size ≡ length (elements_of self.now second)) }
         ensures sides { IfOk result (λ m. HasSides self.now.domains m) }
@@ -146,7 +167,8 @@ impl Vocabulary {
         }
     }
 
-    /// A law: the pairs of a declared relation are those by whose names it was declared, and no others.
+    /// A law: the pairs of a declared relation are those by whose names it was declared, and no
+    /// others.
     pub fn relations_have_just_their_pairs()
         ensures { HaveJustTheirPairs }
     {}

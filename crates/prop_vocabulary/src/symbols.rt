@@ -1,7 +1,9 @@
 //! The symbols of a vocabulary.
-ghost use Rattle.std.specs.Prelude.{◌≡◌, ◌<◌, ◌⊎◌, length, take, None, Some, Ok, Err, IfSome, IfOk, IfErr, OnOk, OnErr};
+ghost use Rattle.std.specs.Prelude.{◌≡◌, ◌<◌, ◌⊎◌, length, take, None, Some, Ok, Err, IfSome, IfOk};
+ghost use Rattle.std.specs.Prelude.{IfErr, OnOk, OnErr};
 ghost use Rattle.prop_vocabulary.specs.Names.{number_in};
-ghost use Rattle.prop_vocabulary.specs.Vocabulary.{symbol_number, with_symbol, with_first_symbols, IsWhole};
+ghost use Rattle.prop_vocabulary.specs.Vocabulary.{symbol_number, with_symbol, with_first_symbols};
+ghost use Rattle.prop_vocabulary.specs.Vocabulary.{IsWhole};
 ghost use Rattle.prop_vocabulary.specs.Refusing.{symbol_refusal};
 
 use crate::vocabulary::Vocabulary;
@@ -27,8 +29,9 @@ impl Vocabulary {
 
     /// The number of the symbol with this name; a new one gets the next number.
     ///
-    /// There can be 100,000 symbols: one more is `LimitReached`. Want of memory is `Memory`, and only where the
-    /// symbol is new and there is one more to be had. After an error nothing has changed.
+    /// There can be 100,000 symbols: one more is `LimitReached`. Want of memory is `Memory`, and
+    /// only where the symbol is new and there is one more to be had. After an error nothing has
+    /// changed.
     pub fn add_symbol(&mut self, name: &str) -> Result<u32, Refusal>
         ensures known { IfSome (number_in self.old.symbols name.now) (λ n. result ≡ Ok n) }
         ensures number { IfOk result (λ n. n ≡ symbol_number self.old name.now) }
@@ -36,7 +39,8 @@ impl Vocabulary {
         ensures allowed { OnOk result (symbol_refusal self.old name.now ≡ None) }
         ensures err { OnErr result (self.new ≡ self.old) }
         ensures refused { IfSome (symbol_refusal self.old name.now) (λ e. result ≡ Err e) }
-        ensures why { IfErr result (λ e. (symbol_refusal self.old name.now ≡ Some e) ⊎ (e ≡ Refusal.Memory)) }
+        ensures why { IfErr result (λ e. (symbol_refusal self.old name.now ≡ Some e)
+            ⊎ (e ≡ Refusal.Memory)) }
     {
         match self.symbol(name) {
             Some(number) => Ok(number),
@@ -52,7 +56,8 @@ impl Vocabulary {
         ensures allowed { OnOk result (symbol_refusal self.old name.now ≡ None) }
         ensures err { OnErr result (self.new ≡ self.old) }
         ensures refused { IfSome (symbol_refusal self.old name.now) (λ e. result ≡ Err e) }
-        ensures why { IfErr result (λ e. (symbol_refusal self.old name.now ≡ Some e) ⊎ (e ≡ Refusal.Memory)) }
+        ensures why { IfErr result (λ e. (symbol_refusal self.old name.now ≡ Some e)
+            ⊎ (e ≡ Refusal.Memory)) }
     {
         let number = self.symbols.len();
         if number >= Limit::Symbols.most() {
@@ -62,7 +67,8 @@ impl Vocabulary {
         Ok(number as u32)
     }
 
-    /// Takes all symbols back but the first `count`: those that a command made which is then refused. Takes no memory.
+    /// Takes all symbols back but the first `count`: those that a command made which is then
+    /// refused. Takes no memory.
     pub fn keep_symbols(&mut self, count: usize)
         ensures { self.new ≡ with_first_symbols self.old count }
     {

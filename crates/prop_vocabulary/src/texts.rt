@@ -2,7 +2,8 @@
 ghost use Rattle.std.specs.Prelude.{◌≡◌, ◌<◌, ◌==◌, IfOk, string_bytes, option_copied};
 ghost use Rattle.std.specs.Int.{bit_at};
 ghost use Rattle.prop_sets.specs.Names.{texts_of};
-ghost use Rattle.prop_vocabulary.specs.Texts.{span_text, in_braces, names_in, domain_of, elements_of_kind, symbol_text, value_text};
+ghost use Rattle.prop_vocabulary.specs.Texts.{span_text, in_braces, names_in, domain_of};
+ghost use Rattle.prop_vocabulary.specs.Texts.{elements_of_kind, symbol_text, value_text};
 
 use crate::vocabulary::Vocabulary;
 use prop_lattice::{Elements, Info, Kind, Span};
@@ -77,7 +78,9 @@ impl Vocabulary {
         kind: Kind,
         elements: Elements,
     ) -> Result<String, AllocError>
-        ensures { IfOk result (λ text. string_bytes text ≡ in_braces (names_in (elements_of_kind self.now kind) elements.bits)) }
+        ensures { IfOk result (λ text.
+            string_bytes text ≡ in_braces
+            (names_in (elements_of_kind self.now kind) elements.bits)) }
     {
         match self.domain_of(kind) {
             Some(domain) => {
@@ -99,7 +102,8 @@ impl Vocabulary {
         }
     }
 
-    /// The text of an information of a cell of the kind: a span by its ends, elements and symbols by their names.
+    /// The text of an information of a cell of the kind: a span by its ends, elements and symbols
+    /// by their names.
     pub fn print_value(&self, alloc: Global, kind: Kind, info: Info) -> Result<String, AllocError>
         ensures { IfOk result (λ text. string_bytes text ≡ value_text self.now kind info) }
     {

@@ -1,7 +1,8 @@
 //! What a value says at a cell.
 ghost use Rattle.std.specs.Prelude.{◌≡◌, IfOk, IfErr, Some, None, Ok, Err};
 ghost use Rattle.std.specs.Option.{option_map};
-ghost use Rattle.prop_vocabulary.specs.Values.{halves, bounded_number, span_value, set_value, value_said};
+ghost use Rattle.prop_vocabulary.specs.Values.{halves, bounded_number, span_value, set_value};
+ghost use Rattle.prop_vocabulary.specs.Values.{value_said};
 ghost use Rattle.prop_vocabulary.specs.Said.{meant_of};
 ghost use Rattle.prop_language.specs.Said.{words, value_of};
 
@@ -10,7 +11,8 @@ use prop_lattice::span::B;
 use prop_lattice::{Info, Kind, Refusal};
 use prop_sets::Domain;
 
-/// What a value says at a cell: an information, or of a symbol its name, whose number the caller knows.
+/// What a value says at a cell: an information, or of a symbol its name, whose number the caller
+/// knows.
 #[derive(Clone, Copy, PartialEq, Eq)]
 pub enum Meant<'a> {
     Known(Info),
@@ -32,7 +34,8 @@ fn halves(word: &[u8]) -> (&[u8], Option<&[u8]>)
 /// A number of the largest magnitude at most.
 fn bounded_number(word: &[u8]) -> Result<i64, Refusal>
     ensures ok { IfOk result (λ number. bounded_number word.now ≡ Some number) }
-    ensures err { IfErr result (λ refusal. (refusal ≡ Refusal.NotANumber) × (bounded_number word.now ≡ None)) }
+    ensures err { IfErr result (λ refusal. (refusal ≡ Refusal.NotANumber)
+        × (bounded_number word.now ≡ None)) }
 {
     number_in(-B, B, word).ok_or(Refusal::NotANumber)
 }
@@ -71,15 +74,17 @@ fn read_set(domain: &Domain, chosen: &[&[u8]]) -> Result<Info, Refusal>
     Ok(Info::from_bits(bits))
 }
 
-/// What a value says at a cell of this kind. `domain` is the one that a set is of, for a truth that of `yes` and `no`; it counts
-/// for a set alone.
+/// What a value says at a cell of this kind. `domain` is the one that a set is of, for a truth that
+/// of `yes` and `no`; it counts for a set alone.
 ///
-/// Refused are a value of another kind's form, and of the right form: at a span an end that is no number of the largest
-/// magnitude at most and then ends that leave no number, at a set a word that is no element and then braces without a word, at a
-/// symbol a word that is no name.
+/// Refused are a value of another kind's form, and of the right form: at a span an end that is no
+/// number of the largest magnitude at most and then ends that leave no number, at a set a word that
+/// is no element and then braces without a word, at a symbol a word that is no name.
 pub fn read_value<'a>(value: &Value<'a>, kind: Kind, domain: &Domain) -> Result<Meant<'a>, Refusal>
-    ensures ok { IfOk result (λ meant. value_said kind domain.now (value_of value.now) ≡ Ok (meant_of meant)) }
-    ensures err { IfErr result (λ refusal. value_said kind domain.now (value_of value.now) ≡ Err refusal) }
+    ensures ok { IfOk result (λ meant.
+        value_said kind domain.now (value_of value.now) ≡ Ok (meant_of meant)) }
+    ensures err { IfErr result (λ refusal.
+        value_said kind domain.now (value_of value.now) ≡ Err refusal) }
 {
     match value {
         Value::Bare(word) => match kind {

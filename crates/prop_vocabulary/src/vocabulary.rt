@@ -7,8 +7,8 @@ use prop_sets::{Domain, Relation};
 use std::alloc::{AllocError, Global};
 use std::marker::Model;
 
-/// Domains, relations and symbols, each numbered in the order in which it was declared. Domain 0 is truth; the
-/// first declared one has the number 1.
+/// Domains, relations and symbols, each numbered in the order in which it was declared. Domain 0 is
+/// truth; the first declared one has the number 1.
 #[derive(Drop)]
 pub struct Vocabulary {
     pub(crate) alloc: Global,
@@ -25,9 +25,22 @@ impl Model for Vocabulary {
 
     ghost Value = { words.Vocabulary };
 
-    ghost view = { λ v. record { domain_names = v.domain_names; domains = v.domains.items; relation_names = v.relation_names; relations = v.relations.items; symbols = v.symbols } };
+    ghost view = { λ v. record {
+      domain_names = v.domain_names;
+      domains = v.domains.items;
+      relation_names = v.relation_names;
+      relations = v.relations.items;
+      symbols = v.symbols;
+    } };
 
-    ghost invariant = { λ v. IsWhole (record { domain_names = v.domain_names; domains = v.domains.items; relation_names = v.relation_names; relations = v.relations.items; symbols = v.symbols }) };
+    ghost invariant = { λ v. IsWhole
+        (record {
+          domain_names = v.domain_names;
+          domains = v.domains.items;
+          relation_names = v.relation_names;
+          relations = v.relations.items;
+          symbols = v.symbols;
+        }) };
 }
 
 /// The domain of truth: `yes` and `no`.

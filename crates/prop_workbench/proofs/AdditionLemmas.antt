@@ -26,12 +26,14 @@ pub record Adds (old new : Data) : Type 0 where
   pub statements : new.statements ≡ old.statements
   pub instances : new.instances ≡ old.instances ++ made
 
-pub search_added : (library : List Stored) (old new : Data) (s : Stand) → Adds old new → IsSearch (problem_of library old) s → IsSearch (problem_of library new) s
+pub search_added : (library : List Stored) (old new : Data) (s : Stand) → Adds old new
+    → IsSearch (problem_of library old) s → IsSearch (problem_of library new) s
 search_added library old new s a h = search_extends (problem_of library old) (problem_of library new) s more h
   where
     more : Extends (problem_of library old) (problem_of library new)
     more = record {
       cells = λ c k e. rw a.kinds (still_there old.kinds a.fresh k c e);
       statements = rw a.statements (λ k d l. Contains-get_or old.statements k d l);
-      constraints = rw (a.instances, map-append) (all_still (map (constraint_of library) old.instances) (map (constraint_of library) a.made));
+      constraints = rw (a.instances, map-append)
+          (all_still (map (constraint_of library) old.instances) (map (constraint_of library) a.made));
     }

@@ -1,5 +1,6 @@
 -- What is answered when the network was run for a cell.
-use Rattle.std.proofs.Common.{◌≡◌, ℕ, zero, suc, ◌+◌, ◌*◌, ◌<◌, ◌≤◌, ◌⊎◌, IsTrue, List, [], ◌∷◌, Some, None, All, get_or, length, take, codes, ◌∙◌, Result, Ok, Err, IfOk, inl, inr, refl, ap, subst, arith}
+use Rattle.std.proofs.Common.{◌≡◌, ℕ, zero, suc, ◌+◌, ◌*◌, ◌<◌, ◌≤◌, ◌⊎◌, IsTrue, List, [], ◌∷◌, Some, None, All}
+use Rattle.std.proofs.Common.{get_or, length, take, codes, ◌∙◌, Result, Ok, Err, IfOk, inl, inr, refl, ap, subst, arith}
 use Rattle.std.specs.List.Sorted.{IsStrictlyIncreasing}
 use Rattle.std.proofs.lemmas.Option.{slice_get-get_or}
 use Rattle.prop_lattice.specs.declared.info.Info.{Info}
@@ -37,7 +38,9 @@ use Rattle.prop_workbench.specs.Refusing.{refusal_of}
 use Rattle.prop_workbench.specs.declared.asking.Question.{Question}
 use Rattle.prop_workbench.specs.declared.asking.Question.TheVariants.{Settle, Worldview, Ask, Why}
 use Rattle.prop_workbench.specs.inner.Questions.{command_of, IsNamed, MaySay, HasRun}
-use Rattle.prop_workbench.specs.Running.{Outcome, Settled, Unsettled, Contradiction, worldview_of, Replies, IsValue, IsValueReply, IsSettledValue, IsUnsettledValue, IsExplainedReply, IsTooFewToReduce}
+use Rattle.prop_workbench.specs.Running.{Outcome, Settled, Unsettled, Contradiction, worldview_of, Replies, IsValue}
+use Rattle.prop_workbench.specs.Running.{IsValueReply, IsSettledValue, IsUnsettledValue, IsExplainedReply}
+use Rattle.prop_workbench.specs.Running.{IsTooFewToReduce}
 use Rattle.prop_workbench.specs.inner.Running.{Explained}
 use Rattle.prop_workbench.specs.inner.Carrying.{IsAtRest}
 use Rattle.prop_workbench.specs.Sessions.{state_from, state_of, library_of, AreKnown, IsInOrder}
@@ -59,130 +62,245 @@ pub believes_same : (s : Stand) → IsStand s → set_of s.worldview ≡ worldvi
 believes_same s stand = same_set (set_of s.worldview) (worldview_in s.premises (take s.level s.list)) stand.believes
 
 -- where the side of each choice is
-pub believes_whole : (s : Stand) → IsStand s → s.level ≡ length s.list → set_of s.worldview ≡ worldview_in s.premises s.list
+pub believes_whole : (s : Stand) → IsStand s → s.level ≡ length s.list
+    → set_of s.worldview ≡ worldview_in s.premises s.list
 believes_whole s stand full = believes_same s stand ∙ whole_is s full
 
 -- a question for a cell that is there is not refused
-pub free : (library : List Stored) (s : State) (question : Question) → IsNamed s question → refusal_of library s (command_of question) ≡ None
+pub free : (library : List Stored) (s : State) (question : Question) → IsNamed s question
+    → refusal_of library s (command_of question) ≡ None
 free library s Settle named = refl
 free library s Worldview named = refl
 free library s (Ask cell name) named = rw named refl
 free library s (Why cell name) named = rw named refl
 
-pub carries : (library : List Stored) (s t : State) (question : Question) (answer : Answer) (steps : ℕ) → Runs library s (command_of question) answer t steps → Carries library s (command_of question) answer t steps
+pub carries : (library : List Stored) (s t : State) (question : Question) (answer : Answer) (steps : ℕ)
+    → Runs library s (command_of question) answer t steps → Carries library s (command_of question) answer t steps
 carries library s t Settle answer steps r = r
 carries library s t Worldview answer steps r = r
 carries library s t (Ask cell name) answer steps r = r
 carries library s t (Why cell name) answer steps r = r
 
 -- a contradiction may be said to each question
-pub may_contradict : (library : List Stored) (s : State) (command : Command) (support : List ℕ) (answer : Answer) (steps : ℕ) → IsStrictlyIncreasing support → Says answer (contradiction_text s.premises support) →
+pub may_contradict : (library : List Stored) (s : State) (command : Command) (support : List ℕ) (answer : Answer)
+    (steps : ℕ) → IsStrictlyIncreasing support → Says answer (contradiction_text s.premises support) →
     MaySay library s command (Contradiction support) steps answer
-may_contradict library s command support answer steps in_order (inl e) = inl (contradiction_text s.premises support, (in_order, refl), e)
+may_contradict library s command support answer steps in_order (inl e) =
+    inl (contradiction_text s.premises support, (in_order, refl), e)
 may_contradict library s command support answer steps in_order (inr m) = inr m
 
 -- what is said of a value, and what explains one
-pub may_say_value : (library : List Stored) (s : State) (command : Command) (outcome : Outcome) (name : List ℕ) (cell : ℕ) (v : Info) (mark : List ℕ) (answer : Answer) (steps : ℕ) → cell_named s.names name ≡ Some cell → IsValue library s outcome cell v →
-    ((text : List ℕ) → IsValueReply library s outcome name mark text → Replies library s command outcome steps text) → Says answer (equation name (text_at s cell v) mark) → MaySay library s command outcome steps answer
+pub may_say_value : (library : List Stored) (s : State) (command : Command) (outcome : Outcome) (name : List ℕ)
+    (cell : ℕ) (v : Info) (mark : List ℕ) (answer : Answer) (steps : ℕ) → cell_named s.names name ≡ Some cell
+    → IsValue library s outcome cell v →
+    ((text : List ℕ) → IsValueReply library s outcome name mark text → Replies library s command outcome steps text)
+    → Says answer (equation name (text_at s cell v) mark) → MaySay library s command outcome steps answer
 may_say_value library s command outcome name cell v mark answer steps named value replies (inl e) =
-    inl (equation name (text_at s cell v) mark, replies _ (record { cell = cell; cell_is = named; v = v; value = value; text_is = refl }), e)
+    inl (
+      equation name (text_at s cell v) mark,
+      replies _ (record { cell = cell; cell_is = named; v = v; value = value; text_is = refl }),
+      e,
+    )
 may_say_value library s command outcome name cell v mark answer steps named value replies (inr m) = inr m
 
-pub may_explain : (library : List Stored) (s : State) (command : Command) (outcome : Outcome) (name : List ℕ) (cell : ℕ) (v : Info) (mark : List ℕ) (answer : Answer) (steps : ℕ) → cell_named s.names name ≡ Some cell → IsValue library s outcome cell v →
-    ((text : List ℕ) → IsExplainedReply library s outcome name mark text → Replies library s command outcome steps text) → Explained library s (worldview_of s outcome) cell v name mark answer → MaySay library s command outcome steps answer
-may_explain library s command outcome name cell v mark answer steps named value replies (inl (ps, in_order, explains, e)) =
-    inl (equation name (text_at s cell v) (because s.premises mark ps), replies _ (record { cell = cell; cell_is = named; v = v; value = value; premises = ps; in_order = in_order; explains = explains; text_is = refl }), e)
+pub may_explain : (library : List Stored) (s : State) (command : Command) (outcome : Outcome) (name : List ℕ) (cell : ℕ)
+    (v : Info) (mark : List ℕ) (answer : Answer) (steps : ℕ) → cell_named s.names name ≡ Some cell
+    → IsValue library s outcome cell v →
+    ((text : List ℕ) → IsExplainedReply library s outcome name mark text → Replies library s command outcome steps text)
+    → Explained library s (worldview_of s outcome) cell v name mark answer
+    → MaySay library s command outcome steps answer
+may_explain library s command outcome name cell v mark answer steps named value replies
+    (inl (ps, in_order, explains, e)) =
+    inl (
+      equation name (text_at s cell v) (because s.premises mark ps),
+      replies _ (record {
+        cell = cell;
+        cell_is = named;
+        v = v;
+        value = value;
+        premises = ps;
+        in_order = in_order;
+        explains = explains;
+        text_is = refl;
+      }),
+      e,
+    )
 may_explain library s command outcome name cell v mark answer steps named value replies (inr m) = inr m
 
 -- a settled value with premises that explain it
-abbrev settled_reply : (library : List Stored) (s : State) (list name : List ℕ) (cell : ℕ) (v : Info) (mark ps : List ℕ) → cell_named s.names name ≡ Some cell → IsSettledValue library s list cell v → IsStrictlyIncreasing ps → Explains (problem_in library s) (worldview_at s list) cell v (set_of ps) →
+abbrev settled_reply : (library : List Stored) (s : State) (list name : List ℕ) (cell : ℕ) (v : Info) (mark ps : List ℕ)
+    → cell_named s.names name ≡ Some cell → IsSettledValue library s list cell v → IsStrictlyIncreasing ps
+    → Explains (problem_in library s) (worldview_at s list) cell v (set_of ps) →
     IsExplainedReply library s (Settled list) name mark (equation name (text_at s cell v) (because s.premises mark ps))
-settled_reply library s list name cell v mark ps named value in_order explains = record { cell = cell; cell_is = named; v = v; value = value; premises = ps; in_order = in_order; explains = explains; text_is = refl }
+settled_reply library s list name cell v mark ps named value in_order explains =
+    record {
+      cell = cell;
+      cell_is = named;
+      v = v;
+      value = value;
+      premises = ps;
+      in_order = in_order;
+      explains = explains;
+      text_is = refl;
+    }
 
 -- premises of which none can be left out, and those that were left when every step was used
-pub may_be_least : (library : List Stored) (s : State) (list name : List ℕ) (cell : ℕ) (v : Info) (ps : List ℕ) (answer : Answer) (steps : ℕ) → cell_named s.names name ≡ Some cell → IsSettledValue library s list cell v → IsStrictlyIncreasing ps → Explains (problem_in library s) (worldview_at s list) cell v (set_of ps) →
-    IsIrreducible (problem_in library s) (set_of ps) cell v → Says answer (equation name (text_at s cell v) (because s.premises [] ps)) → MaySay library s (commands.Command.Core name) (Settled list) steps answer
+pub may_be_least : (library : List Stored) (s : State) (list name : List ℕ) (cell : ℕ) (v : Info) (ps : List ℕ)
+    (answer : Answer) (steps : ℕ) → cell_named s.names name ≡ Some cell → IsSettledValue library s list cell v
+    → IsStrictlyIncreasing ps → Explains (problem_in library s) (worldview_at s list) cell v (set_of ps) →
+    IsIrreducible (problem_in library s) (set_of ps) cell v
+    → Says answer (equation name (text_at s cell v) (because s.premises [] ps))
+    → MaySay library s (commands.Command.Core name) (Settled list) steps answer
 may_be_least library s list name cell v ps answer steps named value in_order explains least (inl e) =
-    inl (equation name (text_at s cell v) (because s.premises [] ps), inl (record { explained = settled_reply library s list name cell v [] ps named value in_order explains; least = least }), e)
+    inl (
+      equation name (text_at s cell v) (because s.premises [] ps),
+      inl (record {
+        explained = settled_reply library s list name cell v [] ps named value in_order explains;
+        least = least;
+      }),
+      e,
+    )
 may_be_least library s list name cell v ps answer steps named value in_order explains least (inr m) = inr m
 
-pub may_not_be_reduced : (library : List Stored) (s : State) (list name : List ℕ) (cell : ℕ) (v : Info) (ps : List ℕ) (answer : Answer) (steps : ℕ) → cell_named s.names name ≡ Some cell → IsSettledValue library s list cell v → IsStrictlyIncreasing ps → Explains (problem_in library s) (worldview_at s list) cell v (set_of ps) →
-    steps ≡ s.limit → IsTooFewToReduce library s → Says answer (equation name (text_at s cell v) (because s.premises (codes " not reduced") ps)) → MaySay library s (commands.Command.Core name) (Settled list) steps answer
+pub may_not_be_reduced : (library : List Stored) (s : State) (list name : List ℕ) (cell : ℕ) (v : Info) (ps : List ℕ)
+    (answer : Answer) (steps : ℕ) → cell_named s.names name ≡ Some cell → IsSettledValue library s list cell v
+    → IsStrictlyIncreasing ps → Explains (problem_in library s) (worldview_at s list) cell v (set_of ps) →
+    steps ≡ s.limit → IsTooFewToReduce library s
+    → Says answer (equation name (text_at s cell v) (because s.premises (codes " not reduced") ps))
+    → MaySay library s (commands.Command.Core name) (Settled list) steps answer
 may_not_be_reduced library s list name cell v ps answer steps named value in_order explains all few (inl e) =
-    inl (equation name (text_at s cell v) (because s.premises (codes " not reduced") ps), inr (settled_reply library s list name cell v (codes " not reduced") ps named value in_order explains, all, few), e)
+    inl (
+      equation name (text_at s cell v) (because s.premises (codes " not reduced") ps),
+      inr (
+        settled_reply library s list name cell v (codes " not reduced") ps named value in_order explains,
+        all,
+        few,
+      ),
+      e,
+    )
 may_not_be_reduced library s list name cell v ps answer steps named value in_order explains all few (inr m) = inr m
 
 -- what isn't settled is said to a core as to why
-pub why_so_far : (library : List Stored) (s : State) (list name : List ℕ) (answer : Answer) (steps : ℕ) → MaySay library s (commands.Command.Why name) (Unsettled list) steps answer → MaySay library s (commands.Command.Core name) (Unsettled list) steps answer
+pub why_so_far : (library : List Stored) (s : State) (list name : List ℕ) (answer : Answer) (steps : ℕ)
+    → MaySay library s (commands.Command.Why name) (Unsettled list) steps answer
+    → MaySay library s (commands.Command.Core name) (Unsettled list) steps answer
 why_so_far library s list name answer steps (inl (text, replies, e)) = inl (text, replies, e)
 why_so_far library s list name answer steps (inr m) = inr m
 
 -- what is said by one text may be said
-pub may_say : (library : List Stored) (s : State) (command : Command) (outcome : Outcome) (text : List ℕ) (answer : Answer) (steps : ℕ) → Replies library s command outcome steps text → Says answer text → MaySay library s command outcome steps answer
+pub may_say : (library : List Stored) (s : State) (command : Command) (outcome : Outcome) (text : List ℕ)
+    (answer : Answer) (steps : ℕ) → Replies library s command outcome steps text → Says answer text
+    → MaySay library s command outcome steps answer
 may_say library s command outcome text answer steps replies (inl e) = inl (text, replies, e)
 may_say library s command outcome text answer steps replies (inr m) = inr m
 
-pub may_say_unsettled : (library : List Stored) (s : State) (list : List ℕ) (question : Question) (answer : Answer) (steps : ℕ) → (question ≡ Settle) ⊎ (question ≡ Worldview) → steps ≡ s.limit → Says answer (codes "unsettled") → MaySay library s (command_of question) (Unsettled list) steps answer
-may_say_unsettled library s list question answer steps (inl e) all says = rw e (may_say library s commands.Command.Settle (Unsettled list) (codes "unsettled") answer steps (refl, all) says)
-may_say_unsettled library s list question answer steps (inr e) all says = rw e (may_say library s commands.Command.Worldview (Unsettled list) (codes "unsettled") answer steps (refl, all) says)
+pub may_say_unsettled : (library : List Stored) (s : State) (list : List ℕ) (question : Question) (answer : Answer)
+    (steps : ℕ) → (question ≡ Settle) ⊎ (question ≡ Worldview) → steps ≡ s.limit → Says answer (codes "unsettled")
+    → MaySay library s (command_of question) (Unsettled list) steps answer
+may_say_unsettled library s list question answer steps (inl e) all says =
+    rw e (may_say library s commands.Command.Settle (Unsettled list) (codes "unsettled") answer steps (refl, all) says)
+may_say_unsettled library s list question answer steps (inr e) all says =
+    rw e (may_say library s commands.Command.Worldview (Unsettled list) (codes "unsettled") answer steps (refl, all)
+    says)
 
 -- what is attached to the cells of a network fits
-kept_fits : (library : List Stored) (d : Data) → IsKept library d → AreFitting library (record { kinds = d.kinds; statements = d.statements; instances = d.instances })
+kept_fits : (library : List Stored) (d : Data) → IsKept library d
+    → AreFitting library (record { kinds = d.kinds; statements = d.statements; instances = d.instances })
 kept_fits library d kept = record { fitting = kept.fits; within = kept.made.within }
 
 -- what is believed of a cell of a network at rest is its settled value
-pub settled_value : (library : List Stored) (names : CellNames) (words : Vocabulary) (definitions : Definitions) (premises : List Origin) (d : Data) (limit : ℕ) (list : List ℕ) (cell : ℕ) (v : Info) → IsKept library d → IsSettled library (worldview_in premises list) d → v ≡ beliefs (worldview_in premises list) d.contents cell →
+pub settled_value : (library : List Stored) (names : CellNames) (words : Vocabulary) (definitions : Definitions)
+    (premises : List Origin) (d : Data) (limit : ℕ) (list : List ℕ) (cell : ℕ) (v : Info) → IsKept library d
+    → IsSettled library (worldview_in premises list) d → v ≡ beliefs (worldview_in premises list) d.contents cell →
     IsSettledValue library (state_from names words definitions premises d limit) list cell v
 settled_value library names words definitions premises d limit list cell v kept settled is_v = record {
   solution = beliefs (worldview_in premises list) d.contents;
   rest = record { least = settled.least; free = settled.free };
   value = is_v;
-  points = entailed_holds_points library (state_from names words definitions premises d limit) (worldview_in premises list) cell v (kept_fits library d kept) (rw is_v (settled.least.least cell));
+  points = entailed_holds_points library (state_from names words definitions premises d limit)
+      (worldview_in premises list) cell v (kept_fits library d kept) (rw is_v (settled.least.least cell));
 }
 
-unsettled_value : (library : List Stored) (names : CellNames) (words : Vocabulary) (definitions : Definitions) (premises : List Origin) (d : Data) (limit : ℕ) (list : List ℕ) (cell : ℕ) (name : List ℕ) (v : Info) → cell_named names name ≡ Some cell → All (λ k. k < length d.kinds) names.cells →
-    IsKept library d → v ≡ beliefs (worldview_in premises list) d.contents cell → IsUnsettledValue library (state_from names words definitions premises d limit) list cell v
+unsettled_value : (library : List Stored) (names : CellNames) (words : Vocabulary) (definitions : Definitions)
+    (premises : List Origin) (d : Data) (limit : ℕ) (list : List ℕ) (cell : ℕ) (name : List ℕ) (v : Info)
+    → cell_named names name ≡ Some cell → All (λ k. k < length d.kinds) names.cells →
+    IsKept library d → v ≡ beliefs (worldview_in premises list) d.contents cell
+    → IsUnsettledValue library (state_from names words definitions premises d limit) list cell v
 unsettled_value library names words definitions premises d limit list cell name v found named kept is_v =
     let l : cell < length d.kinds = of_named (λ k. k < length d.kinds) names name cell named found in
     record {
-      of_kind = rw is_v ((beliefs_of_kinds d kept.made (worldview_in premises list)).of_kind cell (kind_at d.kinds cell) (slice_get-get_or d.kinds cell span_kind l));
+      of_kind = rw is_v ((beliefs_of_kinds d kept.made (worldview_in premises list)).of_kind cell (kind_at d.kinds cell)
+          (slice_get-get_or d.kinds cell span_kind l));
       entailed = rw is_v (believed_entailed library d (worldview_in premises list) kept cell);
-      stated = λ k x m believed here. rw (is_v, ← here) ((kept.made.stated k x m).below (worldview_in premises list) believed);
-      points = entailed_holds_points library (state_from names words definitions premises d limit) (worldview_in premises list) cell v (kept_fits library d kept) (rw is_v (believed_entailed library d (worldview_in premises list) kept cell));
+      stated = λ k x m believed here. rw (is_v, ← here)
+          ((kept.made.stated k x m).below (worldview_in premises list) believed);
+      points = entailed_holds_points library (state_from names words definitions premises d limit)
+          (worldview_in premises list) cell v (kept_fits library d kept)
+          (rw is_v (believed_entailed library d (worldview_in premises list) kept cell));
     }
 
 -- the cell with a name is there
-pub cell_there : {R O : Type 0} {X : Type 0} {F : X → Type 0} {g : _} {value : R → Param → List Info → Info} (s : Session R O X F g) (name : List ℕ) (cell : ℕ) → IsInOrder value s → cell_named s.names name ≡ Some cell → cell < length s.network.cells.kinds
-cell_there s name cell sound named = of_named (λ k. k < length s.network.cells.kinds) s.names name cell sound.named named
+pub cell_there : {R O : Type 0} {X : Type 0} {F : X → Type 0} {g : _} {value : R → Param → List Info → Info}
+    (s : Session R O X F g) (name : List ℕ) (cell : ℕ) → IsInOrder value s → cell_named s.names name ≡ Some cell
+    → cell < length s.network.cells.kinds
+cell_there s name cell sound named =
+    of_named (λ k. k < length s.network.cells.kinds) s.names name cell sound.named named
 
 -- what a session believes of a cell is its settled value where the network is at rest, and else what is known so far
-pub settled_in : {R O : Type 0} {X : Type 0} {F : X → Type 0} {g : _} (value : R → Param → List Info → Info) (s : Session R O X F g) (cell : ℕ) → IsInOrder value s → IsAtRest value s →
-    IsSettledValue (library_of value s) (state_of s) s.search.list cell (beliefs (set_of s.search.worldview) s.network.cells.contents cell)
+pub settled_in : {R O : Type 0} {X : Type 0} {F : X → Type 0} {g : _} (value : R → Param → List Info → Info)
+    (s : Session R O X F g) (cell : ℕ) → IsInOrder value s → IsAtRest value s →
+    IsSettledValue (library_of value s) (state_of s) s.search.list cell
+    (beliefs (set_of s.search.worldview) s.network.cells.contents cell)
 settled_in value s cell sound rest =
     let same = believes_whole s.search sound.at_work.well_made rest.full in
-    settled_value (library_of value s) s.names s.words s.definitions s.search.premises s.network.cells s.limit s.search.list cell _ sound.at_work.under_way.kept (subst (λ (b : Members). IsSettled (library_of value s) b s.network.cells) same rest.settled) (ap (λ (b : Members). beliefs b s.network.cells.contents cell) same)
+    settled_value (library_of value s) s.names s.words s.definitions s.search.premises s.network.cells s.limit
+    s.search.list cell _ sound.at_work.under_way.kept
+    (subst (λ (b : Members). IsSettled (library_of value s) b s.network.cells) same rest.settled)
+    (ap (λ (b : Members). beliefs b s.network.cells.contents cell) same)
 
-pub unsettled_in : {R O : Type 0} {X : Type 0} {F : X → Type 0} {g : _} (value : R → Param → List Info → Info) (s : Session R O X F g) (whole : Members) (name : List ℕ) (cell : ℕ) → IsInOrder value s → cell_named s.names name ≡ Some cell → whole ≡ worldview_in s.search.premises s.search.list →
+pub unsettled_in : {R O : Type 0} {X : Type 0} {F : X → Type 0} {g : _} (value : R → Param → List Info → Info)
+    (s : Session R O X F g) (whole : Members) (name : List ℕ) (cell : ℕ) → IsInOrder value s
+    → cell_named s.names name ≡ Some cell → whole ≡ worldview_in s.search.premises s.search.list →
     IsUnsettledValue (library_of value s) (state_of s) s.search.list cell (beliefs whole s.network.cells.contents cell)
 unsettled_in value s whole name cell sound named same =
-    unsettled_value (library_of value s) s.names s.words s.definitions s.search.premises s.network.cells s.limit s.search.list cell name _ named sound.named sound.at_work.under_way.kept
+    unsettled_value (library_of value s) s.names s.words s.definitions s.search.premises s.network.cells s.limit
+    s.search.list cell name _ named sound.named sound.at_work.under_way.kept
     (ap (λ (b : Members). beliefs b s.network.cells.contents cell) same)
 
 -- and what explains it does so by what is believed with the choices as they stand
-pub explained_in : {R O : Type 0} {X : Type 0} {F : X → Type 0} {g : _} (value : R → Param → List Info → Info) (s : Session R O X F g) (whole : Members) (cell : ℕ) (v : Info) (name mark : List ℕ) (answer : Answer) → whole ≡ worldview_in s.search.premises s.search.list → Explained (library_of value s) (state_of s) whole cell v name mark answer →
+pub explained_in : {R O : Type 0} {X : Type 0} {F : X → Type 0} {g : _} (value : R → Param → List Info → Info)
+    (s : Session R O X F g) (whole : Members) (cell : ℕ) (v : Info) (name mark : List ℕ) (answer : Answer)
+    → whole ≡ worldview_in s.search.premises s.search.list
+    → Explained (library_of value s) (state_of s) whole cell v name mark answer →
     Explained (library_of value s) (state_of s) (worldview_in s.search.premises s.search.list) cell v name mark answer
-explained_in value s whole cell v name mark answer same explained = subst (λ (b : Members). Explained (library_of value s) (state_of s) b cell v name mark answer) same explained
+explained_in value s whole cell v name mark answer same explained =
+    subst (λ (b : Members). Explained (library_of value s) (state_of s) b cell v name mark answer) same explained
 
 -- what is answered explains
-pub explained_by : (library : List Stored) (names : CellNames) (words : Vocabulary) (definitions : Definitions) (premises : List Origin) (d : Data) (limit : ℕ) (believed : Members) (cell : ℕ) (v : Info) (name mark support text : List ℕ) (answer : Answer) → v ≡ beliefs believed d.contents cell →
-    IsStrictlyIncreasing support → Explains (problem_of library d) believed cell v (set_of support) → text ≡ because premises mark support → Says answer (equation name (text_at (state_from names words definitions premises d limit) cell v) text) →
-    Explained library (state_from names words definitions premises d limit) believed cell (beliefs believed d.contents cell) name mark answer
-explained_by library names words definitions premises d limit believed cell v name mark support text answer is_v in_order explains is_text (inl e) =
-    inl (support, in_order, rw is_v at explains, e ∙ (λ i. Text (equation name (text_at (state_from names words definitions premises d limit) cell (is_v i)) (is_text i))))
-explained_by library names words definitions premises d limit believed cell v name mark support text answer is_v in_order explains is_text (inr m) = inr m
+pub explained_by : (library : List Stored) (names : CellNames) (words : Vocabulary) (definitions : Definitions)
+    (premises : List Origin) (d : Data) (limit : ℕ) (believed : Members) (cell : ℕ) (v : Info)
+    (name mark support text : List ℕ) (answer : Answer) → v ≡ beliefs believed d.contents cell →
+    IsStrictlyIncreasing support → Explains (problem_of library d) believed cell v (set_of support)
+    → text ≡ because premises mark support
+    → Says answer (equation name (text_at (state_from names words definitions premises d limit) cell v) text) →
+    Explained library (state_from names words definitions premises d limit) believed cell
+    (beliefs believed d.contents cell) name mark answer
+explained_by library names words definitions premises d limit believed cell v name mark support text answer is_v
+    in_order explains is_text (inl e) =
+    inl (
+      support,
+      in_order,
+      rw is_v at explains,
+      e
+          ∙ (λ i. Text (equation name (text_at (state_from names words definitions premises d limit) cell (is_v i))
+          (is_text i))),
+    )
+explained_by library names words definitions premises d limit believed cell v name mark support text answer is_v
+    in_order explains is_text (inr m) = inr m
 
 -- the premises of a nogood are known
-pub nogood_known : (problem : Problem) (choices : List Choice) (n : ℕ) (ps : List ℕ) → AreKnown n problem.statements → IsNogood problem choices (set_of ps) → All (λ p. p < n) ps
+pub nogood_known : (problem : Problem) (choices : List Choice) (n : ℕ) (ps : List ℕ) → AreKnown n problem.statements
+    → IsNogood problem choices (set_of ps) → All (λ p. p < n) ps
 nogood_known problem choices n ps known nogood = support_known problem n nogood.cell ps known nogood.related
 
 -- believed premises of the user's are known
@@ -191,36 +309,55 @@ believed_below [] p h = cc
 believed_below (o ∷ os) zero h = omega arith
 believed_below (o ∷ os) (suc p) h = let b = believed_below os p h in omega arith
 
-pub believed_known : (os : List Origin) (ps : List ℕ) → IsPart (set_of ps) (believed_in os) → All (λ p. p < length os) ps
+pub believed_known : (os : List Origin) (ps : List ℕ) → IsPart (set_of ps) (believed_in os)
+    → All (λ p. p < length os) ps
 believed_known os ps part k d l = believed_below os (get_or ps k d) (part (get_or ps k d) (set_has ps k d l))
 
 -- ---- what a run leaves and tells of itself
 
 -- what was covered still is, with more nogoods between the same choices
-pub cover_kept : (old new : Stand) (m : Members) → new.premises ≡ old.premises → ((n : Members) → IsTrue (has_part old.listed n) → IsTrue (has_part new.listed n)) → IsCovered (search.choices_in old) old.listed m → IsCovered (search.choices_in new) new.listed m
+pub cover_kept : (old new : Stand) (m : Members) → new.premises ≡ old.premises
+    → ((n : Members) → IsTrue (has_part old.listed n) → IsTrue (has_part new.listed n))
+    → IsCovered (search.choices_in old) old.listed m → IsCovered (search.choices_in new) new.listed m
 cover_kept old new m same kept covered = rw same (λ list is_list. kept _ (covered list is_list))
 
 -- the steps of a run are fewer than all lists allow together
-few_steps : (library : List Stored) (s : Stand) (before : List ℕ) (d : Data) (problem : Problem) (n : ℕ) → problem ≡ problem_of library d → IsStand s → search.Moves problem (search.choices_in s) before s.list n → n < lists.lists_count (search.choices_in s) * (most_steps (problem_of library d) + 1)
+few_steps : (library : List Stored) (s : Stand) (before : List ℕ) (d : Data) (problem : Problem) (n : ℕ)
+    → problem ≡ problem_of library d → IsStand s → search.Moves problem (search.choices_in s) before s.list n
+    → n < lists.lists_count (search.choices_in s) * (most_steps (problem_of library d) + 1)
 few_steps library s before d problem n same stand moves =
     let below = place_below (search.choices_in s) s.list stand.is_list in
-    let few = few_in_all moves.further (lists.place_of (search.choices_in s) before) (lists.lists_count (search.choices_in s)) (most_steps problem) n moves.few (omega (arith, moves.place, below)) in
+    let few = few_in_all moves.further (lists.place_of (search.choices_in s) before)
+    (lists.lists_count (search.choices_in s)) (most_steps problem) n moves.few (omega (arith, moves.place, below))
+    in
     subst (λ (q : Problem). n < lists.lists_count (search.choices_in s) * (most_steps q + 1)) same few
 
-pub has_run : {R O : Type 0} {X : Type 0} {F : X → Type 0} {g : _} {E : Type 0} (value : R → Param → List Info → Info) (s : Session R O X F g) (before : List ℕ) (problem : Problem) (r : Result (ends.Outcome × ℕ) E) → problem ≡ problem_of (library_of value s) s.network.cells → IsKept (library_of value s) s.network.cells → IsStand s.search →
+pub has_run : {R O : Type 0} {X : Type 0} {F : X → Type 0} {g : _} {E : Type 0} (value : R → Param → List Info → Info)
+    (s : Session R O X F g) (before : List ℕ) (problem : Problem) (r : Result (ends.Outcome × ℕ) E)
+    → problem ≡ problem_of (library_of value s) s.network.cells → IsKept (library_of value s) s.network.cells
+    → IsStand s.search →
     AllBeforeRefuted problem (search.users_of s.search) (search.choices_in s.search) s.search.list →
     IfOk r (λ x. x.0 ≡ ended.Settled → s.search.level ≡ length s.search.list) →
     IfOk r (λ x. x.0 ≡ ended.Settled → IsSettled (library_of value s) (set_of s.search.worldview) s.network.cells) →
-    IfOk r (λ x. x.0 ≡ ended.Settled → IsFirstConsistent problem (search.users_of s.search) (search.choices_in s.search) s.search.list) →
-    IfOk r (λ x. settling.IfContradiction x.0 (λ n. IsRuledOut problem (search.users_of s.search) (search.choices_in s.search) s.search.listed (set_of n))) →
-    IfOk r (λ x. x.1 ≤ s.limit) → IfOk r (λ x. search.Moves problem (search.choices_in s.search) before s.search.list x.1) → IfOk r (λ x. x.0 ≡ ended.Unsettled → x.1 ≡ s.limit) →
-    IfOk r (λ x. x.0 ≡ ended.Unsettled → s.limit + 1 < lists.lists_count (search.choices_in s.search) * (most_steps problem + 1)) → IfOk r (λ x. HasRun value s x.0 x.1)
-has_run value s before problem (Err e) same kept stand earlier full settled first contradiction within moves spent earned = tt
-has_run value s before problem (Ok (ended.Settled, n)) same kept stand earlier full settled first contradiction within moves spent earned =
-    let rest = subst (λ (b : Members). IsSettled (library_of value s) b s.network.cells) (believes_whole s.search stand (full refl)) (settled refl) in
+    IfOk r (λ x. x.0 ≡ ended.Settled → IsFirstConsistent problem (search.users_of s.search) (search.choices_in s.search)
+    s.search.list) →
+    IfOk r (λ x. settling.IfContradiction x.0
+    (λ n. IsRuledOut problem (search.users_of s.search) (search.choices_in s.search) s.search.listed (set_of n))) →
+    IfOk r (λ x. x.1 ≤ s.limit) → IfOk r
+    (λ x. search.Moves problem (search.choices_in s.search) before s.search.list x.1)
+    → IfOk r (λ x. x.0 ≡ ended.Unsettled → x.1 ≡ s.limit) →
+    IfOk r (λ x. x.0 ≡ ended.Unsettled → s.limit + 1 < lists.lists_count
+    (search.choices_in s.search) * (most_steps problem + 1)) → IfOk r (λ x. HasRun value s x.0 x.1)
+has_run value s before problem (Err e) same kept stand earlier full settled first contradiction within moves spent
+    earned = tt
+has_run value s before problem (Ok (ended.Settled, n)) same kept stand earlier full settled first contradiction within
+    moves spent earned =
+    let rest = subst (λ (b : Members). IsSettled (library_of value s) b s.network.cells)
+    (believes_whole s.search stand (full refl)) (settled refl) in
     record {
       ends = record {
-        first = subst (λ (q : Problem). IsFirstConsistent q (search.users_of s.search) (search.choices_in s.search) s.search.list) same (first refl);
+        first = subst (λ (q : Problem). IsFirstConsistent q (search.users_of s.search) (search.choices_in s.search)
+            s.search.list) same (first refl);
         solution = beliefs (worldview_in s.search.premises s.search.list) s.network.cells.contents;
         rest = record { least = rest.least; free = rest.free };
       };
@@ -231,27 +368,33 @@ has_run value s before problem (Ok (ended.Settled, n)) same kept stand earlier f
       few = few_steps (library_of value s) s.search before s.network.cells problem n same stand moves;
       spent = spent;
     }
-has_run value s before problem (Ok (ended.Unsettled, n)) same kept stand earlier full settled first contradiction within moves spent earned = record {
-  ends = record {
-    is_list = stand.is_list;
-    earlier = subst (λ (q : Problem). AllBeforeRefuted q (search.users_of s.search) (search.choices_in s.search) s.search.list) same earlier;
-    few = subst (λ (q : Problem). s.limit + 1 < lists.lists_count (search.choices_in s.search) * (most_steps q + 1)) same (earned refl);
-  };
-  covered = tt;
-  full = full;
-  settled = settled;
-  within = within;
-  few = few_steps (library_of value s) s.search before s.network.cells problem n same stand moves;
-  spent = spent;
-}
-has_run value s before problem (Ok (ended.Contradiction ps, n)) same kept stand earlier full settled first contradiction within moves spent earned =
-    let out = subst (λ (q : Problem). IsRuledOut q (search.users_of s.search) (search.choices_in s.search) s.search.listed (set_of ps)) same contradiction in
+has_run value s before problem (Ok (ended.Unsettled, n)) same kept stand earlier full settled first contradiction within
+    moves spent earned = record {
+      ends = record {
+        is_list = stand.is_list;
+        earlier = subst (λ (q : Problem). AllBeforeRefuted q (search.users_of s.search) (search.choices_in s.search)
+            s.search.list) same earlier;
+        few = subst (λ (q : Problem). s.limit + 1 < lists.lists_count (search.choices_in s.search) * (most_steps q + 1))
+            same (earned refl);
+      };
+      covered = tt;
+      full = full;
+      settled = settled;
+      within = within;
+      few = few_steps (library_of value s) s.search before s.network.cells problem n same stand moves;
+      spent = spent;
+    }
+has_run value s before problem (Ok (ended.Contradiction ps, n)) same kept stand earlier full settled first contradiction
+    within moves spent earned =
+    let out = subst (λ (q : Problem). IsRuledOut q (search.users_of s.search) (search.choices_in s.search)
+    s.search.listed (set_of ps)) same contradiction in
     record {
       ends = record {
         believes = out.believes;
         refuted = out.refuted;
         grounded = out.grounded;
-        points = none_satisfy (library_of value s) (state_of s) ps (kept_fits (library_of value s) s.network.cells kept) stand.numbered out.believes out.refuted;
+        points = none_satisfy (library_of value s) (state_of s) ps (kept_fits (library_of value s) s.network.cells kept)
+            stand.numbered out.believes out.refuted;
       };
       covered = out.covered;
       full = full;
@@ -264,15 +407,19 @@ has_run value s before problem (Ok (ended.Contradiction ps, n)) same kept stand 
 -- ---- what ends before the value
 
 -- a cell that is not there is refused
-pub nowhere : (library : List Stored) (s : State) (name : List ℕ) → cell_named s.names name ≡ None → refusal_of library s (commands.Command.Ask name) ≡ Some NoSuchCell
+pub nowhere : (library : List Stored) (s : State) (name : List ℕ) → cell_named s.names name ≡ None
+    → refusal_of library s (commands.Command.Ask name) ≡ Some NoSuchCell
 nowhere library s name none = rw none refl
 
-pub nowhere_core : (library : List Stored) (s : State) (name : List ℕ) → cell_named s.names name ≡ None → refusal_of library s (commands.Command.Core name) ≡ Some NoSuchCell
+pub nowhere_core : (library : List Stored) (s : State) (name : List ℕ) → cell_named s.names name ≡ None
+    → refusal_of library s (commands.Command.Core name) ≡ Some NoSuchCell
 nowhere_core library s name none = rw none refl
 
 -- a core is asked for by a run
-pub free_core : (library : List Stored) (s : State) (name : List ℕ) (cell : ℕ) → cell_named s.names name ≡ Some cell → refusal_of library s (commands.Command.Core name) ≡ None
+pub free_core : (library : List Stored) (s : State) (name : List ℕ) (cell : ℕ) → cell_named s.names name ≡ Some cell
+    → refusal_of library s (commands.Command.Core name) ≡ None
 free_core library s name cell named = rw named refl
 
-pub nowhere_why : (library : List Stored) (s : State) (name : List ℕ) → cell_named s.names name ≡ None → refusal_of library s (commands.Command.Why name) ≡ Some NoSuchCell
+pub nowhere_why : (library : List Stored) (s : State) (name : List ℕ) → cell_named s.names name ≡ None
+    → refusal_of library s (commands.Command.Why name) ≡ Some NoSuchCell
 nowhere_why library s name none = rw none refl

@@ -1,5 +1,7 @@
 -- Putting procedures and definitions between cells: what is refused and made is what the machine says.
-use Rattle.std.proofs.Common.{◌≡◌, ◌∙◌, ℕ, ◌<◌, ◌≤◌, ◌+◌, ◌-◌, ◌^◌, Bool, true, false, not, List, [], ◌∷◌, ◌++◌, Option, Some, None, All, map, drop, length, get_or, zip, is_none, unwrap_or, slice_get, Result, Ok, Err, OnOk, OnErr, IfErr, ◌||◌, cond, ◌⊎◌, inl, inr, refl, sym, ap, subst, arith}
+use Rattle.std.proofs.Common.{◌≡◌, ◌∙◌, ℕ, ◌<◌, ◌≤◌, ◌+◌, ◌-◌, ◌^◌, Bool, true, false, not, List, [], ◌∷◌, ◌++◌, Option}
+use Rattle.std.proofs.Common.{Some, None, All, map, drop, length, get_or, zip, is_none, unwrap_or, slice_get, Result}
+use Rattle.std.proofs.Common.{Ok, Err, OnOk, OnErr, IfErr, ◌||◌, cond, ◌⊎◌, inl, inr, refl, sym, ap, subst, arith}
 use Rattle.std.specs.Prelude.{⊤}
 use Rattle.std.specs.List.{list_any}
 use Rattle.std.specs.Option.{option_map_or, option_and_then}
@@ -10,7 +12,8 @@ use Rattle.std.proofs.lemmas.List.Elements.{All-append, All-cons, All-head, All-
 use Rattle.prop_refusals.specs.Refusals.{most, first_of, when}
 use Rattle.prop_refusals.specs.declared.refusal.Limit.TheVariants.{Cells}
 use Rattle.prop_refusals.specs.declared.refusal.Refusal.{Refusal}
-use Rattle.prop_refusals.specs.declared.refusal.Refusal.TheVariants.{NoSuchRelation, NoSuchCell, NoSuchProcedure, WrongCount, WrongKind, WrongParameter, Memory}
+use Rattle.prop_refusals.specs.declared.refusal.Refusal.TheVariants.{NoSuchRelation, NoSuchCell, NoSuchProcedure}
+use Rattle.prop_refusals.specs.declared.refusal.Refusal.TheVariants.{WrongCount, WrongKind, WrongParameter, Memory}
 use Rattle.prop_procedures.specs.declared.shape.Kinded.{Kinded}
 use Rattle.prop_procedures.specs.declared.shape.Param.{Param}
 use Rattle.prop_procedures.specs.declared.shape.Param.TheVariants.{Plain}
@@ -22,7 +25,8 @@ use Rattle.prop_language.specs.Commands as commands
 use Rattle.prop_language.specs.Commands.{By}
 use Rattle.prop_compound.specs.Definitions.{Definitions, used_named, is_miscounted}
 use Rattle.prop_compound.specs.Expansion.{Expansion, expanded}
-use Rattle.prop_compound.specs.Expanding.{expand_refusal, size_refusal, fit_refusal, is_kind_wrong, is_param_wrong, are_params_wrong}
+use Rattle.prop_compound.specs.Expanding.{expand_refusal, size_refusal, fit_refusal, is_kind_wrong, is_param_wrong}
+use Rattle.prop_compound.specs.Expanding.{are_params_wrong}
 use Rattle.prop_compound.specs.Flattened.{placed_of, expansion_of_flat, IsFlatOver, IsInstanceOver}
 use Rattle.prop_compound.proofs.InPlace.{kind_placed}
 use Rattle.prop_procedures.specs.declared.flat.Placed as flats
@@ -52,34 +56,57 @@ holds_not : (refusal : Refusal) (b : Bool) → when refusal b ≡ None → b ≡
 holds_not refusal true e = cc
 holds_not refusal false e = refl
 
-attach_rows : (library : List Stored) (s : State) (name : List ℕ) (cells : List (List ℕ)) (by : By) (numbers : List ℕ) → is_unknown s.words by ≡ false → is_cell_missing s.names cells ≡ false → numbers ≡ cells_named s.names cells →
+attach_rows : (library : List Stored) (s : State) (name : List ℕ) (cells : List (List ℕ)) (by : By) (numbers : List ℕ)
+    → is_unknown s.words by ≡ false → is_cell_missing s.names cells ≡ false → numbers ≡ cells_named s.names cells →
     refusal_of library s (commands.Command.Attach name cells by) ≡ use_refusal library s name numbers by
 attach_rows library s name cells by numbers relation missing same =
     rw (relation, missing, ← same) (first_of-one (use_refusal library s name numbers by))
 
-attached_step : (library : List Stored) (s new : State) (name : List ℕ) (cells : List (List ℕ)) (by : By) (numbers : List ℕ) → is_unknown s.words by ≡ false → is_cell_missing s.names cells ≡ false → numbers ≡ cells_named s.names cells →
-    use_refusal library s name numbers by ≡ None → new ≡ with_use library s numbers (used library s name numbers by) → Obeys library s (commands.Command.Attach name cells by) Done new 0
+attached_step : (library : List Stored) (s new : State) (name : List ℕ) (cells : List (List ℕ)) (by : By)
+    (numbers : List ℕ) → is_unknown s.words by ≡ false → is_cell_missing s.names cells ≡ false
+    → numbers ≡ cells_named s.names cells →
+    use_refusal library s name numbers by ≡ None → new ≡ with_use library s numbers (used library s name numbers by)
+    → Obeys library s (commands.Command.Attach name cells by) Done new 0
 attached_step library s new name cells by numbers relation missing same fits e =
-    obeys library s new (commands.Command.Attach name cells by) Done 0 (attach_rows library s name cells by numbers relation missing same ∙ fits)
-    (record { answer_is = refl; new_is = e ∙ ap (λ (l : List ℕ). with_use library s l (used library s name l by)) same; no_steps = refl })
+    obeys library s new (commands.Command.Attach name cells by) Done 0
+    (attach_rows library s name cells by numbers relation missing same ∙ fits)
+    (record {
+      answer_is = refl;
+      new_is = e
+          ∙ ap (λ (l : List ℕ). with_use library s l (used library s name l by)) same;
+      no_steps = refl;
+    })
 
-unattached_step : (library : List Stored) (s new : State) (name : List ℕ) (cells : List (List ℕ)) (by : By) (numbers : List ℕ) (refusal : Refusal) → is_unknown s.words by ≡ false → is_cell_missing s.names cells ≡ false → numbers ≡ cells_named s.names cells →
-    (use_refusal library s name numbers by ≡ Some refusal) ⊎ (refusal ≡ Memory) → new ≡ s → Obeys library s (commands.Command.Attach name cells by) (Refused refusal) new 0
+unattached_step : (library : List Stored) (s new : State) (name : List ℕ) (cells : List (List ℕ)) (by : By)
+    (numbers : List ℕ) (refusal : Refusal) → is_unknown s.words by ≡ false → is_cell_missing s.names cells ≡ false
+    → numbers ≡ cells_named s.names cells →
+    (use_refusal library s name numbers by ≡ Some refusal) ⊎ (refusal ≡ Memory) → new ≡ s
+    → Obeys library s (commands.Command.Attach name cells by) (Refused refusal) new 0
 unattached_step library s new name cells by numbers refusal relation missing same (inl e) back =
-    refuses_or_lacks library s new (commands.Command.Attach name cells by) refusal (inl (attach_rows library s name cells by numbers relation missing same ∙ e)) back
+    refuses_or_lacks library s new (commands.Command.Attach name cells by) refusal
+    (inl (attach_rows library s name cells by numbers relation missing same ∙ e)) back
 unattached_step library s new name cells by numbers refusal relation missing same (inr m) back =
     refuses_or_lacks library s new (commands.Command.Attach name cells by) refusal (inr m) back
 
-pub attached_or_not : (library : List Stored) (s new : State) (name : List ℕ) (cells : List (List ℕ)) (by : By) (numbers : List ℕ) → is_unknown s.words by ≡ false → is_cell_missing s.names cells ≡ false → numbers ≡ cells_named s.names cells →
-    (r : Result ⊤ Refusal) → OnOk r (use_refusal library s name numbers by ≡ None) → OnOk r (new ≡ with_use library s numbers (used library s name numbers by)) → IfErr r (λ e. (use_refusal library s name numbers by ≡ Some e) ⊎ (e ≡ Memory)) → OnErr r (new ≡ s) →
+pub attached_or_not : (library : List Stored) (s new : State) (name : List ℕ) (cells : List (List ℕ)) (by : By)
+    (numbers : List ℕ) → is_unknown s.words by ≡ false → is_cell_missing s.names cells ≡ false
+    → numbers ≡ cells_named s.names cells →
+    (r : Result ⊤ Refusal) → OnOk r (use_refusal library s name numbers by ≡ None)
+    → OnOk r (new ≡ with_use library s numbers (used library s name numbers by))
+    → IfErr r (λ e. (use_refusal library s name numbers by ≡ Some e) ⊎ (e ≡ Memory)) → OnErr r (new ≡ s) →
     Obeys library s (commands.Command.Attach name cells by) (answer_done r) new 0
-attached_or_not library s new name cells by numbers relation missing same (Ok t) fits made why back = attached_step library s new name cells by numbers relation missing same fits made
-attached_or_not library s new name cells by numbers relation missing same (Err refusal) fits made why back = unattached_step library s new name cells by numbers refusal relation missing same why back
+attached_or_not library s new name cells by numbers relation missing same (Ok t) fits made why back =
+    attached_step library s new name cells by numbers relation missing same fits made
+attached_or_not library s new name cells by numbers relation missing same (Err refusal) fits made why back =
+    unattached_step library s new name cells by numbers refusal relation missing same why back
 
-pub no_relation_step : (library : List Stored) (s : State) (name : List ℕ) (cells : List (List ℕ)) (by : By) → is_unknown s.words by ≡ true → refusal_of library s (commands.Command.Attach name cells by) ≡ Some NoSuchRelation
+pub no_relation_step : (library : List Stored) (s : State) (name : List ℕ) (cells : List (List ℕ)) (by : By)
+    → is_unknown s.words by ≡ true → refusal_of library s (commands.Command.Attach name cells by) ≡ Some NoSuchRelation
 no_relation_step library s name cells by e = rw e refl
 
-pub no_cell_step : (library : List Stored) (s : State) (name : List ℕ) (cells : List (List ℕ)) (by : By) → is_unknown s.words by ≡ false → is_cell_missing s.names cells ≡ true → refusal_of library s (commands.Command.Attach name cells by) ≡ Some NoSuchCell
+pub no_cell_step : (library : List Stored) (s : State) (name : List ℕ) (cells : List (List ℕ)) (by : By)
+    → is_unknown s.words by ≡ false → is_cell_missing s.names cells ≡ true
+    → refusal_of library s (commands.Command.Attach name cells by) ≡ Some NoSuchCell
 no_cell_step library s name cells by e f = rw (e, f) refl
 
 -- ---- what a use stands for, as it is handed out
@@ -95,19 +122,25 @@ output_of-push f (a ∷ []) out = refl
 output_of-push f (a ∷ b ∷ ins) out = output_of-push f (b ∷ ins) out
 
 -- the instance that is made is the one that stands at its places
-is_placed : (library : List Stored) (params : List Param) (cells : List ℕ) (next : ℕ) (x : flats.Placed) → made_of library params cells next x ≡ instance_placed library cells next (placed_of params x)
+is_placed : (library : List Stored) (params : List Param) (cells : List ℕ) (next : ℕ) (x : flats.Placed)
+    → made_of library params cells next x ≡ instance_placed library cells next (placed_of params x)
 is_placed library params cells next x =
-    let inputs : map (cell_placed cells next) x.inputs.items ≡ inputs_of (map (cell_placed cells next) (cells_of x)) = sym (inputs_of-push (cell_placed cells next) x.inputs.items x.output) in
-    let output : cell_placed cells next x.output ≡ output_of (map (cell_placed cells next) (cells_of x)) = sym (output_of-push (cell_placed cells next) x.inputs.items x.output) in
+    let inputs : map (cell_placed cells next) x.inputs.items ≡ inputs_of (map (cell_placed cells next) (cells_of x)) =
+    sym (inputs_of-push (cell_placed cells next) x.inputs.items x.output) in
+    let output : cell_placed cells next x.output ≡ output_of (map (cell_placed cells next) (cells_of x)) =
+    sym (output_of-push (cell_placed cells next) x.inputs.items x.output) in
     λ i. record {
       procedure = x.procedure;
-      param = unwrap_or (option_and_then (λ p. fitting_param p.need (param_at params x.param)) (slice_get library x.procedure)) Plain;
+      param = unwrap_or (option_and_then (λ p. fitting_param p.need (param_at params x.param))
+          (slice_get library x.procedure)) Plain;
       inputs = inputs i;
       output = output i;
     }
 
-module _ (library : List Stored) (names : CellNames) (words : Vocabulary) (definitions : Definitions) (premises : List Origin) (d : Data) (limit : ℕ) (name : List ℕ) (cells : List ℕ) (by : By) (flat : Flat)
-    (is : expansion_of_flat (map (kind_at d.kinds) cells) flat ≡ used library (state_from names words definitions premises d limit) name cells by) where
+module _ (library : List Stored) (names : CellNames) (words : Vocabulary) (definitions : Definitions)
+    (premises : List Origin) (d : Data) (limit : ℕ) (name : List ℕ) (cells : List ℕ) (by : By) (flat : Flat)
+    (is : expansion_of_flat (map (kind_at d.kinds) cells) flat ≡ used library
+    (state_from names words definitions premises d limit) name cells by) where
   fresh_count : length (map (kind_at d.kinds) cells ++ flat.fresh.items) - length cells ≡ length flat.fresh.items
   fresh_count =
       let all = length-append (map (kind_at d.kinds) cells) flat.fresh.items in
@@ -120,52 +153,85 @@ module _ (library : List Stored) (names : CellNames) (words : Vocabulary) (defin
       ∷ room_refusal (length d.kinds + length flat.fresh.items) (length d.instances + length flat.instances.items) ∷ [])
   use_rows =
       let expand = expand_refusal library words definitions name (map (kind_at d.kinds) cells) (given_by words by) in
-      let fresh : length (used library (state_from names words definitions premises d limit) name cells by).kinds - length cells ≡ length flat.fresh.items = ap (λ (e : Expansion (Option Param)). length e.kinds - length cells) (sym is) ∙ fresh_count in
-      let count : length (used library (state_from names words definitions premises d limit) name cells by).placed ≡ length flat.instances.items = ap (λ (e : Expansion (Option Param)). length e.placed) (sym is) ∙ length-map flat.instances.items (placed_of flat.params.items) in
+      let fresh : length (used library (state_from names words definitions premises d limit) name cells by).kinds -
+      length cells ≡ length flat.fresh.items =
+      ap (λ (e : Expansion (Option Param)). length e.kinds - length cells) (sym is) ∙ fresh_count in
+      let count : length (used library (state_from names words definitions premises d limit) name cells by).placed
+      ≡ length flat.instances.items = ap (λ (e : Expansion (Option Param)). length e.placed) (sym is)
+      ∙ length-map flat.instances.items (placed_of flat.params.items) in
       λ i. first_of (expand ∷ room_refusal (length d.kinds + fresh i) (length d.instances + count i) ∷ [])
 
-  kinds_used : (used library (state_from names words definitions premises d limit) name cells by).kinds ≡ map (kind_at d.kinds) cells ++ flat.fresh.items
+  kinds_used : (used library (state_from names words definitions premises d limit) name cells by).kinds ≡ map
+      (kind_at d.kinds) cells ++ flat.fresh.items
   kinds_used = ap (λ (e : Expansion (Option Param)). e.kinds) (sym is)
 
-  placed_used : (used library (state_from names words definitions premises d limit) name cells by).placed ≡ map (placed_of flat.params.items) flat.instances.items
+  placed_used : (used library (state_from names words definitions premises d limit) name cells by).placed ≡ map
+      (placed_of flat.params.items) flat.instances.items
   placed_used = ap (λ (e : Expansion (Option Param)). e.placed) (sym is)
 
   -- what is made is what the use stands for
   pub state_made : (new : Data) → new ≡ with_flat library d cells flat →
-      state_from names words definitions premises new limit ≡ with_use library (state_from names words definitions premises d limit) cells (used library (state_from names words definitions premises d limit) name cells by)
+      state_from names words definitions premises new limit ≡ with_use library
+      (state_from names words definitions premises d limit) cells
+      (used library (state_from names words definitions premises d limit) name cells by)
   state_made new e =
       let seam : drop (length cells) (map (kind_at d.kinds) cells ++ flat.fresh.items) ≡ flat.fresh.items =
-      ap (λ n. drop n (map (kind_at d.kinds) cells ++ flat.fresh.items)) (sym (length-map cells (kind_at d.kinds))) ∙ drop-append_seam (map (kind_at d.kinds) cells) flat.fresh.items in
-      let kinds : new.kinds ≡ d.kinds ++ drop (length cells) (used library (state_from names words definitions premises d limit) name cells by).kinds =
+      ap (λ n. drop n (map (kind_at d.kinds) cells ++ flat.fresh.items)) (sym (length-map cells (kind_at d.kinds)))
+      ∙ drop-append_seam (map (kind_at d.kinds) cells) flat.fresh.items in
+      let kinds : new.kinds ≡ d.kinds ++ drop (length cells)
+      (used library (state_from names words definitions premises d limit) name cells by).kinds =
       ap (λ (x : Data). x.kinds) e ∙ ap (λ l. d.kinds ++ l) (sym seam ∙ ap (drop (length cells)) (sym kinds_used)) in
-      let instances : new.instances ≡ d.instances ++ map (instance_placed library cells (length d.kinds)) (used library (state_from names words definitions premises d limit) name cells by).placed =
-      ap (λ (x : Data). x.instances) e ∙ ap (λ l. d.instances ++ l) (map_twice flat.instances.items ∙ ap (map (instance_placed library cells (length d.kinds))) (sym placed_used)) in
+      let instances : new.instances ≡ d.instances ++ map (instance_placed library cells (length d.kinds))
+      (used library (state_from names words definitions premises d limit) name cells by).placed =
+      ap (λ (x : Data). x.instances) e ∙ ap (λ l. d.instances ++ l)
+      (map_twice flat.instances.items ∙ ap (map (instance_placed library cells (length d.kinds))) (sym placed_used))
+      in
       let statements : new.statements ≡ d.statements = ap (λ (x : Data). x.statements) e in
-      λ i. record { names = names; words = words; definitions = definitions; kinds = kinds i; premises = premises; statements = statements i; instances = instances i; limit = limit; named = [] }
+      λ i. record {
+        names = names;
+        words = words;
+        definitions = definitions;
+        kinds = kinds i;
+        premises = premises;
+        statements = statements i;
+        instances = instances i;
+        limit = limit;
+        named = [];
+      }
     where
-      map_twice : (xs : List flats.Placed) → map (made_of library flat.params.items cells (length d.kinds)) xs ≡ map (instance_placed library cells (length d.kinds)) (map (placed_of flat.params.items) xs)
+      map_twice : (xs : List flats.Placed)
+          → map (made_of library flat.params.items cells (length d.kinds)) xs ≡ map
+          (instance_placed library cells (length d.kinds)) (map (placed_of flat.params.items) xs)
       map_twice [] = refl
       map_twice (x ∷ xs) = λ i. is_placed library flat.params.items cells (length d.kinds) x i ∷ map_twice xs i
 
 -- ---- the places of a use
 
 -- there is a cell at each place
-there_placed : (kinds fresh : List Kinded) (cells : List ℕ) (place : ℕ) → All (λ c. c < length kinds) cells → place < length cells + length fresh → cell_placed cells (length kinds) place < length (kinds ++ fresh)
+there_placed : (kinds fresh : List Kinded) (cells : List ℕ) (place : ℕ) → All (λ c. c < length kinds) cells
+    → place < length cells + length fresh → cell_placed cells (length kinds) place < length (kinds ++ fresh)
 there_placed kinds fresh cells place below l = by (cases_lt place (length cells))
   where
     n : length (kinds ++ fresh) ≡ length kinds + length fresh
     n = length-append kinds fresh
 
-    by : (place < length cells) ⊎ (length cells ≤ place) → cell_placed cells (length kinds) place < length (kinds ++ fresh)
+    by : (place < length cells) ⊎ (length cells ≤ place)
+        → cell_placed cells (length kinds) place < length (kinds ++ fresh)
     by (inl h) =
-        let given : cell_placed cells (length kinds) place ≡ get_or cells place 0 = ap (λ (b : Bool). cond b (get_or cells place 0) (length kinds + (place - length cells))) (lt-ltb place (length cells) h) in
+        let given : cell_placed cells (length kinds) place ≡ get_or cells place 0 =
+        ap (λ (b : Bool). cond b (get_or cells place 0) (length kinds + (place - length cells)))
+        (lt-ltb place (length cells) h) in
         let b = below place 0 h in omega (arith, n, given, b)
     by (inr h) =
-        let behind : cell_placed cells (length kinds) place ≡ length kinds + (place - length cells) = ap (λ (b : Bool). cond b (get_or cells place 0) (length kinds + (place - length cells))) (le-ltb place (length cells) h) in
+        let behind : cell_placed cells (length kinds) place ≡ length kinds + (place - length cells) =
+        ap (λ (b : Bool). cond b (get_or cells place 0) (length kinds + (place - length cells)))
+        (le-ltb place (length cells) h) in
         omega (arith, n, behind, h, l)
 
-kinds_placed : (kinds fresh : List Kinded) (cells places : List ℕ) → All (λ c. c < length kinds) cells → All (λ place. place < length cells + length fresh) places →
-    map (kind_at (kinds ++ fresh)) (map (cell_placed cells (length kinds)) places) ≡ map (kind_at (map (kind_at kinds) cells ++ fresh)) places
+kinds_placed : (kinds fresh : List Kinded) (cells places : List ℕ) → All (λ c. c < length kinds) cells
+    → All (λ place. place < length cells + length fresh) places →
+    map (kind_at (kinds ++ fresh)) (map (cell_placed cells (length kinds)) places) ≡ map
+    (kind_at (map (kind_at kinds) cells ++ fresh)) places
 kinds_placed kinds fresh cells [] below l = refl
 kinds_placed kinds fresh cells (place ∷ places) below l = λ i.
     kind_placed kinds fresh cells place below (All-head (λ p. p < length cells + length fresh) place places l) i
@@ -181,37 +247,54 @@ not_false : (b : Bool) → not b ≡ false → b ≡ true
 not_false true e = refl
 not_false false e = cc
 
-module _ (library : List Stored) (d : Data) (cells : List ℕ) (flat : Flat) (below : All (λ c. c < length d.kinds) cells) (few : length d.kinds + length flat.fresh.items ≤ most Cells) where
+module _ (library : List Stored) (d : Data) (cells : List ℕ) (flat : Flat) (below : All (λ c. c < length d.kinds) cells)
+    (few : length d.kinds + length flat.fresh.items ≤ most Cells) where
   one_may : (x : flats.Placed) → IsInstanceOver library (length cells + length flat.fresh.items) x →
-      is_kind_wrong library (map (kind_at d.kinds) cells ++ flat.fresh.items) (placed_of flat.params.items x) ≡ false → is_param_wrong library (placed_of flat.params.items x) ≡ false →
+      is_kind_wrong library (map (kind_at d.kinds) cells ++ flat.fresh.items) (placed_of flat.params.items x) ≡ false
+      → is_param_wrong library (placed_of flat.params.items x) ≡ false →
       MayBeMade library (d.kinds ++ flat.fresh.items) flat.params.items cells (length d.kinds) x
   one_may x over placed given =
       let p = over.procedure in
       let sides = option_and_then sides_of (param_at flat.params.items x.param) in
       let e_kinds = map (kind_at d.kinds) cells ++ flat.fresh.items in
       let right : kinds_fit p e_kinds sides (cells_of x) ≡ true =
-      not_false (kinds_fit p e_kinds sides (cells_of x)) (sym (ap (λ (o : Option Stored). option_map_or (λ q. not (kinds_fit q e_kinds sides (cells_of x))) o false) over.at) ∙ placed) in
+      not_false (kinds_fit p e_kinds sides (cells_of x))
+      (sym (ap (λ (o : Option Stored). option_map_or (λ q. not (kinds_fit q e_kinds sides (cells_of x))) o false)
+      over.at) ∙ placed) in
       record {
         procedure = p;
         at = over.at;
         count = over.count;
-        small = All-weaker (λ place. place < length cells + length flat.fresh.items) (λ place. length d.kinds + (place - length cells) < 2 ^ 64) (λ place l. omega (arith, few, l)) (cells_of x) over.cells;
-        below = All-map (λ c. c < length (d.kinds ++ flat.fresh.items)) (cell_placed cells (length d.kinds)) (cells_of x)
-            (All-weaker (λ place. place < length cells + length flat.fresh.items) (λ place. cell_placed cells (length d.kinds) place < length (d.kinds ++ flat.fresh.items)) (λ place l. there_placed d.kinds flat.fresh.items cells place below l) (cells_of x) over.cells);
-        right = ap (λ (l : List Kinded). are_right p.need sides (zip (p.ins ++ p.out ∷ []) l)) (kinds_placed d.kinds flat.fresh.items cells (cells_of x) below over.cells) ∙ right;
-        takes = sym (ap (λ (o : Option Stored). option_map_or (λ q. is_none (fitting_param q.need (param_at flat.params.items x.param))) o false) over.at) ∙ given;
+        small = All-weaker (λ place. place < length cells + length flat.fresh.items)
+            (λ place. length d.kinds + (place - length cells) < 2 ^ 64) (λ place l. omega (arith, few, l)) (cells_of x)
+            over.cells;
+        below = All-map (λ c. c < length (d.kinds ++ flat.fresh.items)) (cell_placed cells (length d.kinds))
+            (cells_of x)
+            (All-weaker (λ place. place < length cells + length flat.fresh.items)
+            (λ place. cell_placed cells (length d.kinds) place < length (d.kinds ++ flat.fresh.items))
+            (λ place l. there_placed d.kinds flat.fresh.items cells place below l) (cells_of x) over.cells);
+        right = ap (λ (l : List Kinded). are_right p.need sides (zip (p.ins ++ p.out ∷ []) l))
+            (kinds_placed d.kinds flat.fresh.items cells (cells_of x) below over.cells) ∙ right;
+        takes = sym (ap (λ (o : Option Stored).
+            option_map_or (λ q. is_none (fitting_param q.need (param_at flat.params.items x.param))) o false) over.at)
+            ∙ given;
       }
 
   each_may : (xs : List flats.Placed) → All (IsInstanceOver library (length cells + length flat.fresh.items)) xs →
-      list_any (is_kind_wrong library (map (kind_at d.kinds) cells ++ flat.fresh.items)) (map (placed_of flat.params.items) xs) ≡ false → list_any (is_param_wrong library) (map (placed_of flat.params.items) xs) ≡ false →
+      list_any (is_kind_wrong library (map (kind_at d.kinds) cells ++ flat.fresh.items))
+      (map (placed_of flat.params.items) xs) ≡ false
+      → list_any (is_param_wrong library) (map (placed_of flat.params.items) xs) ≡ false →
       All (MayBeMade library (d.kinds ++ flat.fresh.items) flat.params.items cells (length d.kinds)) xs
   each_may [] over placed given = λ k d l. absurd (omega (arith, l))
   each_may (x ∷ xs) over placed given =
-      let misplaced = or_false (is_kind_wrong library (map (kind_at d.kinds) cells ++ flat.fresh.items) (placed_of flat.params.items x)) _ placed in
+      let misplaced = or_false (is_kind_wrong library (map (kind_at d.kinds) cells ++ flat.fresh.items)
+      (placed_of flat.params.items x)) _ placed in
       let misgiven = or_false (is_param_wrong library (placed_of flat.params.items x)) _ given in
       All-cons (MayBeMade library (d.kinds ++ flat.fresh.items) flat.params.items cells (length d.kinds)) x xs
-      (one_may x (All-head (IsInstanceOver library (length cells + length flat.fresh.items)) x xs over) misplaced.0 misgiven.0)
-      (each_may xs (All-tail (IsInstanceOver library (length cells + length flat.fresh.items)) x xs over) misplaced.1 misgiven.1)
+      (one_may x (All-head (IsInstanceOver library (length cells + length flat.fresh.items)) x xs over) misplaced.0
+      misgiven.0)
+      (each_may xs (All-tail (IsInstanceOver library (length cells + length flat.fresh.items)) x xs over) misplaced.1
+      misgiven.1)
 
 -- the fit of what is not refused
 fit_of : (a b c f : Option Refusal) → first_of (a ∷ b ∷ c ∷ f ∷ []) ≡ None → f ≡ None
@@ -221,15 +304,27 @@ fit_of None None (Some x) f e = cc
 fit_of None None None (Some x) e = cc
 fit_of None None None None e = refl
 
-pub may_make : (library : List Stored) (words : Vocabulary) (definitions : Definitions) (d : Data) (name : List ℕ) (cells : List ℕ) (given : Option Param) (flat : Flat) → All (λ c. c < length d.kinds) cells →
-    expand_refusal library words definitions name (map (kind_at d.kinds) cells) given ≡ None → expansion_of_flat (map (kind_at d.kinds) cells) flat ≡ expanded library words definitions name (map (kind_at d.kinds) cells) given →
-    IsFlatOver library (length cells) flat → length d.kinds + length flat.fresh.items ≤ most Cells → MayMake library d cells flat
+pub may_make : (library : List Stored) (words : Vocabulary) (definitions : Definitions) (d : Data) (name : List ℕ)
+    (cells : List ℕ) (given : Option Param) (flat : Flat) → All (λ c. c < length d.kinds) cells →
+    expand_refusal library words definitions name (map (kind_at d.kinds) cells) given ≡ None
+    → expansion_of_flat (map (kind_at d.kinds) cells) flat ≡ expanded library words definitions name
+    (map (kind_at d.kinds) cells) given →
+    IsFlatOver library (length cells) flat → length d.kinds + length flat.fresh.items ≤ most Cells
+    → MayMake library d cells flat
 may_make library words definitions d name cells given flat below fits is safe few =
     let e = expansion_of_flat (map (kind_at d.kinds) cells) flat in
-    let fit : fit_refusal library e ≡ None = subst (λ (x : Expansion (Option Param)). fit_refusal library x ≡ None) (sym is) (fit_of (when NoSuchProcedure (is_none (used_named library definitions name))) (when WrongCount (is_miscounted library definitions name (length (map (kind_at d.kinds) cells))))
-    (size_refusal (length (expanded library words definitions name (map (kind_at d.kinds) cells) given).kinds - length (map (kind_at d.kinds) cells)) (length (expanded library words definitions name (map (kind_at d.kinds) cells) given).placed)) (fit_refusal library (expanded library words definitions name (map (kind_at d.kinds) cells) given)) fits) in
-    let rows = both_none (when WrongKind (list_any (is_kind_wrong library e.kinds) e.placed)) (when WrongParameter (are_params_wrong library e)) fit in
-    each_may library d cells flat below few flat.instances.items safe (holds_not WrongKind _ rows.0) (holds_not WrongParameter _ rows.1)
+    let fit : fit_refusal library e ≡ None =
+    subst (λ (x : Expansion (Option Param)). fit_refusal library x ≡ None) (sym is)
+    (fit_of (when NoSuchProcedure (is_none (used_named library definitions name)))
+    (when WrongCount (is_miscounted library definitions name (length (map (kind_at d.kinds) cells))))
+    (size_refusal (length (expanded library words definitions name (map (kind_at d.kinds) cells) given).kinds - length
+    (map (kind_at d.kinds) cells)) (length
+    (expanded library words definitions name (map (kind_at d.kinds) cells) given).placed))
+    (fit_refusal library (expanded library words definitions name (map (kind_at d.kinds) cells) given)) fits) in
+    let rows = both_none (when WrongKind (list_any (is_kind_wrong library e.kinds) e.placed))
+    (when WrongParameter (are_params_wrong library e)) fit in
+    each_may library d cells flat below few flat.instances.items safe (holds_not WrongKind _ rows.0)
+    (holds_not WrongParameter _ rows.1)
 
 -- ---- what stays sound
 
@@ -238,15 +333,25 @@ all_behind P [] ys all = all
 all_behind P (x ∷ xs) ys all = all_behind P xs ys (All-tail P x (xs ++ ys) all)
 
 -- the fresh cells are of kinds that are there
-pub sized_made : (library : List Stored) (words : Vocabulary) (definitions : Definitions) (d : Data) (name : List ℕ) (cells : List ℕ) (given : Option Param) (flat : Flat) →
-    expansion_of_flat (map (kind_at d.kinds) cells) flat ≡ expanded library words definitions name (map (kind_at d.kinds) cells) given → All (IsSized words) d.kinds → AreLocalsOf (IsSized words) definitions → All (IsSized words) (d.kinds ++ flat.fresh.items)
+pub sized_made : (library : List Stored) (words : Vocabulary) (definitions : Definitions) (d : Data) (name : List ℕ)
+    (cells : List ℕ) (given : Option Param) (flat : Flat) →
+    expansion_of_flat (map (kind_at d.kinds) cells) flat ≡ expanded library words definitions name
+    (map (kind_at d.kinds) cells) given → All (IsSized words) d.kinds → AreLocalsOf (IsSized words) definitions
+    → All (IsSized words) (d.kinds ++ flat.fresh.items)
 sized_made library words definitions d name cells given flat is sized locals =
     let span : IsSized words span_kind = (tt, refl) in
-    let of_cells : All (IsSized words) (map (kind_at d.kinds) cells) = All-map (IsSized words) (kind_at d.kinds) cells (λ k n l. kind_of_place (IsSized words) span d.kinds (get_or cells k n) sized) in
-    let of_all = kinds_of_use (IsSized words) span library words definitions name (map (kind_at d.kinds) cells) given locals of_cells in
-    let here : All (IsSized words) (map (kind_at d.kinds) cells ++ flat.fresh.items) = subst (λ (e : Expansion (Option Param)). All (IsSized words) e.kinds) (sym is) of_all in
-    All-append (IsSized words) d.kinds flat.fresh.items sized (all_behind (IsSized words) (map (kind_at d.kinds) cells) flat.fresh.items here)
+    let of_cells : All (IsSized words) (map (kind_at d.kinds) cells) =
+    All-map (IsSized words) (kind_at d.kinds) cells
+    (λ k n l. kind_of_place (IsSized words) span d.kinds (get_or cells k n) sized) in
+    let of_all = kinds_of_use (IsSized words) span library words definitions name (map (kind_at d.kinds) cells) given
+    locals of_cells in
+    let here : All (IsSized words) (map (kind_at d.kinds) cells ++ flat.fresh.items) =
+    subst (λ (e : Expansion (Option Param)). All (IsSized words) e.kinds) (sym is) of_all in
+    All-append (IsSized words) d.kinds flat.fresh.items sized
+    (all_behind (IsSized words) (map (kind_at d.kinds) cells) flat.fresh.items here)
 
 -- names of cells stay names of cells
-pub named_made : (cells : List ℕ) (kinds fresh : List Kinded) → All (λ cell. cell < length kinds) cells → All (λ cell. cell < length (kinds ++ fresh)) cells
-named_made cells kinds fresh all = All-weaker (λ cell. cell < length kinds) (λ cell. cell < length (kinds ++ fresh)) (λ cell l. omega (arith, l, length-append kinds fresh)) cells all
+pub named_made : (cells : List ℕ) (kinds fresh : List Kinded) → All (λ cell. cell < length kinds) cells
+    → All (λ cell. cell < length (kinds ++ fresh)) cells
+named_made cells kinds fresh all = All-weaker (λ cell. cell < length kinds) (λ cell. cell < length (kinds ++ fresh))
+    (λ cell l. omega (arith, l, length-append kinds fresh)) cells all

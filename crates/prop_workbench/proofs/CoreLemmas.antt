@@ -1,5 +1,6 @@
 -- What is said of a core.
-use Rattle.std.proofs.Common.{◌≡◌, ◌∙◌, ◌<◌, ◌≤◌, ◌+◌, ◌-◌, ◌*◌, ℕ, List, [], ◌∷◌, All, Some, codes, length, ap, arith, refl, subst}
+use Rattle.std.proofs.Common.{◌≡◌, ◌∙◌, ◌<◌, ◌≤◌, ◌+◌, ◌-◌, ◌*◌, ℕ, List, [], ◌∷◌, All, Some, codes, length, ap, arith}
+use Rattle.std.proofs.Common.{refl, subst}
 use Rattle.std.specs.List.{AllByRecursion}
 use Rattle.std.proofs.Math.Nat.{mul-le-mul_right}
 use Rattle.std.proofs.lemmas.List.Elements.{recursion_from_All}
@@ -38,22 +39,42 @@ use Rattle.prop_workbench.proofs.AskLemmas.{may_be_least, may_not_be_reduced, se
 use Rattle.prop_workbench.proofs.PremiseLemmas.{support_known}
 
 -- the premises of a core are known
-pub core_known : (problem : Problem) (n : ℕ) (believed : Members) (cell : ℕ) (value : Info) (core : Core) → AreKnown n problem.statements → OfCore core (λ v s. (v ≡ value) × Explains problem believed cell v (set_of s)) → OfCore core (λ v s. All (λ p. p < n) s)
-core_known problem n believed cell value (Least e) known explains = support_known problem n cell e.support known explains.1.related
-core_known problem n believed cell value (NotReduced e) known explains = support_known problem n cell e.support known explains.1.related
+pub core_known : (problem : Problem) (n : ℕ) (believed : Members) (cell : ℕ) (value : Info) (core : Core)
+    → AreKnown n problem.statements → OfCore core (λ v s. (v ≡ value) × Explains problem believed cell v (set_of s))
+    → OfCore core (λ v s. All (λ p. p < n) s)
+core_known problem n believed cell value (Least e) known explains =
+    support_known problem n cell e.support known explains.1.related
+core_known problem n believed cell value (NotReduced e) known explains =
+    support_known problem n cell e.support known explains.1.related
 
 -- what it says of a network at rest is settled
-pub settled_core : (library : List Stored) (names : CellNames) (words : Vocabulary) (definitions : Definitions) (premises : List Origin) (d : Data) (limit : ℕ) (list : List ℕ) (believed : Members) (cell : ℕ) (core : Core) → IsKept library d → believed ≡ worldview_in premises list → IsSettled library (worldview_in premises list) d →
-    OfCore core (λ v s. (v ≡ beliefs believed d.contents cell) × Explains (problem_of library d) believed cell v (set_of s)) →
-    OfCore core (λ v s. IsSettledValue library (state_from names words definitions premises d limit) list cell v × Explains (problem_of library d) (worldview_in premises list) cell v (set_of s))
-settled_core library names words definitions premises d limit list believed cell (Least e) kept same rest explains =
-    (settled_value library names words definitions premises d limit list cell e.value kept rest (explains.0 ∙ ap (λ (b : Members). beliefs b d.contents cell) same), subst (λ (b : Members). Explains (problem_of library d) b cell e.value (set_of e.support)) same explains.1)
-settled_core library names words definitions premises d limit list believed cell (NotReduced e) kept same rest explains =
-    (settled_value library names words definitions premises d limit list cell e.value kept rest (explains.0 ∙ ap (λ (b : Members). beliefs b d.contents cell) same), subst (λ (b : Members). Explains (problem_of library d) b cell e.value (set_of e.support)) same explains.1)
+pub settled_core : (library : List Stored) (names : CellNames) (words : Vocabulary) (definitions : Definitions)
+    (premises : List Origin) (d : Data) (limit : ℕ) (list : List ℕ) (believed : Members) (cell : ℕ) (core : Core)
+    → IsKept library d → believed ≡ worldview_in premises list → IsSettled library (worldview_in premises list) d →
+    OfCore core (λ v s. (v ≡ beliefs believed d.contents cell)
+    × Explains (problem_of library d) believed cell v (set_of s)) →
+    OfCore core (λ v s. IsSettledValue library (state_from names words definitions premises d limit) list cell v
+    × Explains (problem_of library d) (worldview_in premises list) cell v (set_of s))
+settled_core library names words definitions premises d limit list believed cell (Least e) kept same rest explains = (
+  settled_value library names words definitions premises d limit list cell e.value kept rest
+      (explains.0 ∙ ap (λ (b : Members). beliefs b d.contents cell) same),
+  subst (λ (b : Members). Explains (problem_of library d) b cell e.value (set_of e.support)) same explains.1,
+)
+settled_core library names words definitions premises d limit list believed cell (NotReduced e) kept same rest
+    explains = (
+      settled_value library names words definitions premises d limit list cell e.value kept rest
+          (explains.0 ∙ ap (λ (b : Members). beliefs b d.contents cell) same),
+      subst (λ (b : Members). Explains (problem_of library d) b cell e.value (set_of e.support)) same explains.1,
+    )
 
--- a session keeps what it has to where only what its cells hold, what waits and what is watched has changed, and every instance waits
-pub rested_keeps : {R O : Type 0} {X : Type 0} {F : X → Type 0} {g : _} (value : R → Param → List Info → Info) (s new : Session R O X F g) → IsInOrder value s → new.network.library ≡ s.network.library → new.network.cells ≡ record s.network.cells { contents = new.network.cells.contents } →
-    ((believed : Members) → IsUnderWay (library_of value new) believed new.network.cells new.agenda.line) → ((believed : Members) → IsWatched believed new.network.cells new.agenda.watched) → new.agenda.room ≡ s.agenda.room → new.agenda.cells ≡ s.agenda.cells →
+-- a session keeps what it has to where only what its cells hold, what waits and what is watched has changed, and every
+-- instance waits
+pub rested_keeps : {R O : Type 0} {X : Type 0} {F : X → Type 0} {g : _} (value : R → Param → List Info → Info)
+    (s new : Session R O X F g) → IsInOrder value s → new.network.library ≡ s.network.library
+    → new.network.cells ≡ record s.network.cells { contents = new.network.cells.contents } →
+    ((believed : Members) → IsUnderWay (library_of value new) believed new.network.cells new.agenda.line)
+    → ((believed : Members) → IsWatched believed new.network.cells new.agenda.watched)
+    → new.agenda.room ≡ s.agenda.room → new.agenda.cells ≡ s.agenda.cells →
     Keeps value s (record s { network = new.network; agenda = new.agenda; order = new.order })
 rested_keeps value s new sound same rest under_way watched room cells = record {
   library = same;
@@ -61,7 +82,8 @@ rested_keeps value s new sound same rest under_way watched room cells = record {
     at_work = record {
       under_way = under_way (set_of s.search.worldview);
       well_made = sound.at_work.well_made;
-      search = rw (same_problem (stored_of value s.network.library) (stored_of value new.network.library) s.network.cells new.network.cells (λ i. stored_of value (same i)) rest) sound.at_work.search;
+      search = rw (same_problem (stored_of value s.network.library) (stored_of value new.network.library)
+          s.network.cells new.network.cells (λ i. stored_of value (same i)) rest) sound.at_work.search;
       known = rw rest sound.at_work.known;
       roomy = rw (room, rest) sound.at_work.roomy;
       watched = watched (set_of s.search.worldview);
@@ -77,33 +99,50 @@ rested_keeps value s new sound same rest under_way watched room cells = record {
 }
 
 -- where it isn't reduced, every step of the limit was used
-pub used_up : (core : Core) (steps tries limit : ℕ) → steps ≤ limit → IfNotReduced core (λ v s. tries ≡ limit - steps) → IfNotReduced core (λ v s. steps + tries ≡ limit)
+pub used_up : (core : Core) (steps tries limit : ℕ) → steps ≤ limit → IfNotReduced core (λ v s. tries ≡ limit - steps)
+    → IfNotReduced core (λ v s. steps + tries ≡ limit)
 used_up (Least e) steps tries limit within spent = tt
 used_up (NotReduced e) steps tries limit within spent = omega (arith, within, spent)
 
 -- numbers in order above one number and below another are no more than lie between them
-between_few : (x : ℕ) (ps : List ℕ) (n : ℕ) → AllByRecursion (λ p. x < p) ps → Rising ps → AllByRecursion (λ p. p < n) ps → x < n → length ps + x < n
+between_few : (x : ℕ) (ps : List ℕ) (n : ℕ) → AllByRecursion (λ p. x < p) ps → Rising ps
+    → AllByRecursion (λ p. p < n) ps → x < n → length ps + x < n
 between_few x [] n above up below lt = omega (arith, lt)
-between_few x (p ∷ ps) n above up below lt = let rest = between_few p ps n up.0 up.1 below.1 below.0 in omega (arith, rest, above.0)
+between_few x (p ∷ ps) n above up below lt = let rest =
+    between_few p ps n up.0 up.1 below.1 below.0 in omega (arith, rest, above.0)
 
 rising_few : (ps : List ℕ) (n : ℕ) → Rising ps → AllByRecursion (λ p. p < n) ps → length ps ≤ n
 rising_few [] n up below = omega arith
 rising_few (p ∷ ps) n up below = let rest = between_few p ps n up.0 up.1 below.1 below.0 in omega (arith, rest)
 
 -- where it isn't reduced, the limit is too small
-pub too_few : (library : List Stored) (s : State) (believed : Members) (cell : ℕ) (core : Core) (steps : ℕ) → AreKnown (length s.premises) s.statements → steps ≤ s.limit → steps < lists_count (choices_in s) * (most_steps (problem_in library s) + 1) →
-    IfNotReduced core (λ v kept. (ps : List ℕ) × IsStrictlyIncreasing ps × Explains (problem_in library s) believed cell v (set_of ps) × (s.limit - steps < length ps * most_steps (problem_in library s))) → IfNotReduced core (λ v kept. IsTooFewToReduce library s)
+pub too_few : (library : List Stored) (s : State) (believed : Members) (cell : ℕ) (core : Core) (steps : ℕ)
+    → AreKnown (length s.premises) s.statements → steps ≤ s.limit
+    → steps < lists_count (choices_in s) * (most_steps (problem_in library s) + 1) →
+    IfNotReduced core (λ v kept. (ps : List ℕ) × IsStrictlyIncreasing ps
+    × Explains (problem_in library s) believed cell v (set_of ps)
+    × (s.limit - steps < length ps * most_steps (problem_in library s)))
+    → IfNotReduced core (λ v kept. IsTooFewToReduce library s)
 too_few library s believed cell (Least e) steps known within few earned = tt
 too_few library s believed cell (NotReduced e) steps known within few (ps, up, explains, short) =
     let most = most_steps (problem_in library s) in
     let below = support_known (problem_in library s) (length s.premises) cell ps known explains.related in
-    let count = rising_few ps (length s.premises) (rising_from_increasing ps up) (recursion_from_All (λ p. p < length s.premises) ps below) in
+    let count = rising_few ps (length s.premises) (rising_from_increasing ps up)
+    (recursion_from_All (λ p. p < length s.premises) ps below) in
     omega (arith, short, few, within, mul-le-mul_right {m = length ps} {n = length s.premises} most count)
 
 -- it may be said as it ended
-pub may_core : (library : List Stored) (s : State) (list name : List ℕ) (cell : ℕ) (core : Core) (answer : Answer) (steps : ℕ) → cell_named s.names name ≡ Some cell →
-    OfCore core (λ v ps. IsSettledValue library s list cell v × Explains (problem_in library s) (worldview_at s list) cell v (set_of ps)) → IfLeast core (λ v ps. IsIrreducible (problem_in library s) (set_of ps) cell v) → IfNotReduced core (λ v ps. steps ≡ s.limit) → IfNotReduced core (λ v ps. IsTooFewToReduce library s) →
-    IfLeast core (λ v ps. SaysBecause s cell name [] v ps answer) → IfNotReduced core (λ v ps. SaysBecause s cell name (codes " not reduced") v ps answer) →
+pub may_core : (library : List Stored) (s : State) (list name : List ℕ) (cell : ℕ) (core : Core) (answer : Answer)
+    (steps : ℕ) → cell_named s.names name ≡ Some cell →
+    OfCore core (λ v ps. IsSettledValue library s list cell v
+    × Explains (problem_in library s) (worldview_at s list) cell v (set_of ps))
+    → IfLeast core (λ v ps. IsIrreducible (problem_in library s) (set_of ps) cell v)
+    → IfNotReduced core (λ v ps. steps ≡ s.limit) → IfNotReduced core (λ v ps. IsTooFewToReduce library s) →
+    IfLeast core (λ v ps. SaysBecause s cell name [] v ps answer)
+    → IfNotReduced core (λ v ps. SaysBecause s cell name (codes " not reduced") v ps answer) →
     MaySay library s (commands.Command.Core name) (Settled list) steps answer
-may_core library s list name cell (Least e) answer steps named settled least spent few says other = may_be_least library s list name cell e.value e.support answer steps named settled.0 says.0 settled.1 least says.1
-may_core library s list name cell (NotReduced e) answer steps named settled least spent few other says = may_not_be_reduced library s list name cell e.value e.support answer steps named settled.0 says.0 settled.1 spent few says.1
+may_core library s list name cell (Least e) answer steps named settled least spent few says other =
+    may_be_least library s list name cell e.value e.support answer steps named settled.0 says.0 settled.1 least says.1
+may_core library s list name cell (NotReduced e) answer steps named settled least spent few other says =
+    may_not_be_reduced library s list name cell e.value e.support answer steps named settled.0 says.0 settled.1 spent
+    few says.1

@@ -1,5 +1,6 @@
 -- A line that keeps words is heard: it is no silent line.
-use Rattle.std.proofs.Common.{◌≡◌, ℕ, Bool, true, false, cond, not, ◌==◌, List, [], ◌∷◌, Option, Some, None, Result, Ok, Err, ◌⊎◌, inl, inr, refl, sym, subst, arith}
+use Rattle.std.proofs.Common.{◌≡◌, ℕ, Bool, true, false, cond, not, ◌==◌, List, [], ◌∷◌, Option, Some, None, Result, Ok}
+use Rattle.std.proofs.Common.{Err, ◌⊎◌, inl, inr, refl, sym, subst, arith}
 use Rattle.std.specs.List.{list_all}
 use Rattle.std.proofs.lemmas.Bool.{eqb-true}
 use Rattle.prop_refusals.specs.declared.refusal.Refusal.{Refusal}
@@ -8,7 +9,8 @@ use Rattle.prop_procedures.specs.Stored.{Stored}
 use Rattle.prop_language.specs.Commands.{Command}
 use Rattle.prop_language.specs.Tokens.{Token, Word, tokens, is_blank, front_word}
 use Rattle.prop_language.specs.Names.{is_name}
-use Rattle.prop_language.specs.Reading.{AskFor, IsReading, AsRead, command_in_range, is_silent, without_return, names_in, is_in_range}
+use Rattle.prop_language.specs.Reading.{AskFor, IsReading, AsRead, command_in_range, is_silent, without_return}
+use Rattle.prop_language.specs.Reading.{names_in, is_in_range}
 use Rattle.prop_language.proofs.ReadingLaws.{have_one_reading}
 use Rattle.prop_language.specs.Said.{KeepsWords}
 use Rattle.prop_engine.specs.Answers.{Refused}
@@ -17,16 +19,21 @@ use Rattle.prop_workbench.specs.Steps.{Follows}
 use Rattle.prop_workbench.proofs.StepLemmas.{lacks}
 
 -- a silent line has no word, or a first word that begins with a number sign
-silent_tokens : (bytes : List ℕ) → is_silent bytes ≡ true → (tokens bytes ≡ []) ⊎ ((w : List ℕ) × (ts : List Token) × (tokens bytes ≡ Word (35 ∷ w) ∷ ts))
+silent_tokens : (bytes : List ℕ) → is_silent bytes ≡ true
+    → (tokens bytes ≡ []) ⊎ ((w : List ℕ) × (ts : List Token) × (tokens bytes ≡ Word (35 ∷ w) ∷ ts))
 silent_tokens [] h = inl refl
 silent_tokens (b ∷ bytes) h = by (silent_tokens bytes) (is_blank b) refl h
   where
-    begins : b ≡ 35 → (tokens (b ∷ bytes) ≡ []) ⊎ ((w : List ℕ) × (ts : List Token) × (tokens (b ∷ bytes) ≡ Word (35 ∷ w) ∷ ts))
+    begins : b ≡ 35 → (tokens (b ∷ bytes) ≡ [])
+        ⊎ ((w : List ℕ) × (ts : List Token) × (tokens (b ∷ bytes) ≡ Word (35 ∷ w) ∷ ts))
     begins e =
-        subst (λ (c : ℕ). (tokens (c ∷ bytes) ≡ []) ⊎ ((w : List ℕ) × (ts : List Token) × (tokens (c ∷ bytes) ≡ Word (35 ∷ w) ∷ ts))) (sym e)
+        subst (λ (c : ℕ). (tokens (c ∷ bytes) ≡ [])
+        ⊎ ((w : List ℕ) × (ts : List Token) × (tokens (c ∷ bytes) ≡ Word (35 ∷ w) ∷ ts))) (sym e)
         (inr ((front_word bytes).0, (front_word bytes).1, refl))
 
-    by : (is_silent bytes ≡ true → (tokens bytes ≡ []) ⊎ ((w : List ℕ) × (ts : List Token) × (tokens bytes ≡ Word (35 ∷ w) ∷ ts))) → (t : Bool) → is_blank b ≡ t → cond t (is_silent bytes) (b == 35) ≡ true →
+    by : (is_silent bytes ≡ true → (tokens bytes ≡ [])
+        ⊎ ((w : List ℕ) × (ts : List Token) × (tokens bytes ≡ Word (35 ∷ w) ∷ ts))) → (t : Bool) → is_blank b ≡ t
+        → cond t (is_silent bytes) (b == 35) ≡ true →
         (tokens (b ∷ bytes) ≡ []) ⊎ ((w : List ℕ) × (ts : List Token) × (tokens (b ∷ bytes) ≡ Word (35 ∷ w) ∷ ts))
     by rest true e s = rw e (rest s)
     by rest false e s = begins (eqb-true b 35 s)
@@ -69,12 +76,15 @@ heard line keeps (inr (l, inr (inl (u, s, e)))) = heard_words (without_return li
 heard line keeps (inr (l, inr (inr (u, s, a)))) = asked_heard (tokens (without_return line)) a
 
 -- a line that is refused while it is read, or for want of memory
-pub follows_refused : (line : List ℕ) (refusal : Refusal) → (refusal ≡ Memory) ⊎ IsReading line (Err refusal) → ((refusal ≡ Memory) → KeepsWords (tokens (without_return line))) →
+pub follows_refused : (line : List ℕ) (refusal : Refusal) → (refusal ≡ Memory) ⊎ IsReading line (Err refusal)
+    → ((refusal ≡ Memory) → KeepsWords (tokens (without_return line))) →
     AsRead line (λ read. (library : List Stored) (old : State) → Follows library old read (Refused refusal) old 0)
 follows_refused line refusal (inl m) keeps = by (have_one_reading line).0 (have_one_reading line).1
   where
-    by : (r : Result (Option Command) Refusal) → IsReading line r → AsRead line (λ read. (library : List Stored) (old : State) → Follows library old read (Refused refusal) old 0)
+    by : (r : Result (Option Command) Refusal) → IsReading line r
+        → AsRead line (λ read. (library : List Stored) (old : State) → Follows library old read (Refused refusal) old 0)
     by (Ok None) e = absurd (heard line (keeps m) e)
     by (Ok (Some command)) e = (Ok (Some command), e, λ library old. rw m (lacks library old old command 0 refl))
     by (Err other) e = (Err other, e, λ library old. inr (record { answer_is = rw m refl; same = refl }))
-follows_refused line refusal (inr e) keeps = (Err refusal, e, λ library old. inl (record { answer_is = refl; same = refl; no_steps = refl }))
+follows_refused line refusal (inr e) keeps =
+    (Err refusal, e, λ library old. inl (record { answer_is = refl; same = refl; no_steps = refl }))

@@ -26,13 +26,17 @@ pub covers_none : (s : Shown) → Covers s []
 covers_none s = All-nil (λ m. IsCovered (choices_in s.state) s.learned (set_of m))
 
 -- where memory was refused, any number of steps may have been taken
-pub still_lacking : (library : List Stored) (old new : Shown) (read : Result (Option Command) Refusal) (answer : Answer) (steps others : ℕ) → answer ≡ Refused Memory → IsFollowed library read answer steps old new → IsFollowed library read answer others old new
+pub still_lacking : (library : List Stored) (old new : Shown) (read : Result (Option Command) Refusal) (answer : Answer)
+    (steps others : ℕ) → answer ≡ Refused Memory → IsFollowed library read answer steps old new
+    → IsFollowed library read answer others old new
 still_lacking library old new read answer steps others e step named covers =
     let r = step named covers in
     record { now = r.now; covers = r.covers; step = still_lacks library _ _ read answer steps others e r.step }
 
 -- a line that is followed as it is read is a step
-pub step_of_read : (library : List Stored) (old new : Shown) (line : List ℕ) (read : Result (Option Command) Refusal) (answer : Answer) (steps : ℕ) → IsReading line read → IsFollowed library read answer steps old new → IsStepOf library old line answer new steps
+pub step_of_read : (library : List Stored) (old new : Shown) (line : List ℕ) (read : Result (Option Command) Refusal)
+    (answer : Answer) (steps : ℕ) → IsReading line read → IsFollowed library read answer steps old new
+    → IsStepOf library old line answer new steps
 step_of_read library old new line read answer steps is_read follows named covers =
     let r = follows named covers in
     record { now = r.now; covers = r.covers; step = (read, is_read, r.step) }

@@ -1,5 +1,6 @@
 -- Lines that are carried out one after another.
-use Rattle.std.proofs.Common.{◌≡◌, ◌∙◌, ℕ, ◌<◌, ◌+◌, List, [], ◌∷◌, ◌++◌, length, get_or, take, drop, refl, sym, ap, subst}
+use Rattle.std.proofs.Common.{◌≡◌, ◌∙◌, ℕ, ◌<◌, ◌+◌, List, [], ◌∷◌, ◌++◌, length, get_or, take, drop, refl, sym, ap}
+use Rattle.std.proofs.Common.{subst}
 use Rattle.std.proofs.lemmas.List.{take-append-drop, take_more, drop_more}
 use Rattle.prop_refusals.specs.declared.refusal.Refusal.{Refusal}
 use Rattle.prop_engine.specs.declared.reply.Reply.{Reply}
@@ -9,9 +10,13 @@ use Rattle.prop_engine.specs.Transcripts.{Machine}
 use Rattle.prop_workbench.specs.Loading.{IsNoRefusal, Loads, StopsLoading}
 
 -- one line more
-pub loads_more : {S : Type 0} (machine : Machine S) (old mid new : S) (lines : List (List ℕ)) (line : List ℕ) (answer : Answer) → Loads machine old lines mid → IsNoRefusal answer → machine mid line answer new → Loads machine old (lines ++ line ∷ []) new
-loads_more {S = S} machine old mid new [] line answer e free step = (answer, new, free, subst (λ (s : S). machine s line answer new) e step, refl)
-loads_more machine old mid new (first ∷ lines) line answer (a, m, f, s, rest) free step = (a, m, f, s, loads_more machine m mid new lines line answer rest free step)
+pub loads_more : {S : Type 0} (machine : Machine S) (old mid new : S) (lines : List (List ℕ)) (line : List ℕ)
+    (answer : Answer) → Loads machine old lines mid → IsNoRefusal answer → machine mid line answer new
+    → Loads machine old (lines ++ line ∷ []) new
+loads_more {S = S} machine old mid new [] line answer e free step =
+    (answer, new, free, subst (λ (s : S). machine s line answer new) e step, refl)
+loads_more machine old mid new (first ∷ lines) line answer (a, m, f, s, rest) free step =
+    (a, m, f, s, loads_more machine m mid new lines line answer rest free step)
 
 -- what is not the answer of a refusal is none
 pub no_refusal : (r : Reply) → ((refusal : Refusal) → r ≡ replies.Refused refusal → ⊥) → IsNoRefusal (answer_of r)
@@ -21,26 +26,35 @@ no_refusal (replies.Text text) h = tt
 no_refusal (replies.Refused refusal) h = h refusal refl
 
 -- one line more of a list
-pub loads_next : {S : Type 0} (machine : Machine S) (old mid new : S) (lines : List (List ℕ)) (i : ℕ) (line : List ℕ) (answer : Answer) → i < length lines → line ≡ get_or lines i [] → Loads machine old (take i lines) mid → IsNoRefusal answer →
+pub loads_next : {S : Type 0} (machine : Machine S) (old mid new : S) (lines : List (List ℕ)) (i : ℕ) (line : List ℕ)
+    (answer : Answer) → i < length lines → line ≡ get_or lines i [] → Loads machine old (take i lines) mid
+    → IsNoRefusal answer →
     machine mid line answer new → Loads machine old (take (i + 1) lines) new
 loads_next machine old mid new lines i line answer l at loaded free step =
-    subst (λ (xs : List (List ℕ)). Loads machine old xs new) ((λ j. take i lines ++ at j ∷ []) ∙ sym (take_more lines i [] l)) (loads_more machine old mid new (take i lines) line answer loaded free step)
+    subst (λ (xs : List (List ℕ)). Loads machine old xs new)
+    ((λ j. take i lines ++ at j ∷ []) ∙ sym (take_more lines i [] l))
+    (loads_more machine old mid new (take i lines) line answer loaded free step)
 
 -- the first line that is refused
-pub stops_at : {S : Type 0} (machine : Machine S) (old mid new : S) (lines : List (List ℕ)) (i : ℕ) (line : List ℕ) (refusal : Refusal) → i < length lines → line ≡ get_or lines i [] → Loads machine old (take i lines) mid →
+pub stops_at : {S : Type 0} (machine : Machine S) (old mid new : S) (lines : List (List ℕ)) (i : ℕ) (line : List ℕ)
+    (refusal : Refusal) → i < length lines → line ≡ get_or lines i [] → Loads machine old (take i lines) mid →
     machine mid line (Refused refusal) new → StopsLoading machine old lines refusal new
 stops_at machine old mid new lines i line refusal l at loaded step = (
   take i lines,
   drop (i + 1) lines,
   line,
   mid,
-  (sym (take-append-drop i lines) ∙ ap (λ xs. take i lines ++ xs) (drop_more lines i [] l) ∙ (λ j. take i lines ++ sym at j ∷ drop (i + 1) lines)),
+  (sym (take-append-drop i lines) ∙ ap (λ xs. take i lines ++ xs) (drop_more lines i [] l)
+      ∙ (λ j. take i lines ++ sym at j ∷ drop (i + 1) lines)),
   loaded,
   step,
 )
 
 -- lines that one machine carried out, as another does whose states are seen in its own
-pub loads_seen : {S T : Type 0} (machine : Machine S) (other : Machine T) (view : S → T) → ((old : S) (line : List ℕ) (answer : Answer) (new : S) → machine old line answer new → other (view old) line answer (view new)) →
+pub loads_seen : {S T : Type 0} (machine : Machine S) (other : Machine T) (view : S → T)
+    → ((old : S) (line : List ℕ) (answer : Answer) (new : S) → machine old line answer new
+    → other (view old) line answer (view new)) →
     (old new : S) (lines : List (List ℕ)) → Loads machine old lines new → Loads other (view old) lines (view new)
 loads_seen machine other view step old new [] same = ap view same
-loads_seen machine other view step old new (line ∷ lines) (answer, mid, free, one, rest) = (answer, view mid, free, step old line answer mid one, loads_seen machine other view step mid new lines rest)
+loads_seen machine other view step old new (line ∷ lines) (answer, mid, free, one, rest) =
+    (answer, view mid, free, step old line answer mid one, loads_seen machine other view step mid new lines rest)

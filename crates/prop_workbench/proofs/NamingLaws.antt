@@ -9,7 +9,8 @@ use Rattle.prop_workbench.specs.Effects.{effect}
 use Rattle.prop_workbench.specs.inner.Effects.{named_after, forgotten_in, without_named}
 use Rattle.prop_workbench.specs.Agreeing.{AreAlike}
 
-pub refusal_naming : (library : List Stored) (s : State) (named : List (List ℕ)) (command : Command) → refusal_of library (naming s named) command ≡ refusal_of library s command
+pub refusal_naming : (library : List Stored) (s : State) (named : List (List ℕ)) (command : Command)
+    → refusal_of library (naming s named) command ≡ refusal_of library s command
 refusal_naming library s named (commands.Command.Domain name elements) = refl
 refusal_naming library s named (commands.Command.Relation name from to pairs) = refl
 refusal_naming library s named (commands.Command.Cell name kind) = refl
@@ -29,7 +30,8 @@ refusal_naming library s named (commands.Command.Core x) = refl
 refusal_naming library s named commands.Command.Worldview = refl
 refusal_naming library s named commands.Command.Nogoods = refl
 
-pub effect_naming : (library : List Stored) (s : State) (named : List (List ℕ)) (command : Command) → effect library (naming s named) command ≡ naming (effect library s command) (named_after s command named)
+pub effect_naming : (library : List Stored) (s : State) (named : List (List ℕ)) (command : Command)
+    → effect library (naming s named) command ≡ naming (effect library s command) (named_after s command named)
 effect_naming library s named (commands.Command.Domain name elements) = refl
 effect_naming library s named (commands.Command.Relation name from to pairs) = refl
 effect_naming library s named (commands.Command.Cell name kind) = refl
@@ -50,8 +52,10 @@ effect_naming library s named commands.Command.Worldview = refl
 effect_naming library s named commands.Command.Nogoods = refl
 
 -- alike states refuse the same, and go on to alike states
-pub refusal_alike : (library : List Stored) (s t : State) (command : Command) → AreAlike s t → refusal_of library t command ≡ refusal_of library s command
-refusal_alike library s t command e = sym (refusal_naming library t [] command) ∙ ap (λ u. refusal_of library u command) e ∙ refusal_naming library s [] command
+pub refusal_alike : (library : List Stored) (s t : State) (command : Command) → AreAlike s t
+    → refusal_of library t command ≡ refusal_of library s command
+refusal_alike library s t command e = sym (refusal_naming library t [] command)
+    ∙ ap (λ u. refusal_of library u command) e ∙ refusal_naming library s [] command
 
 none_after : (s : State) (command : Command) → named_after s command [] ≡ []
 none_after s command = by (forgotten_in s command)
@@ -60,8 +64,10 @@ none_after s command = by (forgotten_in s command)
     by None = refl
     by (Some p) = refl
 
-pub effect_alike : (library : List Stored) (s t : State) (command : Command) → AreAlike s t → AreAlike (effect library s command) (effect library t command)
+pub effect_alike : (library : List Stored) (s t : State) (command : Command) → AreAlike s t
+    → AreAlike (effect library s command) (effect library t command)
 effect_alike library s t command e = sym (nothing_named t) ∙ ap (λ u. effect library u command) e ∙ nothing_named s
   where
     nothing_named : (u : State) → effect library (naming u []) command ≡ naming (effect library u command) []
-    nothing_named u = effect_naming library u [] command ∙ ap (λ named. naming (effect library u command) named) (none_after u command)
+    nothing_named u = effect_naming library u [] command
+        ∙ ap (λ named. naming (effect library u command) named) (none_after u command)

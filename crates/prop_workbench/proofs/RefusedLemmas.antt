@@ -22,23 +22,37 @@ use Rattle.prop_workbench.proofs.AttachLemmas.{use_rows}
 
 -- what is not expanded is not used
 pub unexpanded : (library : List Stored) (s : State) (name : List ℕ) (cells : List ℕ) (by : By) (refusal : Refusal) →
-    (expand_refusal library s.words s.definitions name (map (kind_at s.kinds) cells) (given_by s.words by) ≡ Some refusal) ⊎ (refusal ≡ Memory) → (use_refusal library s name cells by ≡ Some refusal) ⊎ (refusal ≡ Memory)
+    (expand_refusal library s.words s.definitions name (map (kind_at s.kinds) cells) (given_by s.words by) ≡ Some
+    refusal) ⊎ (refusal ≡ Memory) → (use_refusal library s name cells by ≡ Some refusal) ⊎ (refusal ≡ Memory)
 unexpanded library s name cells by refusal (inl e) =
-    inl (λ i. first_of (e i ∷ room_refusal (length s.kinds + (length (used library s name cells by).kinds - length cells)) (length s.instances + length (used library s name cells by).placed) ∷ []))
+    inl (λ i. first_of (e i ∷ room_refusal
+    (length s.kinds + (length (used library s name cells by).kinds - length cells))
+    (length s.instances + length (used library s name cells by).placed) ∷ []))
 unexpanded library s name cells by refusal (inr m) = inr m
 
-module _ (library : List Stored) (names : CellNames) (words : Vocabulary) (definitions : Definitions) (premises : List Origin) (d : Data) (limit : ℕ) (name : List ℕ) (cells : List ℕ) (by : By) (flat : Flat)
-    (is : expansion_of_flat (map (kind_at d.kinds) cells) flat ≡ used library (state_from names words definitions premises d limit) name cells by)
-    (fits : expand_refusal library words definitions name (map (kind_at d.kinds) cells) (given_by words by) ≡ None) where
-  rows : use_refusal library (state_from names words definitions premises d limit) name cells by ≡ first_of (None ∷ room_refusal (length d.kinds + length flat.fresh.items) (length d.instances + length flat.instances.items) ∷ [])
-  rows = use_rows library names words definitions premises d limit name cells by flat is ∙ (λ i. first_of (fits i ∷ room_refusal (length d.kinds + length flat.fresh.items) (length d.instances + length flat.instances.items) ∷ []))
+module _ (library : List Stored) (names : CellNames) (words : Vocabulary) (definitions : Definitions)
+    (premises : List Origin) (d : Data) (limit : ℕ) (name : List ℕ) (cells : List ℕ) (by : By) (flat : Flat)
+    (is : expansion_of_flat (map (kind_at d.kinds) cells) flat ≡ used library
+    (state_from names words definitions premises d limit) name cells by)
+    (fits : expand_refusal library words definitions name (map (kind_at d.kinds) cells) (given_by words by) ≡ None)
+  where
+    rows : use_refusal library (state_from names words definitions premises d limit) name cells by ≡ first_of
+        (None ∷ room_refusal (length d.kinds + length flat.fresh.items)
+        (length d.instances + length flat.instances.items) ∷ [])
+    rows = use_rows library names words definitions premises d limit name cells by flat is
+        ∙ (λ i. first_of (fits i ∷ room_refusal (length d.kinds + length flat.fresh.items)
+        (length d.instances + length flat.instances.items) ∷ []))
 
-  -- where there is no room, for that
-  pub no_room : (refusal : Refusal) → (room_refusal (length d.kinds + length flat.fresh.items) (length d.instances + length flat.instances.items) ≡ Some refusal) ⊎ (refusal ≡ Memory) →
-      (use_refusal library (state_from names words definitions premises d limit) name cells by ≡ Some refusal) ⊎ (refusal ≡ Memory)
-  no_room refusal (inl e) = inl (rows ∙ (λ i. first_of (None ∷ e i ∷ [])))
-  no_room refusal (inr m) = inr m
+    -- where there is no room, for that
+    pub no_room : (refusal : Refusal) → (room_refusal (length d.kinds + length flat.fresh.items)
+        (length d.instances + length flat.instances.items) ≡ Some refusal) ⊎ (refusal ≡ Memory) →
+        (use_refusal library (state_from names words definitions premises d limit) name cells by ≡ Some refusal)
+        ⊎ (refusal ≡ Memory)
+    no_room refusal (inl e) = inl (rows ∙ (λ i. first_of (None ∷ e i ∷ [])))
+    no_room refusal (inr m) = inr m
 
-  -- where there is room, for nothing
-  pub with_room : room_refusal (length d.kinds + length flat.fresh.items) (length d.instances + length flat.instances.items) ≡ None → use_refusal library (state_from names words definitions premises d limit) name cells by ≡ None
-  with_room e = rows ∙ (λ i. first_of (None ∷ e i ∷ []))
+    -- where there is room, for nothing
+    pub with_room : room_refusal (length d.kinds + length flat.fresh.items)
+        (length d.instances + length flat.instances.items) ≡ None
+        → use_refusal library (state_from names words definitions premises d limit) name cells by ≡ None
+    with_room e = rows ∙ (λ i. first_of (None ∷ e i ∷ []))

@@ -1,5 +1,6 @@
 -- Steps of the machine from what its parts were tested for.
-use Rattle.std.proofs.Common.{◌≡◌, ◌∙◌, ◌≤◌, arith, ℕ, length, ◌++◌, ap, List, [], ◌∷◌, Option, Some, None, Result, Ok, Err, ◌⊎◌, inl, inr, unwrap_or, refl, sym, subst}
+use Rattle.std.proofs.Common.{◌≡◌, ◌∙◌, ◌≤◌, arith, ℕ, length, ◌++◌, ap, List, [], ◌∷◌, Option, Some, None, Result, Ok}
+use Rattle.std.proofs.Common.{Err, ◌⊎◌, inl, inr, unwrap_or, refl, sym, subst}
 use Rattle.prop_refusals.specs.declared.refusal.Refusal.{Refusal}
 use Rattle.prop_refusals.specs.declared.refusal.Refusal.TheVariants.{Memory, NameTaken, NoSuchDomain}
 use Rattle.prop_premises.specs.Origins.{Origin}
@@ -26,49 +27,69 @@ first_of-one None = refl
 first_of-one (Some refusal) = refl
 
 -- what is not refused is carried out
-pub obeys : (library : List Stored) (old new : State) (command : Command) (answer : Answer) (steps : ℕ) → refusal_of library old command ≡ None → Carries library old command answer new steps → Obeys library old command answer new steps
+pub obeys : (library : List Stored) (old new : State) (command : Command) (answer : Answer) (steps : ℕ)
+    → refusal_of library old command ≡ None → Carries library old command answer new steps
+    → Obeys library old command answer new steps
 obeys library old new command answer steps e c =
     inl (subst (λ (r : Option Refusal). CarriesUnless r library old command answer new steps) (sym e) c)
 
 -- what is refused changes nothing
-pub refuses : (library : List Stored) (old new : State) (command : Command) (refusal : Refusal) → refusal_of library old command ≡ Some refusal → new ≡ old → Obeys library old command (Refused refusal) new 0
+pub refuses : (library : List Stored) (old new : State) (command : Command) (refusal : Refusal)
+    → refusal_of library old command ≡ Some refusal → new ≡ old → Obeys library old command (Refused refusal) new 0
 refuses library old new command refusal e same =
-    inl (subst (λ (r : Option Refusal). CarriesUnless r library old command (Refused refusal) new 0) (sym e) (record { answer_is = refl; same = same; no_steps = refl }))
+    inl (subst (λ (r : Option Refusal). CarriesUnless r library old command (Refused refusal) new 0) (sym e)
+    (record { answer_is = refl; same = same; no_steps = refl }))
 
 -- want of memory changes nothing
-pub lacks : (library : List Stored) (old new : State) (command : Command) (steps : ℕ) → new ≡ old → Obeys library old command (Refused Memory) new steps
+pub lacks : (library : List Stored) (old new : State) (command : Command) (steps : ℕ) → new ≡ old
+    → Obeys library old command (Refused Memory) new steps
 lacks library old new command steps same = inr (record { answer_is = refl; same = same })
 
-pub refuses_or_lacks : (library : List Stored) (old new : State) (command : Command) (refusal : Refusal) → (refusal_of library old command ≡ Some refusal) ⊎ (refusal ≡ Memory) → new ≡ old → Obeys library old command (Refused refusal) new 0
+pub refuses_or_lacks : (library : List Stored) (old new : State) (command : Command) (refusal : Refusal)
+    → (refusal_of library old command ≡ Some refusal) ⊎ (refusal ≡ Memory) → new ≡ old
+    → Obeys library old command (Refused refusal) new 0
 refuses_or_lacks library old new command refusal (inl e) same = refuses library old new command refusal e same
 refuses_or_lacks library old new command refusal (inr m) same =
     subst (λ (r : Refusal). Obeys library old command (Refused r) new 0) (sym m) (lacks library old new command 0 same)
 
 -- what is carried out without a word, or refused
-pub obeys_done : (library : List Stored) (old new : State) (command : Command) (r : Result ⊤ Refusal) → OnOk r (refusal_of library old command ≡ None) → OnOk r (Carries library old command Done new 0) →
-    IfErr r (λ e. (refusal_of library old command ≡ Some e) ⊎ (e ≡ Memory)) → OnErr r (new ≡ old) → Obeys library old command (answer_done r) new 0
+pub obeys_done : (library : List Stored) (old new : State) (command : Command) (r : Result ⊤ Refusal)
+    → OnOk r (refusal_of library old command ≡ None) → OnOk r (Carries library old command Done new 0) →
+    IfErr r (λ e. (refusal_of library old command ≡ Some e) ⊎ (e ≡ Memory)) → OnErr r (new ≡ old)
+    → Obeys library old command (answer_done r) new 0
 obeys_done library old new command (Ok t) fits carries why same = obeys library old new command Done 0 fits carries
-obeys_done library old new command (Err refusal) fits carries why same = refuses_or_lacks library old new command refusal why same
+obeys_done library old new command (Err refusal) fits carries why same =
+    refuses_or_lacks library old new command refusal why same
 
 -- a cell of a new name is refused for the limit alone
-pub cell_rows : (library : List Stored) (s : State) (name : List ℕ) (kind : KindWord) (made : Kinded) → cell_named s.names name ≡ None → kind_named s.words kind ≡ Some made →
+pub cell_rows : (library : List Stored) (s : State) (name : List ℕ) (kind : KindWord) (made : Kinded)
+    → cell_named s.names name ≡ None → kind_named s.words kind ≡ Some made →
     refusal_of library s (commands.Command.Cell name kind) ≡ limit_refusal s (commands.Command.Cell name kind)
-cell_rows library s name kind made none there = rw (none, there) (first_of-one (limit_refusal s (commands.Command.Cell name kind)))
+cell_rows library s name kind made none there =
+    rw (none, there) (first_of-one (limit_refusal s (commands.Command.Cell name kind)))
 
 -- a name that a cell has, and a kind whose domain there is not
-pub cell_taken : (library : List Stored) (s : State) (name : List ℕ) (kind : KindWord) (cell : ℕ) → cell_named s.names name ≡ Some cell → refusal_of library s (commands.Command.Cell name kind) ≡ Some NameTaken
+pub cell_taken : (library : List Stored) (s : State) (name : List ℕ) (kind : KindWord) (cell : ℕ)
+    → cell_named s.names name ≡ Some cell → refusal_of library s (commands.Command.Cell name kind) ≡ Some NameTaken
 cell_taken library s name kind cell found = rw found refl
 
-pub cell_nowhere : (library : List Stored) (s : State) (name : List ℕ) (kind : KindWord) → cell_named s.names name ≡ None → kind_named s.words kind ≡ None → refusal_of library s (commands.Command.Cell name kind) ≡ Some NoSuchDomain
+pub cell_nowhere : (library : List Stored) (s : State) (name : List ℕ) (kind : KindWord)
+    → cell_named s.names name ≡ None → kind_named s.words kind ≡ None
+    → refusal_of library s (commands.Command.Cell name kind) ≡ Some NoSuchDomain
 cell_nowhere library s name kind none missing = rw (none, missing) refl
 
 -- a cell of a new name is made
-pub cell_made : (library : List Stored) (names names' : CellNames) (words : Vocabulary) (definitions : Definitions) (premises : List Origin) (d new : Data) (limit : ℕ) (name : List ℕ) (kind : KindWord) (made : Kinded) (number : ℕ) →
-    cell_named names name ≡ None → kind_named words kind ≡ Some made → cell_refusal d ≡ None → names' ≡ with_cell_name names name number → number ≡ length d.kinds →
+pub cell_made : (library : List Stored) (names names' : CellNames) (words : Vocabulary) (definitions : Definitions)
+    (premises : List Origin) (d new : Data) (limit : ℕ) (name : List ℕ) (kind : KindWord) (made : Kinded) (number : ℕ) →
+    cell_named names name ≡ None → kind_named words kind ≡ Some made → cell_refusal d ≡ None
+    → names' ≡ with_cell_name names name number → number ≡ length d.kinds →
     new ≡ record d { kinds = d.kinds ++ made ∷ []; contents = d.contents ++ [] ∷ [] } →
-    Obeys library (state_from names words definitions premises d limit) (commands.Command.Cell name kind) Done (state_from names' words definitions premises new limit) 0
-cell_made library names names' words definitions premises d new limit name kind made number none there fits named counted e =
-    obeys library (state_from names words definitions premises d limit) (state_from names' words definitions premises new limit) (commands.Command.Cell name kind) Done 0
+    Obeys library (state_from names words definitions premises d limit) (commands.Command.Cell name kind) Done
+    (state_from names' words definitions premises new limit) 0
+cell_made library names names' words definitions premises d new limit name kind made number none there fits named
+    counted e =
+    obeys library (state_from names words definitions premises d limit)
+    (state_from names' words definitions premises new limit) (commands.Command.Cell name kind) Done 0
     (cell_rows library (state_from names words definitions premises d limit) name kind made none there ∙ fits)
     (record {
       answer_is = refl;
@@ -88,42 +109,69 @@ cell_made library names names' words definitions premises d new limit name kind 
 
 -- ---- want of memory
 
-same_if_memory : (o : Option Refusal) (library : List Stored) (old new : State) (command : Command) (answer : Answer) (steps : ℕ) → answer ≡ Refused Memory → CarriesUnless o library old command answer new steps → new ≡ old
+same_if_memory : (o : Option Refusal) (library : List Stored) (old new : State) (command : Command) (answer : Answer)
+    (steps : ℕ) → answer ≡ Refused Memory → CarriesUnless o library old command answer new steps → new ≡ old
 same_if_memory (Some refusal) library old new command answer steps e r = r.same
-same_if_memory None library old new (commands.Command.Domain name elements) answer steps e r = let f : Refused Memory ≡ Done = sym e ∙ r.answer_is in cc
-same_if_memory None library old new (commands.Command.Relation name from to pairs) answer steps e r = let f : Refused Memory ≡ Done = sym e ∙ r.answer_is in cc
-same_if_memory None library old new (commands.Command.Cell name kind) answer steps e r = let f : Refused Memory ≡ Done = sym e ∙ r.answer_is in cc
-same_if_memory None library old new (commands.Command.Define name params body) answer steps e r = let f : Refused Memory ≡ Done = sym e ∙ r.answer_is in cc
-same_if_memory None library old new (commands.Command.Attach name cells by) answer steps e r = let f : Refused Memory ≡ Done = sym e ∙ r.answer_is in cc
-same_if_memory None library old new (commands.Command.Fix cell value) answer steps e r = let f : Refused Memory ≡ Done = sym e ∙ r.answer_is in cc
-same_if_memory None library old new (commands.Command.Tell premise cell value) answer steps e r = let f : Refused Memory ≡ Done = sym e ∙ r.answer_is in cc
-same_if_memory None library old new (commands.Command.Choose name cell values) answer steps e r = let f : Refused Memory ≡ Done = sym e ∙ r.answer_is in cc
-same_if_memory None library old new commands.Command.Nogoods answer steps e r = let f : Refused Memory ≡ Text r.text = sym e ∙ r.answer_is in cc
-same_if_memory None library old new (commands.Command.Kick premise) answer steps e r = let f : Refused Memory ≡ Done = sym e ∙ r.answer_is in cc
-same_if_memory None library old new (commands.Command.Bring premise) answer steps e r = let f : Refused Memory ≡ Done = sym e ∙ r.answer_is in cc
-same_if_memory None library old new (commands.Command.Forget premise) answer steps e r = let f : Refused Memory ≡ Done = sym e ∙ r.answer_is in cc
-same_if_memory None library old new (commands.Command.Limit n) answer steps e r = let f : Refused Memory ≡ Done = sym e ∙ r.answer_is in cc
-same_if_memory None library old new (commands.Command.Why cell) answer steps e r = let f : Refused Memory ≡ Text r.text = sym e ∙ r.answer_is in cc
-same_if_memory None library old new (commands.Command.Core cell) answer steps e r = let f : Refused Memory ≡ Text r.text = sym e ∙ r.answer_is in cc
-same_if_memory None library old new commands.Command.Worldview answer steps e r = let f : Refused Memory ≡ Text r.text = sym e ∙ r.answer_is in cc
-same_if_memory None library old new commands.Command.Settle answer steps e r = let f : Refused Memory ≡ Text r.text = sym e ∙ r.answer_is in cc
-same_if_memory None library old new (commands.Command.Ask cell) answer steps e r = let f : Refused Memory ≡ Text r.text = sym e ∙ r.answer_is in cc
+same_if_memory None library old new (commands.Command.Domain name elements) answer steps e r =
+    let f : Refused Memory ≡ Done = sym e ∙ r.answer_is in cc
+same_if_memory None library old new (commands.Command.Relation name from to pairs) answer steps e r =
+    let f : Refused Memory ≡ Done = sym e ∙ r.answer_is in cc
+same_if_memory None library old new (commands.Command.Cell name kind) answer steps e r = let f : Refused Memory ≡ Done =
+    sym e ∙ r.answer_is in cc
+same_if_memory None library old new (commands.Command.Define name params body) answer steps e r =
+    let f : Refused Memory ≡ Done = sym e ∙ r.answer_is in cc
+same_if_memory None library old new (commands.Command.Attach name cells by) answer steps e r =
+    let f : Refused Memory ≡ Done = sym e ∙ r.answer_is in cc
+same_if_memory None library old new (commands.Command.Fix cell value) answer steps e r = let f : Refused Memory ≡ Done =
+    sym e ∙ r.answer_is in cc
+same_if_memory None library old new (commands.Command.Tell premise cell value) answer steps e r =
+    let f : Refused Memory ≡ Done = sym e ∙ r.answer_is in cc
+same_if_memory None library old new (commands.Command.Choose name cell values) answer steps e r =
+    let f : Refused Memory ≡ Done = sym e ∙ r.answer_is in cc
+same_if_memory None library old new commands.Command.Nogoods answer steps e r = let f : Refused Memory ≡ Text r.text =
+    sym e ∙ r.answer_is in cc
+same_if_memory None library old new (commands.Command.Kick premise) answer steps e r = let f : Refused Memory ≡ Done =
+    sym e ∙ r.answer_is in cc
+same_if_memory None library old new (commands.Command.Bring premise) answer steps e r = let f : Refused Memory ≡ Done =
+    sym e ∙ r.answer_is in cc
+same_if_memory None library old new (commands.Command.Forget premise) answer steps e r = let f : Refused Memory ≡ Done =
+    sym e ∙ r.answer_is in cc
+same_if_memory None library old new (commands.Command.Limit n) answer steps e r = let f : Refused Memory ≡ Done = sym e
+    ∙ r.answer_is in cc
+same_if_memory None library old new (commands.Command.Why cell) answer steps e r =
+    let f : Refused Memory ≡ Text r.text = sym e ∙ r.answer_is in cc
+same_if_memory None library old new (commands.Command.Core cell) answer steps e r =
+    let f : Refused Memory ≡ Text r.text = sym e ∙ r.answer_is in cc
+same_if_memory None library old new commands.Command.Worldview answer steps e r = let f : Refused Memory ≡ Text r.text =
+    sym e ∙ r.answer_is in cc
+same_if_memory None library old new commands.Command.Settle answer steps e r = let f : Refused Memory ≡ Text r.text =
+    sym e ∙ r.answer_is in cc
+same_if_memory None library old new (commands.Command.Ask cell) answer steps e r =
+    let f : Refused Memory ≡ Text r.text = sym e ∙ r.answer_is in cc
 
 -- where memory was refused, any number of steps may have been taken
-pub still_lacks : (library : List Stored) (old new : State) (read : Result (Option Command) Refusal) (answer : Answer) (steps others : ℕ) → answer ≡ Refused Memory → Follows library old read answer new steps → Follows library old read answer new others
+pub still_lacks : (library : List Stored) (old new : State) (read : Result (Option Command) Refusal) (answer : Answer)
+    (steps others : ℕ) → answer ≡ Refused Memory → Follows library old read answer new steps
+    → Follows library old read answer new others
 still_lacks library old new (Ok None) answer steps others e f = let g : Refused Memory ≡ Silent = sym e ∙ f.0 in cc
 still_lacks library old new (Err refusal) answer steps others e (inl r) = inr (record { answer_is = e; same = r.same })
 still_lacks library old new (Err refusal) answer steps others e (inr l) = inr l
 still_lacks library old new (Ok (Some command)) answer steps others e (inl c) =
-    inr (record { answer_is = e; same = same_if_memory (refusal_of library old command) library old new command answer steps e c })
+    inr (record {
+      answer_is = e;
+      same = same_if_memory (refusal_of library old command) library old new command answer
+          steps e c;
+    })
 still_lacks library old new (Ok (Some command)) answer steps others e (inr l) = inr l
 
 -- and nothing changed
-pub lacking_same : (library : List Stored) (old new : State) (read : Result (Option Command) Refusal) (answer : Answer) (steps : ℕ) → answer ≡ Refused Memory → Follows library old read answer new steps → new ≡ old
+pub lacking_same : (library : List Stored) (old new : State) (read : Result (Option Command) Refusal) (answer : Answer)
+    (steps : ℕ) → answer ≡ Refused Memory → Follows library old read answer new steps → new ≡ old
 lacking_same library old new (Ok None) answer steps e f = f.1
 lacking_same library old new (Err refusal) answer steps e (inl r) = r.same
 lacking_same library old new (Err refusal) answer steps e (inr l) = l.same
-lacking_same library old new (Ok (Some command)) answer steps e (inl c) = same_if_memory (refusal_of library old command) library old new command answer steps e c
+lacking_same library old new (Ok (Some command)) answer steps e (inl c) =
+    same_if_memory (refusal_of library old command) library old new command answer steps e c
 lacking_same library old new (Ok (Some command)) answer steps e (inr l) = l.same
 
 -- ---- steps
@@ -131,34 +179,54 @@ lacking_same library old new (Ok (Some command)) answer steps e (inr l) = l.same
 none_within : (steps limit : ℕ) → steps ≡ 0 → steps ≤ limit
 none_within steps limit e = omega (arith, e)
 
-run_within : (library : List Stored) (old new : State) (command : Command) (answer : Answer) (steps : ℕ) → Runs library old command answer new steps → steps ≤ new.limit
+run_within : (library : List Stored) (old new : State) (command : Command) (answer : Answer) (steps : ℕ)
+    → Runs library old command answer new steps → steps ≤ new.limit
 run_within library old new command answer steps r = rw r.new_is r.within
 
-carried_within : (o : Option Refusal) (library : List Stored) (old new : State) (command : Command) (answer : Answer) (steps : ℕ) → CarriesUnless o library old command answer new steps → steps ≤ new.limit
+carried_within : (o : Option Refusal) (library : List Stored) (old new : State) (command : Command) (answer : Answer)
+    (steps : ℕ) → CarriesUnless o library old command answer new steps → steps ≤ new.limit
 carried_within (Some refusal) library old new command answer steps r = none_within steps new.limit r.no_steps
-carried_within None library old new (commands.Command.Domain name elements) answer steps r = none_within steps new.limit r.no_steps
-carried_within None library old new (commands.Command.Relation name from to pairs) answer steps r = none_within steps new.limit r.no_steps
-carried_within None library old new (commands.Command.Cell name kind) answer steps r = none_within steps new.limit r.no_steps
-carried_within None library old new (commands.Command.Define name params body) answer steps r = none_within steps new.limit r.no_steps
-carried_within None library old new (commands.Command.Attach name cells by) answer steps r = none_within steps new.limit r.no_steps
-carried_within None library old new (commands.Command.Fix cell value) answer steps r = none_within steps new.limit r.no_steps
-carried_within None library old new (commands.Command.Tell premise cell value) answer steps r = none_within steps new.limit r.no_steps
-carried_within None library old new (commands.Command.Choose name cell values) answer steps r = none_within steps new.limit r.no_steps
+carried_within None library old new (commands.Command.Domain name elements) answer steps r =
+    none_within steps new.limit r.no_steps
+carried_within None library old new (commands.Command.Relation name from to pairs) answer steps r =
+    none_within steps new.limit r.no_steps
+carried_within None library old new (commands.Command.Cell name kind) answer steps r =
+    none_within steps new.limit r.no_steps
+carried_within None library old new (commands.Command.Define name params body) answer steps r =
+    none_within steps new.limit r.no_steps
+carried_within None library old new (commands.Command.Attach name cells by) answer steps r =
+    none_within steps new.limit r.no_steps
+carried_within None library old new (commands.Command.Fix cell value) answer steps r =
+    none_within steps new.limit r.no_steps
+carried_within None library old new (commands.Command.Tell premise cell value) answer steps r =
+    none_within steps new.limit r.no_steps
+carried_within None library old new (commands.Command.Choose name cell values) answer steps r =
+    none_within steps new.limit r.no_steps
 carried_within None library old new commands.Command.Nogoods answer steps r = none_within steps new.limit r.no_steps
-carried_within None library old new (commands.Command.Kick premise) answer steps r = none_within steps new.limit r.no_steps
-carried_within None library old new (commands.Command.Bring premise) answer steps r = none_within steps new.limit r.no_steps
-carried_within None library old new (commands.Command.Forget premise) answer steps r = none_within steps new.limit r.no_steps
+carried_within None library old new (commands.Command.Kick premise) answer steps r =
+    none_within steps new.limit r.no_steps
+carried_within None library old new (commands.Command.Bring premise) answer steps r =
+    none_within steps new.limit r.no_steps
+carried_within None library old new (commands.Command.Forget premise) answer steps r =
+    none_within steps new.limit r.no_steps
 carried_within None library old new (commands.Command.Limit n) answer steps r = none_within steps new.limit r.no_steps
-carried_within None library old new commands.Command.Settle answer steps r = run_within library old new commands.Command.Settle answer steps r
-carried_within None library old new (commands.Command.Ask cell) answer steps r = run_within library old new (commands.Command.Ask cell) answer steps r
-carried_within None library old new (commands.Command.Why cell) answer steps r = run_within library old new (commands.Command.Why cell) answer steps r
-carried_within None library old new (commands.Command.Core cell) answer steps r = run_within library old new (commands.Command.Core cell) answer steps r
-carried_within None library old new commands.Command.Worldview answer steps r = run_within library old new commands.Command.Worldview answer steps r
+carried_within None library old new commands.Command.Settle answer steps r =
+    run_within library old new commands.Command.Settle answer steps r
+carried_within None library old new (commands.Command.Ask cell) answer steps r =
+    run_within library old new (commands.Command.Ask cell) answer steps r
+carried_within None library old new (commands.Command.Why cell) answer steps r =
+    run_within library old new (commands.Command.Why cell) answer steps r
+carried_within None library old new (commands.Command.Core cell) answer steps r =
+    run_within library old new (commands.Command.Core cell) answer steps r
+carried_within None library old new commands.Command.Worldview answer steps r =
+    run_within library old new commands.Command.Worldview answer steps r
 
 -- a step takes no more steps than the limit behind it, but where memory was refused
-pub steps_within : (library : List Stored) (old new : State) (read : Result (Option Command) Refusal) (answer : Answer) (steps : ℕ) → (answer ≡ Refused Memory → ⊥) → Follows library old read answer new steps → steps ≤ new.limit
+pub steps_within : (library : List Stored) (old new : State) (read : Result (Option Command) Refusal) (answer : Answer)
+    (steps : ℕ) → (answer ≡ Refused Memory → ⊥) → Follows library old read answer new steps → steps ≤ new.limit
 steps_within library old new (Ok None) answer steps n f = none_within steps new.limit f.2
 steps_within library old new (Err refusal) answer steps n (inl r) = none_within steps new.limit r.no_steps
 steps_within library old new (Err refusal) answer steps n (inr l) = absurd (n l.answer_is)
-steps_within library old new (Ok (Some command)) answer steps n (inl c) = carried_within (refusal_of library old command) library old new command answer steps c
+steps_within library old new (Ok (Some command)) answer steps n (inl c) =
+    carried_within (refusal_of library old command) library old new command answer steps c
 steps_within library old new (Ok (Some command)) answer steps n (inr l) = absurd (n l.answer_is)

@@ -1,5 +1,6 @@
 -- Statements under a premise: what refuses one, and what it makes.
-use Rattle.std.proofs.Common.{◌≡◌, ◌∙◌, ℕ, ◌<◌, ◌≤◌, Bool, true, false, List, [], ◌∷◌, ◌++◌, ◌⊎◌, ◌↔◌, is_some, if◌then◌else◌, refl}
+use Rattle.std.proofs.Common.{◌≡◌, ◌∙◌, ℕ, ◌<◌, ◌≤◌, Bool, true, false, List, [], ◌∷◌, ◌++◌, ◌⊎◌, ◌↔◌, is_some}
+use Rattle.std.proofs.Common.{if◌then◌else◌, refl}
 use Rattle.prop_refusals.specs.declared.refusal.Limit.TheVariants.{Statements}
 use Rattle.prop_vocabulary.specs.Names.{number_in}
 use Rattle.prop_vocabulary.specs.Vocabulary.{Vocabulary, with_symbol}
@@ -10,6 +11,7 @@ use Rattle.prop_vocabulary.specs.Vocabulary.{Vocabulary, with_symbol}
 pub same_domains : (words : Vocabulary) (name : List ℕ) → (with_symbol words name).domains ≡ words.domains
 same_domains words name = by (is_some (number_in words.symbols name))
   where
-    by : (t : Bool) → (if t then words else record words { symbols = words.symbols ++ name ∷ [] }).domains ≡ words.domains
+    by : (t : Bool) → (if t then words else record words { symbols = words.symbols ++ name ∷ [] }).domains
+        ≡ words.domains
     by true = refl
     by false = refl

@@ -1,5 +1,7 @@
 -- What a value says at a cell, and why it is refused.
-use Rattle.std.proofs.Common.{◌≡◌, ◌∙◌, ℕ, ℤ, pos, neg_ℤ, ◌≤ℤ◌, ◌<◌, ◌≤◌, ◌^◌, ◌/◌, zero, suc, bytes_eq, length, Bool, true, false, cond, ◌&&◌, ◌||◌, List, [], ◌∷◌, Option, Some, None, Result, Ok, Err, is_none, ◌⊎◌, inl, inr, refl, ap, subst, arith, slice_index_or, eq-eqb}
+use Rattle.std.proofs.Common.{◌≡◌, ◌∙◌, ℕ, ℤ, pos, neg_ℤ, ◌≤ℤ◌, ◌<◌, ◌≤◌, ◌^◌, ◌/◌, zero, suc, bytes_eq, length, Bool}
+use Rattle.std.proofs.Common.{true, false, cond, ◌&&◌, ◌||◌, List, [], ◌∷◌, Option, Some, None, Result, Ok, Err}
+use Rattle.std.proofs.Common.{is_none, ◌⊎◌, inl, inr, refl, ap, subst, arith, slice_index_or, eq-eqb}
 use Rattle.std.specs.Prelude.{⊤, int_le, int_lt}
 use Rattle.std.specs.Option.{option_map_or, option_and_then}
 use Rattle.std.specs.List.{list_all}
@@ -9,8 +11,10 @@ use Rattle.prop_lattice.specs.declared.info.Info.{Info}
 use Rattle.prop_lattice.specs.declared.info.Kind.{Kind}
 use Rattle.prop_lattice.specs.declared.info.Kind.TheVariants as kinds
 use Rattle.prop_refusals.specs.declared.refusal.Refusal.{Refusal}
-use Rattle.prop_refusals.specs.declared.refusal.Refusal.TheVariants.{NotAName, NotANumber, NoSuchCell, WrongKind, NotInTheDomain, EmptyValue, IsAChoice}
-use Rattle.prop_lattice.specs.Ends.{AreEnds, AreSome, ends_or_not, some_or_not, span_if, span_from, elements_if, elements_from}
+use Rattle.prop_refusals.specs.declared.refusal.Refusal.TheVariants.{NotAName, NotANumber, NoSuchCell, WrongKind}
+use Rattle.prop_refusals.specs.declared.refusal.Refusal.TheVariants.{NotInTheDomain, EmptyValue, IsAChoice}
+use Rattle.prop_lattice.specs.Ends.{AreEnds, AreSome, ends_or_not, some_or_not, span_if, span_from, elements_if}
+use Rattle.prop_lattice.specs.Ends.{elements_from}
 use Rattle.prop_refusals.specs.Refusals.{most, first_of, when}
 use Rattle.prop_procedures.specs.Stored.{Stored}
 use Rattle.prop_procedures.specs.declared.shape.Kinded.{Kinded}
@@ -24,7 +28,8 @@ use Rattle.prop_procedures.specs.Fitting.{kind_at}
 use Rattle.prop_cells.specs.Refusing.{may_be_stated}
 use Rattle.prop_language.specs.Commands.{Value, Bare, Braces}
 use Rattle.prop_language.specs.Names.{whole_number, is_name, is_among}
-use Rattle.prop_vocabulary.specs.Values.{Meant, Known, Name, known, value_said, span_value, set_value, bits_named, ends_value, bounded_number, halves}
+use Rattle.prop_vocabulary.specs.Values.{Meant, Known, Name, known, value_said, span_value, set_value, bits_named}
+use Rattle.prop_vocabulary.specs.Values.{ends_value, bounded_number, halves}
 use Rattle.prop_vocabulary.specs.Texts.{elements_of_kind}
 use Rattle.prop_workbench.specs.Machine.{State}
 use Rattle.prop_workbench.specs.Refusing.{refusal_of, stating_limit_at, meaning_at, is_error}
@@ -56,33 +61,43 @@ span_refusal : (parts : List ℕ × Option (List ℕ)) (e : Refusal) → span_va
 span_refusal (word, None) e h = ends_refusal (bounded_number word) (bounded_number word) e h
 span_refusal (left, Some right) e h = ends_refusal (bounded_number left) (bounded_number right) e h
 
-set_or_outside : (t : Bool) (info : Info) (e : Refusal) → cond t (Ok info) (Err NotInTheDomain) ≡ Err e → IsValueRefusal e
+set_or_outside : (t : Bool) (info : Info) (e : Refusal) → cond t (Ok info) (Err NotInTheDomain) ≡ Err e
+    → IsValueRefusal e
 set_or_outside true info e h = cc
 set_or_outside false info e h = let same : NotInTheDomain ≡ e = cc in subst IsValueRefusal same outside
 
 set_refusal : (names words : List (List ℕ)) (e : Refusal) → set_value names words ≡ Err e → IsValueRefusal e
 set_refusal names [] e h = let same : EmptyValue ≡ e = cc in subst IsValueRefusal same empty
-set_refusal names (w ∷ words) e h = set_or_outside (list_all (is_among names) (w ∷ words)) (elements_from (bits_named names (w ∷ words))) e h
+set_refusal names (w ∷ words) e h = set_or_outside (list_all (is_among names) (w ∷ words))
+    (elements_from (bits_named names (w ∷ words))) e h
 
 known_refusal : (r : Result Info Refusal) (e : Refusal) → known r ≡ Err e → r ≡ Err e
 known_refusal (Ok info) e h = cc
 known_refusal (Err other) e h = let same : other ≡ e = cc in ap Err same
 
-symbol_refused : (t : Bool) (word : List ℕ) (e : Refusal) → cond t (Ok (Name word)) (Err NotAName) ≡ Err e → IsValueRefusal e
+symbol_refused : (t : Bool) (word : List ℕ) (e : Refusal) → cond t (Ok (Name word)) (Err NotAName) ≡ Err e
+    → IsValueRefusal e
 symbol_refused true word e h = cc
 symbol_refused false word e h = let same : NotAName ≡ e = cc in subst IsValueRefusal same no_name
 
-pub value_refusal : (kind : Kind) (names : List (List ℕ)) (value : Value) (e : Refusal) → value_said kind names value ≡ Err e → IsValueRefusal e
-value_refusal kinds.Span names (Bare word) e h = span_refusal (halves word) e (known_refusal (span_value (halves word)) e h)
-value_refusal kinds.Span names (Braces words) e h = let same : WrongKind ≡ e = cc in subst IsValueRefusal same wrong_kind
-value_refusal (kinds.Set d) names (Bare word) e h = set_refusal names (word ∷ []) e (known_refusal (set_value names (word ∷ [])) e h)
-value_refusal (kinds.Set d) names (Braces words) e h = set_refusal names words e (known_refusal (set_value names words) e h)
+pub value_refusal : (kind : Kind) (names : List (List ℕ)) (value : Value) (e : Refusal)
+    → value_said kind names value ≡ Err e → IsValueRefusal e
+value_refusal kinds.Span names (Bare word) e h =
+    span_refusal (halves word) e (known_refusal (span_value (halves word)) e h)
+value_refusal kinds.Span names (Braces words) e h = let same : WrongKind ≡ e =
+    cc in subst IsValueRefusal same wrong_kind
+value_refusal (kinds.Set d) names (Bare word) e h =
+    set_refusal names (word ∷ []) e (known_refusal (set_value names (word ∷ [])) e h)
+value_refusal (kinds.Set d) names (Braces words) e h =
+    set_refusal names words e (known_refusal (set_value names words) e h)
 value_refusal kinds.Symbol names (Bare word) e h = symbol_refused (is_name word) word e h
-value_refusal kinds.Symbol names (Braces words) e h = let same : WrongKind ≡ e = cc in subst IsValueRefusal same wrong_kind
+value_refusal kinds.Symbol names (Braces words) e h = let same : WrongKind ≡ e =
+    cc in subst IsValueRefusal same wrong_kind
 
 -- ---- what is said may be stated
 
-within : (low high z : ℤ) (o : Option ℤ) → option_and_then (λ n. cond (int_le low n && int_le n high) (Some n) None) o ≡ Some z → (low ≤ℤ z) × (z ≤ℤ high)
+within : (low high z : ℤ) (o : Option ℤ)
+    → option_and_then (λ n. cond (int_le low n && int_le n high) (Some n) None) o ≡ Some z → (low ≤ℤ z) × (z ≤ℤ high)
 within low high z None h = cc
 within low high z (Some n) h = by (int_le low n && int_le n high) refl h
   where
@@ -93,7 +108,8 @@ within low high z (Some n) h = by (int_le low n && int_le n high) refl h
     by true e f = let same : n ≡ z = cc in rw (← same) (tested e)
     by false e f = cc
 
-span_may_be : (size : ℕ) (low high : ℤ) → neg_ℤ B ≤ℤ low → low ≤ℤ high → high ≤ℤ B → may_be_stated kinds.Span size (span_from low high) ≡ true
+span_may_be : (size : ℕ) (low high : ℤ) → neg_ℤ B ≤ℤ low → low ≤ℤ high → high ≤ℤ B
+    → may_be_stated kinds.Span size (span_from low high) ≡ true
 unfolding span_from
 span_may_be size low high above ordered below = by (ends_or_not low high)
   where
@@ -110,25 +126,33 @@ ends_may_be size (Some low) (Some high) info l r h = by (int_lt high low) refl h
     ordered : int_lt high low ≡ false → low ≤ℤ high
     ordered t = grind (arith, ints)
 
-    by : (t : Bool) → int_lt high low ≡ t → cond t (Err EmptyValue) (Ok (span_from low high)) ≡ Ok info → may_be_stated kinds.Span size info ≡ true
+    by : (t : Bool) → int_lt high low ≡ t → cond t (Err EmptyValue) (Ok (span_from low high)) ≡ Ok info
+        → may_be_stated kinds.Span size info ≡ true
     by true e f = cc
-    by false e f = let same : span_from low high ≡ info = cc in rw (← same) (span_may_be size low high (l low refl).0 (ordered e) (r high refl).1)
+    by false e f = let same : span_from low high ≡ info =
+        cc in rw (← same) (span_may_be size low high (l low refl).0 (ordered e) (r high refl).1)
 ends_may_be size (Some low) None info l r h = cc
 ends_may_be size None high info l r h = cc
 
 bounded : (word : List ℕ) (z : ℤ) → bounded_number word ≡ Some z → (neg_ℤ B ≤ℤ z) × (z ≤ℤ B)
 bounded word z h = within (neg_ℤ B) B z (whole_number word) h
 
-span_value_may_be : (size : ℕ) (parts : List ℕ × Option (List ℕ)) (info : Info) → span_value parts ≡ Ok info → may_be_stated kinds.Span size info ≡ true
-span_value_may_be size (word, None) info h = ends_may_be size (bounded_number word) (bounded_number word) info (bounded word) (bounded word) h
-span_value_may_be size (left, Some right) info h = ends_may_be size (bounded_number left) (bounded_number right) info (bounded left) (bounded right) h
+span_value_may_be : (size : ℕ) (parts : List ℕ × Option (List ℕ)) (info : Info) → span_value parts ≡ Ok info
+    → may_be_stated kinds.Span size info ≡ true
+span_value_may_be size (word, None) info h =
+    ends_may_be size (bounded_number word) (bounded_number word) info (bounded word) (bounded word) h
+span_value_may_be size (left, Some right) info h =
+    ends_may_be size (bounded_number left) (bounded_number right) info (bounded left) (bounded right) h
 
 -- the place of a name among names
-among_at : (names : List (List ℕ)) (w : List ℕ) → is_among names w ≡ true → (i : ℕ) × (i < length names) × (slice_index_or names i [] ≡ w)
+among_at : (names : List (List ℕ)) (w : List ℕ) → is_among names w ≡ true
+    → (i : ℕ) × (i < length names) × (slice_index_or names i [] ≡ w)
 among_at [] w h = cc
 among_at (n ∷ names) w h = by (among_at names w) (bytes_eq n w) refl h
   where
-    by : (is_among names w ≡ true → (i : ℕ) × (i < length names) × (slice_index_or names i [] ≡ w)) → (t : Bool) → bytes_eq n w ≡ t → (t || is_among names w) ≡ true → (i : ℕ) × (i < length (n ∷ names)) × (slice_index_or (n ∷ names) i [] ≡ w)
+    by : (is_among names w ≡ true → (i : ℕ) × (i < length names) × (slice_index_or names i [] ≡ w)) → (t : Bool)
+        → bytes_eq n w ≡ t → (t || is_among names w) ≡ true
+        → (i : ℕ) × (i < length (n ∷ names)) × (slice_index_or (n ∷ names) i [] ≡ w)
     by others true e k = (0, omega arith, (bytes_eq-Decides n w).0 e)
     by others false e k = let rest = others k in (suc rest.0, omega (arith, rest.1), rest.2)
 
@@ -137,7 +161,8 @@ bit_named : (names words : List (List ℕ)) (w : List ℕ) → is_among names w 
 bit_named names words w h =
     let at = among_at names w h in
     let same : bytes_eq w (slice_index_or names at.0 []) ≡ true = rw at.2 ((bytes_eq-Decides w w).1 refl) in
-    let bit = bits_where-has (length names) (λ i. is_among (w ∷ words) (slice_index_or names i [])) at.0 at.1 (rw same refl) in
+    let bit = bits_where-has (length names) (λ i. is_among (w ∷ words) (slice_index_or names i [])) at.0 at.1
+    (rw same refl) in
     by (bits_named names (w ∷ words)) at.0 bit
   where
     by : (bits i : ℕ) → bit_at bits i ≡ 1 → 0 < bits
@@ -145,7 +170,8 @@ bit_named names words w h =
     by (suc n) i e = omega arith
 
 -- bits below a size are of it
-below_may_be : (d size bits : ℕ) → bits < 2 ^ size → 0 < bits → bits < 2 ^ 64 → may_be_stated (kinds.Set d) size (elements_from bits) ≡ true
+below_may_be : (d size bits : ℕ) → bits < 2 ^ size → 0 < bits → bits < 2 ^ 64
+    → may_be_stated (kinds.Set d) size (elements_from bits) ≡ true
 unfolding elements_from
 below_may_be d size bits l z k = by (some_or_not bits)
   where
@@ -161,19 +187,23 @@ first_of_all p w words h = by (p w) h
     by false k = cc
 
 -- the set of named elements of a domain of this size may be stated at its cells
-set_may_be : (d size : ℕ) (names words : List (List ℕ)) (info : Info) → size ≡ length names → length names ≤ 64 → set_value names words ≡ Ok info → may_be_stated (kinds.Set d) size info ≡ true
+set_may_be : (d size : ℕ) (names words : List (List ℕ)) (info : Info) → size ≡ length names → length names ≤ 64
+    → set_value names words ≡ Ok info → may_be_stated (kinds.Set d) size info ≡ true
 set_may_be d size names [] info same few h = cc
 set_may_be d size names (w ∷ words) info same few h = by (list_all (is_among names) (w ∷ words)) refl h
   where
     bits : ℕ
     bits = bits_named names (w ∷ words)
 
-    by : (t : Bool) → list_all (is_among names) (w ∷ words) ≡ t → cond t (Ok (elements_from bits)) (Err NotInTheDomain) ≡ Ok info → may_be_stated (kinds.Set d) size info ≡ true
+    by : (t : Bool) → list_all (is_among names) (w ∷ words) ≡ t
+        → cond t (Ok (elements_from bits)) (Err NotInTheDomain) ≡ Ok info → may_be_stated (kinds.Set d) size info ≡ true
     by true all e =
         let found : elements_from bits ≡ info = cc in
-        let below : bits < 2 ^ length names = bits_where-lt (length names) (λ i. is_among (w ∷ words) (slice_index_or names i [])) in
+        let below : bits < 2 ^ length names =
+        bits_where-lt (length names) (λ i. is_among (w ∷ words) (slice_index_or names i [])) in
         let most : 2 ^ length names ≤ 2 ^ 64 = pow_mono few in
-        rw (← found) (below_may_be d size bits (rw same below) (bit_named names words w (first_of_all (is_among names) w words all)) (omega (arith, below, most)))
+        rw (← found) (below_may_be d size bits (rw same below)
+        (bit_named names words w (first_of_all (is_among names) w words all)) (omega (arith, below, most)))
     by false all e = cc
 
 symbol_known : (t : Bool) (word : List ℕ) (info : Info) → cond t (Ok (Name word)) (Err NotAName) ≡ Ok (Known info) → ⊥
@@ -188,16 +218,21 @@ known_names : (r : Result Info Refusal) (symbol : List ℕ) → known r ≡ Ok (
 known_names (Ok other) symbol h = cc
 known_names (Err e) symbol h = cc
 
-pub value_may_be : (k : Kinded) (names : List (List ℕ)) (value : Value) (meant : Meant) → k.size ≡ length names → length names ≤ 64 → value_said k.kind names value ≡ Ok meant → MayMean k meant
+pub value_may_be : (k : Kinded) (names : List (List ℕ)) (value : Value) (meant : Meant) → k.size ≡ length names
+    → length names ≤ 64 → value_said k.kind names value ≡ Ok meant → MayMean k meant
 value_may_be k names value meant same few h = by k.kind refl value meant h
   where
-    by : (kind : Kind) → k.kind ≡ kind → (value : Value) (meant : Meant) → value_said kind names value ≡ Ok meant → MayMean k meant
-    by kinds.Span e (Bare word) (Known info) h = rw e (span_value_may_be k.size (halves word) info (known_is (span_value (halves word)) info h))
+    by : (kind : Kind) → k.kind ≡ kind → (value : Value) (meant : Meant) → value_said kind names value ≡ Ok meant
+        → MayMean k meant
+    by kinds.Span e (Bare word) (Known info) h =
+        rw e (span_value_may_be k.size (halves word) info (known_is (span_value (halves word)) info h))
     by kinds.Span e (Bare word) (Name symbol) h = absurd (known_names (span_value (halves word)) symbol h)
     by kinds.Span e (Braces words) meant h = cc
-    by (kinds.Set d) e (Bare word) (Known info) h = rw e (set_may_be d k.size names (word ∷ []) info same few (known_is (set_value names (word ∷ [])) info h))
+    by (kinds.Set d) e (Bare word) (Known info) h =
+        rw e (set_may_be d k.size names (word ∷ []) info same few (known_is (set_value names (word ∷ [])) info h))
     by (kinds.Set d) e (Bare word) (Name symbol) h = absurd (known_names (set_value names (word ∷ [])) symbol h)
-    by (kinds.Set d) e (Braces words) (Known info) h = rw e (set_may_be d k.size names words info same few (known_is (set_value names words) info h))
+    by (kinds.Set d) e (Braces words) (Known info) h =
+        rw e (set_may_be d k.size names words info same few (known_is (set_value names words) info h))
     by (kinds.Set d) e (Braces words) (Name symbol) h = absurd (known_names (set_value names words) symbol h)
     by kinds.Symbol e (Bare word) (Known info) h = absurd (symbol_known (is_name word) word info h)
     by kinds.Symbol e (Bare word) (Name symbol) h = e
@@ -208,15 +243,22 @@ value_may_be k names value meant same few h = by k.kind refl value meant h
 -- the rows of the refusals that a statement can meet
 abbrev value_rows : Option (Result Meant Refusal) → Option ℕ → Bool → Option Refusal → Option Refusal
 value_rows said cell choice limit =
-    first_of (when NotAName (option_map_or (is_error NotAName) said false) ∷ when NotANumber (option_map_or (is_error NotANumber) said false) ∷ None ∷ None ∷ when NoSuchCell (is_none cell || false) ∷ None
-    ∷ when WrongKind (option_map_or (is_error WrongKind) said false) ∷ when NotInTheDomain (option_map_or (is_error NotInTheDomain) said false) ∷ when EmptyValue (option_map_or (is_error EmptyValue) said false) ∷ when IsAChoice choice ∷ limit ∷ [])
+    first_of (when NotAName (option_map_or (is_error NotAName) said false) ∷ when NotANumber
+    (option_map_or (is_error NotANumber) said false) ∷ None ∷ None ∷ when NoSuchCell (is_none cell || false) ∷ None
+    ∷ when WrongKind (option_map_or (is_error WrongKind) said false) ∷ when NotInTheDomain
+    (option_map_or (is_error NotInTheDomain) said false) ∷ when EmptyValue
+    (option_map_or (is_error EmptyValue) said false) ∷ when IsAChoice choice ∷ limit ∷ [])
 
-by_rows : (library : List Stored) (s : State) (premise : Option (List ℕ)) (name : List ℕ) (value : Value) (cell : ℕ) → cell_named s.names name ≡ Some cell →
-    refusal_of library s (stating premise name value) ≡ value_rows (Some (meaning_at s.words (kind_at s.kinds cell).kind value)) (Some cell) (is_choice_told s premise) (stating_limit_at s premise (Some (meaning_at s.words (kind_at s.kinds cell).kind value)))
+by_rows : (library : List Stored) (s : State) (premise : Option (List ℕ)) (name : List ℕ) (value : Value) (cell : ℕ)
+    → cell_named s.names name ≡ Some cell →
+    refusal_of library s (stating premise name value) ≡ value_rows
+    (Some (meaning_at s.words (kind_at s.kinds cell).kind value)) (Some cell) (is_choice_told s premise)
+    (stating_limit_at s premise (Some (meaning_at s.words (kind_at s.kinds cell).kind value)))
 by_rows library s None name value cell found = rw found refl
 by_rows library s (Some premise) name value cell found = rw found refl
 
-error_rows : (e : Refusal) (cell : ℕ) (choice : Bool) (limit : Option Refusal) → IsValueRefusal e → value_rows (Some (Err e)) (Some cell) choice limit ≡ Some e
+error_rows : (e : Refusal) (cell : ℕ) (choice : Bool) (limit : Option Refusal) → IsValueRefusal e
+    → value_rows (Some (Err e)) (Some cell) choice limit ≡ Some e
 error_rows e cell choice limit no_name = refl
 error_rows e cell choice limit no_number = refl
 error_rows e cell choice limit wrong_kind = refl
@@ -224,8 +266,13 @@ error_rows e cell choice limit outside = refl
 error_rows e cell choice limit empty = refl
 
 -- a value that is refused is refused first
-pub value_refused : (library : List Stored) (s : State) (premise : Option (List ℕ)) (name : List ℕ) (value : Value) (cell : ℕ) (e : Refusal) → cell_named s.names name ≡ Some cell → meaning_at s.words (kind_at s.kinds cell).kind value ≡ Err e →
+pub value_refused : (library : List Stored) (s : State) (premise : Option (List ℕ)) (name : List ℕ) (value : Value)
+    (cell : ℕ) (e : Refusal) → cell_named s.names name ≡ Some cell
+    → meaning_at s.words (kind_at s.kinds cell).kind value ≡ Err e →
     refusal_of library s (stating premise name value) ≡ Some e
 value_refused library s premise name value cell e found said =
-    by_rows library s premise name value cell found ∙ ap (λ (r : Result Meant Refusal). value_rows (Some r) (Some cell) (is_choice_told s premise) (stating_limit_at s premise (Some r))) said
-    ∙ error_rows e cell (is_choice_told s premise) None (value_refusal (kind_at s.kinds cell).kind (elements_of_kind s.words (kind_at s.kinds cell).kind) value e said)
+    by_rows library s premise name value cell found
+    ∙ ap (λ (r : Result Meant Refusal).
+    value_rows (Some r) (Some cell) (is_choice_told s premise) (stating_limit_at s premise (Some r))) said
+    ∙ error_rows e cell (is_choice_told s premise) None
+    (value_refusal (kind_at s.kinds cell).kind (elements_of_kind s.words (kind_at s.kinds cell).kind) value e said)

@@ -18,7 +18,8 @@ use Rattle.prop_workbench.specs.Engine.{Standing, standing_of, new_standing, Wor
 use Rattle.prop_workbench.proofs.StandLemmas.{no_stand_made, no_stand_search}
 
 -- what a sound session shows fits its work
-pub sound_fits : {R O : Type 0} {X : Type 0} {F : X → Type 0} {g : _} (value : R → Param → List Info → Info) (s : Session R O X F g) → IsSound value s → WorkFits (library_of value s) (standing_of s)
+pub sound_fits : {R O : Type 0} {X : Type 0} {F : X → Type 0} {g : _} (value : R → Param → List Info → Info)
+    (s : Session R O X F g) → IsSound value s → WorkFits (library_of value s) (standing_of s)
 sound_fits value s sound =
     let at_work = sound.in_order.at_work in
     record {
@@ -32,14 +33,21 @@ sound_fits value s sound =
       search = at_work.search;
     }
 
-pub works_by : {R O : Type 0} {X : Type 0} {F : X → Type 0} {g : _} (picks : Picks O) (library : List Stored) (old new : Session R O X F g) (line : List ℕ) (answer : Answer) → IsStepOf library (shown_of old) line answer (shown_of new) (steps_of new) → WorkFits library (standing_of new) →
-    AsRead line (λ read. IsLeanAnswer (worldview_at (state_of old) new.search.list) new.network.cells (state_of old) read answer) →
-    AsRead line (λ read. Earns picks library (state_of old) (work_of old) (work_of new) read answer (steps_of new)) → AsRead line (λ read. Wakes (state_of old) (state_of new) (work_of old) (work_of new) read answer) →
+pub works_by : {R O : Type 0} {X : Type 0} {F : X → Type 0} {g : _} (picks : Picks O) (library : List Stored)
+    (old new : Session R O X F g) (line : List ℕ) (answer : Answer)
+    → IsStepOf library (shown_of old) line answer (shown_of new) (steps_of new) → WorkFits library (standing_of new) →
+    AsRead line (λ read. IsLeanAnswer (worldview_at (state_of old) new.search.list) new.network.cells (state_of old)
+    read answer) →
+    AsRead line (λ read. Earns picks library (state_of old) (work_of old) (work_of new) read answer (steps_of new))
+    → AsRead line (λ read. Wakes (state_of old) (state_of new) (work_of old) (work_of new) read answer) →
     Works picks library (standing_of old) line answer (standing_of new)
-works_by picks library old new line answer step fits lean earned wakes = record { steps = steps_of new; step = step; fits = λ before. fits; lean = lean; earned = earned; wakes = wakes }
+works_by picks library old new line answer step fits lean earned wakes =
+    record { steps = steps_of new; step = step; fits = λ before. fits; lean = lean; earned = earned; wakes = wakes }
 
 -- what it shows of it
-pub works_shows : {O : Type 0} (picks : Picks O) (library : List Stored) (old : Standing O) (line : List ℕ) (answer : Answer) (new : Standing O) → Works picks library old line answer new → Shows library old.shown line answer new.shown
+pub works_shows : {O : Type 0} (picks : Picks O) (library : List Stored) (old : Standing O) (line : List ℕ)
+    (answer : Answer) (new : Standing O) → Works picks library old line answer new
+    → Shows library old.shown line answer new.shown
 works_shows picks library old line answer new w = record { steps = w.steps; step = w.step }
 
 -- ---- from a new session on
@@ -71,11 +79,17 @@ new_fits library limit order = record {
 }
 
 -- and each line leaves work that fits
-run_fits : {O : Type 0} (picks : Picks O) (library : List Stored) (old new : Standing O) (lines : List (List ℕ)) (answers : List Answer) → WorkFits library old → Run (working picks library) old lines answers new → WorkFits library new
+run_fits : {O : Type 0} (picks : Picks O) (library : List Stored) (old new : Standing O) (lines : List (List ℕ))
+    (answers : List Answer) → WorkFits library old → Run (working picks library) old lines answers new
+    → WorkFits library new
 run_fits picks library old new [] [] fits same = rw same fits
 run_fits picks library old new [] (answer ∷ answers) fits r = absurd r
 run_fits picks library old new (line ∷ lines) [] fits r = absurd r
-run_fits picks library old new (line ∷ lines) (answer ∷ answers) fits (mid, works, rest) = run_fits picks library mid new lines answers (works.fits fits) rest
+run_fits picks library old new (line ∷ lines) (answer ∷ answers) fits (mid, works, rest) =
+    run_fits picks library mid new lines answers (works.fits fits) rest
 
-pub runs_fit : {O : Type 0} (picks : Picks O) (library : List Stored) (limit : ℕ) (order : O) (lines : List (List ℕ)) (answers : List Answer) (new : Standing O) → Run (working picks library) (new_standing limit order) lines answers new → WorkFits library new
-runs_fit picks library limit order lines answers new r = run_fits picks library (new_standing limit order) new lines answers (new_fits library limit order) r
+pub runs_fit : {O : Type 0} (picks : Picks O) (library : List Stored) (limit : ℕ) (order : O) (lines : List (List ℕ))
+    (answers : List Answer) (new : Standing O)
+    → Run (working picks library) (new_standing limit order) lines answers new → WorkFits library new
+runs_fit picks library limit order lines answers new r =
+    run_fits picks library (new_standing limit order) new lines answers (new_fits library limit order) r

@@ -1,10 +1,12 @@
 -- What a command that isn't refused does to the state.
-use Rattle.std.specs.Prelude.{ℕ, suc, List, [], ◌∷◌, ◌++◌, Option, Some, None, true, false, drop, map, length, slice_get, unwrap_or}
+use Rattle.std.specs.Prelude.{ℕ, suc, List, [], ◌∷◌, ◌++◌, Option, Some, None, true, false, drop}
+use Rattle.std.specs.Prelude.{map, length, slice_get, unwrap_or}
 use Rattle.std.specs.Result.{result_unwrap_or}
 use Rattle.std.specs.Option.{option_map_or, option_and_then}
 use Rattle.prop_lattice.specs.declared.info.Info.{Info}
 use Rattle.prop_lattice.specs.declared.info.Info.TheVariants.{Nothing, Sym}
-use Rattle.prop_premises.specs.Origins.{Origin, premise_number, with_name, with_choice, with_belief_at}
+use Rattle.prop_premises.specs.Origins.{Origin, premise_number, with_name, with_choice}
+use Rattle.prop_premises.specs.Origins.{with_belief_at}
 use Rattle.prop_procedures.specs.Flats.{cell_placed}
 use Rattle.prop_procedures.specs.Stored.{Stored, span_kind}
 use Rattle.prop_language.specs.Commands.{Value, Command}
@@ -47,7 +49,8 @@ instance_made library n given cells = record {
 
 -- the instance that stands at places
 abbrev pub instance_placed : List Stored → List ℕ → ℕ → Placed (Option Param) → Instance
-instance_placed library cells next x = instance_made library x.procedure x.given (map (cell_placed cells next) x.cells)
+instance_placed library cells next x =
+    instance_made library x.procedure x.given (map (cell_placed cells next) x.cells)
 
 -- the fresh cells and the instances that a use on these cells stands for
 abbrev pub with_use : List Stored → State → List ℕ → Expansion (Option Param) → State
@@ -63,7 +66,8 @@ info_meant words (Name symbol) = Sym (symbol_number words symbol)
 
 -- what the value means at the cell with the name; nothing where it means nothing
 abbrev pub meant_at : State → List ℕ → Value → Meant
-meant_at s cell value = option_map_or (λ meant. result_unwrap_or meant (Known Nothing)) (value_at s cell value) (Known Nothing)
+meant_at s cell value = option_map_or (λ meant. result_unwrap_or meant (Known Nothing))
+    (value_at s cell value) (Known Nothing)
 
 -- the information that the value says at the cell with the name
 abbrev pub info_at : State → List ℕ → Value → Info
@@ -92,14 +96,20 @@ abbrev pub stated : State → Option (List ℕ) → ℕ → Vocabulary → Info 
 stated s premise cell words info = record s {
   words = words;
   premises = with_told s.premises premise;
-  statements = s.statements ++ record { premise = premise_given s.premises premise; cell = cell; info = info } ∷ [];
+  statements = s.statements ++ record {
+    premise = premise_given s.premises premise;
+    cell = cell;
+    info = info;
+  } ∷ [];
 }
 
--- the statements of what each side says at a cell, where the first side has this number, and the words as far as they are known then
+-- the statements of what each side says at a cell, where the first side has this number, and the
+-- words as far as they are known then
 abbrev pub sides_stated : Vocabulary → ℕ → ℕ → List Meant → List Statement
 sides_stated words side cell [] = []
 sides_stated words side cell (meant ∷ more) =
-    record { premise = Some side; cell = cell; info = info_meant words meant } ∷ sides_stated (with_meant words meant) (suc side) cell more
+    record { premise = Some side; cell = cell; info = info_meant words meant } ∷ sides_stated
+    (with_meant words meant) (suc side) cell more
 
 -- the vocabulary with the symbols that are named
 abbrev pub with_meants : Vocabulary → List Meant → Vocabulary
@@ -120,18 +130,32 @@ forgetting s p = record s { statements = not_under p s.statements; named = lacki
 
 -- the state after the command; a command that runs the network changes nothing here
 abbrev pub effect : List Stored → State → Command → State
-effect library s (Command.Domain name elements) = record s { words = with_domain s.words name elements }
-effect library s (Command.Relation name from to pairs) = record s { words = with_relation s.words name from to pairs }
-effect library s (Command.Cell name kind) = record s { names = with_cell_name s.names name (length s.kinds); kinds = s.kinds ++ unwrap_or (kind_named s.words kind) span_kind ∷ [] }
+effect library s (Command.Domain name elements) =
+    record s { words = with_domain s.words name elements }
+effect library s (Command.Relation name from to pairs) =
+    record s { words = with_relation s.words name from to pairs }
+effect library s (Command.Cell name kind) =
+    record s {
+      names = with_cell_name s.names name (length s.kinds);
+      kinds = s.kinds ++ unwrap_or (kind_named s.words kind) span_kind ∷ [];
+    }
 effect library s (Command.Define name params steps) =
     record s { definitions = with_definition library s.words s.definitions name params steps }
 effect library s (Command.Attach name cells by) =
-    with_use library s (cells_named s.names cells) (used library s name (cells_named s.names cells) by)
-effect library s (Command.Fix cell value) = stated s None (unwrap_or (cell_named s.names cell) 0) (words_at s cell value) (info_at s cell value)
-effect library s (Command.Tell premise cell value) = stated s (Some premise) (unwrap_or (cell_named s.names cell) 0) (words_at s cell value) (info_at s cell value)
-effect library s (Command.Choose name cell values) = chosen s name (unwrap_or (cell_named s.names cell) 0) (unwrap_or (meants_at s cell values) [])
-effect library s (Command.Kick premise) = record s { premises = with_belief_at s.premises (number_given s.premises premise) false }
-effect library s (Command.Bring premise) = record s { premises = with_belief_at s.premises (number_given s.premises premise) true }
+    with_use library s (cells_named s.names cells)
+    (used library s name (cells_named s.names cells) by)
+effect library s (Command.Fix cell value) =
+    stated s None (unwrap_or (cell_named s.names cell) 0) (words_at s cell value)
+    (info_at s cell value)
+effect library s (Command.Tell premise cell value) =
+    stated s (Some premise) (unwrap_or (cell_named s.names cell) 0) (words_at s cell value)
+    (info_at s cell value)
+effect library s (Command.Choose name cell values) =
+    chosen s name (unwrap_or (cell_named s.names cell) 0) (unwrap_or (meants_at s cell values) [])
+effect library s (Command.Kick premise) =
+    record s { premises = with_belief_at s.premises (number_given s.premises premise) false }
+effect library s (Command.Bring premise) =
+    record s { premises = with_belief_at s.premises (number_given s.premises premise) true }
 effect library s (Command.Forget premise) = forgetting s (number_given s.premises premise)
 effect library s (Command.Limit steps) = record s { limit = unwrap_or steps 0 }
 effect library s command = s

@@ -20,12 +20,15 @@ use Rattle.prop_workbench.specs.Waking.{Wakes}
 use Rattle.prop_workbench.specs.Sessions.{library_of, shown_of, work_of}
 
 -- the line may be given this answer, after some number of steps
-pub record Gives (library : List Stored) (old : State) (line : List ℕ) (answer : Answer) (new : State) : Type 0 where
+pub record Gives (library : List Stored) (old : State) (line : List ℕ) (answer : Answer)
+    (new : State) : Type 0 where
   pub steps : ℕ
   pub step : Step library old line answer new steps
 
--- the same of what a session shows, whichever contradictions were named, if what it has learned covers them
-pub record Shows (library : List Stored) (old : Shown) (line : List ℕ) (answer : Answer) (new : Shown) : Type 0 where
+-- the same of what a session shows, whichever contradictions were named, if what it has learned
+-- covers them
+pub record Shows (library : List Stored) (old : Shown) (line : List ℕ) (answer : Answer)
+    (new : Shown) : Type 0 where
   pub steps : ℕ
   pub step : IsStepOf library old line answer new steps
 
@@ -38,7 +41,8 @@ abbrev pub learning : List Stored → Machine Shown
 learning library = Shows library
 
 -- what a session shows, as a machine
-abbrev pub machine_of : {R O : Type 0} {X : Type 0} {F : X → Type 0} {g : _} → (R → Param → List Info → Info) → Session R O X F g → Machine Shown
+abbrev pub machine_of : {R O : Type 0} {X : Type 0} {F : X → Type 0} {g : _}
+    → (R → Param → List Info → Info) → Session R O X F g → Machine Shown
 machine_of value s = learning (library_of value s)
 
 -- where a session stands: what it shows, and the work behind it
@@ -46,12 +50,16 @@ pub record Standing (O : Type 0) : Type 0 where
   pub shown : Shown
   pub work : Work O
 
-abbrev pub standing_of : {R O : Type 0} {X : Type 0} {F : X → Type 0} {g : _} → Session R O X F g → Standing O
+abbrev pub standing_of : {R O : Type 0} {X : Type 0} {F : X → Type 0} {g : _} → Session R O X F g
+    → Standing O
 standing_of s = record { shown = shown_of s; work = work_of s }
 
 -- where a new session stands, which calls procedures in this order
 abbrev pub new_standing : {O : Type 0} → ℕ → O → Standing O
-new_standing limit order = record { shown = new_shown limit; work = record { search = no_stand; cells = no_data; line = []; order = order } }
+new_standing limit order = record {
+  shown = new_shown limit;
+  work = record { search = no_stand; cells = no_data; line = []; order = order };
+}
 
 -- What a session shows is of the same cells, premises and nogoods as the work behind it. There each
 -- entry is founded, an instance that doesn't wait has its value below its output, the choices stand
@@ -66,22 +74,28 @@ pub record WorkFits {O : Type 0} (library : List Stored) (at : Standing O) : Typ
   pub stand : IsStand at.work.search
   pub search : IsSearch (problem_of library at.work.cells) at.work.search
 
--- A line takes a session from where it stands to where it stands then, by a step of the machine, and
--- its work fits what it shows, if it did before. The text is earned by just so many steps, each call
--- at the place that the order picks, an explanation is lean, and where the line runs nothing it wakes
--- no more than it has to.
-pub record Works {O : Type 0} (picks : Picks O) (library : List Stored) (old : Standing O) (line : List ℕ) (answer : Answer) (new : Standing O) : Type 0 where
+-- A line takes a session from where it stands to where it stands then, by a step of the machine,
+-- and its work fits what it shows, if it did before. The text is earned by just so many steps, each
+-- call at the place that the order picks, an explanation is lean, and where the line runs nothing
+-- it wakes no more than it has to.
+pub record Works {O : Type 0} (picks : Picks O) (library : List Stored) (old : Standing O)
+    (line : List ℕ) (answer : Answer) (new : Standing O) : Type 0 where
   pub steps : ℕ
   pub step : IsStepOf library old.shown line answer new.shown steps
   pub fits : WorkFits library old → WorkFits library new
-  pub lean : AsRead line (λ read. IsLeanAnswer (worldview_at old.shown.state new.work.search.list) new.work.cells old.shown.state read answer)
-  pub earned : AsRead line (λ read. Earns picks library old.shown.state old.work new.work read answer steps)
-  pub wakes : AsRead line (λ read. Wakes old.shown.state new.shown.state old.work new.work read answer)
+  pub lean : AsRead line (λ read.
+      IsLeanAnswer (worldview_at old.shown.state new.work.search.list) new.work.cells
+      old.shown.state read answer)
+  pub earned : AsRead line (λ read.
+      Earns picks library old.shown.state old.work new.work read answer steps)
+  pub wakes : AsRead line (λ read.
+      Wakes old.shown.state new.shown.state old.work new.work read answer)
 
 -- the workbench with the work that a session does in this order, as a machine
 abbrev pub working : {O : Type 0} → Picks O → List Stored → Machine (Standing O)
 working picks library = Works picks library
 
 -- the machine that a session is
-abbrev pub working_of : {R O : Type 0} {X : Type 0} {F : X → Type 0} {g : _} → Picks O → (R → Param → List Info → Info) → Session R O X F g → Machine (Standing O)
+abbrev pub working_of : {R O : Type 0} {X : Type 0} {F : X → Type 0} {g : _} → Picks O
+    → (R → Param → List Info → Info) → Session R O X F g → Machine (Standing O)
 working_of picks value s = working picks (library_of value s)

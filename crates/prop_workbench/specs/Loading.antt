@@ -11,9 +11,11 @@ IsNoRefusal answer = ⊤
 -- the machine carried out the lines one after another, none of them refused
 abbrev pub Loads : {S : Type 0} → Machine S → S → List (List ℕ) → S → Type 0
 Loads machine old [] new = new ≡ old
-Loads {S = S} machine old (line ∷ lines) new = (answer : Answer) × (mid : S) × IsNoRefusal answer × machine old line answer mid × Loads machine mid lines new
+Loads {S = S} machine old (line ∷ lines) new = (answer : Answer) × (mid : S) × IsNoRefusal answer
+    × machine old line answer mid × Loads machine mid lines new
 
 -- the lines were carried out up to one that was refused, and those before it stand
 abbrev pub StopsLoading : {S : Type 0} → Machine S → S → List (List ℕ) → Refusal → S → Type 0
 StopsLoading {S = S} machine old lines refusal new =
-    (before after : List (List ℕ)) × (line : List ℕ) × (mid : S) × (lines ≡ before ++ line ∷ after) × Loads machine old before mid × machine mid line (Refused refusal) new
+    (before after : List (List ℕ)) × (line : List ℕ) × (mid : S) × (lines ≡ before ++ line ∷ after)
+    × Loads machine old before mid × machine mid line (Refused refusal) new

@@ -13,24 +13,31 @@ use Rattle.prop_workbench.specs.Machine.{State, choices_in}
 abbrev pub attached_in : State → Attached
 attached_in s = record { kinds = s.kinds; statements = s.statements; instances = s.instances }
 
--- the procedure of this number holds these points, taken as all that belong together: wherever its arguments hold theirs, its answer holds the output's
+-- the procedure of this number holds these points, taken as all that belong together: wherever its
+-- arguments hold theirs, its answer holds the output's
 abbrev pub AreHeld : List Stored → ℕ → Param → List Point → Point → Type 0
-AreHeld library n param points point = AreSoundBy library (λ m q ps p. (m ≡ n) × (q ≡ param) × (ps ≡ points) × (p ≡ point))
+AreHeld library n param points point =
+    AreSoundBy library (λ m q ps p. (m ≡ n) × (q ≡ param) × (ps ≡ points) × (p ≡ point))
 
--- a point for each cell that lies in all that is stated of it by what is believed, where each procedure holds the points of its cells
+-- a point for each cell that lies in all that is stated of it by what is believed, where each
+-- procedure holds the points of its cells
 abbrev pub Satisfy : List Stored → State → Members → (ℕ → Point) → Type 0
 Satisfy library s believed points = ArePoints (AreHeld library) (attached_in s) believed points
 
 -- the information holds the cell's point of all points that satisfy what is believed
 abbrev pub HoldsPoints : List Stored → State → Members → ℕ → Info → Type 0
-HoldsPoints library s believed cell v = (points : ℕ → Point) → Satisfy library s believed points → Holds v (points cell)
+HoldsPoints library s believed cell v = (points : ℕ → Point) → Satisfy library s believed points
+    → Holds v (points cell)
 
 -- no points satisfy what these premises say with one side of each choice
 abbrev pub NoneSatisfy : List Stored → State → List ℕ → Type 0
 NoneSatisfy library s ps =
-    (list : List ℕ) → IsChoiceList (choices_in s) list → (points : ℕ → Point) → Satisfy library s (worldview (set_of ps) (choices_in s) list) points → ⊥
+    (list : List ℕ) → IsChoiceList (choices_in s) list → (points : ℕ → Point)
+    → Satisfy library s (worldview (set_of ps) (choices_in s) list) points → ⊥
 
--- points of which those at each instance belong together, and that lie in all that is stated by what is believed, satisfy it
+-- points of which those at each instance belong together, and that lie in all that is stated by
+-- what is believed, satisfy it
 abbrev pub RelatedSatisfy : List Stored → (ℕ → Param → List Point → Point → Type 0) → Type 0
 RelatedSatisfy library related =
-    (s : State) (believed : Members) (points : ℕ → Point) → ArePoints related (attached_in s) believed points → Satisfy library s believed points
+    (s : State) (believed : Members) (points : ℕ → Point)
+    → ArePoints related (attached_in s) believed points → Satisfy library s believed points

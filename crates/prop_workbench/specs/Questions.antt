@@ -29,21 +29,29 @@ outcome_of list (Contradiction premises) = running.Contradiction premises
 abbrev pub Picks : Type 0 → Type 1
 Picks O = O → ℕ → ℕ → O → Type 0
 
--- the text says what is believed of the cell with the name, where the choices and the cells stand so, and then the mark
+-- the text says what is believed of the cell with the name, where the choices and the cells stand
+-- so, and then the mark
 abbrev pub SaysBelief : {O : Type 0} → State → Work O → List ℕ → List ℕ → List ℕ → Type 0
 SaysBelief s work name mark text =
-    (cell : ℕ) × (cell_named s.names name ≡ Some cell) × (text ≡ equation name (text_at s cell (beliefs (worldview_at s work.search.list) work.cells.contents cell)) mark)
+    (cell : ℕ) × (cell_named s.names name ≡ Some cell)
+    × (text ≡ equation name (text_at s cell
+    (beliefs (worldview_at s work.search.list) work.cells.contents cell)) mark)
 
--- an unsettled answer to a question for a cell says what is believed of it, and, where it explains that, premises
+-- an unsettled answer to a question for a cell says what is believed of it, and, where it explains
+-- that, premises
 abbrev pub SaysUnsettled : {O : Type 0} → State → Work O → Command → List ℕ → Type 0
 SaysUnsettled s work (commands.Command.Ask x) text = SaysBelief s work x (codes " unsettled") text
-SaysUnsettled s work (commands.Command.Why x) text = (premises : List ℕ) × SaysBelief s work x (because s.premises (codes " unsettled") premises) text
-SaysUnsettled s work (commands.Command.Core x) text = (premises : List ℕ) × SaysBelief s work x (because s.premises (codes " unsettled") premises) text
+SaysUnsettled s work (commands.Command.Why x) text = (premises : List ℕ)
+    × SaysBelief s work x (because s.premises (codes " unsettled") premises) text
+SaysUnsettled s work (commands.Command.Core x) text = (premises : List ℕ)
+    × SaysBelief s work x (because s.premises (codes " unsettled") premises) text
 SaysUnsettled s work command text = ⊤
 
--- The text replies to the command as a run ended that went from the one to the other in exactly so many steps. Where they were used up, one more could be
--- taken, and the text says what is believed there. What is named as contradictory is to blame for a noted nogood that is believed.
-pub record IsEarned {O : Type 0} (picks : Picks O) (library : List Stored) (s : State) (old new : Work O) (command : Command) (text : List ℕ) (steps : ℕ) : Type 0 where
+-- The text replies to the command as a run ended that went from the one to the other in exactly so
+-- many steps. Where they were used up, one more could be taken, and the text says what is believed
+-- there. What is named as contradictory is to blame for a noted nogood that is believed.
+pub record IsEarned {O : Type 0} (picks : Picks O) (library : List Stored) (s : State)
+    (old new : Work O) (command : Command) (text : List ℕ) (steps : ℕ) : Type 0 where
   pub end : ends.Outcome
   pub gone : Goes picks library old steps new
   pub left : end ≡ Unsettled → MayGoOn new
@@ -51,16 +59,20 @@ pub record IsEarned {O : Type 0} (picks : Picks O) (library : List Stored) (s : 
   pub blamed : IfContradiction end (λ ps. IsBlamed new.search (set_of ps))
   pub replies : Replies library s command (outcome_of new.search.list end) steps text
 
--- from the one to the other believed premises were tried in exactly so many steps, and then every instance waits
-pub record HasTried {O : Type 0} (picks : Picks O) (library : List Stored) (s : State) (old new : Work O) (steps : ℕ) : Type 0 where
+-- from the one to the other believed premises were tried in exactly so many steps, and then every
+-- instance waits
+pub record HasTried {O : Type 0} (picks : Picks O) (library : List Stored) (s : State)
+    (old new : Work O) (steps : ℕ) : Type 0 where
   pub search : new.search ≡ old.search
   pub line : List ℕ
-  pub tries : Tries picks library (worldview_at s old.search.list) old.cells old.line old.order steps new.cells line new.order
+  pub tries : Tries picks library (worldview_at s old.search.list) old.cells old.line old.order
+      steps new.cells line new.order
   pub all_wait : AllWait (length new.cells.instances) new.line
 
--- The text replies with a core as a run ended that went from the one to a middle in so many steps, and, where it settled, as premises were
--- tried from there to the other, in so many more.
-pub record IsEarnedCore {O : Type 0} (picks : Picks O) (library : List Stored) (s : State) (old new : Work O) (name text : List ℕ) (steps : ℕ) : Type 0 where
+-- The text replies with a core as a run ended that went from the one to a middle in so many steps,
+-- and, where it settled, as premises were tried from there to the other, in so many more.
+pub record IsEarnedCore {O : Type 0} (picks : Picks O) (library : List Stored) (s : State)
+    (old new : Work O) (name text : List ℕ) (steps : ℕ) : Type 0 where
   pub end : ends.Outcome
   pub run : Work O
   pub calls : ℕ
@@ -72,13 +84,21 @@ pub record IsEarnedCore {O : Type 0} (picks : Picks O) (library : List Stored) (
   pub tried : end ≡ Settled → HasTried picks library s run new tries
   pub untried : end ≢ Settled → (new ≡ run) × (tries ≡ 0)
   pub sum : steps ≡ calls + tries
-  pub replies : Replies library s (commands.Command.Core name) (outcome_of run.search.list end) steps text
+  pub replies : Replies library s (commands.Command.Core name) (outcome_of run.search.list end)
+      steps text
 
--- what a line that was read so is answered: a text to what runs the network is earned by the calls that it counts
-abbrev pub Earns : {O : Type 0} → Picks O → List Stored → State → Work O → Work O → Result (Option Command) Refusal → Answer → ℕ → Type 0
-Earns picks library s old new (Ok (Some commands.Command.Settle)) (Text text) steps = IsEarned picks library s old new commands.Command.Settle text steps
-Earns picks library s old new (Ok (Some (commands.Command.Ask x))) (Text text) steps = IsEarned picks library s old new (commands.Command.Ask x) text steps
-Earns picks library s old new (Ok (Some (commands.Command.Why x))) (Text text) steps = IsEarned picks library s old new (commands.Command.Why x) text steps
-Earns picks library s old new (Ok (Some (commands.Command.Core x))) (Text text) steps = IsEarnedCore picks library s old new x text steps
-Earns picks library s old new (Ok (Some commands.Command.Worldview)) (Text text) steps = IsEarned picks library s old new commands.Command.Worldview text steps
+-- what a line that was read so is answered: a text to what runs the network is earned by the calls
+-- that it counts
+abbrev pub Earns : {O : Type 0} → Picks O → List Stored → State → Work O → Work O
+    → Result (Option Command) Refusal → Answer → ℕ → Type 0
+Earns picks library s old new (Ok (Some commands.Command.Settle)) (Text text) steps =
+    IsEarned picks library s old new commands.Command.Settle text steps
+Earns picks library s old new (Ok (Some (commands.Command.Ask x))) (Text text) steps =
+    IsEarned picks library s old new (commands.Command.Ask x) text steps
+Earns picks library s old new (Ok (Some (commands.Command.Why x))) (Text text) steps =
+    IsEarned picks library s old new (commands.Command.Why x) text steps
+Earns picks library s old new (Ok (Some (commands.Command.Core x))) (Text text) steps =
+    IsEarnedCore picks library s old new x text steps
+Earns picks library s old new (Ok (Some commands.Command.Worldview)) (Text text) steps =
+    IsEarned picks library s old new commands.Command.Worldview text steps
 Earns picks library s old new read answer steps = ⊤

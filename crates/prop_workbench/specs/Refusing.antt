@@ -1,11 +1,20 @@
--- For what a command is refused in a state: each condition by itself, and which of them comes first.
-use Rattle.std.specs.Prelude.{ℕ, List, [], ◌∷◌, Bool, false, ◌+◌, ◌==◌, ◌&&◌, ◌||◌, nat_le, nat_lt, Option, Some, None, Result, Ok, Err, length, is_some, is_none, not, map, ◌-◌}
+-- For what a command is refused in a state: each condition by itself, and which of them comes
+-- first.
+use Rattle.std.specs.Prelude.{ℕ, List, [], ◌∷◌, Bool, false, ◌+◌, ◌==◌, ◌&&◌, ◌||◌, nat_le, nat_lt}
+use Rattle.std.specs.Prelude.{Option, Some, None, Result, Ok, Err, length, is_some, is_none, not}
+use Rattle.std.specs.Prelude.{map, ◌-◌}
 use Rattle.std.specs.List.{list_any}
 use Rattle.std.specs.Option.{option_map, option_map_or, option_or}
 use Rattle.prop_lattice.specs.declared.info.Kind.{Kind}
-use Rattle.prop_refusals.specs.declared.refusal.Limit.TheVariants.{Cells, Premises, Choices, Statements}
+use Rattle.prop_refusals.specs.declared.refusal.Limit.TheVariants.{Cells, Premises, Choices}
+use Rattle.prop_refusals.specs.declared.refusal.Limit.TheVariants.{Statements}
 use Rattle.prop_refusals.specs.declared.refusal.Refusal.{Refusal}
-use Rattle.prop_refusals.specs.declared.refusal.Refusal.TheVariants.{NotAName, NotANumber, NameTaken, NoSuchDomain, NoSuchRelation, NoSuchCell, NoSuchPremise, WrongKind, NotInTheDomain, EmptyValue, IsAChoice, LimitReached}
+use Rattle.prop_refusals.specs.declared.refusal.Refusal.TheVariants.{NotAName, NotANumber}
+use Rattle.prop_refusals.specs.declared.refusal.Refusal.TheVariants.{NameTaken, NoSuchDomain}
+use Rattle.prop_refusals.specs.declared.refusal.Refusal.TheVariants.{NoSuchRelation, NoSuchCell}
+use Rattle.prop_refusals.specs.declared.refusal.Refusal.TheVariants.{NoSuchPremise, WrongKind}
+use Rattle.prop_refusals.specs.declared.refusal.Refusal.TheVariants.{NotInTheDomain, EmptyValue}
+use Rattle.prop_refusals.specs.declared.refusal.Refusal.TheVariants.{IsAChoice, LimitReached}
 use Rattle.prop_refusals.specs.Refusals.{number_of, most, when, first_of}
 use Rattle.prop_premises.specs.Origins.{premise_number, is_choice, choices_of}
 use Rattle.prop_procedures.specs.declared.shape.Param.{Param}
@@ -31,7 +40,8 @@ meaning_at words kind value = value_said kind (elements_of_kind words kind) valu
 
 -- what the value means at the cell with the name, where there is such a cell
 abbrev pub value_at : State → List ℕ → Value → Option (Result Meant Refusal)
-value_at s name value = option_map (λ n. meaning_at s.words (kind_at s.kinds n).kind value) (cell_named s.names name)
+value_at s name value = option_map (λ n. meaning_at s.words (kind_at s.kinds n).kind value)
+    (cell_named s.names name)
 
 abbrev pub is_error : Refusal → Result Meant Refusal → Bool
 is_error refusal (Ok meant) = false
@@ -45,13 +55,15 @@ is_refused_at s cell refusal value = option_map_or (is_error refusal) (value_at 
 abbrev pub is_value_refused : State → Command → Refusal → Bool
 is_value_refused s (Command.Fix cell value) refusal = is_refused_at s cell refusal value
 is_value_refused s (Command.Tell premise cell value) refusal = is_refused_at s cell refusal value
-is_value_refused s (Command.Choose choice cell values) refusal = list_any (is_refused_at s cell refusal) values
+is_value_refused s (Command.Choose choice cell values) refusal =
+    list_any (is_refused_at s cell refusal) values
 is_value_refused s command refusal = false
 
 -- the declared name exists in its space
 abbrev pub is_taken : State → Command → Bool
 is_taken s (Command.Cell name kind) = is_some (cell_named s.names name)
-is_taken s (Command.Choose choice cell values) = is_some (premise_number s.premises choice) || is_choice s.premises choice
+is_taken s (Command.Choose choice cell values) =
+    is_some (premise_number s.premises choice) || is_choice s.premises choice
 is_taken s command = false
 
 -- a domain is named, of which there is none
@@ -104,7 +116,8 @@ given_by words (By.Relation name) = option_map params.Rows (relation_named words
 abbrev pub telling_limit : State → List ℕ → Option Refusal
 telling_limit s premise =
     first_of (
-    when (LimitReached Premises) (is_none (premise_number s.premises premise) && nat_le (most Premises) (length s.premises))
+    when (LimitReached Premises) (is_none (premise_number s.premises premise) && nat_le
+    (most Premises) (length s.premises))
     ∷ when (LimitReached Statements) (nat_le (most Statements) (length s.statements))
     ∷ []
     )
@@ -121,7 +134,8 @@ both_meant first more = None
 
 -- the same, and under no premise only the statements count
 abbrev pub statement_limit : State → Option (List ℕ) → Option Refusal
-statement_limit s None = when (LimitReached Statements) (nat_le (most Statements) (length s.statements))
+statement_limit s None = when (LimitReached Statements)
+    (nat_le (most Statements) (length s.statements))
 statement_limit s (Some premise) = telling_limit s premise
 
 -- a value that names a new symbol is refused where there are as many as there can be
@@ -131,14 +145,17 @@ naming_limit words (Known info) = None
 
 -- why what is meant is not stated
 abbrev pub stating_limit : State → Option (List ℕ) → Meant → Option Refusal
-stating_limit s premise meant = first_of (statement_limit s premise ∷ naming_limit s.words meant ∷ [])
+stating_limit s premise meant =
+    first_of (statement_limit s premise ∷ naming_limit s.words meant ∷ [])
 
 -- the same, where a cell has the name and the value means something there
-abbrev pub stating_limit_at : State → Option (List ℕ) → Option (Result Meant Refusal) → Option Refusal
+abbrev pub stating_limit_at : State → Option (List ℕ) → Option (Result Meant Refusal)
+    → Option Refusal
 stating_limit_at s premise (Some (Ok meant)) = stating_limit s premise meant
 stating_limit_at s premise meant = None
 
--- there are too many premises for so many sides, as many choices as there can be, or too many statements for one a side
+-- there are too many premises for so many sides, as many choices as there can be, or too many
+-- statements for one a side
 abbrev pub choosing_limit : State → ℕ → Option Refusal
 choosing_limit s sides =
     first_of (
@@ -148,42 +165,52 @@ choosing_limit s sides =
     ∷ []
     )
 
--- the values that are meant are refused, one after another, where one names a new symbol and there are as many as there can be
+-- the values that are meant are refused, one after another, where one names a new symbol and there
+-- are as many as there can be
 abbrev pub all_naming_limit : Vocabulary → List Meant → Option Refusal
 all_naming_limit words [] = None
-all_naming_limit words (meant ∷ more) = option_or (naming_limit words meant) (all_naming_limit (with_meant words meant) more)
+all_naming_limit words (meant ∷ more) =
+    option_or (naming_limit words meant) (all_naming_limit (with_meant words meant) more)
 
 -- what each value means at the cell with the name, where all mean something
 abbrev pub meants_at : State → List ℕ → List Value → Option (List Meant)
 meants_at s cell [] = Some []
 meants_at s cell (value ∷ values) = both_meant (value_at s cell value) (meants_at s cell values)
 
--- why a choice between the values at the cell with the name is refused, where there is such a cell and each of them means something there
+-- why a choice between the values at the cell with the name is refused, where there is such a cell
+-- and each of them means something there
 abbrev pub choosing_limit_at : State → Option (List Meant) → Option Refusal
-choosing_limit_at s (Some meants) = first_of (choosing_limit s (length meants) ∷ all_naming_limit s.words meants ∷ [])
+choosing_limit_at s (Some meants) =
+    first_of (choosing_limit s (length meants) ∷ all_naming_limit s.words meants ∷ [])
 choosing_limit_at s None = None
 
 -- there are as many already as there can be of what the command makes one more of
 abbrev pub limit_refusal : State → Command → Option Refusal
-limit_refusal s (Command.Cell name kind) = when (LimitReached Cells) (nat_le (most Cells) (length s.kinds))
+limit_refusal s (Command.Cell name kind) =
+    when (LimitReached Cells) (nat_le (most Cells) (length s.kinds))
 limit_refusal s (Command.Fix cell value) = stating_limit_at s None (value_at s cell value)
-limit_refusal s (Command.Tell premise cell value) = stating_limit_at s (Some premise) (value_at s cell value)
+limit_refusal s (Command.Tell premise cell value) =
+    stating_limit_at s (Some premise) (value_at s cell value)
 limit_refusal s (Command.Choose choice cell values) = choosing_limit_at s (meants_at s cell values)
 limit_refusal s command = None
 
 -- ---- attaching
 
--- what the use of the name on these cells stands for, the cells being counted from 0 and followed by the fresh ones
+-- what the use of the name on these cells stands for, the cells being counted from 0 and followed
+-- by the fresh ones
 abbrev pub used : List Stored → State → List ℕ → List ℕ → By → Expansion (Option Param)
-used library s name cells by = expanded library s.words s.definitions name (map (kind_at s.kinds) cells) (given_by s.words by)
+used library s name cells by =
+    expanded library s.words s.definitions name (map (kind_at s.kinds) cells) (given_by s.words by)
 
 -- why a use of the name on the cells of these numbers is refused
 abbrev pub use_refusal : List Stored → State → List ℕ → List ℕ → By → Option Refusal
 use_refusal library s name cells by =
     let e = used library s name cells by in
     first_of (
-    expand_refusal library s.words s.definitions name (map (kind_at s.kinds) cells) (given_by s.words by)
-    ∷ room_refusal (length s.kinds + (length e.kinds - length cells)) (length s.instances + length e.placed)
+    expand_refusal library s.words s.definitions name (map (kind_at s.kinds) cells)
+    (given_by s.words by)
+    ∷ room_refusal (length s.kinds + (length e.kinds - length cells))
+    (length s.instances + length e.placed)
     ∷ []
     )
 
@@ -200,8 +227,10 @@ attach_refusal library s name cells by =
 -- why the command is refused in the state, where it is: the first that applies
 abbrev pub refusal_of : List Stored → State → Command → Option Refusal
 refusal_of library s (Command.Domain name elements) = domain_refusal s.words name elements
-refusal_of library s (Command.Relation name from to pairs) = relation_refusal s.words name from to pairs
-refusal_of library s (Command.Define name params steps) = define_refusal library s.words s.definitions name params steps
+refusal_of library s (Command.Relation name from to pairs) =
+    relation_refusal s.words name from to pairs
+refusal_of library s (Command.Define name params steps) =
+    define_refusal library s.words s.definitions name params steps
 refusal_of library s (Command.Attach name cells by) = attach_refusal library s name cells by
 refusal_of library s command =
     first_of (

@@ -29,7 +29,8 @@ pub(crate) enum Question<'a> {
 }
 
 impl<R: Rule + Drop, O: Order + Drop> Session<R, O> {
-    ghost use Rattle.std.specs.Prelude.{◌≡◌, ◌≢◌, ◌<◌, ◌≤◌, ◌+◌, ◌*◌, ℕ, List, [], All, Some, IfOk, codes, length};
+    ghost use Rattle.std.specs.Prelude.{◌≡◌, ◌≢◌, ◌<◌, ◌≤◌, ◌+◌, ◌*◌, ℕ, List, [], All, Some, IfOk};
+    ghost use Rattle.std.specs.Prelude.{codes, length};
     ghost use Rattle.prop_numbers.specs.Sets.{set_of, IsSame};
     ghost use Rattle.prop_premises.specs.ChoiceLists.{lists_count};
     ghost use Rattle.prop_cells.specs.Data.{beliefs};
@@ -40,17 +41,20 @@ impl<R: Rule + Drop, O: Order + Drop> Session<R, O> {
     ghost use Rattle.prop_workbench.specs.Machine.{text_at, problem_in, choices_in, worldview_at};
     ghost use Rattle.prop_texts.specs.Texts.{equation};
     ghost use Rattle.prop_vocabulary.specs.Cells.{cell_named};
-    ghost use Rattle.prop_workbench.specs.inner.Carrying.{IsAnswered, IsAtRest, IsLeanIn, MayAnswer, SaysBecause, CountsTries};
+    ghost use Rattle.prop_workbench.specs.inner.Carrying.{IsAnswered, IsAtRest, IsLeanIn};
+    ghost use Rattle.prop_workbench.specs.inner.Carrying.{MayAnswer, SaysBecause, CountsTries};
     ghost use Rattle.prop_workbench.specs.inner.Questions.{command_of, IsNamed, HasRun, SaysSoFar};
     ghost use Rattle.prop_amb.specs.Going.{MayGoOn, Goes};
     ghost use Rattle.prop_amb.specs.Culprits.{IsBlamed};
     ghost use Rattle.prop_amb.specs.Settling.{IfContradiction};
     ghost use Rattle.prop_workbench.specs.Reasons.{IsLeanExplanation};
     ghost use Rattle.prop_workbench.specs.inner.Running.{Explained};
-    ghost use Rattle.prop_workbench.specs.Sessions.{state_of, work_of, library_of, IsInOrder, IsMeant};
+    ghost use Rattle.prop_workbench.specs.Sessions.{state_of, work_of, library_of, IsInOrder};
+    ghost use Rattle.prop_workbench.specs.Sessions.{IsMeant};
     ghost use Rattle.prop_workbench.specs.inner.Sessions.{Keeps};
 
-    /// Runs the network until it settles on the first consistent choices, and tells how that ended and in how many steps.
+    /// Runs the network until it settles on the first consistent choices, and tells how that ended
+    /// and in how many steps.
     fn run_network(&mut self) -> Result<(Outcome, u64), AllocError>
         requires means { IsMeant R.value_of self.old }
         requires sound { IsInOrder R.value_of self.old }
@@ -60,7 +64,9 @@ impl<R: Rule + Drop, O: Order + Drop> Session<R, O> {
         ensures definitions { self.new.definitions ≡ self.old.definitions }
         ensures state { state_of self.new ≡ state_of self.old }
         ensures run { IfOk result (λ r. HasRun R.value_of self.new r.0 r.1) }
-        ensures gone { IfOk result (λ r. Goes O.picks (library_of R.value_of self.old) (work_of self.old) r.1 (work_of self.new)) }
+        ensures gone { IfOk result (λ r.
+            Goes O.picks (library_of R.value_of self.old) (work_of self.old) r.1
+            (work_of self.new)) }
         ensures left { IfOk result (λ r. r.0 ≡ Outcome.Unsettled → MayGoOn (work_of self.new)) }
         ensures blamed { IfOk result (λ r.
             IfContradiction r.0 (λ ps. IsBlamed self.new.search (set_of ps))) }
@@ -80,7 +86,8 @@ impl<R: Rule + Drop, O: Order + Drop> Session<R, O> {
         requires means { IsMeant R.value_of self.old }
         requires sound { IsInOrder R.value_of self.old }
         requires named { IsNamed (state_of self.old) question }
-        ensures { IsAnswered O.picks R.value_of self.old (command_of question.entry) (answer_of result.0) result.1 self.new }
+        ensures { IsAnswered O.picks R.value_of self.old (command_of question.entry)
+            (answer_of result.0) result.1 self.new }
     {
         match self.run_network() {
             Ok((end, steps)) => (self.reply_to(question, &end, steps), steps),
@@ -93,7 +100,8 @@ impl<R: Rule + Drop, O: Order + Drop> Session<R, O> {
         requires sound { IsInOrder R.value_of self.now }
         requires named { IsNamed (state_of self.now) question }
         requires run { HasRun R.value_of self.now end.now steps }
-        ensures says { MayAnswer R.value_of self.now (command_of question.entry) end.now steps (answer_of result) }
+        ensures says { MayAnswer R.value_of self.now (command_of question.entry) end.now steps
+            (answer_of result) }
         ensures believed { end.now ≡ Outcome.Unsettled → SaysSoFar (state_of self.now)
             (work_of self.now) (command_of question.entry) (answer_of result) }
         ensures lean { IsLeanIn self.now (command_of question.entry) (answer_of result) }
@@ -112,7 +120,8 @@ impl<R: Rule + Drop, O: Order + Drop> Session<R, O> {
         requires sound { IsInOrder R.value_of self.now }
         requires named { IsNamed (state_of self.now) question }
         requires rest { IsAtRest R.value_of self.now }
-        ensures says { (steps : ℕ) → MayAnswer R.value_of self.now (command_of question.entry) Outcome.Settled steps (answer_of result) }
+        ensures says { (steps : ℕ) → MayAnswer R.value_of self.now (command_of question.entry)
+            Outcome.Settled steps (answer_of result) }
         ensures lean { IsLeanIn self.now (command_of question.entry) (answer_of result) }
     {
         match question {
@@ -132,7 +141,8 @@ impl<R: Rule + Drop, O: Order + Drop> Session<R, O> {
     fn unsettled(&self, question: Question<'_>) -> Reply
         requires sound { IsInOrder R.value_of self.now }
         requires named { IsNamed (state_of self.now) question }
-        ensures says { MayAnswer R.value_of self.now (command_of question.entry) Outcome.Unsettled self.now.limit (answer_of result) }
+        ensures says { MayAnswer R.value_of self.now (command_of question.entry) Outcome.Unsettled
+            self.now.limit (answer_of result) }
         ensures believed { SaysSoFar (state_of self.now) (work_of self.now)
             (command_of question.entry) (answer_of result) }
         ensures lean { IsLeanIn self.now (command_of question.entry) (answer_of result) }
@@ -178,7 +188,8 @@ impl<R: Rule + Drop, O: Order + Drop> Session<R, O> {
     pub(crate) fn ask(&mut self, name: &str) -> (Reply, u64)
         requires means { IsMeant R.value_of self.old }
         requires sound { IsInOrder R.value_of self.old }
-        ensures { IsAnswered O.picks R.value_of self.old (commands.Command.Ask name.now) (answer_of result.0) result.1 self.new }
+        ensures { IsAnswered O.picks R.value_of self.old (commands.Command.Ask name.now)
+            (answer_of result.0) result.1 self.new }
     {
         match self.names.find(name) {
             Some(cell) => self.answered(Question::Ask(cell, name)),
@@ -190,7 +201,8 @@ impl<R: Rule + Drop, O: Order + Drop> Session<R, O> {
     pub(crate) fn why(&mut self, name: &str) -> (Reply, u64)
         requires means { IsMeant R.value_of self.old }
         requires sound { IsInOrder R.value_of self.old }
-        ensures { IsAnswered O.picks R.value_of self.old (commands.Command.Why name.now) (answer_of result.0) result.1 self.new }
+        ensures { IsAnswered O.picks R.value_of self.old (commands.Command.Why name.now)
+            (answer_of result.0) result.1 self.new }
     {
         match self.names.find(name) {
             Some(cell) => self.answered(Question::Why(cell, name)),
@@ -202,7 +214,8 @@ impl<R: Rule + Drop, O: Order + Drop> Session<R, O> {
     pub(crate) fn core(&mut self, name: &str) -> (Reply, u64)
         requires means { IsMeant R.value_of self.old }
         requires sound { IsInOrder R.value_of self.old }
-        ensures { IsAnswered O.picks R.value_of self.old (commands.Command.Core name.now) (answer_of result.0) result.1 self.new }
+        ensures { IsAnswered O.picks R.value_of self.old (commands.Command.Core name.now)
+            (answer_of result.0) result.1 self.new }
     {
         match self.names.find(name) {
             Some(cell) => self.core_of(cell, name),
@@ -215,7 +228,8 @@ impl<R: Rule + Drop, O: Order + Drop> Session<R, O> {
         requires means { IsMeant R.value_of self.old }
         requires sound { IsInOrder R.value_of self.old }
         requires named { cell_named self.old.names name.now ≡ Some cell }
-        ensures { IsAnswered O.picks R.value_of self.old (commands.Command.Core name.now) (answer_of result.0) result.1 self.new }
+        ensures { IsAnswered O.picks R.value_of self.old (commands.Command.Core name.now)
+            (answer_of result.0) result.1 self.new }
     {
         match self.run_network() {
             Ok((end, steps)) => self.core_reply(cell, name, &end, steps),
@@ -231,12 +245,15 @@ impl<R: Rule + Drop, O: Order + Drop> Session<R, O> {
         requires run { HasRun R.value_of self.old end.now steps }
         ensures keeps { Keeps R.value_of self.old self.new }
         ensures state { state_of self.new ≡ state_of self.old }
-        ensures says { MayAnswer R.value_of self.old (commands.Command.Core name.now) end.now result.1 (answer_of result.0) }
+        ensures says { MayAnswer R.value_of self.old (commands.Command.Core name.now) end.now
+            result.1 (answer_of result.0) }
         ensures believed { end.now ≡ Outcome.Unsettled → SaysSoFar (state_of self.old)
             (work_of self.old) (commands.Command.Core name.now) (answer_of result.0) }
         ensures within { result.1 ≤ self.old.limit }
-        ensures tried { end.now ≡ Outcome.Settled → CountsTries O.picks R.value_of self.old steps (answer_of result.0) result.1 self.new }
-        ensures untried { end.now ≢ Outcome.Settled → (work_of self.new ≡ work_of self.old) × (result.1 ≡ steps) }
+        ensures tried { end.now ≡ Outcome.Settled
+            → CountsTries O.picks R.value_of self.old steps (answer_of result.0) result.1 self.new }
+        ensures untried { end.now ≢ Outcome.Settled
+            → (work_of self.new ≡ work_of self.old) × (result.1 ≡ steps) }
     {
         match end {
             Outcome::Settled => self.reduced(cell, name, steps),
@@ -248,20 +265,25 @@ impl<R: Rule + Drop, O: Order + Drop> Session<R, O> {
         }
     }
 
-    /// What follows for a cell of a network that came to rest in so many steps, and for which premises, where as many are left out as
-    /// the steps that are left allow; and how many steps that makes together.
+    /// What follows for a cell of a network that came to rest in so many steps, and for which
+    /// premises, where as many are left out as the steps that are left allow; and how many steps
+    /// that makes together.
     fn reduced(&mut self, cell: usize, name: &str, steps: u64) -> (Reply, u64)
         requires means { IsMeant R.value_of self.old }
         requires sound { IsInOrder R.value_of self.old }
         requires named { cell_named self.old.names name.now ≡ Some cell }
         requires rest { IsAtRest R.value_of self.old }
         requires within { steps ≤ self.old.limit }
-        requires few { steps < lists_count (choices_in (state_of self.old)) * (most_steps (problem_in (library_of R.value_of self.old) (state_of self.old)) + 1) }
+        requires few { steps < lists_count
+            (choices_in (state_of self.old))
+            * (most_steps (problem_in (library_of R.value_of self.old) (state_of self.old)) + 1) }
         ensures keeps { Keeps R.value_of self.old self.new }
         ensures state { state_of self.new ≡ state_of self.old }
-        ensures says { MayAnswer R.value_of self.old (commands.Command.Core name.now) Outcome.Settled result.1 (answer_of result.0) }
+        ensures says { MayAnswer R.value_of self.old (commands.Command.Core name.now)
+            Outcome.Settled result.1 (answer_of result.0) }
         ensures within { result.1 ≤ self.old.limit }
-        ensures tried { CountsTries O.picks R.value_of self.old steps (answer_of result.0) result.1 self.new }
+        ensures tried { CountsTries O.picks R.value_of self.old steps (answer_of result.0) result.1
+            self.new }
     {
         let ended = reduce(
             self.alloc,
@@ -282,8 +304,11 @@ impl<R: Rule + Drop, O: Order + Drop> Session<R, O> {
     fn core_text(&self, cell: usize, name: &str, core: &Core) -> Reply
         requires cell { cell < length self.now.network.cells.kinds }
         requires known { OfCore core.now (λ v s. All (λ p. p < length self.now.search.premises) s) }
-        ensures least { IfLeast core.now (λ v s. SaysBecause (state_of self.now) cell name.now [] v s (answer_of result)) }
-        ensures not_reduced { IfNotReduced core.now (λ v s. SaysBecause (state_of self.now) cell name.now (codes " not reduced") v s (answer_of result)) }
+        ensures least { IfLeast core.now
+            (λ v s. SaysBecause (state_of self.now) cell name.now [] v s (answer_of result)) }
+        ensures not_reduced { IfNotReduced core.now
+            (λ v s. SaysBecause (state_of self.now) cell name.now (codes " not reduced") v s
+            (answer_of result)) }
     {
         match core {
             Core::Least(why) => self.said_because(cell, name, "", why),
@@ -294,7 +319,8 @@ impl<R: Rule + Drop, O: Order + Drop> Session<R, O> {
     /// The nogoods that were learned.
     pub(crate) fn nogoods(&self) -> Reply
         requires sound { IsInOrder R.value_of self.now }
-        ensures { IsAnswered O.picks R.value_of self.now commands.Command.Nogoods (answer_of result) 0 self.now }
+        ensures { IsAnswered O.picks R.value_of self.now commands.Command.Nogoods (answer_of result)
+            0 self.now }
     {
         nogoods_reply(self.alloc, self.search.premises(), self.search.nogoods())
     }
@@ -302,7 +328,8 @@ impl<R: Rule + Drop, O: Order + Drop> Session<R, O> {
     /// An information of a cell, with the mark behind it.
     fn value_of(&self, cell: usize, name: &str, info: Info, mark: &str) -> Reply
         requires { cell < length self.now.network.cells.kinds }
-        ensures { Says (answer_of result) (equation name.now (text_at (state_of self.now) cell info) mark.now) }
+        ensures { Says (answer_of result)
+            (equation name.now (text_at (state_of self.now) cell info) mark.now) }
     {
         let kind = self.network.data().kind(cell).kind;
         match self.words.print_value(self.alloc, kind, info) {
@@ -315,8 +342,13 @@ impl<R: Rule + Drop, O: Order + Drop> Session<R, O> {
     fn explained(&self, worldview: &Worldview, cell: usize, name: &str, mark: &str) -> Reply
         requires sound { IsInOrder R.value_of self.now }
         requires cell { cell < length self.now.network.cells.kinds }
-        ensures explained { Explained (library_of R.value_of self.now) (state_of self.now) (set_of worldview.now) cell (beliefs (set_of worldview.now) self.now.network.cells.contents cell) name.now mark.now (answer_of result) }
-        ensures lean { (text : List ℕ) → answer_of result ≡ Text text → IsLeanExplanation (set_of worldview.now) self.now.network.cells (state_of self.now) cell name.now mark.now text }
+        ensures explained { Explained (library_of R.value_of self.now) (state_of self.now)
+            (set_of worldview.now) cell
+            (beliefs (set_of worldview.now) self.now.network.cells.contents cell) name.now mark.now
+            (answer_of result) }
+        ensures lean { (text : List ℕ) → answer_of result ≡ Text text
+            → IsLeanExplanation (set_of worldview.now) self.now.network.cells (state_of self.now)
+            cell name.now mark.now text }
     {
         let why = match self.network.explanation(cell, worldview) {
             Ok(why) => why,
@@ -329,7 +361,8 @@ impl<R: Rule + Drop, O: Order + Drop> Session<R, O> {
     fn said_because(&self, cell: usize, name: &str, mark: &str, why: &Supported<Info>) -> Reply
         requires cell { cell < length self.now.network.cells.kinds }
         requires known { All (λ p. p < length self.now.search.premises) why.now.support }
-        ensures { SaysBecause (state_of self.now) cell name.now mark.now why.now.value why.now.support (answer_of result) }
+        ensures { SaysBecause (state_of self.now) cell name.now mark.now why.now.value
+            why.now.support (answer_of result) }
     {
         match because(self.alloc, self.search.premises(), mark, &why.support) {
             Ok(mark) => self.value_of(cell, name, why.value, &mark),

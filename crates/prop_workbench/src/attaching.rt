@@ -50,7 +50,8 @@ fn kinds_of(alloc: Global, held: &Cells, cells: &[usize]) -> Result<Vec<Kinded>,
 }
 
 impl<R: Rule + Drop, O: Order + Drop> Session<R, O> {
-    ghost use Rattle.std.specs.Prelude.{◌≡◌, ◌<◌, ◌≤◌, ◌+◌, ◌⊎◌, ℕ, All, length, map, None, Some, IfOk, IfErr, OnOk, OnErr};
+    ghost use Rattle.std.specs.Prelude.{◌≡◌, ◌<◌, ◌≤◌, ◌+◌, ◌⊎◌, ℕ, All, length, map, None, Some};
+    ghost use Rattle.std.specs.Prelude.{IfOk, IfErr, OnOk, OnErr};
     ghost use Rattle.prop_refusals.specs.declared.refusal.Refusal.TheVariants.{Memory};
     ghost use Rattle.prop_language.specs.Commands as commands;
     ghost use Rattle.prop_language.specs.Said.{by_of, words};
@@ -67,7 +68,8 @@ impl<R: Rule + Drop, O: Order + Drop> Session<R, O> {
     pub(crate) fn attach(&mut self, name: &str, cells: &[&str], by: By) -> Result<(), Refusal>
         requires sound { IsInOrder R.value_of self.old }
         ensures keeps { Keeps R.value_of self.old self.new }
-        ensures step { IsDone R.value_of self.old (commands.Command.Attach name.now (words cells.now) (by_of by.entry)) result self.new }
+        ensures step { IsDone R.value_of self.old
+            (commands.Command.Attach name.now (words cells.now) (by_of by.entry)) result self.new }
         ensures wakes { HasLeft self.old
             (commands.Command.Attach name.now (words cells.now) (by_of by.entry))
             result self.new }
@@ -82,14 +84,21 @@ impl<R: Rule + Drop, O: Order + Drop> Session<R, O> {
         self.use_on(name, &numbers, by)
     }
 
-    /// Puts the procedure or definition of a name between the cells of these numbers, whole or not at all.
+    /// Puts the procedure or definition of a name between the cells of these numbers, whole or not
+    /// at all.
     fn use_on(&mut self, name: &str, cells: &[usize], by: By) -> Result<(), Refusal>
         requires sound { IsInOrder R.value_of self.old }
         requires cells { All (λ c. c < length self.old.network.cells.kinds) cells.now }
         ensures keeps { Keeps R.value_of self.old self.new }
-        ensures fits { OnOk result (use_refusal (library_of R.value_of self.old) (state_of self.old) name.now cells.now (by_of by.entry) ≡ None) }
-        ensures ok { OnOk result (state_of self.new ≡ with_use (library_of R.value_of self.old) (state_of self.old) cells.now (used (library_of R.value_of self.old) (state_of self.old) name.now cells.now (by_of by.entry))) }
-        ensures err { IfErr result (λ e. (use_refusal (library_of R.value_of self.old) (state_of self.old) name.now cells.now (by_of by.entry) ≡ Some e) ⊎ (e ≡ Memory)) }
+        ensures fits { OnOk result (use_refusal (library_of R.value_of self.old) (state_of self.old)
+            name.now cells.now (by_of by.entry) ≡ None) }
+        ensures ok { OnOk result (state_of self.new ≡ with_use (library_of R.value_of self.old)
+            (state_of self.old) cells.now
+            (used (library_of R.value_of self.old) (state_of self.old) name.now cells.now
+            (by_of by.entry))) }
+        ensures err { IfErr result (λ e.
+            (use_refusal (library_of R.value_of self.old) (state_of self.old) name.now cells.now
+            (by_of by.entry) ≡ Some e) ⊎ (e ≡ Memory)) }
         ensures err_same { OnErr result (state_of self.new ≡ state_of self.old) }
         ensures stirred { HasStirred self.old self.old.search.list result self.new }
     {
@@ -103,10 +112,19 @@ impl<R: Rule + Drop, O: Order + Drop> Session<R, O> {
     fn expanded(&self, name: &str, cells: &[usize], by: By) -> Result<Flat, Refusal>
         requires sound { IsInOrder R.value_of self.now }
         requires cells { All (λ c. c < length self.now.network.cells.kinds) cells.now }
-        ensures fits { OnOk result (expand_refusal (library_of R.value_of self.now) self.now.words self.now.definitions name.now (map (kind_at self.now.network.cells.kinds) cells.now) (given_by self.now.words (by_of by.entry)) ≡ None) }
-        ensures ok { IfOk result (λ flat. expansion_of_flat (map (kind_at self.now.network.cells.kinds) cells.now) flat ≡ used (library_of R.value_of self.now) (state_of self.now) name.now cells.now (by_of by.entry)) }
-        ensures safe { IfOk result (λ flat. IsFlatOver (library_of R.value_of self.now) (length cells.now) flat) }
-        ensures err { IfErr result (λ e. (expand_refusal (library_of R.value_of self.now) self.now.words self.now.definitions name.now (map (kind_at self.now.network.cells.kinds) cells.now) (given_by self.now.words (by_of by.entry)) ≡ Some e) ⊎ (e ≡ Memory)) }
+        ensures fits { OnOk result (expand_refusal (library_of R.value_of self.now) self.now.words
+            self.now.definitions name.now (map (kind_at self.now.network.cells.kinds) cells.now)
+            (given_by self.now.words (by_of by.entry)) ≡ None) }
+        ensures ok { IfOk result (λ flat.
+            expansion_of_flat (map (kind_at self.now.network.cells.kinds) cells.now) flat ≡ used
+            (library_of R.value_of self.now) (state_of self.now) name.now cells.now
+            (by_of by.entry)) }
+        ensures safe { IfOk result (λ flat.
+            IsFlatOver (library_of R.value_of self.now) (length cells.now) flat) }
+        ensures err { IfErr result (λ e.
+            (expand_refusal (library_of R.value_of self.now) self.now.words self.now.definitions
+            name.now (map (kind_at self.now.network.cells.kinds) cells.now)
+            (given_by self.now.words (by_of by.entry)) ≡ Some e) ⊎ (e ≡ Memory)) }
     {
         let Ok(kinds) = kinds_of(self.alloc, self.network.data(), cells) else {
             return Err(Refusal::Memory);

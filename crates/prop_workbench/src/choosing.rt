@@ -1,11 +1,14 @@
 //! The command that makes a choice.
-ghost use Rattle.std.specs.Prelude.{◌≡◌, ◌≤◌, ◌⊎◌, ℕ, None, Some, Ok, All, IfOk, IfErr, OnOk, OnErr, map, length};
+ghost use Rattle.std.specs.Prelude.{◌≡◌, ◌≤◌, ◌⊎◌, ℕ, None, Some, Ok, All, IfOk, IfErr, OnOk};
+ghost use Rattle.std.specs.Prelude.{OnErr, map, length};
 ghost use Rattle.prop_refusals.specs.declared.refusal.Refusal.TheVariants.{Memory};
 ghost use Rattle.prop_language.specs.Said.{value_of};
 ghost use Rattle.prop_vocabulary.specs.Vocabulary.{with_first_symbols};
-ghost use Rattle.prop_workbench.specs.inner.Choosing.{is_one_refused, values_refusal, meaning_of, Means, meanings_of, infos_meant};
+ghost use Rattle.prop_workbench.specs.inner.Choosing.{is_one_refused, values_refusal, meaning_of};
+ghost use Rattle.prop_workbench.specs.inner.Choosing.{Means, meanings_of, infos_meant};
 ghost use Rattle.prop_workbench.specs.Effects.{info_meant, with_meants};
-ghost use Rattle.prop_workbench.specs.Refusing.{meaning_at, is_error, with_meant, naming_limit, all_naming_limit};
+ghost use Rattle.prop_workbench.specs.Refusing.{meaning_at, is_error, with_meant, naming_limit};
+ghost use Rattle.prop_workbench.specs.Refusing.{all_naming_limit};
 ghost use Rattle.prop_compound.specs.Kinds.{IsKnown};
 
 use crate::session::Session;
@@ -41,7 +44,8 @@ fn is_one_refused(words: &Vocabulary, kind: Kind, refusal: Refusal, values: &[Va
     false
 }
 
-/// Why a choice between the values at a cell of the kind is refused, whose name may be taken: the first refusal in the order of refusals.
+/// Why a choice between the values at a cell of the kind is refused, whose name may be taken: the
+/// first refusal in the order of refusals.
 fn first_refusal(
     words: &Vocabulary,
     kind: Kind,
@@ -72,10 +76,15 @@ fn first_refusal(
 fn info_of(words: &mut Vocabulary, kind: Kind, value: &Value) -> Result<Info, Refusal>
     requires known { IsKnown words.old kind }
     requires means { Means words.old kind (value_of value.now) }
-    ensures info { IfOk result (λ i. i ≡ info_meant words.old (meaning_of words.old kind (value_of value.now))) }
-    ensures words { OnOk result (words.new ≡ with_meant words.old (meaning_of words.old kind (value_of value.now))) }
-    ensures fits { OnOk result (naming_limit words.old (meaning_of words.old kind (value_of value.now)) ≡ None) }
-    ensures err { IfErr result (λ e. (naming_limit words.old (meaning_of words.old kind (value_of value.now)) ≡ Some e) ⊎ (e ≡ Memory)) }
+    ensures info { IfOk result (λ i.
+        i ≡ info_meant words.old (meaning_of words.old kind (value_of value.now))) }
+    ensures words { OnOk result (words.new ≡ with_meant words.old
+        (meaning_of words.old kind (value_of value.now))) }
+    ensures fits { OnOk result (naming_limit words.old
+        (meaning_of words.old kind (value_of value.now)) ≡ None) }
+    ensures err { IfErr result (λ e.
+        (naming_limit words.old (meaning_of words.old kind (value_of value.now)) ≡ Some e)
+        ⊎ (e ≡ Memory)) }
     ensures same { OnErr result (words.new ≡ words.old) }
 {
     match meaning(words, kind, value)? {
@@ -93,10 +102,16 @@ fn infos_of(
 ) -> Result<Vec<Info>, Refusal>
     requires known { IsKnown words.old kind }
     requires mean { All (Means words.old kind) (map value_of values.now) }
-    ensures infos { IfOk result (λ infos. infos.items ≡ infos_meant words.old (meanings_of words.old kind (map value_of values.now))) }
-    ensures words { OnOk result (words.new ≡ with_meants words.old (meanings_of words.old kind (map value_of values.now))) }
-    ensures fits { OnOk result (all_naming_limit words.old (meanings_of words.old kind (map value_of values.now)) ≡ None) }
-    ensures err { IfErr result (λ e. (all_naming_limit words.old (meanings_of words.old kind (map value_of values.now)) ≡ Some e) ⊎ (e ≡ Memory)) }
+    ensures infos { IfOk result (λ infos.
+        infos.items ≡ infos_meant words.old
+        (meanings_of words.old kind (map value_of values.now))) }
+    ensures words { OnOk result (words.new ≡ with_meants words.old
+        (meanings_of words.old kind (map value_of values.now))) }
+    ensures fits { OnOk result (all_naming_limit words.old
+        (meanings_of words.old kind (map value_of values.now)) ≡ None) }
+    ensures err { IfErr result (λ e.
+        (all_naming_limit words.old (meanings_of words.old kind (map value_of values.now)) ≡ Some e)
+        ⊎ (e ≡ Memory)) }
     ensures domains { words.new.domains ≡ words.old.domains }
     ensures back { with_first_symbols words.new (length words.old.symbols) ≡ words.old }
 {
@@ -116,7 +131,8 @@ fn infos_of(
 }
 
 impl<R: Rule + Drop, O: Order + Drop> Session<R, O> {
-    ghost use Rattle.std.specs.Prelude.{◌≡◌, ◌≤◌, ◌<◌, ◌⊎◌, ◌++◌, ◌∷◌, [], ◌||◌, ℕ, None, Some, All, false, is_some, OnOk, OnErr, IfOk, IfErr, map, length};
+    ghost use Rattle.std.specs.Prelude.{◌≡◌, ◌≤◌, ◌<◌, ◌⊎◌, ◌++◌, ◌∷◌, [], ◌||◌, ℕ, None, Some};
+    ghost use Rattle.std.specs.Prelude.{All, false, is_some, OnOk, OnErr, IfOk, IfErr, map, length};
     ghost use Rattle.prop_refusals.specs.declared.refusal.Refusal.TheVariants.{Memory};
     ghost use Rattle.prop_premises.specs.Origins.{premise_number, is_choice, with_choice};
     ghost use Rattle.prop_language.specs.Commands as commands;
@@ -143,7 +159,9 @@ impl<R: Rule + Drop, O: Order + Drop> Session<R, O> {
         requires some { 2 ≤ length values.now }
         requires few { length values.now ≤ 8 }
         ensures keeps { Keeps R.value_of self.old self.new }
-        ensures step { IsDone R.value_of self.old (commands.Command.Choose choice.now name.now (map value_of values.now)) result self.new }
+        ensures step { IsDone R.value_of self.old
+            (commands.Command.Choose choice.now name.now (map value_of values.now)) result
+            self.new }
         ensures wakes { HasLeft self.old
             (commands.Command.Choose choice.now name.now (map value_of values.now))
             result self.new }
@@ -163,13 +181,15 @@ impl<R: Rule + Drop, O: Order + Drop> Session<R, O> {
 
     /// Whether a premise or a choice has the name.
     fn is_taken(&self, name: &str) -> bool
-        ensures { result ≡ (is_some (premise_number self.now.search.premises name.now) || is_choice self.now.search.premises name.now) }
+        ensures { result ≡ (is_some (premise_number self.now.search.premises name.now) || is_choice
+            self.now.search.premises name.now) }
     {
         let premises = self.search.premises();
         premises.is_choice(name) || premises.find(name).is_ok()
     }
 
-    /// A choice with a new name between what the values say at a cell of the kind, each of which means something there.
+    /// A choice with a new name between what the values say at a cell of the kind, each of which
+    /// means something there.
     fn choose_said(
         &mut self,
         choice: &str,
@@ -186,9 +206,14 @@ impl<R: Rule + Drop, O: Order + Drop> Session<R, O> {
         requires some { 2 ≤ length values.now }
         requires few { length values.now ≤ 8 }
         ensures keeps { Keeps R.value_of self.old self.new }
-        ensures fits { OnOk result (choosing_limit_at (state_of self.old) (Some (meanings_of self.old.words kind (map value_of values.now))) ≡ None) }
-        ensures ok { OnOk result (state_of self.new ≡ chosen (state_of self.old) choice.now cell (meanings_of self.old.words kind (map value_of values.now))) }
-        ensures err { IfErr result (λ e. (choosing_limit_at (state_of self.old) (Some (meanings_of self.old.words kind (map value_of values.now))) ≡ Some e) ⊎ (e ≡ Memory)) }
+        ensures fits { OnOk result (choosing_limit_at (state_of self.old)
+            (Some (meanings_of self.old.words kind (map value_of values.now))) ≡ None) }
+        ensures ok { OnOk result (state_of self.new ≡ chosen (state_of self.old) choice.now cell
+            (meanings_of self.old.words kind (map value_of values.now))) }
+        ensures err { IfErr result (λ e.
+            (choosing_limit_at (state_of self.old)
+            (Some (meanings_of self.old.words kind (map value_of values.now))) ≡ Some e)
+            ⊎ (e ≡ Memory)) }
         ensures err_same { OnErr result (state_of self.new ≡ state_of self.old) }
         ensures stirred { HasStirred self.old (self.old.search.list ++ 1 ∷ []) result self.new }
     {
@@ -212,7 +237,8 @@ impl<R: Rule + Drop, O: Order + Drop> Session<R, O> {
         }
     }
 
-    /// Why a choice of so many sides is refused: there would be too many premises, choices or statements.
+    /// Why a choice of so many sides is refused: there would be too many premises, choices or
+    /// statements.
     fn choosing_limit(&self, sides: usize) -> Option<Refusal>
         requires few { sides ≤ 8 }
         ensures { result ≡ choosing_limit (state_of self.now) sides }
@@ -232,7 +258,8 @@ impl<R: Rule + Drop, O: Order + Drop> Session<R, O> {
     fn choose_between(&mut self, choice: &str, cell: usize, infos: &[Info]) -> Result<(), Refusal>
         requires sound { IsInOrder R.value_of self.old }
         requires cell { cell < length self.old.network.cells.kinds }
-        requires may { All (λ info. MayMean (kind_at self.old.network.cells.kinds cell) (Known info)) infos.now }
+        requires may { All (λ info. MayMean (kind_at self.old.network.cells.kinds cell)
+            (Known info)) infos.now }
         requires new { premise_number self.old.search.premises choice.now ≡ None }
         requires free { is_choice self.old.search.premises choice.now ≡ false }
         requires fits { choosing_limit (state_of self.old) (length infos.now) ≡ None }
@@ -240,7 +267,14 @@ impl<R: Rule + Drop, O: Order + Drop> Session<R, O> {
         requires few { length infos.now ≤ 8 }
         ensures keeps { Keeps R.value_of self.old self.new }
         ensures words { self.new.words ≡ self.old.words }
-        ensures ok { OnOk result (state_of self.new ≡ record (state_of self.old) { premises = with_choice self.old.search.premises choice.now (length infos.now); statements = self.old.network.cells.statements ++ sides_at (length self.old.search.premises) cell infos.now }) }
+        ensures ok { OnOk result (state_of
+            self.new ≡ record (state_of self.old) {
+              premises = with_choice self.old.search.premises
+                  choice.now (length infos.now);
+              statements =
+                  self.old.network.cells.statements ++ sides_at (length self.old.search.premises) cell
+                  infos.now;
+            }) }
         ensures err { IfErr result (λ e. e ≡ Memory) }
         ensures err_same { OnErr result (state_of self.new ≡ state_of self.old) }
         ensures stirred { HasStirred self.old (self.old.search.list ++ 1 ∷ []) result self.new }

@@ -6,7 +6,8 @@ use prop_procedures::Rule;
 use prop_scheduler::{Order, new_cell};
 
 impl<R: Rule + Drop, O: Order + Drop> Session<R, O> {
-    ghost use Rattle.std.specs.Prelude.{◌≡◌, ◌<◌, ◌++◌, ◌∷◌, [], ◌⊎◌, map, All, None, Some, OnOk, OnErr, IfOk, IfErr, ℕ, length};
+    ghost use Rattle.std.specs.Prelude.{◌≡◌, ◌<◌, ◌++◌, ◌∷◌, [], ◌⊎◌, map, All, None, Some, OnOk};
+    ghost use Rattle.std.specs.Prelude.{OnErr, IfOk, IfErr, ℕ, length};
     ghost use Rattle.prop_refusals.specs.declared.refusal.Refusal.TheVariants.{Memory};
     ghost use Rattle.prop_language.specs.Commands as commands;
     ghost use Rattle.prop_language.specs.Said.{kind_of, words, pairs_of, step_of};
@@ -19,7 +20,8 @@ impl<R: Rule + Drop, O: Order + Drop> Session<R, O> {
         requires sound { IsInOrder R.value_of self.old }
         requires some { 0 < length elements.now }
         ensures keeps { Keeps R.value_of self.old self.new }
-        ensures step { IsDone R.value_of self.old (commands.Command.Domain name.now (words elements.now)) result self.new }
+        ensures step { IsDone R.value_of self.old
+            (commands.Command.Domain name.now (words elements.now)) result self.new }
         ensures wakes { HasLeft self.old
             (commands.Command.Domain name.now (words elements.now))
             result self.new }
@@ -37,7 +39,9 @@ impl<R: Rule + Drop, O: Order + Drop> Session<R, O> {
     ) -> Result<(), Refusal>
         requires sound { IsInOrder R.value_of self.old }
         ensures keeps { Keeps R.value_of self.old self.new }
-        ensures step { IsDone R.value_of self.old (commands.Command.Relation name.now from.now to.now (pairs_of pairs.now)) result self.new }
+        ensures step { IsDone R.value_of self.old
+            (commands.Command.Relation name.now from.now to.now (pairs_of pairs.now)) result
+            self.new }
         ensures wakes { HasLeft self.old
             (commands.Command.Relation name.now from.now to.now (pairs_of pairs.now))
             result self.new }
@@ -54,7 +58,9 @@ impl<R: Rule + Drop, O: Order + Drop> Session<R, O> {
     ) -> Result<(), Refusal>
         requires sound { IsInOrder R.value_of self.old }
         ensures keeps { Keeps R.value_of self.old self.new }
-        ensures step { IsDone R.value_of self.old (commands.Command.Define name.now (words params.now) (map step_of steps.now)) result self.new }
+        ensures step { IsDone R.value_of self.old
+            (commands.Command.Define name.now (words params.now) (map step_of steps.now)) result
+            self.new }
         ensures wakes { HasLeft self.old
             (commands.Command.Define name.now (words params.now) (map step_of steps.now))
             result self.new }
@@ -73,7 +79,8 @@ impl<R: Rule + Drop, O: Order + Drop> Session<R, O> {
     pub(crate) fn cell(&mut self, name: &str, kind: KindWord) -> Result<(), Refusal>
         requires sound { IsInOrder R.value_of self.old }
         ensures keeps { Keeps R.value_of self.old self.new }
-        ensures step { IsDone R.value_of self.old (commands.Command.Cell name.now (kind_of kind.entry)) result self.new }
+        ensures step { IsDone R.value_of self.old
+            (commands.Command.Cell name.now (kind_of kind.entry)) result self.new }
         ensures wakes { HasLeft self.old
             (commands.Command.Cell name.now (kind_of kind.entry))
             result self.new }

@@ -1,7 +1,10 @@
 //! Sessions over a reader and a writer.
-ghost use Rattle.std.specs.Prelude.{◌≡◌, ℕ, ◌+◌, ◌≤◌, List, min, max, true, false, OnErr, IfOk, IsErrOf, ◌↔◌, ◌⊎◌};
+ghost use Rattle.std.specs.Prelude.{◌≡◌, ℕ, ◌+◌, ◌≤◌, List, min, max, true, false, OnErr, IfOk};
+ghost use Rattle.std.specs.Prelude.{IsErrOf, ◌↔◌, ◌⊎◌};
 ghost use Rattle.std.specs.Io.KnownBytes.{Appends, Consumes};
-ghost use Rattle.prop_engine.specs.Watched.{reader, writer, has_gone_ahead, device, has_failed, has_stopped, calls, widest, narrowest, has_flushed_idly, IsFaulty, IsFresh, IsPassedOn};
+ghost use Rattle.prop_engine.specs.Watched.{reader, writer, has_gone_ahead, device, has_failed};
+ghost use Rattle.prop_engine.specs.Watched.{has_stopped, calls, widest, narrowest};
+ghost use Rattle.prop_engine.specs.Watched.{has_flushed_idly, IsFaulty, IsFresh, IsPassedOn};
 
 use crate::session::Session;
 use prop_engine::{Counts, Devices, EngineFault, run_session};
@@ -57,7 +60,8 @@ impl<R: Rule + Drop, O: Order + Drop> Session<R, O> {
         ensures reads { IsErrOf result EngineFault.Reads
             → (has_stopped (reader devices.new) ≡ false)
             × (calls (reader devices.new) ≡ min (calls (reader devices.old) + reads) u64.MAX) }
-        // No read came and no line was carried out before each reply so far was written whole and passed on.
+        // No read came and no line was carried out before each reply so far was written whole and
+        // passed on.
         ensures in_turn { has_gone_ahead devices.new ≡ has_gone_ahead devices.old }
         // Where no write stopped it, so was the last.
         ensures passed_on { IsErrOf result EngineFault.Write ⊎ IsPassedOn devices.new }

@@ -12,8 +12,8 @@ impl<R: Rule + Drop, O: Order + Drop> Session<R, O> {
     ghost use Rattle.prop_workbench.specs.inner.Sessions.{Keeps};
     ghost use Rattle.prop_workbench.specs.inner.Carrying.{IsDone, HasLeft};
 
-    /// The premise with a name is no longer believed. Where that is a change, every choice stands on its first side again, and of the cells that this
-    /// shifts the readers and writers wait.
+    /// The premise with a name is no longer believed. Where that is a change, every choice stands
+    /// on its first side again, and of the cells that this shifts the readers and writers wait.
     pub(crate) fn kick(&mut self, name: &str) -> Result<(), Refusal>
         requires sound { IsInOrder R.value_of self.old }
         ensures keeps { Keeps R.value_of self.old self.new }
@@ -33,11 +33,13 @@ impl<R: Rule + Drop, O: Order + Drop> Session<R, O> {
         Ok(())
     }
 
-    /// The premise with a name is believed from now on. Where that is a change, of the cells that it shifts the readers and writers wait.
+    /// The premise with a name is believed from now on. Where that is a change, of the cells that
+    /// it shifts the readers and writers wait.
     pub(crate) fn bring(&mut self, name: &str) -> Result<(), Refusal>
         requires sound { IsInOrder R.value_of self.old }
         ensures keeps { Keeps R.value_of self.old self.new }
-        ensures step { IsDone R.value_of self.old (commands.Command.Bring name.now) result self.new }
+        ensures step { IsDone R.value_of self.old (commands.Command.Bring name.now) result
+            self.new }
         ensures wakes { HasLeft self.old (commands.Command.Bring name.now) result self.new }
     {
         let premise = self.search.premises().find(name)?;

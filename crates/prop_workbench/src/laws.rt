@@ -4,8 +4,10 @@ ghost use Rattle.prop_procedures.specs.Kept.{stored_of, related_of};
 ghost use Rattle.prop_cells.specs.Points.{AreSoundBy};
 ghost use Rattle.prop_workbench.specs.Machine.{State};
 ghost use Rattle.prop_engine.specs.Answers.{Answer};
-ghost use Rattle.prop_engine.specs.Transcripts.{Run, WriteStopped, ReadStopped, IsPrefixOfTranscript};
-ghost use Rattle.prop_workbench.specs.Agreeing.{RunsMeet, AnswersMeet, SettledTextsMeet, SettledIsFree, StepsKeepNumbers};
+ghost use Rattle.prop_engine.specs.Transcripts.{Run, WriteStopped, ReadStopped};
+ghost use Rattle.prop_engine.specs.Transcripts.{IsPrefixOfTranscript};
+ghost use Rattle.prop_workbench.specs.Agreeing.{RunsMeet, AnswersMeet, SettledTextsMeet};
+ghost use Rattle.prop_workbench.specs.Agreeing.{SettledIsFree, StepsKeepNumbers};
 ghost use Rattle.prop_workbench.specs.Engine.{Standing, workbench, working, new_standing, WorkFits};
 ghost use Rattle.prop_workbench.specs.Points.{RelatedSatisfy};
 
@@ -24,12 +26,14 @@ pub fn a_stopped_write_leaves_a_prefix<R: Rule + Drop>(library: &Library<R>)
 pub fn a_stopped_read_leaves_a_prefix<R: Rule + Drop>(library: &Library<R>)
     ensures { (old : State) (input output more : List ℕ) (new : State)
         → ReadStopped (workbench (stored_of R.value_of library.now)) old input output new
-        → IsPrefixOfTranscript (workbench (stored_of R.value_of library.now)) old (input ++ more) output }
+        → IsPrefixOfTranscript (workbench (stored_of R.value_of library.now)) old (input ++ more)
+        output }
 {}
 
-/// Two sessions that are given the same lines agree, in whatever orders they call waiting procedures, as long as neither is refused memory: they
-/// end in one state, answer alike where nothing is run, and alike wherever both settle, but for the premises that explain a value. Where one
-/// settles the other says no contradiction. Every line leaves the premises numbered.
+/// Two sessions that are given the same lines agree, in whatever orders they call waiting
+/// procedures, as long as neither is refused memory: they end in one state, answer alike where
+/// nothing is run, and alike wherever both settle, but for the premises that explain a value. Where
+/// one settles the other says no contradiction. Every line leaves the premises numbered.
 pub fn two_sessions_agree<R: Rule + Drop>(library: &Library<R>)
     ensures states { RunsMeet (workbench (stored_of R.value_of library.now)) }
     ensures answers { AnswersMeet (stored_of R.value_of library.now) }
@@ -49,8 +53,9 @@ pub fn work_fits_what_is_shown<R: Rule + Drop, O: Order>(library: &Library<R>)
         → WorkFits (stored_of R.value_of library.now) new }
 {}
 
-/// Points that lie in all that is stated, and belong together at each instance, satisfy a state, where each procedure's answers hold the points
-/// that belong together. So they lie in each value that is said, and none satisfy a contradiction.
+/// Points that lie in all that is stated, and belong together at each instance, satisfy a state,
+/// where each procedure's answers hold the points that belong together. So they lie in each value
+/// that is said, and none satisfy a contradiction.
 pub fn points_that_belong_together_satisfy<R: Rule + Drop>(library: &Library<R>)
     ensures { AreSoundBy (stored_of R.value_of library.now) (related_of R.related library.now)
         → RelatedSatisfy (stored_of R.value_of library.now) (related_of R.related library.now) }

@@ -1,5 +1,6 @@
 //! The commands that state what is known.
-ghost use Rattle.std.specs.Prelude.{◌≡◌, ◌<◌, ◌≤◌, ◌++◌, ◌∷◌, [], ℕ, ◌⊎◌, None, Some, Ok, Err, OnOk, OnErr, IfOk, IfErr, length};
+ghost use Rattle.std.specs.Prelude.{◌≡◌, ◌<◌, ◌≤◌, ◌++◌, ◌∷◌, [], ℕ, ◌⊎◌, None, Some, Ok, Err};
+ghost use Rattle.std.specs.Prelude.{OnOk, OnErr, IfOk, IfErr, length};
 ghost use Rattle.prop_refusals.specs.declared.refusal.Refusal.TheVariants.{Memory};
 ghost use Rattle.prop_language.specs.Said.{value_of};
 ghost use Rattle.prop_vocabulary.specs.Said.{meant_of};
@@ -22,7 +23,8 @@ pub(crate) fn meaning<'a>(
     value: &Value<'a>,
 ) -> Result<Meant<'a>, Refusal>
     requires { IsKnown words.now kind }
-    ensures ok { IfOk result (λ meant. meaning_at words.now kind (value_of value.now) ≡ Ok (meant_of meant)) }
+    ensures ok { IfOk result (λ meant.
+        meaning_at words.now kind (value_of value.now) ≡ Ok (meant_of meant)) }
     ensures err { IfErr result (λ e. meaning_at words.now kind (value_of value.now) ≡ Err e) }
     ensures few { OnOk result (length (elements_of_kind words.now kind) ≤ 64) }
 {
@@ -34,7 +36,8 @@ pub(crate) fn meaning<'a>(
 }
 
 impl<R: Rule + Drop, O: Order + Drop> Session<R, O> {
-    ghost use Rattle.std.specs.Prelude.{◌≡◌, ◌<◌, ◌++◌, ◌∷◌, [], ◌⊎◌, ℕ, false, None, Some, OnOk, OnErr, IfErr, length};
+    ghost use Rattle.std.specs.Prelude.{◌≡◌, ◌<◌, ◌++◌, ◌∷◌, [], ◌⊎◌, ℕ, false, None, Some, OnOk};
+    ghost use Rattle.std.specs.Prelude.{OnErr, IfErr, length};
     ghost use Rattle.prop_refusals.specs.declared.refusal.Refusal.TheVariants.{Memory};
     ghost use Rattle.prop_premises.specs.Origins.{premise_number, is_choice, with_name};
     ghost use Rattle.prop_language.specs.Commands as commands;
@@ -46,7 +49,8 @@ impl<R: Rule + Drop, O: Order + Drop> Session<R, O> {
     ghost use Rattle.prop_vocabulary.specs.Said.{meant_of};
     ghost use Rattle.prop_vocabulary.specs.Values.{Known, Name};
     ghost use Rattle.prop_vocabulary.specs.Vocabulary.{with_symbol, symbol_number};
-    ghost use Rattle.prop_workbench.specs.Refusing.{telling_limit, statement_limit, stating_limit, with_meant};
+    ghost use Rattle.prop_workbench.specs.Refusing.{telling_limit, statement_limit, stating_limit};
+    ghost use Rattle.prop_workbench.specs.Refusing.{with_meant};
     ghost use Rattle.prop_workbench.specs.inner.Refusing.{is_choice_told};
     ghost use Rattle.prop_workbench.specs.Sessions.{state_of, IsInOrder};
     ghost use Rattle.prop_workbench.specs.inner.Sessions.{Keeps};
@@ -61,7 +65,8 @@ impl<R: Rule + Drop, O: Order + Drop> Session<R, O> {
     ) -> Result<(), Refusal>
         requires sound { IsInOrder R.value_of self.old }
         ensures keeps { Keeps R.value_of self.old self.new }
-        ensures step { IsDone R.value_of self.old (stating (name_of premise.entry) name.now (value_of value.now)) result self.new }
+        ensures step { IsDone R.value_of self.old
+            (stating (name_of premise.entry) name.now (value_of value.now)) result self.new }
         ensures wakes { HasLeft self.old
             (stating (name_of premise.entry) name.now (value_of value.now))
             result self.new }
@@ -103,9 +108,14 @@ impl<R: Rule + Drop, O: Order + Drop> Session<R, O> {
         requires cell { cell < length self.old.network.cells.kinds }
         requires may { MayMean (kind_at self.old.network.cells.kinds cell) (meant_of meant) }
         ensures keeps { Keeps R.value_of self.old self.new }
-        ensures fits { OnOk result (stating_limit (state_of self.old) (name_of premise.entry) (meant_of meant.entry) ≡ None) }
-        ensures ok { OnOk result (state_of self.new ≡ stated (state_of self.old) (name_of premise.entry) cell (with_meant self.old.words (meant_of meant.entry)) (info_meant self.old.words (meant_of meant.entry))) }
-        ensures err { IfErr result (λ e. (stating_limit (state_of self.old) (name_of premise.entry) (meant_of meant.entry) ≡ Some e) ⊎ (e ≡ Memory)) }
+        ensures fits { OnOk result (stating_limit (state_of self.old) (name_of premise.entry)
+            (meant_of meant.entry) ≡ None) }
+        ensures ok { OnOk result (state_of self.new ≡ stated (state_of self.old)
+            (name_of premise.entry) cell (with_meant self.old.words (meant_of meant.entry))
+            (info_meant self.old.words (meant_of meant.entry))) }
+        ensures err { IfErr result (λ e.
+            (stating_limit (state_of self.old) (name_of premise.entry) (meant_of meant.entry) ≡ Some
+            e) ⊎ (e ≡ Memory)) }
         ensures err_same { OnErr result (state_of self.new ≡ state_of self.old) }
         ensures stirred { HasStirred self.old self.old.search.list result self.new }
     {
@@ -127,9 +137,14 @@ impl<R: Rule + Drop, O: Order + Drop> Session<R, O> {
         requires cell { cell < length self.old.network.cells.kinds }
         requires may { (kind_at self.old.network.cells.kinds cell).kind ≡ Kind.Symbol }
         ensures keeps { Keeps R.value_of self.old self.new }
-        ensures fits { OnOk result (stating_limit (state_of self.old) (name_of premise.entry) (Name symbol.now) ≡ None) }
-        ensures ok { OnOk result (state_of self.new ≡ stated (state_of self.old) (name_of premise.entry) cell (with_symbol self.old.words symbol.now) (Info.Sym (symbol_number self.old.words symbol.now))) }
-        ensures err { IfErr result (λ e. (stating_limit (state_of self.old) (name_of premise.entry) (Name symbol.now) ≡ Some e) ⊎ (e ≡ Memory)) }
+        ensures fits { OnOk result (stating_limit (state_of self.old) (name_of premise.entry)
+            (Name symbol.now) ≡ None) }
+        ensures ok { OnOk result (state_of self.new ≡ stated (state_of self.old)
+            (name_of premise.entry) cell (with_symbol self.old.words symbol.now)
+            (Info.Sym (symbol_number self.old.words symbol.now))) }
+        ensures err { IfErr result (λ e.
+            (stating_limit (state_of self.old) (name_of premise.entry) (Name symbol.now) ≡ Some e)
+            ⊎ (e ≡ Memory)) }
         ensures err_same { OnErr result (state_of self.new ≡ state_of self.old) }
         ensures stirred { HasStirred self.old self.old.search.list result self.new }
     {
@@ -178,9 +193,12 @@ impl<R: Rule + Drop, O: Order + Drop> Session<R, O> {
         requires may { MayMean (kind_at self.old.network.cells.kinds cell) (Known info) }
         ensures keeps { Keeps R.value_of self.old self.new }
         ensures words { self.new.words ≡ self.old.words }
-        ensures fits { OnOk result (statement_limit (state_of self.old) (name_of premise.entry) ≡ None) }
-        ensures ok { OnOk result (state_of self.new ≡ stated (state_of self.old) (name_of premise.entry) cell self.old.words info) }
-        ensures err { IfErr result (λ e. (statement_limit (state_of self.old) (name_of premise.entry) ≡ Some e) ⊎ (e ≡ Memory)) }
+        ensures fits { OnOk result (statement_limit (state_of self.old)
+            (name_of premise.entry) ≡ None) }
+        ensures ok { OnOk result (state_of self.new ≡ stated (state_of self.old)
+            (name_of premise.entry) cell self.old.words info) }
+        ensures err { IfErr result (λ e.
+            (statement_limit (state_of self.old) (name_of premise.entry) ≡ Some e) ⊎ (e ≡ Memory)) }
         ensures err_same { OnErr result (state_of self.new ≡ state_of self.old) }
         ensures stirred { HasStirred self.old self.old.search.list result self.new }
     {
@@ -199,8 +217,10 @@ impl<R: Rule + Drop, O: Order + Drop> Session<R, O> {
         ensures keeps { Keeps R.value_of self.old self.new }
         ensures words { self.new.words ≡ self.old.words }
         ensures fits { OnOk result (telling_limit (state_of self.old) premise.now ≡ None) }
-        ensures ok { OnOk result (state_of self.new ≡ stated (state_of self.old) (Some premise.now) cell self.old.words info) }
-        ensures err { IfErr result (λ e. (telling_limit (state_of self.old) premise.now ≡ Some e) ⊎ (e ≡ Memory)) }
+        ensures ok { OnOk result (state_of self.new ≡ stated (state_of self.old) (Some premise.now)
+            cell self.old.words info) }
+        ensures err { IfErr result (λ e. (telling_limit (state_of self.old) premise.now ≡ Some e)
+            ⊎ (e ≡ Memory)) }
         ensures err_same { OnErr result (state_of self.new ≡ state_of self.old) }
         ensures stirred { HasStirred self.old self.old.search.list result self.new }
     {
@@ -218,8 +238,14 @@ impl<R: Rule + Drop, O: Order + Drop> Session<R, O> {
         ensures keeps { Keeps R.value_of self.old self.new }
         ensures words { self.new.words ≡ self.old.words }
         ensures fits { OnOk result (state_refusal self.old.network.cells cell info ≡ None) }
-        ensures ok { OnOk result (state_of self.new ≡ record (state_of self.old) { statements = (state_of self.old).statements ++ record { premise = premise; cell = cell; info = info } ∷ [] }) }
-        ensures err { IfErr result (λ e. (state_refusal self.old.network.cells cell info ≡ Some e) ⊎ (e ≡ Memory)) }
+        ensures ok { OnOk result (state_of
+            self.new ≡ record (state_of
+            self.old) {
+              statements = (state_of self.old).statements
+                  ++ record { premise = premise; cell = cell; info = info } ∷ [];
+            }) }
+        ensures err { IfErr result (λ e. (state_refusal self.old.network.cells cell info ≡ Some e)
+            ⊎ (e ≡ Memory)) }
         ensures err_same { OnErr result (state_of self.new ≡ state_of self.old) }
         ensures stirred { HasStirred self.old self.old.search.list result self.new }
     {
@@ -244,8 +270,17 @@ impl<R: Rule + Drop, O: Order + Drop> Session<R, O> {
         ensures keeps { Keeps R.value_of self.old self.new }
         ensures words { self.new.words ≡ self.old.words }
         ensures fits { OnOk result (telling_limit (state_of self.old) name.now ≡ None) }
-        ensures ok { OnOk result (state_of self.new ≡ record (state_of self.old) { premises = with_name (state_of self.old).premises name.now; statements = (state_of self.old).statements ++ record { premise = Some (length self.old.search.premises); cell = cell; info = info } ∷ [] }) }
-        ensures err { IfErr result (λ e. (telling_limit (state_of self.old) name.now ≡ Some e) ⊎ (e ≡ Memory)) }
+        ensures ok { OnOk result (state_of
+            self.new ≡ record (state_of self.old) {
+              premises = with_name
+                  (state_of self.old).premises name.now;
+              statements =
+                  (state_of self.old).statements
+                  ++ record { premise = Some (length self.old.search.premises); cell = cell; info = info }
+                  ∷ [];
+            }) }
+        ensures err { IfErr result (λ e. (telling_limit (state_of self.old) name.now ≡ Some e)
+            ⊎ (e ≡ Memory)) }
         ensures err_same { OnErr result (state_of self.new ≡ state_of self.old) }
         ensures stirred { HasStirred self.old self.old.search.list result self.new }
     {

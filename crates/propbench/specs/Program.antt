@@ -1,8 +1,10 @@
 -- The options of the program, and what their words say.
-use Rattle.std.specs.Prelude.{◌≡◌, ◌⊎◌, ℕ, pos, unsigned_abs, List, Option, Some, None, cond, codes, bytes_eq, true}
+use Rattle.std.specs.Prelude.{◌≡◌, ◌⊎◌, ℕ, pos, unsigned_abs, List, Option, Some, None, cond, codes}
+use Rattle.std.specs.Prelude.{bytes_eq, true}
 use Rattle.std.specs.Option.{option_map}
 use Rattle.clap.specs.declared.parser.matches.Found.{Found}
-use Rattle.clap.specs.Words.{App, Rule, new_app, new_rule, with_rule, HasMatchesOf, first_value, found_of, takes, kind_of}
+use Rattle.clap.specs.Words.{App, Rule, new_app, new_rule, with_rule, HasMatchesOf, first_value}
+use Rattle.clap.specs.Words.{found_of, takes, kind_of}
 use Rattle.clap.specs.declared.builder.ArgAction.TheVariants.{Set}
 use Rattle.clap.specs.declared.parser.matches.ArgMatches.{ArgMatches}
 use Rattle.clap.specs.declared.error.Error.{Error}
@@ -18,11 +20,13 @@ value_rule name = record (new_rule name) { long = Some name; action = Some Set; 
 
 -- the program's name, and that it has a version, which --version prints
 abbrev pub versioned : App
-versioned = let named = new_app (codes "propbench") in record named { top = record named.top { has_version = true } }
+versioned = let named = new_app (codes "propbench")
+    in record named { top = record named.top { has_version = true } }
 
 -- the program as the option reader sees it: --limit N, --order ORDER, --seed N
 abbrev pub program : App
-program = with_rule (with_rule (with_rule versioned (value_rule (codes "limit"))) (value_rule (codes "order"))) (value_rule (codes "seed"))
+program = with_rule (with_rule (with_rule versioned (value_rule (codes "limit")))
+    (value_rule (codes "order"))) (value_rule (codes "seed"))
 
 -- the number from 0 to the high end that the word is, and the program's own where there is none
 abbrev pub number_given : ℕ → ℕ → Option (List ℕ) → Option ℕ
@@ -32,11 +36,14 @@ number_given own high (Some word) = option_map unsigned_abs (number_in (pos 0) (
 -- the order that the word names, and the program's own where there is none
 abbrev pub order_given : Option (List ℕ) → Option Pick
 order_given None = Some Fifo
-order_given (Some word) = cond (bytes_eq word (codes "fifo")) (Some Fifo) (cond (bytes_eq word (codes "lifo")) (Some Lifo) (cond (bytes_eq word (codes "mixed")) (Some Mixed) None))
+order_given (Some word) = cond (bytes_eq word (codes "fifo")) (Some Fifo)
+    (cond (bytes_eq word (codes "lifo")) (Some Lifo)
+    (cond (bytes_eq word (codes "mixed")) (Some Mixed) None))
 
 -- what the entries say of the three
 abbrev pub limit_given : Found → Option ℕ
-limit_given found = number_given 1_000_000_000 1_000_000_000_000_000 (first_value found (codes "limit"))
+limit_given found = number_given 1_000_000_000 1_000_000_000_000_000
+    (first_value found (codes "limit"))
 
 abbrev pub order_chosen : Found → Option Pick
 order_chosen found = order_given (first_value found (codes "order"))
@@ -52,7 +59,8 @@ pub record AreChosen (found : Found) (options : Options) : Type 0 where
 
 -- a value is none of its option's
 abbrev pub AreWrong : Found → Type 0
-AreWrong found = (limit_given found ≡ None) ⊎ ((order_chosen found ≡ None) ⊎ (seed_given found ≡ None))
+AreWrong found = (limit_given found ≡ None)
+    ⊎ ((order_chosen found ≡ None) ⊎ (seed_given found ≡ None))
 
 -- the option reader's entries for the words choose these options
 pub record AreGiven (words : List (List ℕ)) (options : Options) : Type 0 where

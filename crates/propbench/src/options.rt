@@ -1,7 +1,9 @@
 //! The options of the program.
 ghost use Rattle.std.specs.Prelude.{◌≡◌, ◌⊎◌, false, IfOk, IfErr, OnErr, map, string_bytes};
 ghost use Rattle.clap.specs.Words.{app_of, found_of, rule_of};
-ghost use Rattle.propbench.specs.Program.{program, versioned, value_rule, number_given, order_given, AreChosen, AreWrong, AreGiven, AreOutOfRange, AreTaken, IsWantOfMemory};
+ghost use Rattle.propbench.specs.Program.{program, versioned, value_rule, number_given};
+ghost use Rattle.propbench.specs.Program.{order_given, AreChosen, AreWrong, AreGiven};
+ghost use Rattle.propbench.specs.Program.{AreOutOfRange, AreTaken, IsWantOfMemory};
 ghost use Rattle.propbench.specs.inner.Program.{word_of};
 
 use crate::chosen::{Options, Pick};
@@ -40,7 +42,8 @@ and in /usr/share/doc/propbench of the Debian package.";
 /// option reader's own, or that a value is none of its option's, or want of memory.
 pub fn options(alloc: Global, words: &[String]) -> Result<Options, Error>
     ensures ok { IfOk result (AreGiven (map string_bytes words.now)) }
-    ensures err { IfErr result (λ e. AreTaken (map string_bytes words.now) → IsWantOfMemory e ⊎ AreOutOfRange (map string_bytes words.now)) }
+    ensures err { IfErr result (λ e. AreTaken (map string_bytes words.now)
+        → IsWantOfMemory e ⊎ AreOutOfRange (map string_bytes words.now)) }
 {
     let mut command = program(alloc)?;
     let options = read(&mut command, words);
@@ -53,7 +56,8 @@ pub fn options(alloc: Global, words: &[String]) -> Result<Options, Error>
 fn read<'a>(command: &mut Command<'a>, words: &'a [String]) -> Result<Options, Error>
     requires { app_of command.old ≡ program }
     ensures ok { IfOk result (AreGiven (map string_bytes words.now)) }
-    ensures err { IfErr result (λ e. AreTaken (map string_bytes words.now) → IsWantOfMemory e ⊎ AreOutOfRange (map string_bytes words.now)) }
+    ensures err { IfErr result (λ e. AreTaken (map string_bytes words.now)
+        → IsWantOfMemory e ⊎ AreOutOfRange (map string_bytes words.now)) }
 {
     let matches = command.try_get_matches_from_mut(words)?;
     let chosen = chosen(&matches);
@@ -115,7 +119,8 @@ fn chosen(matches: &ArgMatches<'_>) -> Result<Options, &'static str>
     Ok(Options { limit, order, seed })
 }
 
-/// The number that the word is, where it is one from 0 to `high`, and the program's own where there is no word.
+/// The number that the word is, where it is one from 0 to `high`, and the program's own where there
+/// is no word.
 fn number(word: Option<&str>, own: u64, high: u64) -> Option<u64>
     ensures { result ≡ number_given own high (word_of word.entry) }
 {

@@ -6,10 +6,13 @@ use Rattle.prop_premises.specs.ChoiceLists.{IsSide, is_side_of}
 
 -- the set has just what the reasons have beside the sides of the choice
 pub record IsJoined (choice : Choice) (reasons : ℕ → Members) (n : Members) : Type 0 where
-  pub has : (side p : ℕ) → IsSide choice side → IsTrue (reasons side p) → is_side_of choice p ≡ false → IsTrue (n p)
-  pub sources : (p : ℕ) → IsTrue (n p) → (side : ℕ) × IsSide choice side × IsTrue (reasons side p) × (is_side_of choice p ≡ false)
+  pub has : (side p : ℕ) → IsSide choice side → IsTrue (reasons side p)
+      → is_side_of choice p ≡ false → IsTrue (n p)
+  pub sources : (p : ℕ) → IsTrue (n p)
+      → (side : ℕ) × IsSide choice side × IsTrue (reasons side p) × (is_side_of choice p ≡ false)
 
--- what each of these reasons has beside its own premise, where the first reason's own is this one, and those of the others follow
+-- what each of these reasons has beside its own premise, where the first reason's own is this one,
+-- and those of the others follow
 abbrev pub others_of : ℕ → List (List ℕ) → Members
 others_of own [] p = false
 others_of own (reason ∷ reasons) p = without (set_of reason) own p || others_of (suc own) reasons p

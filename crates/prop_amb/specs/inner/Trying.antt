@@ -11,7 +11,8 @@ use Rattle.prop_amb.specs.Going.{work, MayCall, Goes}
 use Rattle.prop_amb.specs.declared.settling.Tried.{Tried}
 use Rattle.prop_amb.specs.declared.settling.Tried.TheVariants.{Quiet, Spent}
 
--- nothing waits, no cell is believed to hold a contradiction, no noted nogood is believed, and the side of each choice is
+-- nothing waits, no cell is believed to hold a contradiction, no noted nogood is believed, and the
+-- side of each choice is
 pub record IsResting (old : Stand) (start : Data) (line : List ℕ) : Type 0 where
   pub full : old.level ≡ length old.list
   pub idle : line ≡ []
@@ -19,7 +20,9 @@ pub record IsResting (old : Stand) (start : Data) (line : List ℕ) : Type 0 whe
   pub unblocked : has_part old.listed (set_of old.worldview) ≡ false
 
 -- what came of one list
-pub record Attempted {O : Type 0} (picks : O → ℕ → ℕ → O → Type 0) (library : List Stored) (s : Stand) (d : Data) (waiting : List ℕ) (order : O) (budget : ℕ) (tried : Tried) (calls : ℕ) (new : Stand) (cells : Data) (after : List ℕ) (next : O) : Type 0 where
+pub record Attempted {O : Type 0} (picks : O → ℕ → ℕ → O → Type 0) (library : List Stored)
+    (s : Stand) (d : Data) (waiting : List ℕ) (order : O) (budget : ℕ) (tried : Tried) (calls : ℕ)
+    (new : Stand) (cells : Data) (after : List ℕ) (next : O) : Type 0 where
   pub only : new ≡ record s { level = new.level; listed = new.listed; worldview = new.worldview }
   pub kept : (m : Members) → IsTrue (has_part s.listed m) → IsTrue (has_part new.listed m)
   pub search : IsSearch (problem_of library d) new
@@ -35,5 +38,7 @@ pub record Attempted {O : Type 0} (picks : O → ℕ → ℕ → O → Type 0) (
   pub earned : tried ≡ Spent → calls < most_steps (problem_of library d)
   pub steps : calls ≤ budget
   pub at_rest : IsResting s d waiting → (tried ≡ Quiet) × (calls ≡ 0)
-  pub falls : potential (problem_of library d) (beliefs (set_of new.worldview) cells.contents) after + calls ≤ potential (problem_of library d) (beliefs (set_of s.worldview) d.contents) waiting
+  pub falls : potential (problem_of library d) (beliefs (set_of new.worldview) cells.contents)
+      after + calls ≤ potential (problem_of library d) (beliefs (set_of s.worldview) d.contents)
+      waiting
   pub few : calls ≤ most_steps (problem_of library d)

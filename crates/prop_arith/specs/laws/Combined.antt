@@ -15,10 +15,14 @@ use Rattle.prop_procedures.specs.declared.shape.Param.{Param}
 use Rattle.prop_procedures.specs.declared.shape.Param.TheVariants.{Scale, Rows}
 use Rattle.prop_sets.specs.Images.{image_of, coimage_of}
 use Rattle.prop_sets.specs.Relation.{Relation, HasPair}
-use Rattle.prop_sets.specs.Truth.{IsNot, IsAnd, IsOr, and_of, and_back_of, or_of, or_back_of, not_of}
+use Rattle.prop_sets.specs.Truth.{IsNot, IsAnd, IsOr, and_of, and_back_of, or_of, or_back_of}
+use Rattle.prop_sets.specs.Truth.{not_of}
 use Rattle.prop_arith.specs.Comparing.{is_just, comparer_of, others_of}
 use Rattle.prop_arith.specs.declared.kit.Kit as kits
-use Rattle.prop_arith.specs.declared.kit.Kit.TheVariants.{Add, Sub, Mul, Div, Square, Root, Less, Below, Above, Copy, Alike, Apart, Switch, Not, And, AndBack, Or, OrBack, Image, Coimage}
+use Rattle.prop_arith.specs.declared.kit.Kit.TheVariants.{Add, Sub, Mul, Div, Square, Root, Less}
+use Rattle.prop_arith.specs.declared.kit.Kit.TheVariants.{Below, Above, Copy, Alike, Apart, Switch}
+use Rattle.prop_arith.specs.declared.kit.Kit.TheVariants.{Not, And, AndBack, Or, OrBack, Image}
+use Rattle.prop_arith.specs.declared.kit.Kit.TheVariants.{Coimage}
 
 -- ---- functions of informations
 
@@ -163,7 +167,8 @@ abbrev pub RelatesAlike : List Point → Point → Type 0
 RelatesAlike (x ∷ y ∷ []) (Element t) = (t ≡ 0) ↔ (x ≡ y)
 RelatesAlike points point = ⊥
 
--- a truth, two points and the second of them, which is another than the first where the truth is `no`
+-- a truth, two points and the second of them, which is another than the first where the truth is
+-- `no`
 abbrev pub RelatesApart : List Point → Point → Type 0
 RelatesApart (Element t ∷ x ∷ y ∷ []) z = (z ≡ y) × (t ≡ 1 → z ≢ x)
 RelatesApart points point = ⊥

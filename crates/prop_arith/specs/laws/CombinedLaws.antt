@@ -10,9 +10,13 @@ use Rattle.prop_arith.specs.laws.Combined.{combined_of, Combined}
 use Rattle.prop_arith.specs.Points.{Related}
 use Rattle.prop_arith.specs.Values.{value_of}
 use Rattle.prop_arith.specs.declared.kit.Kit as kits
-use Rattle.prop_arith.specs.declared.kit.Kit.TheVariants.{Add, Sub, Mul, Div, Square, Root, Less, Below, Above, Copy, Alike, Apart, Switch, Not, And, AndBack, Or, OrBack, Image, Coimage}
+use Rattle.prop_arith.specs.declared.kit.Kit.TheVariants.{Add, Sub, Mul, Div, Square, Root, Less}
+use Rattle.prop_arith.specs.declared.kit.Kit.TheVariants.{Below, Above, Copy, Alike, Apart, Switch}
+use Rattle.prop_arith.specs.declared.kit.Kit.TheVariants.{Not, And, AndBack, Or, OrBack, Image}
+use Rattle.prop_arith.specs.declared.kit.Kit.TheVariants.{Coimage}
 
-pub value_is : (rule : kits.Kit) (param : Param) (args : List Info) → combined_of rule param args ≡ value_of rule param args
+pub value_is : (rule : kits.Kit) (param : Param) (args : List Info)
+    → combined_of rule param args ≡ value_of rule param args
 value_is Add param (Span x ∷ Span y ∷ []) = refl
 value_is Add param args = search rules
 value_is Sub param (Span x ∷ Span y ∷ []) = refl
@@ -58,7 +62,8 @@ value_is Coimage (Rows m) (Set x ∷ []) = refl
 value_is Coimage (Rows m) args = search rules
 value_is Coimage param args = search rules
 
-pub related_is : (rule : kits.Kit) (param : Param) (points : List Point) (point : Point) → Combined rule param points point ≡ Related rule param points point
+pub related_is : (rule : kits.Kit) (param : Param) (points : List Point) (point : Point)
+    → Combined rule param points point ≡ Related rule param points point
 related_is Add param (Number x ∷ Number y ∷ []) (Number z) = refl
 related_is Add param points point = search rules
 related_is Sub param (Number x ∷ Number y ∷ []) (Number z) = refl

@@ -6,7 +6,8 @@ use Rattle.std.proofs.lemmas.Bool.{cases_eq}
 use Rattle.std.proofs.lemmas.Bool.Decides.{Decides-int_eq}
 use Rattle.std.proofs.lemmas.Int.{ints}
 use Rattle.std.proofs.lemmas.Nat.{zero_from_ones}
-use Rattle.std.proofs.lemmas.Nat.Bits.{bit_at-zero, bit_at-trailing_zeros, bit_at-pow_same, bit_at-pow_other}
+use Rattle.std.proofs.lemmas.Nat.Bits.{bit_at-zero, bit_at-trailing_zeros, bit_at-pow_same}
+use Rattle.std.proofs.lemmas.Nat.Bits.{bit_at-pow_other}
 use Rattle.prop_intervals.specs.Comparisons.{yes_bits, no_bits}
 use Rattle.prop_lattice.proofs.PartLemmas.{ones_part}
 use Rattle.prop_lattice.specs.Order.{Below, HasElement}
@@ -15,7 +16,8 @@ use Rattle.prop_lattice.specs.laws.Parts.{HasBitsOf}
 use Rattle.prop_lattice.specs.Points.{Point, Number, Element, Symbol, Holds}
 use Rattle.prop_lattice.specs.declared.elements.Elements as sets
 use Rattle.prop_lattice.specs.declared.info.Info.{Info}
-use Rattle.prop_lattice.specs.declared.info.Info.TheVariants.{Nothing, Span, Set, Sym, Contradiction}
+use Rattle.prop_lattice.specs.declared.info.Info.TheVariants.{Nothing, Span, Set, Sym}
+use Rattle.prop_lattice.specs.declared.info.Info.TheVariants.{Contradiction}
 use Rattle.prop_arith.specs.Comparing.{first_element, is_just, is_single}
 
 pub never : false ≡ true → ⊥
@@ -42,11 +44,14 @@ bit_of_power i j h = by (cases_eq j i)
     by (inr other) = absurd (omega (arith, h, bit_at-pow_other i j other))
 
 -- the element of a set of one is its first
-pub single_element : (s : sets.Elements) (i : ℕ) → (count_ones s.bits == 1) ≡ true → HasElement s i → i ≡ first_element s
+pub single_element : (s : sets.Elements) (i : ℕ) → (count_ones s.bits == 1) ≡ true → HasElement s i
+    → i ≡ first_element s
 single_element s i e h =
-    let is : s.bits ≡ 2 ^ i = single_bits s.bits (2 ^ i) s.fits (eqb-true (count_ones s.bits) 1 e) (not_zero i) part in
+    let is : s.bits ≡ 2 ^ i = single_bits s.bits (2 ^ i) s.fits (eqb-true (count_ones s.bits) 1 e)
+    (not_zero i) part in
     let first = bit_at-trailing_zeros w64 s.bits s.some s.fits in
-    sym (bit_of_power i (trailing_zeros w64 s.bits) (sym (ap (λ n. bit_at n (trailing_zeros w64 s.bits)) is) ∙ first.1))
+    sym (bit_of_power i (trailing_zeros w64 s.bits)
+    (sym (ap (λ n. bit_at n (trailing_zeros w64 s.bits)) is) ∙ first.1))
   where
     part : HasBitsOf s.bits (2 ^ i)
     part j k = ap (bit_at s.bits) (bit_of_power i j k) ∙ h
@@ -59,7 +64,8 @@ single_stays (Span a) (Span c) p n e =
     let same : a.lo ≡ a.hi = (Decides-int_eq a.lo a.hi).0 e in
     ap Span (same_span a c (omega (arith, ints, c.ordered)) (omega (arith, ints, c.ordered)))
 single_stays (Set a) (Set c) p n e =
-    ap Set (same_elements a c (single_bits a.bits c.bits a.fits (eqb-true (count_ones a.bits) 1 e) (λ none. absurd (omega (arith, c.some))) p))
+    ap Set (same_elements a c (single_bits a.bits c.bits a.fits (eqb-true (count_ones a.bits) 1 e)
+    (λ none. absurd (omega (arith, c.some))) p))
 single_stays (Sym a) (Sym c) p n e = ap Sym p
 single_stays (Span a) Contradiction p n e = absurd (n refl)
 single_stays (Set a) Contradiction p n e = absurd (n refl)
@@ -73,7 +79,8 @@ pub single_points : (x : Info) (p q : Point) → is_single x ≡ true → Holds 
 single_points (Span a) (Number u) (Number v) e h k =
     let same : a.lo ≡ a.hi = (Decides-int_eq a.lo a.hi).0 e in
     ap Number (omega (arith, ints, h.0, h.1, k.0, k.1))
-single_points (Set s) (Element i) (Element j) e h k = ap Element (single_element s i e h ∙ sym (single_element s j e k))
+single_points (Set s) (Element i) (Element j) e h k =
+    ap Element (single_element s i e h ∙ sym (single_element s j e k))
 single_points (Sym a) (Symbol b) (Symbol c) e h k = ap Symbol (sym h ∙ k)
 single_points Nothing p q e h k = absurd (never e)
 single_points Contradiction p q e h k = absurd (never e)
@@ -97,17 +104,21 @@ first_of_no : trailing_zeros w64 no_bits ≡ 1
 unfolding lib.Count.count_trailing_zeros
 first_of_no = refl
 
-just_single : (bits : ℕ) (t : Info) → (count_ones bits == 1) ≡ true → is_just bits t ≡ true → is_single t ≡ true
+just_single : (bits : ℕ) (t : Info) → (count_ones bits == 1) ≡ true → is_just bits t ≡ true
+    → is_single t ≡ true
 just_single bits (Set s) one e = ap (λ n. count_ones n == 1) (eqb-true s.bits bits e) ∙ one
 just_single bits Nothing one e = absurd (never e)
 just_single bits (Span a) one e = absurd (never e)
 just_single bits (Sym a) one e = absurd (never e)
 just_single bits Contradiction one e = absurd (never e)
 
-pub just_stays : (bits : ℕ) (t t' : Info) → (count_ones bits == 1) ≡ true → Below t t' → t' ≢ Contradiction → is_just bits t ≡ true → is_just bits t' ≡ true
-just_stays bits t t' one p n e = subst (λ a. is_just bits a ≡ true) (single_stays t t' p n (just_single bits t one e)) e
+pub just_stays : (bits : ℕ) (t t' : Info) → (count_ones bits == 1) ≡ true → Below t t'
+    → t' ≢ Contradiction → is_just bits t ≡ true → is_just bits t' ≡ true
+just_stays bits t t' one p n e =
+    subst (λ a. is_just bits a ≡ true) (single_stays t t' p n (just_single bits t one e)) e
 
-just_element : (bits : ℕ) (t : Info) (i : ℕ) → (count_ones bits == 1) ≡ true → is_just bits t ≡ true → Holds t (Element i) → i ≡ trailing_zeros w64 bits
+just_element : (bits : ℕ) (t : Info) (i : ℕ) → (count_ones bits == 1) ≡ true → is_just bits t ≡ true
+    → Holds t (Element i) → i ≡ trailing_zeros w64 bits
 just_element bits (Set s) i one e h =
     let is : s.bits ≡ bits = eqb-true s.bits bits e in
     single_element s i (ap (λ n. count_ones n == 1) is ∙ one) h ∙ ap (trailing_zeros w64) is

@@ -5,4 +5,5 @@ use Rattle.prop_cells.specs.Back.{taken_back}
 
 -- what was made since the first data, taken back, leaves the first
 abbrev pub GoesBackTo : Data → Data → Type 0
-GoesBackTo before d = taken_back (length before.kinds) (length before.params) (length before.instances) d ≡ before
+GoesBackTo before d = taken_back (length before.kinds) (length before.params)
+    (length before.instances) d ≡ before

@@ -15,8 +15,8 @@ use prop_premises::Premise;
 use std::alloc::AllocError;
 
 impl Cells {
-    /// Takes back the statements from a number on, and the entries of a cell whose support holds a premise with this number or a
-    /// larger one.
+    /// Takes back the statements from a number on, and the entries of a cell whose support holds a
+    /// premise with this number or a larger one.
     fn back_statements(&mut self, count: usize, cell: usize, premise: usize)
         requires cell { cell < length self.old.kinds }
         requires made { IsWellMade (statements_back count cell premise self.old) }
@@ -26,8 +26,8 @@ impl Cells {
         drop_from(&mut self.contents, cell, premise);
     }
 
-    /// Makes a statement at a cell for each information, the first under this premise and each further one under the next. After
-    /// want of memory nothing has changed.
+    /// Makes a statement at a cell for each information, the first under this premise and each
+    /// further one under the next. After want of memory nothing has changed.
     pub(crate) fn push_sides(
         &mut self,
         first: Premise,
@@ -35,9 +35,12 @@ impl Cells {
         infos: &[Info],
     ) -> Result<(), AllocError>
         requires cell { cell < length self.old.kinds }
-        requires of_kinds { All (λ info. IsOf (kind_at self.old.kinds cell).kind (kind_at self.old.kinds cell).size info) infos.now }
+        requires of_kinds { All (λ info.
+            IsOf (kind_at self.old.kinds cell).kind (kind_at self.old.kinds cell).size info)
+            infos.now }
         requires numbers { first + length infos.now ≤ 2 ^ 16 }
-        requires below { All (λ e. IsTrue (is_below first e.support)) (content_of self.old.contents cell) }
+        requires below { All (λ e. IsTrue (is_below first e.support))
+            (content_of self.old.contents cell) }
         ensures ok { OnOk result (StatesAll self.old self.new (sides_at first cell infos.now)) }
         ensures err { OnErr result (self.new ≡ self.old) }
     {

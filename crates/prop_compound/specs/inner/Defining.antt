@@ -1,4 +1,5 @@
--- What a definition in words means, and for what it is refused: each condition by itself, and which of them comes first.
+-- What a definition in words means, and for what it is refused: each condition by itself, and which
+-- of them comes first.
 use Rattle.std.specs.Prelude.{◌≡◌, ◌⊎◌, ℕ, List, ◌++◌, Bool, true, Option}
 use Rattle.prop_refusals.specs.Refusals.{first_of}
 use Rattle.prop_refusals.specs.declared.refusal.Refusal.{Refusal}
@@ -16,6 +17,7 @@ abbrev pub IsNameReason : Bool → Refusal → Type 0
 IsNameReason taken refusal = ((refusal ≡ NameTaken) × (taken ≡ true)) ⊎ (refusal ≡ Memory)
 
 -- why the steps may not be defined, whatever the name
-abbrev pub steps_refusal : List Stored → Vocabulary → Definitions → List (List ℕ) → List Step → Option Refusal
+abbrev pub steps_refusal : List Stored → Vocabulary → Definitions → List (List ℕ) → List Step
+    → Option Refusal
 steps_refusal library words definitions params steps =
     first_of (words_refusals words params steps ++ uses_refusals library definitions steps)

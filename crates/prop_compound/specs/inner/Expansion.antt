@@ -8,5 +8,6 @@ use Rattle.prop_compound.specs.Expansion.{Expansion, definition_expanded, steps_
 -- ---- cells and instances
 
 -- what steps add among these definitions
-abbrev pub steps_in : {G : Type 0} → (G → Passing → G) → List Definition → G → List ℕ → List NumberedStep → Expansion G → Expansion G
+abbrev pub steps_in : {G : Type 0} → (G → Passing → G) → List Definition → G → List ℕ
+    → List NumberedStep → Expansion G → Expansion G
 steps_in pass definitions = steps_expanded pass (definition_expanded pass (reverse definitions))

@@ -1,4 +1,5 @@
--- What is handed out for a use: its fresh cells and instances, in one list each; and what is at hand of it while it is made.
+-- What is handed out for a use: its fresh cells and instances, in one list each; and what is at
+-- hand of it while it is made.
 use Rattle.std.specs.Prelude.{◌≡◌, ◌<◌, ℕ, List, ◌++◌, All, IfSome, Option, drop, length, map}
 use Rattle.prop_procedures.specs.declared.shape.Param.{Param}
 use Rattle.prop_procedures.specs.Stored.{Stored}
@@ -24,7 +25,8 @@ walk_of walk = record {
 -- what a use on these cells adds was added, where it is given the parameter at the place
 abbrev pub IsAdded : Vocabulary → List Definition → Used → List ℕ → Option ℕ → Walk → Walk → Type 0
 IsAdded words definitions used cells given old new =
-    walk_of new ≡ expanded_in (param_passed words) definitions used cells (param_at old.params.items given) (walk_of old)
+    walk_of new ≡ expanded_in (param_passed words) definitions used cells
+    (param_at old.params.items given) (walk_of old)
 
 -- the place is one of these parameters', where there is a place
 abbrev pub IsPlaceIn : List Param → Option ℕ → Type 0

@@ -1,4 +1,5 @@
--- Definitions that are under way while a use is expanded, of which all but one wait for what their last step uses.
+-- Definitions that are under way while a use is expanded, of which all but one wait for what their
+-- last step uses.
 use Rattle.std.specs.Prelude.{◌≡◌, ◌<◌, ℕ, List, [], ◌∷◌, Option, Some, None, drop, length, ⊤}
 use Rattle.prop_procedures.specs.declared.shape.Param.{Param}
 use Rattle.prop_procedures.specs.Flats.{param_at}
@@ -22,18 +23,24 @@ use Rattle.prop_compound.specs.inner.Shortcuts.{plan_of}
 abbrev pub used_expanded : Vocabulary → List Definition → List Param → Option Frame → Walk → Walk
 used_expanded words definitions params None e = e
 used_expanded words definitions params (Some used) e =
-    expanded_in (param_passed words) definitions (uses.Definition used.number) used.cells.items (param_at params used.given) e
+    expanded_in (param_passed words) definitions (uses.Definition used.number) used.cells.items
+    (param_at params used.given) e
 
 -- the step uses no procedure, or one on one cell at least
 abbrev pub IsOnCells : NumberedStep → Type 0
 IsOnCells (Use (uses.Procedure n) cells passing) = 0 < length cells
 IsOnCells step = ⊤
 
--- Among whatever definitions, further steps behind the step add what they add behind the definition that it uses, where it uses one.
-abbrev pub IsStepTaken : Vocabulary → NumberedStep → Frame → walks.Walk → Frame → walks.Walk → Option Frame → Type 0
-IsStepTaken words step old walk new walk' used = (definitions : List Definition) (steps : List NumberedStep) →
-    steps_in (param_passed words) definitions (param_at walk.params.items old.given) old.cells.items (step ∷ steps) (walk_of walk) ≡
-    steps_in (param_passed words) definitions (param_at walk.params.items old.given) new.cells.items steps (used_expanded words definitions walk'.params.items used (walk_of walk'))
+-- Among whatever definitions, further steps behind the step add what they add behind the definition
+-- that it uses, where it uses one.
+abbrev pub IsStepTaken : Vocabulary → NumberedStep → Frame → walks.Walk → Frame → walks.Walk
+    → Option Frame → Type 0
+IsStepTaken words step old walk new walk' used =
+    (definitions : List Definition) (steps : List NumberedStep) →
+    steps_in (param_passed words) definitions (param_at walk.params.items old.given) old.cells.items
+    (step ∷ steps) (walk_of walk) ≡
+    steps_in (param_passed words) definitions (param_at walk.params.items old.given) new.cells.items
+    steps (used_expanded words definitions walk'.params.items used (walk_of walk'))
 
 -- it is the definition that the step uses, before its first step
 pub record IsBegun (step : NumberedStep) (walk : walks.Walk) (used : Frame) : Type 0 where
@@ -44,16 +51,20 @@ pub record IsBegun (step : NumberedStep) (walk : walks.Walk) (used : Frame) : Ty
   pub next : used.next ≡ 0
   pub given : IsPlaceIn walk.params.items used.given
 
--- the definition is there, its further steps name places that are there, and what it is given is one of the parameters
-pub record IsUnderWay (definitions : List KeptDefinition) (params : List Param) (frame : Frame) : Type 0 where
+-- the definition is there, its further steps name places that are there, and what it is given is
+-- one of the parameters
+pub record IsUnderWay (definitions : List KeptDefinition) (params : List Param) (frame : Frame) :
+    Type 0 where
   pub number : frame.number < length definitions
-  pub in_scope : AreInScope (length frame.cells.items) (drop frame.next (plan_of definitions frame.number))
+  pub in_scope : AreInScope (length frame.cells.items)
+      (drop frame.next (plan_of definitions frame.number))
   pub given : IsPlaceIn params frame.given
 
 -- what the further steps of a definition under way add
 abbrev pub rest_added : Vocabulary → List KeptDefinition → List Param → Frame → Walk → Walk
 rest_added words definitions params frame e =
-    steps_in (param_passed words) (all_bare definitions) (param_at params frame.given) frame.cells.items (drop frame.next (plan_of definitions frame.number)) e
+    steps_in (param_passed words) (all_bare definitions) (param_at params frame.given)
+    frame.cells.items (drop frame.next (plan_of definitions frame.number)) e
 
 -- what those of all that wait add, the last first
 abbrev pub all_added : Vocabulary → List KeptDefinition → List Param → List Frame → Walk → Walk

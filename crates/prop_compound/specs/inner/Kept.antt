@@ -1,5 +1,7 @@
 -- What is kept beside each definition, and what is true of the definitions that are kept.
-use Rattle.std.specs.Prelude.{◌≡◌, ◌<◌, ℕ, ◌+◌, ◌==◌, min, List, [], ◌∷◌, ◌++◌, All, Option, true, false, cond, not, ◌||◌, length, reverse, slice_get, slice_index_or, sum_by, ⊤}
+use Rattle.std.specs.Prelude.{◌≡◌, ◌<◌, ℕ, ◌+◌, ◌==◌, min, List, [], ◌∷◌, ◌++◌, All, Option, true}
+use Rattle.std.specs.Prelude.{false, cond, not, ◌||◌, length, reverse, slice_get, slice_index_or}
+use Rattle.std.specs.Prelude.{sum_by, ⊤}
 use Rattle.std.specs.List.{list_any, flat_map}
 use Rattle.std.specs.Option.{option_map_or}
 use Rattle.prop_refusals.specs.Refusals.{most}
@@ -39,10 +41,12 @@ abbrev pub instances_of : (ℕ → ℕ) → NumberedStep → ℕ
 instances_of count (Use used cells passing) = instances_used count used
 instances_of count step = 0
 
--- how many of them a definition stands for by its number, the definitions being listed from the latest on
+-- how many of them a definition stands for by its number, the definitions being listed from the
+-- latest on
 abbrev pub total_in : ((ℕ → ℕ) → NumberedStep → ℕ) → List Definition → ℕ → ℕ
 total_in of [] n = 0
-total_in of (d ∷ earlier) n = cond (n == length earlier) (sum_by (of (total_in of earlier)) d.steps) (total_in of earlier n)
+total_in of (d ∷ earlier) n = cond (n == length earlier) (sum_by (of (total_in of earlier)) d.steps)
+    (total_in of earlier n)
 
 -- the same, listed in order
 abbrev pub total_of : ((ℕ → ℕ) → NumberedStep → ℕ) → List Definition → ℕ → ℕ
@@ -68,7 +72,8 @@ AreInScope n (step ∷ steps) = IsInScope n step × AreInScope (n + places_made 
 
 -- ---- uses
 
--- the step uses a procedure on one cell at least, or a definition with a number below n on as many cells as it wants, or nothing
+-- the step uses a procedure on one cell at least, or a definition with a number below n on as many
+-- cells as it wants, or nothing
 abbrev pub IsUseBelow : List Definition → ℕ → NumberedStep → Type 0
 IsUseBelow definitions n (Use (uses.Procedure m) cells passing) = 0 < length cells
 IsUseBelow definitions n (Use (uses.Definition m) cells passing) =
@@ -77,15 +82,18 @@ IsUseBelow definitions n step = ⊤
 
 -- ---- what is kept
 
--- The n-th of the definitions: its steps name places that are there and use earlier definitions, its plan does so too and makes the same
--- cells and instances, and what is kept beside it is right, numbers up to one past their limit.
+-- The n-th of the definitions: its steps name places that are there and use earlier definitions,
+-- its plan does so too and makes the same cells and instances, and what is kept beside it is right,
+-- numbers up to one past their limit.
 pub record IsKept (definitions : List Definition) (n : ℕ) (k : KeptDefinition) : Type 0 where
   pub in_scope : AreInScope k.params k.steps.items
   pub uses : All (IsUseBelow definitions n) k.steps.items
   pub plan_in_scope : AreInScope k.params k.plan.items
   pub plan_uses : All (IsUseBelow definitions n) k.plan.items
-  pub same : (words : Vocabulary) (cells : List ℕ) (given : Option Param) (e : Walk) → length cells ≡ k.params →
-      steps_in (param_passed words) definitions given cells k.plan.items e ≡ steps_in (param_passed words) definitions given cells k.steps.items e
+  pub same : (words : Vocabulary) (cells : List ℕ) (given : Option Param) (e : Walk)
+      → length cells ≡ k.params →
+      steps_in (param_passed words) definitions given cells k.plan.items e ≡ steps_in
+      (param_passed words) definitions given cells k.steps.items e
   pub spare_given : k.spare_given ≡ is_spare definitions n true
   pub spare_bare : k.spare_bare ≡ is_spare definitions n false
   pub fresh : k.fresh ≡ min (most Cells + 1) (total_of fresh_of definitions n)
@@ -93,21 +101,27 @@ pub record IsKept (definitions : List Definition) (n : ℕ) (k : KeptDefinition)
 
 -- each of them is kept so
 abbrev pub AreKept : List KeptDefinition → Type 0
-AreKept definitions = (n : ℕ) (d : KeptDefinition) → n < length definitions → IsKept (all_bare definitions) n (slice_index_or definitions n d)
+AreKept definitions = (n : ℕ) (d : KeptDefinition) → n < length definitions
+    → IsKept (all_bare definitions) n (slice_index_or definitions n d)
 
 -- it is kept so as one more behind the definitions
 abbrev pub IsKeptNext : List Definition → KeptDefinition → Type 0
 IsKeptNext definitions k = IsKept (definitions ++ bare k ∷ []) (length definitions) k
 
 -- what is kept for a use of so many cells and these steps, behind the definitions
-pub record IsCounted (definitions : List KeptDefinition) (count : ℕ) (items : List NumberedStep) (k : KeptDefinition) : Type 0 where
+pub record IsCounted (definitions : List KeptDefinition) (count : ℕ) (items : List NumberedStep)
+    (k : KeptDefinition) : Type 0 where
   pub params : k.params ≡ count
   pub steps : k.steps.items ≡ items
   pub plan : k.plan.items ≡ flat_map (shortened definitions) items
-  pub spare_given : k.spare_given ≡ (not (list_any is_passing_on items) || list_any (spare_of (is_spare (all_bare definitions)) true) items)
+  pub spare_given : k.spare_given
+      ≡ (not (list_any is_passing_on items) || list_any
+      (spare_of (is_spare (all_bare definitions)) true) items)
   pub spare_bare : k.spare_bare ≡ list_any (spare_of (is_spare (all_bare definitions)) false) items
-  pub fresh : k.fresh ≡ min (most Cells + 1) (sum_by (fresh_of (total_of fresh_of (all_bare definitions))) items)
-  pub instances : k.instances ≡ min (most Instances + 1) (sum_by (instances_of (total_of instances_of (all_bare definitions))) items)
+  pub fresh : k.fresh ≡ min (most Cells + 1)
+      (sum_by (fresh_of (total_of fresh_of (all_bare definitions))) items)
+  pub instances : k.instances ≡ min (most Instances + 1)
+      (sum_by (instances_of (total_of instances_of (all_bare definitions))) items)
 
 -- the procedure or definition is one of so many
 abbrev pub IsThere : ℕ → ℕ → Used → Type 0

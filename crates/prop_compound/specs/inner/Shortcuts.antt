@@ -10,10 +10,12 @@ use Rattle.prop_compound.specs.declared.definition.NumberedStep.TheVariants.{Use
 use Rattle.prop_compound.specs.Expansion.{cells_at}
 use Rattle.prop_compound.specs.Shortcuts.{passed}
 
--- What is short for a use of what has the plan: nothing where the plan makes nothing, and what a single use in the plan is of.
+-- What is short for a use of what has the plan: nothing where the plan makes nothing, and what a
+-- single use in the plan is of.
 abbrev pub through : List NumberedStep → Used → List ℕ → Passing → List NumberedStep
 through [] used places passing = []
-through (Use inner chosen own ∷ []) used places passing = Use inner (cells_at places chosen) (passed passing own) ∷ []
+through (Use inner chosen own ∷ []) used places passing =
+    Use inner (cells_at places chosen) (passed passing own) ∷ []
 through plan used places passing = Use used places passing ∷ []
 
 abbrev pub plan_of : List KeptDefinition → ℕ → List NumberedStep

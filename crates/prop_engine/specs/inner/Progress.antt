@@ -6,8 +6,10 @@ use Rattle.prop_engine.specs.inner.Lines.{IsWithoutFeed}
 use Rattle.prop_engine.specs.Answers.{Answer, text_written, is_refusal}
 use Rattle.prop_engine.specs.Transcripts.{Machine, Run, WriteStopped}
 
--- The lines that have ended were carried out and answered. kept is the prefix of the line that has not ended.
-pub record Progress {S : Type 0} (machine : Machine S) (old : S) (input kept output : List ℕ) (counts : Counts) (now : S) : Type 0 where
+-- The lines that have ended were carried out and answered. kept is the prefix of the line that has
+-- not ended.
+pub record Progress {S : Type 0} (machine : Machine S) (old : S) (input kept output : List ℕ)
+    (counts : Counts) (now : S) : Type 0 where
   pub lines : List (List ℕ)
   pub part : List ℕ
   pub answers : List Answer
@@ -35,7 +37,8 @@ pub record GrowsAtMost (old new : Counts) (n : ℕ) : Type 0 where
   pub refused : new.refused ≤ old.refused + n
 
 -- what a piece of the input does wherever it comes: the session goes on, and output is written
-abbrev pub Advances : {S : Type 0} → Machine S → S → List ℕ → Counts → List ℕ → List ℕ → S → List ℕ → Counts → Type 0
+abbrev pub Advances : {S : Type 0} → Machine S → S → List ℕ → Counts → List ℕ → List ℕ → S → List ℕ
+    → Counts → Type 0
 Advances {S = S} machine now kept counts piece output now' kept' counts' =
     (old : S) (input before : List ℕ) → Progress machine old input kept before counts now
     → Progress machine old (input ++ piece) kept' (before ++ output) counts' now'

@@ -12,9 +12,11 @@ pub record IsReady (library : List Stored) (d : Data) (agenda : Waiting) : Type 
   pub room : length d.instances ≤ agenda.room
   pub cells : length d.kinds ≤ agenda.cells
 
--- nothing but what the cells hold and what waits or is watched has changed, and the network is as ready as before
-pub record StaysReady (library : List Stored) (old new : Data) (before after : Waiting) : Type 0 where
-  pub rest : new ≡ record old { contents = new.contents }
-  pub ready : IsReady library new after
-  pub room : after.room ≡ before.room
-  pub cells : after.cells ≡ before.cells
+-- nothing but what the cells hold and what waits or is watched has changed, and the network is as
+-- ready as before
+pub record StaysReady (library : List Stored) (old new : Data) (before after : Waiting) : Type 0
+  where
+    pub rest : new ≡ record old { contents = new.contents }
+    pub ready : IsReady library new after
+    pub room : after.room ≡ before.room
+    pub cells : after.cells ≡ before.cells

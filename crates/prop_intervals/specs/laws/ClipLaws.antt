@@ -15,11 +15,13 @@ use Rattle.prop_intervals.specs.Clip.{clip}
 -- ---- spans from their ends
 
 -- closer ends say more
-pub span_from_below : (lo hi lo' hi' : ℤ) → lo ≤ℤ lo' → hi' ≤ℤ hi → neg_ℤ B ≤ℤ lo → hi ≤ℤ B → Below (span_from lo hi) (span_from lo' hi')
+pub span_from_below : (lo hi lo' hi' : ℤ) → lo ≤ℤ lo' → hi' ≤ℤ hi → neg_ℤ B ≤ℤ lo → hi ≤ℤ B
+    → Below (span_from lo hi) (span_from lo' hi')
 unfolding span_from
 span_from_below lo hi lo' hi' p q above below = by (ends_or_not lo hi) (ends_or_not lo' hi')
   where
-    by : (d : AreEnds lo hi ⊎ ¬ (AreEnds lo hi)) (e : AreEnds lo' hi' ⊎ ¬ (AreEnds lo' hi')) → Below (span_if lo hi d) (span_if lo' hi' e)
+    by : (d : AreEnds lo hi ⊎ ¬ (AreEnds lo hi)) (e : AreEnds lo' hi' ⊎ ¬ (AreEnds lo' hi'))
+        → Below (span_if lo hi d) (span_if lo' hi' e)
     by (inl d) (inl e) = (p, q)
     by (inl d) (inr f) = tt
     by (inr f) (inl e) = absurd (f (above, omega (arith, ints), below))
@@ -33,7 +35,8 @@ span_from_of_span size lo hi = by (ends_or_not lo hi)
     by (inl d) = tt
     by (inr f) = tt
 
-pub span_from_holds : (lo hi v : ℤ) → lo ≤ℤ v → v ≤ℤ hi → neg_ℤ B ≤ℤ lo → hi ≤ℤ B → Holds (span_from lo hi) (Number v)
+pub span_from_holds : (lo hi v : ℤ) → lo ≤ℤ v → v ≤ℤ hi → neg_ℤ B ≤ℤ lo → hi ≤ℤ B
+    → Holds (span_from lo hi) (Number v)
 unfolding span_from
 span_from_holds lo hi v p q above below = by (ends_or_not lo hi)
   where
@@ -43,12 +46,15 @@ span_from_holds lo hi v p q above below = by (ends_or_not lo hi)
 
 -- ---- clipping
 
-pub clip_is : (lo hi lo' hi' : ℤ) (r : Info) → r ≡ clip lo hi → lo ≡ lo' → hi ≡ hi' → r ≡ clip lo' hi'
+pub clip_is : (lo hi lo' hi' : ℤ) (r : Info) → r ≡ clip lo hi → lo ≡ lo' → hi ≡ hi'
+    → r ≡ clip lo' hi'
 clip_is lo hi lo' hi' r e p q = e ∙ (λ i. clip (p i) (q i))
 
 pub clip_below : (lo hi lo' hi' : ℤ) → lo ≤ℤ lo' → hi' ≤ℤ hi → Below (clip lo hi) (clip lo' hi')
 unfolding clip
-clip_below lo hi lo' hi' p q = span_from_below _ _ _ _ (max_le lo lo' (neg_ℤ B) p) (min_le hi' hi B q) (omega (arith, ints, clamps)) (omega (arith, ints, clamps))
+clip_below lo hi lo' hi' p q =
+    span_from_below _ _ _ _ (max_le lo lo' (neg_ℤ B) p) (min_le hi' hi B q)
+    (omega (arith, ints, clamps)) (omega (arith, ints, clamps))
   where
     max_le : (a b c : ℤ) → a ≤ℤ b → int_max a c ≤ℤ int_max b c
     max_le a b c h = omega (arith, ints, clamps)
@@ -60,6 +66,9 @@ pub clip_of_span : (size : ℕ) (lo hi : ℤ) → IsOf kinds.Span size (clip lo 
 unfolding clip
 clip_of_span size lo hi = span_from_of_span size _ _
 
-pub clip_holds : (lo hi v : ℤ) → lo ≤ℤ v → v ≤ℤ hi → neg_ℤ B ≤ℤ v → v ≤ℤ B → Holds (clip lo hi) (Number v)
+pub clip_holds : (lo hi v : ℤ) → lo ≤ℤ v → v ≤ℤ hi → neg_ℤ B ≤ℤ v → v ≤ℤ B
+    → Holds (clip lo hi) (Number v)
 unfolding clip
-clip_holds lo hi v p q l h = span_from_holds (int_max lo (neg_ℤ B)) (int_min hi B) v (omega (arith, ints, clamps)) (omega (arith, ints, clamps)) (omega (arith, ints, clamps)) (omega (arith, ints, clamps))
+clip_holds lo hi v p q l h = span_from_holds (int_max lo (neg_ℤ B)) (int_min hi B) v
+    (omega (arith, ints, clamps)) (omega (arith, ints, clamps)) (omega (arith, ints, clamps))
+    (omega (arith, ints, clamps))

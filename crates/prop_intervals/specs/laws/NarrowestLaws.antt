@@ -9,23 +9,27 @@ use Rattle.prop_lattice.proofs.EndLemmas.{span_from-none}
 use Rattle.prop_lattice.specs.Order.{Below}
 use Rattle.prop_lattice.specs.laws.OrderLaws.{to_top}
 use Rattle.prop_lattice.specs.declared.info.Info.{Info}
-use Rattle.prop_lattice.specs.declared.info.Info.TheVariants.{Nothing, Span, Set, Sym, Contradiction}
+use Rattle.prop_lattice.specs.declared.info.Info.TheVariants.{Nothing, Span, Set, Sym}
+use Rattle.prop_lattice.specs.declared.info.Info.TheVariants.{Contradiction}
 use Rattle.prop_intervals.specs.Clip.{clip}
 use Rattle.prop_intervals.specs.Narrowest.{IsNarrowest}
 
 -- of fewer numbers the narrowest is no lower
-pub narrowest_below : (P Q : ℤ → Type 0) (a b : Info) → IsNarrowest P a → IsNarrowest Q b → ((v : ℤ) → Q v → P v) → Below a b
+pub narrowest_below : (P Q : ℤ → Type 0) (a b : Info) → IsNarrowest P a → IsNarrowest Q b
+    → ((v : ℤ) → Q v → P v) → Below a b
 narrowest_below P Q a b p q h = q.highest a (λ v x. p.holds v (h v x))
 
 -- the same numbers have the same narrowest
-pub narrowest_same : (P Q : ℤ → Type 0) (a : Info) → IsNarrowest P a → ((v : ℤ) → Q v → P v) → ((v : ℤ) → P v → Q v) → IsNarrowest Q a
+pub narrowest_same : (P Q : ℤ → Type 0) (a : Info) → IsNarrowest P a → ((v : ℤ) → Q v → P v)
+    → ((v : ℤ) → P v → Q v) → IsNarrowest Q a
 narrowest_same P Q a p h k = record {
   holds = λ v x. p.holds v (h v x);
   highest = λ s f. p.highest s (λ v x. f v (k v x));
 }
 
 -- a span whose ends are among the numbers
-pub span_narrowest : (P : ℤ → Type 0) (lo hi : ℤ) → neg_ℤ B ≤ℤ lo → hi ≤ℤ B → P lo → P hi → ((v : ℤ) → P v → (lo ≤ℤ v) × (v ≤ℤ hi)) → IsNarrowest P (span_from lo hi)
+pub span_narrowest : (P : ℤ → Type 0) (lo hi : ℤ) → neg_ℤ B ≤ℤ lo → hi ≤ℤ B → P lo → P hi
+    → ((v : ℤ) → P v → (lo ≤ℤ v) × (v ≤ℤ hi)) → IsNarrowest P (span_from lo hi)
 unfolding span_from
 span_narrowest P lo hi above below first last between = by (ends_or_not lo hi)
   where
@@ -43,13 +47,19 @@ span_narrowest P lo hi above below first last between = by (ends_or_not lo hi)
     by (inr f) = absurd (f (above, (between hi last).0, below))
 
 -- no numbers
-pub none_narrowest : (P : ℤ → Type 0) (lo hi : ℤ) → ¬ (AreEnds lo hi) → ((v : ℤ) → ¬ (P v)) → IsNarrowest P (span_from lo hi)
-none_narrowest P lo hi f none = subst (IsNarrowest P) (sym (span_from-none lo hi f)) (record { holds = λ v x. absurd (none v x); highest = λ s h. to_top s })
+pub none_narrowest : (P : ℤ → Type 0) (lo hi : ℤ) → ¬ (AreEnds lo hi) → ((v : ℤ) → ¬ (P v))
+    → IsNarrowest P (span_from lo hi)
+none_narrowest P lo hi f none =
+    subst (IsNarrowest P) (sym (span_from-none lo hi f))
+    (record { holds = λ v x. absurd (none v x); highest = λ s h. to_top s })
 
 -- a span that needs no cutting off
-pub clip_narrowest : (P : ℤ → Type 0) (lo hi : ℤ) → neg_ℤ B ≤ℤ lo → hi ≤ℤ B → P lo → P hi → ((v : ℤ) → P v → (lo ≤ℤ v) × (v ≤ℤ hi)) → IsNarrowest P (clip lo hi)
+pub clip_narrowest : (P : ℤ → Type 0) (lo hi : ℤ) → neg_ℤ B ≤ℤ lo → hi ≤ℤ B → P lo → P hi
+    → ((v : ℤ) → P v → (lo ≤ℤ v) × (v ≤ℤ hi)) → IsNarrowest P (clip lo hi)
 unfolding clip
-clip_narrowest P lo hi above below first last between = subst (IsNarrowest P) (λ i. span_from (max_same i) (min_same i)) (span_narrowest P lo hi above below first last between)
+clip_narrowest P lo hi above below first last between =
+    subst (IsNarrowest P) (λ i. span_from (max_same i) (min_same i))
+    (span_narrowest P lo hi above below first last between)
   where
     max_same : lo ≡ int_max lo (neg_ℤ B)
     max_same = omega (arith, ints, clamps)

@@ -1,5 +1,6 @@
 -- What is known of rounded square roots.
-use Rattle.std.specs.Prelude.{◌≡◌, ℕ, ◌+◌, ◌*◌, ◌<◌, ◌≤◌, ℤ, pos, neg_ℤ, ◌*ℤ◌, ◌≤ℤ◌, nat_le, Bool, true, false, if◌then◌else◌, unsigned_abs}
+use Rattle.std.specs.Prelude.{◌≡◌, ℕ, ◌+◌, ◌*◌, ◌<◌, ◌≤◌, ℤ, pos, neg_ℤ, ◌*ℤ◌, ◌≤ℤ◌, nat_le, Bool}
+use Rattle.std.specs.Prelude.{true, false, if◌then◌else◌, unsigned_abs}
 use Rattle.std.proofs.Common.{arith, refl, inl, inr, zero, suc, negsuc}
 use Rattle.std.proofs.lemmas.Int.{ints}
 use Rattle.std.proofs.lemmas.Nat.{mul-le}
@@ -20,30 +21,49 @@ use Rattle.prop_lattice.specs.declared.info.Kind.TheVariants as kinds
 use Rattle.prop_intervals.specs.laws.ClipLaws.{span_from_of_span}
 use Rattle.prop_intervals.specs.Relations.{IsSquare}
 use Rattle.prop_intervals.specs.Narrowest.{IsNarrowest}
-use Rattle.prop_intervals.specs.laws.NarrowestLaws.{narrowest_below, narrowest_same, span_narrowest, none_narrowest}
-use Rattle.prop_intervals.specs.Roots.{root_floor, least_root, greatest_root, first_of, last_of, IsRoot, span_at_distance, root_of}
+use Rattle.prop_intervals.specs.laws.NarrowestLaws.{narrowest_below, narrowest_same, span_narrowest}
+use Rattle.prop_intervals.specs.laws.NarrowestLaws.{none_narrowest}
+use Rattle.prop_intervals.specs.Roots.{root_floor, least_root, greatest_root, first_of, last_of}
+use Rattle.prop_intervals.specs.Roots.{IsRoot, span_at_distance, root_of}
 
 -- its square and the next one lie on both sides of n, and it is no larger than n
-pub root_floor-parts : (n : ℕ) → (root_floor n * root_floor n ≤ n) × (n < suc (root_floor n) * suc (root_floor n)) × (root_floor n ≤ n)
+pub root_floor-parts : (n : ℕ)
+    → (root_floor n * root_floor n ≤ n) × (n < suc (root_floor n) * suc (root_floor n))
+    × (root_floor n ≤ n)
 unfolding root_floor
 root_floor-parts zero = (omega arith, omega arith, omega arith)
-root_floor-parts (suc n) = by (nat_le (suc (root_floor n) * suc (root_floor n)) (suc n)) refl (root_floor-parts n)
+root_floor-parts (suc n) = by (nat_le (suc (root_floor n) * suc (root_floor n)) (suc n)) refl
+    (root_floor-parts n)
   where
-    by : (t : Bool) → nat_le (suc (root_floor n) * suc (root_floor n)) (suc n) ≡ t → (root_floor n * root_floor n ≤ n) × (n < suc (root_floor n) * suc (root_floor n)) × (root_floor n ≤ n) →
-        ((if t then suc (root_floor n) else root_floor n) * (if t then suc (root_floor n) else root_floor n) ≤ suc n) × (suc n < suc (if t then suc (root_floor n) else root_floor n) * suc (if t then suc (root_floor n) else root_floor n)) × ((if t then suc (root_floor n) else root_floor n) ≤ suc n)
+    by : (t : Bool) → nat_le (suc (root_floor n) * suc (root_floor n)) (suc n) ≡ t
+        → (root_floor n * root_floor n ≤ n) × (n < suc (root_floor n) * suc (root_floor n))
+        × (root_floor n ≤ n) →
+        ((if t then suc (root_floor n) else root_floor n)
+        * (if t then suc (root_floor n) else root_floor n) ≤ suc n)
+        × (suc n < suc (if t then suc (root_floor n) else root_floor n) * suc
+        (if t then suc (root_floor n) else root_floor n))
+        × ((if t then suc (root_floor n) else root_floor n) ≤ suc n)
     by true e h = (grind (arith, nat_tests), omega arith, omega arith)
     by false e h = (omega arith, grind (arith, nat_tests), omega arith)
 
 pub root_floor-least : (n v : ℕ) → v * v ≤ n → v ≤ root_floor n
 root_floor-least n v h = elim (cases_lt (root_floor n) v) [
-  | inl l ↦ absurd (omega (arith, (root_floor-parts n).1, mul-le (suc (root_floor n)) (suc (root_floor n)) v v l l))
+  | inl l ↦ absurd (omega (
+    arith,
+    (root_floor-parts n).1,
+    mul-le (suc (root_floor n)) (suc (root_floor n)) v v l l,
+  ))
   | inr g ↦ g
 ]
 
 -- the number with these squares on both sides is the root
 pub root_floor-is : (n r : ℕ) → r * r ≤ n → n < (r + 1) * (r + 1) → r ≡ root_floor n
 root_floor-is n r h k = elim (cases_lt r (root_floor n)) [
-  | inl l ↦ absurd (omega (arith, (root_floor-parts n).0, mul-le (suc r) (suc r) (root_floor n) (root_floor n) l l))
+  | inl l ↦ absurd (omega (
+    arith,
+    (root_floor-parts n).0,
+    mul-le (suc r) (suc r) (root_floor n) (root_floor n) l l,
+  ))
   | inr g ↦ omega (arith, root_floor-least n r h)
 ]
 
@@ -57,17 +77,29 @@ unfolding least_root
 least_root-from (pos zero) v h = omega arith
 least_root-from (pos (suc n)) v h = over (rw (square_is v) at h)
   where
-    over : pos (suc n) ≤ℤ pos (unsigned_abs v * unsigned_abs v) → suc (root_floor n) ≤ unsigned_abs v
+    over : pos (suc n) ≤ℤ pos (unsigned_abs v * unsigned_abs v)
+        → suc (root_floor n) ≤ unsigned_abs v
     over g = elim (cases_lt (root_floor n) (unsigned_abs v)) [
       | inl l ↦ omega arith
-      | inr k ↦ absurd (omega (arith, ints, (root_floor-parts n).0, mul-le (unsigned_abs v) (unsigned_abs v) (root_floor n) (root_floor n) k k))
+      | inr k ↦ absurd (omega (
+        arith,
+        ints,
+        (root_floor-parts n).0,
+        mul-le (unsigned_abs v) (unsigned_abs v) (root_floor n) (root_floor n) k k,
+      ))
     ]
 least_root-from (negsuc n) v h = omega arith
 
 pub least_root-to : (m v : ℤ) → least_root m ≤ unsigned_abs v → m ≤ℤ (v *ℤ v)
 unfolding least_root
 least_root-to (pos zero) v h = rw (square_is v) (omega (arith, ints))
-least_root-to (pos (suc n)) v h = rw (square_is v) (omega (arith, ints, (root_floor-parts n).1, mul-le (suc (root_floor n)) (suc (root_floor n)) (unsigned_abs v) (unsigned_abs v) h h))
+least_root-to (pos (suc n)) v h =
+    rw (square_is v) (omega (
+      arith,
+      ints,
+      (root_floor-parts n).1,
+      mul-le (suc (root_floor n)) (suc (root_floor n)) (unsigned_abs v) (unsigned_abs v) h h,
+    ))
 least_root-to (negsuc n) v h = rw (square_is v) (omega (arith, ints))
 
 -- a square is at most m, not below 0, exactly up to the greatest root
@@ -84,7 +116,13 @@ greatest_root-from (negsuc n) v h = absurd (below (rw (square_is v) at h))
 
 pub greatest_root-to : (m v : ℤ) → pos 0 ≤ℤ m → unsigned_abs v ≤ greatest_root m → (v *ℤ v) ≤ℤ m
 unfolding greatest_root
-greatest_root-to (pos n) v p h = rw (square_is v) (omega (arith, ints, (root_floor-parts n).0, mul-le (unsigned_abs v) (unsigned_abs v) (root_floor n) (root_floor n) h h))
+greatest_root-to (pos n) v p h =
+    rw (square_is v) (omega (
+      arith,
+      ints,
+      (root_floor-parts n).0,
+      mul-le (unsigned_abs v) (unsigned_abs v) (root_floor n) (root_floor n) h h,
+    ))
 greatest_root-to (negsuc n) v p h = absurd (omega (arith, ints))
 
 -- ---- spans of roots
@@ -93,16 +131,59 @@ greatest_root-to (negsuc n) v p h = absurd (omega (arith, ints))
 abbrev pub IsAtDistance : ℕ → ℕ → ℤ → ℤ → ℤ → Type 0
 IsAtDistance l g lo hi v = (lo ≤ℤ v) × (v ≤ℤ hi) × (l ≤ unsigned_abs v) × (unsigned_abs v ≤ g)
 
-pub span_at_distance-narrowest : (l g : ℕ) (lo hi : ℤ) → neg_ℤ B ≤ℤ lo → hi ≤ℤ B → IsNarrowest (IsAtDistance l g lo hi) (span_at_distance (pos l) (pos g) lo hi)
+pub span_at_distance-narrowest : (l g : ℕ) (lo hi : ℤ) → neg_ℤ B ≤ℤ lo → hi ≤ℤ B
+    → IsNarrowest (IsAtDistance l g lo hi) (span_at_distance (pos l) (pos g) lo hi)
 span_at_distance-narrowest l g lo hi above below =
-    by (int_le (int_max lo (neg_ℤ (pos g))) (int_min hi (neg_ℤ (pos l)))) refl (int_le (int_max lo (pos l)) (int_min hi (pos g))) refl
+    by (int_le (int_max lo (neg_ℤ (pos g))) (int_min hi (neg_ℤ (pos l)))) refl
+    (int_le (int_max lo (pos l)) (int_min hi (pos g))) refl
   where
-    by : (s : Bool) → int_le (int_max lo (neg_ℤ (pos g))) (int_min hi (neg_ℤ (pos l))) ≡ s → (t : Bool) → int_le (int_max lo (pos l)) (int_min hi (pos g)) ≡ t →
-        IsNarrowest (IsAtDistance l g lo hi) (span_from (if s then int_max lo (neg_ℤ (pos g)) else int_max lo (pos l)) (if t then int_min hi (pos g) else int_min hi (neg_ℤ (pos l))))
-    by true e true f = span_narrowest (IsAtDistance l g lo hi) (int_max lo (neg_ℤ (pos g))) (int_min hi (pos g)) (omega (arith, ints, clamps)) (omega (arith, ints, clamps)) (omega (arith, ints, clamps), omega (arith, ints, clamps), omega (arith, ints, clamps), omega (arith, ints, clamps)) (omega (arith, ints, clamps), omega (arith, ints, clamps), omega (arith, ints, clamps), omega (arith, ints, clamps)) (λ v p. (omega (arith, ints, clamps), omega (arith, ints, clamps)))
-    by true e false f = span_narrowest (IsAtDistance l g lo hi) (int_max lo (neg_ℤ (pos g))) (int_min hi (neg_ℤ (pos l))) (omega (arith, ints, clamps)) (omega (arith, ints, clamps)) (omega (arith, ints, clamps), omega (arith, ints, clamps), omega (arith, ints, clamps), omega (arith, ints, clamps)) (omega (arith, ints, clamps), omega (arith, ints, clamps), omega (arith, ints, clamps), omega (arith, ints, clamps)) (λ v p. (omega (arith, ints, clamps), omega (arith, ints, clamps)))
-    by false e true f = span_narrowest (IsAtDistance l g lo hi) (int_max lo (pos l)) (int_min hi (pos g)) (omega (arith, ints, clamps)) (omega (arith, ints, clamps)) (omega (arith, ints, clamps), omega (arith, ints, clamps), omega (arith, ints, clamps), omega (arith, ints, clamps)) (omega (arith, ints, clamps), omega (arith, ints, clamps), omega (arith, ints, clamps), omega (arith, ints, clamps)) (λ v p. (omega (arith, ints, clamps), omega (arith, ints, clamps)))
-    by false e false f = none_narrowest (IsAtDistance l g lo hi) (int_max lo (pos l)) (int_min hi (neg_ℤ (pos l))) (λ h. omega (arith, ints, clamps)) (λ v p. omega (arith, ints, clamps))
+    by : (s : Bool) → int_le (int_max lo (neg_ℤ (pos g))) (int_min hi (neg_ℤ (pos l))) ≡ s
+        → (t : Bool) → int_le (int_max lo (pos l)) (int_min hi (pos g)) ≡ t →
+        IsNarrowest (IsAtDistance l g lo hi)
+        (span_from (if s then int_max lo (neg_ℤ (pos g)) else int_max lo (pos l))
+        (if t then int_min hi (pos g) else int_min hi (neg_ℤ (pos l))))
+    by true e true f = span_narrowest (IsAtDistance l g lo hi) (int_max lo (neg_ℤ (pos g)))
+        (int_min hi (pos g)) (omega (arith, ints, clamps)) (omega (arith, ints, clamps)) (
+          omega (arith, ints, clamps),
+          omega (arith, ints, clamps),
+          omega (arith, ints, clamps),
+          omega (arith, ints, clamps),
+        ) (
+          omega (arith, ints, clamps),
+          omega (arith, ints, clamps),
+          omega (arith, ints, clamps),
+          omega (arith, ints, clamps),
+        )
+        (λ v p. (omega (arith, ints, clamps), omega (arith, ints, clamps)))
+    by true e false f = span_narrowest (IsAtDistance l g lo hi) (int_max lo (neg_ℤ (pos g)))
+        (int_min hi (neg_ℤ (pos l))) (omega (arith, ints, clamps)) (omega (arith, ints, clamps)) (
+          omega (arith, ints, clamps),
+          omega (arith, ints, clamps),
+          omega (arith, ints, clamps),
+          omega (arith, ints, clamps),
+        ) (
+          omega (arith, ints, clamps),
+          omega (arith, ints, clamps),
+          omega (arith, ints, clamps),
+          omega (arith, ints, clamps),
+        )
+        (λ v p. (omega (arith, ints, clamps), omega (arith, ints, clamps)))
+    by false e true f = span_narrowest (IsAtDistance l g lo hi) (int_max lo (pos l))
+        (int_min hi (pos g)) (omega (arith, ints, clamps)) (omega (arith, ints, clamps)) (
+          omega (arith, ints, clamps),
+          omega (arith, ints, clamps),
+          omega (arith, ints, clamps),
+          omega (arith, ints, clamps),
+        ) (
+          omega (arith, ints, clamps),
+          omega (arith, ints, clamps),
+          omega (arith, ints, clamps),
+          omega (arith, ints, clamps),
+        )
+        (λ v p. (omega (arith, ints, clamps), omega (arith, ints, clamps)))
+    by false e false f = none_narrowest (IsAtDistance l g lo hi) (int_max lo (pos l))
+        (int_min hi (neg_ℤ (pos l))) (λ h. omega (arith, ints, clamps))
+        (λ v p. omega (arith, ints, clamps))
 
 pub first_in : (x : Option spans.Span) → neg_ℤ B ≤ℤ first_of x
 first_in None = omega (arith, ints)
@@ -112,10 +193,13 @@ pub last_in : (x : Option spans.Span) → last_of x ≤ℤ B
 last_in None = omega (arith, ints)
 last_in (Some x) = x.below
 
-pub root_of-narrowest : (y : spans.Span) (x : Option spans.Span) → IsNarrowest (IsRoot y x) (root_of y x)
+pub root_of-narrowest : (y : spans.Span) (x : Option spans.Span)
+    → IsNarrowest (IsRoot y x) (root_of y x)
 root_of-narrowest y x = by (int_lt y.hi (pos 0)) refl
   where
-    by : (t : Bool) → int_lt y.hi (pos 0) ≡ t → IsNarrowest (IsRoot y x) (if t then Contradiction else span_at_distance (pos (least_root y.lo)) (pos (greatest_root y.hi)) (first_of x) (last_of x))
+    by : (t : Bool) → int_lt y.hi (pos 0) ≡ t
+        → IsNarrowest (IsRoot y x) (if t then Contradiction else span_at_distance
+        (pos (least_root y.lo)) (pos (greatest_root y.hi)) (first_of x) (last_of x))
     by true e = record { holds = λ v r. below v r (square_is v); highest = λ s h. to_top s }
       where
         below : (v : ℤ) → IsRoot y x v → (v *ℤ v) ≡ pos (unsigned_abs v * unsigned_abs v) → ⊥
@@ -123,12 +207,29 @@ root_of-narrowest y x = by (int_lt y.hi (pos 0)) refl
           where
             under : (s : ℤ) (n : ℕ) → s ≤ℤ y.hi → s ≡ pos n → ⊥
             under s n h g = omega (arith, ints)
-    by false e = narrowest_same (IsAtDistance (least_root y.lo) (greatest_root y.hi) (first_of x) (last_of x)) (IsRoot y x) _ (span_at_distance-narrowest (least_root y.lo) (greatest_root y.hi) (first_of x) (last_of x) (first_in x) (last_in x)) (λ v r. (r.from, r.to, least_root-from y.lo v r.square_from, greatest_root-from y.hi v r.square_to)) (λ v d. record { from = d.0; to = d.1; square_from = least_root-to y.lo v d.2; square_to = greatest_root-to y.hi v (omega (arith, ints)) d.3 })
+    by false e = narrowest_same (IsAtDistance (least_root y.lo) (greatest_root y.hi) (first_of x)
+        (last_of x)) (IsRoot y x) _ (span_at_distance-narrowest (least_root y.lo)
+        (greatest_root y.hi) (first_of x) (last_of x) (first_in x) (last_in x))
+        (λ v r. (
+          r.from,
+          r.to,
+          least_root-from y.lo v r.square_from,
+          greatest_root-from y.hi v r.square_to,
+        ))
+        (λ v d. record {
+          from = d.0;
+          to = d.1;
+          square_from = least_root-to y.lo v d.2;
+          square_to = greatest_root-to y.hi v (omega (arith, ints)) d.3;
+        })
 
 -- ---- the laws of roots
 
-pub root_monotone : (y y' : spans.Span) (x x' : Option spans.Span) → Below (Span y) (Span y') → first_of x ≤ℤ first_of x' → last_of x' ≤ℤ last_of x → Below (root_of y x) (root_of y' x')
-root_monotone y y' x x' p q r = narrowest_below (IsRoot y x) (IsRoot y' x') (root_of y x) (root_of y' x') (root_of-narrowest y x) (root_of-narrowest y' x') wider
+pub root_monotone : (y y' : spans.Span) (x x' : Option spans.Span) → Below (Span y) (Span y')
+    → first_of x ≤ℤ first_of x' → last_of x' ≤ℤ last_of x → Below (root_of y x) (root_of y' x')
+root_monotone y y' x x' p q r =
+    narrowest_below (IsRoot y x) (IsRoot y' x') (root_of y x) (root_of y' x')
+    (root_of-narrowest y x) (root_of-narrowest y' x') wider
   where
     through : (a b c : ℤ) → a ≤ℤ b → b ≤ℤ c → a ≤ℤ c
     through a b c h k = omega (arith, ints)
@@ -141,12 +242,17 @@ root_monotone y y' x x' p q r = narrowest_below (IsRoot y x) (IsRoot y' x') (roo
       square_to = through (v *ℤ v) y'.hi y.hi h.square_to p.1;
     }
 
-pub root_kind : (size : ℕ) (y : spans.Span) (x : Option spans.Span) → IsOf kinds.Span size (root_of y x)
+pub root_kind : (size : ℕ) (y : spans.Span) (x : Option spans.Span)
+    → IsOf kinds.Span size (root_of y x)
 root_kind size y x = by (int_lt y.hi (pos 0))
   where
-    by : (t : Bool) → IsOf kinds.Span size (if t then Contradiction else span_at_distance (pos (least_root y.lo)) (pos (greatest_root y.hi)) (first_of x) (last_of x))
+    by : (t : Bool) → IsOf kinds.Span size
+        (if t then Contradiction else span_at_distance (pos (least_root y.lo))
+        (pos (greatest_root y.hi)) (first_of x) (last_of x))
     by true = tt
     by false = span_from_of_span size _ _
 
-pub root_sound : (y : spans.Span) (x : Option spans.Span) (w v : ℤ) → Holds (Span y) (Number w) → first_of x ≤ℤ v → v ≤ℤ last_of x → IsSquare v w → Holds (root_of y x) (Number v)
-root_sound y x w v h p q e = (root_of-narrowest y x).holds v (record { from = p; to = q; square_from = rw (← e) h.0; square_to = rw (← e) h.1 })
+pub root_sound : (y : spans.Span) (x : Option spans.Span) (w v : ℤ) → Holds (Span y) (Number w)
+    → first_of x ≤ℤ v → v ≤ℤ last_of x → IsSquare v w → Holds (root_of y x) (Number v)
+root_sound y x w v h p q e = (root_of-narrowest y x).holds v
+    (record { from = p; to = q; square_from = rw (← e) h.0; square_to = rw (← e) h.1 })

@@ -1,5 +1,6 @@
 -- What is known of squares of spans.
-use Rattle.std.specs.Prelude.{ℕ, ℤ, ◌≡◌, ◌⊎◌, pos, ◌*ℤ◌, ◌≤ℤ◌, ◌<ℤ◌, Bool, true, false, int_le, ◌&&◌, if◌then◌else◌}
+use Rattle.std.specs.Prelude.{ℕ, ℤ, ◌≡◌, ◌⊎◌, pos, ◌*ℤ◌, ◌≤ℤ◌, ◌<ℤ◌, Bool, true, false, int_le}
+use Rattle.std.specs.Prelude.{◌&&◌, if◌then◌else◌}
 use Rattle.std.specs.Int.{int_max, int_min}
 use Rattle.std.proofs.Common.{arith, inl, inr, refl, sym, ◌∙◌}
 use Rattle.std.proofs.lemmas.Int.{ints, clamps, by_lt_z}
@@ -24,7 +25,8 @@ use lib.IntN.{*ℤ_comm}
 pub zero_in : (x : spans.Span) → holds_zero x ≡ true → Holds (Span x) (Number (pos 0))
 zero_in x e = by (int_le x.lo (pos 0)) refl (int_le (pos 0) x.hi) refl
   where
-    by : (s : Bool) → int_le x.lo (pos 0) ≡ s → (t : Bool) → int_le (pos 0) x.hi ≡ t → Holds (Span x) (Number (pos 0))
+    by : (s : Bool) → int_le x.lo (pos 0) ≡ s → (t : Bool) → int_le (pos 0) x.hi ≡ t
+        → Holds (Span x) (Number (pos 0))
     by true f true g = (omega (arith, ints), omega (arith, ints))
     by true f false g = absurd (clash (sym (λ i. f i && g i) ∙ e))
       where
@@ -38,7 +40,8 @@ zero_in x e = by (int_le x.lo (pos 0)) refl (int_le (pos 0) x.hi) refl
 pub zero_out : (x : spans.Span) → holds_zero x ≡ false → (pos 0 <ℤ x.lo) ⊎ (x.hi <ℤ pos 0)
 zero_out x e = by (int_le x.lo (pos 0)) refl (int_le (pos 0) x.hi) refl
   where
-    by : (s : Bool) → int_le x.lo (pos 0) ≡ s → (t : Bool) → int_le (pos 0) x.hi ≡ t → (pos 0 <ℤ x.lo) ⊎ (x.hi <ℤ pos 0)
+    by : (s : Bool) → int_le x.lo (pos 0) ≡ s → (t : Bool) → int_le (pos 0) x.hi ≡ t
+        → (pos 0 <ℤ x.lo) ⊎ (x.hi <ℤ pos 0)
     by false f t g = inl (omega (arith, ints))
     by true f false g = inr (omega (arith, ints))
     by true f true g = absurd (clash (sym (λ i. f i && g i) ∙ e))
@@ -62,30 +65,38 @@ zero_from_out x l = by (holds_zero x) refl l
 
 -- above zero a square grows with its number
 square_up : (a b : ℤ) → pos 0 ≤ℤ a → a ≤ℤ b → (a *ℤ a) ≤ℤ (b *ℤ b)
-square_up a b p q = through (a *ℤ a) (b *ℤ a) (a *ℤ b) (b *ℤ b) (product-le a b a q p) (*ℤ_comm b a) (product-le a b b q (omega (arith, ints)))
+square_up a b p q = through (a *ℤ a) (b *ℤ a) (a *ℤ b) (b *ℤ b) (product-le a b a q p) (*ℤ_comm b a)
+    (product-le a b b q (omega (arith, ints)))
   where
     through : (s t u w : ℤ) → s ≤ℤ t → t ≡ u → u ≤ℤ w → s ≤ℤ w
     through s t u w h e i = omega (arith, ints)
 
 -- and below zero it falls
 square_down : (a b : ℤ) → a ≤ℤ b → b ≤ℤ pos 0 → (b *ℤ b) ≤ℤ (a *ℤ a)
-square_down a b p q = through (b *ℤ b) (a *ℤ b) (b *ℤ a) (a *ℤ a) (product-ge a b b p q) (*ℤ_comm a b) (product-ge a b a p (omega (arith, ints)))
+square_down a b p q = through (b *ℤ b) (a *ℤ b) (b *ℤ a) (a *ℤ a) (product-ge a b b p q)
+    (*ℤ_comm a b) (product-ge a b a p (omega (arith, ints)))
   where
     through : (s t u w : ℤ) → s ≤ℤ t → t ≡ u → u ≤ℤ w → s ≤ℤ w
     through s t u w h e i = omega (arith, ints)
 
 square_least : (v : ℤ) → pos 0 ≤ℤ (v *ℤ v)
-square_least v = by_lt_z v (pos 0) (λ l. square_down v (pos 0) (omega (arith, ints)) (omega (arith, ints))) (λ l. square_up (pos 0) v (omega (arith, ints)) l)
+square_least v = by_lt_z v (pos 0)
+    (λ l. square_down v (pos 0) (omega (arith, ints)) (omega (arith, ints)))
+    (λ l. square_up (pos 0) v (omega (arith, ints)) l)
 
 -- a square of a number of x lies between the least and the greatest
-pub square_within : (x : spans.Span) (v : ℤ) → Holds (Span x) (Number v) → (least_square x ≤ℤ (v *ℤ v)) × ((v *ℤ v) ≤ℤ greatest_square x)
+pub square_within : (x : spans.Span) (v : ℤ) → Holds (Span x) (Number v)
+    → (least_square x ≤ℤ (v *ℤ v)) × ((v *ℤ v) ≤ℤ greatest_square x)
 square_within x v h = (low (holds_zero x) refl, high)
   where
-    low : (t : Bool) → holds_zero x ≡ t → (if t then pos 0 else int_min (x.lo *ℤ x.lo) (x.hi *ℤ x.hi)) ≤ℤ (v *ℤ v)
+    low : (t : Bool) → holds_zero x ≡ t
+        → (if t then pos 0 else int_min (x.lo *ℤ x.lo) (x.hi *ℤ x.hi)) ≤ℤ (v *ℤ v)
     low true e = square_least v
     low false e = elim (zero_out x e) [
-      | inl l ↦ under_first (x.lo *ℤ x.lo) (x.hi *ℤ x.hi) (v *ℤ v) (square_up x.lo v (omega (arith, ints)) h.0)
-      | inr l ↦ under_last (x.lo *ℤ x.lo) (x.hi *ℤ x.hi) (v *ℤ v) (square_down v x.hi h.1 (omega (arith, ints)))
+      | inl l ↦ under_first (x.lo *ℤ x.lo) (x.hi *ℤ x.hi) (v *ℤ v)
+          (square_up x.lo v (omega (arith, ints)) h.0)
+      | inr l ↦ under_last (x.lo *ℤ x.lo) (x.hi *ℤ x.hi) (v *ℤ v)
+          (square_down v x.hi h.1 (omega (arith, ints)))
     ]
       where
         under_first : (a b w : ℤ) → a ≤ℤ w → int_min a b ≤ℤ w
@@ -101,14 +112,20 @@ square_within x v h = (low (holds_zero x) refl, high)
     over_last a b w h = omega (arith, ints, clamps)
 
     high : (v *ℤ v) ≤ℤ int_max (x.lo *ℤ x.lo) (x.hi *ℤ x.hi)
-    high = by_lt_z v (pos 0) (λ l. over_first (x.lo *ℤ x.lo) (x.hi *ℤ x.hi) (v *ℤ v) (square_down x.lo v h.0 (omega (arith, ints)))) (λ l. over_last (x.lo *ℤ x.lo) (x.hi *ℤ x.hi) (v *ℤ v) (square_up v x.hi l h.1))
+    high = by_lt_z v (pos 0) (λ l.
+        over_first (x.lo *ℤ x.lo) (x.hi *ℤ x.hi) (v *ℤ v)
+        (square_down x.lo v h.0 (omega (arith, ints))))
+        (λ l. over_last (x.lo *ℤ x.lo) (x.hi *ℤ x.hi) (v *ℤ v) (square_up v x.hi l h.1))
 
 least_square_reached : (x : spans.Span) → BelongsToOne IsSquare x (least_square x)
 least_square_reached x = by (holds_zero x) refl
   where
-    by : (t : Bool) → holds_zero x ≡ t → BelongsToOne IsSquare x (if t then pos 0 else int_min (x.lo *ℤ x.lo) (x.hi *ℤ x.hi))
+    by : (t : Bool) → holds_zero x ≡ t
+        → BelongsToOne IsSquare x (if t then pos 0 else int_min (x.lo *ℤ x.lo) (x.hi *ℤ x.hi))
     by true e = (pos 0, zero_in x e, refl)
-    by false e = by_lt_z (x.hi *ℤ x.hi) (x.lo *ℤ x.lo) (λ l. (x.hi, (x.ordered, omega (arith, ints)), last (x.lo *ℤ x.lo) (x.hi *ℤ x.hi) l)) (λ l. (x.lo, (omega (arith, ints), x.ordered), first (x.lo *ℤ x.lo) (x.hi *ℤ x.hi) l))
+    by false e = by_lt_z (x.hi *ℤ x.hi) (x.lo *ℤ x.lo)
+        (λ l. (x.hi, (x.ordered, omega (arith, ints)), last (x.lo *ℤ x.lo) (x.hi *ℤ x.hi) l))
+        (λ l. (x.lo, (omega (arith, ints), x.ordered), first (x.lo *ℤ x.lo) (x.hi *ℤ x.hi) l))
       where
         last : (a b : ℤ) → b <ℤ a → int_min a b ≡ b
         last a b l = omega (arith, ints, clamps)
@@ -117,7 +134,9 @@ least_square_reached x = by (holds_zero x) refl
         first a b l = omega (arith, ints, clamps)
 
 greatest_square_reached : (x : spans.Span) → BelongsToOne IsSquare x (greatest_square x)
-greatest_square_reached x = by_lt_z (x.hi *ℤ x.hi) (x.lo *ℤ x.lo) (λ l. (x.lo, (omega (arith, ints), x.ordered), first (x.lo *ℤ x.lo) (x.hi *ℤ x.hi) l)) (λ l. (x.hi, (x.ordered, omega (arith, ints)), last (x.lo *ℤ x.lo) (x.hi *ℤ x.hi) l))
+greatest_square_reached x = by_lt_z (x.hi *ℤ x.hi) (x.lo *ℤ x.lo)
+    (λ l. (x.lo, (omega (arith, ints), x.ordered), first (x.lo *ℤ x.lo) (x.hi *ℤ x.hi) l))
+    (λ l. (x.hi, (x.ordered, omega (arith, ints)), last (x.lo *ℤ x.lo) (x.hi *ℤ x.hi) l))
   where
     first : (a b : ℤ) → b <ℤ a → int_max a b ≡ a
     first a b l = omega (arith, ints, clamps)
@@ -125,11 +144,14 @@ greatest_square_reached x = by_lt_z (x.hi *ℤ x.hi) (x.lo *ℤ x.lo) (λ l. (x.
     last : (a b : ℤ) → a ≤ℤ b → int_max a b ≡ b
     last a b l = omega (arith, ints, clamps)
 
-pub square_monotone : (x x' : spans.Span) → Below (Span x) (Span x') → Below (square_of x) (square_of x')
+pub square_monotone : (x x' : spans.Span) → Below (Span x) (Span x')
+    → Below (square_of x) (square_of x')
 square_monotone x x' p =
     let least = least_square_reached x' in
     let greatest = greatest_square_reached x' in
-    clip_below (least_square x) (greatest_square x) (least_square x') (greatest_square x') (rw least.2 (square_within x least.0 (inside least.0 least.1)).0) (rw greatest.2 (square_within x greatest.0 (inside greatest.0 greatest.1)).1)
+    clip_below (least_square x) (greatest_square x) (least_square x') (greatest_square x')
+    (rw least.2 (square_within x least.0 (inside least.0 least.1)).0)
+    (rw greatest.2 (square_within x greatest.0 (inside greatest.0 greatest.1)).1)
   where
     inside : (v : ℤ) → Holds (Span x') (Number v) → Holds (Span x) (Number v)
     inside v h = (omega (arith, ints), omega (arith, ints))
@@ -137,10 +159,14 @@ square_monotone x x' p =
 pub square_kind : (size : ℕ) (x : spans.Span) → IsOf kinds.Span size (square_of x)
 square_kind size x = clip_of_span size (least_square x) (greatest_square x)
 
-pub square_sound : (x : spans.Span) (v w : ℤ) → Holds (Span x) (Number v) → IsInRange w → IsSquare v w → Holds (square_of x) (Number w)
+pub square_sound : (x : spans.Span) (v w : ℤ) → Holds (Span x) (Number v) → IsInRange w
+    → IsSquare v w → Holds (square_of x) (Number w)
 square_sound x v w p r e =
     let within = square_within x v p in
     clip_holds (least_square x) (greatest_square x) w (rw e within.0) (rw e within.1) r.0 r.1
 
-pub square_narrowest : (x : spans.Span) → AreEnds (least_square x) (greatest_square x) → IsNarrowest (BelongsToOne IsSquare x) (square_of x)
-square_narrowest x e = clip_narrowest (BelongsToOne IsSquare x) (least_square x) (greatest_square x) e.0 e.2 (least_square_reached x) (greatest_square_reached x) (λ w p. let within = square_within x p.0 p.1 in (rw p.2 within.0, rw p.2 within.1))
+pub square_narrowest : (x : spans.Span) → AreEnds (least_square x) (greatest_square x)
+    → IsNarrowest (BelongsToOne IsSquare x) (square_of x)
+square_narrowest x e = clip_narrowest (BelongsToOne IsSquare x) (least_square x) (greatest_square x)
+    e.0 e.2 (least_square_reached x) (greatest_square_reached x)
+    (λ w p. let within = square_within x p.0 p.1 in (rw p.2 within.0, rw p.2 within.1))

@@ -1,10 +1,12 @@
 -- The form of each command: what is read from the tokens after its word.
-use Rattle.std.specs.Prelude.{ℕ, List, [], ◌∷◌, ◌++◌, Bool, true, false, cond, ◌&&◌, codes, bytes_eq, Option, Some, None, pos, unsigned_abs, length, nat_le}
+use Rattle.std.specs.Prelude.{ℕ, List, [], ◌∷◌, ◌++◌, Bool, true, false, cond, ◌&&◌, codes}
+use Rattle.std.specs.Prelude.{bytes_eq, Option, Some, None, pos, unsigned_abs, length, nat_le}
 use Rattle.std.specs.Option.{option_map, option_and_then, option_or}
 use Rattle.std.specs.List.{slice_split, before_first, after_first}
 use Rattle.prop_language.specs.Tokens.{Token, Word, Open, Close, Semicolon, Equals, Star}
 use Rattle.prop_language.specs.Names.{looks_like_number, number_in}
-use Rattle.prop_language.specs.Commands.{Value, Bare, Braces, KindWord, Spans, Truths, Symbols, Named, By, Passed, Step, Command}
+use Rattle.prop_language.specs.Commands.{Value, Bare, Braces, KindWord, Spans, Truths, Symbols}
+use Rattle.prop_language.specs.Commands.{Named, By, Passed, Step, Command}
 
 -- an item before items, where there are both
 abbrev pub join : {X : Type 0} → Option X → Option (List X) → Option (List X)
@@ -41,13 +43,16 @@ pairs ts = None
 
 -- R D E = a b ; c d ..: a name, the names of two domains, and pairs
 abbrev pub relation : List Token → Option Command
-relation (Word name ∷ Word d ∷ Word e ∷ Equals ∷ ts) = option_map (Command.Relation name d e) (pairs ts)
+relation (Word name ∷ Word d ∷ Word e ∷ Equals ∷ ts) =
+    option_map (Command.Relation name d e) (pairs ts)
 relation ts = None
 
 -- one of three words of its own, and else a domain's name
 abbrev pub kind_word : List ℕ → KindWord
 kind_word w =
-    cond (bytes_eq w (codes "span")) Spans (cond (bytes_eq w (codes "truth")) Truths (cond (bytes_eq w (codes "symbol")) Symbols (Named w)))
+    cond (bytes_eq w (codes "span")) Spans
+    (cond (bytes_eq w (codes "truth")) Truths
+    (cond (bytes_eq w (codes "symbol")) Symbols (Named w)))
 
 -- X KIND
 abbrev pub cell : List Token → Option Command
@@ -56,7 +61,8 @@ cell ts = None
 
 -- a number where the word begins as one, and else a relation
 abbrev pub parameter : List ℕ → By
-parameter w = cond (looks_like_number w) (By.Number (number_in (pos 1) (pos 1_000_000_000) w)) (By.Relation w)
+parameter w = cond (looks_like_number w) (By.Number (number_in (pos 1) (pos 1_000_000_000) w))
+    (By.Relation w)
 
 -- what follows `by`, if there is a `by`: one word
 abbrev pub by_form : Option (List Token) → Option By
@@ -68,20 +74,24 @@ abbrev pub with_cell : {P : Type 0} → List ℕ → List (List ℕ) × P → Li
 with_cell x (xs, by) = (x ∷ xs, by)
 
 -- cells, and what is read behind the first `by`
-abbrev pub cells_by : {P : Type 0} → (Option (List Token) → Option P) → List Token → Option (List (List ℕ) × P)
+abbrev pub cells_by : {P : Type 0} → (Option (List Token) → Option P) → List Token
+    → Option (List (List ℕ) × P)
 cells_by read [] = option_map (λ by. ([], by)) (read None)
 cells_by read (Word w ∷ ts) =
-    cond (bytes_eq w (codes "by")) (option_map (λ by. ([], by)) (read (Some ts))) (option_map (with_cell w) (cells_by read ts))
+    cond (bytes_eq w (codes "by")) (option_map (λ by. ([], by)) (read (Some ts)))
+    (option_map (with_cell w) (cells_by read ts))
 cells_by read (t ∷ ts) = None
 
 -- N X.. [by P]: a name, one cell or more, and maybe a parameter
 abbrev pub attach : List Token → Option Command
-attach (Word n ∷ Word x ∷ ts) = option_map (λ rest. Command.Attach n (x ∷ rest.0) rest.1) (cells_by by_form ts)
+attach (Word n ∷ Word x ∷ ts) =
+    option_map (λ rest. Command.Attach n (x ∷ rest.0) rest.1) (cells_by by_form ts)
 attach ts = None
 
 -- local n KIND
 abbrev pub local_of_kind : List Token → Option Step
-local_of_kind (Word l ∷ Word n ∷ Word kind ∷ []) = cond (bytes_eq l (codes "local")) (Some (Step.Local n (kind_word kind))) None
+local_of_kind (Word l ∷ Word n ∷ Word kind ∷ []) =
+    cond (bytes_eq l (codes "local")) (Some (Step.Local n (kind_word kind))) None
 local_of_kind ts = None
 
 -- local n like p
@@ -97,7 +107,8 @@ passed_form ts = option_map Passed.Said (by_form ts)
 
 -- M X.. [by P]: a name, one cell or more, and maybe a parameter
 abbrev pub use_step : List Token → Option Step
-use_step (Word m ∷ Word x ∷ ts) = option_map (λ rest. Step.Use m (x ∷ rest.0) rest.1) (cells_by passed_form ts)
+use_step (Word m ∷ Word x ∷ ts) =
+    option_map (λ rest. Step.Use m (x ∷ rest.0) rest.1) (cells_by passed_form ts)
 use_step ts = None
 
 -- a local where it has one of the two forms, and else a use, even of the name `local`
@@ -124,7 +135,8 @@ steps ts = each step (slice_split is_semicolon ts)
 -- N p.. = step ; step ..: a name, one parameter or more, and steps
 abbrev pub define : List Token → Option Command
 define (Word n ∷ Word p ∷ ts) =
-    option_and_then (λ ps. option_map (Command.Define n (p ∷ ps)) (steps (after_first is_equals ts))) (only_words (before_first is_equals ts))
+    option_and_then (λ ps. option_map (Command.Define n (p ∷ ps))
+    (steps (after_first is_equals ts))) (only_words (before_first is_equals ts))
 define ts = None
 
 abbrev mutual
@@ -144,7 +156,8 @@ abbrev mutual
 
 -- a number from 0 on
 abbrev pub limit_of : List ℕ → Command
-limit_of w = Command.Limit (option_map unsigned_abs (number_in (pos 0) (pos 1_000_000_000_000_000) w))
+limit_of w = Command.Limit (option_map unsigned_abs
+    (number_in (pos 0) (pos 1_000_000_000_000_000) w))
 
 abbrev pub one_value : List Value → Option Value
 one_value (v ∷ []) = Some v
@@ -176,7 +189,9 @@ two_to_eight vs = cond (nat_le 2 (length vs) && nat_le (length vs) 8) (Some vs) 
 
 -- C X V or W ..
 abbrev pub choose : List Token → Option Command
-choose (Word c ∷ Word x ∷ ts) = option_map (Command.Choose c x) (option_and_then two_to_eight (option_and_then sides (values ts)))
+choose (Word c ∷ Word x ∷ ts) =
+    option_map (Command.Choose c x)
+    (option_and_then two_to_eight (option_and_then sides (values ts)))
 choose ts = None
 
 -- the form of each command, behind its word

@@ -1,8 +1,10 @@
 -- A line's reading, as it is found: by the form of its first word.
-use Rattle.std.specs.Prelude.{ℕ, List, ◌∷◌, cond, not, nat_lt, length, bytes_eq, Option, Some, None, Result, Ok, Err, find}
+use Rattle.std.specs.Prelude.{ℕ, List, ◌∷◌, cond, not, nat_lt, length, bytes_eq, Option, Some, None}
+use Rattle.std.specs.Prelude.{Result, Ok, Err, find}
 use Rattle.std.specs.Str.{is_utf8}
 use Rattle.prop_refusals.specs.declared.refusal.Refusal.{Refusal}
-use Rattle.prop_refusals.specs.declared.refusal.Refusal.TheVariants.{LineTooLong, NotUtf8, UnknownCommand, WrongForm}
+use Rattle.prop_refusals.specs.declared.refusal.Refusal.TheVariants.{LineTooLong, NotUtf8}
+use Rattle.prop_refusals.specs.declared.refusal.Refusal.TheVariants.{UnknownCommand, WrongForm}
 use Rattle.prop_language.specs.Tokens.{Token, Word, tokens}
 use Rattle.prop_language.specs.Commands.{Command}
 use Rattle.prop_language.specs.Reading.{without_return, is_silent, command_in_range}
@@ -12,7 +14,8 @@ abbrev pub command_in_form : Option Command → Result (Option Command) Refusal
 command_in_form None = Err WrongForm
 command_in_form (Some command) = command_in_range command
 
-abbrev pub by_form_of : Option (List ℕ × (List Token → Option Command)) → List Token → Result (Option Command) Refusal
+abbrev pub by_form_of : Option (List ℕ × (List Token → Option Command)) → List Token
+    → Result (Option Command) Refusal
 by_form_of None ts = Err UnknownCommand
 by_form_of (Some form) ts = command_in_form (form.1 ts)
 
@@ -23,7 +26,8 @@ command_of ts = Err UnknownCommand
 
 -- what a line without its carriage return asks for, None where it gets no reply
 abbrev pub reading_of : List ℕ → Result (Option Command) Refusal
-reading_of bytes = cond (not (is_utf8 bytes)) (Err NotUtf8) (cond (is_silent bytes) (Ok None) (command_of (tokens bytes)))
+reading_of bytes = cond (not (is_utf8 bytes)) (Err NotUtf8)
+    (cond (is_silent bytes) (Ok None) (command_of (tokens bytes)))
 
 -- what a line asks for
 abbrev pub reading : List ℕ → Result (Option Command) Refusal

@@ -1,15 +1,22 @@
 -- What the parts of the reader answer.
-use Rattle.std.specs.Prelude.{◌≡◌, ℕ, List, [], ◌∷◌, Bool, true, false, cond, not, nat_le, bytes_eq, codes, ◌||◌, Option, Some, None, is_some, map, flat_map, ⊤, Contains, Result, Ok, Err}
+use Rattle.std.specs.Prelude.{◌≡◌, ℕ, List, [], ◌∷◌, Bool, true, false, cond, not, nat_le, bytes_eq}
+use Rattle.std.specs.Prelude.{codes, ◌||◌, Option, Some, None, is_some, map, flat_map, ⊤, Contains}
+use Rattle.std.specs.Prelude.{Result, Ok, Err}
 use Rattle.std.specs.Option.{option_map, option_and_then}
 use Rattle.std.specs.List.{list_all}
 use Rattle.std.specs.Borrow.{Bor}
 use Rattle.prop_refusals.specs.declared.refusal.Refusal.{Refusal}
-use Rattle.prop_refusals.specs.declared.refusal.Refusal.TheVariants.{UnknownCommand, WrongForm, NotAName, NotANumber}
-use Rattle.prop_language.specs.Tokens.{Token, Word, Open, Close, Semicolon, Equals, Star, is_blank, mark_of}
+use Rattle.prop_refusals.specs.declared.refusal.Refusal.TheVariants.{UnknownCommand, WrongForm}
+use Rattle.prop_refusals.specs.declared.refusal.Refusal.TheVariants.{NotAName, NotANumber}
+use Rattle.prop_language.specs.Tokens.{Token, Word, Open, Close, Semicolon, Equals, Star, is_blank}
+use Rattle.prop_language.specs.Tokens.{mark_of}
 use Rattle.prop_language.specs.Names.{is_name, digits_number}
 use Rattle.prop_language.specs.Commands.{Value, By, Passed, Step, Command}
-use Rattle.prop_language.specs.inner.Forms.{join, bare, each, step, on_word, limit_of, domain, relation, cell, define, attach, fix, tell, choose, parameter, values, sides, two_to_eight}
-use Rattle.prop_language.specs.Reading.{by_names, is_by_in_range, passed_names, is_passed_in_range, step_names, is_step_in_range}
+use Rattle.prop_language.specs.inner.Forms.{join, bare, each, step, on_word, limit_of, domain}
+use Rattle.prop_language.specs.inner.Forms.{relation, cell, define, attach, fix, tell, choose}
+use Rattle.prop_language.specs.inner.Forms.{parameter, values, sides, two_to_eight}
+use Rattle.prop_language.specs.Reading.{by_names, is_by_in_range, passed_names, is_passed_in_range}
+use Rattle.prop_language.specs.Reading.{step_names, is_step_in_range}
 use Rattle.prop_language.specs.inner.Parsing.{command_in_form}
 use Rattle.prop_language.specs.Said.{Reads, step_of}
 use Rattle.prop_language.specs.declared.command.Step as kept
@@ -19,7 +26,12 @@ use Rattle.prop_language.specs.declared.tokens.Token.TheVariants as reads
 use Rattle.prop_language.specs.declared.steps.Given.{Given}
 use Rattle.prop_language.specs.declared.steps.Given.TheVariants as givens
 use Rattle.prop_language.specs.declared.reading.CommandWord.{CommandWord}
-use Rattle.prop_language.specs.declared.reading.CommandWord.TheVariants.{Domain, Relation, Cell, Define, Attach, Fix, Tell, Choose, Kick, Bring, Forget, Limit, Settle, Ask, Why, Core, Worldview, Nogoods}
+use Rattle.prop_language.specs.declared.reading.CommandWord.TheVariants.{Domain, Relation, Cell}
+use Rattle.prop_language.specs.declared.reading.CommandWord.TheVariants.{Define, Attach, Fix, Tell}
+use Rattle.prop_language.specs.declared.reading.CommandWord.TheVariants.{Choose, Kick, Bring}
+use Rattle.prop_language.specs.declared.reading.CommandWord.TheVariants.{Forget, Limit, Settle, Ask}
+use Rattle.prop_language.specs.declared.reading.CommandWord.TheVariants.{Why, Core, Worldview}
+use Rattle.prop_language.specs.declared.reading.CommandWord.TheVariants.{Nogoods}
 
 -- a token without where its word lies in memory
 abbrev pub token_of : read.Token → Token
@@ -73,7 +85,8 @@ front_words (Word w ∷ ts) = w ∷ front_words ts
 front_words ts = []
 
 -- these pairs before others, where there are others
-abbrev pub before_pairs : List (List ℕ × List ℕ) → Option (List (List ℕ × List ℕ)) → Option (List (List ℕ × List ℕ))
+abbrev pub before_pairs : List (List ℕ × List ℕ) → Option (List (List ℕ × List ℕ))
+    → Option (List (List ℕ × List ℕ))
 before_pairs [] others = others
 before_pairs (p ∷ ps) others = join (Some p) (before_pairs ps others)
 
@@ -99,7 +112,8 @@ parameter_said (Some word) = parameter word.now
 -- what was read, where its names are names and its numbers in range
 abbrev pub judged : {X : Type 0} → List (List ℕ) → Bool → X → Result X Refusal
 judged names in_range read =
-    cond (not (list_all is_name names)) (Err NotAName) (cond (not in_range) (Err NotANumber) (Ok read))
+    cond (not (list_all is_name names)) (Err NotAName)
+    (cond (not in_range) (Err NotANumber) (Ok read))
 
 abbrev pub by_in_range : By → Result By Refusal
 by_in_range by = judged (by_names by) (is_by_in_range by) by
@@ -133,7 +147,8 @@ steps_said steps (Some refusal) = Err refusal
 
 -- what was read of some parts is what their steps say
 abbrev pub Says : (parts : List (List Token)) → List kept.Step → Option Refusal → Type 0
-Says parts read refused = option_map steps_in_range (each step parts) ≡ Some (steps_said read refused)
+Says parts read refused = option_map steps_in_range (each step parts) ≡ Some
+    (steps_said read refused)
 
 -- the tokens after this word
 abbrev pub behind_word : List ℕ → List Token → Option (List Token)

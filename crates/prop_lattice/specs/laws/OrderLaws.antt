@@ -1,5 +1,6 @@
 -- The order of informations is one of partial information.
-use Rattle.std.specs.Prelude.{◌≡◌, ℕ, ◌<◌, ◌^◌, ◌≤ℤ◌, neg_ℤ, bit_and, ◌==◌, ◌⊎◌, Bool, true, false, if◌then◌else◌}
+use Rattle.std.specs.Prelude.{◌≡◌, ℕ, ◌<◌, ◌^◌, ◌≤ℤ◌, neg_ℤ, bit_and, ◌==◌, ◌⊎◌, Bool, true, false}
+use Rattle.std.specs.Prelude.{if◌then◌else◌}
 use Rattle.std.proofs.Common.{inl, inr, arith, refl, ap, sym, rules, eqb-true}
 use Rattle.std.proofs.Props.{props}
 use mathlib.Core.HLevel.{is_prop→PathP}
@@ -9,14 +10,17 @@ use Rattle.std.specs.Int.{int_max, int_min}
 use Rattle.std.proofs.lemmas.Int.{ints, clamps}
 use Rattle.std.proofs.lemmas.Nat.{and_le_l}
 use Rattle.prop_lattice.specs.InformationOrder.{IsInformationOrder, IsLeastAbove}
-use Rattle.prop_lattice.specs.Ends.{AreEnds, AreSome, ends_or_not, some_or_not, span_if, elements_if, span_from, elements_from}
+use Rattle.prop_lattice.specs.Ends.{AreEnds, AreSome, ends_or_not, some_or_not, span_if}
+use Rattle.prop_lattice.specs.Ends.{elements_if, span_from, elements_from}
 use Rattle.prop_lattice.specs.declared.span.TheConstants.{B}
-use Rattle.prop_lattice.specs.laws.PartLaws.{part_left, part_right, part_least, same_parts, part_of_none}
+use Rattle.prop_lattice.specs.laws.PartLaws.{part_left, part_right, part_least, same_parts}
+use Rattle.prop_lattice.specs.laws.PartLaws.{part_of_none}
 use Rattle.prop_lattice.specs.Order.{Below, merge_of}
 use Rattle.prop_lattice.specs.declared.span.Span as spans
 use Rattle.prop_lattice.specs.declared.elements.Elements as sets
 use Rattle.prop_lattice.specs.declared.info.Info.{Info}
-use Rattle.prop_lattice.specs.declared.info.Info.TheVariants.{Nothing, Span, Set, Sym, Contradiction}
+use Rattle.prop_lattice.specs.declared.info.Info.TheVariants.{Nothing, Span, Set, Sym}
+use Rattle.prop_lattice.specs.declared.info.Info.TheVariants.{Contradiction}
 
 -- spans with the same ends are one
 pub same_span : (a b : spans.Span) → a.lo ≡ b.lo → a.hi ≡ b.hi → a ≡ b
@@ -53,7 +57,8 @@ transitive a b c p q = search rules
 
 antisymmetric : (a b : Info) → Below a b → Below b a → a ≡ b
 antisymmetric Nothing Nothing p q = refl
-antisymmetric (Span a) (Span b) p q = ap Span (same_span a b (omega (arith, ints)) (omega (arith, ints)))
+antisymmetric (Span a) (Span b) p q =
+    ap Span (same_span a b (omega (arith, ints)) (omega (arith, ints)))
 antisymmetric (Set a) (Set b) p q = ap Set (same_elements a b (same_parts a.bits b.bits p q))
 antisymmetric (Sym a) (Sym b) p q = ap Sym p
 antisymmetric Contradiction Contradiction p q = refl
@@ -66,7 +71,10 @@ to_top (Set a) = tt
 to_top (Sym a) = tt
 to_top Contradiction = tt
 
-least_span : (a b : spans.Span) (d : AreEnds (int_max a.lo b.lo) (int_min a.hi b.hi) ⊎ ¬ (AreEnds (int_max a.lo b.lo) (int_min a.hi b.hi))) → IsLeastAbove Below (Span a) (Span b) (span_if (int_max a.lo b.lo) (int_min a.hi b.hi) d)
+least_span : (a b : spans.Span)
+    (d : AreEnds (int_max a.lo b.lo) (int_min a.hi b.hi)
+    ⊎ ¬ (AreEnds (int_max a.lo b.lo) (int_min a.hi b.hi)))
+    → IsLeastAbove Below (Span a) (Span b) (span_if (int_max a.lo b.lo) (int_min a.hi b.hi) d)
 least_span a b (inl e) = record {
   above_first = (omega (arith, ints, clamps), omega (arith, ints, clamps));
   above_second = (omega (arith, ints, clamps), omega (arith, ints, clamps));
@@ -83,14 +91,20 @@ least_span a b (inr f) = record {
   above_second = tt;
   least = elim [
     | Nothing ↦ λ p q. p
-    | Span c ↦ λ p q. absurd (f (omega (arith, ints, clamps), omega (arith, ints, clamps), omega (arith, ints, clamps)))
+    | Span c ↦ λ p q. absurd (f (
+      omega (arith, ints, clamps),
+      omega (arith, ints, clamps),
+      omega (arith, ints, clamps),
+    ))
     | Set c ↦ λ p q. p
     | Sym c ↦ λ p q. p
     | Contradiction ↦ λ p q. tt
   ];
 }
 
-least_set : (a b : sets.Elements) (d : AreSome (bit_and a.bits b.bits) ⊎ ¬ (AreSome (bit_and a.bits b.bits))) → IsLeastAbove Below (Set a) (Set b) (elements_if (bit_and a.bits b.bits) d)
+least_set : (a b : sets.Elements)
+    (d : AreSome (bit_and a.bits b.bits) ⊎ ¬ (AreSome (bit_and a.bits b.bits)))
+    → IsLeastAbove Below (Set a) (Set b) (elements_if (bit_and a.bits b.bits) d)
 least_set a b (inl e) = record {
   above_first = part_left a.bits b.bits;
   above_second = part_right a.bits b.bits;
@@ -114,14 +128,22 @@ least_set a b (inr f) =
       least = elim [
         | Nothing ↦ λ p q. p
         | Span c ↦ λ p q. p
-        | Set c ↦ λ p q. omega (arith, part_of_none _ c.bits none (part_least a.bits b.bits c.bits p q))
+        | Set c ↦ λ p q. omega (
+          arith,
+          part_of_none _ c.bits none (part_least a.bits b.bits c.bits p q),
+        )
         | Sym c ↦ λ p q. p
         | Contradiction ↦ λ p q. tt
       ];
     }
 
-least_sym : (a b : ℕ) (t : Bool) → (a == b) ≡ t → IsLeastAbove Below (Sym a) (Sym b) (if t then Sym a else Contradiction)
-least_sym a b true e = record { above_first = refl; above_second = sym (eqb-true a b e); least = λ c p q. p }
+least_sym : (a b : ℕ) (t : Bool) → (a == b) ≡ t
+    → IsLeastAbove Below (Sym a) (Sym b) (if t then Sym a else Contradiction)
+least_sym a b true e = record {
+  above_first = refl;
+  above_second = sym (eqb-true a b e);
+  least = λ c p q. p;
+}
 least_sym a b false e = record {
   above_first = tt;
   above_second = tt;
@@ -137,10 +159,20 @@ least_sym a b false e = record {
 least_above : (a b : Info) → IsLeastAbove Below a b (merge_of a b)
 unfolding span_from elements_from
 least_above Nothing b = record { above_first = tt; above_second = reflexive b; least = λ c p q. q }
-least_above (Span a) Nothing = record { above_first = reflexive (Span a); above_second = tt; least = λ c p q. p }
-least_above (Set a) Nothing = record { above_first = reflexive (Set a); above_second = tt; least = λ c p q. p }
-least_above (Sym a) Nothing = record { above_first = reflexive (Sym a); above_second = tt; least = λ c p q. p }
-least_above Contradiction Nothing = record { above_first = tt; above_second = tt; least = λ c p q. p }
+least_above (Span a) Nothing =
+    record { above_first = reflexive (Span a); above_second = tt; least = λ c p q. p }
+least_above (Set a) Nothing = record {
+  above_first = reflexive (Set a);
+  above_second = tt;
+  least = λ c p q. p;
+}
+least_above (Sym a) Nothing = record {
+  above_first = reflexive (Sym a);
+  above_second = tt;
+  least = λ c p q. p;
+}
+least_above Contradiction Nothing =
+    record { above_first = tt; above_second = tt; least = λ c p q. p }
 least_above (Span a) (Span b) = least_span a b (ends_or_not (int_max a.lo b.lo) (int_min a.hi b.hi))
 least_above (Set a) (Set b) = least_set a b (some_or_not (bit_and a.bits b.bits))
 least_above (Sym a) (Sym b) = least_sym a b (a == b) refl

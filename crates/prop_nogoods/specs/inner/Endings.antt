@@ -1,5 +1,6 @@
 -- Groups of nogoods that end with the same premise.
-use Rattle.std.specs.Prelude.{◌≡◌, ◌<◌, ◌≤◌, false, ◌+◌, ℕ, List, insert, length, Option, Some, None, IfSome, IsTrue, All, AllPairs}
+use Rattle.std.specs.Prelude.{◌≡◌, ◌<◌, ◌≤◌, false, ◌+◌, ℕ, List, insert, length, Option, Some}
+use Rattle.std.specs.Prelude.{None, IfSome, IsTrue, All, AllPairs}
 use Rattle.std.specs.List.{flat_map}
 use Rattle.prop_numbers.specs.Sets.{Members, set_of, is_below}
 use Rattle.prop_nogoods.specs.Stores.{has_part, staying, lacking}
@@ -45,7 +46,8 @@ lacking_of p g = record g { sets = lacking g.sets p }
 abbrev pub EndTogether : Group → Type 0
 EndTogether g = All (EndsSo g.last) g.sets
 
--- the nogoods of each group end together, and its last premise comes before those of the groups behind it
+-- the nogoods of each group end together, and its last premise comes before those of the groups
+-- behind it
 pub record AreInOrder (groups : List Group) : Type 0 where
   pub together : All EndTogether groups
   pub rise : AllPairs (λ g h. end_of g.last < end_of h.last) groups

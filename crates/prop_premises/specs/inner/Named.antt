@@ -1,5 +1,6 @@
 -- The premises of a table of names, and the table of their names' places.
-use Rattle.std.specs.Prelude.{◌≡◌, ℕ, suc, ◌+◌, ◌≤◌, Bool, String, string_bytes, Option, Some, None, true, false, List, [], ◌∷◌, ◌++◌, replicate, ⊤}
+use Rattle.std.specs.Prelude.{◌≡◌, ℕ, suc, ◌+◌, ◌≤◌, Bool, String, string_bytes, Option, Some, None}
+use Rattle.std.specs.Prelude.{true, false, List, [], ◌∷◌, ◌++◌, replicate, ⊤}
 use Rattle.prop_premises.specs.declared.named.Named.{Named}
 use Rattle.prop_premises.specs.declared.named.Kind.{Kind}
 use Rattle.prop_premises.specs.declared.named.Kind.TheVariants as kind
@@ -39,7 +40,8 @@ IsKind (kind.Choice sides) = (2 ≤ sides) × (sides ≤ 8)
 -- each name's number follows those of the one before, and each choice has two to eight sides
 abbrev pub AreNumberedFrom : {A : Type 0} → ℕ → List (String A × Named) → Type 0
 AreNumberedFrom n [] = ⊤
-AreNumberedFrom n (e ∷ es) = (e.1.first ≡ n) × IsKind e.1.kind × AreNumberedFrom (n + width e.1.kind) es
+AreNumberedFrom n (e ∷ es) = (e.1.first ≡ n) × IsKind e.1.kind
+    × AreNumberedFrom (n + width e.1.kind) es
 
 abbrev pub is_choice_kind : Kind → Bool
 is_choice_kind (kind.User believed) = false

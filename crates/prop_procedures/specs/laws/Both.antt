@@ -10,15 +10,37 @@ use Rattle.prop_procedures.specs.declared.shape.Need.{Need}
 use Rattle.prop_procedures.specs.Rules.{IsMonotone, KeepsKind, IsSound}
 use Rattle.prop_procedures.specs.Both.{either_of}
 
-module _ {A B : Type 0} (form_a : A → List Shape → Shape → Need → Type 0) (form_b : B → List Shape → Shape → Need → Type 0) (value_a : A → Param → List Info → Info) (value_b : B → Param → List Info → Info) where
-  pub either_monotone : ((rule : A) (ins : List Shape) (out : Shape) (need : Need) → form_a rule ins out need → IsMonotone (value_a rule) ins need) → ((rule : B) (ins : List Shape) (out : Shape) (need : Need) → form_b rule ins out need → IsMonotone (value_b rule) ins need) → (rule : Both A B) (ins : List Shape) (out : Shape) (need : Need) → either_of form_a form_b rule ins out need → IsMonotone (either_of value_a value_b rule) ins need
+module _ {A B : Type 0} (form_a : A → List Shape → Shape → Need → Type 0)
+    (form_b : B → List Shape → Shape → Need → Type 0) (value_a : A → Param → List Info → Info)
+    (value_b : B → Param → List Info → Info) where
+  pub either_monotone : ((rule : A) (ins : List Shape) (out : Shape) (need : Need)
+      → form_a rule ins out need → IsMonotone (value_a rule) ins need)
+      → ((rule : B) (ins : List Shape) (out : Shape) (need : Need) → form_b rule ins out need
+      → IsMonotone (value_b rule) ins need)
+      → (rule : Both A B) (ins : List Shape) (out : Shape) (need : Need)
+      → either_of form_a form_b rule ins out need
+      → IsMonotone (either_of value_a value_b rule) ins need
   either_monotone p q (One a) = p a
   either_monotone p q (Two b) = q b
 
-  pub either_keeps : ((rule : A) (ins : List Shape) (out : Shape) (need : Need) → form_a rule ins out need → KeepsKind (value_a rule) ins out need) → ((rule : B) (ins : List Shape) (out : Shape) (need : Need) → form_b rule ins out need → KeepsKind (value_b rule) ins out need) → (rule : Both A B) (ins : List Shape) (out : Shape) (need : Need) → either_of form_a form_b rule ins out need → KeepsKind (either_of value_a value_b rule) ins out need
+  pub either_keeps : ((rule : A) (ins : List Shape) (out : Shape) (need : Need)
+      → form_a rule ins out need → KeepsKind (value_a rule) ins out need)
+      → ((rule : B) (ins : List Shape) (out : Shape) (need : Need) → form_b rule ins out need
+      → KeepsKind (value_b rule) ins out need)
+      → (rule : Both A B) (ins : List Shape) (out : Shape) (need : Need)
+      → either_of form_a form_b rule ins out need
+      → KeepsKind (either_of value_a value_b rule) ins out need
   either_keeps p q (One a) = p a
   either_keeps p q (Two b) = q b
 
-  pub either_sound : (related_a : A → Param → List Point → Point → Type 0) (related_b : B → Param → List Point → Point → Type 0) → ((rule : A) (ins : List Shape) (out : Shape) (need : Need) → form_a rule ins out need → IsSound (value_a rule) (related_a rule) ins out need) → ((rule : B) (ins : List Shape) (out : Shape) (need : Need) → form_b rule ins out need → IsSound (value_b rule) (related_b rule) ins out need) → (rule : Both A B) (ins : List Shape) (out : Shape) (need : Need) → either_of form_a form_b rule ins out need → IsSound (either_of value_a value_b rule) (either_of related_a related_b rule) ins out need
+  pub either_sound : (related_a : A → Param → List Point → Point → Type 0)
+      (related_b : B → Param → List Point → Point → Type 0)
+      → ((rule : A) (ins : List Shape) (out : Shape) (need : Need) → form_a rule ins out need
+      → IsSound (value_a rule) (related_a rule) ins out need)
+      → ((rule : B) (ins : List Shape) (out : Shape) (need : Need) → form_b rule ins out need
+      → IsSound (value_b rule) (related_b rule) ins out need)
+      → (rule : Both A B) (ins : List Shape) (out : Shape) (need : Need)
+      → either_of form_a form_b rule ins out need
+      → IsSound (either_of value_a value_b rule) (either_of related_a related_b rule) ins out need
   either_sound related_a related_b p q (One a) = p a
   either_sound related_a related_b p q (Two b) = q b

@@ -1,12 +1,14 @@
 -- Which instances wait.
-use Rattle.std.specs.Prelude.{◌≡◌, ℕ, ◌≤◌, ◌==◌, Bool, false, cond, List, length, count_by, slice_index_or}
+use Rattle.std.specs.Prelude.{◌≡◌, ℕ, ◌≤◌, ◌==◌, Bool, false, cond, List, length, count_by}
+use Rattle.std.specs.Prelude.{slice_index_or}
 
 -- numbers in a line, and for how many there is room
 pub record Queued : Type 0 where
   pub line : List ℕ
   pub room : ℕ
 
--- Each number has a flag that says how often it stands in the line, once or not at all, and the line has room for all.
+-- Each number has a flag that says how often it stands in the line, once or not at all, and the
+-- line has room for all.
 pub record IsFlagged (line : List ℕ) (flags : List Bool) (capacity : ℕ) : Type 0 where
   pub flagged : (j : ℕ) → count_by (λ k. k == j) line ≡ cond (slice_index_or flags j false) 1 0
   pub counted : length line ≡ count_by (λ flag. flag) flags

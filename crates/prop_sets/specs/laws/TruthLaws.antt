@@ -1,5 +1,6 @@
 -- The laws of the functions of truth.
-use Rattle.std.specs.Prelude.{◌≡◌, ◌↔◌, ◌⊎◌, ℕ, zero, suc, ◌<◌, ◌^◌, Bool, true, false, not, ◌&&◌, ◌||◌, ◌==◌, if◌then◌else◌}
+use Rattle.std.specs.Prelude.{◌≡◌, ◌↔◌, ◌⊎◌, ℕ, zero, suc, ◌<◌, ◌^◌, Bool, true, false, not, ◌&&◌}
+use Rattle.std.specs.Prelude.{◌||◌, ◌==◌, if◌then◌else◌}
 use Rattle.std.specs.Bool.{Decides}
 use Rattle.std.specs.Int.{bit_at}
 use Rattle.std.proofs.Common.{arith, refl, inl, inr, rules, eqb-true}
@@ -12,32 +13,43 @@ use Rattle.prop_lattice.specs.Parts.{AllBelow}
 use Rattle.prop_lattice.specs.Points.{Element, Holds}
 use Rattle.prop_lattice.specs.Rank.{IsOf}
 use Rattle.prop_lattice.specs.declared.info.Info.{Info}
-use Rattle.prop_lattice.specs.declared.info.Info.TheVariants.{Nothing, Span, Set, Sym, Contradiction}
+use Rattle.prop_lattice.specs.declared.info.Info.TheVariants.{Nothing, Span, Set, Sym}
+use Rattle.prop_lattice.specs.declared.info.Info.TheVariants.{Contradiction}
 use Rattle.prop_lattice.specs.declared.info.Kind.TheVariants as kinds
 use Rattle.prop_sets.specs.Chosen.{any_below}
-use Rattle.prop_sets.specs.laws.ChosenLaws.{bits_where-lt, bits_where-passes, bits_where-has, any_below-Decides}
-use Rattle.prop_sets.specs.laws.NarrowestLaws.{elements_hold, bit_from_held, elements_below, elements_of_kind}
-use Rattle.prop_sets.specs.Truth.{IsAnd, IsOr, IsNot, agree, is_and, is_or, is_not, leaves, is_nothing, outputs_of_one, outputs_of, told, truth_of, and_of, and_back_of, or_of, or_back_of, not_of, IsLeftByOne, IsLeftByTwo, LeavesJust}
+use Rattle.prop_sets.specs.laws.ChosenLaws.{bits_where-lt, bits_where-passes, bits_where-has}
+use Rattle.prop_sets.specs.laws.ChosenLaws.{any_below-Decides}
+use Rattle.prop_sets.specs.laws.NarrowestLaws.{elements_hold, bit_from_held, elements_below}
+use Rattle.prop_sets.specs.laws.NarrowestLaws.{elements_of_kind}
+use Rattle.prop_sets.specs.Truth.{IsAnd, IsOr, IsNot, agree, is_and, is_or, is_not, leaves}
+use Rattle.prop_sets.specs.Truth.{is_nothing, outputs_of_one, outputs_of, told, truth_of, and_of}
+use Rattle.prop_sets.specs.Truth.{and_back_of, or_of, or_back_of, not_of, IsLeftByOne, IsLeftByTwo}
+use Rattle.prop_sets.specs.Truth.{LeavesJust}
 
 -- ---- tests
 
-Decides-agree : {P Q : Type 0} → (a b : Bool) → Decides a P → Decides b Q → Decides (agree a b) (P ↔ Q)
+Decides-agree : {P Q : Type 0} → (a b : Bool) → Decides a P → Decides b Q
+    → Decides (agree a b) (P ↔ Q)
 Decides-agree true true p q = ((λ e. ((λ x. q.0 refl), (λ y. p.0 refl))), (λ h. refl))
 Decides-agree true false p q = ((λ e. absurd (cc)), (λ h. q.1 (h.0 (p.0 refl))))
 Decides-agree false true p q = ((λ e. absurd (cc)), (λ h. p.1 (h.1 (q.0 refl))))
-Decides-agree false false p q = ((λ e. ((λ x. absurd (apart (p.1 x))), (λ y. absurd (apart (q.1 y))))), (λ h. refl))
+Decides-agree false false p q =
+    ((λ e. ((λ x. absurd (apart (p.1 x))), (λ y. absurd (apart (q.1 y))))), (λ h. refl))
   where
     apart : false ≡ true → ⊥
     apart e = cc
 
 and-Decides : (x y z : ℕ) → Decides (is_and x y z) (IsAnd x y z)
-and-Decides x y z = Decides-agree (z == 0) ((x == 0) && (y == 0)) (Decides-eqb z 0) (Decides-and (x == 0) (y == 0) (Decides-eqb x 0) (Decides-eqb y 0))
+and-Decides x y z = Decides-agree (z == 0) ((x == 0) && (y == 0)) (Decides-eqb z 0)
+    (Decides-and (x == 0) (y == 0) (Decides-eqb x 0) (Decides-eqb y 0))
 
 or-Decides : (x y z : ℕ) → Decides (is_or x y z) (IsOr x y z)
-or-Decides x y z = Decides-agree (z == 0) ((x == 0) || (y == 0)) (Decides-eqb z 0) (Decides-or (x == 0) (y == 0) (Decides-eqb x 0) (Decides-eqb y 0))
+or-Decides x y z = Decides-agree (z == 0) ((x == 0) || (y == 0)) (Decides-eqb z 0)
+    (Decides-or (x == 0) (y == 0) (Decides-eqb x 0) (Decides-eqb y 0))
 
 not-Decides : (x y : ℕ) → Decides (is_not x y) (IsNot x y)
-not-Decides x y = Decides-agree (y == 0) (not (x == 0)) (Decides-eqb y 0) (Decides-not (x == 0) (Decides-eqb x 0))
+not-Decides x y = Decides-agree (y == 0) (not (x == 0)) (Decides-eqb y 0)
+    (Decides-not (x == 0) (Decides-eqb x 0))
 
 leaves-Decides : (x : Info) (t : ℕ) → Decides (leaves x t) (Holds x (Element t))
 leaves-Decides Nothing t = ((λ e. tt), (λ h. refl))
@@ -68,7 +80,8 @@ still_nothing x x' p e = search rules
 few : (bits : ℕ) → bits < 2 ^ 2 → bits < 2 ^ 64
 few bits l = omega arith
 
-pub told_holds : (unknown : Bool) (bits t : ℕ) → bits < 2 ^ 2 → bit_at bits t ≡ 1 → Holds (told unknown bits) (Element t)
+pub told_holds : (unknown : Bool) (bits t : ℕ) → bits < 2 ^ 2 → bit_at bits t ≡ 1
+    → Holds (told unknown bits) (Element t)
 told_holds unknown bits t l h = by (unknown && (bits == 3))
   where
     by : (b : Bool) → Holds (if b then Nothing else elements_from bits) (Element t)
@@ -80,16 +93,19 @@ bit_of_both zero l = refl
 bit_of_both (suc zero) l = refl
 bit_of_both (suc (suc t)) l = absurd (omega arith)
 
-pub bit_from_told : (unknown : Bool) (bits t : ℕ) → t < 2 → Holds (told unknown bits) (Element t) → bit_at bits t ≡ 1
+pub bit_from_told : (unknown : Bool) (bits t : ℕ) → t < 2 → Holds (told unknown bits) (Element t)
+    → bit_at bits t ≡ 1
 bit_from_told unknown bits t l h = by (unknown && (bits == 3)) refl h
   where
-    by : (b : Bool) → (unknown && (bits == 3)) ≡ b → Holds (if b then Nothing else elements_from bits) (Element t) → bit_at bits t ≡ 1
+    by : (b : Bool) → (unknown && (bits == 3)) ≡ b
+        → Holds (if b then Nothing else elements_from bits) (Element t) → bit_at bits t ≡ 1
     by true e h =
         let both : bits ≡ 3 = eqb-true bits 3 (and_parts unknown (bits == 3) e).1 in
         rw both (bit_of_both t l)
     by false e h = bit_from_held bits t h
 
-pub told_kind : (unknown : Bool) (bits : ℕ) → AllBelow 2 bits → IsOf (kinds.Set 0) 2 (told unknown bits)
+pub told_kind : (unknown : Bool) (bits : ℕ) → AllBelow 2 bits
+    → IsOf (kinds.Set 0) 2 (told unknown bits)
 told_kind unknown bits h = by (unknown && (bits == 3))
   where
     by : (b : Bool) → IsOf (kinds.Set 0) 2 (if b then Nothing else elements_from bits)
@@ -99,10 +115,12 @@ told_kind unknown bits h = by (unknown && (bits == 3))
 all_of : (a : ℕ) → a < 2 ^ 2 → HasBitsOf a 3 → a ≡ 3
 all_of a l h = omega (arith, h 0 refl, h 1 refl)
 
-told_below : (u v : Bool) (a b : ℕ) → a < 2 ^ 2 → HasBitsOf a b → (v ≡ true → u ≡ true) → Below (told u a) (told v b)
+told_below : (u v : Bool) (a b : ℕ) → a < 2 ^ 2 → HasBitsOf a b → (v ≡ true → u ≡ true)
+    → Below (told u a) (told v b)
 told_below u v a b l h k = by (u && (a == 3)) refl (v && (b == 3)) refl
   where
-    by : (s : Bool) → (u && (a == 3)) ≡ s → (t : Bool) → (v && (b == 3)) ≡ t → Below (if s then Nothing else elements_from a) (if t then Nothing else elements_from b)
+    by : (s : Bool) → (u && (a == 3)) ≡ s → (t : Bool) → (v && (b == 3)) ≡ t
+        → Below (if s then Nothing else elements_from a) (if t then Nothing else elements_from b)
     by true e t f = tt
     by false e true f =
         let parts = and_parts v (b == 3) f in
@@ -116,63 +134,118 @@ told_below u v a b l h k = by (u && (a == 3)) refl (v && (b == 3)) refl
 
 -- ---- one input
 
-module _ (test : ℕ → ℕ → Bool) (related : ℕ → ℕ → Type 0) (each : (a y : ℕ) → Decides (test a y) (related a y)) where
-  one_input : (x : Info) (y : ℕ) → Decides (any_below 2 (λ a. leaves x a && test a y)) ((a : ℕ) × (a < 2) × (Holds x (Element a) × related a y))
+module _ (test : ℕ → ℕ → Bool) (related : ℕ → ℕ → Type 0)
+    (each : (a y : ℕ) → Decides (test a y) (related a y)) where
+  one_input : (x : Info) (y : ℕ)
+      → Decides (any_below 2 (λ a. leaves x a && test a y))
+      ((a : ℕ) × (a < 2) × (Holds x (Element a) × related a y))
   one_input x y =
-      any_below-Decides (λ a. leaves x a && test a y) (λ a. Holds x (Element a) × related a y) (λ a. Decides-and (leaves x a) (test a y) (leaves-Decides x a) (each a y)) 2
+      any_below-Decides (λ a. leaves x a && test a y) (λ a. Holds x (Element a) × related a y)
+      (λ a. Decides-and (leaves x a) (test a y) (leaves-Decides x a) (each a y)) 2
 
-  one-has : (x : Info) (y : ℕ) → bit_at (outputs_of_one test (leaves x)) y ≡ 1 → (y < 2) × IsLeftByOne related x y
+  one-has : (x : Info) (y : ℕ) → bit_at (outputs_of_one test (leaves x)) y ≡ 1
+      → (y < 2) × IsLeftByOne related x y
   one-has x y h =
       let passes = bits_where-passes 2 (λ y. any_below 2 (λ a. leaves x a && test a y)) y h in
-      let found = (one_input x y).0 passes.1 in
-      (passes.0, record { input = found.0; is_truth = found.1; left = found.2.0; belongs = found.2.1 })
+      let found = (one_input x y).0 passes.1 in (
+        passes.0,
+        record {
+          input = found.0;
+          is_truth = found.1;
+          left = found.2.0;
+          belongs = found.2.1;
+        },
+      )
 
-  one-is : (x : Info) (y : ℕ) → y < 2 → IsLeftByOne related x y → bit_at (outputs_of_one test (leaves x)) y ≡ 1
+  one-is : (x : Info) (y : ℕ) → y < 2 → IsLeftByOne related x y
+      → bit_at (outputs_of_one test (leaves x)) y ≡ 1
   one-is x y l p =
-      bits_where-has 2 (λ y. any_below 2 (λ a. leaves x a && test a y)) y l ((one_input x y).1 (p.input, p.is_truth, (p.left, p.belongs)))
+      bits_where-has 2 (λ y. any_below 2 (λ a. leaves x a && test a y)) y l
+      ((one_input x y).1 (p.input, p.is_truth, (p.left, p.belongs)))
 
   one-lt : (x : Info) → outputs_of_one test (leaves x) < 2 ^ 2
   one-lt x = bits_where-lt 2 (λ y. any_below 2 (λ a. leaves x a && test a y))
 
-  one-just : (x : Info) → LeavesJust (IsLeftByOne related x) (told (is_nothing x) (outputs_of_one test (leaves x)))
+  one-just : (x : Info) → LeavesJust (IsLeftByOne related x)
+      (told (is_nothing x) (outputs_of_one test (leaves x)))
   one-just x t l = (
     (λ h. (one-has x t (bit_from_told (is_nothing x) _ t l h)).1),
     (λ p. told_holds (is_nothing x) _ t (one-lt x) (one-is x t l p)),
   )
 
-  one-kind : (x : Info) → IsOf (kinds.Set 0) 2 (told (is_nothing x) (outputs_of_one test (leaves x)))
+  one-kind : (x : Info) → IsOf (kinds.Set 0) 2
+      (told (is_nothing x) (outputs_of_one test (leaves x)))
   one-kind x = told_kind (is_nothing x) _ (λ t h. (one-has x t h).0)
 
-  one-monotone : (x x' : Info) → Below x x' → Below (told (is_nothing x) (outputs_of_one test (leaves x))) (told (is_nothing x') (outputs_of_one test (leaves x')))
-  one-monotone x x' p = told_below (is_nothing x) (is_nothing x') _ _ (one-lt x) more (still_nothing x x' p)
+  one-monotone : (x x' : Info) → Below x x'
+      → Below (told (is_nothing x) (outputs_of_one test (leaves x)))
+      (told (is_nothing x') (outputs_of_one test (leaves x')))
+  one-monotone x x' p = told_below (is_nothing x) (is_nothing x') _ _ (one-lt x) more
+      (still_nothing x x' p)
     where
       more : HasBitsOf (outputs_of_one test (leaves x)) (outputs_of_one test (leaves x'))
       more t h =
           let found = one-has x' t h in
           let o = found.1 in
-          one-is x t found.0 (record { input = o.input; is_truth = o.is_truth; left = holds_less x x' o.input p o.left; belongs = o.belongs })
+          one-is x t found.0 (record {
+            input = o.input;
+            is_truth = o.is_truth;
+            left = holds_less x x' o.input p o.left;
+            belongs = o.belongs;
+          })
 
 -- ---- two inputs
 
-module _ (test : ℕ → ℕ → ℕ → Bool) (related : ℕ → ℕ → ℕ → Type 0) (each : (a b z : ℕ) → Decides (test a b z) (related a b z)) where
-  two_inputs : (x y : Info) (z : ℕ) → Decides (any_below 2 (λ a. any_below 2 (λ b. (leaves x a && leaves y b) && test a b z))) ((a : ℕ) × (a < 2) × ((b : ℕ) × (b < 2) × ((Holds x (Element a) × Holds y (Element b)) × related a b z)))
+module _ (test : ℕ → ℕ → ℕ → Bool) (related : ℕ → ℕ → ℕ → Type 0)
+    (each : (a b z : ℕ) → Decides (test a b z) (related a b z)) where
+  two_inputs : (x y : Info) (z : ℕ)
+      → Decides (any_below 2 (λ a. any_below 2 (λ b. (leaves x a && leaves y b) && test a b z)))
+      ((a : ℕ) × (a < 2) × ((b : ℕ) × (b < 2)
+      × ((Holds x (Element a) × Holds y (Element b)) × related a b z)))
   two_inputs x y z =
-      any_below-Decides (λ a. any_below 2 (λ b. (leaves x a && leaves y b) && test a b z)) (λ a. (b : ℕ) × (b < 2) × ((Holds x (Element a) × Holds y (Element b)) × related a b z)) (λ a.
-      any_below-Decides (λ b. (leaves x a && leaves y b) && test a b z) (λ b. (Holds x (Element a) × Holds y (Element b)) × related a b z) (λ b.
-      Decides-and (leaves x a && leaves y b) (test a b z) (Decides-and (leaves x a) (leaves y b) (leaves-Decides x a) (leaves-Decides y b)) (each a b z)) 2) 2
+      any_below-Decides (λ a. any_below 2 (λ b. (leaves x a && leaves y b) && test a b z))
+      (λ a. (b : ℕ) × (b < 2) × ((Holds x (Element a) × Holds y (Element b)) × related a b z))
+      (λ a.
+      any_below-Decides (λ b. (leaves x a && leaves y b) && test a b z)
+      (λ b. (Holds x (Element a) × Holds y (Element b)) × related a b z) (λ b.
+      Decides-and (leaves x a && leaves y b) (test a b z)
+      (Decides-and (leaves x a) (leaves y b) (leaves-Decides x a) (leaves-Decides y b))
+      (each a b z)) 2) 2
 
-  two-has : (x y : Info) (z : ℕ) → bit_at (outputs_of test (leaves x) (leaves y)) z ≡ 1 → (z < 2) × IsLeftByTwo related x y z
+  two-has : (x y : Info) (z : ℕ) → bit_at (outputs_of test (leaves x) (leaves y)) z ≡ 1
+      → (z < 2) × IsLeftByTwo related x y z
   two-has x y z h =
-      let passes = bits_where-passes 2 (λ z. any_below 2 (λ a. any_below 2 (λ b. (leaves x a && leaves y b) && test a b z))) z h in
-      let found = (two_inputs x y z).0 passes.1 in
-      (passes.0, record { first = found.0; second = found.2.0; first_is_truth = found.1; second_is_truth = found.2.1; first_left = found.2.2.0.0; second_left = found.2.2.0.1; belongs = found.2.2.1 })
+      let passes = bits_where-passes 2
+      (λ z. any_below 2 (λ a. any_below 2 (λ b. (leaves x a && leaves y b) && test a b z))) z h
+      in
+      let found = (two_inputs x y z).0 passes.1 in (
+        passes.0,
+        record {
+          first = found.0;
+          second = found.2.0;
+          first_is_truth = found.1;
+          second_is_truth = found.2.1;
+          first_left = found.2.2.0.0;
+          second_left =
+              found.2.2.0.1;
+          belongs = found.2.2.1;
+        },
+      )
 
-  two-is : (x y : Info) (z : ℕ) → z < 2 → IsLeftByTwo related x y z → bit_at (outputs_of test (leaves x) (leaves y)) z ≡ 1
+  two-is : (x y : Info) (z : ℕ) → z < 2 → IsLeftByTwo related x y z
+      → bit_at (outputs_of test (leaves x) (leaves y)) z ≡ 1
   two-is x y z l p =
-      bits_where-has 2 (λ z. any_below 2 (λ a. any_below 2 (λ b. (leaves x a && leaves y b) && test a b z))) z l ((two_inputs x y z).1 (p.first, p.first_is_truth, (p.second, p.second_is_truth, ((p.first_left, p.second_left), p.belongs))))
+      bits_where-has 2 (λ z. any_below 2
+      (λ a. any_below 2 (λ b. (leaves x a && leaves y b) && test a b z))) z l
+      ((two_inputs x y z).1 (
+        p.first,
+        p.first_is_truth,
+        (p.second, p.second_is_truth, ((p.first_left, p.second_left), p.belongs)),
+      ))
 
   two-lt : (x y : Info) → outputs_of test (leaves x) (leaves y) < 2 ^ 2
-  two-lt x y = bits_where-lt 2 (λ z. any_below 2 (λ a. any_below 2 (λ b. (leaves x a && leaves y b) && test a b z)))
+  two-lt x y = bits_where-lt 2 (λ z.
+      any_below 2 (λ a. any_below 2 (λ b. (leaves x a && leaves y b) && test a b z)))
 
   two-just : (x y : Info) → LeavesJust (IsLeftByTwo related x y) (truth_of test x y)
   two-just x y t l = (
@@ -183,25 +256,48 @@ module _ (test : ℕ → ℕ → ℕ → Bool) (related : ℕ → ℕ → ℕ �
   two-kind : (x y : Info) → IsOf (kinds.Set 0) 2 (truth_of test x y)
   two-kind x y = told_kind (is_nothing x || is_nothing y) _ (λ t h. (two-has x y t h).0)
 
-  two-monotone : (x y x' y' : Info) → Below x x' → Below y y' → Below (truth_of test x y) (truth_of test x' y')
-  two-monotone x y x' y' p q = told_below (is_nothing x || is_nothing y) (is_nothing x' || is_nothing y') _ _ (two-lt x y) more unknown
+  two-monotone : (x y x' y' : Info) → Below x x' → Below y y'
+      → Below (truth_of test x y) (truth_of test x' y')
+  two-monotone x y x' y' p q = told_below (is_nothing x || is_nothing y)
+      (is_nothing x' || is_nothing y') _ _ (two-lt x y) more unknown
     where
-      more : HasBitsOf (outputs_of test (leaves x) (leaves y)) (outputs_of test (leaves x') (leaves y'))
+      more : HasBitsOf (outputs_of test (leaves x) (leaves y))
+          (outputs_of test (leaves x') (leaves y'))
       more t h =
           let found = two-has x' y' t h in
           let o = found.1 in
-          two-is x y t found.0 (record { first = o.first; second = o.second; first_is_truth = o.first_is_truth; second_is_truth = o.second_is_truth; first_left = holds_less x x' o.first p o.first_left; second_left = holds_less y y' o.second q o.second_left; belongs = o.belongs })
+          two-is x y t found.0 (record {
+            first = o.first;
+            second = o.second;
+            first_is_truth = o.first_is_truth;
+            second_is_truth = o.second_is_truth;
+            first_left =
+                holds_less x x' o.first p o.first_left;
+            second_left =
+                holds_less y y' o.second q o.second_left;
+            belongs = o.belongs;
+          })
 
       unknown : (is_nothing x' || is_nothing y') ≡ true → (is_nothing x || is_nothing y) ≡ true
       unknown e = by (or_cases (is_nothing x') (is_nothing y') e)
         where
-          by : (is_nothing x' ≡ true) ⊎ (is_nothing y' ≡ true) → (is_nothing x || is_nothing y) ≡ true
+          by : (is_nothing x' ≡ true) ⊎ (is_nothing y' ≡ true)
+              → (is_nothing x || is_nothing y) ≡ true
           by (inl e) = or_left (is_nothing x) (is_nothing y) (still_nothing x x' p e)
           by (inr e) = or_right (is_nothing x) (is_nothing y) (still_nothing y y' q e)
 
-  two-sound : (x y : Info) (a b z : ℕ) → a < 2 → b < 2 → z < 2 → Holds x (Element a) → Holds y (Element b) → related a b z → Holds (truth_of test x y) (Element z)
+  two-sound : (x y : Info) (a b z : ℕ) → a < 2 → b < 2 → z < 2 → Holds x (Element a)
+      → Holds y (Element b) → related a b z → Holds (truth_of test x y) (Element z)
   two-sound x y a b z k l m h i r =
-      (two-just x y z m).1 (record { first = a; second = b; first_is_truth = k; second_is_truth = l; first_left = h; second_left = i; belongs = r })
+      (two-just x y z m).1 (record {
+        first = a;
+        second = b;
+        first_is_truth = k;
+        second_is_truth = l;
+        first_left = h;
+        second_left = i;
+        belongs = r;
+      })
 
 -- ---- and
 
@@ -220,19 +316,23 @@ and_kind = two-kind is_and IsAnd and-Decides
 pub and_just : (x y : Info) → LeavesJust (IsLeftByTwo IsAnd x y) (and_of x y)
 and_just = two-just is_and IsAnd and-Decides
 
-pub and_sound : (x y : Info) (a b z : ℕ) → a < 2 → b < 2 → z < 2 → Holds x (Element a) → Holds y (Element b) → IsAnd a b z → Holds (and_of x y) (Element z)
+pub and_sound : (x y : Info) (a b z : ℕ) → a < 2 → b < 2 → z < 2 → Holds x (Element a)
+    → Holds y (Element b) → IsAnd a b z → Holds (and_of x y) (Element z)
 and_sound = two-sound is_and IsAnd and-Decides
 
-pub and_back_monotone : (z y z' y' : Info) → Below z z' → Below y y' → Below (and_back_of z y) (and_back_of z' y')
+pub and_back_monotone : (z y z' y' : Info) → Below z z' → Below y y'
+    → Below (and_back_of z y) (and_back_of z' y')
 and_back_monotone = two-monotone (λ z y x. is_and x y z) (λ z y x. IsAnd x y z) back_and
 
 pub and_back_kind : (z y : Info) → IsOf (kinds.Set 0) 2 (and_back_of z y)
 and_back_kind = two-kind (λ z y x. is_and x y z) (λ z y x. IsAnd x y z) back_and
 
-pub and_back_just : (z y : Info) → LeavesJust (IsLeftByTwo (λ z y x. IsAnd x y z) z y) (and_back_of z y)
+pub and_back_just : (z y : Info)
+    → LeavesJust (IsLeftByTwo (λ z y x. IsAnd x y z) z y) (and_back_of z y)
 and_back_just = two-just (λ z y x. is_and x y z) (λ z y x. IsAnd x y z) back_and
 
-pub and_back_sound : (z y : Info) (c b a : ℕ) → c < 2 → b < 2 → a < 2 → Holds z (Element c) → Holds y (Element b) → IsAnd a b c → Holds (and_back_of z y) (Element a)
+pub and_back_sound : (z y : Info) (c b a : ℕ) → c < 2 → b < 2 → a < 2 → Holds z (Element c)
+    → Holds y (Element b) → IsAnd a b c → Holds (and_back_of z y) (Element a)
 and_back_sound = two-sound (λ z y x. is_and x y z) (λ z y x. IsAnd x y z) back_and
 
 -- ---- or
@@ -246,19 +346,23 @@ or_kind = two-kind is_or IsOr or-Decides
 pub or_just : (x y : Info) → LeavesJust (IsLeftByTwo IsOr x y) (or_of x y)
 or_just = two-just is_or IsOr or-Decides
 
-pub or_sound : (x y : Info) (a b z : ℕ) → a < 2 → b < 2 → z < 2 → Holds x (Element a) → Holds y (Element b) → IsOr a b z → Holds (or_of x y) (Element z)
+pub or_sound : (x y : Info) (a b z : ℕ) → a < 2 → b < 2 → z < 2 → Holds x (Element a)
+    → Holds y (Element b) → IsOr a b z → Holds (or_of x y) (Element z)
 or_sound = two-sound is_or IsOr or-Decides
 
-pub or_back_monotone : (z y z' y' : Info) → Below z z' → Below y y' → Below (or_back_of z y) (or_back_of z' y')
+pub or_back_monotone : (z y z' y' : Info) → Below z z' → Below y y'
+    → Below (or_back_of z y) (or_back_of z' y')
 or_back_monotone = two-monotone (λ z y x. is_or x y z) (λ z y x. IsOr x y z) back_or
 
 pub or_back_kind : (z y : Info) → IsOf (kinds.Set 0) 2 (or_back_of z y)
 or_back_kind = two-kind (λ z y x. is_or x y z) (λ z y x. IsOr x y z) back_or
 
-pub or_back_just : (z y : Info) → LeavesJust (IsLeftByTwo (λ z y x. IsOr x y z) z y) (or_back_of z y)
+pub or_back_just : (z y : Info)
+    → LeavesJust (IsLeftByTwo (λ z y x. IsOr x y z) z y) (or_back_of z y)
 or_back_just = two-just (λ z y x. is_or x y z) (λ z y x. IsOr x y z) back_or
 
-pub or_back_sound : (z y : Info) (c b a : ℕ) → c < 2 → b < 2 → a < 2 → Holds z (Element c) → Holds y (Element b) → IsOr a b c → Holds (or_back_of z y) (Element a)
+pub or_back_sound : (z y : Info) (c b a : ℕ) → c < 2 → b < 2 → a < 2 → Holds z (Element c)
+    → Holds y (Element b) → IsOr a b c → Holds (or_back_of z y) (Element a)
 or_back_sound = two-sound (λ z y x. is_or x y z) (λ z y x. IsOr x y z) back_or
 
 -- ---- not
@@ -272,5 +376,7 @@ not_kind = one-kind is_not IsNot not-Decides
 pub not_just : (x : Info) → LeavesJust (IsLeftByOne IsNot x) (not_of x)
 not_just = one-just is_not IsNot not-Decides
 
-pub not_sound : (x : Info) (a y : ℕ) → a < 2 → y < 2 → Holds x (Element a) → IsNot a y → Holds (not_of x) (Element y)
-not_sound x a y k l h r = (not_just x y l).1 (record { input = a; is_truth = k; left = h; belongs = r })
+pub not_sound : (x : Info) (a y : ℕ) → a < 2 → y < 2 → Holds x (Element a) → IsNot a y
+    → Holds (not_of x) (Element y)
+not_sound x a y k l h r = (not_just x y l).1
+    (record { input = a; is_truth = k; left = h; belongs = r })

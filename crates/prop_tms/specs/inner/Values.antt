@@ -1,5 +1,6 @@
 -- Values, each once, with the supports that say so.
-use Rattle.std.specs.Prelude.{◌≡◌, ◌≢◌, ℕ, ◌+◌, ◌^◌, ◌<◌, ◌≤◌, Bool, not, ◌&&◌, ◌||◌, List, [], length, get_or, map, take, All, AllPairs}
+use Rattle.std.specs.Prelude.{◌≡◌, ◌≢◌, ℕ, ◌+◌, ◌^◌, ◌<◌, ◌≤◌, Bool, not, ◌&&◌, ◌||◌, List, []}
+use Rattle.std.specs.Prelude.{length, get_or, map, take, All, AllPairs}
 use Rattle.prop_numbers.specs.Sets.{Members, is_within}
 use Rattle.prop_tms.specs.Beliefs.{NoneSubsumed, NoneAlike}
 use Rattle.prop_tms.specs.declared.values.Valued.{Valued}
@@ -18,13 +19,16 @@ NoneBare xs = All (λ x. x.supports.items ≢ []) xs
 
 -- each has a support, but maybe the one at this place
 abbrev pub NoneBareBut : {V : Type 0} → ℕ → List (Valued V) → Type 0
-NoneBareBut {V} at xs = (k : ℕ) (d : Valued V) → k < length xs → k ≢ at → (get_or xs k d).supports.items ≢ []
+NoneBareBut {V} at xs = (k : ℕ) (d : Valued V) → k < length xs
+    → k ≢ at → (get_or xs k d).supports.items ≢ []
 
 -- each that has no support now had none before
 abbrev pub NoneEmptied : {V : Type 0} → List (Valued V) → List (Valued V) → Type 0
-NoneEmptied {V} old new = (k : ℕ) (d : Valued V) → k < length old → (get_or new k d).supports.items ≡ [] → (get_or old k d).supports.items ≡ []
+NoneEmptied {V} old new = (k : ℕ) (d : Valued V) → k < length old
+    → (get_or new k d).supports.items ≡ [] → (get_or old k d).supports.items ≡ []
 
--- The entries of a Tms: none subsumes another, no two rest on the same premises, each value stands once, and they can be counted.
+-- The entries of a Tms: none subsumes another, no two rest on the same premises, each value stands
+-- once, and they can be counted.
 pub record AreKept {V : Type 0} (below : V → V → Type 0) (xs : List (Valued V)) : Type 0 where
   pub subsumed : NoneSubsumed below (entries_of xs)
   pub alike : NoneAlike (entries_of xs)
@@ -38,7 +42,8 @@ place_of xs at place = length (entries_of (take at xs)) + place
 
 -- there is room for as many supports as before
 abbrev pub HasRoomOf : {V : Type 0} → Valued V → Valued V → Type 0
-HasRoomOf new old = (new.supports.capacity ≡ old.supports.capacity) × (length new.supports.items ≤ length old.supports.items)
+HasRoomOf new old = (new.supports.capacity ≡ old.supports.capacity)
+    × (length new.supports.items ≤ length old.supports.items)
 
 -- whether these premises are all in just one of two sets
 abbrev pub is_in_one : Members → Members → List ℕ → Bool

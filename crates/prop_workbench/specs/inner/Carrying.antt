@@ -22,50 +22,80 @@ use Rattle.prop_workbench.specs.Waking.{IsStirred, Wakes}
 use Rattle.prop_workbench.specs.inner.Steps.{IsObeyed, IsFollowed}
 
 -- the command changed the session as the machine says, or was refused; it took no step
-abbrev pub IsDone : {R O : Type 0} {X : Type 0} {F : X → Type 0} {g : _} → (R → Param → List Info → Info) → Session R O X F g → Command → Result ⊤ Refusal → Session R O X F g → Type 0
-IsDone value old command result new = Obeys (library_of value old) (state_of old) command (answer_done result) (state_of new) 0
+abbrev pub IsDone : {R O : Type 0} {X : Type 0} {F : X → Type 0} {g : _}
+    → (R → Param → List Info → Info) → Session R O X F g → Command → Result ⊤ Refusal
+    → Session R O X F g → Type 0
+IsDone value old command result new =
+    Obeys (library_of value old) (state_of old) command (answer_done result) (state_of new) 0
 
 -- it left the choices and what waits as it may, or as they were where it was refused
-abbrev pub HasLeft : {R O : Type 0} {X : Type 0} {F : X → Type 0} {g : _} → Session R O X F g → Command → Result ⊤ Refusal → Session R O X F g → Type 0
-HasLeft old command result new = Wakes (state_of old) (state_of new) (work_of old) (work_of new) (Ok (Some command)) (answer_done result)
+abbrev pub HasLeft : {R O : Type 0} {X : Type 0} {F : X → Type 0} {g : _} → Session R O X F g
+    → Command → Result ⊤ Refusal → Session R O X F g → Type 0
+HasLeft old command result new =
+    Wakes (state_of old) (state_of new) (work_of old) (work_of new) (Ok (Some command))
+    (answer_done result)
 
--- the choices stand on the sides of the list, as many of them believed as before, and no more was woken than has to, or all is as it was where it was refused
-abbrev pub HasStirred : {R O : Type 0} {X : Type 0} {F : X → Type 0} {g : _} → Session R O X F g → List ℕ → Result ⊤ Refusal → Session R O X F g → Type 0
-HasStirred old list (Ok done) new = IsStirred (state_of old) (state_of new) list old.search.level (work_of old) (work_of new)
+-- the choices stand on the sides of the list, as many of them believed as before, and no more was
+-- woken than has to, or all is as it was where it was refused
+abbrev pub HasStirred : {R O : Type 0} {X : Type 0} {F : X → Type 0} {g : _} → Session R O X F g
+    → List ℕ → Result ⊤ Refusal → Session R O X F g → Type 0
+HasStirred old list (Ok done) new =
+    IsStirred (state_of old) (state_of new) list old.search.level (work_of old) (work_of new)
 HasStirred old list (Err refusal) new = work_of new ≡ work_of old
 
--- the command is answered so, after so many steps: as the machine may, as the run earned it, and the session keeps what it has to
-pub record IsAnswered {R O : Type 0} {X : Type 0} {F : X → Type 0} {g : _} (picks : Picks O) (value : R → Param → List Info → Info) (old : Session R O X F g) (command : Command) (answer : Answer) (steps : ℕ) (new : Session R O X F g) : Type 0 where
+-- the command is answered so, after so many steps: as the machine may, as the run earned it, and
+-- the session keeps what it has to
+pub record IsAnswered {R O : Type 0} {X : Type 0} {F : X → Type 0} {g : _} (picks : Picks O)
+    (value : R → Param → List Info → Info) (old : Session R O X F g) (command : Command)
+    (answer : Answer) (steps : ℕ) (new : Session R O X F g) : Type 0 where
   pub keeps : Keeps value old new
   pub step : IsObeyed (library_of value old) command answer steps (shown_of old) (shown_of new)
-  pub rests : RestsOn picks (library_of value old) (state_of old) (state_of new) (work_of old) (work_of new) (Ok (Some command)) answer steps
+  pub rests : RestsOn picks (library_of value old) (state_of old) (state_of new) (work_of old)
+      (work_of new) (Ok (Some command)) answer steps
 
 -- a line that was read so is answered so; what was covered may go with a premise that is forgotten
-pub record IsCarriedOut {R O : Type 0} {X : Type 0} {F : X → Type 0} {g : _} (picks : Picks O) (value : R → Param → List Info → Info) (old : Session R O X F g) (read : Result (Option Command) Refusal) (answer : Answer) (steps : ℕ) (new : Session R O X F g) : Type 0 where
+pub record IsCarriedOut {R O : Type 0} {X : Type 0} {F : X → Type 0} {g : _} (picks : Picks O)
+    (value : R → Param → List Info → Info) (old : Session R O X F g)
+    (read : Result (Option Command) Refusal) (answer : Answer) (steps : ℕ) (new : Session R O X F g)
+    : Type 0 where
   pub keeps : Stays value old new
   pub step : IsFollowed (library_of value old) read answer steps (shown_of old) (shown_of new)
-  pub rests : RestsOn picks (library_of value old) (state_of old) (state_of new) (work_of old) (work_of new) read answer steps
+  pub rests : RestsOn picks (library_of value old) (state_of old) (state_of new) (work_of old)
+      (work_of new) read answer steps
 
 -- ---- where the network was run
 
 -- the network is at rest with the choices as they stand, all of them believed
-pub record IsAtRest {R O : Type 0} {X : Type 0} {F : X → Type 0} {g : _} (value : R → Param → List Info → Info) (s : Session R O X F g) : Type 0 where
+pub record IsAtRest {R O : Type 0} {X : Type 0} {F : X → Type 0} {g : _}
+    (value : R → Param → List Info → Info) (s : Session R O X F g) : Type 0 where
   pub full : s.search.level ≡ length s.search.list
   pub settled : IsSettled (library_of value s) (set_of s.search.worldview) s.network.cells
 
--- the answer may be given to the command where a run of so many steps ended so, and left the session
-abbrev pub MayAnswer : {R O : Type 0} {X : Type 0} {F : X → Type 0} {g : _} → (R → Param → List Info → Info) → Session R O X F g → Command → Outcome → ℕ → Answer → Type 0
-MayAnswer value s command end steps answer = MaySay (library_of value s) (state_of s) command (outcome_of s.search.list end) steps answer
+-- the answer may be given to the command where a run of so many steps ended so, and left the
+-- session
+abbrev pub MayAnswer : {R O : Type 0} {X : Type 0} {F : X → Type 0} {g : _}
+    → (R → Param → List Info → Info) → Session R O X F g → Command → Outcome → ℕ → Answer → Type 0
+MayAnswer value s command end steps answer =
+    MaySay (library_of value s) (state_of s) command (outcome_of s.search.list end) steps answer
 
 -- no entry is used that is not needed where the command asks why
-abbrev pub IsLeanIn : {R O : Type 0} {X : Type 0} {F : X → Type 0} {g : _} → Session R O X F g → Command → Answer → Type 0
-IsLeanIn s command answer = IsLeanAnswer (worldview_at (state_of s) s.search.list) s.network.cells (state_of s) (Ok (Some command)) answer
+abbrev pub IsLeanIn : {R O : Type 0} {X : Type 0} {F : X → Type 0} {g : _} → Session R O X F g
+    → Command → Answer → Type 0
+IsLeanIn s command answer = IsLeanAnswer (worldview_at (state_of s) s.search.list) s.network.cells
+    (state_of s) (Ok (Some command)) answer
 
--- the premises are in order, and the answer says the information of the cell, the mark and the premises
+-- the premises are in order, and the answer says the information of the cell, the mark and the
+-- premises
 abbrev pub SaysBecause : State → ℕ → List ℕ → List ℕ → Info → List ℕ → Answer → Type 0
-SaysBecause s cell name mark v premises answer = IsStrictlyIncreasing premises × Says answer (equation name (text_at s cell v) (because s.premises mark premises))
+SaysBecause s cell name mark v premises answer = IsStrictlyIncreasing premises
+    × Says answer (equation name (text_at s cell v) (because s.premises mark premises))
 
--- a text counts so many steps of a run, and those of the tries that were made from the one session to the other
-abbrev pub CountsTries : {R O : Type 0} {X : Type 0} {F : X → Type 0} {g : _} → Picks O → (R → Param → List Info → Info) → Session R O X F g → ℕ → Answer → ℕ → Session R O X F g → Type 0
+-- a text counts so many steps of a run, and those of the tries that were made from the one session
+-- to the other
+abbrev pub CountsTries : {R O : Type 0} {X : Type 0} {F : X → Type 0} {g : _} → Picks O
+    → (R → Param → List Info → Info) → Session R O X F g → ℕ → Answer → ℕ → Session R O X F g
+    → Type 0
 CountsTries picks value old steps answer all new =
-    (text : List ℕ) → answer ≡ Text text → (tries : ℕ) × (all ≡ steps + tries) × HasTried picks (library_of value old) (state_of old) (work_of old) (work_of new) tries
+    (text : List ℕ) → answer ≡ Text text
+    → (tries : ℕ) × (all ≡ steps + tries)
+    × HasTried picks (library_of value old) (state_of old) (work_of old) (work_of new) tries

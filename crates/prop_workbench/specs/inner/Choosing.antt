@@ -6,7 +6,9 @@ use Rattle.prop_lattice.specs.declared.info.Info.{Info}
 use Rattle.prop_lattice.specs.declared.info.Info.TheVariants.{Nothing}
 use Rattle.prop_lattice.specs.declared.info.Kind.{Kind}
 use Rattle.prop_refusals.specs.declared.refusal.Refusal.{Refusal}
-use Rattle.prop_refusals.specs.declared.refusal.Refusal.TheVariants.{NotAName, NotANumber, NameTaken, WrongKind, NotInTheDomain, EmptyValue}
+use Rattle.prop_refusals.specs.declared.refusal.Refusal.TheVariants.{NotAName, NotANumber}
+use Rattle.prop_refusals.specs.declared.refusal.Refusal.TheVariants.{NameTaken, WrongKind}
+use Rattle.prop_refusals.specs.declared.refusal.Refusal.TheVariants.{NotInTheDomain, EmptyValue}
 use Rattle.prop_refusals.specs.Refusals.{first_of, when}
 use Rattle.prop_language.specs.Commands.{Value}
 use Rattle.prop_vocabulary.specs.Values.{Meant, Known}
@@ -16,9 +18,11 @@ use Rattle.prop_workbench.specs.Effects.{info_meant}
 
 -- one of the values is refused so at a cell of the kind
 abbrev pub is_one_refused : Vocabulary → Kind → Refusal → List Value → Bool
-is_one_refused words kind refusal values = list_any (λ value. is_error refusal (meaning_at words kind value)) values
+is_one_refused words kind refusal values =
+    list_any (λ value. is_error refusal (meaning_at words kind value)) values
 
--- why a choice between the values at a cell of the kind is refused, whose name may be taken: the first that applies
+-- why a choice between the values at a cell of the kind is refused, whose name may be taken: the
+-- first that applies
 abbrev pub values_refusal : Vocabulary → Kind → Bool → List Value → Option Refusal
 values_refusal words kind is_taken values =
     first_of (
@@ -45,4 +49,5 @@ meanings_of words kind values = map (meaning_of words kind) values
 -- the information that each meaning is, the symbols being numbered in order
 abbrev pub infos_meant : Vocabulary → List Meant → List Info
 infos_meant words [] = []
-infos_meant words (meant ∷ more) = info_meant words meant ∷ infos_meant (with_meant words meant) more
+infos_meant words (meant ∷ more) =
+    info_meant words meant ∷ infos_meant (with_meant words meant) more

@@ -1,5 +1,6 @@
 -- What a command that runs the network asks, and what may be said to it.
-use Rattle.std.specs.Prelude.{◌≡◌, ℕ, ◌+◌, ◌*◌, ◌≤◌, ◌<◌, List, length, Option, Some, Result, ⊤, ◌⊎◌}
+use Rattle.std.specs.Prelude.{◌≡◌, ℕ, ◌+◌, ◌*◌, ◌≤◌, ◌<◌, List, length, Option, Some, Result, ⊤}
+use Rattle.std.specs.Prelude.{◌⊎◌}
 use Rattle.prop_lattice.specs.declared.info.Info.{Info}
 use Rattle.prop_refusals.specs.declared.refusal.Refusal.{Refusal}
 use Rattle.prop_refusals.specs.declared.refusal.Refusal.TheVariants.{Memory}
@@ -46,30 +47,43 @@ IsNamed s (Ask cell name) = cell_named s.names name.now ≡ Some cell
 IsNamed s (Why cell name) = cell_named s.names name.now ≡ Some cell
 
 -- a run of so many steps ended so, and left the session
-pub record HasRun {R O : Type 0} {X : Type 0} {F : X → Type 0} {g : _} (value : R → Param → List Info → Info) (s : Session R O X F g) (end : ends.Outcome) (steps : ℕ) : Type 0 where
+pub record HasRun {R O : Type 0} {X : Type 0} {F : X → Type 0} {g : _}
+    (value : R → Param → List Info → Info) (s : Session R O X F g) (end : ends.Outcome) (steps : ℕ)
+    : Type 0 where
   pub ends : MayEnd (library_of value s) (state_of s) (outcome_of s.search.list end)
-  pub covered : IfContradiction end (λ ps. IsCovered (search.choices_in s.search) s.search.listed (set_of ps))
+  pub covered : IfContradiction end
+      (λ ps. IsCovered (search.choices_in s.search) s.search.listed (set_of ps))
   pub full : end ≡ Settled → s.search.level ≡ length s.search.list
-  pub settled : end ≡ Settled → IsSettled (library_of value s) (set_of s.search.worldview) s.network.cells
+  pub settled : end ≡ Settled → IsSettled (library_of value s) (set_of s.search.worldview)
+      s.network.cells
   pub within : steps ≤ (state_of s).limit
-  pub few : steps < lists_count (choices_in (state_of s)) * (most_steps (problem_in (library_of value s) (state_of s)) + 1)
+  pub few : steps < lists_count (choices_in (state_of s))
+      * (most_steps (problem_in (library_of value s) (state_of s)) + 1)
   pub spent : end ≡ Unsettled → steps ≡ (state_of s).limit
 
 -- the answer is a text that the machine may reply where a run ended so, or memory was refused
 abbrev pub MaySay : List Stored → State → Command → Outcome → ℕ → Answer → Type 0
-MaySay library s command outcome steps answer = ((text : List ℕ) × Replies library s command outcome steps text × (answer ≡ Text text)) ⊎ (answer ≡ Refused Memory)
+MaySay library s command outcome steps answer =
+    ((text : List ℕ) × Replies library s command outcome steps text × (answer ≡ Text text))
+    ⊎ (answer ≡ Refused Memory)
 
 -- where a run was cut short, a text says what is believed
 abbrev pub SaysSoFar : {O : Type 0} → State → Work O → Command → Answer → Type 0
-SaysSoFar s work command answer = (text : List ℕ) → answer ≡ Text text → SaysUnsettled s work command text
+SaysSoFar s work command answer = (text : List ℕ) → answer ≡ Text text
+    → SaysUnsettled s work command text
 
--- what an answer rests on: an explanation is lean, a text is earned, and where nothing is run no more wakes than has to
-pub record RestsOn {O : Type 0} (picks : Picks O) (library : List Stored) (s t : State) (old new : Work O) (read : Result (Option Command) Refusal) (answer : Answer) (steps : ℕ) : Type 0 where
+-- what an answer rests on: an explanation is lean, a text is earned, and where nothing is run no
+-- more wakes than has to
+pub record RestsOn {O : Type 0} (picks : Picks O) (library : List Stored) (s t : State)
+    (old new : Work O) (read : Result (Option Command) Refusal) (answer : Answer) (steps : ℕ) : Type
+    0 where
   pub lean : IsLeanAnswer (worldview_at s new.search.list) new.cells s read answer
   pub earned : Earns picks library s old new read answer steps
   pub wakes : Wakes s t old new read answer
 
 -- what a line is answered that was read so: a step, and what its answer rests on
-pub record Heeds {O : Type 0} (picks : Picks O) (library : List Stored) (old new : Shown) (from to : Work O) (answer : Answer) (steps : ℕ) (read : Result (Option Command) Refusal) : Type 0 where
+pub record Heeds {O : Type 0} (picks : Picks O) (library : List Stored) (old new : Shown)
+    (from to : Work O) (answer : Answer) (steps : ℕ) (read : Result (Option Command) Refusal) : Type
+    0 where
   pub step : IsFollowed library read answer steps old new
   pub rests : RestsOn picks library old.state new.state from to read answer steps

@@ -1,4 +1,5 @@
--- For what a command is refused in a state: each condition by itself, and which of them comes first.
+-- For what a command is refused in a state: each condition by itself, and which of them comes
+-- first.
 use Rattle.std.specs.Prelude.{ℕ, List, Bool, false, Option, Some, None}
 use Rattle.prop_premises.specs.Origins.{is_choice}
 use Rattle.prop_workbench.specs.Machine.{State}

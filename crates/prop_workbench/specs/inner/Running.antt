@@ -10,7 +10,11 @@ use Rattle.prop_engine.specs.Answers.{Answer, Text, Refused}
 use Rattle.prop_workbench.specs.Machine.{State, problem_in, text_at}
 use Rattle.prop_texts.specs.Texts.{equation, because}
 
--- the answer says the value of the cell, the mark, and premises of the worldview that explain it; or memory was refused
+-- the answer says the value of the cell, the mark, and premises of the worldview that explain it;
+-- or memory was refused
 abbrev pub Explained : List Stored → State → Members → ℕ → Info → List ℕ → List ℕ → Answer → Type 0
 Explained library s believed cell v name mark answer =
-    ((ps : List ℕ) × IsStrictlyIncreasing ps × Explains (problem_in library s) believed cell v (set_of ps) × (answer ≡ Text (equation name (text_at s cell v) (because s.premises mark ps)))) ⊎ (answer ≡ Refused Memory)
+    ((ps : List ℕ) × IsStrictlyIncreasing ps
+    × Explains (problem_in library s) believed cell v (set_of ps)
+    × (answer ≡ Text (equation name (text_at s cell v) (because s.premises mark ps))))
+    ⊎ (answer ≡ Refused Memory)

@@ -9,9 +9,12 @@ use Rattle.prop_workbench.specs.Steps.{Covering, Follows, Obeys, Shown}
 -- ---- what was learned
 
 -- the same of a line that was read so
-abbrev pub IsFollowed : List Stored → Result (Option Command) Refusal → Answer → ℕ → Shown → Shown → Type 0
-IsFollowed library read answer steps old new = Covering (λ s t. Follows library s read answer t steps) old new
+abbrev pub IsFollowed : List Stored → Result (Option Command) Refusal → Answer → ℕ → Shown → Shown
+    → Type 0
+IsFollowed library read answer steps old new =
+    Covering (λ s t. Follows library s read answer t steps) old new
 
 -- the same of a command
 abbrev pub IsObeyed : List Stored → Command → Answer → ℕ → Shown → Shown → Type 0
-IsObeyed library command answer steps old new = Covering (λ s t. Obeys library s command answer t steps) old new
+IsObeyed library command answer steps old new =
+    Covering (λ s t. Obeys library s command answer t steps) old new

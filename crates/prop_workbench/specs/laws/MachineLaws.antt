@@ -1,5 +1,6 @@
 -- The workbench has what the engine asks of a machine.
-use Rattle.std.proofs.Common.{◌≡◌, ℕ, ◌≤◌, ◌<◌, List, length, take, refl, ◌∙◌, subst, inl, inr, arith}
+use Rattle.std.proofs.Common.{◌≡◌, ℕ, ◌≤◌, ◌<◌, List, length, take, refl, ◌∙◌, subst, inl, inr}
+use Rattle.std.proofs.Common.{arith}
 use Rattle.std.specs.Prelude.{Option, Some, None, Result, Ok, Err}
 use Rattle.std.proofs.lemmas.List.{length-take, take_all}
 use Rattle.std.proofs.lemmas.Bool.{cases_lt}
@@ -19,33 +20,47 @@ use Rattle.prop_engine.specs.Machines.{AsksByPrefix, IsTotal}
 use Rattle.prop_workbench.specs.laws.RefusalLaws.{lean_refused, earns_refused, wakes_refused}
 
 -- a prefix of limit bytes is the line, or as long as the limit
-prefix_of_line : (limit : ℕ) (line : List ℕ) → (length line ≤ limit → take limit line ≡ line) × (limit < length line → length (take limit line) ≡ limit)
+prefix_of_line : (limit : ℕ) (line : List ℕ)
+    → (length line ≤ limit → take limit line ≡ line)
+    × (limit < length line → length (take limit line) ≡ limit)
 prefix_of_line limit line = (λ h. take_all limit line h, λ h. length-take limit line ∙ omega arith)
 
 -- a line that is too long asks for nothing else
-too_long : (line : List ℕ) (read : Result (Option Command) Refusal) → 4096 < length line → IsReading line read → read ≡ Err LineTooLong
+too_long : (line : List ℕ) (read : Result (Option Command) Refusal) → 4096 < length line
+    → IsReading line read → read ≡ Err LineTooLong
 too_long line read h (inl (l, e)) = e
 too_long line read h (inr (l, r)) = absurd (omega arith)
 
 -- what is kept of a line asks for what the line asks for
-kept_is_read : (line : List ℕ) (read : Result (Option Command) Refusal) → IsReading (kept_of line) read → IsReading line read
+kept_is_read : (line : List ℕ) (read : Result (Option Command) Refusal)
+    → IsReading (kept_of line) read → IsReading line read
 unfolding kept_of
 kept_is_read line read r = elim (cases_lt 4097 (length line)) [
-  | inl h ↦ let e = (prefix_of_line 4097 line).1 h in inl (omega arith, too_long (take 4097 line) read (omega (arith, e)) r)
+  | inl h ↦ let e = (prefix_of_line 4097 line).1 h in inl
+      (omega arith, too_long (take 4097 line) read (omega (arith, e)) r)
   | inr h ↦ subst (λ l. IsReading l read) ((prefix_of_line 4097 line).0 h) r
 ]
 
-kept_steps : (library : List Stored) (old new : State) (line : List ℕ) (answer : Answer) (steps : ℕ) → Step library old (kept_of line) answer new steps → Step library old line answer new steps
-kept_steps library old new line answer steps (read, is, follows) = (read, kept_is_read line read is, follows)
+kept_steps : (library : List Stored) (old new : State) (line : List ℕ) (answer : Answer) (steps : ℕ)
+    → Step library old (kept_of line) answer new steps → Step library old line answer new steps
+kept_steps library old new line answer steps (read, is, follows) =
+    (read, kept_is_read line read is, follows)
 
 -- and what is said of how a line was read
-kept_as_read : (line : List ℕ) (Holds : Result (Option Command) Refusal → Type 0) → AsRead (kept_of line) Holds → AsRead line Holds
+kept_as_read : (line : List ℕ) (Holds : Result (Option Command) Refusal → Type 0)
+    → AsRead (kept_of line) Holds → AsRead line Holds
 kept_as_read line Holds (read, is, holds) = (read, kept_is_read line read is, holds)
 
-pub working_asks_by_prefix : {O : Type 0} (picks : Picks O) (library : List Stored) → AsksByPrefix (working picks library)
+pub working_asks_by_prefix : {O : Type 0} (picks : Picks O) (library : List Stored)
+    → AsksByPrefix (working picks library)
 working_asks_by_prefix picks library old line answer new s = record {
   steps = s.steps;
-  step = λ named covers. let goes = s.step named covers in record { now = goes.now; covers = goes.covers; step = kept_steps library _ _ line answer s.steps goes.step };
+  step = λ named covers. let goes =
+      s.step named covers in record {
+        now = goes.now;
+        covers = goes.covers;
+        step = kept_steps library _ _ line answer s.steps goes.step;
+      };
   fits = s.fits;
   lean = kept_as_read line _ s.lean;
   earned = kept_as_read line _ s.earned;
@@ -53,10 +68,13 @@ working_asks_by_prefix picks library old line answer new s = record {
 }
 
 -- silence, or want of memory, leaves the state
-follows_somehow : (library : List Stored) (read : Result (Option Command) Refusal) → (answer : Answer) × ((s : State) → Follows library s read answer s 0)
+follows_somehow : (library : List Stored) (read : Result (Option Command) Refusal)
+    → (answer : Answer) × ((s : State) → Follows library s read answer s 0)
 follows_somehow library (Ok None) = (Silent, λ s. (refl, refl, refl))
-follows_somehow library (Ok (Some command)) = (Refused Memory, λ s. inr record { answer_is = refl; same = refl })
-follows_somehow library (Err refusal) = (Refused Memory, λ s. inr record { answer_is = refl; same = refl })
+follows_somehow library (Ok (Some command)) =
+    (Refused Memory, λ s. inr record { answer_is = refl; same = refl })
+follows_somehow library (Err refusal) =
+    (Refused Memory, λ s. inr record { answer_is = refl; same = refl })
 
 pub workbench_is_total : (library : List Stored) → IsTotal (workbench library)
 workbench_is_total library old line =
@@ -64,30 +82,60 @@ workbench_is_total library old line =
     let somehow = follows_somehow library read.0 in
     (somehow.0, record { steps = 0; step = (read.0, read.1, somehow.1 old) })
 
-pub working_is_total : {O : Type 0} (picks : Picks O) (library : List Stored) → IsTotal (working picks library)
-working_is_total {O} picks library old line = total (have_one_reading line).0 (have_one_reading line).1
+pub working_is_total : {O : Type 0} (picks : Picks O) (library : List Stored)
+    → IsTotal (working picks library)
+working_is_total {O} picks library old line =
+    total (have_one_reading line).0 (have_one_reading line).1
   where
-    refuses : (read : Result (Option Command) Refusal) → IsReading line read → ((s : State) → Follows library s read (Refused Memory) s 0) → Works picks library old line (Refused Memory) old
+    refuses : (read : Result (Option Command) Refusal) → IsReading line read
+        → ((s : State) → Follows library s read (Refused Memory) s 0)
+        → Works picks library old line (Refused Memory) old
     refuses read is follows = record {
       steps = 0;
-      step = λ named covers. record { now = named; covers = covers; step = (read, is, follows (naming old.shown.state named)) };
+      step = λ named covers. record {
+        now = named;
+        covers = covers;
+        step = (read, is, follows (naming old.shown.state named));
+      };
       fits = λ f. f;
-      lean = (read, is, lean_refused (worldview_at old.shown.state old.work.search.list) old.work.cells old.shown.state read Memory);
-      earned = (read, is, earns_refused picks library old.shown.state old.work old.work read Memory 0);
+      lean = (
+        read,
+        is,
+        lean_refused (worldview_at old.shown.state old.work.search.list)
+            old.work.cells old.shown.state read Memory,
+      );
+      earned = (
+        read,
+        is,
+        earns_refused picks library old.shown.state old.work old.work read Memory
+            0,
+      );
       wakes = (read, is, wakes_refused old.shown.state old.shown.state old.work read Memory);
     }
 
-    total : (read : Result (Option Command) Refusal) → IsReading line read → (answer : Answer) × Works picks library old line answer old
+    total : (read : Result (Option Command) Refusal) → IsReading line read
+        → (answer : Answer) × Works picks library old line answer old
     total (Ok None) is = (
       Silent,
       record {
         steps = 0;
-        step = λ named covers. record { now = named; covers = covers; step = (Ok None, is, (refl, refl, refl)) };
+        step = λ named covers. record {
+          now = named;
+          covers = covers;
+          step = (Ok None, is, (refl, refl, refl));
+        };
         fits = λ f. f;
         lean = (Ok None, is, tt);
         earned = (Ok None, is, tt);
         wakes = (Ok None, is, refl);
       },
     )
-    total (Ok (Some command)) is = (Refused Memory, refuses (Ok (Some command)) is (λ s. inr record { answer_is = refl; same = refl }))
-    total (Err refusal) is = (Refused Memory, refuses (Err refusal) is (λ s. inr record { answer_is = refl; same = refl }))
+    total (Ok (Some command)) is = (
+      Refused Memory,
+      refuses (Ok (Some command)) is
+          (λ s. inr record { answer_is = refl; same = refl }),
+    )
+    total (Err refusal) is = (
+      Refused Memory,
+      refuses (Err refusal) is (λ s. inr record { answer_is = refl; same = refl }),
+    )

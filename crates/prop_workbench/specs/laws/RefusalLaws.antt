@@ -15,14 +15,18 @@ use Rattle.prop_workbench.specs.Reasons.{IsLeanAnswer}
 use Rattle.prop_workbench.specs.Waking.{Wakes}
 
 -- it explains nothing
-pub lean_refused : (believed : Members) (d : Data) (s : State) (read : Result (Option Command) Refusal) (refusal : Refusal) → IsLeanAnswer believed d s read (Refused refusal)
+pub lean_refused : (believed : Members) (d : Data) (s : State)
+    (read : Result (Option Command) Refusal) (refusal : Refusal)
+    → IsLeanAnswer believed d s read (Refused refusal)
 lean_refused believed d s (Err e) refusal = tt
 lean_refused believed d s (Ok None) refusal = tt
 lean_refused believed d s (Ok (Some (commands.Command.Why name))) refusal = tt
 lean_refused believed d s (Ok (Some command)) refusal = tt
 
 -- it is no text
-pub earns_refused : {O : Type 0} (picks : Picks O) (library : List Stored) (s : State) (old new : Work O) (read : Result (Option Command) Refusal) (refusal : Refusal) (steps : ℕ) → Earns picks library s old new read (Refused refusal) steps
+pub earns_refused : {O : Type 0} (picks : Picks O) (library : List Stored) (s : State)
+    (old new : Work O) (read : Result (Option Command) Refusal) (refusal : Refusal) (steps : ℕ)
+    → Earns picks library s old new read (Refused refusal) steps
 earns_refused picks library s old new (Err e) refusal steps = tt
 earns_refused picks library s old new (Ok None) refusal steps = tt
 earns_refused picks library s old new (Ok (Some commands.Command.Settle)) refusal steps = tt
@@ -33,7 +37,9 @@ earns_refused picks library s old new (Ok (Some commands.Command.Worldview)) ref
 earns_refused picks library s old new (Ok (Some command)) refusal steps = tt
 
 -- it leaves all as it was
-pub wakes_refused : {O : Type 0} (s t : State) (work : Work O) (read : Result (Option Command) Refusal) (refusal : Refusal) → Wakes s t work work read (Refused refusal)
+pub wakes_refused : {O : Type 0} (s t : State) (work : Work O)
+    (read : Result (Option Command) Refusal) (refusal : Refusal)
+    → Wakes s t work work read (Refused refusal)
 wakes_refused s t work (Err e) refusal = refl
 wakes_refused s t work (Ok None) refusal = refl
 wakes_refused s t work (Ok (Some commands.Command.Settle)) refusal = tt

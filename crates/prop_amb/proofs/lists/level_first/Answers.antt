@@ -7,7 +7,8 @@ pub loop-place-init : goal.loop-place-init
 loop-place-init c = record { firsts = λ i below. absurd (omega (arith, below)) }
 
 pub returns-then-list-place-ne1 : goal.returns-then-list-place-ne1
-returns-then-list-place-ne1 c = sym (first_to_there c.args.level c.args.list.now c.loop-place.place c.loop-place-test.true c.requires c.loop-place.invariant.firsts c.if-list-place-ne1.true)
+returns-then-list-place-ne1 c = sym (first_to_there c.args.level c.args.list.now c.loop-place.place
+    c.loop-place-test.true c.requires c.loop-place.invariant.firsts c.if-list-place-ne1.true)
 
 pub loop-place-preserved : goal.loop-place-preserved
 loop-place-preserved c = record {

@@ -6,7 +6,8 @@ pub loop-each-init : goal.loop-each-init
 loop-each-init c = refl
 
 pub loop-each-preserved : goal.loop-each-preserved
-loop-each-preserved c = rw (c.loop-each.invariant, c.clear.ensures, add-one) (cleared_more c.loop-each.each-index c.args.reasons.now c.loop-each-test.true)
+loop-each-preserved c = rw (c.loop-each.invariant, c.clear.ensures, add-one)
+    (cleared_more c.loop-each.each-index c.args.reasons.now c.loop-each-test.true)
 
 pub returns : goal.returns
 returns c = c.loop-each.invariant ∙ cleared_all c.loop-each.each-index c.args.reasons.now c.loop-each-test.false

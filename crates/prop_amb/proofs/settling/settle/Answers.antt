@@ -1,4 +1,5 @@
-use Rattle.std.proofs.Common.{◌≡◌, ◌∙◌, ℕ, ◌+◌, ◌-◌, ◌⊎◌, length, Option, Some, None, Result, Ok, Err, refl, sym, ap, inl, inr, arith}
+use Rattle.std.proofs.Common.{◌≡◌, ◌∙◌, ℕ, ◌+◌, ◌-◌, ◌⊎◌, length, Option, Some, None, Result, Ok, Err, refl, sym, ap}
+use Rattle.std.proofs.Common.{inl, inr, arith}
 use Rattle.prop_procedures.specs.Kept.{stored_of}
 use Rattle.prop_cells.specs.Data.{Data, problem_of}
 use Rattle.prop_amb.specs.Search.{IsSearch}
@@ -9,20 +10,25 @@ use Rattle.prop_amb.specs.declared.settling.Tried.TheVariants.{Quiet, Spent}
 use Rattle.prop_amb.proofs.Blocked.{kept_block}
 use Rattle.prop_amb.proofs.OnWay.{OnTry}
 use Rattle.prop_amb.proofs.SearchLaws.{kept_refute}
-use Rattle.prop_amb.proofs.SettlingLaws.{count_in, rest_on, premises_in, search_in, search_from, attempted_in, contradiction_in, blamed_in, at_start, after_try, after_move, ended, first_consistent, all_moves, spent_earned, held_earned}
+use Rattle.prop_amb.proofs.SettlingLaws.{count_in, rest_on, premises_in, search_in, search_from, attempted_in}
+use Rattle.prop_amb.proofs.SettlingLaws.{contradiction_in, blamed_in, at_start, after_try, after_move, ended}
+use Rattle.prop_amb.proofs.SettlingLaws.{first_consistent, all_moves, spent_earned, held_earned}
 use Rattle.prop_amb.proofs.settling.settle.Goals as goal
 
 abbrev end_of : {E : Type 0} → Option Outcome → Result (Option Outcome × ℕ) E → Option Outcome
 end_of o (Ok x) = x.0
 end_of o (Err e) = o
 
-same_end : {E : Type 0} {r : Result (Option Outcome × ℕ) E} {o : Option Outcome} {n : ℕ} → r ≡ Ok (Some Settled, 0) → r ≡ Ok (o, n) → Some Settled ≡ o
+same_end : {E : Type 0} {r : Result (Option Outcome × ℕ) E} {o : Option Outcome} {n : ℕ} → r ≡ Ok (Some Settled, 0)
+    → r ≡ Ok (o, n) → Some Settled ≡ o
 same_end {o = o} e f = ap (end_of o) (sym e ∙ f)
 
-settled_at : {E : Type 0} {r : Result (Option Outcome × ℕ) E} {o : Option Outcome} {n : ℕ} {outcome : Outcome} → r ≡ Ok (Some Settled, 0) → r ≡ Ok (o, n) → o ≡ Some outcome → outcome ≡ Settled
+settled_at : {E : Type 0} {r : Result (Option Outcome × ℕ) E} {o : Option Outcome} {n : ℕ} {outcome : Outcome}
+    → r ≡ Ok (Some Settled, 0) → r ≡ Ok (o, n) → o ≡ Some outcome → outcome ≡ Settled
 settled_at e f h = let same = same_end e f in cc
 
-no_end : {E : Type 0} {r : Result (Option Outcome × ℕ) E} {o : Option Outcome} {n : ℕ} → r ≡ Ok (Some Settled, 0) → r ≡ Ok (o, n) → o ≡ None → ⊥
+no_end : {E : Type 0} {r : Result (Option Outcome × ℕ) E} {o : Option Outcome} {n : ℕ} → r ≡ Ok (Some Settled, 0)
+    → r ≡ Ok (o, n) → o ≡ None → ⊥
 no_end e f h = let same = same_end e f in cc
 
 pub loop-tried-init : goal.loop-tried-init
@@ -32,7 +38,8 @@ loop-tried-init g c = record {
   cells = refl;
   watched = c.requires.watched;
   within = omega arith;
-  way = at_start g.O.Order.picks (stored_of g.R.Rule.value_of c.args.network.now.library) c.args.search.now c.args.network.now.cells c.args.agenda.now.line c.args.order.now c.requires.search c.requires.under_way;
+  way = at_start g.O.Order.picks (stored_of g.R.Rule.value_of c.args.network.now.library) c.args.search.now
+      c.args.network.now.cells c.args.agenda.now.line c.args.order.now c.requires.search c.requires.under_way;
 }
 
 pub try_list-requires-clause-means : goal.try_list-requires-clause-means
@@ -53,7 +60,9 @@ try_list-requires-clause-cells g c =
 
 pub try_list-requires-clause-search : goal.try_list-requires-clause-search
 try_list-requires-clause-search g c =
-    search_from (stored_of g.R.Rule.value_of) c.args.network.now.library c.loop-tried.network.library c.args.network.now.cells c.loop-tried.network.cells c.loop-tried.search c.loop-tried.invariant.same c.loop-tried.invariant.way.rest c.loop-tried.invariant.way.search
+    search_from (stored_of g.R.Rule.value_of) c.args.network.now.library c.loop-tried.network.library
+    c.args.network.now.cells c.loop-tried.network.cells c.loop-tried.search c.loop-tried.invariant.same
+    c.loop-tried.invariant.way.rest c.loop-tried.invariant.way.search
 
 pub returns-in_err-tried-clause-same : goal.returns-in_err-tried-clause-same
 returns-in_err-tried-clause-same g c =
@@ -61,7 +70,8 @@ returns-in_err-tried-clause-same g c =
 
 pub returns-in_err-tried-clause-rest : goal.returns-in_err-tried-clause-rest
 returns-in_err-tried-clause-rest g c =
-    rest_on c.args.network.now.cells c.loop-tried.network.cells c.try_list.new.network.cells c.loop-tried.invariant.way.rest c.try_list.ensures.rest
+    rest_on c.args.network.now.cells c.loop-tried.network.cells c.try_list.new.network.cells
+    c.loop-tried.invariant.way.rest c.try_list.ensures.rest
 
 pub returns-in_err-tried-clause-room : goal.returns-in_err-tried-clause-room
 returns-in_err-tried-clause-room g c =
@@ -80,7 +90,9 @@ returns-in_err-tried-clause-listed g c =
 
 pub returns-in_err-tried-clause-search : goal.returns-in_err-tried-clause-search
 returns-in_err-tried-clause-search g c =
-    search_in (stored_of g.R.Rule.value_of) c.args.network.now.library c.loop-tried.network.library c.args.network.now.cells c.loop-tried.network.cells c.try_list.new.search c.loop-tried.invariant.same c.loop-tried.invariant.way.rest c.try_list.ensures.search
+    search_in (stored_of g.R.Rule.value_of) c.args.network.now.library c.loop-tried.network.library
+    c.args.network.now.cells c.loop-tried.network.cells c.try_list.new.search c.loop-tried.invariant.same
+    c.loop-tried.invariant.way.rest c.try_list.ensures.search
 
 pub returns-in_err-tried-clause-under_way : goal.returns-in_err-tried-clause-under_way
 returns-in_err-tried-clause-under_way g c =
@@ -88,13 +100,21 @@ returns-in_err-tried-clause-under_way g c =
 
 pub returns-in_err-tried-clause-passed : goal.returns-in_err-tried-clause-passed
 returns-in_err-tried-clause-passed g c =
-    let learned : IsSearch (problem_of (stored_of g.R.Rule.value_of c.args.network.now.library) c.args.network.now.cells) c.try_list.new.search = search_in (stored_of g.R.Rule.value_of) c.args.network.now.library c.loop-tried.network.library c.args.network.now.cells c.loop-tried.network.cells c.try_list.new.search c.loop-tried.invariant.same c.loop-tried.invariant.way.rest c.try_list.ensures.search in
-    kept_block (problem_of (stored_of g.R.Rule.value_of c.args.network.now.library) c.args.network.now.cells) c.try_list.new.search c.try_list.ensures.stand learned.reasons
+    let learned : IsSearch (problem_of (stored_of g.R.Rule.value_of c.args.network.now.library)
+    c.args.network.now.cells) c.try_list.new.search = search_in (stored_of g.R.Rule.value_of)
+    c.args.network.now.library c.loop-tried.network.library c.args.network.now.cells c.loop-tried.network.cells
+    c.try_list.new.search c.loop-tried.invariant.same c.loop-tried.invariant.way.rest c.try_list.ensures.search in
+    kept_block (problem_of (stored_of g.R.Rule.value_of c.args.network.now.library) c.args.network.now.cells)
+    c.try_list.new.search c.try_list.ensures.stand learned.reasons
 
 pub returns-in_err-tried-clause-earlier : goal.returns-in_err-tried-clause-earlier
 returns-in_err-tried-clause-earlier g c =
-    let learned : IsSearch (problem_of (stored_of g.R.Rule.value_of c.args.network.now.library) c.args.network.now.cells) c.try_list.new.search = search_in (stored_of g.R.Rule.value_of) c.args.network.now.library c.loop-tried.network.library c.args.network.now.cells c.loop-tried.network.cells c.try_list.new.search c.loop-tried.invariant.same c.loop-tried.invariant.way.rest c.try_list.ensures.search in
-    kept_refute (problem_of (stored_of g.R.Rule.value_of c.args.network.now.library) c.args.network.now.cells) c.try_list.new.search c.try_list.ensures.stand learned.reasons
+    let learned : IsSearch (problem_of (stored_of g.R.Rule.value_of c.args.network.now.library)
+    c.args.network.now.cells) c.try_list.new.search = search_in (stored_of g.R.Rule.value_of)
+    c.args.network.now.library c.loop-tried.network.library c.args.network.now.cells c.loop-tried.network.cells
+    c.try_list.new.search c.loop-tried.invariant.same c.loop-tried.invariant.way.rest c.try_list.ensures.search in
+    kept_refute (problem_of (stored_of g.R.Rule.value_of c.args.network.now.library) c.args.network.now.cells)
+    c.try_list.new.search c.try_list.ensures.stand learned.reasons
 
 pub decide-requires-clause-room : goal.decide-requires-clause-room
 decide-requires-clause-room g c =
@@ -113,7 +133,9 @@ decide-requires-clause-stand g c = c.try_list.ensures.stand
 
 pub decide-requires-clause-search : goal.decide-requires-clause-search
 decide-requires-clause-search g c =
-    search_from (stored_of g.R.Rule.value_of) c.loop-tried.network.library c.try_list.new.network.library c.loop-tried.network.cells c.try_list.new.network.cells c.try_list.new.search c.try_list.ensures.same c.try_list.ensures.rest c.try_list.ensures.search
+    search_from (stored_of g.R.Rule.value_of) c.loop-tried.network.library c.try_list.new.network.library
+    c.loop-tried.network.cells c.try_list.new.network.cells c.try_list.new.search c.try_list.ensures.same
+    c.try_list.ensures.rest c.try_list.ensures.search
 
 pub returns-in_err-end-clause-same : goal.returns-in_err-end-clause-same
 returns-in_err-end-clause-same g c =
@@ -121,7 +143,8 @@ returns-in_err-end-clause-same g c =
 
 pub returns-in_err-end-clause-rest : goal.returns-in_err-end-clause-rest
 returns-in_err-end-clause-rest g c =
-    rest_on c.args.network.now.cells c.loop-tried.network.cells c.try_list.new.network.cells c.loop-tried.invariant.way.rest c.try_list.ensures.rest
+    rest_on c.args.network.now.cells c.loop-tried.network.cells c.try_list.new.network.cells
+    c.loop-tried.invariant.way.rest c.try_list.ensures.rest
 
 pub returns-in_err-end-clause-room : goal.returns-in_err-end-clause-room
 returns-in_err-end-clause-room g c =
@@ -132,7 +155,8 @@ returns-in_err-end-clause-cells g c = c.decide.ensures.cells ∙ c.try_list.ensu
 
 pub returns-in_err-end-clause-premises : goal.returns-in_err-end-clause-premises
 returns-in_err-end-clause-premises g c =
-    c.decide.ensures.premises ∙ premises_in c.loop-tried.search c.try_list.new.search c.try_list.ensures.only ∙ c.loop-tried.invariant.way.premises
+    c.decide.ensures.premises ∙ premises_in c.loop-tried.search c.try_list.new.search c.try_list.ensures.only
+    ∙ c.loop-tried.invariant.way.premises
 
 pub returns-in_err-end-clause-listed : goal.returns-in_err-end-clause-listed
 returns-in_err-end-clause-listed g c =
@@ -141,8 +165,12 @@ returns-in_err-end-clause-listed g c =
 pub returns-in_err-end-clause-search : goal.returns-in_err-end-clause-search
 returns-in_err-end-clause-search g c =
     let both = c.try_list.ensures.same ∙ c.loop-tried.invariant.same in
-    let rest : c.try_list.new.network.cells ≡ record c.args.network.now.cells { contents = c.try_list.new.network.cells.contents } = rest_on c.args.network.now.cells c.loop-tried.network.cells c.try_list.new.network.cells c.loop-tried.invariant.way.rest c.try_list.ensures.rest in
-    search_in (stored_of g.R.Rule.value_of) c.args.network.now.library c.try_list.new.network.library c.args.network.now.cells c.try_list.new.network.cells c.decide.new.search both rest c.decide.ensures.search
+    let rest : c.try_list.new.network.cells
+    ≡ record c.args.network.now.cells { contents = c.try_list.new.network.cells.contents } =
+    rest_on c.args.network.now.cells c.loop-tried.network.cells c.try_list.new.network.cells
+    c.loop-tried.invariant.way.rest c.try_list.ensures.rest in
+    search_in (stored_of g.R.Rule.value_of) c.args.network.now.library c.try_list.new.network.library
+    c.args.network.now.cells c.try_list.new.network.cells c.decide.new.search both rest c.decide.ensures.search
 
 pub returns-in_err-end-clause-under_way : goal.returns-in_err-end-clause-under_way
 returns-in_err-end-clause-under_way g c =
@@ -152,33 +180,68 @@ returns-in_err-end-clause-under_way g c =
 pub returns-in_err-end-clause-passed : goal.returns-in_err-end-clause-passed
 returns-in_err-end-clause-passed g c =
     let both = c.try_list.ensures.same ∙ c.loop-tried.invariant.same in
-    let rest : c.try_list.new.network.cells ≡ record c.args.network.now.cells { contents = c.try_list.new.network.cells.contents } = rest_on c.args.network.now.cells c.loop-tried.network.cells c.try_list.new.network.cells c.loop-tried.invariant.way.rest c.try_list.ensures.rest in
-    let learned : IsSearch (problem_of (stored_of g.R.Rule.value_of c.args.network.now.library) c.args.network.now.cells) c.decide.new.search = search_in (stored_of g.R.Rule.value_of) c.args.network.now.library c.try_list.new.network.library c.args.network.now.cells c.try_list.new.network.cells c.decide.new.search both rest c.decide.ensures.search in
-    kept_block (problem_of (stored_of g.R.Rule.value_of c.args.network.now.library) c.args.network.now.cells) c.decide.new.search c.decide.ensures.stand learned.reasons
+    let rest : c.try_list.new.network.cells
+    ≡ record c.args.network.now.cells { contents = c.try_list.new.network.cells.contents } =
+    rest_on c.args.network.now.cells c.loop-tried.network.cells c.try_list.new.network.cells
+    c.loop-tried.invariant.way.rest c.try_list.ensures.rest in
+    let learned : IsSearch (problem_of (stored_of g.R.Rule.value_of c.args.network.now.library)
+    c.args.network.now.cells) c.decide.new.search = search_in (stored_of g.R.Rule.value_of)
+    c.args.network.now.library c.try_list.new.network.library c.args.network.now.cells c.try_list.new.network.cells
+    c.decide.new.search both rest c.decide.ensures.search in
+    kept_block (problem_of (stored_of g.R.Rule.value_of c.args.network.now.library) c.args.network.now.cells)
+    c.decide.new.search c.decide.ensures.stand learned.reasons
 
 pub returns-in_err-end-clause-earlier : goal.returns-in_err-end-clause-earlier
 returns-in_err-end-clause-earlier g c =
     let both = c.try_list.ensures.same ∙ c.loop-tried.invariant.same in
-    let rest : c.try_list.new.network.cells ≡ record c.args.network.now.cells { contents = c.try_list.new.network.cells.contents } = rest_on c.args.network.now.cells c.loop-tried.network.cells c.try_list.new.network.cells c.loop-tried.invariant.way.rest c.try_list.ensures.rest in
-    let learned : IsSearch (problem_of (stored_of g.R.Rule.value_of c.args.network.now.library) c.args.network.now.cells) c.decide.new.search = search_in (stored_of g.R.Rule.value_of) c.args.network.now.library c.try_list.new.network.library c.args.network.now.cells c.try_list.new.network.cells c.decide.new.search both rest c.decide.ensures.search in
-    kept_refute (problem_of (stored_of g.R.Rule.value_of c.args.network.now.library) c.args.network.now.cells) c.decide.new.search c.decide.ensures.stand learned.reasons
+    let rest : c.try_list.new.network.cells
+    ≡ record c.args.network.now.cells { contents = c.try_list.new.network.cells.contents } =
+    rest_on c.args.network.now.cells c.loop-tried.network.cells c.try_list.new.network.cells
+    c.loop-tried.invariant.way.rest c.try_list.ensures.rest in
+    let learned : IsSearch (problem_of (stored_of g.R.Rule.value_of c.args.network.now.library)
+    c.args.network.now.cells) c.decide.new.search = search_in (stored_of g.R.Rule.value_of)
+    c.args.network.now.library c.try_list.new.network.library c.args.network.now.cells c.try_list.new.network.cells
+    c.decide.new.search both rest c.decide.ensures.search in
+    kept_refute (problem_of (stored_of g.R.Rule.value_of c.args.network.now.library) c.args.network.now.cells)
+    c.decide.new.search c.decide.ensures.stand learned.reasons
 
 pub returns-in-Some : goal.returns-in-Some
 returns-in-Some g c =
     let same = c.loop-tried.invariant.same in
     let way = c.loop-tried.invariant.way in
     let a = c.in_ok-tried.ensures.tried in
-    let x : OnTry g.O.Order.picks (stored_of g.R.Rule.value_of c.args.network.now.library) c.args.search.now c.args.network.now.cells c.args.agenda.now.line c.args.order.now c.try_list.new.search c.try_list.new.network.cells c.try_list.new.agenda.line c.try_list.new.order (c.loop-tried.steps + c.in_ok-tried.calls) c.args.budget c.in_ok-tried.tried =
-    after_try g.O.Order.picks (stored_of g.R.Rule.value_of c.args.network.now.library) c.args.search.now c.args.network.now.cells c.args.agenda.now.line c.args.order.now c.loop-tried.search c.loop-tried.network.cells c.loop-tried.agenda.line c.loop-tried.order c.loop-tried.steps c.args.budget c.in_ok-tried.tried c.in_ok-tried.calls c.try_list.new.search c.try_list.new.network.cells c.try_list.new.agenda.line c.try_list.new.order way c.loop-tried.invariant.within
-    (attempted_in (stored_of g.R.Rule.value_of) c.args.network.now.library c.loop-tried.network.library g.O.Order.picks c.loop-tried.search c.loop-tried.network.cells c.loop-tried.agenda.line c.loop-tried.order (c.args.budget - c.loop-tried.steps) c.in_ok-tried.tried c.in_ok-tried.calls c.try_list.new.search c.try_list.new.network.cells c.try_list.new.agenda.line c.try_list.new.order same a) in
+    let x : OnTry g.O.Order.picks (stored_of g.R.Rule.value_of c.args.network.now.library) c.args.search.now
+    c.args.network.now.cells c.args.agenda.now.line c.args.order.now c.try_list.new.search
+    c.try_list.new.network.cells c.try_list.new.agenda.line c.try_list.new.order
+    (c.loop-tried.steps + c.in_ok-tried.calls) c.args.budget c.in_ok-tried.tried =
+    after_try g.O.Order.picks (stored_of g.R.Rule.value_of c.args.network.now.library) c.args.search.now
+    c.args.network.now.cells c.args.agenda.now.line c.args.order.now c.loop-tried.search c.loop-tried.network.cells
+    c.loop-tried.agenda.line c.loop-tried.order c.loop-tried.steps c.args.budget c.in_ok-tried.tried
+    c.in_ok-tried.calls c.try_list.new.search c.try_list.new.network.cells c.try_list.new.agenda.line
+    c.try_list.new.order way c.loop-tried.invariant.within
+    (attempted_in (stored_of g.R.Rule.value_of) c.args.network.now.library c.loop-tried.network.library g.O.Order.picks
+    c.loop-tried.search c.loop-tried.network.cells c.loop-tried.agenda.line c.loop-tried.order
+    (c.args.budget - c.loop-tried.steps) c.in_ok-tried.tried c.in_ok-tried.calls c.try_list.new.search
+    c.try_list.new.network.cells c.try_list.new.agenda.line c.try_list.new.order same a) in
     let both : c.try_list.new.network.library ≡ c.args.network.now.library = c.try_list.ensures.same ∙ same in
     let as_was : c.decide.new.search ≡ c.try_list.new.search = rw c.in-Some.is at c.in_ok-end.ensures.same in
-    let line_as_was : c.decide.new.agenda.line ≡ c.try_list.new.agenda.line = rw c.in-Some.is at c.in_ok-end.ensures.same_line in
-    let t : OnTry g.O.Order.picks (stored_of g.R.Rule.value_of c.args.network.now.library) c.args.search.now c.args.network.now.cells c.args.agenda.now.line c.args.order.now c.decide.new.search c.try_list.new.network.cells c.decide.new.agenda.line c.try_list.new.order (c.loop-tried.steps + c.in_ok-tried.calls) c.args.budget c.in_ok-tried.tried =
-    ended g.O.Order.picks (stored_of g.R.Rule.value_of c.args.network.now.library) c.args.search.now c.args.network.now.cells c.args.agenda.now.line c.args.order.now c.try_list.new.search c.try_list.new.network.cells c.try_list.new.agenda.line c.try_list.new.order (c.loop-tried.steps + c.in_ok-tried.calls) c.args.budget c.in_ok-tried.tried c.decide.new.search c.decide.new.agenda.line x as_was line_as_was in
+    let line_as_was : c.decide.new.agenda.line ≡ c.try_list.new.agenda.line =
+    rw c.in-Some.is at c.in_ok-end.ensures.same_line in
+    let t : OnTry g.O.Order.picks (stored_of g.R.Rule.value_of c.args.network.now.library) c.args.search.now
+    c.args.network.now.cells c.args.agenda.now.line c.args.order.now c.decide.new.search
+    c.try_list.new.network.cells c.decide.new.agenda.line c.try_list.new.order
+    (c.loop-tried.steps + c.in_ok-tried.calls) c.args.budget c.in_ok-tried.tried =
+    ended g.O.Order.picks (stored_of g.R.Rule.value_of c.args.network.now.library) c.args.search.now
+    c.args.network.now.cells c.args.agenda.now.line c.args.order.now c.try_list.new.search
+    c.try_list.new.network.cells c.try_list.new.agenda.line c.try_list.new.order
+    (c.loop-tried.steps + c.in_ok-tried.calls) c.args.budget c.in_ok-tried.tried c.decide.new.search
+    c.decide.new.agenda.line x as_was line_as_was in
     let library = stored_of g.R.Rule.value_of c.args.network.now.library in
-    let quiet : c.in-Some.outcome ≡ Settled → c.in_ok-tried.tried ≡ Quiet = λ e. c.in_ok-end.ensures.settled (c.in-Some.is ∙ ap Some e) in
-    let unsettled : c.in-Some.outcome ≡ Unsettled → (c.in_ok-tried.tried ≡ Spent) ⊎ ((c.args.budget - (c.loop-tried.steps + c.in_ok-tried.calls) ≡ 0) × ((j : ℕ) × MayMove c.decide.new.search j)) =
+    let quiet : c.in-Some.outcome ≡ Settled
+    → c.in_ok-tried.tried ≡ Quiet = λ e. c.in_ok-end.ensures.settled (c.in-Some.is ∙ ap Some e) in
+    let unsettled : c.in-Some.outcome ≡ Unsettled
+    → (c.in_ok-tried.tried ≡ Spent) ⊎ ((c.args.budget - (c.loop-tried.steps + c.in_ok-tried.calls) ≡ 0)
+    × ((j : ℕ) × MayMove c.decide.new.search j)) =
     λ e. rw as_was (c.in_ok-end.ensures.unsettled (c.in-Some.is ∙ ap Some e)) in
     record {
       same = both;
@@ -193,23 +256,45 @@ returns-in-Some g c =
       under_way = t.under_way;
       settled = λ e. t.quiet (quiet e);
       full = λ e. t.full (quiet e);
-      first = λ e. first_consistent g.O.Order.picks (stored_of g.R.Rule.value_of c.args.network.now.library) c.args.search.now c.args.network.now.cells c.args.agenda.now.line c.args.order.now c.decide.new.search c.try_list.new.network.cells c.decide.new.agenda.line c.try_list.new.order (c.loop-tried.steps + c.in_ok-tried.calls) c.args.budget c.in_ok-tried.tried t (quiet e);
+      first = λ e. first_consistent g.O.Order.picks (stored_of g.R.Rule.value_of c.args.network.now.library)
+          c.args.search.now c.args.network.now.cells c.args.agenda.now.line c.args.order.now c.decide.new.search
+          c.try_list.new.network.cells c.decide.new.agenda.line c.try_list.new.order
+          (c.loop-tried.steps + c.in_ok-tried.calls) c.args.budget c.in_ok-tried.tried t (quiet e);
       rests = λ e. t.rests (quiet e);
-      contradiction = contradiction_in (stored_of g.R.Rule.value_of) c.args.network.now.library c.try_list.new.network.library c.args.network.now.cells c.try_list.new.network.cells c.try_list.new.search c.decide.new.search c.in-Some.outcome both x.rest as_was
+      contradiction = contradiction_in (stored_of g.R.Rule.value_of) c.args.network.now.library
+          c.try_list.new.network.library c.args.network.now.cells c.try_list.new.network.cells c.try_list.new.search
+          c.decide.new.search c.in-Some.outcome both x.rest as_was
           (rw c.in-Some.is at c.in_ok-end.ensures.contradiction);
-      named = blamed_in c.try_list.new.search c.decide.new.search c.in-Some.outcome as_was (rw c.in-Some.is at c.in_ok-end.ensures.named);
-      passed = kept_block (problem_of (stored_of g.R.Rule.value_of c.args.network.now.library) c.args.network.now.cells) c.decide.new.search t.stand t.search.reasons;
-      earlier = kept_refute (problem_of (stored_of g.R.Rule.value_of c.args.network.now.library) c.args.network.now.cells) c.decide.new.search t.stand t.search.reasons;
+      named = blamed_in c.try_list.new.search c.decide.new.search c.in-Some.outcome as_was
+          (rw c.in-Some.is at c.in_ok-end.ensures.named);
+      passed = kept_block (problem_of (stored_of g.R.Rule.value_of c.args.network.now.library) c.args.network.now.cells)
+          c.decide.new.search t.stand t.search.reasons;
+      earlier = kept_refute (problem_of (stored_of g.R.Rule.value_of c.args.network.now.library)
+          c.args.network.now.cells) c.decide.new.search t.stand t.search.reasons;
       spent = λ e. elim (unsettled e) [ inl q ↦ t.spent q | inr h ↦ omega (arith, h.0, t.within) ];
       steps = t.within;
-      moves = all_moves g.O.Order.picks (stored_of g.R.Rule.value_of c.args.network.now.library) c.args.search.now c.args.network.now.cells c.args.agenda.now.line c.args.order.now c.decide.new.search c.try_list.new.network.cells c.decide.new.agenda.line c.try_list.new.order (c.loop-tried.steps + c.in_ok-tried.calls) c.args.budget c.in_ok-tried.tried t;
+      moves = all_moves g.O.Order.picks (stored_of g.R.Rule.value_of c.args.network.now.library) c.args.search.now
+          c.args.network.now.cells c.args.agenda.now.line c.args.order.now c.decide.new.search
+          c.try_list.new.network.cells c.decide.new.agenda.line c.try_list.new.order
+          (c.loop-tried.steps + c.in_ok-tried.calls) c.args.budget c.in_ok-tried.tried t;
       earned = λ e. elim (unsettled e) [
-        | inl q ↦ spent_earned g.O.Order.picks (stored_of g.R.Rule.value_of c.args.network.now.library) c.args.search.now c.args.network.now.cells c.args.agenda.now.line c.args.order.now c.decide.new.search c.try_list.new.network.cells c.decide.new.agenda.line c.try_list.new.order (c.loop-tried.steps + c.in_ok-tried.calls) c.args.budget c.in_ok-tried.tried t q
-        | inr h ↦ held_earned g.O.Order.picks (stored_of g.R.Rule.value_of c.args.network.now.library) c.args.search.now c.args.network.now.cells c.args.agenda.now.line c.args.order.now c.decide.new.search c.try_list.new.network.cells c.decide.new.agenda.line c.try_list.new.order (c.loop-tried.steps + c.in_ok-tried.calls) c.args.budget c.in_ok-tried.tried t (omega (arith, h.0)) h.1.0 h.1.1
+        | inl q ↦ spent_earned g.O.Order.picks (stored_of g.R.Rule.value_of c.args.network.now.library)
+            c.args.search.now c.args.network.now.cells c.args.agenda.now.line c.args.order.now c.decide.new.search
+            c.try_list.new.network.cells c.decide.new.agenda.line c.try_list.new.order
+            (c.loop-tried.steps + c.in_ok-tried.calls) c.args.budget c.in_ok-tried.tried t q
+        | inr h ↦ held_earned g.O.Order.picks (stored_of g.R.Rule.value_of c.args.network.now.library) c.args.search.now
+            c.args.network.now.cells c.args.agenda.now.line c.args.order.now c.decide.new.search
+            c.try_list.new.network.cells c.decide.new.agenda.line c.try_list.new.order
+            (c.loop-tried.steps + c.in_ok-tried.calls) c.args.budget c.in_ok-tried.tried t (omega (arith, h.0)) h.1.0
+            h.1.1
       ];
       left = λ e. elim (unsettled e) [ inl q ↦ inl (t.leaves q) | inr h ↦ inr h.1 ];
       falls = t.falls;
-      at_rest = λ full idle free unblocked. (let r : (c.in_ok-tried.tried ≡ Quiet) × (c.loop-tried.steps + c.in_ok-tried.calls ≡ 0) = t.at_rest (record { full = full; idle = idle; free = free; unblocked = unblocked }) in (settled_at (c.decide.ensures.quiet r.0) c.in_ok-end.was c.in-Some.is, r.1));
+      at_rest = λ full idle free unblocked.
+          (let r : (c.in_ok-tried.tried ≡ Quiet)
+          × (c.loop-tried.steps + c.in_ok-tried.calls ≡ 0) =
+          t.at_rest (record { full = full; idle = idle; free = free; unblocked = unblocked })
+          in (settled_at (c.decide.ensures.quiet r.0) c.in_ok-end.was c.in-Some.is, r.1));
       gone = t.gone;
     }
 
@@ -222,9 +307,19 @@ loop-tried-preserved g c =
     let same = c.loop-tried.invariant.same in
     let way = c.loop-tried.invariant.way in
     let a = c.in_ok-tried.ensures.tried in
-    let x : OnTry g.O.Order.picks (stored_of g.R.Rule.value_of c.args.network.now.library) c.args.search.now c.args.network.now.cells c.args.agenda.now.line c.args.order.now c.try_list.new.search c.try_list.new.network.cells c.try_list.new.agenda.line c.try_list.new.order (c.loop-tried.steps + c.in_ok-tried.calls) c.args.budget c.in_ok-tried.tried =
-    after_try g.O.Order.picks (stored_of g.R.Rule.value_of c.args.network.now.library) c.args.search.now c.args.network.now.cells c.args.agenda.now.line c.args.order.now c.loop-tried.search c.loop-tried.network.cells c.loop-tried.agenda.line c.loop-tried.order c.loop-tried.steps c.args.budget c.in_ok-tried.tried c.in_ok-tried.calls c.try_list.new.search c.try_list.new.network.cells c.try_list.new.agenda.line c.try_list.new.order way c.loop-tried.invariant.within
-    (attempted_in (stored_of g.R.Rule.value_of) c.args.network.now.library c.loop-tried.network.library g.O.Order.picks c.loop-tried.search c.loop-tried.network.cells c.loop-tried.agenda.line c.loop-tried.order (c.args.budget - c.loop-tried.steps) c.in_ok-tried.tried c.in_ok-tried.calls c.try_list.new.search c.try_list.new.network.cells c.try_list.new.agenda.line c.try_list.new.order same a) in
+    let x : OnTry g.O.Order.picks (stored_of g.R.Rule.value_of c.args.network.now.library) c.args.search.now
+    c.args.network.now.cells c.args.agenda.now.line c.args.order.now c.try_list.new.search
+    c.try_list.new.network.cells c.try_list.new.agenda.line c.try_list.new.order
+    (c.loop-tried.steps + c.in_ok-tried.calls) c.args.budget c.in_ok-tried.tried =
+    after_try g.O.Order.picks (stored_of g.R.Rule.value_of c.args.network.now.library) c.args.search.now
+    c.args.network.now.cells c.args.agenda.now.line c.args.order.now c.loop-tried.search c.loop-tried.network.cells
+    c.loop-tried.agenda.line c.loop-tried.order c.loop-tried.steps c.args.budget c.in_ok-tried.tried
+    c.in_ok-tried.calls c.try_list.new.search c.try_list.new.network.cells c.try_list.new.agenda.line
+    c.try_list.new.order way c.loop-tried.invariant.within
+    (attempted_in (stored_of g.R.Rule.value_of) c.args.network.now.library c.loop-tried.network.library g.O.Order.picks
+    c.loop-tried.search c.loop-tried.network.cells c.loop-tried.agenda.line c.loop-tried.order
+    (c.args.budget - c.loop-tried.steps) c.in_ok-tried.tried c.in_ok-tried.calls c.try_list.new.search
+    c.try_list.new.network.cells c.try_list.new.agenda.line c.try_list.new.order same a) in
     let both : c.try_list.new.network.library ≡ c.args.network.now.library = c.try_list.ensures.same ∙ same in
     let some = c.in_ok-end.ensures.some c.in-None.is in
     record {
@@ -233,7 +328,13 @@ loop-tried-preserved g c =
       cells = c.decide.ensures.cells ∙ c.try_list.ensures.cells ∙ c.loop-tried.invariant.cells;
       watched = c.decide.ensures.watched;
       within = omega (arith, some, c.in_ok-end.ensures.few, x.within);
-      way = after_move g.O.Order.picks (stored_of g.R.Rule.value_of c.args.network.now.library) c.args.search.now c.args.network.now.cells c.args.agenda.now.line c.args.order.now c.try_list.new.search c.try_list.new.network.cells c.try_list.new.agenda.line c.try_list.new.order (c.loop-tried.steps + c.in_ok-tried.calls) c.args.budget c.in_ok-tried.tried c.decide.new.search c.decide.new.agenda.line c.in_ok-end.moves x
+      way = after_move g.O.Order.picks (stored_of g.R.Rule.value_of c.args.network.now.library) c.args.search.now
+          c.args.network.now.cells c.args.agenda.now.line c.args.order.now c.try_list.new.search
+          c.try_list.new.network.cells c.try_list.new.agenda.line c.try_list.new.order
+          (c.loop-tried.steps + c.in_ok-tried.calls) c.args.budget c.in_ok-tried.tried c.decide.new.search
+          c.decide.new.agenda.line c.in_ok-end.moves x
           (λ q. no_end (c.decide.ensures.quiet q) c.in_ok-end.was c.in-None.is)
-          c.decide.ensures.premises c.decide.ensures.listed (rw both at c.decide.ensures.search) (rw both at c.decide.ensures.under_way) some (c.in_ok-end.ensures.moves c.in-None.is) (c.in_ok-end.ensures.shifted c.in-None.is);
+          c.decide.ensures.premises c.decide.ensures.listed (rw both at c.decide.ensures.search)
+          (rw both at c.decide.ensures.under_way) some (c.in_ok-end.ensures.moves c.in-None.is)
+          (c.in_ok-end.ensures.shifted c.in-None.is);
     }

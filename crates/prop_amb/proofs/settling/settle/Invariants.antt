@@ -12,7 +12,8 @@ invariant-loop-tried g l = record {
   cells : l.agenda.cells ≡ l.fn.agenda.cells;
   watched : IsWatched (set_of l.search.worldview) l.network.cells l.agenda.watched;
   within : l.steps ≤ l.budget;
-  way : OnWay g.O.Order.picks (stored_of g.R.Rule.value_of l.fn.network.library) l.fn.search l.fn.network.cells l.fn.agenda.line l.fn.order l.search l.network.cells l.agenda.line l.order l.steps;
+  way : OnWay g.O.Order.picks (stored_of g.R.Rule.value_of l.fn.network.library) l.fn.search l.fn.network.cells
+      l.fn.agenda.line l.fn.order l.search l.network.cells l.agenda.line l.order l.steps;
 }
 
 abbrev pub decreases-loop-tried : goal.decreases-loop-tried

@@ -15,12 +15,15 @@ loop-tried-init g c = record {
   cells = refl;
   watched = c.requires.watched;
   within = omega arith;
-  way = at_first g.O.Order.picks (stored_of g.R.Rule.value_of c.args.network.now.library) c.args.search.now c.args.network.now.cells c.args.agenda.now.line c.args.order.now c.requires.search c.requires.under_way;
+  way = at_first g.O.Order.picks (stored_of g.R.Rule.value_of c.args.network.now.library) c.args.search.now
+      c.args.network.now.cells c.args.agenda.now.line c.args.order.now c.requires.search c.requires.under_way;
 }
 
 pub attempt-requires-clause-search : goal.attempt-requires-clause-search
 attempt-requires-clause-search g c =
-    search_from (stored_of g.R.Rule.value_of) c.args.network.now.library c.loop-tried.network.library c.args.network.now.cells c.loop-tried.network.cells c.loop-tried.search c.loop-tried.invariant.same c.loop-tried.invariant.way.rest c.loop-tried.invariant.way.search
+    search_from (stored_of g.R.Rule.value_of) c.args.network.now.library c.loop-tried.network.library
+    c.args.network.now.cells c.loop-tried.network.cells c.loop-tried.search c.loop-tried.invariant.same
+    c.loop-tried.invariant.way.rest c.loop-tried.invariant.way.search
 
 pub believe_more-requires-clause-unblocked : goal.believe_more-requires-clause-unblocked
 believe_more-requires-clause-unblocked g c =
@@ -29,9 +32,15 @@ believe_more-requires-clause-unblocked g c =
 
 pub loop-tried-preserved : goal.loop-tried-preserved
 loop-tried-preserved g c =
-    let a : AtLevel g.O.Order.picks (stored_of g.R.Rule.value_of c.args.network.now.library) c.loop-tried.search c.loop-tried.network.cells c.loop-tried.agenda.line c.loop-tried.order (c.args.budget - c.loop-tried.steps) c.in_ok-tried.tried c.in_ok-tried.calls c.attempt.new.search c.attempt.new.network.cells c.attempt.new.agenda.line c.attempt.new.order =
-    at_level (stored_of g.R.Rule.value_of) c.args.network.now.library c.loop-tried.network.library g.O.Order.picks c.loop-tried.search c.loop-tried.network.cells c.loop-tried.agenda.line c.loop-tried.order (c.args.budget - c.loop-tried.steps) c.in_ok-tried.tried c.in_ok-tried.calls
-    c.attempt.new.search c.attempt.new.network.cells c.attempt.new.agenda.line c.attempt.new.order c.loop-tried.invariant.same
+    let a : AtLevel g.O.Order.picks (stored_of g.R.Rule.value_of c.args.network.now.library) c.loop-tried.search
+    c.loop-tried.network.cells c.loop-tried.agenda.line c.loop-tried.order (c.args.budget - c.loop-tried.steps)
+    c.in_ok-tried.tried c.in_ok-tried.calls c.attempt.new.search c.attempt.new.network.cells
+    c.attempt.new.agenda.line c.attempt.new.order =
+    at_level (stored_of g.R.Rule.value_of) c.args.network.now.library c.loop-tried.network.library g.O.Order.picks
+    c.loop-tried.search c.loop-tried.network.cells c.loop-tried.agenda.line c.loop-tried.order
+    (c.args.budget - c.loop-tried.steps) c.in_ok-tried.tried c.in_ok-tried.calls
+    c.attempt.new.search c.attempt.new.network.cells c.attempt.new.agenda.line c.attempt.new.order
+    c.loop-tried.invariant.same
     (record {
       only = c.in_ok-tried.ensures.only;
       kept = c.in_ok-tried.ensures.listed;
@@ -54,22 +63,36 @@ loop-tried-preserved g c =
     }) in
     let both = c.attempt.ensures.same ∙ c.loop-tried.invariant.same in
     let more = c.in_ok-believe_more-in-Quiet.ensures in
-    let apart : c.attempt.new.search.level ≢ length c.attempt.new.search.list = λ e. false≢true (sym c.if-is_whole.false ∙ c.is_whole.ensures.whole.1 e) in
-    let left : c.attempt.new.search.level < length c.attempt.new.search.list = omega (arith, apart, c.is_whole.ensures.stand.level) in
+    let apart : c.attempt.new.search.level ≢ length c.attempt.new.search.list =
+    λ e. false≢true (sym c.if-is_whole.false ∙ c.is_whole.ensures.whole.1 e) in
+    let left : c.attempt.new.search.level < length c.attempt.new.search.list =
+    omega (arith, apart, c.is_whole.ensures.stand.level) in
     record {
       same = both;
       room = more.room ∙ c.attempt.ensures.room ∙ c.loop-tried.invariant.room;
       cells = more.cells ∙ c.attempt.ensures.cells ∙ c.loop-tried.invariant.cells;
       watched = more.watched;
       within = (let few = a.steps in omega (arith, few, c.loop-tried.invariant.within));
-      way = deepened_on g.O.Order.picks (stored_of g.R.Rule.value_of c.args.network.now.library) c.args.search.now c.args.network.now.cells c.args.agenda.now.line c.args.order.now c.loop-tried.search c.loop-tried.network.cells c.loop-tried.agenda.line c.loop-tried.order c.loop-tried.steps c.args.budget c.loop-tried.invariant.way c.loop-tried.invariant.within c.in_ok-tried.tried c.in_ok-tried.calls c.attempt.new.search c.attempt.new.network.cells c.attempt.new.agenda.line c.attempt.new.order a c.believe_more.new.search c.believe_more.new.agenda.line c.in-Quiet.is left more.ok more.search (rw both at more.under_way) more.grown (rw both at more.falls);
+      way = deepened_on g.O.Order.picks (stored_of g.R.Rule.value_of c.args.network.now.library) c.args.search.now
+          c.args.network.now.cells c.args.agenda.now.line c.args.order.now c.loop-tried.search
+          c.loop-tried.network.cells c.loop-tried.agenda.line c.loop-tried.order c.loop-tried.steps c.args.budget
+          c.loop-tried.invariant.way c.loop-tried.invariant.within c.in_ok-tried.tried c.in_ok-tried.calls
+          c.attempt.new.search c.attempt.new.network.cells c.attempt.new.agenda.line c.attempt.new.order a
+          c.believe_more.new.search c.believe_more.new.agenda.line c.in-Quiet.is left more.ok more.search
+          (rw both at more.under_way) more.grown (rw both at more.falls);
     }
 
 pub returns-in_default-clause-tried : goal.returns-in_default-clause-tried
 returns-in_default-clause-tried g c =
-    let a : AtLevel g.O.Order.picks (stored_of g.R.Rule.value_of c.args.network.now.library) c.loop-tried.search c.loop-tried.network.cells c.loop-tried.agenda.line c.loop-tried.order (c.args.budget - c.loop-tried.steps) c.in_ok-tried.tried c.in_ok-tried.calls c.attempt.new.search c.attempt.new.network.cells c.attempt.new.agenda.line c.attempt.new.order =
-    at_level (stored_of g.R.Rule.value_of) c.args.network.now.library c.loop-tried.network.library g.O.Order.picks c.loop-tried.search c.loop-tried.network.cells c.loop-tried.agenda.line c.loop-tried.order (c.args.budget - c.loop-tried.steps) c.in_ok-tried.tried c.in_ok-tried.calls
-    c.attempt.new.search c.attempt.new.network.cells c.attempt.new.agenda.line c.attempt.new.order c.loop-tried.invariant.same
+    let a : AtLevel g.O.Order.picks (stored_of g.R.Rule.value_of c.args.network.now.library) c.loop-tried.search
+    c.loop-tried.network.cells c.loop-tried.agenda.line c.loop-tried.order (c.args.budget - c.loop-tried.steps)
+    c.in_ok-tried.tried c.in_ok-tried.calls c.attempt.new.search c.attempt.new.network.cells
+    c.attempt.new.agenda.line c.attempt.new.order =
+    at_level (stored_of g.R.Rule.value_of) c.args.network.now.library c.loop-tried.network.library g.O.Order.picks
+    c.loop-tried.search c.loop-tried.network.cells c.loop-tried.agenda.line c.loop-tried.order
+    (c.args.budget - c.loop-tried.steps) c.in_ok-tried.tried c.in_ok-tried.calls
+    c.attempt.new.search c.attempt.new.network.cells c.attempt.new.agenda.line c.attempt.new.order
+    c.loop-tried.invariant.same
     (record {
       only = c.in_ok-tried.ensures.only;
       kept = c.in_ok-tried.ensures.listed;
@@ -90,13 +113,24 @@ returns-in_default-clause-tried g c =
       few = c.in_ok-tried.ensures.few;
       most = c.in_ok-tried.ensures.most;
     }) in
-    list_tried g.O.Order.picks (stored_of g.R.Rule.value_of c.args.network.now.library) c.args.search.now c.args.network.now.cells c.args.agenda.now.line c.args.order.now c.loop-tried.search c.loop-tried.network.cells c.loop-tried.agenda.line c.loop-tried.order c.loop-tried.steps c.args.budget c.loop-tried.invariant.way c.loop-tried.invariant.within c.in_ok-tried.tried c.in_ok-tried.calls c.attempt.new.search c.attempt.new.network.cells c.attempt.new.agenda.line c.attempt.new.order a (λ quiet. absurd (c.in_default.not-Quiet quiet))
+    list_tried g.O.Order.picks (stored_of g.R.Rule.value_of c.args.network.now.library) c.args.search.now
+    c.args.network.now.cells c.args.agenda.now.line c.args.order.now c.loop-tried.search c.loop-tried.network.cells
+    c.loop-tried.agenda.line c.loop-tried.order c.loop-tried.steps c.args.budget c.loop-tried.invariant.way
+    c.loop-tried.invariant.within c.in_ok-tried.tried c.in_ok-tried.calls c.attempt.new.search
+    c.attempt.new.network.cells c.attempt.new.agenda.line c.attempt.new.order a
+    (λ quiet. absurd (c.in_default.not-Quiet quiet))
 
 pub returns-then-is_whole-clause-tried : goal.returns-then-is_whole-clause-tried
 returns-then-is_whole-clause-tried g c =
-    let a : AtLevel g.O.Order.picks (stored_of g.R.Rule.value_of c.args.network.now.library) c.loop-tried.search c.loop-tried.network.cells c.loop-tried.agenda.line c.loop-tried.order (c.args.budget - c.loop-tried.steps) c.in_ok-tried.tried c.in_ok-tried.calls c.attempt.new.search c.attempt.new.network.cells c.attempt.new.agenda.line c.attempt.new.order =
-    at_level (stored_of g.R.Rule.value_of) c.args.network.now.library c.loop-tried.network.library g.O.Order.picks c.loop-tried.search c.loop-tried.network.cells c.loop-tried.agenda.line c.loop-tried.order (c.args.budget - c.loop-tried.steps) c.in_ok-tried.tried c.in_ok-tried.calls
-    c.attempt.new.search c.attempt.new.network.cells c.attempt.new.agenda.line c.attempt.new.order c.loop-tried.invariant.same
+    let a : AtLevel g.O.Order.picks (stored_of g.R.Rule.value_of c.args.network.now.library) c.loop-tried.search
+    c.loop-tried.network.cells c.loop-tried.agenda.line c.loop-tried.order (c.args.budget - c.loop-tried.steps)
+    c.in_ok-tried.tried c.in_ok-tried.calls c.attempt.new.search c.attempt.new.network.cells
+    c.attempt.new.agenda.line c.attempt.new.order =
+    at_level (stored_of g.R.Rule.value_of) c.args.network.now.library c.loop-tried.network.library g.O.Order.picks
+    c.loop-tried.search c.loop-tried.network.cells c.loop-tried.agenda.line c.loop-tried.order
+    (c.args.budget - c.loop-tried.steps) c.in_ok-tried.tried c.in_ok-tried.calls
+    c.attempt.new.search c.attempt.new.network.cells c.attempt.new.agenda.line c.attempt.new.order
+    c.loop-tried.invariant.same
     (record {
       only = c.in_ok-tried.ensures.only;
       kept = c.in_ok-tried.ensures.listed;
@@ -117,5 +151,13 @@ returns-then-is_whole-clause-tried g c =
       few = c.in_ok-tried.ensures.few;
       most = c.in_ok-tried.ensures.most;
     }) in
-    subst (λ tried. Attempted g.O.Order.picks (stored_of g.R.Rule.value_of c.args.network.now.library) c.args.search.now c.args.network.now.cells c.args.agenda.now.line c.args.order.now c.args.budget tried (c.loop-tried.steps + c.in_ok-tried.calls) c.attempt.new.search c.attempt.new.network.cells c.attempt.new.agenda.line c.attempt.new.order) c.in-Quiet.is
-    (list_tried g.O.Order.picks (stored_of g.R.Rule.value_of c.args.network.now.library) c.args.search.now c.args.network.now.cells c.args.agenda.now.line c.args.order.now c.loop-tried.search c.loop-tried.network.cells c.loop-tried.agenda.line c.loop-tried.order c.loop-tried.steps c.args.budget c.loop-tried.invariant.way c.loop-tried.invariant.within c.in_ok-tried.tried c.in_ok-tried.calls c.attempt.new.search c.attempt.new.network.cells c.attempt.new.agenda.line c.attempt.new.order a (λ quiet. c.is_whole.ensures.whole.0 c.if-is_whole.true))
+    subst (λ tried. Attempted g.O.Order.picks (stored_of g.R.Rule.value_of c.args.network.now.library) c.args.search.now
+    c.args.network.now.cells c.args.agenda.now.line c.args.order.now c.args.budget tried
+    (c.loop-tried.steps + c.in_ok-tried.calls) c.attempt.new.search c.attempt.new.network.cells
+    c.attempt.new.agenda.line c.attempt.new.order) c.in-Quiet.is
+    (list_tried g.O.Order.picks (stored_of g.R.Rule.value_of c.args.network.now.library) c.args.search.now
+    c.args.network.now.cells c.args.agenda.now.line c.args.order.now c.loop-tried.search c.loop-tried.network.cells
+    c.loop-tried.agenda.line c.loop-tried.order c.loop-tried.steps c.args.budget c.loop-tried.invariant.way
+    c.loop-tried.invariant.within c.in_ok-tried.tried c.in_ok-tried.calls c.attempt.new.search
+    c.attempt.new.network.cells c.attempt.new.agenda.line c.attempt.new.order a
+    (λ quiet. c.is_whole.ensures.whole.0 c.if-is_whole.true))

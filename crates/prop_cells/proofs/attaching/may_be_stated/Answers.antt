@@ -11,4 +11,5 @@ returns-then-not-matches c =
       | in-Contradiction w ↦ (let clash = w.matches-is in let clear = c.if-not-matches.true in cc)
       | in_default w ↦ no_contradiction c.args.info w.in_default.not-Contradiction
     ]
-    in stated_test c.args.kind.kind c.args.kind.size c.min.result c.args.info c.is_of.result c.min.ensures free c.is_of.ensures
+    in stated_test c.args.kind.kind c.args.kind.size c.min.result c.args.info c.is_of.result c.min.ensures free
+    c.is_of.ensures

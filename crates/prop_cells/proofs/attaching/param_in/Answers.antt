@@ -6,4 +6,5 @@ bounds-params-n c = param_within c.args.need c.args.params.now c.in-Some.n (rw c
 
 pub returns-in-Some : goal.returns-in-Some
 returns-in-Some c =
-    copied_in c.args.need c.args.params.now c.args.given c.in-Some.n c.index-params-n.result c.copy.result c.in-Some.is c.requires c.index-params-n.is c.copy.ensures.copy
+    copied_in c.args.need c.args.params.now c.args.given c.in-Some.n c.index-params-n.result c.copy.result c.in-Some.is
+    c.requires c.index-params-n.is c.copy.ensures.copy

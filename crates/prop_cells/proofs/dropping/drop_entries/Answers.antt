@@ -13,7 +13,9 @@ loop-content-preserved c =
     let i = c.loop-content.content-index in
     let item = c.content-item.result in
     rw (c.purge.ensures.left, c.loop-content.invariant, add-one)
-    (ap (λ x. slice_set (first_gone p i contents) i (not_on p x)) (first_gone-at p i contents item) ∙ first_gone-more p i contents item c.loop-content-test.true)
+    (ap (λ x. slice_set (first_gone p i contents) i (not_on p x)) (first_gone-at p i contents item)
+    ∙ first_gone-more p i contents item c.loop-content-test.true)
 
 pub returns : goal.returns
-returns c = c.loop-content.invariant ∙ first_gone-all c.args.premise c.loop-content.content-index c.args.contents.now c.loop-content-test.false
+returns c = c.loop-content.invariant
+    ∙ first_gone-all c.args.premise c.loop-content.content-index c.args.contents.now c.loop-content-test.false

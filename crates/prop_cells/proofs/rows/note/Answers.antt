@@ -8,8 +8,10 @@ pub loop-i-preserved-then-is_again : goal.loop-i-preserved-then-is_again
 loop-i-preserved-then-is_again c =
     let there = sym c.is_again.ensures ∙ c.if-is_again.true in
     record {
-      noted = changed_again (λ r. r ++ c.args.number ∷ []) _ _ c.args.cells.now c.loop-i.i c.loop-i-test.true c.loop-i.invariant.noted there;
-      room = λ cell absent has. c.loop-i.invariant.room cell (sym (among_again c.args.cells.now c.loop-i.i cell c.loop-i-test.true there) ∙ absent) has;
+      noted = changed_again (λ r. r ++ c.args.number ∷ []) _ _ c.args.cells.now c.loop-i.i c.loop-i-test.true
+          c.loop-i.invariant.noted there;
+      room = λ cell absent has. c.loop-i.invariant.room cell
+          (sym (among_again c.args.cells.now c.loop-i.i cell c.loop-i-test.true there) ∙ absent) has;
     }
 
 pub index_mut-requires : goal.index_mut-requires
@@ -26,9 +28,13 @@ loop-i-preserved c =
     let l : get_or c.args.cells.now i 0 < length rows = omega (arith, same, c.requires.cells i 0 c.loop-i-test.true) in
     let absent = sym c.is_again.ensures ∙ c.if-is_again.false in
     let room : length row.items < vec_capacity row =
-    c.loop-i.invariant.room (get_or c.args.cells.now i 0) absent (c.requires.room i 0 c.loop-i-test.true) row (slice_get_read rows (length rows) (get_or c.args.cells.now i 0) row refl l c.index_mut.ensures.value) in
-    let pushed : c.push.new.self.items ≡ row.items ++ c.args.number ∷ [] = grind (arith, common_steps, room, c.push.ensures.items, c.push.ensures.succeeds, row.ok) in
+    c.loop-i.invariant.room (get_or c.args.cells.now i 0) absent (c.requires.room i 0 c.loop-i-test.true) row
+    (slice_get_read rows (length rows) (get_or c.args.cells.now i 0) row refl l c.index_mut.ensures.value) in
+    let pushed : c.push.new.self.items ≡ row.items ++ c.args.number ∷ [] =
+    grind (arith, common_steps, room, c.push.ensures.items, c.push.ensures.succeeds, row.ok) in
     record {
-      noted = changed_row (λ r. r ++ c.args.number ∷ []) _ rows c.args.cells.now i row c.push.new.self c.loop-i-test.true l absent c.index_mut.ensures.value pushed c.loop-i.invariant.noted;
-      room = λ cell absent has. room_left rows c.args.cells.now i cell c.push.new.self c.loop-i-test.true l absent (λ before. c.loop-i.invariant.room cell before has);
+      noted = changed_row (λ r. r ++ c.args.number ∷ []) _ rows c.args.cells.now i row c.push.new.self
+          c.loop-i-test.true l absent c.index_mut.ensures.value pushed c.loop-i.invariant.noted;
+      room = λ cell absent has. room_left rows c.args.cells.now i cell c.push.new.self c.loop-i-test.true l absent
+          (λ before. c.loop-i.invariant.room cell before has);
     }

@@ -4,7 +4,8 @@ use Rattle.prop_cells.proofs.rows.take_back.Goals as goal
 
 pub loop-i-preserved-then-is_again : goal.loop-i-preserved-then-is_again
 loop-i-preserved-then-is_again c =
-    changed_again (λ r. take (length r - 1) r) _ _ c.args.cells.now c.loop-i.i c.loop-i-test.true c.loop-i.invariant (sym c.is_again.ensures ∙ c.if-is_again.true)
+    changed_again (λ r. take (length r - 1) r) _ _ c.args.cells.now c.loop-i.i c.loop-i-test.true c.loop-i.invariant
+    (sym c.is_again.ensures ∙ c.if-is_again.true)
 
 pub index_mut-requires : goal.index_mut-requires
 index_mut-requires c =
@@ -19,5 +20,7 @@ loop-i-preserved c =
     let same = as_many rows c.args.rows.now.items c.loop-i.invariant.count in
     let l : get_or c.args.cells.now i 0 < length rows = omega (arith, same, c.requires i 0 c.loop-i-test.true) in
     let absent = sym c.is_again.ensures ∙ c.if-is_again.false in
-    let popped : c.pop.new.self.items ≡ take (length row.items - 1) row.items = c.pop.ensures.rest ∙ ap (λ n. take (n - 1) row.items) row.ok.0 in
-    changed_row (λ r. take (length r - 1) r) _ rows c.args.cells.now i row c.pop.new.self c.loop-i-test.true l absent c.index_mut.ensures.value popped c.loop-i.invariant
+    let popped : c.pop.new.self.items ≡ take (length row.items - 1) row.items = c.pop.ensures.rest
+    ∙ ap (λ n. take (n - 1) row.items) row.ok.0 in
+    changed_row (λ r. take (length r - 1) r) _ rows c.args.cells.now i row c.pop.new.self c.loop-i-test.true l absent
+    c.index_mut.ensures.value popped c.loop-i.invariant

@@ -7,4 +7,5 @@ use Rattle.prop_compound.proofs.counting.all_fresh.Given as goal
 
 abbrev pub invariant-loop-step : goal.invariant-loop-step
 invariant-loop-step l =
-    l.total ≡ min (most Cells + 1) (sum_by (fresh_of (total_of fresh_of (all_bare l.definitions))) (take l.step-index l.steps))
+    l.total ≡ min (most Cells + 1) (sum_by (fresh_of (total_of fresh_of (all_bare l.definitions)))
+    (take l.step-index l.steps))

@@ -7,4 +7,5 @@ use Rattle.prop_compound.proofs.counting.all_instances.Given as goal
 
 abbrev pub invariant-loop-step : goal.invariant-loop-step
 invariant-loop-step l =
-    l.total ≡ min (most Instances + 1) (sum_by (instances_of (total_of instances_of (all_bare l.definitions))) (take l.step-index l.steps))
+    l.total ≡ min (most Instances + 1) (sum_by (instances_of (total_of instances_of (all_bare l.definitions)))
+    (take l.step-index l.steps))

@@ -10,16 +10,25 @@ loop-instance-init g c = refl
 
 pub is_kind_wrong-requires : goal.is_kind_wrong-requires
 is_kind_wrong-requires g c =
-    all_here c.args.instances.now c.loop-instance.instance-index c.instance-item.result c.loop-instance-test.true c.instance-item.is (IsInstanceOver (stored_of g.R.Rule.value_of c.args.library.now) (length c.args.kinds.now)) c.requires
+    all_here c.args.instances.now c.loop-instance.instance-index c.instance-item.result c.loop-instance-test.true
+    c.instance-item.is (IsInstanceOver (stored_of g.R.Rule.value_of c.args.library.now) (length c.args.kinds.now))
+    c.requires
 
 pub returns-then-branch : goal.returns-then-branch
 returns-then-branch g c =
-    found_here c.args.instances.now c.loop-instance.instance-index c.instance-item.result c.loop-instance-test.true c.instance-item.is (λ x. is_kind_wrong (stored_of g.R.Rule.value_of c.args.library.now) c.args.kinds.now (placed_of c.args.params.now x)) c.in_ok-is_kind_wrong.field-0 c.in_ok-is_kind_wrong.ensures c.if-branch.true
+    found_here c.args.instances.now c.loop-instance.instance-index c.instance-item.result c.loop-instance-test.true
+    c.instance-item.is (λ x. is_kind_wrong (stored_of g.R.Rule.value_of c.args.library.now) c.args.kinds.now
+    (placed_of c.args.params.now x)) c.in_ok-is_kind_wrong.field-0 c.in_ok-is_kind_wrong.ensures c.if-branch.true
 
 pub loop-instance-preserved : goal.loop-instance-preserved
 loop-instance-preserved g c =
-    not_yet c.args.instances.now c.loop-instance.instance-index c.instance-item.result c.loop-instance-test.true c.instance-item.is (λ x. is_kind_wrong (stored_of g.R.Rule.value_of c.args.library.now) c.args.kinds.now (placed_of c.args.params.now x)) c.in_ok-is_kind_wrong.field-0 c.in_ok-is_kind_wrong.ensures c.if-branch.false c.loop-instance.invariant
+    not_yet c.args.instances.now c.loop-instance.instance-index c.instance-item.result c.loop-instance-test.true
+    c.instance-item.is (λ x. is_kind_wrong (stored_of g.R.Rule.value_of c.args.library.now) c.args.kinds.now
+    (placed_of c.args.params.now x)) c.in_ok-is_kind_wrong.field-0 c.in_ok-is_kind_wrong.ensures c.if-branch.false
+    c.loop-instance.invariant
 
 pub returns : goal.returns
 returns g c =
-    none_found (λ x. is_kind_wrong (stored_of g.R.Rule.value_of c.args.library.now) c.args.kinds.now (placed_of c.args.params.now x)) c.args.instances.now c.loop-instance.instance-index c.loop-instance-test.false c.loop-instance.invariant
+    none_found (λ x. is_kind_wrong (stored_of g.R.Rule.value_of c.args.library.now) c.args.kinds.now
+    (placed_of c.args.params.now x)) c.args.instances.now c.loop-instance.instance-index c.loop-instance-test.false
+    c.loop-instance.invariant

@@ -7,4 +7,5 @@ use Rattle.prop_compound.proofs.fitting.has_kind_wrong.Given as goal
 
 abbrev pub invariant-loop-instance : goal.invariant-loop-instance
 invariant-loop-instance g l =
-    list_any (λ x. is_kind_wrong (stored_of g.R.Rule.value_of l.library) l.kinds (placed_of l.params x)) (take l.instance-index l.instances) ≡ false
+    list_any (λ x. is_kind_wrong (stored_of g.R.Rule.value_of l.library) l.kinds (placed_of l.params x))
+    (take l.instance-index l.instances) ≡ false

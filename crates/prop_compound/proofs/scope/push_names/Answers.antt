@@ -16,16 +16,23 @@ pub returns-in_err-push_params-clause-why : goal.returns-in_err-push_params-clau
 returns-in_err-push_params-clause-why c =
     let p = err_from_is_err_and c.from_residual.result c.from_residual.ensures.1 in
     let why = rw c.requires at c.in_err-push_params.ensures.why in
-    rw (p.1, p.2) (taken_then _ (repeat_still (words c.args.params.now) (flat_map locals_of (map step_of c.args.steps.now))) why)
+    rw (p.1, p.2) (taken_then _ (repeat_still (words c.args.params.now)
+    (flat_map locals_of (map step_of c.args.steps.now))) why)
 
 pub returns-clause-ok : goal.returns-clause-ok
 returns-clause-ok c =
-    all_pushed c.push_locals.result c.args.scope.now c.push_params.new.scope c.push_locals.new.scope (words c.args.params.now) (flat_map locals_of (map step_of c.args.steps.now)) c.requires c.in_ok-push_params.ensures.ok c.push_locals.ensures.ok
+    all_pushed c.push_locals.result c.args.scope.now c.push_params.new.scope c.push_locals.new.scope
+    (words c.args.params.now) (flat_map locals_of (map step_of c.args.steps.now)) c.requires
+    c.in_ok-push_params.ensures.ok c.push_locals.ensures.ok
 
 pub returns-clause-apart : goal.returns-clause-apart
 returns-clause-apart c =
-    all_apart c.push_locals.result c.args.scope.now c.push_params.new.scope c.push_locals.new.scope (words c.args.params.now) (flat_map locals_of (map step_of c.args.steps.now)) c.requires c.in_ok-push_params.ensures.ok c.push_locals.ensures.ok c.push_locals.ensures.apart
+    all_apart c.push_locals.result c.args.scope.now c.push_params.new.scope c.push_locals.new.scope
+    (words c.args.params.now) (flat_map locals_of (map step_of c.args.steps.now)) c.requires
+    c.in_ok-push_params.ensures.ok c.push_locals.ensures.ok c.push_locals.ensures.apart
 
 pub returns-clause-why : goal.returns-clause-why
 returns-clause-why c =
-    all_why c.push_locals.result c.args.scope.now c.push_params.new.scope (words c.args.params.now) (flat_map locals_of (map step_of c.args.steps.now)) c.requires c.in_ok-push_params.ensures.ok c.push_locals.ensures.why
+    all_why c.push_locals.result c.args.scope.now c.push_params.new.scope (words c.args.params.now)
+    (flat_map locals_of (map step_of c.args.steps.now)) c.requires c.in_ok-push_params.ensures.ok
+    c.push_locals.ensures.why

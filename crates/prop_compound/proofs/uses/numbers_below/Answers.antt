@@ -3,4 +3,5 @@ use Rattle.prop_compound.proofs.uses.numbers_below.Goals as goal
 
 pub loop-number-preserved : goal.loop-number-preserved
 loop-number-preserved c =
-    range_push c.loop-number.number c.loop-number.numbers.items c.push.new.self.items c.loop-number.invariant c.in_ok-push.ensures.items
+    range_push c.loop-number.number c.loop-number.numbers.items c.push.new.self.items c.loop-number.invariant
+    c.in_ok-push.ensures.items

@@ -8,8 +8,11 @@ abbrev pub invariant-loop-byte : goal.invariant-loop-byte
 invariant-loop-byte g l = record {
   same : g.M.Interpreter.setting l.interpreter ≡ g.M.Interpreter.setting l.fn.interpreter;
   ready : g.M.Interpreter.is_ready l.interpreter;
-  so_far : (output : List ℕ) × Appends (g.W.Write.contents (device (writer l.fn.devices))) (g.W.Write.contents (device (writer l.devices))) output
-      × Advances (g.M.Interpreter.machine (g.M.Interpreter.setting l.fn.interpreter)) (g.M.Interpreter.state l.fn.interpreter) l.fn.pending l.fn.counts (take l.byte-index l.piece) output (g.M.Interpreter.state l.interpreter) l.pending l.counts;
+  so_far : (output : List ℕ) × Appends (g.W.Write.contents (device (writer l.fn.devices)))
+      (g.W.Write.contents (device (writer l.devices))) output
+      × Advances (g.M.Interpreter.machine (g.M.Interpreter.setting l.fn.interpreter))
+      (g.M.Interpreter.state l.fn.interpreter) l.fn.pending l.fn.counts (take l.byte-index l.piece) output
+      (g.M.Interpreter.state l.interpreter) l.pending l.counts;
   bounded : GrowsAtMost l.fn.counts l.counts l.byte-index;
   passed_on : IsPassedOn l.devices;
   in_turn : has_gone_ahead l.devices ≡ has_gone_ahead l.fn.devices;

@@ -1,18 +1,22 @@
-use Rattle.std.proofs.Common.{◌≡◌, ◌<◌, ◌∙◌, ◌↔◌, Bool, Result, Ok, Err, IsErrOf, inl, inr, length, true, false, refl, sym, ap, arith}
+use Rattle.std.proofs.Common.{◌≡◌, ◌<◌, ◌∙◌, ◌↔◌, Bool, Result, Ok, Err, IsErrOf, inl, inr, length, true, false, refl}
+use Rattle.std.proofs.Common.{sym, ap, arith}
 use Rattle.std.proofs.lemmas.Result.{err_from_is_err_and}
 use Rattle.std.proofs.lemmas.Bool.{false≢true}
 use Rattle.prop_engine.specs.declared.outcome.Counts.{Counts}
 use Rattle.prop_engine.specs.declared.outcome.EngineFault.{EngineFault}
 use Rattle.prop_engine.specs.declared.outcome.EngineFault.TheVariants.{Read, Write, Reads}
-use Rattle.prop_engine.specs.Watched.{reader, has_failed, has_stopped, is_flushed, calls, widest, narrowest, has_flushed_idly}
+use Rattle.prop_engine.specs.Watched.{reader, has_failed, has_stopped, is_flushed, calls, widest, narrowest}
+use Rattle.prop_engine.specs.Watched.{has_flushed_idly}
 use Rattle.prop_engine.proofs.Io.{not_failed, not_stopped}
 use Rattle.prop_engine.proofs.Machines.{same_step}
 use Rattle.prop_engine.proofs.Turns.{in_turn, still_passed_on}
-use Rattle.prop_engine.proofs.Pieces.{started, read_failed, too_many, at_end, ended_plain, ended_line, ended_fault, fed, feed_fault, same_advance, same_stop, told_by}
+use Rattle.prop_engine.proofs.Pieces.{started, read_failed, too_many, at_end, ended_plain, ended_line, ended_fault, fed}
+use Rattle.prop_engine.proofs.Pieces.{feed_fault, same_advance, same_stop, told_by}
 use Rattle.prop_engine.proofs.engine.run.Goals as goal
 
 -- where no read has failed, none is answered as failed
-none_failed : (result : Result Counts EngineFault) (failed : Bool) → (result ≡ Err Read → ⊥) → failed ≡ false → IsErrOf result Read ↔ (failed ≡ true)
+none_failed : (result : Result Counts EngineFault) (failed : Bool) → (result ≡ Err Read → ⊥) → failed ≡ false
+    → IsErrOf result Read ↔ (failed ≡ true)
 none_failed result failed other e = ((λ h. absurd (other h)), (λ t. absurd (false≢true (sym e ∙ t))))
 
 ok_is_none : (counts : Counts) (fault : EngineFault) → Ok counts ≡ Err fault → ⊥
@@ -49,65 +53,95 @@ pub returns-in_err-answer-clause-told : goal.returns-in_err-answer-clause-told
 returns-in_err-answer-clause-told g c =
     let p = err_from_is_err_and c.from_residual.result c.from_residual.ensures.1 in
     let s = c.in_err-answer.ensures.step in
-    let step : g.M.Interpreter.machine (g.M.Interpreter.setting c.loop-turn.interpreter) (g.M.Interpreter.state c.loop-turn.interpreter) c.loop-turn.pending s.0 (g.M.Interpreter.state c.answer.new.interpreter) = rw (← c.as_slice.ensures) s.1 in
+    let step : g.M.Interpreter.machine (g.M.Interpreter.setting c.loop-turn.interpreter)
+    (g.M.Interpreter.state c.loop-turn.interpreter) c.loop-turn.pending s.0
+    (g.M.Interpreter.state c.answer.new.interpreter) = rw (← c.as_slice.ensures) s.1 in
     let step' = same_step g.M.Interpreter.machine _ _ c.loop-turn.invariant.same _ _ _ _ step in
     let so_far = rw (← c.in-Ok.ensures.writer) at c.loop-turn.invariant.so_far in
     let consumed = rw (c.if-count-eq0.true, ← c.in_err-answer.ensures.reader) at c.in-Ok.ensures.bytes.0 in
     let room : 0 < length c.read.new.buffer = omega (arith, c.read.auto.buffer) in
-    let told : has_stopped (reader c.answer.new.devices) ≡ true = ap has_stopped c.in_err-answer.ensures.reader ∙ at_end _ _ _ _ c.if-count-eq0.true room c.in-Ok.ensures.stopped in
+    let told : has_stopped (reader c.answer.new.devices) ≡ true = ap has_stopped c.in_err-answer.ensures.reader
+    ∙ at_end _ _ _ _ c.if-count-eq0.true room c.in-Ok.ensures.stopped in
     let end = rw (← c.in_err-answer.ensures.reader) at c.in-Ok.ensures.bytes.1 c.if-count-eq0.true room in
     told_by _ _ _ _ _ _ _ _ _ _ p.1 (p.2 ∙ c.in_err-answer.ensures.fault.0)
-    (ended_fault _ (g.met.M.Interpreter.asks_by_prefix _) _ _ _ _ _ _ _ _ _ _ _ s.0 _ so_far (λ e. false≢true (sym c.if-not-is_empty.true ∙ c.is_empty.ensures.1 e)) consumed end told step' s.2.0 s.2.1)
+    (ended_fault _ (g.met.M.Interpreter.asks_by_prefix _) _ _ _ _ _ _ _ _ _ _ _ s.0 _ so_far
+    (λ e. false≢true (sym c.if-not-is_empty.true ∙ c.is_empty.ensures.1 e)) consumed end told step' s.2.0 s.2.1)
 
 pub returns-in_ok-answer-clause-told : goal.returns-in_ok-answer-clause-told
 returns-in_ok-answer-clause-told g c =
     let s = c.in_ok-answer.ensures.step in
-    let step : g.M.Interpreter.machine (g.M.Interpreter.setting c.loop-turn.interpreter) (g.M.Interpreter.state c.loop-turn.interpreter) c.loop-turn.pending s.0 (g.M.Interpreter.state c.answer.new.interpreter) = rw (← c.as_slice.ensures) s.1 in
+    let step : g.M.Interpreter.machine (g.M.Interpreter.setting c.loop-turn.interpreter)
+    (g.M.Interpreter.state c.loop-turn.interpreter) c.loop-turn.pending s.0
+    (g.M.Interpreter.state c.answer.new.interpreter) = rw (← c.as_slice.ensures) s.1 in
     let step' = same_step g.M.Interpreter.machine _ _ c.loop-turn.invariant.same _ _ _ _ step in
     let so_far = rw (← c.in-Ok.ensures.writer) at c.loop-turn.invariant.so_far in
     let consumed = rw (c.if-count-eq0.true, ← c.in_ok-answer.ensures.reader) at c.in-Ok.ensures.bytes.0 in
     let room : 0 < length c.read.new.buffer = omega (arith, c.read.auto.buffer) in
-    let told : has_stopped (reader c.answer.new.devices) ≡ true = ap has_stopped c.in_ok-answer.ensures.reader ∙ at_end _ _ _ _ c.if-count-eq0.true room c.in-Ok.ensures.stopped in
+    let told : has_stopped (reader c.answer.new.devices) ≡ true = ap has_stopped c.in_ok-answer.ensures.reader
+    ∙ at_end _ _ _ _ c.if-count-eq0.true room c.in-Ok.ensures.stopped in
     let end = rw (← c.in_ok-answer.ensures.reader) at c.in-Ok.ensures.bytes.1 c.if-count-eq0.true room in
-    ended_line _ (g.met.M.Interpreter.asks_by_prefix _) _ _ _ _ _ _ _ _ _ _ _ s.0 _ _ so_far (λ e. false≢true (sym c.if-not-is_empty.true ∙ c.is_empty.ensures.1 e)) consumed end told step' s.2.0 s.2.1
+    ended_line _ (g.met.M.Interpreter.asks_by_prefix _) _ _ _ _ _ _ _ _ _ _ _ s.0 _ _ so_far
+    (λ e. false≢true (sym c.if-not-is_empty.true ∙ c.is_empty.ensures.1 e)) consumed end told step' s.2.0 s.2.1
 
 pub returns-else-not-is_empty-clause-told : goal.returns-else-not-is_empty-clause-told
 returns-else-not-is_empty-clause-told g c =
     let so_far = rw (← c.in-Ok.ensures.writer) at c.loop-turn.invariant.so_far in
     let consumed = rw c.if-count-eq0.true at c.in-Ok.ensures.bytes.0 in
     let room : 0 < length c.read.new.buffer = omega (arith, c.read.auto.buffer) in
-    let told : has_stopped (reader c.read.new.self) ≡ true = at_end _ _ _ _ c.if-count-eq0.true room c.in-Ok.ensures.stopped in
+    let told : has_stopped (reader c.read.new.self) ≡ true =
+    at_end _ _ _ _ c.if-count-eq0.true room c.in-Ok.ensures.stopped in
     let end = c.in-Ok.ensures.bytes.1 c.if-count-eq0.true room in
     ended_plain _ _ _ _ _ _ _ _ _ _ _ so_far (c.is_empty.ensures.0 c.if-not-is_empty.false) consumed end told
 
 pub returns-in_err-feed-clause-told : goal.returns-in_err-feed-clause-told
 returns-in_err-feed-clause-told g c =
     let p = err_from_is_err_and c.from_residual-in_err-feed.result c.from_residual-in_err-feed.ensures.1 in
-    let stopped = same_stop g.M.Interpreter.machine _ _ c.loop-turn.invariant.same _ _ _ _ _ _ _ c.in_err-feed.ensures.err in
+    let stopped = same_stop g.M.Interpreter.machine _ _ c.loop-turn.invariant.same _ _ _ _ _ _ _
+    c.in_err-feed.ensures.err in
     let so_far = rw (← c.in-Ok.ensures.writer) at c.loop-turn.invariant.so_far in
     let consumed = rw (← c.in_err-feed.ensures.reader) at c.in-Ok.ensures.bytes.0 in
-    let goes_on = ap has_stopped c.in_err-feed.ensures.reader ∙ not_stopped _ _ _ _ c.if-count-eq0.false c.in-Ok.ensures.stopped ∙ c.loop-turn.invariant.fresh.not_stopped in
+    let goes_on = ap has_stopped c.in_err-feed.ensures.reader
+    ∙ not_stopped _ _ _ _ c.if-count-eq0.false c.in-Ok.ensures.stopped ∙ c.loop-turn.invariant.fresh.not_stopped in
     told_by _ _ _ _ _ _ _ _ _ _ p.1 (p.2 ∙ c.in_err-feed.ensures.fault.0)
     (feed_fault _ _ _ _ _ _ _ _ _ _ _ _ _ _ so_far goes_on consumed stopped)
 
 pub loop-turn-preserved : goal.loop-turn-preserved
 loop-turn-preserved g c =
-    let advanced = same_advance g.M.Interpreter.machine _ _ c.loop-turn.invariant.same _ _ _ _ _ _ _ _ _ c.in_ok-feed.ensures.ok in
+    let advanced = same_advance g.M.Interpreter.machine _ _ c.loop-turn.invariant.same _ _ _ _ _ _ _ _ _
+    c.in_ok-feed.ensures.ok in
     let same_reader = c.in_ok-feed.ensures.reader in
     let so_far = rw (← c.in-Ok.ensures.writer) at c.loop-turn.invariant.so_far in
     let consumed = rw (← same_reader) at c.in-Ok.ensures.bytes.0 in record {
       same = c.in_ok-feed.ensures.same ∙ c.loop-turn.invariant.same;
       ready = c.in_ok-feed.ensures.ready;
       so_far = fed _ _ _ _ _ _ _ _ _ _ _ _ _ _ _ so_far consumed advanced;
-      lines = omega (arith, c.in_ok-feed.ensures.bounded.lines, c.in-Ok.ensures.bound.0, c.in-Ok.ensures.bound.1, c.loop-turn.invariant.lines, c.read.auto.buffer);
-      refused = omega (arith, c.in_ok-feed.ensures.bounded.refused, c.in-Ok.ensures.bound.0, c.in-Ok.ensures.bound.1, c.loop-turn.invariant.refused, c.read.auto.buffer);
+      lines = omega (
+        arith,
+        c.in_ok-feed.ensures.bounded.lines,
+        c.in-Ok.ensures.bound.0,
+        c.in-Ok.ensures.bound.1,
+        c.loop-turn.invariant.lines,
+        c.read.auto.buffer,
+      );
+      refused = omega (
+        arith,
+        c.in_ok-feed.ensures.bounded.refused,
+        c.in-Ok.ensures.bound.0,
+        c.in-Ok.ensures.bound.1,
+        c.loop-turn.invariant.refused,
+        c.read.auto.buffer,
+      );
       fresh = record {
-        not_failed = ap has_failed same_reader ∙ not_failed _ _ c.in-Ok.ensures.failed ∙ c.loop-turn.invariant.fresh.not_failed;
-        not_stopped = ap has_stopped same_reader ∙ not_stopped _ _ _ _ c.if-count-eq0.false c.in-Ok.ensures.stopped ∙ c.loop-turn.invariant.fresh.not_stopped;
+        not_failed = ap has_failed same_reader ∙ not_failed _ _ c.in-Ok.ensures.failed
+            ∙ c.loop-turn.invariant.fresh.not_failed;
+        not_stopped = ap has_stopped same_reader ∙ not_stopped _ _ _ _ c.if-count-eq0.false c.in-Ok.ensures.stopped
+            ∙ c.loop-turn.invariant.fresh.not_stopped;
         flushed = ap is_flushed same_reader ∙ c.in-Ok.ensures.flushed ∙ c.loop-turn.invariant.fresh.flushed;
       };
       passed_on = c.in_ok-feed.ensures.passed_on;
-      in_turn = c.in_ok-feed.ensures.in_turn ∙ in_turn c.loop-turn.devices _ _ c.loop-turn.invariant.passed_on c.in-Ok.ensures.in_turn ∙ c.loop-turn.invariant.in_turn;
+      in_turn = c.in_ok-feed.ensures.in_turn
+          ∙ in_turn c.loop-turn.devices _ _ c.loop-turn.invariant.passed_on c.in-Ok.ensures.in_turn
+          ∙ c.loop-turn.invariant.in_turn;
       calls = omega (arith, ap calls same_reader, c.in-Ok.ensures.counted, c.loop-turn.invariant.calls);
       widest = omega (arith, ap widest same_reader, c.in-Ok.ensures.widest, c.loop-turn.invariant.widest);
       narrowest = omega (arith, ap narrowest same_reader, c.in-Ok.ensures.narrowest, c.loop-turn.invariant.narrowest);
@@ -118,7 +152,10 @@ pub returns-clause-told : goal.returns-clause-told
 returns-clause-told g c = too_many _ _ _ _ _ _ _ _ _ true c.loop-turn.invariant.so_far
 
 pub returns-in-Err-clause-read : goal.returns-in-Err-clause-read
-returns-in-Err-clause-read g c = ((λ h. rw c.loop-turn.invariant.fresh.not_failed at c.in-Err.ensures.failed), (λ t. refl))
+returns-in-Err-clause-read g c = (
+  (λ h. rw c.loop-turn.invariant.fresh.not_failed at c.in-Err.ensures.failed),
+  (λ t. refl),
+)
 
 pub returns-in-Err-clause-write : goal.returns-in-Err-clause-write
 returns-in-Err-clause-write g c = λ h. let e : Err Read ≡ Err Write = h in cc
@@ -127,12 +164,15 @@ pub returns-in-Err-clause-reads : goal.returns-in-Err-clause-reads
 returns-in-Err-clause-reads g c = λ h. let e : Err Read ≡ Err Reads = h in cc
 
 pub returns-in-Err-clause-passed_on : goal.returns-in-Err-clause-passed_on
-returns-in-Err-clause-passed_on g c = inr (still_passed_on _ _ c.in-Err.ensures.writer c.in-Err.ensures.owed c.loop-turn.invariant.passed_on)
+returns-in-Err-clause-passed_on g c =
+    inr (still_passed_on _ _ c.in-Err.ensures.writer c.in-Err.ensures.owed c.loop-turn.invariant.passed_on)
 
 pub returns-in_err-answer-clause-read : goal.returns-in_err-answer-clause-read
 returns-in_err-answer-clause-read g c =
     let p = err_from_is_err_and c.from_residual.result c.from_residual.ensures.1 in
-    none_failed _ _ (write_is_no_read _ (p.1 ∙ ap Err (p.2 ∙ c.in_err-answer.ensures.fault.0))) (ap has_failed c.in_err-answer.ensures.reader ∙ not_failed _ _ c.in-Ok.ensures.failed ∙ c.loop-turn.invariant.fresh.not_failed)
+    none_failed _ _ (write_is_no_read _ (p.1 ∙ ap Err (p.2 ∙ c.in_err-answer.ensures.fault.0)))
+    (ap has_failed c.in_err-answer.ensures.reader ∙ not_failed _ _ c.in-Ok.ensures.failed
+    ∙ c.loop-turn.invariant.fresh.not_failed)
 
 pub returns-in_err-answer-clause-write : goal.returns-in_err-answer-clause-write
 returns-in_err-answer-clause-write g c = λ h. c.in_err-answer.ensures.fault.1
@@ -150,7 +190,9 @@ returns-in_err-answer-clause-passed_on g c =
 pub returns-in_err-feed-clause-read : goal.returns-in_err-feed-clause-read
 returns-in_err-feed-clause-read g c =
     let p = err_from_is_err_and c.from_residual-in_err-feed.result c.from_residual-in_err-feed.ensures.1 in
-    none_failed _ _ (write_is_no_read _ (p.1 ∙ ap Err (p.2 ∙ c.in_err-feed.ensures.fault.0))) (ap has_failed c.in_err-feed.ensures.reader ∙ not_failed _ _ c.in-Ok.ensures.failed ∙ c.loop-turn.invariant.fresh.not_failed)
+    none_failed _ _ (write_is_no_read _ (p.1 ∙ ap Err (p.2 ∙ c.in_err-feed.ensures.fault.0)))
+    (ap has_failed c.in_err-feed.ensures.reader ∙ not_failed _ _ c.in-Ok.ensures.failed
+    ∙ c.loop-turn.invariant.fresh.not_failed)
 
 pub returns-in_err-feed-clause-write : goal.returns-in_err-feed-clause-write
 returns-in_err-feed-clause-write g c = λ h. c.in_err-feed.ensures.fault.1
@@ -166,7 +208,9 @@ returns-in_err-feed-clause-passed_on g c =
     inl (p.1 ∙ ap Err (p.2 ∙ c.in_err-feed.ensures.fault.0))
 
 pub returns-in_ok-answer-clause-read : goal.returns-in_ok-answer-clause-read
-returns-in_ok-answer-clause-read g c = none_failed _ _ (ok_is_none _ _) (ap has_failed c.in_ok-answer.ensures.reader ∙ not_failed _ _ c.in-Ok.ensures.failed ∙ c.loop-turn.invariant.fresh.not_failed)
+returns-in_ok-answer-clause-read g c =
+    none_failed _ _ (ok_is_none _ _) (ap has_failed c.in_ok-answer.ensures.reader
+    ∙ not_failed _ _ c.in-Ok.ensures.failed ∙ c.loop-turn.invariant.fresh.not_failed)
 
 pub returns-in_ok-answer-clause-write : goal.returns-in_ok-answer-clause-write
 returns-in_ok-answer-clause-write g c = λ h. absurd (ok_is_none _ _ h)
@@ -178,7 +222,8 @@ pub returns-in_ok-answer-clause-passed_on : goal.returns-in_ok-answer-clause-pas
 returns-in_ok-answer-clause-passed_on g c = inr c.in_ok-answer.ensures.passed_on
 
 pub returns-else-not-is_empty-clause-read : goal.returns-else-not-is_empty-clause-read
-returns-else-not-is_empty-clause-read g c = none_failed _ _ (ok_is_none _ _) (not_failed _ _ c.in-Ok.ensures.failed ∙ c.loop-turn.invariant.fresh.not_failed)
+returns-else-not-is_empty-clause-read g c =
+    none_failed _ _ (ok_is_none _ _) (not_failed _ _ c.in-Ok.ensures.failed ∙ c.loop-turn.invariant.fresh.not_failed)
 
 pub returns-else-not-is_empty-clause-write : goal.returns-else-not-is_empty-clause-write
 returns-else-not-is_empty-clause-write g c = λ h. absurd (ok_is_none _ _ h)
@@ -187,10 +232,12 @@ pub returns-else-not-is_empty-clause-reads : goal.returns-else-not-is_empty-clau
 returns-else-not-is_empty-clause-reads g c = λ h. absurd (ok_is_none _ _ h)
 
 pub returns-else-not-is_empty-clause-passed_on : goal.returns-else-not-is_empty-clause-passed_on
-returns-else-not-is_empty-clause-passed_on g c = inr (still_passed_on _ _ c.in-Ok.ensures.writer c.in-Ok.ensures.owed c.loop-turn.invariant.passed_on)
+returns-else-not-is_empty-clause-passed_on g c =
+    inr (still_passed_on _ _ c.in-Ok.ensures.writer c.in-Ok.ensures.owed c.loop-turn.invariant.passed_on)
 
 pub returns-clause-read : goal.returns-clause-read
-returns-clause-read g c = none_failed _ _ (λ h. let e : Err Reads ≡ Err Read = h in cc) c.loop-turn.invariant.fresh.not_failed
+returns-clause-read g c = none_failed _ _ (λ h. let e : Err Reads ≡ Err Read = h in cc)
+    c.loop-turn.invariant.fresh.not_failed
 
 pub returns-clause-write : goal.returns-clause-write
 returns-clause-write g c = λ h. let e : Err Reads ≡ Err Write = h in cc
@@ -202,22 +249,33 @@ pub returns-clause-at_most : goal.returns-clause-at_most
 returns-clause-at_most g c = omega (arith, c.loop-turn.invariant.calls, c.loop-turn.auto._turn-end)
 
 pub returns-in-Err-clause-in_turn : goal.returns-in-Err-clause-in_turn
-returns-in-Err-clause-in_turn g c = in_turn c.loop-turn.devices _ _ c.loop-turn.invariant.passed_on c.in-Err.ensures.in_turn ∙ c.loop-turn.invariant.in_turn
+returns-in-Err-clause-in_turn g c = in_turn c.loop-turn.devices _ _ c.loop-turn.invariant.passed_on
+    c.in-Err.ensures.in_turn ∙ c.loop-turn.invariant.in_turn
 
 pub returns-in_err-answer-clause-in_turn : goal.returns-in_err-answer-clause-in_turn
-returns-in_err-answer-clause-in_turn g c = c.in_err-answer.ensures.in_turn ∙ in_turn c.loop-turn.devices _ _ c.loop-turn.invariant.passed_on c.in-Ok.ensures.in_turn ∙ c.loop-turn.invariant.in_turn
+returns-in_err-answer-clause-in_turn g c = c.in_err-answer.ensures.in_turn
+    ∙ in_turn c.loop-turn.devices _ _ c.loop-turn.invariant.passed_on c.in-Ok.ensures.in_turn
+    ∙ c.loop-turn.invariant.in_turn
 
 pub returns-in_ok-answer-clause-in_turn : goal.returns-in_ok-answer-clause-in_turn
-returns-in_ok-answer-clause-in_turn g c = c.in_ok-answer.ensures.in_turn ∙ in_turn c.loop-turn.devices _ _ c.loop-turn.invariant.passed_on c.in-Ok.ensures.in_turn ∙ c.loop-turn.invariant.in_turn
+returns-in_ok-answer-clause-in_turn g c = c.in_ok-answer.ensures.in_turn
+    ∙ in_turn c.loop-turn.devices _ _ c.loop-turn.invariant.passed_on c.in-Ok.ensures.in_turn
+    ∙ c.loop-turn.invariant.in_turn
 
 pub returns-in_err-feed-clause-in_turn : goal.returns-in_err-feed-clause-in_turn
-returns-in_err-feed-clause-in_turn g c = c.in_err-feed.ensures.in_turn ∙ in_turn c.loop-turn.devices _ _ c.loop-turn.invariant.passed_on c.in-Ok.ensures.in_turn ∙ c.loop-turn.invariant.in_turn
+returns-in_err-feed-clause-in_turn g c = c.in_err-feed.ensures.in_turn
+    ∙ in_turn c.loop-turn.devices _ _ c.loop-turn.invariant.passed_on c.in-Ok.ensures.in_turn
+    ∙ c.loop-turn.invariant.in_turn
 
 pub returns-else-not-is_empty-clause-in_turn : goal.returns-else-not-is_empty-clause-in_turn
-returns-else-not-is_empty-clause-in_turn g c = in_turn c.loop-turn.devices _ _ c.loop-turn.invariant.passed_on c.in-Ok.ensures.in_turn ∙ c.loop-turn.invariant.in_turn
+returns-else-not-is_empty-clause-in_turn g c =
+    in_turn c.loop-turn.devices _ _ c.loop-turn.invariant.passed_on c.in-Ok.ensures.in_turn
+    ∙ c.loop-turn.invariant.in_turn
 
 pub answer-requires-clause-passed_on : goal.answer-requires-clause-passed_on
-answer-requires-clause-passed_on g c = still_passed_on _ _ c.in-Ok.ensures.writer c.in-Ok.ensures.owed c.loop-turn.invariant.passed_on
+answer-requires-clause-passed_on g c =
+    still_passed_on _ _ c.in-Ok.ensures.writer c.in-Ok.ensures.owed c.loop-turn.invariant.passed_on
 
 pub feed-requires-clause-passed_on : goal.feed-requires-clause-passed_on
-feed-requires-clause-passed_on g c = still_passed_on _ _ c.in-Ok.ensures.writer c.in-Ok.ensures.owed c.loop-turn.invariant.passed_on
+feed-requires-clause-passed_on g c =
+    still_passed_on _ _ c.in-Ok.ensures.writer c.in-Ok.ensures.owed c.loop-turn.invariant.passed_on

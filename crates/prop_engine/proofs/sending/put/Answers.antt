@@ -4,7 +4,8 @@ use Rattle.prop_engine.proofs.Io.{written_more, not_failed, not_stopped, front_t
 use Rattle.prop_engine.proofs.Turns.{owed_in_turn}
 use Rattle.prop_engine.proofs.sending.put.Goals as goal
 
-within : (at n : ℕ) (bytes : List ℕ) → n ≤ length (take (length bytes - at) (drop at bytes)) → at ≤ length bytes → at + n ≤ length bytes
+within : (at n : ℕ) (bytes : List ℕ) → n ≤ length (take (length bytes - at) (drop at bytes)) → at ≤ length bytes
+    → at + n ≤ length bytes
 within at n bytes h k =
     let e : n ≤ length (drop at bytes) = rw take_rest at h in
     omega (arith, length-drop at bytes)
@@ -32,8 +33,10 @@ returns-then-count-eq0-clause-err g c =
 
 pub returns-in-Err-clause-in_turn : goal.returns-in-Err-clause-in_turn
 returns-in-Err-clause-in_turn g c =
-    owed_in_turn _ _ _ _ _ _ c.requires.owed c.loop-at.invariant.left c.in-Err.ensures.in_turn ∙ c.loop-at.invariant.in_turn
+    owed_in_turn _ _ _ _ _ _ c.requires.owed c.loop-at.invariant.left c.in-Err.ensures.in_turn
+    ∙ c.loop-at.invariant.in_turn
 
 pub returns-then-count-eq0-clause-in_turn : goal.returns-then-count-eq0-clause-in_turn
 returns-then-count-eq0-clause-in_turn g c =
-    owed_in_turn _ _ _ _ _ _ c.requires.owed c.loop-at.invariant.left c.in-Ok.ensures.in_turn ∙ c.loop-at.invariant.in_turn
+    owed_in_turn _ _ _ _ _ _ c.requires.owed c.loop-at.invariant.left c.in-Ok.ensures.in_turn
+    ∙ c.loop-at.invariant.in_turn

@@ -5,4 +5,11 @@ use Rattle.prop_engine.proofs.sending.write_reply.Goals as goal
 
 pub push-requires : goal.push-requires
 push-requires g c =
-    omega (arith, c.push_str.ensures.len, ap length c.reply.ensures, ap length c.new-line.ensures, short_reply c.in-Refused.refusal, ap length (encode_ascii 10 (lit< tt)))
+    omega (
+      arith,
+      c.push_str.ensures.len,
+      ap length c.reply.ensures,
+      ap length c.new-line.ensures,
+      short_reply c.in-Refused.refusal,
+      ap length (encode_ascii 10 (lit< tt)),
+    )

@@ -17,7 +17,8 @@ pub run-requires-clause-watched : goal.run-requires-clause-watched
 run-requires-clause-watched g c = c.wake_all.ensures.watched (set_of c.in_ok-worldview.worldview)
 
 no_clash : (old new : Problem) (s n : Members) → new ≡ old → IsConsistent old s → IsConflict new s n → ⊥
-no_clash old new s n same consistent conflict = no_conflict old s n consistent (subst (λ p. IsConflict p s n) same conflict)
+no_clash old new s n same consistent conflict =
+    no_conflict old s n consistent (subst (λ p. IsConflict p s n) same conflict)
 
 pub returns-clause-too_few : goal.returns-clause-too_few
 returns-clause-too_few g c few entailed =
@@ -26,12 +27,18 @@ returns-clause-too_few g c few entailed =
     let d = c.args.network.now.cells in
     let new = c.run.new.network.cells in
     let s = set_of c.args.set.now in
-    let problem = same_problem library after d new (λ i. stored_of g.R.Rule.value_of (c.in_ok-end.ensures.same i)) c.in_ok-end.ensures.rest in
+    let problem = same_problem library after d new (λ i. stored_of g.R.Rule.value_of (c.in_ok-end.ensures.same i))
+    c.in_ok-end.ensures.rest in
     elim c.match-end.branch [
       | in-Quiet w ↦ (
-          let settled : IsSettled after s new = rw c.in_ok-worldview.ensures.of at (c.in_ok-end.ensures.quiet w.in-Quiet.is) in
-          let below : Below c.args.value (beliefs s new.contents c.args.cell) = settled_below after s new c.args.cell c.args.value settled (subst (λ p. Entails p s c.args.cell c.args.value) (sym problem) entailed) in
-          w.enough-tried.ensures.too_few (sym w.tried-is ∙ few) (rw (w.belief.ensures, c.in_ok-worldview.ensures.of) below))
-      | in-Clash w ↦ no_clash _ _ _ _ problem c.requires.consistent (rw (w.in-Clash.is, c.in_ok-worldview.ensures.of) at c.in_ok-end.ensures.conflict)
+          let settled : IsSettled after s new =
+          rw c.in_ok-worldview.ensures.of at (c.in_ok-end.ensures.quiet w.in-Quiet.is) in
+          let below : Below c.args.value (beliefs s new.contents c.args.cell) =
+          settled_below after s new c.args.cell c.args.value settled
+          (subst (λ p. Entails p s c.args.cell c.args.value) (sym problem) entailed) in
+          w.enough-tried.ensures.too_few (sym w.tried-is ∙ few)
+          (rw (w.belief.ensures, c.in_ok-worldview.ensures.of) below))
+      | in-Clash w ↦ no_clash _ _ _ _ problem c.requires.consistent
+          (rw (w.in-Clash.is, c.in_ok-worldview.ensures.of) at c.in_ok-end.ensures.conflict)
       | in-Spent w ↦ (let e = sym w.tried-is ∙ few in cc)
     ]

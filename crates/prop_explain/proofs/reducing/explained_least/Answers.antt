@@ -5,7 +5,12 @@ use Rattle.prop_explain.proofs.ReducingLaws.{tries_of_more}
 use Rattle.prop_explain.proofs.reducing.explained_least.Goals as goal
 
 pub returns-clause-earned : goal.returns-clause-earned
-returns-clause-earned g c = (c.in_ok-why.why.support, c.in_ok-support.ensures.in_order, c.in_ok-why.ensures.explains, c.in_ok-support.ensures.earned c.in-Spent.is)
+returns-clause-earned g c = (
+  c.in_ok-why.why.support,
+  c.in_ok-support.ensures.in_order,
+  c.in_ok-why.ensures.explains,
+  c.in_ok-support.ensures.earned c.in-Spent.is,
+)
 
 pub returns-in-AllTried-clause-tries : goal.returns-in-AllTried-clause-tries
 returns-in-AllTried-clause-tries g c =
@@ -13,8 +18,10 @@ returns-in-AllTried-clause-tries g c =
     let new = c.left_of.new in
     let tries = c.in_ok-support.ensures.tries in (
       tries.0,
-      tries_of_more g.O.Order.picks (stored_of value c.args.network.now.library) (set_of c.in_ok-why.why.support) (set_of c.args.worldview.now) c.args.network.now.cells c.args.agenda.now.line c.args.order.now
-          tries.0 c.in_ok-support.steps new.network.cells new.agenda.line new.order c.in_ok-why.ensures.explains.part tries.1,
+      tries_of_more g.O.Order.picks (stored_of value c.args.network.now.library) (set_of c.in_ok-why.why.support)
+          (set_of c.args.worldview.now) c.args.network.now.cells c.args.agenda.now.line c.args.order.now
+          tries.0 c.in_ok-support.steps new.network.cells new.agenda.line new.order c.in_ok-why.ensures.explains.part
+          tries.1,
     )
 
 pub returns-clause-tries : goal.returns-clause-tries
@@ -23,6 +30,8 @@ returns-clause-tries g c =
     let new = c.left_of.new in
     let tries = c.in_ok-support.ensures.tries in (
       tries.0,
-      tries_of_more g.O.Order.picks (stored_of value c.args.network.now.library) (set_of c.in_ok-why.why.support) (set_of c.args.worldview.now) c.args.network.now.cells c.args.agenda.now.line c.args.order.now
-          tries.0 c.in_ok-support.steps new.network.cells new.agenda.line new.order c.in_ok-why.ensures.explains.part tries.1,
+      tries_of_more g.O.Order.picks (stored_of value c.args.network.now.library) (set_of c.in_ok-why.why.support)
+          (set_of c.args.worldview.now) c.args.network.now.cells c.args.agenda.now.line c.args.order.now
+          tries.0 c.in_ok-support.steps new.network.cells new.agenda.line new.order c.in_ok-why.ensures.explains.part
+          tries.1,
     )

@@ -24,13 +24,15 @@ loop-premise-init g c =
         few = omega arith;
         tries = ([], none);
         held = record {
-          rising = subst Rising (sym so_far) (rising_from_increasing c.args.why.now.support c.iter-premise-items.ensures.ordered);
+          rising = subst Rising (sym so_far)
+              (rising_from_increasing c.args.why.now.support c.iter-premise-items.ensures.ordered);
           part = rw so_far (λ p h. h);
           tried = All-nil _;
           left = rw (so_far, copied) (λ p h. h);
         };
       };
-      tried = rw copied (none_tried (problem_of library start) c.args.cell c.args.why.now.value (set_of c.args.why.now.support) c.requires.entails);
+      tried = rw copied (none_tried (problem_of library start) c.args.cell c.args.why.now.value
+          (set_of c.args.why.now.support) c.requires.entails);
       part = rw copied (λ p h. h);
     }
 
@@ -42,11 +44,13 @@ attempt-requires-clause-consistent g c =
     let kept = c.loop-premise.invariant in
     let library = stored_of g.R.Rule.value_of c.args.network.now.library in
     let start = c.args.network.now.cells in
-    let less_is : set_of c.in_ok-less.less ≡ without (set_of c.loop-premise.support) c.in-Some.premise = λ i p. c.in_ok-less.ensures p i in
+    let less_is : set_of c.in_ok-less.less ≡ without (set_of c.loop-premise.support) c.in-Some.premise =
+    λ i p. c.in_ok-less.ensures p i in
     let problem = same_problem library library start c.loop-premise.network.cells refl kept.done.left.rest in
     rw (kept.same, problem)
     (consistent_fewer (problem_of library start) (set_of c.in_ok-less.less) (set_of c.args.why.now.support)
-    (less_is_part (set_of c.loop-premise.support) (set_of c.args.why.now.support) (set_of c.in_ok-less.less) c.in-Some.premise less_is kept.part) c.requires.consistent)
+    (less_is_part (set_of c.loop-premise.support) (set_of c.args.why.now.support) (set_of c.in_ok-less.less)
+    c.in-Some.premise less_is kept.part) c.requires.consistent)
 
 pub loop-premise-preserved-in-Enough : goal.loop-premise-preserved-in-Enough
 loop-premise-preserved-in-Enough g c =
@@ -54,16 +58,25 @@ loop-premise-preserved-in-Enough g c =
     let try = c.in_ok-tried.ensures in
     let library = stored_of g.R.Rule.value_of c.args.network.now.library in
     let start = c.args.network.now.cells in
-    let less_is : set_of c.in_ok-less.less ≡ without (set_of c.loop-premise.support) c.in-Some.premise = λ i p. c.in_ok-less.ensures p i in
-    let part = less_is_part (set_of c.loop-premise.support) (set_of c.args.why.now.support) (set_of c.in_ok-less.less) c.in-Some.premise less_is kept.part in
+    let less_is : set_of c.in_ok-less.less ≡ without (set_of c.loop-premise.support) c.in-Some.premise =
+    λ i p. c.in_ok-less.ensures p i in
+    let part = less_is_part (set_of c.loop-premise.support) (set_of c.args.why.now.support) (set_of c.in_ok-less.less)
+    c.in-Some.premise less_is kept.part in
     let problem = same_problem library library start c.loop-premise.network.cells refl kept.done.left.rest in
     let done = rw c.in-Some.ensures.steps at kept.done in
-    let holds = subst (λ (t : Members). IsPart (set_of c.next.new.self) t) (sym less_is) (less_holds c.in-Some.premise c.next.new.self done.held) in
+    let holds = subst (λ (t : Members). IsPart (set_of c.next.new.self) t) (sym less_is)
+    (less_holds c.in-Some.premise c.next.new.self done.held) in
     record {
-      so_far = append_assoc c.loop-premise.yielded (c.in-Some.premise ∷ []) c.next.new.self ∙ (rw c.in-Some.ensures.steps at kept.so_far);
+      so_far = append_assoc c.loop-premise.yielded (c.in-Some.premise ∷ []) c.next.new.self
+          ∙ (rw c.in-Some.ensures.steps at kept.so_far);
       same = try.same ∙ kept.same;
-      done = one_more library start c.loop-premise.network.cells c.loop-premise.yielded c.next.new.self c.in-Some.premise c.loop-premise.steps c.in_ok-tried.calls (set_of c.in_ok-less.less) (set_of c.in_ok-less.less) less_is done part holds (rw kept.same at try.left) try.steps (rw kept.same at try.falls) (rw kept.same at try.turns);
-      tried = rw less_is (left_out (problem_of library start) c.args.cell c.args.why.now.value c.loop-premise.yielded (set_of c.loop-premise.support) c.in-Some.premise kept.tried (rw (kept.same, problem, less_is) at try.enough c.in-Enough.is));
+      done = one_more library start c.loop-premise.network.cells c.loop-premise.yielded c.next.new.self
+          c.in-Some.premise c.loop-premise.steps c.in_ok-tried.calls (set_of c.in_ok-less.less)
+          (set_of c.in_ok-less.less) less_is done part holds (rw kept.same at try.left) try.steps
+          (rw kept.same at try.falls) (rw kept.same at try.turns);
+      tried = rw less_is (left_out (problem_of library start) c.args.cell c.args.why.now.value c.loop-premise.yielded
+          (set_of c.loop-premise.support) c.in-Some.premise kept.tried
+          (rw (kept.same, problem, less_is) at try.enough c.in-Enough.is));
       part = part;
     }
 
@@ -73,22 +86,33 @@ loop-premise-preserved g c =
     let try = c.in_ok-tried.ensures in
     let library = stored_of g.R.Rule.value_of c.args.network.now.library in
     let start = c.args.network.now.cells in
-    let less_is : set_of c.in_ok-less.less ≡ without (set_of c.loop-premise.support) c.in-Some.premise = λ i p. c.in_ok-less.ensures p i in
-    let part = less_is_part (set_of c.loop-premise.support) (set_of c.args.why.now.support) (set_of c.in_ok-less.less) c.in-Some.premise less_is kept.part in
+    let less_is : set_of c.in_ok-less.less ≡ without (set_of c.loop-premise.support) c.in-Some.premise =
+    λ i p. c.in_ok-less.ensures p i in
+    let part = less_is_part (set_of c.loop-premise.support) (set_of c.args.why.now.support) (set_of c.in_ok-less.less)
+    c.in-Some.premise less_is kept.part in
     let problem = same_problem library library start c.loop-premise.network.cells refl kept.done.left.rest in
     let done = rw c.in-Some.ensures.steps at kept.done in
     record {
-      so_far = append_assoc c.loop-premise.yielded (c.in-Some.premise ∷ []) c.next.new.self ∙ (rw c.in-Some.ensures.steps at kept.so_far);
+      so_far = append_assoc c.loop-premise.yielded (c.in-Some.premise ∷ []) c.next.new.self
+          ∙ (rw c.in-Some.ensures.steps at kept.so_far);
       same = try.same ∙ kept.same;
-      done = one_more library start c.loop-premise.network.cells c.loop-premise.yielded c.next.new.self c.in-Some.premise c.loop-premise.steps c.in_ok-tried.calls (set_of c.in_ok-less.less) (set_of c.loop-premise.support) less_is done part (still_left c.in-Some.premise c.next.new.self done.held) (rw kept.same at try.left) try.steps (rw kept.same at try.falls) (rw kept.same at try.turns);
-      tried = stays (problem_of library start) c.args.cell c.args.why.now.value c.loop-premise.yielded (set_of c.loop-premise.support) c.in-Some.premise kept.tried (rw (kept.same, problem, less_is) at try.too_few c.in-TooFew.is);
+      done = one_more library start c.loop-premise.network.cells c.loop-premise.yielded c.next.new.self
+          c.in-Some.premise c.loop-premise.steps c.in_ok-tried.calls (set_of c.in_ok-less.less)
+          (set_of c.loop-premise.support) less_is done part (still_left c.in-Some.premise c.next.new.self done.held)
+          (rw kept.same at try.left) try.steps (rw kept.same at try.falls) (rw kept.same at try.turns);
+      tried = stays (problem_of library start) c.args.cell c.args.why.now.value c.loop-premise.yielded
+          (set_of c.loop-premise.support) c.in-Some.premise kept.tried
+          (rw (kept.same, problem, less_is) at try.too_few c.in-TooFew.is);
       part = kept.part;
     }
 
 pub returns-in-Spent-clause-tries : goal.returns-in-Spent-clause-tries
 returns-in-Spent-clause-tries g c =
     let kept = c.loop-premise.invariant in
-    let less_is : set_of c.in_ok-less.less ≡ without (set_of c.loop-premise.support) c.in-Some.premise = λ i p. c.in_ok-less.ensures p i in
-    let part = less_is_part (set_of c.loop-premise.support) (set_of c.args.why.now.support) (set_of c.in_ok-less.less) c.in-Some.premise less_is kept.part in
+    let less_is : set_of c.in_ok-less.less ≡ without (set_of c.loop-premise.support) c.in-Some.premise =
+    λ i p. c.in_ok-less.ensures p i in
+    let part = less_is_part (set_of c.loop-premise.support) (set_of c.args.why.now.support) (set_of c.in_ok-less.less)
+    c.in-Some.premise less_is kept.part in
     let done = rw c.in-Some.ensures.steps at kept.done in
-    tried_on (stored_of g.R.Rule.value_of c.args.network.now.library) c.in-Some.premise (set_of c.in_ok-less.less) _ _ less_is done.tries done.held part (rw kept.same at c.in_ok-tried.ensures.turns)
+    tried_on (stored_of g.R.Rule.value_of c.args.network.now.library) c.in-Some.premise (set_of c.in_ok-less.less) _ _
+    less_is done.tries done.held part (rw kept.same at c.in_ok-tried.ensures.turns)

@@ -2,10 +2,18 @@ use Rattle.std.proofs.Common.{◌∙◌}
 use Rattle.prop_explain.proofs.reducing.reduce.Goals as goal
 
 pub explained_least-reduced-requires-clause-ready : goal.explained_least-reduced-requires-clause-ready
-explained_least-reduced-requires-clause-ready g c = record { kept = c.requires.kept; line = c.requires.line; watched = c.requires.watched; room = c.requires.room; cells = c.requires.cells }
+explained_least-reduced-requires-clause-ready g c =
+    record {
+      kept = c.requires.kept;
+      line = c.requires.line;
+      watched = c.requires.watched;
+      room = c.requires.room;
+      cells = c.requires.cells;
+    }
 
 pub wake_all-requires-clause-kept : goal.wake_all-requires-clause-kept
-wake_all-requires-clause-kept g c = rw c.explained_least-reduced.ensures.same c.explained_least-reduced.ensures.left.ready.kept
+wake_all-requires-clause-kept g c = rw c.explained_least-reduced.ensures.same
+    c.explained_least-reduced.ensures.left.ready.kept
 
 pub wake_all-requires-clause-line : goal.wake_all-requires-clause-line
 wake_all-requires-clause-line g c = c.explained_least-reduced.ensures.left.ready.line

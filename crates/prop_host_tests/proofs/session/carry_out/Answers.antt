@@ -17,13 +17,18 @@ loop-line-preserved g c =
     let l = c.loop-line-test.true in
     let line = c.as_bytes.ensures.value ∙ sym (get_or-map (λ (w : Bor (List ℕ)). w.now) c.args.lines.now i _ [] l) in
     let same = c.loop-line.invariant.same in
-    let machine : machine_of value c.loop-line.session ≡ machine_of value c.args.session.now = λ i. learning (stored_of value (same i)) in
-    let shows : machine_of value c.loop-line.session (shown_of c.loop-line.session) c.as_bytes.result.now (answer_of c.command.result) (shown_of c.command.new.self) = record {
+    let machine : machine_of value c.loop-line.session ≡ machine_of value c.args.session.now =
+    λ i. learning (stored_of value (same i)) in
+    let shows : machine_of value c.loop-line.session (shown_of c.loop-line.session) c.as_bytes.result.now
+    (answer_of c.command.result) (shown_of c.command.new.self) = record {
       steps = steps_of c.command.new.self;
       step = c.command.ensures.step;
     } in record {
       same = c.command.ensures.same ∙ same;
       sound = c.command.ensures.sound;
-      run = run_next (library_of value c.args.session.now) (shown_of c.args.session.now) (shown_of c.loop-line.session) (shown_of c.command.new.self) lines i c.as_bytes.result.now c.loop-line.replies.items c.push.new.self.items c.command.result
-          (omega (arith, l, length-map c.args.lines.now (λ (w : Bor (List ℕ)). w.now))) line c.in_ok-push.ensures.items c.loop-line.invariant.run (rw machine at shows);
+      run = run_next (library_of value c.args.session.now) (shown_of c.args.session.now) (shown_of c.loop-line.session)
+          (shown_of c.command.new.self) lines i c.as_bytes.result.now c.loop-line.replies.items c.push.new.self.items
+          c.command.result
+          (omega (arith, l, length-map c.args.lines.now (λ (w : Bor (List ℕ)). w.now))) line c.in_ok-push.ensures.items
+          c.loop-line.invariant.run (rw machine at shows);
     }

@@ -10,5 +10,6 @@ abbrev pub invariant-loop-line : goal.invariant-loop-line
 invariant-loop-line g l = record {
   same : l.session.network.library ≡ l.initial.session.network.library;
   sound : IsSound g.R.Rule.value_of l.session;
-  run : Run (machine_of g.R.Rule.value_of l.initial.session) (shown_of l.initial.session) (take l.line-index (words l.lines)) (map answer_of l.replies.items) (shown_of l.session);
+  run : Run (machine_of g.R.Rule.value_of l.initial.session) (shown_of l.initial.session)
+      (take l.line-index (words l.lines)) (map answer_of l.replies.items) (shown_of l.session);
 }

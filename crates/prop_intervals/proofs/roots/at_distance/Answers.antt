@@ -5,7 +5,8 @@ use Rattle.std.proofs.lemmas.Int.{ints, clamps}
 use Rattle.prop_lattice.specs.Ends.{span_from}
 use Rattle.prop_intervals.proofs.RootLemmas.{chosen, not_chosen}
 use Rattle.prop_intervals.proofs.roots.at_distance.Goals as goal
-use Rattle.prop_intervals.proofs.roots.at_distance.Goals.{then-below_first-below_last, else-below_first-below_last, then-above_first-above_last, else-above_first-above_last}
+use Rattle.prop_intervals.proofs.roots.at_distance.Goals.{then-below_first-below_last, else-below_first-below_last}
+use Rattle.prop_intervals.proofs.roots.at_distance.Goals.{then-above_first-above_last, else-above_first-above_last}
 
 pub returns : goal.returns
 returns c =

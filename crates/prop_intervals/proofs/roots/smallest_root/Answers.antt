@@ -8,5 +8,6 @@ returns-then-m-le0-clause-value c = least_root_none c.args.m (omega (arith, ints
 
 pub returns-else-m-le0-clause-value : goal.returns-else-m-le0-clause-value
 returns-else-m-le0-clause-value c =
-    let is = least_root_is c.args.m (to_z w64 (of_z w64 (to_z w64 (of_z w64 c.args.m) -ℤ pos 1))) c.isqrt.result (omega (arith, ints)) (omega (arith, ints)) c.isqrt.ensures in
+    let is = least_root_is c.args.m (to_z w64 (of_z w64 (to_z w64 (of_z w64 c.args.m) -ℤ pos 1))) c.isqrt.result
+    (omega (arith, ints)) (omega (arith, ints)) c.isqrt.ensures in
     omega (arith, ints, least_root_small c.args.m (omega (arith, ints)))

@@ -13,4 +13,5 @@ returns-in_err-first-clause-err c =
 pub returns-in_err-names_of-clause-err : goal.returns-in_err-names_of-clause-err
 returns-in_err-names_of-clause-err c =
     let p = err_from_is_err_and c.from_residual-in_err-names_of.result c.from_residual-in_err-names_of.ensures.1 in
-    rw (p.1, p.2) (others_refused _ (front_words (tokens c.args.bytes.now)) _ c.in_ok-first.ensures.ok.1 c.in_err-names_of.ensures.err)
+    rw (p.1, p.2) (others_refused _ (front_words (tokens c.args.bytes.now)) _ c.in_ok-first.ensures.ok.1
+    c.in_err-names_of.ensures.err)

@@ -12,4 +12,8 @@ returns-in_err-relation-clause-err c =
 pub returns-in_err-domains-clause-err : goal.returns-in_err-domains-clause-err
 returns-in_err-domains-clause-err c =
     let p = err_from_is_err_and c.from_residual-in_err-domains.result c.from_residual-in_err-domains.ensures.1 in
-    rw (p.1, p.2) (c.in_err-domains.ensures.err.0, ap relation c.in_ok-relation.ensures.ok ∙ no_domains _ _ c.in_err-domains.ensures.err.1)
+    rw (p.1, p.2) (
+      c.in_err-domains.ensures.err.0,
+      ap relation c.in_ok-relation.ensures.ok
+          ∙ no_domains _ _ c.in_err-domains.ensures.err.1,
+    )

@@ -8,7 +8,10 @@ use Rattle.prop_language.proofs.forms.tell.Goals as goal
 pub returns-in_err-premise-clause-read : goal.returns-in_err-premise-clause-read
 returns-in_err-premise-clause-read c =
     let p = err_from_is_err_and c.from_residual.result c.from_residual.ensures.1 in
-    rw (p.1, p.2) (inr (misread _ _ (c.in_err-premise.ensures.err.0, no_tell (tokens c.args.rest.now) c.in_err-premise.ensures.err.1)))
+    rw (p.1, p.2) (inr (misread _ _ (
+      c.in_err-premise.ensures.err.0,
+      no_tell (tokens c.args.rest.now) c.in_err-premise.ensures.err.1,
+    )))
 
 pub returns-in_err-value-clause-read : goal.returns-in_err-value-clause-read
 returns-in_err-value-clause-read c =
@@ -25,7 +28,8 @@ returns-in_err-value-clause-memory c =
 pub returns-in_err-premise-2-clause-read : goal.returns-in_err-premise-2-clause-read
 returns-in_err-premise-2-clause-read c =
     let p = err_from_is_err_and c.from_residual-in_err-premise-2.result c.from_residual-in_err-premise-2.ensures.1 in
-    rw (p.1, p.2) (inr (tell_unnamed _ _ _ _ _ _ c.in_ok-premise.ensures.ok c.in_ok-value.ensures.ok c.in_err-premise-2.ensures.err))
+    rw (p.1, p.2) (inr (tell_unnamed _ _ _ _ _ _ c.in_ok-premise.ensures.ok c.in_ok-value.ensures.ok
+    c.in_err-premise-2.ensures.err))
 
 pub returns-clause-read : goal.returns-clause-read
 returns-clause-read c =

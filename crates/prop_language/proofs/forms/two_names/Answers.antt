@@ -11,4 +11,8 @@ returns-in_err-name-clause-err c =
 pub returns-in_err-name-2-clause-err : goal.returns-in_err-name-2-clause-err
 returns-in_err-name-2-clause-err c =
     let p = err_from_is_err_and c.from_residual-in_err-name-2.result c.from_residual-in_err-name-2.ensures.1 in
-    rw (p.1, p.2) (c.in_err-name-2.ensures.err.0, others_unnamed _ (c.args.second.now ∷ []) c.in_ok-name.ensures.ok.1 (first_unnamed _ [] c.in_err-name-2.ensures.err.1))
+    rw (p.1, p.2) (
+      c.in_err-name-2.ensures.err.0,
+      others_unnamed _ (c.args.second.now ∷ []) c.in_ok-name.ensures.ok.1
+          (first_unnamed _ [] c.in_err-name-2.ensures.err.1),
+    )

@@ -8,15 +8,21 @@ use Rattle.prop_language.proofs.numbers.number_in.Goals.{then-low-number, else-l
 
 pub returns-in_err-number : goal.returns-in_err-number
 returns-in_err-number c =
-    c.from_residual.ensures ∙ none_narrower (negsuc 9223372036854775807) c.args.low c.args.high (pos 9223372036854775807) (whole_number c.args.word.now) c.in_err-number.ensures (omega (arith, ints)) (omega (arith, ints))
+    c.from_residual.ensures ∙ none_narrower (negsuc 9223372036854775807) c.args.low c.args.high
+    (pos 9223372036854775807) (whole_number c.args.word.now) c.in_err-number.ensures (omega (arith, ints))
+    (omega (arith, ints))
 
 pub returns : goal.returns
 returns c =
     let low = to_z-of_z w64 c.args.low c.ranges.low in
     let high = to_z-of_z w64 c.args.high c.ranges.high in
-    let number = to_z-of_z w64 c.in_ok-number.number (in_a_word c.in_ok-number.number (whole_number c.args.word.now) c.in_ok-number.ensures) in
-    c.then_some.ensures ∙ ap (then_some c.if-low-number.then_some) number ∙ some_narrower (negsuc 9223372036854775807) c.args.low c.args.high (pos 9223372036854775807) c.in_ok-number.number (whole_number c.args.word.now) c.if-low-number.then_some c.in_ok-number.ensures
+    let number = to_z-of_z w64 c.in_ok-number.number
+    (in_a_word c.in_ok-number.number (whole_number c.args.word.now) c.in_ok-number.ensures) in
+    c.then_some.ensures ∙ ap (then_some c.if-low-number.then_some) number
+    ∙ some_narrower (negsuc 9223372036854775807) c.args.low c.args.high (pos 9223372036854775807)
+    c.in_ok-number.number (whole_number c.args.word.now) c.if-low-number.then_some c.in_ok-number.ensures
     (elim c.if-low-number.branch [
       | then-low-number w ↦ both_pass _ _ _ _ _ _ _ low number high w.if-low-number.true w.then_some-is
-      | else-low-number w ↦ first_fails _ _ _ _ _ _ low number w.if-low-number.false (w.then_some-is ∙ w.if-low-number.false)
+      | else-low-number w ↦ first_fails _ _ _ _ _ _ low number w.if-low-number.false
+          (w.then_some-is ∙ w.if-low-number.false)
     ])

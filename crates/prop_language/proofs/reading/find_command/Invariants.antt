@@ -5,4 +5,5 @@ use Rattle.prop_language.proofs.reading.find_command.Given as goal
 
 abbrev pub invariant-loop-known : goal.invariant-loop-known
 invariant-loop-known l =
-    find (λ form. bytes_eq form.0 l.word) (map form_entry (drop l.known-index l.commands)) ≡ find (λ form. bytes_eq form.0 l.word) (map form_entry l.commands)
+    find (λ form. bytes_eq form.0 l.word) (map form_entry (drop l.known-index l.commands)) ≡ find
+    (λ form. bytes_eq form.0 l.word) (map form_entry l.commands)

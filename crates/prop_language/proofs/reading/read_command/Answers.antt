@@ -3,10 +3,13 @@ use Rattle.prop_language.specs.Tokens.{Token, Word, tokens}
 use Rattle.prop_language.specs.Said.{KeepsWords}
 use Rattle.prop_language.specs.inner.Parts.{KeepsWordsOf, word_of}
 use Rattle.prop_language.specs.declared.reading.CommandWord.{CommandWord}
-use Rattle.prop_language.specs.declared.reading.CommandWord.TheVariants.{Domain, Relation, Cell, Define, Attach, Fix, Tell, Choose, Kick, Bring, Forget, Limit, Settle, Ask, Why, Core, Worldview, Nogoods}
+use Rattle.prop_language.specs.declared.reading.CommandWord.TheVariants.{Domain, Relation, Cell, Define, Attach, Fix}
+use Rattle.prop_language.specs.declared.reading.CommandWord.TheVariants.{Tell, Choose, Kick, Bring, Forget, Limit}
+use Rattle.prop_language.specs.declared.reading.CommandWord.TheVariants.{Settle, Ask, Why, Core, Worldview, Nogoods}
 use Rattle.prop_language.proofs.reading.read_command.Goals as goal
 
-keeps : (command : CommandWord) (w : List ℕ) (ts : List Token) → w ≡ word_of command → KeepsWordsOf command ts → KeepsWords (Word w ∷ ts)
+keeps : (command : CommandWord) (w : List ℕ) (ts : List Token) → w ≡ word_of command → KeepsWordsOf command ts
+    → KeepsWords (Word w ∷ ts)
 keeps Domain w ts e h = inl e
 keeps Relation w ts e h = inr (inl e)
 keeps Cell w ts e h = absurd h

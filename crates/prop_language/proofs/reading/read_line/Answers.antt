@@ -8,4 +8,7 @@ returns-then-line-gt-MOST_BYTES-clause-read c = inr (inl (c.if-line-gt-MOST_BYTE
 
 pub returns-clause-read : goal.returns-clause-read
 returns-clause-read c =
-    reads_line c.args.line.now _ (rw (le-ltb 4096 (length c.args.line.now) c.if-line-gt-MOST_BYTES.false, ← c.without_return.ensures) c.read_text.ensures.read)
+    reads_line c.args.line.now _ (rw (
+      le-ltb 4096 (length c.args.line.now) c.if-line-gt-MOST_BYTES.false,
+      ← c.without_return.ensures,
+    ) c.read_text.ensures.read)

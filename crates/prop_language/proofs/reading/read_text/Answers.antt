@@ -15,4 +15,5 @@ pub returns-in-Ok-clause-read : goal.returns-in-Ok-clause-read
 returns-in-Ok-clause-read c = rw (is_utf8-from_IsUtf8 _ c.in-Ok.ensures.cases.1, ← c.if-is_silent.ensures) refl
 
 pub returns-in-Ok-2-clause-read : goal.returns-in-Ok-2-clause-read
-returns-in-Ok-2-clause-read c = rw (is_utf8-from_IsUtf8 _ c.in-Ok-2.ensures.cases.1, ← c.if-is_silent.ensures) c.read_command.ensures.read
+returns-in-Ok-2-clause-read c = rw (is_utf8-from_IsUtf8 _ c.in-Ok-2.ensures.cases.1, ← c.if-is_silent.ensures)
+    c.read_command.ensures.read

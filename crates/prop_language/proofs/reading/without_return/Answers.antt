@@ -19,9 +19,11 @@ kept (b ∷ c ∷ front) x h = ap (λ l. b ∷ l) (kept (c ∷ front) x h)
 pub returns-then-last-eq13 : goal.returns-then-last-eq13
 returns-then-last-eq13 c =
     let e = c.in-Some.ensures.cases.0 in
-    sym (ap without_return (e ∙ ap (λ b. c.in-Some.front.now ++ b ∷ []) c.if-last-eq13.true) ∙ returned c.in-Some.front.now)
+    sym (ap without_return (e ∙ ap (λ b. c.in-Some.front.now ++ b ∷ []) c.if-last-eq13.true)
+    ∙ returned c.in-Some.front.now)
 
 pub returns-else-last-eq13 : goal.returns-else-last-eq13
 returns-else-last-eq13 c =
     let e = c.in-Some.ensures.cases.0 in
-    e ∙ sym (ap without_return e ∙ kept c.in-Some.front.now c.in-Some.last.now (differs c.in-Some.last.now 13 c.if-last-eq13.false))
+    e ∙ sym (ap without_return e ∙ kept c.in-Some.front.now c.in-Some.last.now
+    (differs c.in-Some.last.now 13 c.if-last-eq13.false))

@@ -22,7 +22,8 @@ loop-ending-preserved c =
     let below = EndsBelow (set_of c.args.worldview.now) c.args.from in
     let gs = c.args.endings.now in
     let place = c.place_for-place.result in
-    All-more below (take (length gs - place) (drop place gs)) c.loop-ending.ending-index c.ending-item.result c.loop-ending-test.true c.loop-ending.invariant
+    All-more below (take (length gs - place) (drop place gs)) c.loop-ending.ending-index c.ending-item.result
+    c.loop-ending-test.true c.loop-ending.invariant
     (subst below c.ending-item.is (c.in_default.ensures.none refl))
 
 pub returns-clause-none : goal.returns-clause-none
@@ -31,6 +32,9 @@ returns-clause-none c none =
     let place = c.place_for-place.result in
     let rest = take (length gs - place) (drop place gs) in
     let w = set_of c.args.worldview.now in
-    let end : c.loop-ending.ending-index ≡ length rest = omega (arith, c.loop-ending-test.false, c.loop-ending.auto.ending-index-end) in
-    all_end_below_place w c.args.from place gs c.place_for-place.ensures.bound c.place_for-place.ensures.between c.requires
-    (subst (All (EndsBelow w c.args.from)) (ap (λ n. take n rest) end ∙ take-length rest ∙ rest_is gs place) c.loop-ending.invariant)
+    let end : c.loop-ending.ending-index ≡ length rest =
+    omega (arith, c.loop-ending-test.false, c.loop-ending.auto.ending-index-end) in
+    all_end_below_place w c.args.from place gs c.place_for-place.ensures.bound c.place_for-place.ensures.between
+    c.requires
+    (subst (All (EndsBelow w c.args.from)) (ap (λ n. take n rest) end ∙ take-length rest ∙ rest_is gs place)
+    c.loop-ending.invariant)

@@ -25,7 +25,8 @@ loop-ending-preserved c =
     let of_none = λ (g : Group). IsPartOfNone g.sets c.args.nogood.now in
     let gs = c.args.endings.now in
     let place = c.place_for-place.result in
-    All-more of_none (take (length gs - place) (drop place gs)) c.loop-ending.ending-index c.ending-item.result c.loop-ending-test.true c.loop-ending.invariant
+    All-more of_none (take (length gs - place) (drop place gs)) c.loop-ending.ending-index c.ending-item.result
+    c.loop-ending-test.true c.loop-ending.invariant
     (subst of_none c.ending-item.is (c.if-has_larger.ensures refl))
 
 pub returns : goal.returns
@@ -34,6 +35,8 @@ returns c none =
     let gs = c.args.endings.now in
     let place = c.place_for-place.result in
     let rest = take (length gs - place) (drop place gs) in
-    let end : c.loop-ending.ending-index ≡ length rest = omega (arith, c.loop-ending-test.false, c.loop-ending.auto.ending-index-end) in
-    part_of_none_behind c.last.result gs place c.args.nogood.now c.last.ensures c.place_for-place.ensures.between c.requires.groups
+    let end : c.loop-ending.ending-index ≡ length rest =
+    omega (arith, c.loop-ending-test.false, c.loop-ending.auto.ending-index-end) in
+    part_of_none_behind c.last.result gs place c.args.nogood.now c.last.ensures c.place_for-place.ensures.between
+    c.requires.groups
     (subst (All of_none) (ap (λ n. take n rest) end ∙ take-length rest ∙ rest_is gs place) c.loop-ending.invariant)

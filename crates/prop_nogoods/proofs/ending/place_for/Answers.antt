@@ -9,5 +9,7 @@ returns-clause-between c =
     let gs = c.args.endings.now in
     let end = end_of c.args.last in
     place_from c.args.last gs c.partition_point.result
-    (IsPartitionPoint-from_clause (λ (g : Group). nat_lt (end_of g.last) end) gs c.partition_point.result c.partition_point.ensures.partitioned
-    (IsPartitionedBy-ltb (λ (g : Group). end_of g.last) gs end (non_decreasing gs c.requires)) (λ a r f k. search rules))
+    (IsPartitionPoint-from_clause (λ (g : Group). nat_lt (end_of g.last) end) gs c.partition_point.result
+    c.partition_point.ensures.partitioned
+    (IsPartitionedBy-ltb (λ (g : Group). end_of g.last) gs end (non_decreasing gs c.requires))
+    (λ a r f k. search rules))

@@ -9,4 +9,5 @@ loop-ending-preserved c =
     let i = c.loop-ending.ending-index in
     let left = lacking_of c.args.premise in
     ap (set ys i) (c.purge.ensures ∙ ap left (sym c.ending-item.is))
-    ∙ map_over_more left c.args.endings.now ys i c.ending-item.result c.loop-ending-test.true c.loop-ending.invariant c.ending-item.is
+    ∙ map_over_more left c.args.endings.now ys i c.ending-item.result c.loop-ending-test.true c.loop-ending.invariant
+    c.ending-item.is

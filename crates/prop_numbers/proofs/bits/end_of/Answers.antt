@@ -9,7 +9,8 @@ pub returns-in-Some : goal.returns-in-Some
 returns-in-Some c =
     let item = c.in-Some.ensures.item in
     let words = c.args.words.now in
-    let end = end_is words (length words - 1) c.in-Some.word.now c.requires.trimmed (omega (arith, item.3.0)) (item.3.1 0) (omega arith) in
+    let end = end_is words (length words - 1) c.in-Some.word.now c.requires.trimmed (omega (arith, item.3.0))
+    (item.3.1 0) (omega arith) in
     record { bound = omega (arith, c.requires.in_range); above = end.above; last = end.last }
 
 pub returns-in-None-clause-above : goal.returns-in-None-clause-above

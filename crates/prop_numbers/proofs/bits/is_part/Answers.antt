@@ -12,11 +12,13 @@ use Rattle.prop_numbers.proofs.bits.is_part.Goals as goal
 pub returns-then-words-place-ne0-clause-apart : goal.returns-then-words-place-ne0-clause-apart
 returns-then-words-place-ne0-clause-apart c = λ _.
     let place = c.loop-place.place in
-    let out = is_set-apart (get_or c.args.words.now place 0) c.word_from.result (Fits-lt-pow {w = w64} (c.type_inv.words place))
+    let out = is_set-apart (get_or c.args.words.now place 0) c.word_from.result
+    (Fits-lt-pow {w = w64} (c.type_inv.words place))
     (omega arith) c.if-words-place-ne0.true in (
       64 * (c.args.first + place) + out.0,
       own_bit c.args.first place out.0 c.args.words.now out.1 ∙ out.2,
-      word_bit c.args.others_first (c.args.first + place) c.word_from.result out.0 c.args.others.now c.word_from.ensures.before c.word_from.ensures.from out.1 ∙ out.3,
+      word_bit c.args.others_first (c.args.first + place) c.word_from.result out.0 c.args.others.now
+          c.word_from.ensures.before c.word_from.ensures.from out.1 ∙ out.3,
     )
 
 pub loop-place-preserved : goal.loop-place-preserved
@@ -25,8 +27,10 @@ loop-place-preserved c k i l m h = elim (cases_lt k c.loop-place.place) [
   | inr above ↦ (
       let here : k ≡ c.loop-place.place = omega (arith, l, above) in
       ap (λ n. set_of (numbers_from (64 * c.args.others_first) c.args.others.now) (64 * (c.args.first + n) + i)) here
-      ∙ word_bit c.args.others_first (c.args.first + c.loop-place.place) c.word_from.result i c.args.others.now c.word_from.ensures.before c.word_from.ensures.from m
-      ∙ is_set-part (get_or c.args.words.now c.loop-place.place 0) c.word_from.result i (omega arith) m c.if-words-place-ne0.false
+      ∙ word_bit c.args.others_first (c.args.first + c.loop-place.place) c.word_from.result i c.args.others.now
+      c.word_from.ensures.before c.word_from.ensures.from m
+      ∙ is_set-part (get_or c.args.words.now c.loop-place.place 0) c.word_from.result i (omega arith) m
+      c.if-words-place-ne0.false
       (ap (λ n. is_set (get_or c.args.words.now n 0) i) (sym here) ∙ h))
 ]
 

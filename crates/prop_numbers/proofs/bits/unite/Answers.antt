@@ -5,10 +5,13 @@ use Rattle.prop_numbers.proofs.bits.unite.Goals as goal
 
 pub returns-clause-bits : goal.returns-clause-bits
 returns-clause-bits c p = elim (cases_lt (p / 64) c.args.at) [
-  | inl before ↦ united_before c.args.at p c.args.words.now c.args.more.now c.loop-place.words before (c.loop-place.invariant.left (p / 64) (inl before))
+  | inl before ↦ united_before c.args.at p c.args.words.now c.args.more.now c.loop-place.words before
+      (c.loop-place.invariant.left (p / 64) (inl before))
   | inr from ↦ elim (cases_lt (p / 64 - c.args.at) c.loop-place.place) [
-    | inl below ↦ united_here c.args.at p c.args.words.now c.args.more.now c.loop-place.words from (c.loop-place.invariant.done (p / 64 - c.args.at) below)
-    | inr above ↦ united_past c.args.at p c.args.words.now c.args.more.now c.loop-place.words from (omega (arith, above, c.loop-place-test.false))
+    | inl below ↦ united_here c.args.at p c.args.words.now c.args.more.now c.loop-place.words from
+        (c.loop-place.invariant.done (p / 64 - c.args.at) below)
+    | inr above ↦ united_past c.args.at p c.args.words.now c.args.more.now c.loop-place.words from
+        (omega (arith, above, c.loop-place-test.false))
         (c.loop-place.invariant.left (p / 64) (inr (omega (arith, above, from))))
   ]
 ]

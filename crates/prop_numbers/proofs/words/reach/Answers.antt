@@ -10,5 +10,7 @@ returns-then-first-number-clause-numbers c =
 
 pub returns-clause-numbers : goal.returns-clause-numbers
 returns-clause-numbers c =
-    led_from c.args.number (c.args.first - c.args.number) c.args.first c.in_ok-words.field-0.items c.args.words.now.items (omega (arith, c.if-first-number.false))
-    (λ p. c.in_ok-words.ensures.bits p ∙ ap (λ ws. set_of (numbers_from (64 * (c.args.first - c.args.number)) ws) p) c.deref.ensures)
+    led_from c.args.number (c.args.first - c.args.number) c.args.first c.in_ok-words.field-0.items
+    c.args.words.now.items (omega (arith, c.if-first-number.false))
+    (λ p. c.in_ok-words.ensures.bits p ∙ ap (λ ws. set_of (numbers_from (64 * (c.args.first - c.args.number)) ws) p)
+    c.deref.ensures)

@@ -7,4 +7,5 @@ pub returns-then-is_empty-clause-numbers : goal.returns-then-is_empty-clause-num
 returns-then-is_empty-clause-numbers c =
     let tested = sym c.is_empty.ensures ∙ c.if-is_empty.true in
     let none : length c.args.words.now ≡ 0 = grind (arith, nat_tests) in
-    numbers_from-nothing (64 * c.args.number) c.args.words.now none ∙ sym (numbers_from-nothing (64 * c.args.first) c.args.words.now none)
+    numbers_from-nothing (64 * c.args.number) c.args.words.now none
+    ∙ sym (numbers_from-nothing (64 * c.args.first) c.args.words.now none)

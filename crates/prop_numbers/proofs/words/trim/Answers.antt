@@ -11,4 +11,5 @@ returns-clause-bits c p =
 pub returns-clause-trimmed : goal.returns-clause-trimmed
 returns-clause-trimmed c =
     let cut = rw c.deref.ensures at c.trimmed_len-len.ensures in
-    IsTrimmed-cut c.args.words.now.items c.truncate.new.self.items c.trimmed_len-len.result c.truncate.ensures.items cut.within cut.rest cut.last
+    IsTrimmed-cut c.args.words.now.items c.truncate.new.self.items c.trimmed_len-len.result c.truncate.ensures.items
+    cut.within cut.rest cut.last

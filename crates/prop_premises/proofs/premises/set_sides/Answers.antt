@@ -8,23 +8,27 @@ none : Choice
 none = record { first = 0; sides = 0 }
 
 pub bounds-sides-place : goal.bounds-sides-place
-bounds-sides-place c = (taken c.args.choices.now c.args.sides.now c.loop-place.place none 0 c.requires.list c.loop-place-test.true).within
+bounds-sides-place c = (taken c.args.choices.now c.args.sides.now c.loop-place.place none 0 c.requires.list
+    c.loop-place-test.true).within
 
 pub overflow_sub-side : goal.overflow_sub-side
 overflow_sub-side c =
-    let t = taken c.args.choices.now c.args.sides.now c.loop-place.place none 0 c.requires.list c.loop-place-test.true in
+    let t = taken c.args.choices.now c.args.sides.now c.loop-place.place none 0 c.requires.list c.loop-place-test.true
+    in
     omega (arith, c.from-side.ensures, t.least)
 
 pub overflow_add-choices : goal.overflow_add-choices
 unfolding none
 overflow_add-choices c =
-    let room = c.requires.room _ (taken_is_hypothetical c.args.choices.now c.args.sides.now c.loop-place.place none 0 c.requires.list c.loop-place-test.true) in
+    let room = c.requires.room _ (taken_is_hypothetical c.args.choices.now c.args.sides.now c.loop-place.place none 0
+    c.requires.list c.loop-place-test.true) in
     omega (arith, room, c.requires.bound, c.from-side.ensures)
 
 pub set_bit-requires : goal.set_bit-requires
 unfolding none
 set_bit-requires c =
-    let room = c.requires.room _ (taken_is_hypothetical c.args.choices.now c.args.sides.now c.loop-place.place none 0 c.requires.list c.loop-place-test.true) in
+    let room = c.requires.room _ (taken_is_hypothetical c.args.choices.now c.args.sides.now c.loop-place.place none 0
+    c.requires.list c.loop-place-test.true) in
     omega (arith, room, c.loop-place.invariant.len, c.from-side.ensures)
 
 pub loop-place-preserved : goal.loop-place-preserved
@@ -32,9 +36,11 @@ unfolding none
 loop-place-preserved c =
     let k = c.loop-place.place in
     let number = (get_or c.args.choices.now k none).first + (c.from-side.result - 1) in
-    let at : number ≡ (get_or c.args.choices.now k none).first + (get_or c.args.sides.now k 0 - 1) = omega (arith, c.from-side.ensures) in
+    let at : number ≡ (get_or c.args.choices.now k none).first + (get_or c.args.sides.now k 0 - 1) =
+    omega (arith, c.from-side.ensures) in
     record {
       len = c.set_bit.ensures.len ∙ c.loop-place.invariant.len;
-      bits = λ p. with_side (has_bit c.loop-place.words) (has_bit c.set_bit.new.words) c.args.choices.now c.args.sides.now k none 0 number c.requires.list c.loop-place-test.true at c.set_bit.ensures.bits p
+      bits = λ p. with_side (has_bit c.loop-place.words) (has_bit c.set_bit.new.words) c.args.choices.now
+          c.args.sides.now k none 0 number c.requires.list c.loop-place-test.true at c.set_bit.ensures.bits p
           ∙ c.loop-place.invariant.bits p;
     }

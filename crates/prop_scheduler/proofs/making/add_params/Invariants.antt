@@ -12,6 +12,7 @@ invariant-loop-param g l = record {
   same : l.network.library ≡ l.initial.network.library;
   kept : IsKept (stored_of g.R.Rule.value_of l.network.library) l.network.cells;
   rest : l.network.cells ≡ record l.initial.network.cells { params = l.network.cells.params };
-  made : l.network.cells.params ++ into_iter_items l.param-iterator ≡ l.initial.network.cells.params ++ l.fn.params.items;
+  made : l.network.cells.params ++ into_iter_items
+      l.param-iterator ≡ l.initial.network.cells.params ++ l.fn.params.items;
   back : (before : Data) → GoesBackTo before l.initial.network.cells → GoesBackTo before l.network.cells;
 }

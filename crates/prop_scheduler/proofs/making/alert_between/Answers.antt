@@ -17,7 +17,8 @@ loop-instance-preserved c =
       watched = c.alert.ensures.watched ∙ h.watched;
       cells = c.alert.ensures.cells ∙ h.cells;
       from = omega arith;
-      behind = let first = c.args.first in behind_then (λ i. first ≤ i) c.args.agenda.now.line mid new h.behind (behind_one (λ i. first ≤ i) mid new j a h.from);
+      behind = let first = c.args.first in behind_then (λ i. first ≤ i) c.args.agenda.now.line mid new h.behind
+          (behind_one (λ i. first ≤ i) mid new j a h.from);
       before = λ i waits. alerted_kept mid new j i a (h.before i waits);
       alerted = λ i from below. elim (eqb_tells i j) as (λ _. Contains new i) [
         | inl same ↦ rw same.1 (alerted_here mid new j a)

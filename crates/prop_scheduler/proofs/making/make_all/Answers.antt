@@ -26,9 +26,15 @@ pub back-requires : goal.back-requires
 back-requires g c =
     let d = c.args.network.now.cells in
     let new = c.make_some.new.network.cells in
-    let count : length c.params.result.now ≡ length d.params = ap length c.params.ensures ∙ ap (λ (d : Data). length d.params) c.data.ensures in
-    let back : taken_back c.cells.result (length c.params.result.now) c.instances.result new ≡ d = (λ i. taken_back (c.cells.ensures.count i) (count i) (c.instances.ensures.count i) new) ∙ c.make_some.ensures.back in
-    record { kept = subst (IsKept (stored_of g.R.Rule.value_of c.make_some.new.network.library)) (sym back) (rw c.make_some.ensures.same c.requires.kept) }
+    let count : length c.params.result.now ≡ length d.params = ap length c.params.ensures
+    ∙ ap (λ (d : Data). length d.params) c.data.ensures in
+    let back : taken_back c.cells.result (length c.params.result.now) c.instances.result new ≡ d =
+    (λ i. taken_back (c.cells.ensures.count i) (count i) (c.instances.ensures.count i) new)
+    ∙ c.make_some.ensures.back in
+    record {
+      kept = subst (IsKept (stored_of g.R.Rule.value_of c.make_some.new.network.library)) (sym back)
+          (rw c.make_some.ensures.same c.requires.kept);
+    }
 
 pub returns-in-Ok-clause-same : goal.returns-in-Ok-clause-same
 returns-in-Ok-clause-same g c = c.make_some.ensures.same
@@ -61,6 +67,9 @@ pub returns-in-Err-clause-err_same : goal.returns-in-Err-clause-err_same
 returns-in-Err-clause-err_same g c =
     let d = c.args.network.now.cells in
     let new = c.make_some.new.network.cells in
-    let count : length c.params.result.now ≡ length d.params = ap length c.params.ensures ∙ ap (λ (d : Data). length d.params) c.data.ensures in
-    let back : taken_back c.cells.result (length c.params.result.now) c.instances.result new ≡ d = (λ i. taken_back (c.cells.ensures.count i) (count i) (c.instances.ensures.count i) new) ∙ c.make_some.ensures.back in
+    let count : length c.params.result.now ≡ length d.params = ap length c.params.ensures
+    ∙ ap (λ (d : Data). length d.params) c.data.ensures in
+    let back : taken_back c.cells.result (length c.params.result.now) c.instances.result new ≡ d =
+    (λ i. taken_back (c.cells.ensures.count i) (count i) (c.instances.ensures.count i) new)
+    ∙ c.make_some.ensures.back in
     c.back.ensures.back ∙ back

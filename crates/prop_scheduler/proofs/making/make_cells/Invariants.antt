@@ -10,5 +10,6 @@ invariant-loop-kind g l = record {
   same : l.network.library ≡ l.initial.network.library;
   kept : IsKept (stored_of g.R.Rule.value_of l.network.library) l.network.cells;
   made : l.network.cells ≡ with_fresh_cells l.initial.network.cells (take l.kind-index l.fresh);
-  back : (before : Data) → IsWellMade before → GoesBackTo before l.initial.network.cells → GoesBackTo before l.network.cells;
+  back : (before : Data) → IsWellMade before → GoesBackTo before l.initial.network.cells
+      → GoesBackTo before l.network.cells;
 }

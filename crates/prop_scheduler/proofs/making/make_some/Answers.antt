@@ -25,7 +25,8 @@ pub returns-in-Err-clause-err : goal.returns-in-Err-clause-err
 returns-in-Err-clause-err g c = c.in-Err.ensures.err
 
 pub returns-in-Err-clause-back : goal.returns-in-Err-clause-back
-returns-in-Err-clause-back g c = c.make_cells-made.ensures.back c.args.network.now.cells c.requires.kept.made (goes_back-same c.args.network.now.cells c.requires.kept.made)
+returns-in-Err-clause-back g c = c.make_cells-made.ensures.back c.args.network.now.cells c.requires.kept.made
+    (goes_back-same c.args.network.now.cells c.requires.kept.made)
 
 pub add_params-requires : goal.add_params-requires
 add_params-requires g c = record { kept = c.make_cells-made.ensures.kept }
@@ -43,43 +44,71 @@ pub returns-in-Err-add_params-clause-err : goal.returns-in-Err-add_params-clause
 returns-in-Err-add_params-clause-err g c = c.in-Err-add_params.ensures.err
 
 pub returns-in-Err-add_params-clause-back : goal.returns-in-Err-add_params-clause-back
-returns-in-Err-add_params-clause-back g c = c.add_params.ensures.back c.args.network.now.cells (c.make_cells-made.ensures.back c.args.network.now.cells c.requires.kept.made (goes_back-same c.args.network.now.cells c.requires.kept.made))
+returns-in-Err-add_params-clause-back g c =
+    c.add_params.ensures.back c.args.network.now.cells
+    (c.make_cells-made.ensures.back c.args.network.now.cells c.requires.kept.made
+    (goes_back-same c.args.network.now.cells c.requires.kept.made))
 
 pub make_instances-made-requires-clause-kept : goal.make_instances-made-requires-clause-kept
 make_instances-made-requires-clause-kept g c = c.add_params.ensures.kept
 
 pub make_instances-made-requires-clause-params : goal.make_instances-made-requires-clause-params
 make_instances-made-requires-clause-params g c =
-    first_there (stored_of g.R.Rule.value_of c.args.network.now.library) (stored_of g.R.Rule.value_of c.add_params.new.network.library) c.args.network.now.cells c.make_cells-made.new.network.cells c.add_params.new.network.cells c.args.cells.now c.args.base.cell c.args.base.param
-    c.args.flat c.deref.result.now c.deref-2.result.now (λ i. stored_of g.R.Rule.value_of ((c.add_params.ensures.same ∙ c.make_cells-made.ensures.same) i)) c.requires.cell c.requires.param c.deref.ensures.value c.deref-2.ensures.value
+    first_there (stored_of g.R.Rule.value_of c.args.network.now.library)
+    (stored_of g.R.Rule.value_of c.add_params.new.network.library) c.args.network.now.cells
+    c.make_cells-made.new.network.cells c.add_params.new.network.cells c.args.cells.now c.args.base.cell
+    c.args.base.param
+    c.args.flat c.deref.result.now c.deref-2.result.now
+    (λ i. stored_of g.R.Rule.value_of ((c.add_params.ensures.same ∙ c.make_cells-made.ensures.same) i))
+    c.requires.cell c.requires.param c.deref.ensures.value c.deref-2.ensures.value
     c.in_default.ensures.ok c.in_default-add_params.ensures.ok
 
 pub make_instances-made-requires-clause-may : goal.make_instances-made-requires-clause-may
 make_instances-made-requires-clause-may g c =
-    each_may (stored_of g.R.Rule.value_of c.args.network.now.library) (stored_of g.R.Rule.value_of c.add_params.new.network.library) c.args.network.now.cells c.make_cells-made.new.network.cells c.add_params.new.network.cells c.args.cells.now c.args.base.cell c.args.base.param
-    c.args.flat c.deref.result.now c.deref-2.result.now (λ i. stored_of g.R.Rule.value_of ((c.add_params.ensures.same ∙ c.make_cells-made.ensures.same) i)) c.requires.cell c.requires.param c.deref.ensures.value c.deref-2.ensures.value
+    each_may (stored_of g.R.Rule.value_of c.args.network.now.library)
+    (stored_of g.R.Rule.value_of c.add_params.new.network.library) c.args.network.now.cells
+    c.make_cells-made.new.network.cells c.add_params.new.network.cells c.args.cells.now c.args.base.cell
+    c.args.base.param
+    c.args.flat c.deref.result.now c.deref-2.result.now
+    (λ i. stored_of g.R.Rule.value_of ((c.add_params.ensures.same ∙ c.make_cells-made.ensures.same) i))
+    c.requires.cell c.requires.param c.deref.ensures.value c.deref-2.ensures.value
     c.in_default.ensures.ok c.in_default-add_params.ensures.ok c.requires.may
 
 pub make_instances-made-requires-clause-room : goal.make_instances-made-requires-clause-room
 make_instances-made-requires-clause-room g c =
-    room_for (stored_of g.R.Rule.value_of c.args.network.now.library) (stored_of g.R.Rule.value_of c.add_params.new.network.library) c.args.network.now.cells c.make_cells-made.new.network.cells c.add_params.new.network.cells c.args.cells.now c.args.base.cell c.args.base.param
-    c.args.flat c.deref.result.now c.deref-2.result.now (λ i. stored_of g.R.Rule.value_of ((c.add_params.ensures.same ∙ c.make_cells-made.ensures.same) i)) c.requires.cell c.requires.param c.deref.ensures.value c.deref-2.ensures.value
+    room_for (stored_of g.R.Rule.value_of c.args.network.now.library)
+    (stored_of g.R.Rule.value_of c.add_params.new.network.library) c.args.network.now.cells
+    c.make_cells-made.new.network.cells c.add_params.new.network.cells c.args.cells.now c.args.base.cell
+    c.args.base.param
+    c.args.flat c.deref.result.now c.deref-2.result.now
+    (λ i. stored_of g.R.Rule.value_of ((c.add_params.ensures.same ∙ c.make_cells-made.ensures.same) i))
+    c.requires.cell c.requires.param c.deref.ensures.value c.deref-2.ensures.value
     c.in_default.ensures.ok c.in_default-add_params.ensures.ok (most Instances) c.requires.few_instances
 
 pub returns-clause-same : goal.returns-clause-same
-returns-clause-same g c = c.make_instances-made.ensures.same ∙ c.add_params.ensures.same ∙ c.make_cells-made.ensures.same
+returns-clause-same g c = c.make_instances-made.ensures.same ∙ c.add_params.ensures.same
+    ∙ c.make_cells-made.ensures.same
 
 pub returns-clause-kept : goal.returns-clause-kept
 returns-clause-kept g c = c.make_instances-made.ensures.kept
 
 pub returns-clause-ok : goal.returns-clause-ok
 returns-clause-ok g c =
-    all_made (stored_of g.R.Rule.value_of c.args.network.now.library) (stored_of g.R.Rule.value_of c.add_params.new.network.library) c.args.network.now.cells c.make_cells-made.new.network.cells c.add_params.new.network.cells c.args.cells.now c.args.base.cell c.args.base.param
-    c.args.flat c.deref.result.now c.deref-2.result.now (λ i. stored_of g.R.Rule.value_of ((c.add_params.ensures.same ∙ c.make_cells-made.ensures.same) i)) c.requires.cell c.requires.param c.deref.ensures.value c.deref-2.ensures.value
-    c.in_default.ensures.ok c.in_default-add_params.ensures.ok c.make_instances-made.result c.make_instances-made.new.network.cells c.make_instances-made.ensures.ok
+    all_made (stored_of g.R.Rule.value_of c.args.network.now.library)
+    (stored_of g.R.Rule.value_of c.add_params.new.network.library) c.args.network.now.cells
+    c.make_cells-made.new.network.cells c.add_params.new.network.cells c.args.cells.now c.args.base.cell
+    c.args.base.param
+    c.args.flat c.deref.result.now c.deref-2.result.now
+    (λ i. stored_of g.R.Rule.value_of ((c.add_params.ensures.same ∙ c.make_cells-made.ensures.same) i))
+    c.requires.cell c.requires.param c.deref.ensures.value c.deref-2.ensures.value
+    c.in_default.ensures.ok c.in_default-add_params.ensures.ok c.make_instances-made.result
+    c.make_instances-made.new.network.cells c.make_instances-made.ensures.ok
 
 pub returns-clause-err : goal.returns-clause-err
 returns-clause-err g c = c.make_instances-made.ensures.err
 
 pub returns-clause-back : goal.returns-clause-back
-returns-clause-back g c = c.make_instances-made.ensures.back c.args.network.now.cells (c.add_params.ensures.back c.args.network.now.cells (c.make_cells-made.ensures.back c.args.network.now.cells c.requires.kept.made (goes_back-same c.args.network.now.cells c.requires.kept.made)))
+returns-clause-back g c = c.make_instances-made.ensures.back c.args.network.now.cells
+    (c.add_params.ensures.back c.args.network.now.cells
+    (c.make_cells-made.ensures.back c.args.network.now.cells c.requires.kept.made
+    (goes_back-same c.args.network.now.cells c.requires.kept.made)))

@@ -1,4 +1,5 @@
-use Rattle.std.proofs.Common.{◌≡◌, ◌∙◌, ◌+◌, refl, sym, ap, subst, arith, ℕ, List, length, Result, Ok, Err, OnErr, inl, inr}
+use Rattle.std.proofs.Common.{◌≡◌, ◌∙◌, ◌+◌, refl, sym, ap, subst, arith, ℕ, List, length, Result, Ok, Err, OnErr, inl}
+use Rattle.std.proofs.Common.{inr}
 use Rattle.std.proofs.lemmas.List.{nil_from_length}
 use Rattle.prop_numbers.specs.Sets.{set_of}
 use Rattle.prop_procedures.specs.Stored.{Stored}
@@ -18,15 +19,22 @@ on_err (Ok a) x = tt
 on_err (Err e) x = x
 
 -- a turn over a library is one over the same library
-turn_on : {L : Type 0} (stored : L → List Stored) (s : Premises) (place : ℕ) (old new : Data) (line line' : List ℕ) (a b : L) → b ≡ a → Turn (stored b) s place old new line line' → Turn (stored a) s place old new line line'
-turn_on stored s place old new line line' a b same turn = subst (λ l. Turn (stored l) s place old new line line') same turn
+turn_on : {L : Type 0} (stored : L → List Stored) (s : Premises) (place : ℕ) (old new : Data) (line line' : List ℕ)
+    (a b : L) → b ≡ a → Turn (stored b) s place old new line line' → Turn (stored a) s place old new line line'
+turn_on stored s place old new line line' a b same turn =
+    subst (λ l. Turn (stored l) s place old new line line') same turn
 
 -- a turn changes the contents alone
-turn_rest : (library : List Stored) (s : Premises) (place : ℕ) (start old new : Data) (line line' : List ℕ) → Turn library s place old new line line' → old ≡ record start { contents = old.contents } → new ≡ record start { contents = new.contents }
-turn_rest library s place start old new line line' turn rest = turn.calls.rest ∙ (λ i. record (rest i) { contents = new.contents })
+turn_rest : (library : List Stored) (s : Premises) (place : ℕ) (start old new : Data) (line line' : List ℕ)
+    → Turn library s place old new line line' → old ≡ record start { contents = old.contents }
+    → new ≡ record start { contents = new.contents }
+turn_rest library s place start old new line line' turn rest = turn.calls.rest
+    ∙ (λ i. record (rest i) { contents = new.contents })
 
 -- the most steps are those of the start, over the same library and with other contents alone
-most_same : (library library' : List Stored) (start new : Data) → library' ≡ library → new ≡ record start { contents = new.contents } → most_steps (problem_of library' new) ≡ most_steps (problem_of library start)
+most_same : (library library' : List Stored) (start new : Data) → library' ≡ library
+    → new ≡ record start { contents = new.contents }
+    → most_steps (problem_of library' new) ≡ most_steps (problem_of library start)
 most_same library library' start new same rest = λ i. most_steps (problem_of (same i) (rest i))
 
 pub returns-in-Some-clause-same : goal.returns-in-Some-clause-same
@@ -63,11 +71,21 @@ returns-in-Some-clause-rests g c =
 
 pub returns-in-Some-clause-clash : goal.returns-in-Some-clause-clash
 returns-in-Some-clause-clash g c =
-    record { cell = c.in-Some.cell; clash = rw c.in-Some.is at c.first_clash.ensures.seen; lean = c.in_ok-why-in-Some.ensures.lean }
+    record {
+      cell = c.in-Some.cell;
+      clash = rw c.in-Some.is at c.first_clash.ensures.seen;
+      lean = c.in_ok-why-in-Some.ensures.lean;
+    }
 
 pub returns-in-Some-clause-conflict : goal.returns-in-Some-clause-conflict
 returns-in-Some-clause-conflict g c =
-    clash_conflicts (stored_of g.R.Rule.value_of c.args.network.now.library) c.args.network.now.cells (set_of c.args.worldview.now) _ c.requires.under_way.kept (record { cell = c.in-Some.cell; clash = rw c.in-Some.is at c.first_clash.ensures.seen; lean = c.in_ok-why-in-Some.ensures.lean })
+    clash_conflicts (stored_of g.R.Rule.value_of c.args.network.now.library) c.args.network.now.cells
+    (set_of c.args.worldview.now) _ c.requires.under_way.kept
+    (record {
+      cell = c.in-Some.cell;
+      clash = rw c.in-Some.is at c.first_clash.ensures.seen;
+      lean = c.in_ok-why-in-Some.ensures.lean;
+    })
 
 pub returns-in-Some-clause-spent : goal.returns-in-Some-clause-spent
 returns-in-Some-clause-spent g c =
@@ -119,7 +137,10 @@ returns-in_err-why-in-Some-clause-room g c =
 
 pub returns-in_err-why-in-Some-clause-err : goal.returns-in_err-why-in-Some-clause-err
 returns-in_err-why-in-Some-clause-err g c =
-    let stopped : Interrupted g.O.Order.picks (stored_of g.R.Rule.value_of c.args.network.now.library) (set_of c.args.worldview.now) c.args.network.now.cells c.args.agenda.now.line c.args.order.now c.args.network.now.cells c.args.agenda.now.line c.args.order.now = record { steps = 0; last = c.args.order.now; turns = none; picked = inl refl } in
+    let stopped : Interrupted g.O.Order.picks (stored_of g.R.Rule.value_of c.args.network.now.library)
+    (set_of c.args.worldview.now) c.args.network.now.cells c.args.agenda.now.line c.args.order.now
+    c.args.network.now.cells c.args.agenda.now.line c.args.order.now =
+    record { steps = 0; last = c.args.order.now; turns = none; picked = inl refl } in
     rw c.first_clash.ensures.line (on_err _ stopped)
 
 pub loop-steps-init : goal.loop-steps-init
@@ -163,8 +184,15 @@ returns-in-Some-clash-clause-same g c =
 
 pub returns-in-Some-clash-clause-rest : goal.returns-in-Some-clash-clause-rest
 returns-in-Some-clash-clause-rest g c =
-    let turn : Turn (stored_of g.R.Rule.value_of c.args.network.now.library) (set_of c.args.worldview.now) c.pick-place.result c.loop-steps.network.cells c.turn.new.network.cells c.loop-steps.agenda.line c.turn.new.agenda.line = turn_on (stored_of g.R.Rule.value_of) (set_of c.args.worldview.now) c.pick-place.result c.loop-steps.network.cells c.turn.new.network.cells c.loop-steps.agenda.line c.turn.new.agenda.line c.args.network.now.library c.loop-steps.network.library c.loop-steps.invariant.same c.in_ok-clash.ensures.turn in
-    turn_rest (stored_of g.R.Rule.value_of c.args.network.now.library) (set_of c.args.worldview.now) c.pick-place.result c.args.network.now.cells c.loop-steps.network.cells c.turn.new.network.cells c.loop-steps.agenda.line c.turn.new.agenda.line turn c.loop-steps.invariant.rest
+    let turn : Turn (stored_of g.R.Rule.value_of c.args.network.now.library) (set_of c.args.worldview.now)
+    c.pick-place.result c.loop-steps.network.cells c.turn.new.network.cells c.loop-steps.agenda.line
+    c.turn.new.agenda.line = turn_on (stored_of g.R.Rule.value_of) (set_of c.args.worldview.now) c.pick-place.result
+    c.loop-steps.network.cells c.turn.new.network.cells c.loop-steps.agenda.line c.turn.new.agenda.line
+    c.args.network.now.library c.loop-steps.network.library c.loop-steps.invariant.same c.in_ok-clash.ensures.turn
+    in
+    turn_rest (stored_of g.R.Rule.value_of c.args.network.now.library) (set_of c.args.worldview.now) c.pick-place.result
+    c.args.network.now.cells c.loop-steps.network.cells c.turn.new.network.cells c.loop-steps.agenda.line
+    c.turn.new.agenda.line turn c.loop-steps.invariant.rest
 
 pub returns-in-Some-clash-clause-under_way : goal.returns-in-Some-clash-clause-under_way
 returns-in-Some-clash-clause-under_way g c =
@@ -176,8 +204,15 @@ returns-in-Some-clash-clause-room g c =
 
 pub returns-in-Some-clash-clause-turns : goal.returns-in-Some-clash-clause-turns
 returns-in-Some-clash-clause-turns g c =
-    let turn : Turn (stored_of g.R.Rule.value_of c.args.network.now.library) (set_of c.args.worldview.now) c.pick-place.result c.loop-steps.network.cells c.turn.new.network.cells c.loop-steps.agenda.line c.turn.new.agenda.line = turn_on (stored_of g.R.Rule.value_of) (set_of c.args.worldview.now) c.pick-place.result c.loop-steps.network.cells c.turn.new.network.cells c.loop-steps.agenda.line c.turn.new.agenda.line c.args.network.now.library c.loop-steps.network.library c.loop-steps.invariant.same c.in_ok-clash.ensures.turn in
-    more c.loop-steps.steps c.pick-place.result c.loop-steps.network.cells _ c.loop-steps.agenda.line _ c.loop-steps.order _ c.loop-steps.invariant.turns (rw c.loop-steps.invariant.waiting at c.pick-place.ensures.picks) turn
+    let turn : Turn (stored_of g.R.Rule.value_of c.args.network.now.library) (set_of c.args.worldview.now)
+    c.pick-place.result c.loop-steps.network.cells c.turn.new.network.cells c.loop-steps.agenda.line
+    c.turn.new.agenda.line = turn_on (stored_of g.R.Rule.value_of) (set_of c.args.worldview.now) c.pick-place.result
+    c.loop-steps.network.cells c.turn.new.network.cells c.loop-steps.agenda.line c.turn.new.agenda.line
+    c.args.network.now.library c.loop-steps.network.library c.loop-steps.invariant.same c.in_ok-clash.ensures.turn
+    in
+    more c.loop-steps.steps c.pick-place.result c.loop-steps.network.cells _ c.loop-steps.agenda.line _
+    c.loop-steps.order _ c.loop-steps.invariant.turns
+    (rw c.loop-steps.invariant.waiting at c.pick-place.ensures.picks) turn
 
 pub returns-in-Some-clash-clause-err : goal.returns-in-Some-clash-clause-err
 returns-in-Some-clash-clause-err g c =
@@ -193,11 +228,21 @@ returns-in-Some-clash-clause-rests g c =
 
 pub returns-in-Some-clash-clause-clash : goal.returns-in-Some-clash-clause-clash
 returns-in-Some-clash-clause-clash g c =
-    record { cell = c.in-Some-clash.cell; clash = rw c.in-Some-clash.is at c.in_ok-clash.ensures.seen; lean = c.in_ok-why-in-Some-clash.ensures.lean }
+    record {
+      cell = c.in-Some-clash.cell;
+      clash = rw c.in-Some-clash.is at c.in_ok-clash.ensures.seen;
+      lean = c.in_ok-why-in-Some-clash.ensures.lean;
+    }
 
 pub returns-in-Some-clash-clause-conflict : goal.returns-in-Some-clash-clause-conflict
 returns-in-Some-clash-clause-conflict g c =
-    clash_conflicts (stored_of g.R.Rule.value_of c.turn.new.network.library) c.turn.new.network.cells (set_of c.args.worldview.now) _ c.turn.ensures.under_way.kept (record { cell = c.in-Some-clash.cell; clash = rw c.in-Some-clash.is at c.in_ok-clash.ensures.seen; lean = c.in_ok-why-in-Some-clash.ensures.lean })
+    clash_conflicts (stored_of g.R.Rule.value_of c.turn.new.network.library) c.turn.new.network.cells
+    (set_of c.args.worldview.now) _ c.turn.ensures.under_way.kept
+    (record {
+      cell = c.in-Some-clash.cell;
+      clash = rw c.in-Some-clash.is at c.in_ok-clash.ensures.seen;
+      lean = c.in_ok-why-in-Some-clash.ensures.lean;
+    })
 
 pub returns-in-Some-clash-clause-spent : goal.returns-in-Some-clash-clause-spent
 returns-in-Some-clash-clause-spent g c =
@@ -218,8 +263,18 @@ returns-in-Some-clash-clause-steps g c =
 pub returns-in-Some-clash-clause-at_rest : goal.returns-in-Some-clash-clause-at_rest
 returns-in-Some-clash-clause-at_rest g c =
     λ empty free.
-    let turn : Turn (stored_of g.R.Rule.value_of c.args.network.now.library) (set_of c.args.worldview.now) c.pick-place.result c.loop-steps.network.cells c.turn.new.network.cells c.loop-steps.agenda.line c.turn.new.agenda.line = turn_on (stored_of g.R.Rule.value_of) (set_of c.args.worldview.now) c.pick-place.result c.loop-steps.network.cells c.turn.new.network.cells c.loop-steps.agenda.line c.turn.new.agenda.line c.args.network.now.library c.loop-steps.network.library c.loop-steps.invariant.same c.in_ok-clash.ensures.turn in
-    let idle = no_turns g.O.Order.picks (stored_of g.R.Rule.value_of c.args.network.now.library) (set_of c.args.worldview.now) c.args.network.now.cells c.args.agenda.now.line c.args.order.now (c.loop-steps.steps + 1) c.turn.new.network.cells c.turn.new.agenda.line c.pick-place.new.self (more c.loop-steps.steps c.pick-place.result c.loop-steps.network.cells _ c.loop-steps.agenda.line _ c.loop-steps.order _ c.loop-steps.invariant.turns (rw c.loop-steps.invariant.waiting at c.pick-place.ensures.picks) turn) (ap length empty) in
+    let turn : Turn (stored_of g.R.Rule.value_of c.args.network.now.library) (set_of c.args.worldview.now)
+    c.pick-place.result c.loop-steps.network.cells c.turn.new.network.cells c.loop-steps.agenda.line
+    c.turn.new.agenda.line = turn_on (stored_of g.R.Rule.value_of) (set_of c.args.worldview.now) c.pick-place.result
+    c.loop-steps.network.cells c.turn.new.network.cells c.loop-steps.agenda.line c.turn.new.agenda.line
+    c.args.network.now.library c.loop-steps.network.library c.loop-steps.invariant.same c.in_ok-clash.ensures.turn
+    in
+    let idle = no_turns g.O.Order.picks (stored_of g.R.Rule.value_of c.args.network.now.library)
+    (set_of c.args.worldview.now) c.args.network.now.cells c.args.agenda.now.line c.args.order.now
+    (c.loop-steps.steps + 1) c.turn.new.network.cells c.turn.new.agenda.line c.pick-place.new.self
+    (more c.loop-steps.steps c.pick-place.result c.loop-steps.network.cells _ c.loop-steps.agenda.line _
+    c.loop-steps.order _ c.loop-steps.invariant.turns
+    (rw c.loop-steps.invariant.waiting at c.pick-place.ensures.picks) turn) (ap length empty) in
     absurd (omega (arith, idle.0))
 
 pub returns-in-Some-clash-clause-falls : goal.returns-in-Some-clash-clause-falls
@@ -236,8 +291,15 @@ returns-in_err-why-in-Some-clash-clause-same g c =
 
 pub returns-in_err-why-in-Some-clash-clause-rest : goal.returns-in_err-why-in-Some-clash-clause-rest
 returns-in_err-why-in-Some-clash-clause-rest g c =
-    let turn : Turn (stored_of g.R.Rule.value_of c.args.network.now.library) (set_of c.args.worldview.now) c.pick-place.result c.loop-steps.network.cells c.turn.new.network.cells c.loop-steps.agenda.line c.turn.new.agenda.line = turn_on (stored_of g.R.Rule.value_of) (set_of c.args.worldview.now) c.pick-place.result c.loop-steps.network.cells c.turn.new.network.cells c.loop-steps.agenda.line c.turn.new.agenda.line c.args.network.now.library c.loop-steps.network.library c.loop-steps.invariant.same c.in_ok-clash.ensures.turn in
-    turn_rest (stored_of g.R.Rule.value_of c.args.network.now.library) (set_of c.args.worldview.now) c.pick-place.result c.args.network.now.cells c.loop-steps.network.cells c.turn.new.network.cells c.loop-steps.agenda.line c.turn.new.agenda.line turn c.loop-steps.invariant.rest
+    let turn : Turn (stored_of g.R.Rule.value_of c.args.network.now.library) (set_of c.args.worldview.now)
+    c.pick-place.result c.loop-steps.network.cells c.turn.new.network.cells c.loop-steps.agenda.line
+    c.turn.new.agenda.line = turn_on (stored_of g.R.Rule.value_of) (set_of c.args.worldview.now) c.pick-place.result
+    c.loop-steps.network.cells c.turn.new.network.cells c.loop-steps.agenda.line c.turn.new.agenda.line
+    c.args.network.now.library c.loop-steps.network.library c.loop-steps.invariant.same c.in_ok-clash.ensures.turn
+    in
+    turn_rest (stored_of g.R.Rule.value_of c.args.network.now.library) (set_of c.args.worldview.now) c.pick-place.result
+    c.args.network.now.cells c.loop-steps.network.cells c.turn.new.network.cells c.loop-steps.agenda.line
+    c.turn.new.agenda.line turn c.loop-steps.invariant.rest
 
 pub returns-in_err-why-in-Some-clash-clause-under_way : goal.returns-in_err-why-in-Some-clash-clause-under_way
 returns-in_err-why-in-Some-clash-clause-under_way g c =
@@ -249,24 +311,48 @@ returns-in_err-why-in-Some-clash-clause-room g c =
 
 pub returns-in_err-why-in-Some-clash-clause-err : goal.returns-in_err-why-in-Some-clash-clause-err
 returns-in_err-why-in-Some-clash-clause-err g c =
-    let turn : Turn (stored_of g.R.Rule.value_of c.args.network.now.library) (set_of c.args.worldview.now) c.pick-place.result c.loop-steps.network.cells c.turn.new.network.cells c.loop-steps.agenda.line c.turn.new.agenda.line = turn_on (stored_of g.R.Rule.value_of) (set_of c.args.worldview.now) c.pick-place.result c.loop-steps.network.cells c.turn.new.network.cells c.loop-steps.agenda.line c.turn.new.agenda.line c.args.network.now.library c.loop-steps.network.library c.loop-steps.invariant.same c.in_ok-clash.ensures.turn in
-    let stopped : Interrupted g.O.Order.picks (stored_of g.R.Rule.value_of c.args.network.now.library) (set_of c.args.worldview.now) c.args.network.now.cells c.args.agenda.now.line c.args.order.now c.turn.new.network.cells c.turn.new.agenda.line c.pick-place.new.self = record { steps = c.loop-steps.steps + 1; last = c.pick-place.new.self; turns = more c.loop-steps.steps c.pick-place.result c.loop-steps.network.cells _ c.loop-steps.agenda.line _ c.loop-steps.order _ c.loop-steps.invariant.turns (rw c.loop-steps.invariant.waiting at c.pick-place.ensures.picks) turn; picked = inl refl } in
+    let turn : Turn (stored_of g.R.Rule.value_of c.args.network.now.library) (set_of c.args.worldview.now)
+    c.pick-place.result c.loop-steps.network.cells c.turn.new.network.cells c.loop-steps.agenda.line
+    c.turn.new.agenda.line = turn_on (stored_of g.R.Rule.value_of) (set_of c.args.worldview.now) c.pick-place.result
+    c.loop-steps.network.cells c.turn.new.network.cells c.loop-steps.agenda.line c.turn.new.agenda.line
+    c.args.network.now.library c.loop-steps.network.library c.loop-steps.invariant.same c.in_ok-clash.ensures.turn
+    in
+    let stopped : Interrupted g.O.Order.picks (stored_of g.R.Rule.value_of c.args.network.now.library)
+    (set_of c.args.worldview.now) c.args.network.now.cells c.args.agenda.now.line c.args.order.now
+    c.turn.new.network.cells c.turn.new.agenda.line c.pick-place.new.self =
+    record {
+      steps = c.loop-steps.steps + 1;
+      last = c.pick-place.new.self;
+      turns = more c.loop-steps.steps c.pick-place.result c.loop-steps.network.cells _ c.loop-steps.agenda.line _
+          c.loop-steps.order _ c.loop-steps.invariant.turns
+          (rw c.loop-steps.invariant.waiting at c.pick-place.ensures.picks) turn;
+      picked = inl refl;
+    } in
     on_err _ stopped
 
 pub loop-steps-preserved : goal.loop-steps-preserved
 loop-steps-preserved g c =
-    let turn : Turn (stored_of g.R.Rule.value_of c.args.network.now.library) (set_of c.args.worldview.now) c.pick-place.result c.loop-steps.network.cells c.turn.new.network.cells c.loop-steps.agenda.line c.turn.new.agenda.line = turn_on (stored_of g.R.Rule.value_of) (set_of c.args.worldview.now) c.pick-place.result c.loop-steps.network.cells c.turn.new.network.cells c.loop-steps.agenda.line c.turn.new.agenda.line c.args.network.now.library c.loop-steps.network.library c.loop-steps.invariant.same c.in_ok-clash.ensures.turn in
+    let turn : Turn (stored_of g.R.Rule.value_of c.args.network.now.library) (set_of c.args.worldview.now)
+    c.pick-place.result c.loop-steps.network.cells c.turn.new.network.cells c.loop-steps.agenda.line
+    c.turn.new.agenda.line = turn_on (stored_of g.R.Rule.value_of) (set_of c.args.worldview.now) c.pick-place.result
+    c.loop-steps.network.cells c.turn.new.network.cells c.loop-steps.agenda.line c.turn.new.agenda.line
+    c.args.network.now.library c.loop-steps.network.library c.loop-steps.invariant.same c.in_ok-clash.ensures.turn
+    in
     let library = stored_of g.R.Rule.value_of c.args.network.now.library in
     record {
       same = c.turn.ensures.same ∙ c.loop-steps.invariant.same;
-      rest = turn_rest library (set_of c.args.worldview.now) c.pick-place.result c.args.network.now.cells c.loop-steps.network.cells c.turn.new.network.cells c.loop-steps.agenda.line c.turn.new.agenda.line turn c.loop-steps.invariant.rest;
+      rest = turn_rest library (set_of c.args.worldview.now) c.pick-place.result c.args.network.now.cells
+          c.loop-steps.network.cells c.turn.new.network.cells c.loop-steps.agenda.line c.turn.new.agenda.line turn
+          c.loop-steps.invariant.rest;
       under_way = c.turn.ensures.under_way;
       room = c.turn.ensures.room ∙ c.loop-steps.invariant.room;
       cells = c.turn.ensures.cells ∙ c.loop-steps.invariant.cells;
       watched = c.turn.ensures.watched;
       free = c.in_ok-clash.ensures.free c.in-None-clash.is;
       waiting = c.waiting-waiting-in-loop-steps.ensures.waiting;
-      turns = more c.loop-steps.steps c.pick-place.result c.loop-steps.network.cells _ c.loop-steps.agenda.line _ c.loop-steps.order _ c.loop-steps.invariant.turns (rw c.loop-steps.invariant.waiting at c.pick-place.ensures.picks) turn;
+      turns = more c.loop-steps.steps c.pick-place.result c.loop-steps.network.cells _ c.loop-steps.agenda.line _
+          c.loop-steps.order _ c.loop-steps.invariant.turns
+          (rw c.loop-steps.invariant.waiting at c.pick-place.ensures.picks) turn;
       steps = omega arith;
       falls = omega (arith, c.in_ok-clash.ensures.falls, c.loop-steps.invariant.falls);
     }
@@ -289,7 +375,20 @@ returns-in_err-clash-clause-room g c =
 
 pub returns-in_err-clash-clause-err : goal.returns-in_err-clash-clause-err
 returns-in_err-clash-clause-err g c =
-    let stopped : Interrupted g.O.Order.picks (stored_of g.R.Rule.value_of c.args.network.now.library) (set_of c.args.worldview.now) c.args.network.now.cells c.args.agenda.now.line c.args.order.now c.turn.new.network.cells c.turn.new.agenda.line c.pick-place.new.self = record { steps = c.loop-steps.steps; last = c.loop-steps.order; turns = rw (c.in_err-clash.ensures.err, c.in_err-clash.ensures.err_line) c.loop-steps.invariant.turns; picked = inr (c.pick-place.result, rw (c.in_err-clash.ensures.err_line, ← c.loop-steps.invariant.waiting) c.pick-place.ensures.picks) } in
+    let stopped : Interrupted g.O.Order.picks (stored_of g.R.Rule.value_of c.args.network.now.library)
+    (set_of c.args.worldview.now) c.args.network.now.cells c.args.agenda.now.line c.args.order.now
+    c.turn.new.network.cells c.turn.new.agenda.line c.pick-place.new.self =
+    record {
+      steps = c.loop-steps.steps;
+      last = c.loop-steps.order;
+      turns = rw (c.in_err-clash.ensures.err, c.in_err-clash.ensures.err_line) c.loop-steps.invariant.turns;
+      picked =
+          inr (
+            c.pick-place.result,
+            rw (c.in_err-clash.ensures.err_line, ← c.loop-steps.invariant.waiting)
+                c.pick-place.ensures.picks,
+          );
+    } in
     on_err _ stopped
 
 pub returns-then-waiting-eq0-clause-same : goal.returns-then-waiting-eq0-clause-same
@@ -319,12 +418,15 @@ returns-then-waiting-eq0-clause-err g c =
 pub returns-then-waiting-eq0-clause-quiet : goal.returns-then-waiting-eq0-clause-quiet
 returns-then-waiting-eq0-clause-quiet g c =
     λ quiet.
-    settled (stored_of g.R.Rule.value_of c.loop-steps.network.library) (set_of c.args.worldview.now) c.loop-steps.network.cells c.loop-steps.agenda.line c.loop-steps.invariant.under_way
-    (nil_from_length c.loop-steps.agenda.line (omega (arith, c.loop-steps.invariant.waiting, c.if-waiting-eq0.true))) c.loop-steps.invariant.free
+    settled (stored_of g.R.Rule.value_of c.loop-steps.network.library) (set_of c.args.worldview.now)
+    c.loop-steps.network.cells c.loop-steps.agenda.line c.loop-steps.invariant.under_way
+    (nil_from_length c.loop-steps.agenda.line (omega (arith, c.loop-steps.invariant.waiting, c.if-waiting-eq0.true)))
+    c.loop-steps.invariant.free
 
 pub returns-then-waiting-eq0-clause-rests : goal.returns-then-waiting-eq0-clause-rests
 returns-then-waiting-eq0-clause-rests g c =
-    λ quiet. nil_from_length c.loop-steps.agenda.line (omega (arith, c.loop-steps.invariant.waiting, c.if-waiting-eq0.true))
+    λ quiet. nil_from_length c.loop-steps.agenda.line
+    (omega (arith, c.loop-steps.invariant.waiting, c.if-waiting-eq0.true))
 
 pub returns-then-waiting-eq0-clause-clash : goal.returns-then-waiting-eq0-clause-clash
 returns-then-waiting-eq0-clause-clash g c =
@@ -352,7 +454,13 @@ returns-then-waiting-eq0-clause-steps g c =
 
 pub returns-then-waiting-eq0-clause-at_rest : goal.returns-then-waiting-eq0-clause-at_rest
 returns-then-waiting-eq0-clause-at_rest g c =
-    λ empty free. (refl, (no_turns g.O.Order.picks (stored_of g.R.Rule.value_of c.args.network.now.library) (set_of c.args.worldview.now) c.args.network.now.cells c.args.agenda.now.line c.args.order.now c.loop-steps.steps c.loop-steps.network.cells c.loop-steps.agenda.line c.loop-steps.order c.loop-steps.invariant.turns (ap length empty)).0)
+    λ empty free. (
+      refl,
+      (no_turns g.O.Order.picks (stored_of g.R.Rule.value_of c.args.network.now.library)
+          (set_of c.args.worldview.now) c.args.network.now.cells c.args.agenda.now.line c.args.order.now
+          c.loop-steps.steps c.loop-steps.network.cells c.loop-steps.agenda.line c.loop-steps.order
+          c.loop-steps.invariant.turns (ap length empty)).0,
+    )
 
 pub returns-then-waiting-eq0-clause-falls : goal.returns-then-waiting-eq0-clause-falls
 returns-then-waiting-eq0-clause-falls g c =
@@ -413,7 +521,10 @@ returns-clause-steps g c =
 pub returns-clause-at_rest : goal.returns-clause-at_rest
 returns-clause-at_rest g c =
     λ empty free.
-    let idle = no_turns g.O.Order.picks (stored_of g.R.Rule.value_of c.args.network.now.library) (set_of c.args.worldview.now) c.args.network.now.cells c.args.agenda.now.line c.args.order.now c.loop-steps.steps c.loop-steps.network.cells c.loop-steps.agenda.line c.loop-steps.order c.loop-steps.invariant.turns (ap length empty) in
+    let idle = no_turns g.O.Order.picks (stored_of g.R.Rule.value_of c.args.network.now.library)
+    (set_of c.args.worldview.now) c.args.network.now.cells c.args.agenda.now.line c.args.order.now
+    c.loop-steps.steps c.loop-steps.network.cells c.loop-steps.agenda.line c.loop-steps.order
+    c.loop-steps.invariant.turns (ap length empty) in
     absurd (omega (arith, idle.1, c.loop-steps.invariant.waiting, c.if-waiting-eq0.false))
 
 pub returns-clause-falls : goal.returns-clause-falls
@@ -424,45 +535,68 @@ pub returns-clause-earned : goal.returns-clause-earned
 returns-clause-earned g c =
     λ spent.
     let library = stored_of g.R.Rule.value_of c.args.network.now.library in
-    let most = under_way_within library (set_of c.args.worldview.now) c.args.network.now.cells c.args.agenda.now c.waiting-waiting.ensures.line c.requires.under_way in
-    let same = most_same library (stored_of g.R.Rule.value_of c.loop-steps.network.library) c.args.network.now.cells c.loop-steps.network.cells (ap (stored_of g.R.Rule.value_of) c.loop-steps.invariant.same) c.loop-steps.invariant.rest in
+    let most = under_way_within library (set_of c.args.worldview.now) c.args.network.now.cells c.args.agenda.now
+    c.waiting-waiting.ensures.line c.requires.under_way in
+    let same = most_same library (stored_of g.R.Rule.value_of c.loop-steps.network.library) c.args.network.now.cells
+    c.loop-steps.network.cells (ap (stored_of g.R.Rule.value_of) c.loop-steps.invariant.same)
+    c.loop-steps.invariant.rest in
     omega (arith, most, c.loop-steps.invariant.falls, c.loop-steps.invariant.waiting, same)
 
 pub returns-clause-bounded : goal.returns-clause-bounded
 returns-clause-bounded g c =
     let library = stored_of g.R.Rule.value_of c.args.network.now.library in
-    let most = under_way_within library (set_of c.args.worldview.now) c.args.network.now.cells c.args.agenda.now c.waiting-waiting.ensures.line c.requires.under_way in
-    let same = most_same library (stored_of g.R.Rule.value_of c.loop-steps.network.library) c.args.network.now.cells c.loop-steps.network.cells (ap (stored_of g.R.Rule.value_of) c.loop-steps.invariant.same) c.loop-steps.invariant.rest in
+    let most = under_way_within library (set_of c.args.worldview.now) c.args.network.now.cells c.args.agenda.now
+    c.waiting-waiting.ensures.line c.requires.under_way in
+    let same = most_same library (stored_of g.R.Rule.value_of c.loop-steps.network.library) c.args.network.now.cells
+    c.loop-steps.network.cells (ap (stored_of g.R.Rule.value_of) c.loop-steps.invariant.same)
+    c.loop-steps.invariant.rest in
     omega (arith, most, c.loop-steps.invariant.falls, same)
 
 pub returns-then-waiting-eq0-clause-bounded : goal.returns-then-waiting-eq0-clause-bounded
 returns-then-waiting-eq0-clause-bounded g c =
     let library = stored_of g.R.Rule.value_of c.args.network.now.library in
-    let most = under_way_within library (set_of c.args.worldview.now) c.args.network.now.cells c.args.agenda.now c.waiting-waiting.ensures.line c.requires.under_way in
-    let same = most_same library (stored_of g.R.Rule.value_of c.loop-steps.network.library) c.args.network.now.cells c.loop-steps.network.cells (ap (stored_of g.R.Rule.value_of) c.loop-steps.invariant.same) c.loop-steps.invariant.rest in
+    let most = under_way_within library (set_of c.args.worldview.now) c.args.network.now.cells c.args.agenda.now
+    c.waiting-waiting.ensures.line c.requires.under_way in
+    let same = most_same library (stored_of g.R.Rule.value_of c.loop-steps.network.library) c.args.network.now.cells
+    c.loop-steps.network.cells (ap (stored_of g.R.Rule.value_of) c.loop-steps.invariant.same)
+    c.loop-steps.invariant.rest in
     omega (arith, most, c.loop-steps.invariant.falls, same)
 
 pub returns-in-Some-clash-clause-bounded : goal.returns-in-Some-clash-clause-bounded
 returns-in-Some-clash-clause-bounded g c =
     let library = stored_of g.R.Rule.value_of c.args.network.now.library in
-    let most = under_way_within library (set_of c.args.worldview.now) c.args.network.now.cells c.args.agenda.now c.waiting-waiting.ensures.line c.requires.under_way in
-    let turn : Turn library (set_of c.args.worldview.now) c.pick-place.result c.loop-steps.network.cells c.turn.new.network.cells c.loop-steps.agenda.line c.turn.new.agenda.line = turn_on (stored_of g.R.Rule.value_of) (set_of c.args.worldview.now) c.pick-place.result c.loop-steps.network.cells c.turn.new.network.cells c.loop-steps.agenda.line c.turn.new.agenda.line c.args.network.now.library c.loop-steps.network.library c.loop-steps.invariant.same c.in_ok-clash.ensures.turn in
-    let rest = turn_rest library (set_of c.args.worldview.now) c.pick-place.result c.args.network.now.cells c.loop-steps.network.cells c.turn.new.network.cells c.loop-steps.agenda.line c.turn.new.agenda.line turn c.loop-steps.invariant.rest in
-    let same = most_same library (stored_of g.R.Rule.value_of c.turn.new.network.library) c.args.network.now.cells c.turn.new.network.cells (ap (stored_of g.R.Rule.value_of) (c.turn.ensures.same ∙ c.loop-steps.invariant.same)) rest in
+    let most = under_way_within library (set_of c.args.worldview.now) c.args.network.now.cells c.args.agenda.now
+    c.waiting-waiting.ensures.line c.requires.under_way in
+    let turn : Turn library (set_of c.args.worldview.now) c.pick-place.result c.loop-steps.network.cells
+    c.turn.new.network.cells c.loop-steps.agenda.line c.turn.new.agenda.line =
+    turn_on (stored_of g.R.Rule.value_of) (set_of c.args.worldview.now) c.pick-place.result
+    c.loop-steps.network.cells c.turn.new.network.cells c.loop-steps.agenda.line c.turn.new.agenda.line
+    c.args.network.now.library c.loop-steps.network.library c.loop-steps.invariant.same c.in_ok-clash.ensures.turn
+    in
+    let rest = turn_rest library (set_of c.args.worldview.now) c.pick-place.result c.args.network.now.cells
+    c.loop-steps.network.cells c.turn.new.network.cells c.loop-steps.agenda.line c.turn.new.agenda.line turn
+    c.loop-steps.invariant.rest in
+    let same = most_same library (stored_of g.R.Rule.value_of c.turn.new.network.library) c.args.network.now.cells
+    c.turn.new.network.cells (ap (stored_of g.R.Rule.value_of) (c.turn.ensures.same ∙ c.loop-steps.invariant.same))
+    rest in
     omega (arith, most, c.in_ok-clash.ensures.falls, c.loop-steps.invariant.falls, same)
 
 pub returns-in-Some-clause-most : goal.returns-in-Some-clause-most
 returns-in-Some-clause-most g c =
-    under_way_within (stored_of g.R.Rule.value_of c.args.network.now.library) (set_of c.args.worldview.now) c.args.network.now.cells c.args.agenda.now c.waiting-waiting.ensures.line c.requires.under_way
+    under_way_within (stored_of g.R.Rule.value_of c.args.network.now.library) (set_of c.args.worldview.now)
+    c.args.network.now.cells c.args.agenda.now c.waiting-waiting.ensures.line c.requires.under_way
 
 pub returns-in-Some-clash-clause-most : goal.returns-in-Some-clash-clause-most
 returns-in-Some-clash-clause-most g c =
-    under_way_within (stored_of g.R.Rule.value_of c.args.network.now.library) (set_of c.args.worldview.now) c.args.network.now.cells c.args.agenda.now c.waiting-waiting.ensures.line c.requires.under_way
+    under_way_within (stored_of g.R.Rule.value_of c.args.network.now.library) (set_of c.args.worldview.now)
+    c.args.network.now.cells c.args.agenda.now c.waiting-waiting.ensures.line c.requires.under_way
 
 pub returns-then-waiting-eq0-clause-most : goal.returns-then-waiting-eq0-clause-most
 returns-then-waiting-eq0-clause-most g c =
-    under_way_within (stored_of g.R.Rule.value_of c.args.network.now.library) (set_of c.args.worldview.now) c.args.network.now.cells c.args.agenda.now c.waiting-waiting.ensures.line c.requires.under_way
+    under_way_within (stored_of g.R.Rule.value_of c.args.network.now.library) (set_of c.args.worldview.now)
+    c.args.network.now.cells c.args.agenda.now c.waiting-waiting.ensures.line c.requires.under_way
 
 pub returns-clause-most : goal.returns-clause-most
 returns-clause-most g c =
-    under_way_within (stored_of g.R.Rule.value_of c.args.network.now.library) (set_of c.args.worldview.now) c.args.network.now.cells c.args.agenda.now c.waiting-waiting.ensures.line c.requires.under_way
+    under_way_within (stored_of g.R.Rule.value_of c.args.network.now.library) (set_of c.args.worldview.now)
+    c.args.network.now.cells c.args.agenda.now c.waiting-waiting.ensures.line c.requires.under_way

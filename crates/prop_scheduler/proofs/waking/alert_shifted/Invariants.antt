@@ -9,5 +9,6 @@ invariant-loop-cell g l = record {
   shifted : AreShifted (set_of l.before) (set_of l.after) l.network.cells l.cell l.initial.agenda.line l.agenda.line;
   room : l.agenda.room ≡ l.initial.agenda.room;
   cells : l.agenda.cells ≡ l.initial.agenda.cells;
-  looked : AreLooked (set_of l.before) (set_of l.after) l.network.cells l.cell l.initial.agenda.watched l.agenda.watched;
+  looked : AreLooked (set_of l.before) (set_of l.after) l.network.cells l.cell l.initial.agenda.watched
+      l.agenda.watched;
 }

@@ -13,8 +13,14 @@ returns-clause-under_way g c =
     let line = c.alert_first.new.self.line in
     let first = c.alert_first.ensures.alerted in
     let count = c.instances.ensures.count in
-    let below : (j : ℕ) → Contains line j → j < n = λ j k. elim (first.only j k) as (λ _. j < n) [ inl was ↦ All-contains (λ i. i < n) c.args.agenda.now.line j c.requires.line was | inr l ↦ omega (arith, l, count) ] in
-    λ s. rw c.watch_first.ensures.line (under_way_all (stored_of g.R.Rule.value_of c.args.network.now.library) s d line c.requires.kept (All-from_contains (λ j. j < n) line below) (λ j l. first.alerted j (omega (arith, l, count))))
+    let below : (j : ℕ) → Contains line j
+    → j < n = λ j k. elim (first.only j k) as (λ _. j < n) [
+      | inl was ↦ All-contains (λ i. i < n) c.args.agenda.now.line j c.requires.line was
+      | inr l ↦
+          omega (arith, l, count)
+    ] in
+    λ s. rw c.watch_first.ensures.line (under_way_all (stored_of g.R.Rule.value_of c.args.network.now.library) s d line
+    c.requires.kept (All-from_contains (λ j. j < n) line below) (λ j l. first.alerted j (omega (arith, l, count))))
 
 pub returns-clause-all : goal.returns-clause-all
 returns-clause-all g c =
@@ -23,4 +29,6 @@ returns-clause-all g c =
 
 pub returns-clause-watched : goal.returns-clause-watched
 returns-clause-watched g c s =
-    watched_all s c.args.network.now.cells c.args.agenda.now.watched c.watch_first.new.self.watched c.cells.result c.cells.ensures.contents c.cells.ensures.count c.requires.watched (rw c.alert_first.ensures.watched at c.watch_first.ensures.watched)
+    watched_all s c.args.network.now.cells c.args.agenda.now.watched c.watch_first.new.self.watched c.cells.result
+    c.cells.ensures.contents c.cells.ensures.count c.requires.watched
+    (rw c.alert_first.ensures.watched at c.watch_first.ensures.watched)

@@ -8,4 +8,5 @@ returns-then-is_among c =
 
 pub loop-i-preserved : goal.loop-i-preserved
 loop-i-preserved c =
-    no_repeat_yet c.args.names.now c.loop-i.i _ c.loop-i-test.true c.loop-i.invariant (sym c.is_among.ensures ∙ c.if-is_among.false)
+    no_repeat_yet c.args.names.now c.loop-i.i _ c.loop-i-test.true c.loop-i.invariant
+    (sym c.is_among.ensures ∙ c.if-is_among.false)

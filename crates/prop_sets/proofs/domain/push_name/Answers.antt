@@ -9,5 +9,7 @@ pub returns : goal.returns
 returns c =
     let keys = c.args.names.now.keys in
     let name = c.in_ok-name.name in
-    let absent : list_any (string_eq name) keys ≡ false = is_among-names name keys ∙ ap (λ n. is_among n (names_of keys)) c.in_ok-name.ensures.ok ∙ c.requires in
-    ap names_of (c.in_ok-insert.ensures.keys ∙ ap (λ b. cond b keys (keys ++ name ∷ [])) absent) ∙ names_of-push keys name ∙ ap (λ n. names_of keys ++ n ∷ []) c.in_ok-name.ensures.ok
+    let absent : list_any (string_eq name) keys ≡ false = is_among-names name keys
+    ∙ ap (λ n. is_among n (names_of keys)) c.in_ok-name.ensures.ok ∙ c.requires in
+    ap names_of (c.in_ok-insert.ensures.keys ∙ ap (λ b. cond b keys (keys ++ name ∷ [])) absent)
+    ∙ names_of-push keys name ∙ ap (λ n. names_of keys ++ n ∷ []) c.in_ok-name.ensures.ok

@@ -9,7 +9,8 @@ returns-then-not-branch c =
     let names = c.args.names.now in
     let i = c.loop-name.name-index in
     let among = not-false _ (sym c.in_ok-insert.ensures.added ∙ c.if-not-branch.true) in
-    sym (repeats_at names i _ c.loop-name-test.true (ap (list_any (λ other. bytes_eq (get_or names i _).now other.now)) (sym c.loop-name.invariant.kept) ∙ among))
+    sym (repeats_at names i _ c.loop-name-test.true
+    (ap (list_any (λ other. bytes_eq (get_or names i _).now other.now)) (sym c.loop-name.invariant.kept) ∙ among))
 
 pub loop-name-preserved : goal.loop-name-preserved
 loop-name-preserved c =
@@ -17,6 +18,8 @@ loop-name-preserved c =
     let i = c.loop-name.name-index in
     let kept = c.loop-name.invariant.kept in
     let absent = not-true _ (sym c.in_ok-insert.ensures.added ∙ c.if-not-branch.false) in record {
-      kept = kept_next names c.loop-name.before.keys c.insert.new.self.keys i _ _ c.loop-name-test.true kept c.in_ok-insert.ensures.keys absent;
-      apart = no_repeat_yet names i _ c.loop-name-test.true c.loop-name.invariant.apart (ap (list_any (λ other. bytes_eq (get_or names i _).now other.now)) (sym kept) ∙ absent);
+      kept = kept_next names c.loop-name.before.keys c.insert.new.self.keys i _ _ c.loop-name-test.true kept
+          c.in_ok-insert.ensures.keys absent;
+      apart = no_repeat_yet names i _ c.loop-name-test.true c.loop-name.invariant.apart
+          (ap (list_any (λ other. bytes_eq (get_or names i _).now other.now)) (sym kept) ∙ absent);
     }

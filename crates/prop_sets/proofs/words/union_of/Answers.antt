@@ -10,4 +10,5 @@ loop-rest-smaller c =
 pub loop-rest-preserved : goal.loop-rest-preserved
 loop-rest-preserved c =
     let first = first_in c.loop-rest.rest c.loop-rest-test.true (omega arith) in
-    joined c.args.words.now c.args.chosen c.loop-rest.union c.loop-rest.rest _ c.word_at-union.result (omega arith) first.0 first.1 c.word_at-union.ensures c.loop-rest.invariant
+    joined c.args.words.now c.args.chosen c.loop-rest.union c.loop-rest.rest _ c.word_at-union.result (omega arith)
+    first.0 first.1 c.word_at-union.ensures c.loop-rest.invariant

@@ -22,7 +22,8 @@ loop-premise-preserved c =
     let whole = rw step at kept.so_far in
     record {
       so_far = append_assoc c.loop-premise.yielded (c.in-Some.premise ∷ []) c.next.new.self ∙ whole;
-      text = c.in_ok-push_label.ensures ∙ premises_text_more c.args.premises.now c.loop-premise.yielded c.in-Some.premise (string_bytes c.loop-premise.text) kept.text;
+      text = c.in_ok-push_label.ensures ∙ premises_text_more c.args.premises.now c.loop-premise.yielded
+          c.in-Some.premise (string_bytes c.loop-premise.text) kept.text;
       known = known.1;
     }
 
@@ -33,4 +34,5 @@ pub returns-clause-text : goal.returns-clause-text
 returns-clause-text c =
     let end = c.in-None.ensures.steps.0 in
     let whole = rw end at c.loop-premise.invariant.so_far in
-    c.loop-premise.invariant.text ∙ ap (premises_text c.args.premises.now) (sym (append-nil c.loop-premise.yielded) ∙ whole)
+    c.loop-premise.invariant.text ∙ ap (premises_text c.args.premises.now)
+    (sym (append-nil c.loop-premise.yielded) ∙ whole)

@@ -13,8 +13,13 @@ loop-number-preserved c =
     let s = is_listed c.args.believed (set_of c.args.worldview.now) in
     let k = c.loop-number.number in
     let tested = ap (λ b. if c.args.believed then b else not b) (sym c.has.ensures) ∙ sym c.is_listed.ensures in
-    elim c.if-is_listed.branch as (λ _. string_bytes c.if-is_listed.text ≡ premises_text premises (filter s (range_with_len 0 (k + 1)))) [
+    elim c.if-is_listed.branch as (λ _.
+    string_bytes c.if-is_listed.text ≡ premises_text premises (filter s (range_with_len 0 (k + 1)))) [
       | then-is_listed+in_ok-push_label w ↦
-          ap string_bytes w.text-is ∙ w.in_ok-push_label.ensures ∙ members_more premises s k (string_bytes c.loop-number.text) (tested ∙ w.if-is_listed.true) c.loop-number.invariant
-      | else-is_listed w ↦ ap string_bytes w.text-is ∙ members_same premises s k (string_bytes c.loop-number.text) (tested ∙ w.if-is_listed.false) c.loop-number.invariant
+          ap string_bytes w.text-is ∙ w.in_ok-push_label.ensures
+          ∙ members_more premises s k (string_bytes c.loop-number.text) (tested ∙ w.if-is_listed.true)
+          c.loop-number.invariant
+      | else-is_listed w ↦ ap string_bytes w.text-is
+          ∙ members_same premises s k (string_bytes c.loop-number.text) (tested ∙ w.if-is_listed.false)
+          c.loop-number.invariant
     ]

@@ -5,4 +5,5 @@ use Rattle.prop_texts.specs.Texts.{premises_text, is_listed}
 use Rattle.prop_texts.proofs.texts.listed.Given as goal
 
 abbrev pub invariant-loop-number : goal.invariant-loop-number
-invariant-loop-number l = string_bytes l.text ≡ premises_text l.premises (filter (is_listed l.believed (set_of l.worldview)) (range_with_len 0 l.number))
+invariant-loop-number l = string_bytes l.text ≡ premises_text l.premises
+    (filter (is_listed l.believed (set_of l.worldview)) (range_with_len 0 l.number))

@@ -14,8 +14,12 @@ loop-valued-preserved g c =
     let m : i < length ys = omega (arith, c.loop-valued-test.true, c.loop-valued.auto.valued-items) in
     let at : get_or ys i x ≡ get_or xs i x = rest_at ys xs i x m kept.rest in
     record {
-      left = filter_more (λ s. not (set_of s c.args.premise)) xs ys i x _ c.loop-valued-test.true m (c.valued-item.is ∙ at) (ap (λ v. v.value) (sym c.valued-item.is)) (rw c.valued-item.is c.drop_holding-went.ensures.left) kept.left;
+      left = filter_more (λ s. not (set_of s c.args.premise)) xs ys i x _ c.loop-valued-test.true m
+          (c.valued-item.is ∙ at) (ap (λ v. v.value) (sym c.valued-item.is))
+          (rw c.valued-item.is c.drop_holding-went.ensures.left) kept.left;
       values = values_of-set ys i _ x m refl ∙ kept.values;
       rest = rest_set ys xs i _ kept.rest;
-      went = any_more (λ s. set_of s c.args.premise) xs i x c.loop-valued.went c.drop_holding-went.result c.loop-valued-test.true (c.valued-item.is ∙ at) kept.went (rw c.valued-item.is c.drop_holding-went.ensures.went);
+      went = any_more (λ s. set_of s c.args.premise) xs i x c.loop-valued.went c.drop_holding-went.result
+          c.loop-valued-test.true (c.valued-item.is ∙ at) kept.went
+          (rw c.valued-item.is c.drop_holding-went.ensures.went);
     }

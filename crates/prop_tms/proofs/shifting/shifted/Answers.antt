@@ -5,4 +5,5 @@ use Rattle.prop_tms.proofs.shifting.shifted.Goals as goal
 
 pub returns-else-differs-clause-stays : goal.returns-else-differs-clause-stays
 returns-else-differs-clause-stays g c = λ none.
-    belief_alike g.V.Partial.bottom g.V.Partial.join (set_of c.args.before.now) (set_of c.args.after.now) c.args.values.now (sym c.differs.ensures ∙ none)
+    belief_alike g.V.Partial.bottom g.V.Partial.join (set_of c.args.before.now) (set_of c.args.after.now)
+    c.args.values.now (sym c.differs.ensures ∙ none)

@@ -14,7 +14,11 @@ returns g c =
     let ys = c.in-Some.earlier.now in
     let x = c.in-Some.newest.now in
     let some = rw c.deref.ensures at c.believes_any.ensures in
-    c.said_with.ensures ∙ elim c.if-believes_any.branch as (λ _. g.V.Partial.join c.if-believes_any.first (belief_of g.V.Partial.bottom g.V.Partial.join w (entries_of ys)) ≡ belief_of g.V.Partial.bottom g.V.Partial.join w (entries_of (ys ++ x ∷ []))) [
+    c.said_with.ensures ∙ elim c.if-believes_any.branch as (λ _.
+    g.V.Partial.join c.if-believes_any.first
+    (belief_of g.V.Partial.bottom g.V.Partial.join w (entries_of ys)) ≡ belief_of g.V.Partial.bottom
+    g.V.Partial.join w (entries_of (ys ++ x ∷ []))) [
       | then-believes_any t ↦ rw t.first-is (said_beside laws u ys x true (sym some ∙ t.if-believes_any.true))
-      | else-believes_any t ↦ rw (t.first-is, t.nothing-first.ensures) (said_beside laws u ys x false (sym some ∙ t.if-believes_any.false))
+      | else-believes_any t ↦ rw (t.first-is, t.nothing-first.ensures)
+          (said_beside laws u ys x false (sym some ∙ t.if-believes_any.false))
     ] ∙ sym (ap (λ vs. belief_of g.V.Partial.bottom g.V.Partial.join w (entries_of vs)) c.in-Some.ensures.cases.0)

@@ -16,7 +16,8 @@ loop-low-preserved-then-implies g c =
     let half : (high - low) / 2 ≤ high - low - 1 = half_le (omega (arith, test)) in
     let within : low + (high - low) / 2 < length gains = omega (arith, test, half, kept.bound) in
     let at = ap (λ (x : Gain _). x.before) (sym c.index-gains-middle.is) in
-    let before = at ∙ AreGains-at g.met.V.Partial.laws gains (low + (high - low) / 2) c.index-gains-middle.result within (sym c.index-gains-middle.is) c.requires.gains in
+    let before = at ∙ AreGains-at g.met.V.Partial.laws gains (low + (high - low) / 2) c.index-gains-middle.result within
+    (sym c.index-gains-middle.is) c.requires.gains in
     record {
       order = omega arith;
       bound = omega (arith, within);
@@ -35,13 +36,16 @@ loop-low-preserved g c =
     let half : (high - low) / 2 ≤ high - low - 1 = half_le (omega (arith, test)) in
     let within : low + (high - low) / 2 < length gains = omega (arith, test, half, kept.bound) in
     let at = ap (λ (x : Gain _). x.before) (sym c.index-gains-middle.is) in
-    let before = at ∙ AreGains-at g.met.V.Partial.laws gains (low + (high - low) / 2) c.index-gains-middle.result within (sym c.index-gains-middle.is) c.requires.gains in
+    let before = at ∙ AreGains-at g.met.V.Partial.laws gains (low + (high - low) / 2) c.index-gains-middle.result within
+    (sym c.index-gains-middle.is) c.requires.gains in
     record {
       order = omega (arith, test, half);
       bound = kept.bound;
       says = kept.says;
       needed = λ k is says.
           let same : k ≡ middle = omega (arith, is) in
-          let here = subst (λ n. g.V.Partial.below c.args.value (g.V.Partial.join (merge_of_all g.V.Partial.bottom g.V.Partial.join (gained_of (take n gains))) c.args.other)) same says in
+          let here = subst (λ n. g.V.Partial.below c.args.value
+          (g.V.Partial.join (merge_of_all g.V.Partial.bottom g.V.Partial.join (gained_of (take n gains)))
+          c.args.other)) same says in
           cc (c.implies.ensures.1 (rw (c.merge.ensures, before) here), c.if-implies.false);
     }

@@ -5,4 +5,5 @@ use Rattle.prop_tms.specs.Values.{entries_of}
 use Rattle.prop_tms.proofs.strongest.said_with.Given as goal
 
 abbrev pub invariant-loop-valued : goal.invariant-loop-valued
-invariant-loop-valued g l = l.merged ≡ g.V.Partial.join l.fn.first (belief_of g.V.Partial.bottom g.V.Partial.join (set_of l.worldview) (entries_of (take l.valued-index l.values)))
+invariant-loop-valued g l = l.merged ≡ g.V.Partial.join l.fn.first
+    (belief_of g.V.Partial.bottom g.V.Partial.join (set_of l.worldview) (entries_of (take l.valued-index l.values)))

@@ -16,6 +16,9 @@ loop-valued-preserved g c =
     let ss = x.supports.items in
     let before = entries_of (take i xs) in
     let here = c.as_slice-support-items.ensures in
-    let all : take c.loop-support.support-index ss ≡ ss = (let n = ap length here in let e : c.loop-support.support-index ≡ length ss = omega (arith, n, c.loop-support.auto.support-index-end, c.loop-support-test.false) in rw e (take-length ss)) in
+    let all : take c.loop-support.support-index ss ≡ ss =
+    (let n = ap length here in let e : c.loop-support.support-index ≡ length ss = omega
+    (arith, n, c.loop-support.auto.support-index-end, c.loop-support-test.false) in rw e (take-length ss)) in
     c.loop-support.invariant ∙ ap (λ ts. believed_of w before ++ believed_of w (with_value x.value ts)) all ∙
-    sym (ap (believed_of w) (entries_of-more xs i x c.loop-valued-test.true c.valued-item.is) ∙ filter-append (λ e. is_within w e.support) before (entries_of_one x))
+    sym (ap (believed_of w) (entries_of-more xs i x c.loop-valued-test.true c.valued-item.is)
+    ∙ filter-append (λ e. is_within w e.support) before (entries_of_one x))

@@ -12,6 +12,8 @@ returns-in-Some-Some g c =
     let w = set_of c.args.worldview.now in
     let entry = entry_of c.in-Some-Some.entry in
     let only = rw c.in-Some-Some.field-0-is at c.in-Some-Some.ensures in
-    let some : ¬ (g.V.Partial.below c.in-Some-Some.entry.value g.V.Partial.bottom) = λ h. cc (c.implies.ensures.1 (rw c.nothing.ensures h), c.if-not-implies.true) in
-    subst (λ v. IsLean g.V.Partial.bottom g.V.Partial.join entries w v entry.support) (sym (sole_said g.met.V.Partial.laws w entries entry only))
+    let some : ¬ (g.V.Partial.below c.in-Some-Some.entry.value g.V.Partial.bottom) =
+    λ h. cc (c.implies.ensures.1 (rw c.nothing.ensures h), c.if-not-implies.true) in
+    subst (λ v. IsLean g.V.Partial.bottom g.V.Partial.join entries w v entry.support)
+    (sym (sole_said g.met.V.Partial.laws w entries entry only))
     (sole_lean g.met.V.Partial.laws w entries entry entry.support only some refl)

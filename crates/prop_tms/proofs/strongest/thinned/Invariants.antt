@@ -11,7 +11,8 @@ invariant-loop-gain g l = record {
   empty : l.fn.gains.items ≡ [] → l.support ≡ [];
   among : All (Contains (gained_of l.fn.gains.items)) (gained_of l.gains.items);
   thinned : (w : Members) → All (λ e. IsTrue (is_within w e.support)) (gained_of l.fn.gains.items) →
-      IsThinned g.V.Partial.bottom g.V.Partial.join (gained_of l.fn.gains.items) w l.value (gained_of l.gains.items) l.after l.support;
+      IsThinned g.V.Partial.bottom g.V.Partial.join (gained_of l.fn.gains.items) w l.value (gained_of l.gains.items)
+      l.after l.support;
 }
 
 abbrev pub decreases-loop-gain : goal.decreases-loop-gain

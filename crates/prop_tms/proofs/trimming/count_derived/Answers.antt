@@ -18,6 +18,7 @@ overflow_add-count g c =
 pub loop-valued-preserved : goal.loop-valued-preserved
 loop-valued-preserved g c =
     let u : List ℕ → Bool = λ s. not (is_at_most_one_of (set_of c.args.told.now) s) in
-    let more = filtered_more u c.args.values.now c.loop-valued.valued-index c.valued-item.result c.loop-valued-test.true c.valued-item.is in
+    let more = filtered_more u c.args.values.now c.loop-valued.valued-index c.valued-item.result c.loop-valued-test.true
+    c.valued-item.is in
     let one = rw c.deref.ensures at c.derived_in-count.ensures in
     omega (arith, more, one, c.loop-valued.invariant)

@@ -11,7 +11,8 @@ abbrev pub invariant-loop-at : goal.invariant-loop-at
 invariant-loop-at g l = record {
   at : l.at ≤ length l.values;
   value : l.value ≡ belief_of g.V.Partial.bottom g.V.Partial.join (set_of l.worldview) (entries_of l.values);
-  trimmed : IsTrimmed g.V.Partial.below g.V.Partial.bottom g.V.Partial.join (set_of l.told) (set_of l.worldview) l.fn.values l.values (place_of l.values l.at 0);
+  trimmed : IsTrimmed g.V.Partial.below g.V.Partial.bottom g.V.Partial.join (set_of l.told) (set_of l.worldview)
+      l.fn.values l.values (place_of l.values l.at 0);
 }
 
 abbrev pub decreases-loop-at : goal.decreases-loop-at
@@ -22,7 +23,8 @@ invariant-loop-place g l = record {
   at : l.at < length l.values;
   place : (d : Valued _) → l.place ≤ length (get_or l.values l.at d).supports.items;
   value : l.value ≡ belief_of g.V.Partial.bottom g.V.Partial.join (set_of l.worldview) (entries_of l.values);
-  trimmed : IsTrimmed g.V.Partial.below g.V.Partial.bottom g.V.Partial.join (set_of l.told) (set_of l.worldview) l.fn.values l.values (place_of l.values l.at l.place);
+  trimmed : IsTrimmed g.V.Partial.below g.V.Partial.bottom g.V.Partial.join (set_of l.told) (set_of l.worldview)
+      l.fn.values l.values (place_of l.values l.at l.place);
 }
 
 abbrev pub decreases-loop-place : goal.decreases-loop-place

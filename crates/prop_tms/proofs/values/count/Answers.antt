@@ -11,5 +11,6 @@ overflow_add-count g c =
 
 pub loop-valued-preserved : goal.loop-valued-preserved
 loop-valued-preserved g c =
-    let more = count_more c.args.values.now c.loop-valued.valued-index c.valued-item.result c.loop-valued-test.true c.valued-item.is in
+    let more = count_more c.args.values.now c.loop-valued.valued-index c.valued-item.result c.loop-valued-test.true
+    c.valued-item.is in
     omega (arith, more, c.loop-valued.invariant, c.len-count.ensures)

@@ -13,7 +13,8 @@ loop-valued-preserved g c =
     let m : i < length ys = omega (arith, c.loop-valued-test.true, c.loop-valued.auto.valued-items) in
     let at : get_or ys i x ≡ get_or xs i x = rest_at ys xs i x m kept.rest in
     record {
-      left = filter_more (is_below c.args.count) xs ys i x _ c.loop-valued-test.true m (c.valued-item.is ∙ at) (ap (λ v. v.value) (sym c.valued-item.is)) (rw c.valued-item.is c.drop_wanting.ensures) kept.left;
+      left = filter_more (is_below c.args.count) xs ys i x _ c.loop-valued-test.true m (c.valued-item.is ∙ at)
+          (ap (λ v. v.value) (sym c.valued-item.is)) (rw c.valued-item.is c.drop_wanting.ensures) kept.left;
       values = values_of-set ys i _ x m refl ∙ kept.values;
       rest = rest_set ys xs i _ kept.rest;
     }

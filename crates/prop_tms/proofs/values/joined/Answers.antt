@@ -21,7 +21,12 @@ loop-valued-preserved g c =
     elim c.if-has_same.branch [
       | then-has_same t ↦
           (let on : list_any u x.supports.items ≡ true = sym has ∙ t.if-has_same.true in
-          rw (t.said-is, t.merge-said.ensures, said_more laws u xs i x true l c.valued-item.is on, ← c.loop-valued.invariant) refl)
+          rw (
+            t.said-is,
+            t.merge-said.ensures,
+            said_more laws u xs i x true l c.valued-item.is on,
+            ← c.loop-valued.invariant,
+          ) refl)
       | else-has_same t ↦
           (let off : list_any u x.supports.items ≡ false = sym has ∙ t.if-has_same.false in
           rw (t.said-is, said_more laws u xs i x false l c.valued-item.is off, ← c.loop-valued.invariant) refl)
@@ -30,6 +35,8 @@ loop-valued-preserved g c =
 pub returns : goal.returns
 returns g c =
     let xs = c.args.values.now in
-    let all : take c.loop-valued.valued-index xs ≡ xs = (let e : c.loop-valued.valued-index ≡ length xs = omega (arith, c.loop-valued.auto.valued-index-end, c.loop-valued-test.false) in rw e (take-length xs)) in
+    let all : take c.loop-valued.valued-index xs ≡ xs =
+    (let e : c.loop-valued.valued-index ≡ length xs = omega
+    (arith, c.loop-valued.auto.valued-index-end, c.loop-valued-test.false) in rw e (take-length xs)) in
     let said = rw all at c.loop-valued.invariant in
     rw (c.merge.ensures, said) refl

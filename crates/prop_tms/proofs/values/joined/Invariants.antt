@@ -5,4 +5,5 @@ use Rattle.prop_tms.specs.Values.{entries_of}
 use Rattle.prop_tms.proofs.values.joined.Given as goal
 
 abbrev pub invariant-loop-valued : goal.invariant-loop-valued
-invariant-loop-valued g l = l.said ≡ merge_of_all g.V.Partial.bottom g.V.Partial.join (filter (λ x. is_alike x.support l.support) (entries_of (take l.valued-index l.values)))
+invariant-loop-valued g l = l.said ≡ merge_of_all g.V.Partial.bottom g.V.Partial.join
+    (filter (λ x. is_alike x.support l.support) (entries_of (take l.valued-index l.values)))

@@ -1,6 +1,7 @@
 use Rattle.prop_vocabulary.proofs.Halving.{past_place, past_all}
 use Rattle.prop_vocabulary.proofs.values.halves.Goals as goal
-use Rattle.prop_vocabulary.proofs.values.halves.Goals.{else-word-i-eq46-via-then-word-i-eq46+else-word-i-eq46-2, else-word-i-eq46-via-else-word-i-eq46}
+use Rattle.prop_vocabulary.proofs.values.halves.Goals.{else-word-i-eq46-via-then-word-i-eq46+else-word-i-eq46-2}
+use Rattle.prop_vocabulary.proofs.values.halves.Goals.{else-word-i-eq46-via-else-word-i-eq46}
 
 pub loop-i-preserved : goal.loop-i-preserved
 loop-i-preserved c =

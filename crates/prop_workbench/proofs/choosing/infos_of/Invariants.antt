@@ -6,4 +6,5 @@ use Rattle.prop_workbench.proofs.choosing.infos_of.Given as goal
 
 abbrev pub invariant-loop-value : goal.invariant-loop-value
 invariant-loop-value l =
-    IsOnTheWay l.fn.words l.words l.infos.items (meanings_of l.fn.words l.fn.kind (map value_of l.fn.values)) (meanings_of l.fn.words l.fn.kind (map value_of (drop l.value-index l.fn.values)))
+    IsOnTheWay l.fn.words l.words l.infos.items (meanings_of l.fn.words l.fn.kind (map value_of l.fn.values))
+    (meanings_of l.fn.words l.fn.kind (map value_of (drop l.value-index l.fn.values)))

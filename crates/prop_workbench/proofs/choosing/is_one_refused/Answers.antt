@@ -14,7 +14,9 @@ returns-then-is_refused c =
     let words = c.args.words.now in
     let kind = c.args.kind in
     let refusal = c.args.refusal in
-    sym (any_at (λ value. is_error refusal (meaning_at words kind value)) value_of c.args.values.now c.loop-value.value-index c.value-item.result c.loop-value-test.true c.value-item.is (sym c.is_refused.ensures ∙ c.if-is_refused.true))
+    sym (any_at (λ value. is_error refusal (meaning_at words kind value)) value_of c.args.values.now
+    c.loop-value.value-index c.value-item.result c.loop-value-test.true c.value-item.is
+    (sym c.is_refused.ensures ∙ c.if-is_refused.true))
 
 pub loop-value-preserved : goal.loop-value-preserved
 loop-value-preserved c =
@@ -22,7 +24,9 @@ loop-value-preserved c =
     let kind = c.args.kind in
     let refusal = c.args.refusal in
     let values = c.args.values.now in
-    let rest = rest_here (λ rest. is_one_refused words kind refusal (map value_of rest) ≡ is_one_refused words kind refusal (map value_of values)) values c.loop-value.value-index c.value-item.result c.loop-value-test.true c.value-item.is c.loop-value.invariant in
+    let rest = rest_here (λ rest. is_one_refused words kind refusal (map value_of rest) ≡ is_one_refused words kind
+    refusal (map value_of values)) values c.loop-value.value-index c.value-item.result c.loop-value-test.true
+    c.value-item.is c.loop-value.invariant in
     rw (sym c.is_refused.ensures ∙ c.if-is_refused.false) at rest
 
 pub returns : goal.returns
@@ -30,4 +34,5 @@ returns c =
     let words = c.args.words.now in
     let kind = c.args.kind in
     let refusal = c.args.refusal in
-    sym (at_drop_all (λ rest. is_one_refused words kind refusal (map value_of rest)) c.args.values.now c.loop-value.value-index (omega (arith, c.loop-value-test.false))) ∙ c.loop-value.invariant
+    sym (at_drop_all (λ rest. is_one_refused words kind refusal (map value_of rest)) c.args.values.now
+    c.loop-value.value-index (omega (arith, c.loop-value-test.false))) ∙ c.loop-value.invariant

@@ -16,4 +16,5 @@ pub returns-in-Lifo-clause-earned_in_part : goal.returns-in-Lifo-clause-earned_i
 returns-in-Lifo-clause-earned_in_part g c = rw c.in-Lifo.is c.serve_in-in-Lifo.ensures.earned_in_part
 
 pub returns-in-Mixed-clause-earned_in_part : goal.returns-in-Mixed-clause-earned_in_part
-returns-in-Mixed-clause-earned_in_part g c = rw (c.in-Mixed.is, ← c.new.ensures) c.serve_in-in-Mixed.ensures.earned_in_part
+returns-in-Mixed-clause-earned_in_part g c =
+    rw (c.in-Mixed.is, ← c.new.ensures) c.serve_in-in-Mixed.ensures.earned_in_part

@@ -12,16 +12,23 @@ use Rattle.prop_amb.proofs.search.Search.bring.Goals as goal
 
 pub invariant_of-self-2 : goal.invariant_of-self-2
 invariant_of-self-2 c =
-    let same = ap choices_of c.bring.ensures.only ∙ choices_of-with_belief_at c.self.inside.premises c.args.premise true in (
+    let same = ap choices_of c.bring.ensures.only
+    ∙ choices_of-with_belief_at c.self.inside.premises c.args.premise true in (
       stand_believing (the_view c.self.inside) c.bring.new.self c.believe.new.self c.self.invariant.0
-          (rw c.bring.ensures.only (numbered_belief c.self.inside.premises c.args.premise true c.self.invariant.0.numbered))
-          (rw (c.bring.ensures.only, length-with_belief_at c.self.inside.premises c.args.premise true) c.self.invariant.0.few)
+          (rw c.bring.ensures.only (numbered_belief c.self.inside.premises c.args.premise true
+          c.self.invariant.0.numbered))
+          (rw (c.bring.ensures.only, length-with_belief_at c.self.inside.premises c.args.premise true)
+          c.self.invariant.0.few)
           same
-          (brought_believes (the_view c.self.inside) c.bring.new.self c.believe.new.self c.args.premise c.self.invariant.0 same c.bring.ensures.beliefs c.in_ok-believe.ensures.has),
+          (brought_believes (the_view c.self.inside) c.bring.new.self c.believe.new.self c.args.premise
+          c.self.invariant.0 same c.bring.ensures.beliefs c.in_ok-believe.ensures.has),
       none_below_zero c.self.inside.store (set_of c.believe.new.self),
     )
 
 pub returns-clause-search : goal.returns-clause-search
 returns-clause-search c problem h =
-    let same = ap choices_of c.bring.ensures.only ∙ choices_of-with_belief_at c.self.inside.premises c.args.premise true in
-    search_believing problem (the_view c.self.inside) c.bring.new.self c.believe.new.self same (λ p b. c.bring.ensures.beliefs p ∙ or_true_left (believed_in c.self.inside.premises p) _ b) (rw (← c.self.view_is) at h)
+    let same = ap choices_of c.bring.ensures.only
+    ∙ choices_of-with_belief_at c.self.inside.premises c.args.premise true in
+    search_believing problem (the_view c.self.inside) c.bring.new.self c.believe.new.self same
+    (λ p b. c.bring.ensures.beliefs p ∙ or_true_left (believed_in c.self.inside.premises p) _ b)
+    (rw (← c.self.view_is) at h)

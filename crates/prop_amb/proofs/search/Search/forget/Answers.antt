@@ -20,7 +20,8 @@ invariant_of-self c =
         believes = kept.believes;
         minimal = rw c.purge.ensures (minimal_lacking c.args.premise c.self.inside.store kept.minimal);
       },
-      rw c.purge.ensures (none_below_lacking c.self.inside.store (set_of c.self.inside.worldview) c.self.inside.from c.args.premise c.self.invariant.1),
+      rw c.purge.ensures (none_below_lacking c.self.inside.store (set_of c.self.inside.worldview) c.self.inside.from
+          c.args.premise c.self.invariant.1),
     )
 
 pub returns-clause-stand : goal.returns-clause-stand
@@ -29,7 +30,8 @@ returns-clause-stand c = (invariant_of-self c).0
 pub returns-clause-search : goal.returns-clause-search
 returns-clause-search c old new less h =
     let restarted_is = c.self.view_is ∙ c.restart.ensures.only in
-    let numbered : IsNumbered c.args.self.now.premises = subst IsNumbered (ap (λ (t : Stand). t.premises) restarted_is) c.self.invariant.0.numbered in
+    let numbered : IsNumbered c.args.self.now.premises =
+    subst IsNumbered (ap (λ (t : Stand). t.premises) restarted_is) c.self.invariant.0.numbered in
     rw c.purge.ensures
     (subst (IsSearch new) (sym (ap (λ (t : Stand). record t { listed = lacking t.listed c.args.premise }) restarted_is))
     (search_forgotten old new c.args.premise c.args.self.now c.restart.new.self.worldview numbered c.requires less h))

@@ -13,17 +13,25 @@ pub invariant_of-self : goal.invariant_of-self
 invariant_of-self c =
     let premises = ap (λ (s : Stand). s.premises) (c.self-2.view_is ∙ c.restart.ensures.only) in
     let user : IsTrue (is_user_at c.self-2.inside.premises c.args.premise) = rw premises c.requires in
-    let same = ap choices_of c.kick.ensures.only ∙ choices_of-with_belief_at c.self-2.inside.premises c.args.premise false in (
+    let same = ap choices_of c.kick.ensures.only
+    ∙ choices_of-with_belief_at c.self-2.inside.premises c.args.premise false in (
       stand_believing (the_view c.self-2.inside) c.kick.new.self c.disbelieve.new.self c.self-2.invariant.0
-          (rw c.kick.ensures.only (numbered_belief c.self-2.inside.premises c.args.premise false c.self-2.invariant.0.numbered))
-          (rw (c.kick.ensures.only, length-with_belief_at c.self-2.inside.premises c.args.premise false) c.self-2.invariant.0.few)
+          (rw c.kick.ensures.only (numbered_belief c.self-2.inside.premises c.args.premise false
+          c.self-2.invariant.0.numbered))
+          (rw (c.kick.ensures.only, length-with_belief_at c.self-2.inside.premises c.args.premise false)
+          c.self-2.invariant.0.few)
           same
-          (kicked_believes (the_view c.self-2.inside) c.kick.new.self c.disbelieve.new.self c.args.premise c.self-2.invariant.0 user same c.kick.ensures.beliefs c.disbelieve.ensures),
-      none_below_kicked c.self-2.inside.store c.self-2.inside.worldview c.disbelieve.new.self c.self-2.inside.from c.args.premise c.disbelieve.ensures c.self-2.invariant.1,
+          (kicked_believes (the_view c.self-2.inside) c.kick.new.self c.disbelieve.new.self c.args.premise
+          c.self-2.invariant.0 user same c.kick.ensures.beliefs c.disbelieve.ensures),
+      none_below_kicked c.self-2.inside.store c.self-2.inside.worldview c.disbelieve.new.self c.self-2.inside.from
+          c.args.premise c.disbelieve.ensures c.self-2.invariant.1,
     )
 
 pub returns-clause-search : goal.returns-clause-search
 returns-clause-search c problem h =
     let is = c.self-2.view_is ∙ c.restart.ensures.only in
-    let same = ap choices_of c.kick.ensures.only ∙ choices_of-with_belief_at c.self-2.inside.premises c.args.premise false ∙ ap (λ (s : Stand). choices_of s.premises) is in
-    subst (λ (s : Stand). IsSearch problem (record s { premises = c.kick.new.self; worldview = c.disbelieve.new.self })) (sym is) (search_restarted problem _ c.kick.new.self c.disbelieve.new.self same h)
+    let same = ap choices_of c.kick.ensures.only
+    ∙ choices_of-with_belief_at c.self-2.inside.premises c.args.premise false
+    ∙ ap (λ (s : Stand). choices_of s.premises) is in
+    subst (λ (s : Stand). IsSearch problem (record s { premises = c.kick.new.self; worldview = c.disbelieve.new.self }))
+    (sym is) (search_restarted problem _ c.kick.new.self c.disbelieve.new.self same h)

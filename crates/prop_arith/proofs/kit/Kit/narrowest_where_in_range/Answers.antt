@@ -1,4 +1,6 @@
-use Rattle.prop_arith.specs.laws.NarrowestLaws.{add_is_narrowest, sub_is_narrowest, mul_is_narrowest, square_is_narrowest, root_is_narrowest, image_is_narrowest, coimage_is_narrowest}
+use Rattle.prop_arith.specs.laws.NarrowestLaws.{add_is_narrowest, sub_is_narrowest, mul_is_narrowest}
+use Rattle.prop_arith.specs.laws.NarrowestLaws.{square_is_narrowest, root_is_narrowest, image_is_narrowest}
+use Rattle.prop_arith.specs.laws.NarrowestLaws.{coimage_is_narrowest}
 use Rattle.prop_arith.proofs.kit.Kit.narrowest_where_in_range.Goals as goal
 
 pub returns-clause-add : goal.returns-clause-add

@@ -8,8 +8,10 @@ pub returns-then-eq-2 : goal.returns-then-eq-2
 returns-then-eq-2 c =
     elim c.if-eq.branch [
       | then-eq w ↦ (
-          let ins : c.args.ins.now ≡ (form_of c.args.self.now).ins = same_shapes _ _ (sym c.eq.ensures ∙ w.if-eq.true) ∙ c.ins.ensures in
-          let out : c.args.out ≡ (form_of c.args.self.now).out = same_shape _ _ (sym w.eq-then-eq.ensures ∙ sym w.value-is ∙ c.if-eq-2.true) ∙ w.out.ensures in
+          let ins : c.args.ins.now ≡ (form_of c.args.self.now).ins = same_shapes _ _ (sym c.eq.ensures ∙ w.if-eq.true)
+          ∙ c.ins.ensures in
+          let out : c.args.out ≡ (form_of c.args.self.now).out =
+          same_shape _ _ (sym w.eq-then-eq.ensures ∙ sym w.value-is ∙ c.if-eq-2.true) ∙ w.out.ensures in
           let told = c.eq-then-eq-2.ensures in
           let need = c.need.ensures in
           search rules

@@ -12,7 +12,9 @@ name_all-requires g c = c.requires
 pub returns-in_err-name_all-clause-err : goal.returns-in_err-name_all-clause-err
 returns-in_err-name_all-clause-err g c =
     let p = err_from_is_err_and c.from_residual.result c.from_residual.ensures.1 in
-    rw (p.1, p.2) (why_named (stored_of g.R.Rule.value_of c.args.library.now) c.args.words.now c.args.self.now c.args.said.now.name.now (words c.args.said.now.params.now) (map step_of c.args.said.now.steps.now) _ c.in_err-name_all.ensures.why)
+    rw (p.1, p.2) (why_named (stored_of g.R.Rule.value_of c.args.library.now) c.args.words.now c.args.self.now
+    c.args.said.now.name.now (words c.args.said.now.params.now) (map step_of c.args.said.now.steps.now) _
+    c.in_err-name_all.ensures.why)
 
 pub resolved-requires : goal.resolved-requires
 resolved-requires g c = c.in_ok-name_all.ensures.scope
@@ -31,11 +33,15 @@ returns-clause-locals g c = c.resolved.ensures.locals
 
 pub returns-clause-fits : goal.returns-clause-fits
 returns-clause-fits g c =
-    fits_named (stored_of g.R.Rule.value_of c.args.library.now) c.args.words.now c.args.self.now c.args.said.now.name.now (words c.args.said.now.params.now) (map step_of c.args.said.now.steps.now) c.in_ok-name_all.ensures.new c.resolved.result c.resolved.ensures.fits
+    fits_named (stored_of g.R.Rule.value_of c.args.library.now) c.args.words.now c.args.self.now
+    c.args.said.now.name.now (words c.args.said.now.params.now) (map step_of c.args.said.now.steps.now)
+    c.in_ok-name_all.ensures.new c.resolved.result c.resolved.ensures.fits
 
 pub returns-clause-err : goal.returns-clause-err
 returns-clause-err g c =
-    why_rest (stored_of g.R.Rule.value_of c.args.library.now) c.args.words.now c.args.self.now c.args.said.now.name.now (words c.args.said.now.params.now) (map step_of c.args.said.now.steps.now) c.in_ok-name_all.ensures.new c.resolved.result c.resolved.ensures.err
+    why_rest (stored_of g.R.Rule.value_of c.args.library.now) c.args.words.now c.args.self.now c.args.said.now.name.now
+    (words c.args.said.now.params.now) (map step_of c.args.said.now.steps.now) c.in_ok-name_all.ensures.new
+    c.resolved.result c.resolved.ensures.err
 
 pub returns-in_err-name_all-clause-definition : goal.returns-in_err-name_all-clause-definition
 returns-in_err-name_all-clause-definition g c =

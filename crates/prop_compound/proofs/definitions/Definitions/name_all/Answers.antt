@@ -12,8 +12,16 @@ returns-clause-scope g c = c.push_names.ensures.ok
 
 pub returns-clause-new : goal.returns-clause-new
 returns-clause-new g c =
-    taken_pushed (stored_of g.R.Rule.value_of c.args.library.now) c.args.self.now c.args.said.now.name.now (words c.args.said.now.params.now) (map step_of c.args.said.now.steps.now) (is_found _ _ _ c.if-is_some.ensures c.find.ensures) (is_found _ _ _ c.if-is_some-2.ensures c.find-else-is_some.ensures.number) c.push_names.result c.push_names.ensures.apart
+    taken_pushed (stored_of g.R.Rule.value_of c.args.library.now) c.args.self.now c.args.said.now.name.now
+    (words c.args.said.now.params.now) (map step_of c.args.said.now.steps.now)
+    (is_found _ _ _ c.if-is_some.ensures c.find.ensures)
+    (is_found _ _ _ c.if-is_some-2.ensures c.find-else-is_some.ensures.number) c.push_names.result
+    c.push_names.ensures.apart
 
 pub returns-clause-why : goal.returns-clause-why
 returns-clause-why g c =
-    taken_why (stored_of g.R.Rule.value_of c.args.library.now) c.args.self.now c.args.said.now.name.now (words c.args.said.now.params.now) (map step_of c.args.said.now.steps.now) (is_found _ _ _ c.if-is_some.ensures c.find.ensures) (is_found _ _ _ c.if-is_some-2.ensures c.find-else-is_some.ensures.number) c.push_names.result c.push_names.ensures.why
+    taken_why (stored_of g.R.Rule.value_of c.args.library.now) c.args.self.now c.args.said.now.name.now
+    (words c.args.said.now.params.now) (map step_of c.args.said.now.steps.now)
+    (is_found _ _ _ c.if-is_some.ensures c.find.ensures)
+    (is_found _ _ _ c.if-is_some-2.ensures c.find-else-is_some.ensures.number) c.push_names.result
+    c.push_names.ensures.why

@@ -7,6 +7,7 @@ use Rattle.prop_compound.proofs.definitions.Definitions.push_numbered.Given as g
 
 abbrev pub invariant-loop-step : goal.invariant-loop-step
 invariant-loop-step g l = record {
-  steps : l.all.items ≡ map (step_numbered (stored_of g.R.Rule.value_of l.library) l.words l.self l.scope) (map step_of (take l.step-index l.steps));
+  steps : l.all.items ≡ map (step_numbered (stored_of g.R.Rule.value_of l.library) l.words l.self l.scope)
+      (map step_of (take l.step-index l.steps));
   locals : All (IsLocalOf (IsSized l.words)) l.all.items;
 }

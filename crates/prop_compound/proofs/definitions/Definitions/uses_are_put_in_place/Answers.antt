@@ -6,4 +6,5 @@ use Rattle.prop_compound.proofs.definitions.Definitions.uses_are_put_in_place.Go
 
 pub returns : goal.returns
 returns c =
-    subst UsesArePutInPlace (ap (λ (d : Definitions). d.definitions) c.self.view_is) (uses_in_place c.self.inside.definitions.items c.self.invariant.1)
+    subst UsesArePutInPlace (ap (λ (d : Definitions). d.definitions) c.self.view_is)
+    (uses_in_place c.self.inside.definitions.items c.self.invariant.1)

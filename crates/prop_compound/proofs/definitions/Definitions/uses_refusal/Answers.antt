@@ -11,19 +11,28 @@ use Rattle.prop_compound.proofs.definitions.Definitions.uses_refusal.Goals as go
 pub returns-then-has_unknown : goal.returns-then-has_unknown
 returns-then-has_unknown g c =
     let library = stored_of g.R.Rule.value_of c.args.library.now in
-    first_of_three NoSuchProcedure WrongCount (LimitReached TooMany) _ _ _ (some_said (is_unknown library c.args.self.now) c.args.steps.now _ c.if-has_unknown.ensures)
+    first_of_three NoSuchProcedure WrongCount (LimitReached TooMany) _ _ _
+    (some_said (is_unknown library c.args.self.now) c.args.steps.now _ c.if-has_unknown.ensures)
 
 pub returns-then-has_count_wrong : goal.returns-then-has_count_wrong
 returns-then-has_count_wrong g c =
     let library = stored_of g.R.Rule.value_of c.args.library.now in
-    second_of_three NoSuchProcedure WrongCount (LimitReached TooMany) _ _ _ (some_said (is_unknown library c.args.self.now) c.args.steps.now _ c.if-has_unknown.ensures) (some_said (is_count_wrong library c.args.self.now) c.args.steps.now _ c.if-has_count_wrong.ensures)
+    second_of_three NoSuchProcedure WrongCount (LimitReached TooMany) _ _ _
+    (some_said (is_unknown library c.args.self.now) c.args.steps.now _ c.if-has_unknown.ensures)
+    (some_said (is_count_wrong library c.args.self.now) c.args.steps.now _ c.if-has_count_wrong.ensures)
 
 pub returns-then-len-most : goal.returns-then-len-most
 returns-then-len-most g c =
     let library = stored_of g.R.Rule.value_of c.args.library.now in
-    third_of_three NoSuchProcedure WrongCount (LimitReached TooMany) _ _ _ (some_said (is_unknown library c.args.self.now) c.args.steps.now _ c.if-has_unknown.ensures) (some_said (is_count_wrong library c.args.self.now) c.args.steps.now _ c.if-has_count_wrong.ensures) (le-leb (most TooMany) (length c.args.self.now.definitions) (omega (arith, c.len.ensures, c.most.ensures)))
+    third_of_three NoSuchProcedure WrongCount (LimitReached TooMany) _ _ _
+    (some_said (is_unknown library c.args.self.now) c.args.steps.now _ c.if-has_unknown.ensures)
+    (some_said (is_count_wrong library c.args.self.now) c.args.steps.now _ c.if-has_count_wrong.ensures)
+    (le-leb (most TooMany) (length c.args.self.now.definitions) (omega (arith, c.len.ensures, c.most.ensures)))
 
 pub returns : goal.returns
 returns g c =
     let library = stored_of g.R.Rule.value_of c.args.library.now in
-    none_of_three NoSuchProcedure WrongCount (LimitReached TooMany) _ _ _ (some_said (is_unknown library c.args.self.now) c.args.steps.now _ c.if-has_unknown.ensures) (some_said (is_count_wrong library c.args.self.now) c.args.steps.now _ c.if-has_count_wrong.ensures) (lt-leb (most TooMany) (length c.args.self.now.definitions) (omega (arith, c.len.ensures, c.most.ensures)))
+    none_of_three NoSuchProcedure WrongCount (LimitReached TooMany) _ _ _
+    (some_said (is_unknown library c.args.self.now) c.args.steps.now _ c.if-has_unknown.ensures)
+    (some_said (is_count_wrong library c.args.self.now) c.args.steps.now _ c.if-has_count_wrong.ensures)
+    (lt-leb (most TooMany) (length c.args.self.now.definitions) (omega (arith, c.len.ensures, c.most.ensures)))

@@ -4,12 +4,14 @@ use Rattle.prop_numbers.specs.Sets.{set_of}
 use Rattle.prop_nogoods.specs.inner.Endings.{EndsSo}
 use Rattle.prop_nogoods.proofs.EndingLemmas.{ends_below, none_without_last, end_below_where_none}
 use Rattle.prop_nogoods.proofs.ending.Ending.first_believed.Goals as goal
-use Rattle.prop_nogoods.proofs.ending.Ending.first_believed.Goals.{then-last-from-via-then-last-from, then-last-from-via-else-last-from+then-not-has}
+use Rattle.prop_nogoods.proofs.ending.Ending.first_believed.Goals.{then-last-from-via-then-last-from}
+use Rattle.prop_nogoods.proofs.ending.Ending.first_believed.Goals.{then-last-from-via-else-last-from+then-not-has}
 
 pub returns-in_err-last-clause-none : goal.returns-in_err-last-clause-none
 returns-in_err-last-clause-none c none =
     let is : c.self.inside.last ≡ None = search rules in
-    rw (← c.self.view_is) (ends_below (set_of c.args.worldview.now) None c.args.from c.self.inside.nogoods.items (omega arith) (rw is at c.self.invariant.0))
+    rw (← c.self.view_is) (ends_below (set_of c.args.worldview.now) None c.args.from c.self.inside.nogoods.items
+    (omega arith) (rw is at c.self.invariant.0))
 
 pub returns-then-last-from-clause-none : goal.returns-then-last-from-clause-none
 returns-then-last-from-clause-none c none =
@@ -22,7 +24,9 @@ returns-then-last-from-clause-none c none =
           let early = v.if-last-from.true in
           ends_below w (Some c.in_ok-last.last) c.args.from sets (grind (arith, nat_tests)) ends
       | then-last-from-via-else-last-from+then-not-has v ↦
-          end_below_where_none w c.args.from sets (none_without_last w c.in_ok-last.last sets (cc (v.has.ensures, v.if-not-has.true)) (λ k d l. (ends k d l).0))
+          end_below_where_none w c.args.from sets
+          (none_without_last w c.in_ok-last.last sets (cc (v.has.ensures, v.if-not-has.true))
+          (λ k d l. (ends k d l).0))
     ])
 
 pub returns-clause-listed : goal.returns-clause-listed

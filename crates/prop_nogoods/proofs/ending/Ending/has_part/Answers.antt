@@ -9,4 +9,5 @@ returns c =
     let n = c.args.set.now in
     let sets = c.self.inside.nogoods.items in
     rw (← c.self.view_is)
-    (any_from_yields_List (λ line. is_within (set_of n) line) _ _ c.any.result c.any.ensures.ran (YieldsList-from_slice sets (cc)) (λ x b q k. search rules))
+    (any_from_yields_List (λ line. is_within (set_of n) line) _ _ c.any.result c.any.ensures.ran
+    (YieldsList-from_slice sets (cc)) (λ x b q k. search rules))

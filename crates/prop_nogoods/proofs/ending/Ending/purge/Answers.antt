@@ -9,4 +9,7 @@ pub invariant_of-self : goal.invariant_of-self
 invariant_of-self c =
     let sets = c.self.inside.nogoods.items in
     let kept = is_without c.args.premise in
-    rw c.drop_holding.ensures.left (All-filter kept (EndsSo c.self.inside.last) sets c.self.invariant.0, IsNonDecreasingBy-filter length kept sets c.self.invariant.1)
+    rw c.drop_holding.ensures.left (
+      All-filter kept (EndsSo c.self.inside.last) sets c.self.invariant.0,
+      IsNonDecreasingBy-filter length kept sets c.self.invariant.1,
+    )

@@ -14,12 +14,16 @@ returns-then-self-other c =
 pub returns-else-holds : goal.returns-else-holds
 returns-else-holds c = by (is_within (set_of c.args.other.now) c.self.inside.premises.value) refl
   where
-    found : (last : Option ℕ) → last ≡ Some c.in-Some.last → IfSome last (λ p. IsTrue (set_of c.self.inside.premises.value p)) → set_of c.self.inside.premises.value c.in-Some.last ≡ true
+    found : (last : Option ℕ) → last ≡ Some c.in-Some.last
+        → IfSome last (λ p. IsTrue (set_of c.self.inside.premises.value p))
+        → set_of c.self.inside.premises.value c.in-Some.last ≡ true
     found None is told = cc is
     found (Some p) is told = cc (is, told)
 
-    by : (b : Bool) → is_within (set_of c.args.other.now) c.self.inside.premises.value ≡ b → c.holds.result ≡ is_within (set_of c.args.other.now) c.args.self.now
+    by : (b : Bool) → is_within (set_of c.args.other.now) c.self.inside.premises.value ≡ b
+        → c.holds.result ≡ is_within (set_of c.args.other.now) c.args.self.now
     by true w =
-        let last : set_of c.self.inside.premises.value c.in-Some.last ≡ true = found c.self.inside.last c.in-Some.is c.self.invariant.2.0 in
+        let last : set_of c.self.inside.premises.value c.in-Some.last ≡ true =
+        found c.self.inside.last c.in-Some.is c.self.invariant.2.0 in
         cc (within_has (set_of c.args.other.now) c.self.inside.premises.value c.in-Some.last w last, c.holds.ensures)
     by false w = cc (w, c.if-holds.false, c.self.view_is)

@@ -11,7 +11,8 @@ pub has_larger_among-requires-clause-no_part : goal.has_larger_among-requires-cl
 has_larger_among-requires-clause-no_part c =
     let w = set_of c.args.nogood.now in
     let none : has_part c.self.inside.nogoods.items w ≡ false = rw (← c.self.view_is) at c.requires.no_part in
-    rw c.deref.ensures.value (has_part-same c.self.inside.nogoods.items (sets_of c.self.inside.by_last.items) w c.self.invariant.3 ∙ none)
+    rw c.deref.ensures.value (has_part-same c.self.inside.nogoods.items (sets_of c.self.inside.by_last.items) w
+    c.self.invariant.3 ∙ none)
 
 pub returns : goal.returns
 returns c none =
@@ -20,4 +21,5 @@ returns c none =
     let n = c.args.nogood.now in
     let of_none : IsPartOfNone (sets_of groups) n = rw c.deref.ensures.value at (c.has_larger_among.ensures none) in
     let same = c.self.invariant.3 in
-    rw (← c.self.view_is) (part_of_none-same (sets_of groups) sets n (record { first = same.second; second = same.first }) of_none)
+    rw (← c.self.view_is) (part_of_none-same (sets_of groups) sets n
+    (record { first = same.second; second = same.first }) of_none)

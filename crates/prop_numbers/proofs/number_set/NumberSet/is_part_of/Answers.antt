@@ -14,5 +14,9 @@ returns-in-One c =
     let at : 64 * place + p % 64 ≡ p = omega (arith, there.0) in
     subst (λ n. set_of c.args.other.now n ≡ true) at (sym (c.word_at.ensures (p % 64) (omega arith)) ∙ there.1)))
     (λ f. (
-    let out = c.is_within_word.ensures.apart f in
-    (64 * place + out.0, ap (λ ns. set_of ns (64 * place + out.0)) (sym own) ∙ out.2, sym (c.word_at.ensures out.0 out.1) ∙ out.3)))
+    let out = c.is_within_word.ensures.apart f in (
+      64 * place + out.0,
+      ap (λ ns. set_of ns (64 * place + out.0)) (sym own)
+          ∙ out.2,
+      sym (c.word_at.ensures out.0 out.1) ∙ out.3,
+    )))

@@ -15,7 +15,8 @@ loop-self-preserved c =
     let words = c.in_ok-first.ensures.cases.0 in
     record {
       same = sym (numbers_from-skip left.base (left.base + 64) (c.in_ok-first.first.now ∷ c.in_ok-first.rest.now) refl)
-          ∙ ap (λ w. numbers_from left.base (w ∷ c.in_ok-first.first.now ∷ c.in_ok-first.rest.now)) (sym c.loop-self-test.true)
+          ∙ ap (λ w. numbers_from left.base (w ∷ c.in_ok-first.first.now ∷ c.in_ok-first.rest.now))
+          (sym c.loop-self-test.true)
           ∙ ap (λ ws. numbers_from left.base (left.word ∷ ws)) (sym words) ∙ c.loop-self.invariant.same;
       room = omega (arith, c.loop-self.invariant.room, ap length words);
     }
@@ -23,9 +24,11 @@ loop-self-preserved c =
 pub returns-clause-steps : goal.returns-clause-steps
 returns-clause-steps c =
     let left = c.loop-self.self-inside in
-    sym c.loop-self.invariant.same ∙ numbers_from-first left.base left.word _ left.rest.now refl c.loop-self-test.false (omega arith)
+    sym c.loop-self.invariant.same ∙ numbers_from-first left.base left.word _ left.rest.now refl c.loop-self-test.false
+    (omega arith)
 
 pub returns-clause-goes : goal.returns-clause-goes
 returns-clause-goes c =
     let left = c.loop-self.self-inside in
-    rw (sym c.loop-self.invariant.same ∙ numbers_from-first left.base left.word _ left.rest.now refl c.loop-self-test.false (omega arith)) (search rules)
+    rw (sym c.loop-self.invariant.same ∙ numbers_from-first left.base left.word _ left.rest.now refl
+    c.loop-self-test.false (omega arith)) (search rules)

@@ -10,4 +10,5 @@ returns-clause-has c p =
     let others = c.args.other in
     let same : own.place ≡ others.place = omega (arith, c.if-self-other.false) in
     one_union own.place own.word others.word p
-    ∙ ap (λ m. set_of (numbers_from (64 * own.place) (own.word ∷ [])) p || set_of (numbers_from (64 * m) (others.word ∷ [])) p) same
+    ∙ ap (λ m. set_of (numbers_from (64 * own.place) (own.word ∷ [])) p || set_of
+    (numbers_from (64 * m) (others.word ∷ [])) p) same

@@ -4,7 +4,8 @@ use Rattle.prop_numbers.proofs.one_word.OneWord.without.Goals as goal
 
 pub returns-then-place_of-self-clause-has : goal.returns-then-place_of-self-clause-has
 returns-then-place_of-self-clause-has c p =
-    let other : c.args.number / 64 ≢ c.args.self.place = (λ here. c.if-place_of-self.true (c.place_of.ensures ∙ here)) in
+    let other : c.args.number / 64 ≢ c.args.self.place =
+    (λ here. c.if-place_of-self.true (c.place_of.ensures ∙ here)) in
     one_not_there c.args.self.place c.args.self.word c.args.number p other
 
 pub returns-clause-has : goal.returns-clause-has

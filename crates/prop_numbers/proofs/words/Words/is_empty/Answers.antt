@@ -12,5 +12,7 @@ none n (w ∷ ws) h = grind (arith, nat_tests)
 pub returns : goal.returns
 returns c = (
   λ h. sym c.self.view_is ∙ none (64 * c.self.inside.first) c.self.inside.words.items (sym c.is_empty.ensures ∙ h),
-  λ e. c.is_empty.ensures ∙ ap (λ ws. length ws == 0) (no_words_from (64 * c.self.inside.first) c.self.inside.words.items c.self.invariant.trimmed (c.self.view_is ∙ e)),
+  λ e. c.is_empty.ensures ∙ ap (λ ws. length ws == 0)
+      (no_words_from (64 * c.self.inside.first) c.self.inside.words.items c.self.invariant.trimmed
+      (c.self.view_is ∙ e)),
 )

@@ -8,7 +8,9 @@ pub returns : goal.returns
 returns c =
     let own = 64 * c.self.inside.first in
     let theirs = 64 * c.other.inside.first in
-    rw (← c.self.view_is, ← c.other.view_is) (is_within-told (set_of (numbers_from theirs c.other.inside.words.items)) (numbers_from own c.self.inside.words.items) c.is_part.result
+    rw (← c.self.view_is, ← c.other.view_is)
+    (is_within-told (set_of (numbers_from theirs c.other.inside.words.items))
+    (numbers_from own c.self.inside.words.items) c.is_part.result
     (λ t p h. ap (λ ws. set_of (numbers_from theirs ws) p) (sym c.deref-2.ensures)
     ∙ c.is_part.ensures.part t p (ap (λ ws. set_of (numbers_from own ws) p) c.deref.ensures ∙ h))
     (λ f. (

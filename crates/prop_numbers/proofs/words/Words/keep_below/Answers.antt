@@ -10,5 +10,6 @@ returns-then-from-start c =
 
 pub returns-else-from-start : goal.returns-else-from-start
 returns-else-from-start c =
-    rw (← c.self.view_is) (cut_from c.self.inside.first c.args.bound c.self.inside.words.items c.cut.new.words.items (omega (arith, c.if-from-start.false))
+    rw (← c.self.view_is) (cut_from c.self.inside.first c.args.bound c.self.inside.words.items c.cut.new.words.items
+    (omega (arith, c.if-from-start.false))
     c.cut.ensures.bits)

@@ -7,10 +7,12 @@ use Rattle.prop_numbers.proofs.words.Words.of_one.Goals as goal
 pub invariant_of-result : goal.invariant_of-result
 invariant_of-result c =
     let made = c.from_buf-words.ensures.items in
-    one_form c.args.one.place c.args.one.word c.trim.new.words.items c.requires c.trim.ensures.trimmed (omega (arith, c.trim.ensures.len, ap length made))
+    one_form c.args.one.place c.args.one.word c.trim.new.words.items c.requires c.trim.ensures.trimmed
+    (omega (arith, c.trim.ensures.len, ap length made))
     (λ p. c.trim.ensures.bits p ∙ ap (λ ws. has_bit ws p) made)
 
 pub returns : goal.returns
 returns c =
     same_bits_from (64 * c.args.one.place) c.trim.new.words.items _
-    (λ p. c.trim.ensures.bits p ∙ ap (λ ws. has_bit ws p) c.from_buf-words.ensures.items ∙ beside_blank c.args.one.word p)
+    (λ p. c.trim.ensures.bits p ∙ ap (λ ws. has_bit ws p) c.from_buf-words.ensures.items
+    ∙ beside_blank c.args.one.word p)

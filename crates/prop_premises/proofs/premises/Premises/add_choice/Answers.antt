@@ -16,4 +16,6 @@ pub returns-in-Ok-clause-choices : goal.returns-in-Ok-clause-choices
 returns-in-Ok-clause-choices c =
     let os = c.self.inside.table in
     let least : 1 ≤ c.args.sides = omega (arith, c.requires.least) in
-    rw (← c.self.view_is) (ap choices_of c.in-Ok.ensures.ok ∙ choices_of-with_choice os c.args.name.now c.args.sides least ∙ ap (λ n. choices_of os ++ record { first = n; sides = c.args.sides } ∷ []) (sym c.len.ensures.len))
+    rw (← c.self.view_is) (ap choices_of c.in-Ok.ensures.ok
+    ∙ choices_of-with_choice os c.args.name.now c.args.sides least
+    ∙ ap (λ n. choices_of os ++ record { first = n; sides = c.args.sides } ∷ []) (sym c.len.ensures.len))

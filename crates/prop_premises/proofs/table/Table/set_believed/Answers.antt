@@ -8,7 +8,8 @@ use Rattle.prop_premises.proofs.table.Table.set_believed.Goals.{then-is_believed
 
 pub set_bit-requires : goal.set_bit-requires
 set_bit-requires c =
-    let within = first_within c.self.inside.names.entries c.loop-place.place c.index-named.result.now c.self.invariant.1 c.index-named.ensures
+    let within = first_within c.self.inside.names.entries c.loop-place.place c.index-named.result.now c.self.invariant.1
+    c.index-named.ensures
     (sym c.is_believed.ensures ∙ c.if-is_believed.true) in
     omega (arith, within, c.requires, c.loop-place.invariant.len, ap length c.self.view_is)
 
@@ -23,11 +24,13 @@ loop-place-preserved c =
           elim c.if-is_believed.branch [
             | then-is_believed w ↦ ap (λ ws. has_bit ws p) w.words-is ∙ w.set_bit.ensures.bits p
                 ∙ ap (λ b. b || (named.first == p)) (c.loop-place.invariant.bits p)
-                ∙ told_of (has_bit c.args.words.now p) (believed_in (origins_of (take c.loop-place.place c.self.inside.names.entries)) p)
+                ∙ told_of (has_bit c.args.words.now p)
+                (believed_in (origins_of (take c.loop-place.place c.self.inside.names.entries)) p)
                 (is_believed_kind named.kind) (named.first == p) (sym c.is_believed.ensures ∙ w.if-is_believed.true)
                 ∙ ap (λ b. has_bit c.args.words.now p || b) (sym next)
             | else-is_believed w ↦ ap (λ ws. has_bit ws p) w.words-is ∙ c.loop-place.invariant.bits p
-                ∙ not_told (has_bit c.args.words.now p) (believed_in (origins_of (take c.loop-place.place c.self.inside.names.entries)) p)
+                ∙ not_told (has_bit c.args.words.now p)
+                (believed_in (origins_of (take c.loop-place.place c.self.inside.names.entries)) p)
                 (is_believed_kind named.kind) (named.first == p) (sym c.is_believed.ensures ∙ w.if-is_believed.false)
                 ∙ ap (λ b. has_bit c.args.words.now p || b) (sym next)
           ]);

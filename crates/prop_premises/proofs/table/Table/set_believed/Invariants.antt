@@ -7,5 +7,6 @@ use Rattle.prop_premises.proofs.table.Table.set_believed.Given as goal
 abbrev pub invariant-loop-place : goal.invariant-loop-place
 invariant-loop-place l = record {
   len : length l.words ≡ length l.fn.words;
-  bits : (p : ℕ) → has_bit l.words p ≡ (has_bit l.fn.words p || believed_in (origins_of (take l.place l.self-inside.names.entries)) p);
+  bits : (p : ℕ) → has_bit l.words p ≡ (has_bit l.fn.words p || believed_in
+      (origins_of (take l.place l.self-inside.names.entries)) p);
 }

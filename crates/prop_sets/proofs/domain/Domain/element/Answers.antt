@@ -8,7 +8,8 @@ pub returns-clause-name : goal.returns-clause-name
 returns-clause-name c =
     let keys = c.self.inside.names.keys in
     let at = rw c.from-2.ensures at c.in-Some.ensures.key in
-    rw (← c.self.view_is, c.as_str.ensures.value) (slice_get-map string_bytes keys c.args.i ∙ ap (option_map string_bytes) (sym at))
+    rw (← c.self.view_is, c.as_str.ensures.value)
+    (slice_get-map string_bytes keys c.args.i ∙ ap (option_map string_bytes) (sym at))
 
 pub returns-clause-index : goal.returns-clause-index
 returns-clause-index c =

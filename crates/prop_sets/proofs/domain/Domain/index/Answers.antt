@@ -4,7 +4,8 @@ use Rattle.prop_sets.proofs.domain.Domain.index.Goals as goal
 
 pub returns-in_err-i-clause-value : goal.returns-in_err-i-clause-value
 returns-in_err-i-clause-value c =
-    rw (← c.self.view_is) (c.from_residual.ensures ∙ sym (position-names c.args.name.now c.self.inside.names.keys ∙ sym c.in_err-i.ensures.index))
+    rw (← c.self.view_is) (c.from_residual.ensures
+    ∙ sym (position-names c.args.name.now c.self.inside.names.keys ∙ sym c.in_err-i.ensures.index))
 
 pub returns-clause-value : goal.returns-clause-value
 returns-clause-value c =

@@ -7,7 +7,9 @@ pub returns-clause-value : goal.returns-clause-value
 returns-clause-value c =
     let inside = c.self.inside in
     let union = rw (c.deref.ensures.value, c.bits.ensures) at c.union_of.ensures in
-    rw (← c.self.view_is) (c.from_bits.ensures ∙ coimage_from_union (record { from = inside.from; to = inside.to; rows = inside.rows.items }) inside.columns.items c.args.y c.union_of.result c.self.invariant union)
+    rw (← c.self.view_is) (c.from_bits.ensures
+    ∙ coimage_from_union (record { from = inside.from; to = inside.to; rows = inside.rows.items })
+    inside.columns.items c.args.y c.union_of.result c.self.invariant union)
 
 pub returns-clause-pairs : goal.returns-clause-pairs
 returns-clause-pairs c = rw (returns-clause-value c) (coimage_just c.args.self.now c.args.y)

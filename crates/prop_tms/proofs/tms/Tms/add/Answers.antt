@@ -1,4 +1,5 @@
-use Rattle.std.proofs.Common.{rules, ◌≡◌, ◌≢◌, ◌∙◌, ◌+◌, ◌*◌, ◌<◌, ◌≤◌, ◌++◌, [], ◌∷◌, List, ℕ, AllPairs, refl, sym, ap, subst, inr, length, get_or, set, drop, arith}
+use Rattle.std.proofs.Common.{rules, ◌≡◌, ◌≢◌, ◌∙◌, ◌+◌, ◌*◌, ◌<◌, ◌≤◌, ◌++◌, [], ◌∷◌, List, ℕ, AllPairs, refl, sym, ap}
+use Rattle.std.proofs.Common.{subst, inr, length, get_or, set, drop, arith}
 use Rattle.std.specs.List.{refill}
 use Rattle.std.proofs.lemmas.List.{length-set}
 use Rattle.std.proofs.Math.Nat.{le_of_lt, lt_of_le_of_lt, mul-le-mul_right}
@@ -8,37 +9,44 @@ use Rattle.prop_tms.specs.Values.{entries_of}
 use Rattle.prop_tms.specs.inner.Values.{values_of, AreApart, NoneBare}
 use Rattle.prop_tms.specs.declared.supported.Supported.{Supported}
 use Rattle.prop_tms.specs.declared.values.Valued.{Valued}
-use Rattle.prop_tms.proofs.BeliefLemmas.{adds_joined, adds_needless, needed_joined, none_alike-joined, none_subsumed-joined}
+use Rattle.prop_tms.proofs.BeliefLemmas.{adds_joined, adds_needless, needed_joined, none_alike-joined}
+use Rattle.prop_tms.proofs.BeliefLemmas.{none_subsumed-joined}
 use Rattle.prop_tms.proofs.KeptLemmas.{insert_length}
-use Rattle.prop_tms.proofs.ValueLemmas.{grown_all, has_room, left_length, length_values, none_bare-push, values_of-set, written, written_values}
+use Rattle.prop_tms.proofs.ValueLemmas.{grown_all, has_room, left_length, length_values, none_bare-push, values_of-set}
+use Rattle.prop_tms.proofs.ValueLemmas.{written, written_values}
 use Rattle.prop_tms.proofs.tms.Tms.add.Given.{Over}
 use Rattle.prop_tms.proofs.tms.Tms.add.Goals as goal
 
 -- the list, after a whole list was written to it
-again_is : {V : Type 0} (start mid again : List (Valued V)) → again ≡ refill (length start) start mid → values_of mid ≡ values_of start → again ≡ mid
+again_is : {V : Type 0} (start mid again : List (Valued V)) → again ≡ refill (length start) start mid
+    → values_of mid ≡ values_of start → again ≡ mid
 again_is start mid again is values = is ∙ written_values (length start) start mid refl values
 
 -- the list, after one of its values was written too
-pushed_is : {V : Type 0} (start mid again : List (Valued V)) (i : ℕ) (y : Valued V) → again ≡ refill (length start) start mid → values_of mid ≡ values_of start →
+pushed_is : {V : Type 0} (start mid again : List (Valued V)) (i : ℕ) (y : Valued V)
+    → again ≡ refill (length start) start mid → values_of mid ≡ values_of start →
     refill (length (refill (length start) start mid)) (refill (length start) start mid) (set again i y) ≡ set mid i y
 pushed_is start mid again i y is values =
     let given = refill (length start) start mid in
     let n = length-set again i y in
     let m = ap length is in
-    written (length given) (set again i y) (drop (length (set again i y)) given) (omega (arith, n, m)) ∙ ap (λ zs. set zs i y) (again_is start mid again is values)
+    written (length given) (set again i y) (drop (length (set again i y)) given) (omega (arith, n, m))
+    ∙ ap (λ zs. set zs i y) (again_is start mid again is values)
 
 -- ---- what says nothing new
 
 pub returns-then-is_needless-clause-adds : goal.returns-then-is_needless-clause-adds
 returns-then-is_needless-clause-adds g c =
     let e : Supported _ = record { value = c.args.value; support = c.args.support } in
-    let needless : IsNeedless g.V.Partial.below g.V.Partial.bottom c.args.self.now e = rw (← c.self.view_is) (rw c.deref.ensures at (c.is_needless.ensures.0 c.if-is_needless.true)) in
+    let needless : IsNeedless g.V.Partial.below g.V.Partial.bottom c.args.self.now e =
+    rw (← c.self.view_is) (rw c.deref.ensures at (c.is_needless.ensures.0 c.if-is_needless.true)) in
     adds_needless g.met.V.Partial.laws c.args.self.now e needless
 
 pub returns-then-is_needless-clause-same : goal.returns-then-is_needless-clause-same
 returns-then-is_needless-clause-same g c =
     let e : Supported _ = record { value = c.args.value; support = c.args.support } in
-    let needless : IsNeedless g.V.Partial.below g.V.Partial.bottom c.args.self.now e = rw (← c.self.view_is) (rw c.deref.ensures at (c.is_needless.ensures.0 c.if-is_needless.true)) in
+    let needless : IsNeedless g.V.Partial.below g.V.Partial.bottom c.args.self.now e =
+    rw (← c.self.view_is) (rw c.deref.ensures at (c.is_needless.ensures.0 c.if-is_needless.true)) in
     (λ t. needless, λ n. refl)
 
 -- ---- where memory is refused
@@ -46,13 +54,15 @@ returns-then-is_needless-clause-same g c =
 pub returns-then-count-clause-needless : goal.returns-then-count-clause-needless
 returns-then-count-clause-needless g c =
     let e : Supported _ = record { value = c.args.value; support = c.args.support } in
-    let needed : ¬ (IsNeedless g.V.Partial.below g.V.Partial.bottom (entries_of c.self.inside.values.items) e) = λ n. cc (c.if-is_needless.false, c.is_needless.ensures.1 (rw c.deref.ensures n)) in
+    let needed : ¬ (IsNeedless g.V.Partial.below g.V.Partial.bottom (entries_of c.self.inside.values.items) e) =
+    λ n. cc (c.if-is_needless.false, c.is_needless.ensures.1 (rw c.deref.ensures n)) in
     λ n. absurd (needed (rw c.self.view_is n))
 
 pub returns-in_err-place-clause-needless : goal.returns-in_err-place-clause-needless
 returns-in_err-place-clause-needless g c =
     let e : Supported _ = record { value = c.args.value; support = c.args.support } in
-    let needed : ¬ (IsNeedless g.V.Partial.below g.V.Partial.bottom (entries_of c.self.inside.values.items) e) = λ n. cc (c.if-is_needless.false, c.is_needless.ensures.1 (rw c.deref.ensures n)) in
+    let needed : ¬ (IsNeedless g.V.Partial.below g.V.Partial.bottom (entries_of c.self.inside.values.items) e) =
+    λ n. cc (c.if-is_needless.false, c.is_needless.ensures.1 (rw c.deref.ensures n)) in
     λ n. absurd (needed (rw c.self.view_is n))
 
 pub invariant_of-self : goal.invariant_of-self
@@ -75,10 +85,12 @@ no_refusal g c =
     let i = c.in_ok-place.place in
     let x = c.index-deref_mut-place.result in
     let values = rw c.deref_mut.ensures.value at c.drop_subsumed-emptied.ensures.values in
-    let is : x ≡ get_or mid i x = rw (c.deref_mut-2.ensures.value, written_values (length start) start mid refl values) at c.index-deref_mut-place.is in
+    let is : x ≡ get_or mid i x = rw (c.deref_mut-2.ensures.value, written_values (length start) start mid refl values)
+    at c.index-deref_mut-place.is in
     let l = c.in_ok-place.ensures.place.0 in
     let kept = rw c.deref_mut.ensures.value at c.drop_subsumed-emptied.ensures.room in
-    cc (c.in_err-push.ensures.succeeds (rw (← c.index-deref_mut-place.is) (has_room start mid i x l is (c.in_ok-place.ensures.room x) (kept i x l))))
+    cc (c.in_err-push.ensures.succeeds (rw (← c.index-deref_mut-place.is)
+    (has_room start mid i x l is (c.in_ok-place.ensures.room x) (kept i x l))))
 
 pub invariant_of-self-in_err-push : goal.invariant_of-self-in_err-push
 invariant_of-self-in_err-push g c = absurd (no_refusal g c)
@@ -110,7 +122,8 @@ offset_bounds-deref_mut-place g c =
     let values = rw c.deref_mut.ensures.value at c.drop_subsumed-emptied.ensures.values in
     let same = ap length (again_is start mid c.deref_mut-2.result.now c.deref_mut-2.ensures.value values) in
     let n = length_values mid start values in
-    let l : c.in_ok-place.place < length c.deref_mut-2.result.now = omega (arith, c.in_ok-place.ensures.place.0, n, same) in
+    let l : c.in_ok-place.place < length c.deref_mut-2.result.now =
+    omega (arith, c.in_ok-place.ensures.place.0, n, same) in
     let fits = fits_at _ _ _ _ l c.deref_mut-2.type_inv.1 in
     omega (arith, fits)
 
@@ -128,11 +141,15 @@ drop_emptied-requires g c =
     let pushed = pushed_is start mid again i y c.deref_mut-2.ensures.value values in
     let n = length_values mid start values in
     let l : i < length mid = omega (arith, c.in_ok-place.ensures.place.0, n) in
-    let some : y.supports.items ≢ [] = λ none. none_pushed (get_or again i x).supports.items c.args.support (sym c.in_ok-push.ensures.ok ∙ none) in (
+    let some : y.supports.items ≢ [] = λ none.
+    none_pushed (get_or again i x).supports.items c.args.support (sym c.in_ok-push.ensures.ok ∙ none) in (
       search rules,
       (
-        subst AreApart (sym pushed) (subst (AllPairs (λ a b. a ≢ b)) (sym (values_of-set mid i y x l (ap (λ (zs : List (Valued _)). (get_or zs i x).value) whole) ∙ values)) c.in_ok-place.ensures.apart),
-        λ left. subst NoneBare (sym pushed) (none_bare-push start mid i y l n some (c.in_ok-place.ensures.others c.self.invariant.bare) (emptied left)),
+        subst AreApart (sym pushed) (subst (AllPairs (λ a b. a ≢ b))
+            (sym (values_of-set mid i y x l (ap (λ (zs : List (Valued _)). (get_or zs i x).value) whole) ∙ values))
+            c.in_ok-place.ensures.apart),
+        λ left. subst NoneBare (sym pushed)
+            (none_bare-push start mid i y l n some (c.in_ok-place.ensures.others c.self.invariant.bare) (emptied left)),
       ),
     )
   where
@@ -143,11 +160,15 @@ drop_emptied-requires g c =
 -- where it stands
 grown : (g : Over) (c : goal.After-drop_emptied g) →
     let old = entries_of c.self.inside.values.items in
-    let m = joined_with g.V.Partial.bottom g.V.Partial.join old (record { value = c.args.value; support = c.args.support }) in
-    (front : List (Supported _)) × (rear : List (Supported _)) × IsLeftWithout (Subsumes g.V.Partial.below m) old (front ++ rear) × (entries_of c.drop_emptied.new.values.items ≡ front ++ m ∷ rear)
+    let m = joined_with g.V.Partial.bottom g.V.Partial.join old
+    (record { value = c.args.value; support = c.args.support }) in
+    (front : List (Supported _)) × (rear : List (Supported _))
+    × IsLeftWithout (Subsumes g.V.Partial.below m) old (front ++ rear)
+    × (entries_of c.drop_emptied.new.values.items ≡ front ++ m ∷ rear)
 grown g c =
     let old = entries_of c.self.inside.values.items in
-    let m = joined_with g.V.Partial.bottom g.V.Partial.join old (record { value = c.args.value; support = c.args.support }) in
+    let m = joined_with g.V.Partial.bottom g.V.Partial.join old
+    (record { value = c.args.value; support = c.args.support }) in
     let start = c.room_for.new.values.items in
     let mid = c.drop_subsumed-emptied.new.values in
     let i = c.in_ok-place.place in
@@ -160,32 +181,43 @@ grown g c =
     let pushed = pushed_is start mid again i y c.deref_mut-2.ensures.value values in
     let at = c.index-deref_mut-place.is in
     let is : x ≡ get_or mid i x = at ∙ ap (λ (zs : List (Valued _)). get_or zs i x) whole in
-    let left : IsLeftWithout (Subsumes g.V.Partial.below m) (entries_of start) (entries_of mid) = rw (c.deref_mut.ensures.value, said) at c.drop_subsumed-emptied.ensures.kept in
-    grown_all (Subsumes g.V.Partial.below m) old (entries_of c.drop_emptied.new.values.items) m start mid i x y c.in_ok-place.ensures.same c.in_ok-place.ensures.place.0 (c.in_ok-place.ensures.place.1 x ∙ said) left values is
-    (sym (ap (λ (z : Valued _). z.value) at)) (rw (← at) at c.in_ok-push.ensures.ok) (c.drop_emptied.ensures.same ∙ ap entries_of pushed)
+    let left : IsLeftWithout (Subsumes g.V.Partial.below m) (entries_of start) (entries_of mid) =
+    rw (c.deref_mut.ensures.value, said) at c.drop_subsumed-emptied.ensures.kept in
+    grown_all (Subsumes g.V.Partial.below m) old (entries_of c.drop_emptied.new.values.items) m start mid i x y
+    c.in_ok-place.ensures.same c.in_ok-place.ensures.place.0 (c.in_ok-place.ensures.place.1 x ∙ said) left values is
+    (sym (ap (λ (z : Valued _). z.value) at)) (rw (← at) at c.in_ok-push.ensures.ok)
+    (c.drop_emptied.ensures.same ∙ ap entries_of pushed)
 
-needed : (g : Over) (c : goal.After-drop_emptied g) → ¬ (IsNeedless g.V.Partial.below g.V.Partial.bottom (entries_of c.self.inside.values.items) (record { value = c.args.value; support = c.args.support }))
+needed : (g : Over) (c : goal.After-drop_emptied g)
+    → ¬ (IsNeedless g.V.Partial.below g.V.Partial.bottom (entries_of c.self.inside.values.items)
+    (record { value = c.args.value; support = c.args.support }))
 needed g c = λ n. cc (c.if-is_needless.false, c.is_needless.ensures.1 (rw c.deref.ensures n))
 
-subsumed : (g : Over) (c : goal.After-drop_emptied g) → NoneSubsumed g.V.Partial.below (entries_of c.drop_emptied.new.values.items)
+subsumed : (g : Over) (c : goal.After-drop_emptied g)
+    → NoneSubsumed g.V.Partial.below (entries_of c.drop_emptied.new.values.items)
 subsumed g c =
     let laws = g.met.V.Partial.laws in
     let old = entries_of c.self.inside.values.items in
     let e : Supported _ = record { value = c.args.value; support = c.args.support } in
     let m = joined_with g.V.Partial.bottom g.V.Partial.join old e in
     let stands = grown g c in
-    subst (NoneSubsumed g.V.Partial.below) (sym stands.3) (none_subsumed-joined laws old stands.0 stands.1 m stands.2 (needed_joined laws old e (needed g c)) c.self.invariant.subsumed)
+    subst (NoneSubsumed g.V.Partial.below) (sym stands.3)
+    (none_subsumed-joined laws old stands.0 stands.1 m stands.2 (needed_joined laws old e (needed g c))
+    c.self.invariant.subsumed)
 
 alike : (g : Over) (c : goal.After-drop_emptied g) → NoneAlike (entries_of c.drop_emptied.new.values.items)
 alike g c =
     let e : Supported _ = record { value = c.args.value; support = c.args.support } in
     let stands = grown g c in
-    subst NoneAlike (sym stands.3) (none_alike-joined g.met.V.Partial.laws (entries_of c.self.inside.values.items) stands.0 stands.1 e stands.2 c.self.invariant.alike)
+    subst NoneAlike (sym stands.3) (none_alike-joined g.met.V.Partial.laws (entries_of c.self.inside.values.items)
+    stands.0 stands.1 e stands.2 c.self.invariant.alike)
 
-longer : (g : Over) (c : goal.After-drop_emptied g) → length (entries_of c.drop_emptied.new.values.items) ≤ length (entries_of c.self.inside.values.items) + 1
+longer : (g : Over) (c : goal.After-drop_emptied g)
+    → length (entries_of c.drop_emptied.new.values.items) ≤ length (entries_of c.self.inside.values.items) + 1
 longer g c =
     let old = entries_of c.self.inside.values.items in
-    let m = joined_with g.V.Partial.bottom g.V.Partial.join old (record { value = c.args.value; support = c.args.support }) in
+    let m = joined_with g.V.Partial.bottom g.V.Partial.join old
+    (record { value = c.args.value; support = c.args.support }) in
     let stands = grown g c in
     let more = insert_length stands.0 stands.1 m in
     let less = left_length (Subsumes g.V.Partial.below m) old (stands.0 ++ stands.1) stands.2 in
@@ -209,7 +241,8 @@ returns-clause-adds g c =
     let old = entries_of c.self.inside.values.items in
     let e : Supported _ = record { value = c.args.value; support = c.args.support } in
     let stands = grown g c in
-    rw (← c.self.view_is) (subst (λ (new : List (Supported _)). Adds g.V.Partial.bottom g.V.Partial.join old new e) (sym stands.3) (adds_joined g.met.V.Partial.laws old stands.0 stands.1 e stands.2))
+    rw (← c.self.view_is) (subst (λ (new : List (Supported _)). Adds g.V.Partial.bottom g.V.Partial.join old new e)
+    (sym stands.3) (adds_joined g.met.V.Partial.laws old stands.0 stands.1 e stands.2))
 
 pub returns-clause-same : goal.returns-clause-same
 returns-clause-same g c = (λ t. cc, λ n. absurd (needed g c (rw c.self.view_is n)))

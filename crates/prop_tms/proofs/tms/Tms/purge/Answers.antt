@@ -9,11 +9,15 @@ use Rattle.prop_tms.proofs.ValueLemmas.{filter_length, written_values}
 use Rattle.prop_tms.proofs.tms.Tms.purge.Given.{Over}
 use Rattle.prop_tms.proofs.tms.Tms.purge.Goals as goal
 
-left : (g : Over) (c : goal.After-drop_bare g) → entries_of c.drop_bare.new.values.items ≡ filter (λ e. not (set_of e.support c.args.premise)) (entries_of c.self.inside.values.items)
+left : (g : Over) (c : goal.After-drop_bare g)
+    → entries_of c.drop_bare.new.values.items ≡ filter (λ e. not (set_of e.support c.args.premise))
+    (entries_of c.self.inside.values.items)
 left g c =
     let kept = rw c.deref_mut.ensures.value at c.drop_resting-went.ensures.values in
     let gone = rw c.deref_mut.ensures.value at c.drop_resting-went.ensures.left in
-    c.drop_bare.ensures.same ∙ ap entries_of (written_values (length c.self.inside.values.items) c.self.inside.values.items c.drop_resting-went.new.values refl kept) ∙ gone
+    c.drop_bare.ensures.same ∙ ap entries_of
+    (written_values (length c.self.inside.values.items) c.self.inside.values.items c.drop_resting-went.new.values
+    refl kept) ∙ gone
 
 pub invariant_of-self : goal.invariant_of-self
 invariant_of-self g c =
@@ -23,8 +27,11 @@ invariant_of-self g c =
     let same = ap length test in
     record {
       subsumed = subst (NoneSubsumed g.V.Partial.below) (sym test)
-          (AllPairs-filter (λ a b. ¬ (Subsumes g.V.Partial.below a b) × ¬ (Subsumes g.V.Partial.below b a)) (λ e. not (set_of e.support c.args.premise)) old c.self.invariant.subsumed);
-      alike = subst NoneAlike (sym test) (AllPairs-filter (λ a b. is_alike a.support b.support ≡ false) (λ e. not (set_of e.support c.args.premise)) old c.self.invariant.alike);
+          (AllPairs-filter (λ a b. ¬ (Subsumes g.V.Partial.below a b) × ¬ (Subsumes g.V.Partial.below b a))
+          (λ e. not (set_of e.support c.args.premise)) old c.self.invariant.subsumed);
+      alike = subst NoneAlike (sym test)
+          (AllPairs-filter (λ a b. is_alike a.support b.support ≡ false) (λ e. not (set_of e.support c.args.premise))
+          old c.self.invariant.alike);
       apart = c.drop_bare.ensures.apart;
       bare = c.drop_bare.ensures.bare;
       counted = omega (arith, shorter, same, c.self.invariant.counted);
@@ -35,7 +42,9 @@ returns-clause-left g c = rw (← c.self.view_is) (left g c)
 
 pub returns-clause-beliefs : goal.returns-clause-beliefs
 returns-clause-beliefs g c w lacks =
-    rw (← c.self.view_is) (ap (belief_of g.V.Partial.bottom g.V.Partial.join w) (left g c) ∙ belief_of-without g.V.Partial.bottom g.V.Partial.join c.args.premise w lacks (entries_of c.self.inside.values.items))
+    rw (← c.self.view_is) (ap (belief_of g.V.Partial.bottom g.V.Partial.join w) (left g c)
+    ∙ belief_of-without g.V.Partial.bottom g.V.Partial.join c.args.premise w lacks
+    (entries_of c.self.inside.values.items))
 
 pub returns-clause-went : goal.returns-clause-went
 returns-clause-went g c = rw (← c.self.view_is, ← c.deref_mut.ensures.value) c.drop_resting-went.ensures.went

@@ -17,7 +17,8 @@ pub reply_to-requires-clause-sound : goal.reply_to-requires-clause-sound
 reply_to-requires-clause-sound g c = c.run_network.ensures.keeps.sound
 
 pub reply_to-requires-clause-named : goal.reply_to-requires-clause-named
-reply_to-requires-clause-named g c = subst (λ (t : State). IsNamed t c.args.question) (sym c.run_network.ensures.state) c.requires.named
+reply_to-requires-clause-named g c =
+    subst (λ (t : State). IsNamed t c.args.question) (sym c.run_network.ensures.state) c.requires.named
 
 pub reply_to-requires-clause-run : goal.reply_to-requires-clause-run
 reply_to-requires-clause-run g c = c.in-Ok.ensures.run
@@ -32,15 +33,25 @@ returns-in-Ok g c =
     let state = c.run_network.ensures.state in
     record {
       keeps = kept;
-      step = run_obeyed library (shown_of s) (shown_of t) (command_of c.args.question) (outcome_of t.search.list c.in-Ok.end) _ c.in-Ok.steps (λ lib u v. carries lib u v c.args.question)
+      step = run_obeyed library (shown_of s) (shown_of t) (command_of c.args.question)
+          (outcome_of t.search.list c.in-Ok.end) _ c.in-Ok.steps (λ lib u v. carries lib u v c.args.question)
           (free library (state_of s) c.args.question c.requires.named) state kept.covers
-          (covered_end (shown_of t) t.search.list c.in-Ok.end said.covered) (rw (kept.library, state) at said.ends) (rw (kept.library, state) at c.reply_to.ensures.says) (rw (ap (λ (u : State). u.limit) state) at said.within);
+          (covered_end (shown_of t) t.search.list c.in-Ok.end said.covered) (rw (kept.library, state) at said.ends)
+          (rw (kept.library, state) at c.reply_to.ensures.says)
+          (rw (ap (λ (u : State). u.limit) state) at said.within);
       rests = record {
-        lean = subst (λ (u : State). IsLeanAnswer (worldview_at u t.search.list) t.network.cells u (Ok (Some (command_of c.args.question))) (answer_of c.reply_to.result)) state c.reply_to.ensures.lean;
-        earned = earns _ library (state_of s) (work_of s) (work_of t) c.args.question c.in-Ok.end c.in-Ok.steps _ c.in-Ok.ensures.gone c.in-Ok.ensures.left (rw state at c.reply_to.ensures.believed) c.in-Ok.ensures.blamed (rw (kept.library, state) at c.reply_to.ensures.says);
-        wakes = wakes_asked (state_of s) (state_of t) (work_of s) (work_of t) c.args.question (answer_of c.reply_to.result);
+        lean = subst (λ (u : State). IsLeanAnswer (worldview_at u t.search.list) t.network.cells u
+            (Ok (Some (command_of c.args.question))) (answer_of c.reply_to.result)) state c.reply_to.ensures.lean;
+        earned = earns _ library (state_of s) (work_of s) (work_of t) c.args.question c.in-Ok.end c.in-Ok.steps _
+            c.in-Ok.ensures.gone c.in-Ok.ensures.left (rw state at c.reply_to.ensures.believed) c.in-Ok.ensures.blamed
+            (rw (kept.library, state) at c.reply_to.ensures.says);
+        wakes = wakes_asked (state_of s) (state_of t) (work_of s) (work_of t) c.args.question
+            (answer_of c.reply_to.result);
       };
     }
 
 pub returns-in-Err : goal.returns-in-Err
-returns-in-Err g c = memory_answered g.O.Order.picks g.R.Rule.value_of c.args.self.now c.run_network.new.self (command_of c.args.question) c.run_network.ensures.keeps c.run_network.ensures.state (wakes_asked (state_of c.args.self.now) (state_of c.run_network.new.self) (work_of c.args.self.now) (work_of c.run_network.new.self) c.args.question _)
+returns-in-Err g c = memory_answered g.O.Order.picks g.R.Rule.value_of c.args.self.now c.run_network.new.self
+    (command_of c.args.question) c.run_network.ensures.keeps c.run_network.ensures.state
+    (wakes_asked (state_of c.args.self.now) (state_of c.run_network.new.self) (work_of c.args.self.now)
+    (work_of c.run_network.new.self) c.args.question _)

@@ -2,7 +2,8 @@ use Rattle.std.proofs.Common.{◌≡◌, ◌∙◌, length, refl, sym, ap}
 use Rattle.prop_procedures.specs.Kept.{stored_of}
 use Rattle.prop_amb.specs.Moving.{declared, declare_refusal}
 use Rattle.prop_workbench.specs.Sessions.{state_of}
-use Rattle.prop_workbench.proofs.ChosenLemmas.{declared_fits, declared_under_way, declared_watched, only_memory, chosen_at_work, chosen_covers}
+use Rattle.prop_workbench.proofs.ChosenLemmas.{declared_fits, declared_under_way, declared_watched, only_memory}
+use Rattle.prop_workbench.proofs.ChosenLemmas.{chosen_at_work, chosen_covers}
 use Rattle.prop_workbench.proofs.StandingLemmas.{back_keeps, same_keeps}
 use Rattle.prop_numbers.specs.Sets.{set_of}
 use Rattle.prop_amb.specs.Search.{Stand}
@@ -14,13 +15,15 @@ use Rattle.prop_workbench.proofs.session.Session.choose_between.Goals as goal
 -- ---- there was no memory for the choice
 
 pub returns-in-Err-clause-keeps : goal.returns-in-Err-clause-keeps
-returns-in-Err-clause-keeps g c = same_keeps g.R.Rule.value_of c.args.self.now c.declare.new.self c.requires.sound c.in-Err.ensures.err
+returns-in-Err-clause-keeps g c = same_keeps g.R.Rule.value_of c.args.self.now c.declare.new.self c.requires.sound
+    c.in-Err.ensures.err
 
 pub returns-in-Err-clause-err : goal.returns-in-Err-clause-err
 returns-in-Err-clause-err g c =
     let s = c.args.self.now in
     only_memory (declare_refusal s.search c.args.choice.now (length c.args.infos.now)) c.in-Err.refusal
-    (declared_fits s.search (state_of s) c.args.choice.now (length c.args.infos.now) c.requires.sound.at_work.well_made refl c.requires.new c.requires.free c.requires.fits) c.in-Err.ensures.why
+    (declared_fits s.search (state_of s) c.args.choice.now (length c.args.infos.now) c.requires.sound.at_work.well_made
+    refl c.requires.new c.requires.free c.requires.fits) c.in-Err.ensures.why
 
 -- ---- the choice is made
 
@@ -28,13 +31,15 @@ pub state_sides-requires-clause-under_way : goal.state_sides-requires-clause-und
 state_sides-requires-clause-under_way g c =
     let s = c.args.self.now in
     let library = stored_of g.R.Rule.value_of s.network.library in
-    rw c.worldview.ensures.same (declared_under_way library s.search c.declare.new.self c.args.choice.now (length c.args.infos.now) s.network.cells s.agenda c.requires.sound.at_work c.in-Ok.ensures.ok)
+    rw c.worldview.ensures.same (declared_under_way library s.search c.declare.new.self c.args.choice.now
+    (length c.args.infos.now) s.network.cells s.agenda c.requires.sound.at_work c.in-Ok.ensures.ok)
 
 pub state_sides-requires-clause-watched : goal.state_sides-requires-clause-watched
 state_sides-requires-clause-watched g c =
     let s = c.args.self.now in
     let library = stored_of g.R.Rule.value_of s.network.library in
-    rw c.worldview.ensures.same (declared_watched library s.search c.declare.new.self c.args.choice.now (length c.args.infos.now) s.network.cells s.agenda c.requires.sound.at_work c.in-Ok.ensures.ok)
+    rw c.worldview.ensures.same (declared_watched library s.search c.declare.new.self c.args.choice.now
+    (length c.args.infos.now) s.network.cells s.agenda c.requires.sound.at_work c.in-Ok.ensures.ok)
 
 pub returns-in-Ok-state_sides-clause-keeps : goal.returns-in-Ok-state_sides-clause-keeps
 returns-in-Ok-state_sides-clause-keeps g c =
@@ -46,15 +51,22 @@ returns-in-Ok-state_sides-clause-keeps g c =
     record {
       library = c.state_sides.ensures.same;
       sound = record {
-        at_work = rw c.state_sides.ensures.same (chosen_at_work library s.search c.declare.new.self c.args.choice.now (length c.args.infos.now) c.args.cell c.in-Ok.choice c.args.infos.now s.network.cells c.state_sides.new.network.cells s.agenda c.state_sides.new.agenda sound.at_work
-            c.in-Ok.ensures.ok c.in-Ok.ensures.choice.0 refl c.worldview.ensures.stand c.in-Ok.ensures.search rest (rw (c.state_sides.ensures.same, c.worldview.ensures.same) at c.state_sides.ensures.under_way) c.state_sides.ensures.room (rw c.worldview.ensures.same at c.state_sides.ensures.watched) c.state_sides.ensures.cells);
+        at_work = rw c.state_sides.ensures.same
+            (chosen_at_work library s.search c.declare.new.self c.args.choice.now (length c.args.infos.now) c.args.cell
+            c.in-Ok.choice c.args.infos.now s.network.cells c.state_sides.new.network.cells s.agenda
+            c.state_sides.new.agenda sound.at_work
+            c.in-Ok.ensures.ok c.in-Ok.ensures.choice.0 refl c.worldview.ensures.stand c.in-Ok.ensures.search rest
+            (rw (c.state_sides.ensures.same, c.worldview.ensures.same) at c.state_sides.ensures.under_way)
+            c.state_sides.ensures.room (rw c.worldview.ensures.same at c.state_sides.ensures.watched)
+            c.state_sides.ensures.cells);
         sized = rw kinds sound.sized;
         locals = sound.locals;
         named = rw kinds sound.named;
         defined = rw c.state_sides.ensures.same sound.defined;
       };
       steps = refl;
-      covers = chosen_covers s.search c.declare.new.self c.in-Ok.choice c.in-Ok.ensures.choices (ap (λ t. t.listed) c.in-Ok.ensures.ok);
+      covers = chosen_covers s.search c.declare.new.self c.in-Ok.choice c.in-Ok.ensures.choices
+          (ap (λ t. t.listed) c.in-Ok.ensures.ok);
     }
 
 -- ---- there was no memory for its statements
@@ -62,8 +74,11 @@ returns-in-Ok-state_sides-clause-keeps g c =
 pub returns-in-Err-state_sides-clause-keeps : goal.returns-in-Err-state_sides-clause-keeps
 returns-in-Err-state_sides-clause-keeps g c =
     let s = c.args.self.now in
-    back_keeps g.R.Rule.value_of s (record s { network = c.state_sides.new.network; agenda = c.state_sides.new.agenda }) c.undeclare.new.self c.requires.sound
-    (c.undeclare.ensures.undoes s.search c.args.choice.now c.requires.sound.at_work.well_made (c.in-Ok.ensures.ok ∙ (λ i. declared s.search c.args.choice.now (sym c.in-Ok.ensures.choice.1 i)))) c.state_sides.ensures.same c.in-Err-state_sides.ensures.err_same c.in-Err-state_sides.ensures.err_line
+    back_keeps g.R.Rule.value_of s (record s { network = c.state_sides.new.network; agenda = c.state_sides.new.agenda })
+    c.undeclare.new.self c.requires.sound
+    (c.undeclare.ensures.undoes s.search c.args.choice.now c.requires.sound.at_work.well_made
+    (c.in-Ok.ensures.ok ∙ (λ i. declared s.search c.args.choice.now (sym c.in-Ok.ensures.choice.1 i))))
+    c.state_sides.ensures.same c.in-Err-state_sides.ensures.err_same c.in-Err-state_sides.ensures.err_line
 
 -- ---- what waits then
 
@@ -77,8 +92,11 @@ returns-in-Ok-state_sides-clause-stirred g c =
     let d = s.network.cells in
     let work = c.requires.sound.at_work in
     let made : new ≡ declared s.search c.args.choice.now (length c.args.infos.now) = c.in-Ok.ensures.ok in
-    let same = declared_beliefs (stored_of g.R.Rule.value_of s.network.library) s.search new c.args.choice.now (length c.args.infos.now) d work.under_way.kept work.known made in
-    let line = stirred_from (set_of s.search.worldview) (set_of new.worldview) (set_of new.worldview) d c.state_sides.new.network.cells s.agenda.line c.state_sides.new.agenda.line same (rw c.worldview.ensures.same at c.in-Ok-state_sides.ensures.stirred) in
+    let same = declared_beliefs (stored_of g.R.Rule.value_of s.network.library) s.search new c.args.choice.now
+    (length c.args.infos.now) d work.under_way.kept work.known made in
+    let line = stirred_from (set_of s.search.worldview) (set_of new.worldview) (set_of new.worldview) d
+    c.state_sides.new.network.cells s.agenda.line c.state_sides.new.agenda.line same
+    (rw c.worldview.ensures.same at c.in-Ok-state_sides.ensures.stirred) in
     record {
       list_is = ap (λ (t : Stand). t.list) made;
       level_is = ap (λ (t : Stand). t.level) made;
@@ -89,5 +107,10 @@ returns-in-Ok-state_sides-clause-stirred g c =
 pub returns-in-Err-state_sides-clause-stirred : goal.returns-in-Err-state_sides-clause-stirred
 returns-in-Err-state_sides-clause-stirred g c =
     let s = c.args.self.now in
-    let undone = c.undeclare.ensures.undoes s.search c.args.choice.now c.requires.sound.at_work.well_made (c.in-Ok.ensures.ok ∙ (λ i. declared s.search c.args.choice.now (sym c.in-Ok.ensures.choice.1 i))) in
-    λ i. record (work_of s) { search = undone i; cells = c.in-Err-state_sides.ensures.err_same i; line = (c.in-Err-state_sides.ensures.err_line i).line }
+    let undone = c.undeclare.ensures.undoes s.search c.args.choice.now c.requires.sound.at_work.well_made
+    (c.in-Ok.ensures.ok ∙ (λ i. declared s.search c.args.choice.now (sym c.in-Ok.ensures.choice.1 i))) in
+    λ i. record (work_of s) {
+      search = undone i;
+      cells = c.in-Err-state_sides.ensures.err_same i;
+      line = (c.in-Err-state_sides.ensures.err_line i).line;
+    }

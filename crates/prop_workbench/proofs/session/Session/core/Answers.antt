@@ -13,8 +13,10 @@ core_of-requires-clause-named g c = sym c.in-Some.ensures.number
 pub returns-in-None : goal.returns-in-None
 returns-in-None g c =
     let s = c.args.self.now in
-    refused_answered g.O.Order.picks g.R.Rule.value_of s (commands.Command.Core c.args.name.now) NoSuchCell c.requires.sound
-    (nowhere_core (stored_of g.R.Rule.value_of s.network.library) (state_of s) c.args.name.now (sym c.in-None.ensures.number))
+    refused_answered g.O.Order.picks g.R.Rule.value_of s (commands.Command.Core c.args.name.now) NoSuchCell
+    c.requires.sound
+    (nowhere_core (stored_of g.R.Rule.value_of s.network.library) (state_of s) c.args.name.now
+    (sym c.in-None.ensures.number))
 
 pub returns-in-Some : goal.returns-in-Some
 returns-in-Some g c = c.core_of.ensures

@@ -9,7 +9,10 @@ use Rattle.prop_workbench.proofs.SoundLemmas.{unchanged}
 use Rattle.prop_workbench.proofs.session.Session.core_reply.Goals as goal
 
 pub reduced-requires-clause-rest : goal.reduced-requires-clause-rest
-reduced-requires-clause-rest g c = record { full = c.requires.run.full c.in-Settled.is; settled = c.requires.run.settled c.in-Settled.is }
+reduced-requires-clause-rest g c = record {
+  full = c.requires.run.full c.in-Settled.is;
+  settled = c.requires.run.settled c.in-Settled.is;
+}
 
 pub reduced-requires-clause-within : goal.reduced-requires-clause-within
 reduced-requires-clause-within g c = c.requires.run.within
@@ -30,7 +33,8 @@ pub contradiction_reply-reply-requires : goal.contradiction_reply-reply-requires
 contradiction_reply-reply-requires g c =
     let s = c.args.self.now in
     let library = stored_of g.R.Rule.value_of s.network.library in
-    let ends : MayEnd library (state_of s) (Contradiction c.in-Contradiction.premises) = rw c.in-Contradiction.is at c.requires.run.ends in
+    let ends : MayEnd library (state_of s) (Contradiction c.in-Contradiction.premises) =
+    rw c.in-Contradiction.is at c.requires.run.ends in
     rw c.premises.ensures (believed_known s.search.premises c.in-Contradiction.premises ends.believes)
 
 pub returns-in-Settled-clause-keeps : goal.returns-in-Settled-clause-keeps
@@ -51,13 +55,17 @@ returns-in-Contradiction-clause-keeps g c = unchanged c.requires.sound
 pub returns-in-Contradiction-clause-says : goal.returns-in-Contradiction-clause-says
 returns-in-Contradiction-clause-says g c =
     let s = c.args.self.now in
-    rw c.in-Contradiction.is (may_contradict (stored_of g.R.Rule.value_of s.network.library) (state_of s) (commands.Command.Core c.args.name.now) c.in-Contradiction.premises _ c.args.steps c.contradiction_reply-reply.ensures.in_order (rw c.premises.ensures at c.contradiction_reply-reply.ensures.says))
+    rw c.in-Contradiction.is (may_contradict (stored_of g.R.Rule.value_of s.network.library) (state_of s)
+    (commands.Command.Core c.args.name.now) c.in-Contradiction.premises _ c.args.steps
+    c.contradiction_reply-reply.ensures.in_order
+    (rw c.premises.ensures at c.contradiction_reply-reply.ensures.says))
 
 pub returns-in-Contradiction-clause-within : goal.returns-in-Contradiction-clause-within
 returns-in-Contradiction-clause-within g c = c.requires.run.within
 
 pub returns-in-Contradiction-clause-tried : goal.returns-in-Contradiction-clause-tried
-returns-in-Contradiction-clause-tried g c = λ e. let f : ended.Contradiction c.in-Contradiction.premises ≡ ended.Settled = sym c.in-Contradiction.is ∙ e in cc
+returns-in-Contradiction-clause-tried g c =
+    λ e. let f : ended.Contradiction c.in-Contradiction.premises ≡ ended.Settled = sym c.in-Contradiction.is ∙ e in cc
 
 pub returns-in-Contradiction-clause-untried : goal.returns-in-Contradiction-clause-untried
 returns-in-Contradiction-clause-untried g c = λ other. (refl, refl)
@@ -68,7 +76,9 @@ returns-in-Unsettled-clause-keeps g c = unchanged c.requires.sound
 pub returns-in-Unsettled-clause-says : goal.returns-in-Unsettled-clause-says
 returns-in-Unsettled-clause-says g c =
     let s = c.args.self.now in
-    rw (c.requires.run.spent c.in-Unsettled.is, c.in-Unsettled.is) (why_so_far (stored_of g.R.Rule.value_of s.network.library) (state_of s) s.search.list c.args.name.now _ s.limit c.unsettled.ensures.says)
+    rw (c.requires.run.spent c.in-Unsettled.is, c.in-Unsettled.is)
+    (why_so_far (stored_of g.R.Rule.value_of s.network.library) (state_of s) s.search.list c.args.name.now _ s.limit
+    c.unsettled.ensures.says)
 
 pub returns-in-Unsettled-clause-within : goal.returns-in-Unsettled-clause-within
 returns-in-Unsettled-clause-within g c = c.requires.run.within
@@ -83,7 +93,8 @@ pub returns-in-Settled-clause-believed : goal.returns-in-Settled-clause-believed
 returns-in-Settled-clause-believed g c = λ e. let f : ended.Settled ≡ ended.Unsettled = sym c.in-Settled.is ∙ e in cc
 
 pub returns-in-Contradiction-clause-believed : goal.returns-in-Contradiction-clause-believed
-returns-in-Contradiction-clause-believed g c = λ e. let f : ended.Contradiction c.in-Contradiction.premises ≡ ended.Unsettled = sym c.in-Contradiction.is ∙ e in cc
+returns-in-Contradiction-clause-believed g c =
+    λ e. let f : ended.Contradiction c.in-Contradiction.premises ≡ ended.Unsettled = sym c.in-Contradiction.is ∙ e in cc
 
 pub returns-in-Unsettled-clause-believed : goal.returns-in-Unsettled-clause-believed
 returns-in-Unsettled-clause-believed g c = λ e. c.unsettled.ensures.believed

@@ -27,12 +27,17 @@ returns-clause-keeps g c =
 pub returns-clause-step : goal.returns-clause-step
 returns-clause-step g c =
     let s = c.args.self.now in
-    obeys_done (stored_of g.R.Rule.value_of s.network.library) (state_of s) _ (commands.Command.Define c.args.name.now (words c.args.params.now) (map step_of c.args.steps.now)) c.define.result (rw c.library.ensures at c.define.ensures.fits)
-    (on_ok_weaker c.define.result (λ e. record { answer_is = refl; new_is = λ i. record (state_of s) { definitions = e i }; no_steps = refl }) (rw c.library.ensures at c.define.ensures.ok)) (rw c.library.ensures at c.define.ensures.err)
+    obeys_done (stored_of g.R.Rule.value_of s.network.library) (state_of s) _
+    (commands.Command.Define c.args.name.now (words c.args.params.now) (map step_of c.args.steps.now))
+    c.define.result (rw c.library.ensures at c.define.ensures.fits)
+    (on_ok_weaker c.define.result (λ e.
+    record { answer_is = refl; new_is = λ i. record (state_of s) { definitions = e i }; no_steps = refl })
+    (rw c.library.ensures at c.define.ensures.ok)) (rw c.library.ensures at c.define.ensures.err)
     (on_err_weaker c.define.result (λ e i. record (state_of s) { definitions = e i }) c.define.ensures.err_same)
 
 pub returns-clause-wakes : goal.returns-clause-wakes
 returns-clause-wakes g c =
     let s = c.args.self.now in
     let new = record s { definitions = c.define.new.self } in
-    left_by s new (commands.Command.Define c.args.name.now (words c.args.params.now) (map step_of c.args.steps.now)) c.define.result (still_stirred (state_of s) (state_of new) (work_of s)) (λ e. refl)
+    left_by s new (commands.Command.Define c.args.name.now (words c.args.params.now) (map step_of c.args.steps.now))
+    c.define.result (still_stirred (state_of s) (state_of new) (work_of s)) (λ e. refl)

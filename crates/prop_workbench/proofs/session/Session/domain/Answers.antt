@@ -21,8 +21,14 @@ returns-clause-keeps g c =
       library = refl;
       sound = record {
         at_work = c.requires.sound.at_work;
-        sized = made_or_not (λ (w : Vocabulary). All (IsSized w) s.network.cells.kinds) s.words c.declare_domain.new.self made r c.declare_domain.ensures.ok c.declare_domain.ensures.err c.requires.sound.sized (sized_more s.words c.args.name.now (words c.args.elements.now) s.network.cells.kinds c.requires.sound.sized);
-        locals = made_or_not (λ (w : Vocabulary). AreLocalsOf (IsSized w) s.definitions) s.words c.declare_domain.new.self made r c.declare_domain.ensures.ok c.declare_domain.ensures.err c.requires.sound.locals (locals_more s.words c.args.name.now (words c.args.elements.now) s.definitions c.requires.sound.locals);
+        sized = made_or_not (λ (w : Vocabulary). All (IsSized w) s.network.cells.kinds) s.words
+            c.declare_domain.new.self made r c.declare_domain.ensures.ok c.declare_domain.ensures.err
+            c.requires.sound.sized (sized_more s.words c.args.name.now (words c.args.elements.now) s.network.cells.kinds
+            c.requires.sound.sized);
+        locals = made_or_not (λ (w : Vocabulary). AreLocalsOf (IsSized w) s.definitions) s.words
+            c.declare_domain.new.self made r c.declare_domain.ensures.ok c.declare_domain.ensures.err
+            c.requires.sound.locals (locals_more s.words c.args.name.now (words c.args.elements.now) s.definitions
+            c.requires.sound.locals);
         named = c.requires.sound.named;
         defined = c.requires.sound.defined;
       };
@@ -33,12 +39,17 @@ returns-clause-keeps g c =
 pub returns-clause-step : goal.returns-clause-step
 returns-clause-step g c =
     let s = c.args.self.now in
-    obeys_done (stored_of g.R.Rule.value_of s.network.library) (state_of s) _ (commands.Command.Domain c.args.name.now (words c.args.elements.now)) c.declare_domain.result c.declare_domain.ensures.allowed
-    (on_ok_weaker c.declare_domain.result (λ e. record { answer_is = refl; new_is = λ i. record (state_of s) { words = e i }; no_steps = refl }) c.declare_domain.ensures.ok) c.declare_domain.ensures.why
+    obeys_done (stored_of g.R.Rule.value_of s.network.library) (state_of s) _
+    (commands.Command.Domain c.args.name.now (words c.args.elements.now)) c.declare_domain.result
+    c.declare_domain.ensures.allowed
+    (on_ok_weaker c.declare_domain.result
+    (λ e. record { answer_is = refl; new_is = λ i. record (state_of s) { words = e i }; no_steps = refl })
+    c.declare_domain.ensures.ok) c.declare_domain.ensures.why
     (on_err_weaker c.declare_domain.result (λ e i. record (state_of s) { words = e i }) c.declare_domain.ensures.err)
 
 pub returns-clause-wakes : goal.returns-clause-wakes
 returns-clause-wakes g c =
     let s = c.args.self.now in
     let new = record s { words = c.declare_domain.new.self } in
-    left_by s new (commands.Command.Domain c.args.name.now (words c.args.elements.now)) c.declare_domain.result (still_stirred (state_of s) (state_of new) (work_of s)) (λ e. refl)
+    left_by s new (commands.Command.Domain c.args.name.now (words c.args.elements.now)) c.declare_domain.result
+    (still_stirred (state_of s) (state_of new) (work_of s)) (λ e. refl)

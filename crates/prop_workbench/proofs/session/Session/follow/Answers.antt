@@ -15,12 +15,15 @@ pub returns-in-Err-clause-read : goal.returns-in-Err-clause-read
 returns-in-Err-clause-read g c =
     let s = c.args.self.now in
     let library = stored_of g.R.Rule.value_of s.network.library in
-    let refused = follows_refused c.args.line.now c.in-Err.refusal c.in-Err.ensures.read (λ m. c.in-Err.ensures.memory (ap Err m)) in (
+    let refused = follows_refused c.args.line.now c.in-Err.refusal c.in-Err.ensures.read
+    (λ m. c.in-Err.ensures.memory (ap Err m)) in (
       refused.0,
       refused.1,
       record {
-        step = refused_followed library (shown_of s) (shown_of s) refused.0 (Refused c.in-Err.refusal) 0 (λ m covered. covered) (λ named. refused.2 library (naming (state_of s) named));
-        rests = refusal_rests g.O.Order.picks library (state_of s) (state_of s) (work_of s) (work_of s) refused.0 c.in-Err.refusal 0 (wakes_refused (state_of s) (state_of s) (work_of s) refused.0 c.in-Err.refusal);
+        step = refused_followed library (shown_of s) (shown_of s) refused.0 (Refused c.in-Err.refusal) 0
+            (λ m covered. covered) (λ named. refused.2 library (naming (state_of s) named));
+        rests = refusal_rests g.O.Order.picks library (state_of s) (state_of s) (work_of s) (work_of s) refused.0
+            c.in-Err.refusal 0 (wakes_refused (state_of s) (state_of s) (work_of s) refused.0 c.in-Err.refusal);
       },
     )
 
@@ -34,4 +37,8 @@ pub returns-in-Ok-clause-keeps : goal.returns-in-Ok-clause-keeps
 returns-in-Ok-clause-keeps g c = c.carry_out.ensures.keeps
 
 pub returns-in-Ok-clause-read : goal.returns-in-Ok-clause-read
-returns-in-Ok-clause-read g c = (_, c.in-Ok.ensures.read, record { step = c.carry_out.ensures.step; rests = c.carry_out.ensures.rests })
+returns-in-Ok-clause-read g c = (
+  _,
+  c.in-Ok.ensures.read,
+  record { step = c.carry_out.ensures.step; rests = c.carry_out.ensures.rests },
+)

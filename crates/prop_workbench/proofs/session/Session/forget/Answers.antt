@@ -25,16 +25,21 @@ returns-clause-stays g c =
     let library = stored_of g.R.Rule.value_of s.network.library in
     let d = s.network.cells in
     let new = c.forget.new.self in
-    let made : new ≡ record (restarted s.search) { listed = lacking s.search.listed p; worldview = new.worldview } = c.forget.ensures.only in
+    let made : new ≡ record (restarted s.search) { listed = lacking s.search.listed p; worldview = new.worldview } =
+    c.forget.ensures.only in
     let sound = c.requires.sound in
     record {
       library = c.purge.ensures.same;
       sound = record {
         at_work = rw (c.purge.ensures.same, c.purge.ensures.forgotten)
-            (forgotten_at_work library s.search new p d s.agenda c.wake_all.new.agenda sound.at_work (ap (λ (t : Stand). t.premises) made) c.forget.ensures.stand
-            (c.forget.ensures.search (problem_of library d) (problem_of library (forgotten p d)) (forgets_data library p d))
-            (rw (c.purge.ensures.same, c.purge.ensures.forgotten) at (c.wake_all.ensures.under_way (set_of new.worldview))) c.wake_all.ensures.room
-            (rw c.purge.ensures.forgotten at (c.wake_all.ensures.watched (set_of new.worldview))) c.wake_all.ensures.cells);
+            (forgotten_at_work library s.search new p d s.agenda c.wake_all.new.agenda sound.at_work
+            (ap (λ (t : Stand). t.premises) made) c.forget.ensures.stand
+            (c.forget.ensures.search (problem_of library d) (problem_of library (forgotten p d))
+            (forgets_data library p d))
+            (rw (c.purge.ensures.same, c.purge.ensures.forgotten)
+            at (c.wake_all.ensures.under_way (set_of new.worldview))) c.wake_all.ensures.room
+            (rw c.purge.ensures.forgotten at (c.wake_all.ensures.watched (set_of new.worldview)))
+            c.wake_all.ensures.cells);
         sized = rw c.purge.ensures.forgotten sound.sized;
         locals = sound.locals;
         named = rw c.purge.ensures.forgotten sound.named;
@@ -49,13 +54,24 @@ returns-clause-step g c =
     let p = c.in_ok-premise.premise in
     let premises = s.search.premises in
     let new = c.forget.new.self in
-    let made : new ≡ record (restarted s.search) { listed = lacking s.search.listed p; worldview = new.worldview } = c.forget.ensures.only in
-    let found : premise_number premises c.args.name.now ≡ Some p = rw c.premises.ensures at c.in_ok-premise.ensures.found in
-    let free : is_choice premises c.args.name.now ≡ false = found_free (is_choice premises c.args.name.now) _ p refl (rw c.premises.ensures at c.in_ok-premise.ensures.choice) in
+    let made : new ≡ record (restarted s.search) { listed = lacking s.search.listed p; worldview = new.worldview } =
+    c.forget.ensures.only in
+    let found : premise_number premises c.args.name.now ≡ Some p =
+    rw c.premises.ensures at c.in_ok-premise.ensures.found in
+    let free : is_choice premises c.args.name.now ≡ false =
+    found_free (is_choice premises c.args.name.now) _ p refl
+    (rw c.premises.ensures at c.in_ok-premise.ensures.choice) in
     let same : new.premises ≡ premises = ap (λ (t : Stand). t.premises) made in
     let cells : c.purge.new.self.cells ≡ forgotten p s.network.cells = c.purge.ensures.forgotten in
-    forget_obeyed (stored_of g.R.Rule.value_of s.network.library) (shown_of s) _ c.args.name.now (Ok tt)
-    (p, found, free, c.requires.sound.at_work.well_made.numbered.users p (rw c.premises.ensures at c.in_ok-premise.ensures.user), λ i. state_from s.names s.words s.definitions (same i) (cells i) s.limit, ap (λ (t : Stand). t.listed) made)
+    forget_obeyed (stored_of g.R.Rule.value_of s.network.library) (shown_of s) _ c.args.name.now (Ok tt) (
+      p,
+      found,
+      free,
+      c.requires.sound.at_work.well_made.numbered.users p
+          (rw c.premises.ensures at c.in_ok-premise.ensures.user),
+      λ i. state_from s.names s.words s.definitions (same i) (cells i) s.limit,
+      ap (λ (t : Stand). t.listed) made,
+    )
     tt tt
 
 -- ---- it is not
@@ -64,8 +80,10 @@ pub returns-in_err-premise-clause-step : goal.returns-in_err-premise-clause-step
 returns-in_err-premise-clause-step g c =
     let s = c.args.self.now in
     let told = err_from_is_err_and c.from_residual.result c.from_residual.ensures.1 in
-    forget_refused (stored_of g.R.Rule.value_of s.network.library) (shown_of s) c.args.name.now c.from_residual.result c.in_err-premise.field-0.0 (told.1 ∙ ap Err told.2)
-    (inl (missing_from (state_of s) c.args.name.now c.find.result c.in_err-premise.field-0.0 c.in_err-premise.was c.find.ensures.why (rw c.premises.ensures at c.in_err-premise.ensures.found)
+    forget_refused (stored_of g.R.Rule.value_of s.network.library) (shown_of s) c.args.name.now c.from_residual.result
+    c.in_err-premise.field-0.0 (told.1 ∙ ap Err told.2)
+    (inl (missing_from (state_of s) c.args.name.now c.find.result c.in_err-premise.field-0.0 c.in_err-premise.was
+    c.find.ensures.why (rw c.premises.ensures at c.in_err-premise.ensures.found)
     (rw c.premises.ensures at c.find.ensures.choice) (rw c.premises.ensures at c.find.ensures.none)))
 
 -- ---- what waits then
@@ -74,7 +92,10 @@ pub returns-clause-wakes : goal.returns-clause-wakes
 returns-clause-wakes g c =
     let s = c.args.self.now in
     let new = c.forget.new.self in
-    let made : new ≡ record (restarted s.search) { listed = lacking s.search.listed c.in_ok-premise.premise; worldview = new.worldview } = c.forget.ensures.only in
+    let made : new ≡ record (restarted s.search) {
+      listed = lacking s.search.listed c.in_ok-premise.premise;
+      worldview = new.worldview;
+    } = c.forget.ensures.only in
     (ap (λ (t : Stand). t.list) made, ap (λ (t : Stand). t.level) made, refl)
 
 pub returns-in_err-premise-clause-wakes : goal.returns-in_err-premise-clause-wakes

@@ -23,9 +23,14 @@ returns-clause-keeps g c =
     let p = c.in_ok-premise.premise in
     let new = c.kick.new.self in
     let was : users_of s.search p ≡ true = sym c.in_ok-before.ensures.was ∙ ap is_some c.in-Some.is in
-    let made : new ≡ record (restarted s.search) { premises = with_belief_at s.search.premises p false; worldview = new.worldview } = c.in_ok-before.ensures.kicked was in
-    believing_keeps g.R.Rule.value_of s new c.alert_shifted.new.agenda p false c.requires.sound (ap (λ (t : Stand). t.premises) made) (ap (λ (t : Stand). t.listed) made) c.worldview.ensures.stand
-    (c.kick.ensures.search (problem_of (stored_of g.R.Rule.value_of s.network.library) s.network.cells)) (rw c.worldview.ensures.same at c.alert_shifted.ensures.under_way) c.alert_shifted.ensures.room
+    let made : new ≡ record (restarted s.search) {
+      premises = with_belief_at s.search.premises p false;
+      worldview = new.worldview;
+    } = c.in_ok-before.ensures.kicked was in
+    believing_keeps g.R.Rule.value_of s new c.alert_shifted.new.agenda p false c.requires.sound
+    (ap (λ (t : Stand). t.premises) made) (ap (λ (t : Stand). t.listed) made) c.worldview.ensures.stand
+    (c.kick.ensures.search (problem_of (stored_of g.R.Rule.value_of s.network.library) s.network.cells))
+    (rw c.worldview.ensures.same at c.alert_shifted.ensures.under_way) c.alert_shifted.ensures.room
     (rw c.worldview.ensures.same at c.alert_shifted.ensures.watched) c.alert_shifted.ensures.cells
 
 -- ---- it was not
@@ -43,13 +48,17 @@ returns-in_default-clause-step g c =
     let p = c.in_ok-premise.premise in
     let name = c.args.name.now in
     let was : users_of s.search p ≡ false = sym c.in_ok-before.ensures.was ∙ ap is_some c.in_default.is in
-    let free = found_free (is_choice s.search.premises name) _ p refl (rw c.premises.ensures at c.in_ok-premise.ensures.choice) in
-    same_done g.R.Rule.value_of s c.kick.new.self false name p (c.kick.ensures.out was).1 (rw c.premises.ensures at c.in_ok-premise.ensures.found) free (rw c.premises.ensures at c.in_ok-premise.ensures.user) was
+    let free = found_free (is_choice s.search.premises name) _ p refl
+    (rw c.premises.ensures at c.in_ok-premise.ensures.choice) in
+    same_done g.R.Rule.value_of s c.kick.new.self false name p (c.kick.ensures.out was).1
+    (rw c.premises.ensures at c.in_ok-premise.ensures.found) free
+    (rw c.premises.ensures at c.in_ok-premise.ensures.user) was
 
 -- ---- memory was refused
 
 pub returns-in_err-before-clause-keeps : goal.returns-in_err-before-clause-keeps
-returns-in_err-before-clause-keeps g c = same_keeps g.R.Rule.value_of c.args.self.now c.kick.new.self c.requires.sound c.in_err-before.ensures.err
+returns-in_err-before-clause-keeps g c =
+    same_keeps g.R.Rule.value_of c.args.self.now c.kick.new.self c.requires.sound c.in_err-before.ensures.err
 
 -- ---- what waits then
 
@@ -60,19 +69,35 @@ returns-clause-wakes g c =
     let d = s.network.cells in
     let new = c.kick.new.self in
     let was : users_of s.search p ≡ true = sym c.in_ok-before.ensures.was ∙ ap is_some c.in-Some.is in
-    let made : new ≡ record (restarted s.search) { premises = with_belief_at s.search.premises p false; worldview = new.worldview } = c.in_ok-before.ensures.kicked was in
-    let found : premise_number s.search.premises c.args.name.now ≡ Some p = rw c.premises.ensures at c.in_ok-premise.ensures.found in
+    let made : new ≡ record (restarted s.search) {
+      premises = with_belief_at s.search.premises p false;
+      worldview = new.worldview;
+    } = c.in_ok-before.ensures.kicked was in
+    let found : premise_number s.search.premises c.args.name.now ≡ Some p =
+    rw c.premises.ensures at c.in_ok-premise.ensures.found in
     let before : c.in-Some.before ≡ s.search.worldview = rw c.in-Some.is at c.in_ok-before.ensures.before in
-    let stirred = touched_stirred (set_of c.in-Some.before) (set_of c.worldview.result.now) d d s.agenda.line c.alert_shifted.new.agenda.line c.alert_shifted.ensures.shifted.behind in
-    let line = rw (before, c.worldview.ensures.same, believes_same s.search c.requires.sound.at_work.well_made, believes_same new c.worldview.ensures.stand) at stirred in
-    rw (found, was) record { list_is = ap (λ (t : Stand). t.list) made; level_is = ap (λ (t : Stand). t.level) made; order = refl; line = line }
+    let stirred = touched_stirred (set_of c.in-Some.before) (set_of c.worldview.result.now) d d s.agenda.line
+    c.alert_shifted.new.agenda.line c.alert_shifted.ensures.shifted.behind in
+    let line = rw (
+      before,
+      c.worldview.ensures.same,
+      believes_same s.search c.requires.sound.at_work.well_made,
+      believes_same new c.worldview.ensures.stand,
+    ) at stirred in
+    rw (found, was) record {
+      list_is = ap (λ (t : Stand). t.list) made;
+      level_is = ap (λ (t : Stand). t.level) made;
+      order = refl;
+      line = line;
+    }
 
 pub returns-in_default-clause-wakes : goal.returns-in_default-clause-wakes
 returns-in_default-clause-wakes g c =
     let s = c.args.self.now in
     let p = c.in_ok-premise.premise in
     let was : users_of s.search p ≡ false = sym c.in_ok-before.ensures.was ∙ ap is_some c.in_default.is in
-    let found : premise_number s.search.premises c.args.name.now ≡ Some p = rw c.premises.ensures at c.in_ok-premise.ensures.found in
+    let found : premise_number s.search.premises c.args.name.now ≡ Some p =
+    rw c.premises.ensures at c.in_ok-premise.ensures.found in
     rw (found, was, (c.kick.ensures.out was).1) (still_stirred (state_of s) (state_of s) (work_of s))
 
 pub returns-in_err-before-clause-wakes : goal.returns-in_err-before-clause-wakes

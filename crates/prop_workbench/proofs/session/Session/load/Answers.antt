@@ -18,10 +18,15 @@ returns-in-Refused-clause-err g c =
     let s = c.args.self.now in
     let library = stored_of g.R.Rule.value_of s.network.library in
     let e = c.command.ensures in
-    let fits = subst (λ it. WorkFits (stored_of g.R.Rule.value_of it) (standing_of c.command.new.self)) (e.same ∙ c.loop-line.invariant.same) (sound_fits g.R.Rule.value_of c.command.new.self e.sound) in
-    let works = works_by g.O.Order.picks library c.loop-line.self c.command.new.self c.as_bytes.result.now (answer_of c.command.result) (rw c.loop-line.invariant.same at e.step) fits e.lean (rw c.loop-line.invariant.same at e.earned) e.wakes in
-    stops_at (working g.O.Order.picks library) (standing_of s) (standing_of c.loop-line.self) (standing_of c.command.new.self) lines i c.as_bytes.result.now c.in-Refused.refusal
-    (omega (arith, l, length-map c.args.lines.now (λ (w : Bor (List ℕ)). w.now))) line c.loop-line.invariant.loaded (rw c.in-Refused.is at works)
+    let fits = subst (λ it. WorkFits (stored_of g.R.Rule.value_of it) (standing_of c.command.new.self))
+    (e.same ∙ c.loop-line.invariant.same) (sound_fits g.R.Rule.value_of c.command.new.self e.sound) in
+    let works = works_by g.O.Order.picks library c.loop-line.self c.command.new.self c.as_bytes.result.now
+    (answer_of c.command.result) (rw c.loop-line.invariant.same at e.step) fits e.lean
+    (rw c.loop-line.invariant.same at e.earned) e.wakes in
+    stops_at (working g.O.Order.picks library) (standing_of s) (standing_of c.loop-line.self)
+    (standing_of c.command.new.self) lines i c.as_bytes.result.now c.in-Refused.refusal
+    (omega (arith, l, length-map c.args.lines.now (λ (w : Bor (List ℕ)). w.now))) line c.loop-line.invariant.loaded
+    (rw c.in-Refused.is at works)
 
 pub loop-line-preserved : goal.loop-line-preserved
 loop-line-preserved g c =
@@ -32,11 +37,16 @@ loop-line-preserved g c =
     let s = c.args.self.now in
     let library = stored_of g.R.Rule.value_of s.network.library in
     let e = c.command.ensures in
-    let fits = subst (λ it. WorkFits (stored_of g.R.Rule.value_of it) (standing_of c.command.new.self)) (e.same ∙ c.loop-line.invariant.same) (sound_fits g.R.Rule.value_of c.command.new.self e.sound) in
-    let works = works_by g.O.Order.picks library c.loop-line.self c.command.new.self c.as_bytes.result.now (answer_of c.command.result) (rw c.loop-line.invariant.same at e.step) fits e.lean (rw c.loop-line.invariant.same at e.earned) e.wakes in
+    let fits = subst (λ it. WorkFits (stored_of g.R.Rule.value_of it) (standing_of c.command.new.self))
+    (e.same ∙ c.loop-line.invariant.same) (sound_fits g.R.Rule.value_of c.command.new.self e.sound) in
+    let works = works_by g.O.Order.picks library c.loop-line.self c.command.new.self c.as_bytes.result.now
+    (answer_of c.command.result) (rw c.loop-line.invariant.same at e.step) fits e.lean
+    (rw c.loop-line.invariant.same at e.earned) e.wakes in
     record {
       same = c.command.ensures.same ∙ c.loop-line.invariant.same;
       sound = c.command.ensures.sound;
-      loaded = loads_next (working g.O.Order.picks library) (standing_of s) (standing_of c.loop-line.self) (standing_of c.command.new.self) lines i c.as_bytes.result.now (answer_of c.command.result)
-          (omega (arith, l, length-map c.args.lines.now (λ (w : Bor (List ℕ)). w.now))) line c.loop-line.invariant.loaded (no_refusal c.command.result c.in_default.not-Refused) works;
+      loaded = loads_next (working g.O.Order.picks library) (standing_of s) (standing_of c.loop-line.self)
+          (standing_of c.command.new.self) lines i c.as_bytes.result.now (answer_of c.command.result)
+          (omega (arith, l, length-map c.args.lines.now (λ (w : Bor (List ℕ)). w.now))) line
+          c.loop-line.invariant.loaded (no_refusal c.command.result c.in_default.not-Refused) works;
     }

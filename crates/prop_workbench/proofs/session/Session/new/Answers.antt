@@ -16,7 +16,8 @@ returns-clause-sound g c = record {
       search = rw c.new-5.ensures (no_stand_search _);
       known = rw c.requires.empty (λ k d l. absurd (omega (arith, l)));
       roomy = rw c.requires.empty (omega arith);
-      watched = rw (c.new-2.ensures, c.requires.empty) (record { below = λ k d l. absurd (omega (arith, l)); holds = λ cell clash. cc });
+      watched = rw (c.new-2.ensures, c.requires.empty)
+          (record { below = λ k d l. absurd (omega (arith, l)); holds = λ cell clash. cc });
       cells = rw c.requires.empty (omega arith);
     };
     sized = rw c.requires.empty (λ k d l. absurd (omega (arith, l)));

@@ -19,7 +19,10 @@ nogoods_reply-requires g c =
     let choices = choices_of s.search.premises in
     let n = length s.search.premises in
     rw (c.nogoods.ensures, c.premises.ensures)
-    (All-weaker (λ (line : List ℕ). IsNogood problem choices (set_of line)) (λ (line : List ℕ). All (λ (p : ℕ). p < n) line) (λ line nogood. nogood_known problem choices n line c.requires.sound.at_work.known nogood) s.search.listed c.requires.sound.at_work.search.nogoods)
+    (All-weaker (λ (line : List ℕ). IsNogood problem choices (set_of line))
+    (λ (line : List ℕ). All (λ (p : ℕ). p < n) line)
+    (λ line nogood. nogood_known problem choices n line c.requires.sound.at_work.known nogood) s.search.listed
+    c.requires.sound.at_work.search.nogoods)
 
 pub returns : goal.returns
 returns g c =
@@ -27,6 +30,8 @@ returns g c =
     record {
       keeps = unchanged c.requires.sound;
       step = nogoods_obeyed (stored_of g.R.Rule.value_of s.network.library) (shown_of s) _
-          (rw c.nogoods.ensures at c.nogoods_reply.ensures.in_order) c.requires.sound.at_work.search.nogoods c.requires.sound.at_work.well_made.minimal (rw (c.nogoods.ensures, c.premises.ensures) at c.nogoods_reply.ensures.says);
+          (rw c.nogoods.ensures at c.nogoods_reply.ensures.in_order) c.requires.sound.at_work.search.nogoods
+          c.requires.sound.at_work.well_made.minimal
+          (rw (c.nogoods.ensures, c.premises.ensures) at c.nogoods_reply.ensures.says);
       rests = record { lean = tt; earned = tt; wakes = wakes_nogoods (state_of s) (work_of s) _ };
     }

@@ -28,25 +28,30 @@ pub reduce-ended-requires-clause-cells : goal.reduce-ended-requires-clause-cells
 reduce-ended-requires-clause-cells g c = c.requires.sound.at_work.cells
 
 pub reduce-ended-requires-clause-cell : goal.reduce-ended-requires-clause-cell
-reduce-ended-requires-clause-cell g c = cell_there c.args.self.now c.args.name.now c.args.cell c.requires.sound c.requires.named
+reduce-ended-requires-clause-cell g c =
+    cell_there c.args.self.now c.args.name.now c.args.cell c.requires.sound c.requires.named
 
 pub reduce-ended-requires-clause-settled : goal.reduce-ended-requires-clause-settled
 reduce-ended-requires-clause-settled g c = rw c.worldview.ensures.same c.requires.rest.settled
 
 pub core_text-requires-clause-cell : goal.core_text-requires-clause-cell
-core_text-requires-clause-cell g c = rw c.reduce-ended.ensures.rest (cell_there c.args.self.now c.args.name.now c.args.cell c.requires.sound c.requires.named)
+core_text-requires-clause-cell g c =
+    rw c.reduce-ended.ensures.rest (cell_there c.args.self.now c.args.name.now c.args.cell c.requires.sound
+    c.requires.named)
 
 pub core_text-requires-clause-known : goal.core_text-requires-clause-known
 core_text-requires-clause-known g c =
     let s = c.args.self.now in
-    core_known (problem_of (stored_of g.R.Rule.value_of s.network.library) s.network.cells) (length s.search.premises) _ c.args.cell _ c.in-Ok.core c.requires.sound.at_work.known c.in-Ok.ensures.explains
+    core_known (problem_of (stored_of g.R.Rule.value_of s.network.library) s.network.cells) (length s.search.premises) _
+    c.args.cell _ c.in-Ok.core c.requires.sound.at_work.known c.in-Ok.ensures.explains
 
 pub returns-in-Ok-clause-keeps : goal.returns-in-Ok-clause-keeps
 returns-in-Ok-clause-keeps g c =
     let s = c.args.self.now in
     let e = c.reduce-ended.ensures in
     let t = c.reduce-ended.new in
-    rested_keeps g.R.Rule.value_of s (record s { network = t.network; agenda = t.agenda; order = t.order }) c.requires.sound e.same e.rest e.under_way e.watched e.room e.cells
+    rested_keeps g.R.Rule.value_of s (record s { network = t.network; agenda = t.agenda; order = t.order })
+    c.requires.sound e.same e.rest e.under_way e.watched e.room e.cells
 
 pub returns-in-Ok-clause-state : goal.returns-in-Ok-clause-state
 returns-in-Ok-clause-state g c =
@@ -63,13 +68,22 @@ returns-in-Ok-clause-says g c =
     let same = c.worldview.ensures.same ∙ refl in
     let believed = believes_whole s.search c.requires.sound.at_work.well_made c.requires.rest.full in
     let rest = subst (λ (b : Members). IsSettled library b s.network.cells) believed c.requires.rest.settled in
-    let state : state_of (record s { network = c.reduce-ended.new.network }) ≡ state_of s = ap (λ (d : Data). state_from s.names s.words s.definitions s.search.premises d s.limit) c.reduce-ended.ensures.rest in
-    may_core library (state_of s) s.search.list name c.args.cell core answer (c.args.steps + c.in-Ok.tries) c.requires.named
-    (settled_core library s.names s.words s.definitions s.search.premises s.network.cells s.limit s.search.list (set_of s.search.worldview) c.args.cell core c.requires.sound.at_work.under_way.kept believed rest (rw c.worldview.ensures.same at c.in-Ok.ensures.explains))
+    let state : state_of (record s { network = c.reduce-ended.new.network }) ≡ state_of s =
+    ap (λ (d : Data). state_from s.names s.words s.definitions s.search.premises d s.limit)
+    c.reduce-ended.ensures.rest in
+    may_core library (state_of s) s.search.list name c.args.cell core answer (c.args.steps + c.in-Ok.tries)
+    c.requires.named
+    (settled_core library s.names s.words s.definitions s.search.premises s.network.cells s.limit s.search.list
+    (set_of s.search.worldview) c.args.cell core c.requires.sound.at_work.under_way.kept believed rest
+    (rw c.worldview.ensures.same at c.in-Ok.ensures.explains))
     c.in-Ok.ensures.least (used_up core c.args.steps c.in-Ok.tries s.limit c.requires.within c.in-Ok.ensures.spent)
-    (too_few library (state_of s) (set_of c.worldview.result.now) c.args.cell core c.args.steps c.requires.sound.at_work.known c.requires.within c.requires.few c.in-Ok.ensures.earned)
-    (subst (λ (t : State). IfLeast core (λ v ps. SaysBecause t c.args.cell name [] v ps answer)) state c.core_text.ensures.least)
-    (subst (λ (t : State). IfNotReduced core (λ v ps. SaysBecause t c.args.cell name (codes " not reduced") v ps answer)) state c.core_text.ensures.not_reduced)
+    (too_few library (state_of s) (set_of c.worldview.result.now) c.args.cell core c.args.steps
+    c.requires.sound.at_work.known c.requires.within c.requires.few c.in-Ok.ensures.earned)
+    (subst (λ (t : State). IfLeast core (λ v ps. SaysBecause t c.args.cell name [] v ps answer)) state
+    c.core_text.ensures.least)
+    (subst (λ (t : State). IfNotReduced core
+    (λ v ps. SaysBecause t c.args.cell name (codes " not reduced") v ps answer)) state
+    c.core_text.ensures.not_reduced)
 
 pub returns-in-Ok-clause-within : goal.returns-in-Ok-clause-within
 returns-in-Ok-clause-within g c = omega (arith, c.in-Ok.ensures.steps, c.requires.within)
@@ -80,14 +94,24 @@ returns-in-Ok-clause-tried g c =
     let e = c.in-Ok.ensures in
     let believed = believes_whole s.search c.requires.sound.at_work.well_made c.requires.rest.full in
     let tries = rw (c.worldview.ensures.same, believed) at e.tries.1 in
-    λ text is. (c.in-Ok.tries, refl, record { search = refl; line = e.tries.0; tries = tries; all_wait = c.reduce-ended.ensures.all })
+    λ text is. (
+      c.in-Ok.tries,
+      refl,
+      record {
+        search = refl;
+        line = e.tries.0;
+        tries = tries;
+        all_wait = c.reduce-ended.ensures.all;
+      },
+    )
 
 pub returns-in-Err-clause-keeps : goal.returns-in-Err-clause-keeps
 returns-in-Err-clause-keeps g c =
     let s = c.args.self.now in
     let e = c.reduce-ended.ensures in
     let t = c.reduce-ended.new in
-    rested_keeps g.R.Rule.value_of s (record s { network = t.network; agenda = t.agenda; order = t.order }) c.requires.sound e.same e.rest e.under_way e.watched e.room e.cells
+    rested_keeps g.R.Rule.value_of s (record s { network = t.network; agenda = t.agenda; order = t.order })
+    c.requires.sound e.same e.rest e.under_way e.watched e.room e.cells
 
 pub returns-in-Err-clause-state : goal.returns-in-Err-clause-state
 returns-in-Err-clause-state g c =

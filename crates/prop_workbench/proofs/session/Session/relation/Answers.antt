@@ -21,8 +21,16 @@ returns-clause-keeps g c =
       library = refl;
       sound = record {
         at_work = c.requires.sound.at_work;
-        sized = made_or_not (λ (w : Vocabulary). All (IsSized w) s.network.cells.kinds) s.words c.declare_relation.new.self made r c.declare_relation.ensures.ok c.declare_relation.ensures.err c.requires.sound.sized (sized_same s.words (with_relation s.words c.args.name.now c.args.from.now c.args.to.now (pairs_of c.args.pairs.now)) s.network.cells.kinds refl c.requires.sound.sized);
-        locals = made_or_not (λ (w : Vocabulary). AreLocalsOf (IsSized w) s.definitions) s.words c.declare_relation.new.self made r c.declare_relation.ensures.ok c.declare_relation.ensures.err c.requires.sound.locals (locals_same s.words (with_relation s.words c.args.name.now c.args.from.now c.args.to.now (pairs_of c.args.pairs.now)) s.definitions refl c.requires.sound.locals);
+        sized = made_or_not (λ (w : Vocabulary). All (IsSized w) s.network.cells.kinds) s.words
+            c.declare_relation.new.self made r c.declare_relation.ensures.ok c.declare_relation.ensures.err
+            c.requires.sound.sized (sized_same s.words
+            (with_relation s.words c.args.name.now c.args.from.now c.args.to.now (pairs_of c.args.pairs.now))
+            s.network.cells.kinds refl c.requires.sound.sized);
+        locals = made_or_not (λ (w : Vocabulary). AreLocalsOf (IsSized w) s.definitions) s.words
+            c.declare_relation.new.self made r c.declare_relation.ensures.ok c.declare_relation.ensures.err
+            c.requires.sound.locals (locals_same s.words
+            (with_relation s.words c.args.name.now c.args.from.now c.args.to.now (pairs_of c.args.pairs.now))
+            s.definitions refl c.requires.sound.locals);
         named = c.requires.sound.named;
         defined = c.requires.sound.defined;
       };
@@ -33,12 +41,18 @@ returns-clause-keeps g c =
 pub returns-clause-step : goal.returns-clause-step
 returns-clause-step g c =
     let s = c.args.self.now in
-    obeys_done (stored_of g.R.Rule.value_of s.network.library) (state_of s) _ (commands.Command.Relation c.args.name.now c.args.from.now c.args.to.now (pairs_of c.args.pairs.now)) c.declare_relation.result c.declare_relation.ensures.allowed
-    (on_ok_weaker c.declare_relation.result (λ e. record { answer_is = refl; new_is = λ i. record (state_of s) { words = e i }; no_steps = refl }) c.declare_relation.ensures.ok) c.declare_relation.ensures.why
-    (on_err_weaker c.declare_relation.result (λ e i. record (state_of s) { words = e i }) c.declare_relation.ensures.err)
+    obeys_done (stored_of g.R.Rule.value_of s.network.library) (state_of s) _
+    (commands.Command.Relation c.args.name.now c.args.from.now c.args.to.now (pairs_of c.args.pairs.now))
+    c.declare_relation.result c.declare_relation.ensures.allowed
+    (on_ok_weaker c.declare_relation.result
+    (λ e. record { answer_is = refl; new_is = λ i. record (state_of s) { words = e i }; no_steps = refl })
+    c.declare_relation.ensures.ok) c.declare_relation.ensures.why
+    (on_err_weaker c.declare_relation.result (λ e i. record (state_of s) { words = e i })
+    c.declare_relation.ensures.err)
 
 pub returns-clause-wakes : goal.returns-clause-wakes
 returns-clause-wakes g c =
     let s = c.args.self.now in
     let new = record s { words = c.declare_relation.new.self } in
-    left_by s new (commands.Command.Relation c.args.name.now c.args.from.now c.args.to.now (pairs_of c.args.pairs.now)) c.declare_relation.result (still_stirred (state_of s) (state_of new) (work_of s)) (λ e. refl)
+    left_by s new (commands.Command.Relation c.args.name.now c.args.from.now c.args.to.now (pairs_of c.args.pairs.now))
+    c.declare_relation.result (still_stirred (state_of s) (state_of new) (work_of s)) (λ e. refl)

@@ -18,7 +18,8 @@ returns-clause-keeps g c =
         at_work = record {
           under_way = rw e.same e.under_way;
           well_made = e.stand;
-          search = rw (same_problem library library' s.network.cells t.network.cells (λ i. stored_of g.R.Rule.value_of (e.same i)) rest) e.search;
+          search = rw (same_problem library library' s.network.cells t.network.cells
+              (λ i. stored_of g.R.Rule.value_of (e.same i)) rest) e.search;
           known = rw (e.premises, rest) c.requires.sound.at_work.known;
           roomy = rw (e.room, rest) c.requires.sound.at_work.roomy;
           watched = e.watched;
@@ -40,5 +41,7 @@ returns-clause-run g c =
     let t = c.settle.new in
     let library = stored_of g.R.Rule.value_of s.network.library in
     let library' = stored_of g.R.Rule.value_of t.network.library in
-    let problem = same_problem library library' s.network.cells t.network.cells (λ i. stored_of g.R.Rule.value_of (e.same i)) e.rest in
-    has_run g.R.Rule.value_of _ s.search.list _ c.settle.result (sym problem) (rw (← e.same) at e.under_way.kept) e.stand e.earlier e.full (rw (← e.same) at e.settled) e.first e.contradiction e.steps e.moves e.spent e.earned
+    let problem = same_problem library library' s.network.cells t.network.cells
+    (λ i. stored_of g.R.Rule.value_of (e.same i)) e.rest in
+    has_run g.R.Rule.value_of _ s.search.list _ c.settle.result (sym problem) (rw (← e.same) at e.under_way.kept)
+    e.stand e.earlier e.full (rw (← e.same) at e.settled) e.first e.contradiction e.steps e.moves e.spent e.earned

@@ -21,11 +21,15 @@ returns-clause-keeps g c =
     let library = stored_of g.R.Rule.value_of s.network.library in
     let statement : Statement = record { premise = c.args.premise; cell = c.args.cell; info = c.args.info } in
     let rest = c.in_ok-state.ensures.ok.rest in
-    let kinds : c.state.new.network.cells.kinds ≡ s.network.cells.kinds = stated_kinds s.network.cells c.state.new.network.cells statement rest in
+    let kinds : c.state.new.network.cells.kinds ≡ s.network.cells.kinds =
+    stated_kinds s.network.cells c.state.new.network.cells statement rest in
     record {
       library = c.state.ensures.same;
       sound = record {
-        at_work = rw c.state.ensures.same (stated_at_work library s.search s.network.cells c.state.new.network.cells s.agenda c.state.new.agenda statement sound.at_work rest c.requires.known (rw (c.worldview.ensures.same, c.state.ensures.same) at c.state.ensures.under_way) c.state.ensures.room (rw c.worldview.ensures.same at c.state.ensures.watched) c.state.ensures.cells);
+        at_work = rw c.state.ensures.same (stated_at_work library s.search s.network.cells c.state.new.network.cells
+            s.agenda c.state.new.agenda statement sound.at_work rest c.requires.known
+            (rw (c.worldview.ensures.same, c.state.ensures.same) at c.state.ensures.under_way) c.state.ensures.room
+            (rw c.worldview.ensures.same at c.state.ensures.watched) c.state.ensures.cells);
         sized = rw kinds sound.sized;
         locals = sound.locals;
         named = rw kinds sound.named;
@@ -42,7 +46,13 @@ returns-in_err-state-clause-keeps g c =
     let line = c.in_err-state.ensures.err_line in
     record {
       library = c.state.ensures.same;
-      sound = record { at_work = rw (c.state.ensures.same, cells, line) sound.at_work; sized = rw cells sound.sized; locals = sound.locals; named = rw cells sound.named; defined = rw c.state.ensures.same sound.defined };
+      sound = record {
+        at_work = rw (c.state.ensures.same, cells, line) sound.at_work;
+        sized = rw cells sound.sized;
+        locals = sound.locals;
+        named = rw cells sound.named;
+        defined = rw c.state.ensures.same sound.defined;
+      };
       steps = refl;
       covers = λ m h. h;
     }
@@ -50,10 +60,19 @@ returns-in_err-state-clause-keeps g c =
 pub returns-clause-stirred : goal.returns-clause-stirred
 returns-clause-stirred g c =
     let s = c.args.self.now in
-    record { list_is = refl; level_is = refl; order = refl; line = rw (c.worldview.ensures.same, believes_same s.search c.requires.sound.at_work.well_made) at c.in_ok-state.ensures.stirred }
+    record {
+      list_is = refl;
+      level_is = refl;
+      order = refl;
+      line = rw (c.worldview.ensures.same, believes_same s.search c.requires.sound.at_work.well_made)
+          at c.in_ok-state.ensures.stirred;
+    }
 
 pub returns-in_err-state-clause-stirred : goal.returns-in_err-state-clause-stirred
 returns-in_err-state-clause-stirred g c =
     let s = c.args.self.now in
     let told = err_from_is_err_and c.from_residual.result c.from_residual.ensures.1 in
-    rw (told.1 ∙ ap Err told.2) (λ i. record (work_of s) { cells = c.in_err-state.ensures.err_same i; line = (c.in_err-state.ensures.err_line i).line })
+    rw (told.1 ∙ ap Err told.2) (λ i. record (work_of s) {
+      cells = c.in_err-state.ensures.err_same i;
+      line = (c.in_err-state.ensures.err_line i).line;
+    })
