@@ -167,6 +167,14 @@ impl Search {
     {
         self.store.blocks_from(&self.worldview, self.from)
     }
+
+    /// No noted nogood is believed, so none is looked up before something more is.
+    pub(crate) fn pass_over(&mut self)
+        requires { has_part self.old.listed (set_of self.old.worldview) ≡ false }
+        ensures { self.new ≡ self.old }
+    {
+        self.from = Premise::MAX;
+    }
 }
 
 /// The last premise of a set, or 0 where it has none.

@@ -239,6 +239,7 @@ fn go_on(search: &mut Search) -> Result<bool, AllocError>
     ensures moves { IfOk result (λ moved. IsTrue moved → Passes search.old 1 search.new) }
 {
     let Some(blocking) = search.blocked() else {
+        search.pass_over();
         return Ok(false);
     };
     let believed = blocking.copy()?;

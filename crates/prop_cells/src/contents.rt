@@ -1,9 +1,10 @@
 //! The entries of cells, in one worldview.
-ghost use Rattle.std.specs.Prelude.{◌≡◌, ◌≢◌, ◌<◌, ◌≤◌, ◌⊎◌, ℕ, List, [], length, filter, not, map};
+ghost use Rattle.std.specs.Prelude.{◌≡◌, ◌↔◌, ◌≢◌, ◌<◌, ◌≤◌, ◌⊎◌, ℕ, List, [], length, filter, not};
+ghost use Rattle.std.specs.Prelude.{map};
 ghost use Rattle.std.specs.Prelude.{All, Contains, IsTrue, IsOk, IfOk, IfSome, OnOk, OnErr, None};
 ghost use Rattle.std.specs.Prelude.{false};
 ghost use Rattle.std.specs.List.{list_any};
-ghost use Rattle.prop_lattice.specs.Order.{merge_of, is_contradiction};
+ghost use Rattle.prop_lattice.specs.Order.{Below, merge_of, is_contradiction};
 ghost use Rattle.prop_tms.specs.Beliefs.{AreNeeded};
 ghost use Rattle.prop_numbers.specs.Sets.{set_of, union, is_within, is_at_most_one_of, IsSame};
 ghost use Rattle.prop_cells.specs.Data.{beliefs, support_of, IsSupport, IsLeanAt, AddsAt, TrimsAt};
@@ -22,6 +23,19 @@ pub(crate) fn belief_of(contents: &[Tms<Info>], cell: usize, worldview: &Worldvi
     ensures { result ≡ beliefs (set_of worldview.now) contents.now cell }
 {
     contents[cell].believed_value(worldview)
+}
+
+/// Whether what is believed of a cell says as much as this. It takes no memory.
+pub(crate) fn is_known(
+    contents: &[Tms<Info>],
+    cell: usize,
+    value: Info,
+    worldview: &Worldview,
+) -> bool
+    requires { cell < length contents.now }
+    ensures { IsTrue result ↔ Below value (beliefs (set_of worldview.now) contents.now cell) }
+{
+    contents[cell].says(value, worldview)
 }
 
 /// Whether what is believed of a cell differs between two worldviews. It takes no memory.

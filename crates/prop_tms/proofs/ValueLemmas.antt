@@ -5,6 +5,7 @@ use Rattle.std.proofs.Common.{slice_get, Some, refl, sym, ap, subst, arith, inl,
 use Rattle.std.proofs.Common.{append_assoc, append-nil}
 use Rattle.std.specs.List.{list_any, remove}
 use Rattle.std.proofs.lemmas.List.{get_or_default, length-append, length-set, map-append, take_more, take-set}
+use Rattle.std.proofs.lemmas.List.{take-append-drop}
 use Rattle.std.proofs.lemmas.Grind.{get_or-set_at}
 use Rattle.std.proofs.lemmas.List.Elements.{All-nil, All-cons, All-head, All-tail, filter-append}
 use Rattle.std.proofs.lemmas.List.Kept.{AllPairs-cons}
@@ -303,6 +304,17 @@ module _ {V : Type 0} {below : V → V → Type 0} {bottom top : V} {join : V �
 
   abbrev said_of : (List ℕ → Bool) → List (Valued V) → V
   said_of u xs = merge_of_all bottom join (filter (λ e. u e.support) (entries_of xs))
+
+  -- what the first ones say, all say
+  pub said_first : (u : List ℕ → Bool) (xs : List (Valued V)) (i : ℕ) → below (said_of u (take i xs)) (said_of u xs)
+  said_first u xs i =
+      subst (λ v. below (said_of u (take i xs)) v) (sym whole)
+      (first_below laws (said_of u (take i xs)) (said_of u (drop i xs)))
+    where
+      whole : said_of u xs ≡ join (said_of u (take i xs)) (said_of u (drop i xs))
+      whole = ap (said_of u) (sym (take-append-drop i xs))
+          ∙ ap (λ es. merge_of_all bottom join (filter (λ e. u e.support) es)) (entries_of-append (take i xs) (drop i xs))
+          ∙ said_both u (entries_of (take i xs)) (entries_of (drop i xs))
 
   -- with a value that is said already they say no more
   pub said_passed : (u : List ℕ → Bool) (xs : List (Valued V)) (i : ℕ) (x : Valued V) (first : V) → i < length xs

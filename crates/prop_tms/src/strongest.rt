@@ -1,5 +1,6 @@
 //! What the believed entries say together, and few premises that are enough for it.
-ghost use Rattle.std.specs.Prelude.{◌≡◌, ◌≤◌, ◌+◌, ℕ, [], length, map, take, option_to_list, All};
+ghost use Rattle.std.specs.Prelude.{◌≡◌, ◌↔◌, ◌≤◌, ◌+◌, ℕ, [], length, map, take, option_to_list};
+ghost use Rattle.std.specs.Prelude.{All};
 ghost use Rattle.std.specs.Prelude.{Contains, IsTrue, IsOk, IfOk, IfSome, IsSomeAnd};
 ghost use Rattle.std.specs.List.{list_any};
 ghost use Rattle.prop_numbers.specs.Sets.{Members, set_of, is_within};
@@ -53,6 +54,24 @@ pub(crate) fn belief<V: Partial>(values: &[Valued<V>], worldview: &Worldview) ->
         V::nothing()
     };
     said_with(earlier, worldview, first)
+}
+
+/// Whether the believed entries say together as much as the value. No entry is looked at past those
+/// that do.
+pub(crate) fn says<V: Partial>(values: &[Valued<V>], worldview: &Worldview, value: V) -> bool
+    ensures { IsTrue result ↔ V.below value
+        (belief_of V.bottom V.join (set_of worldview.now) (entries_of values.now)) }
+{
+    let mut merged = V::nothing();
+    for valued in values {
+        if merged.implies(value) {
+            return true;
+        }
+        if !merged.implies(valued.value) && believes_any(worldview, &valued.supports) {
+            merged = merged.merge(valued.value);
+        }
+    }
+    merged.implies(value)
 }
 
 /// What the entries of the row say together: what those before the last say, with what the last

@@ -14,7 +14,7 @@ ghost use Rattle.prop_tms.specs.declared.supported.Supported.{Supported};
 
 use crate::purging::drop_resting;
 use crate::shifting::shifted;
-use crate::strongest::{belief, sole_support, strongest};
+use crate::strongest::{belief, says, sole_support, strongest};
 use crate::supported::Supported;
 use crate::trimming::{count_derived, trim};
 use crate::values::{
@@ -110,6 +110,14 @@ impl<V: Partial> Tms<V> {
         ensures least { IsLeastBelief V.below (set_of worldview.now) self.now result }
     {
         belief(&self.values, worldview)
+    }
+
+    /// Whether the believed entries say together as much as the value. It takes no memory.
+    pub fn says(&self, value: V, worldview: &Worldview) -> bool
+        ensures { IsTrue result ↔ V.below value
+            (belief_of V.bottom V.join (set_of worldview.now) self.now) }
+    {
+        says(&self.values, worldview, value)
     }
 
     /// Whether what the believed entries say together differs between two worldviews. It takes no

@@ -267,13 +267,13 @@ impl<R: Rule + Drop, O: Order + Drop> Session<R, O> {
         requires few { length infos.now ≤ 8 }
         ensures keeps { Keeps R.value_of self.old self.new }
         ensures words { self.new.words ≡ self.old.words }
-        ensures ok { OnOk result (state_of
-            self.new ≡ record (state_of self.old) {
+        ensures ok { OnOk result (state_of self.new
+            ≡ record (state_of self.old) {
               premises = with_choice self.old.search.premises
                   choice.now (length infos.now);
               statements =
-                  self.old.network.cells.statements ++ sides_at (length self.old.search.premises) cell
-                  infos.now;
+                  self.old.network.cells.statements
+                  ++ sides_at (length self.old.search.premises) cell infos.now;
             }) }
         ensures err { IfErr result (λ e. e ≡ Memory) }
         ensures err_same { OnErr result (state_of self.new ≡ state_of self.old) }

@@ -238,8 +238,8 @@ impl<R: Rule + Drop, O: Order + Drop> Session<R, O> {
         ensures keeps { Keeps R.value_of self.old self.new }
         ensures words { self.new.words ≡ self.old.words }
         ensures fits { OnOk result (state_refusal self.old.network.cells cell info ≡ None) }
-        ensures ok { OnOk result (state_of
-            self.new ≡ record (state_of
+        ensures ok { OnOk result (state_of self.new
+            ≡ record (state_of
             self.old) {
               statements = (state_of self.old).statements
                   ++ record { premise = premise; cell = cell; info = info } ∷ [];
@@ -270,14 +270,16 @@ impl<R: Rule + Drop, O: Order + Drop> Session<R, O> {
         ensures keeps { Keeps R.value_of self.old self.new }
         ensures words { self.new.words ≡ self.old.words }
         ensures fits { OnOk result (telling_limit (state_of self.old) name.now ≡ None) }
-        ensures ok { OnOk result (state_of
-            self.new ≡ record (state_of self.old) {
-              premises = with_name
-                  (state_of self.old).premises name.now;
+        ensures ok { OnOk result (state_of self.new
+            ≡ record (state_of self.old) {
+              premises = with_name (state_of self.old).premises name.now;
               statements =
                   (state_of self.old).statements
-                  ++ record { premise = Some (length self.old.search.premises); cell = cell; info = info }
-                  ∷ [];
+                  ++ record {
+                    premise = Some (length self.old.search.premises);
+                    cell = cell;
+                    info = info;
+                  } ∷ [];
             }) }
         ensures err { IfErr result (λ e. (telling_limit (state_of self.old) name.now ≡ Some e)
             ⊎ (e ≡ Memory)) }

@@ -33,19 +33,20 @@ sum_sound a b x y z p q r e = clip_holds (a.lo +ℤ b.lo) (a.hi +ℤ b.hi) z (om
 
 pub sum_narrowest : (a b : spans.Span) → AreEnds (a.lo +ℤ b.lo) (a.hi +ℤ b.hi)
     → IsNarrowest (BelongsToTwo IsSum a b) (sum_of a b)
-sum_narrowest a b e = clip_narrowest (BelongsToTwo IsSum a b) (a.lo +ℤ b.lo) (a.hi +ℤ b.hi) e.0 e.2 (
-  a.lo,
-  b.lo,
-  (omega (arith, ints), a.ordered),
-  (omega (arith, ints), b.ordered),
-  omega (arith, ints),
-) (
-  a.hi,
-  b.hi,
-  (a.ordered, omega (arith, ints)),
-  (b.ordered, omega (arith, ints)),
-  omega (arith, ints),
-) (λ v p. between v p.0 p.1 p.2 p.3 p.4)
+sum_narrowest a b e =
+    clip_narrowest (BelongsToTwo IsSum a b) (a.lo +ℤ b.lo) (a.hi +ℤ b.hi) e.0 e.2 (
+      a.lo,
+      b.lo,
+      (omega (arith, ints), a.ordered),
+      (omega (arith, ints), b.ordered),
+      omega (arith, ints),
+    ) (
+      a.hi,
+      b.hi,
+      (a.ordered, omega (arith, ints)),
+      (b.ordered, omega (arith, ints)),
+      omega (arith, ints),
+    ) (λ v p. between v p.0 p.1 p.2 p.3 p.4)
   where
     between : (v x y : ℤ) → Holds (Span a) (Number x) → Holds (Span b) (Number y) → v ≡ x +ℤ y
         → ((a.lo +ℤ b.lo) ≤ℤ v) × (v ≤ℤ (a.hi +ℤ b.hi))
