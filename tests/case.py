@@ -27,6 +27,18 @@ def first_difference(got, wanted):
 
 
 @dataclass
+class Check:
+    """Something that is looked at: a function of the program's path says what is wrong with it, or None."""
+
+    name: str
+    look: Callable[[str], Optional[str]]
+
+    def wrong(self, program: str) -> Optional[str]:
+        """What is wrong with it, or None."""
+        return self.look(os.path.abspath(program))
+
+
+@dataclass
 class Case:
     """A session, or a function that makes it, with its wanted output: bytes, or a function that says what is wrong with an output."""
 

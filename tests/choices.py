@@ -11,7 +11,7 @@ import plain
 from drawn import Exactly
 from formulas import ELEMENTS, NO, YES, text_of
 
-SESSIONS, NAMES = 1000, [f"k{i}" for i in range(4)]
+SESSIONS = 1000
 
 # Where choices and premises meet, and what leads from one of these to another: in every second session they are few, so that much is ruled out.
 CELLS = [*plain.SPANS[:2], *plain.TRUTHS, *plain.SETS, *plain.SETS]
@@ -82,6 +82,7 @@ class Draw(plain.Draw):
     QUESTIONS = ["ask", "why", "core", "settle", "worldview", "worldview"]
     PROCEDURES = [*sorted(plain.PROCEDURES), *["imager by differ", "inverter", "comparer"] * 3]
     CELLS, LINES = CELLS, 50
+    NAMES, SIDES = [f"k{i}" for i in range(4)], [2, 2, 3, 3, 4]
 
     def __init__(self, number, options):
         if number % 2:
@@ -104,9 +105,9 @@ class Draw(plain.Draw):
 
     def choose(self):
         """A new choice while there are names for one."""
-        name, cell = self.chance.choice(NAMES), self.chance.choice(self.CELLS)
+        name, cell = self.chance.choice(self.NAMES), self.chance.choice(self.CELLS)
         if not self.told.is_choice(name):
-            infos = [self.info(cell, [1, 1, 1, 2]) for _ in range(self.chance.choice([2, 2, 3, 3, 4]))]
+            infos = [self.info(cell, [1, 1, 1, 2]) for _ in range(self.chance.choice(self.SIDES))]
             self.act("choose", name, cell, infos)
 
     def info(self, cell, sizes):
@@ -120,7 +121,7 @@ class Draw(plain.Draw):
 
     def refused(self):
         """A line that takes a choice's name for a premise's, or that takes a name twice."""
-        premise, choice = self.chance.choice(plain.PREMISES), self.chance.choice(NAMES)
+        premise, choice = self.chance.choice(plain.PREMISES), self.chance.choice(self.NAMES)
         act = self.chance.choice([("kick", choice), ("bring", choice), ("forget", choice), ("tell", choice, "t0", YES), ("choose", choice, "t0", [YES, NO])])
         if self.told.is_choice(choice):
             self.act(*act)
@@ -138,6 +139,16 @@ class Limited(Draw):
     QUESTIONS, LIMITS = ["ask", "ask", "why", "core", "settle", "worldview"], plain.Limited.LIMITS
 
 
+class Stepped(Draw):
+    """Draws lines over more choices of which every second asks, with hardly a step for each: a run ends below each choice, and goes on after what
+    takes a belief away or adds one."""
+
+    COMMANDS = [*["tell"] * 2, *["kick", "bring"] * 2, "forget", *["attach"] * 4, *["choose"] * 5, *["limit"] * 2, "nogoods", *["ask"] * 17]
+    QUESTIONS, LIMITS = Limited.QUESTIONS, [0, 1, 1, 1, 2, 3]
+    NAMES, SIDES, LINES = [f"k{i}" for i in range(6)], [2, 2, 2, 3], 80
+
+
 def cases():
     yield from drawn.drawn(Draw, "choices", SESSIONS)
     yield from drawn.drawn(Limited, "choices and limited", SESSIONS)
+    yield from drawn.drawn(Stepped, "choices and stepped", SESSIONS // 4)

@@ -13,14 +13,15 @@ import re
 import shutil
 import subprocess
 import tempfile
-from dataclasses import dataclass
 from functools import cache
 from typing import Callable, Iterator, Optional
 
 import documents
-from case import SECONDS
+from case import SECONDS, Check
 
 TOP = os.path.dirname(os.path.dirname(os.path.realpath(__file__)))
+# What the names of its cases begin with.
+PREFIX = "package: "
 # What each Debian machine has, and so no package has to name.
 ESSENTIAL = ["dash", "dpkg"]
 MERGED = ["bin", "lib", "lib64", "sbin"]
@@ -220,12 +221,14 @@ def examples_run(program: str) -> Optional[str]:
 
 
 def desk_runs(program: str) -> Optional[str]:
-    """propdesk in the root, where the Python package is there: it runs an example to its end."""
+    """propdesk in the root: it runs an example to its end, and says that the program isn't proved;
+    its shell has the help of the document."""
     root = installed(program)
-    if not os.path.exists(f"{TOP}/python/src/propbench/__main__.py"):
-        return "propdesk is there" if os.path.exists(f"{root}/usr/bin/propdesk") else None
     done = inside(root, "propdesk", "run", "/usr/share/doc/propbench/examples/first.prop")
-    if done.returncode or b"y" not in done.stdout:
+    if done.returncode or b"not known to be proved" not in done.stdout:
+        return f"status {done.returncode}: {done.stdout.decode()}{done.stderr.decode()}"
+    done = inside(root, "propdesk", "shell", sent=b":help choose\n")
+    if done.returncode or b"A list takes one side of each choice" not in done.stdout:
         return f"status {done.returncode}: {done.stdout.decode()}{done.stderr.decode()}"
     return None
 
@@ -259,11 +262,9 @@ def pages_are_clean(program: str) -> Optional[str]:
     for wanted in [*re.findall(r"--\w+", told), *documents.COMMANDS, "because morning evening"]:
         if not re.search(rf"^\W*{wanted}\b|{wanted}$", text, flags=re.M):
             return f"propbench.1 lacks {wanted}"
-    if os.path.exists(f"{TOP}/python/src/propbench/__main__.py"):
-        wanted = [".SH SYNOPSIS", ".SH PROPDESK RUN", ".SH PROPDESK SHELL", r"\-\-program"]
-        lacks = [it for it in wanted if it not in page(program, "propdesk")]
-        return f"propdesk.1 lacks {lacks}" if lacks else None
-    return None
+    wanted = [".SH SYNOPSIS", ".SH PROPDESK RUN", ".SH PROPDESK SHELL", r"\-\-program"]
+    lacks = [it for it in wanted if it not in page(program, "propdesk")]
+    return f"propdesk.1 lacks {lacks}" if lacks else None
 
 
 COMPLETES = """\
@@ -295,15 +296,14 @@ def completion_offers(program: str) -> Optional[str]:
     told = re.findall(r"--\w+", ran([program, "--help"]).stdout.decode())
     if offered(program, "propbench", "--") != told:
         return f"{offered(program, 'propbench', '--')}, wanted {told}"
-    if os.path.exists(f"{TOP}/python/src/propbench/__main__.py"):
-        offers = offered(program, "propdesk", "")
-        if not {"run", "shell", "--help"} <= {*offers}:
-            return f"propdesk: {offers}"
-        offers = offered(program, "propdesk", "run", "some.prop", "--order", "")
-        if offers != ["fifo", "lifo", "mixed"] or offered(program, "propdesk", "run", "x"):
-            return f"propdesk run: {offers}"
-        if "--limit" not in offered(program, "propdesk", "run", "--l"):
-            return "propdesk run: no --limit"
+    offers = offered(program, "propdesk", "")
+    if not {"run", "shell", "--help"} <= {*offers}:
+        return f"propdesk: {offers}"
+    offers = offered(program, "propdesk", "run", "some.prop", "--order", "")
+    if offers != ["fifo", "lifo", "mixed"] or offered(program, "propdesk", "run", "x"):
+        return f"propdesk run: {offers}"
+    if "--limit" not in offered(program, "propdesk", "run", "--l"):
+        return "propdesk run: no --limit"
     return None
 
 
@@ -347,6 +347,14 @@ def vim_colours(program: str) -> Optional[str]:
     return None if got == wanted else f"{[*zip(asked, got, wanted)]}"
 
 
+def pygments_knows(program: str) -> Optional[str]:
+    """pygments finds the lexer of the Python package by the name of a file."""
+    env = {**os.environ, "PYTHONPATH": f"{unpacked(program)}/usr/lib/python3/dist-packages"}
+    asks = "from pygments.lexers import get_lexer_for_filename as f; print(f('some.prop').name)"
+    done = ran(["/usr/bin/python3", "-B", "-c", asks], env=env)
+    return None if done.stdout == b"propbench\n" else f"{done.stdout!r}: {done.stderr.decode()}"
+
+
 def removed(program: str) -> Optional[str]:
     """Once it is removed nothing of it is left."""
     with tempfile.TemporaryDirectory(prefix="package-") as root:
@@ -357,43 +365,68 @@ def removed(program: str) -> Optional[str]:
         return f"it leaves {left}" if left else None
 
 
+def knows_proof(root: str) -> bool:
+    """Whether the Python package of a folder's files takes the program there for proved."""
+    env = {
+        "PATH": f"{root}/usr/bin:/usr/bin",
+        "PYTHONPATH": f"{root}/usr/lib/python3/dist-packages",
+    }
+    asks = "from propbench import find_program as find; print(find().path, find().proved)"
+    done = ran(["/usr/bin/python3", "-B", "-c", asks], env=env)
+    path, _, is_proved = done.stdout.decode().strip().rpartition(" ")
+    if path != f"{root}/usr/bin/propbench":
+        raise OSError(f"found {path}: {done.stderr.decode()}")
+    return is_proved == "True"
+
+
 def lacks_proof(program: str) -> Optional[str]:
-    """A program that is named is not said to be proved, neither by the version nor by the text."""
+    """A program that is named is not said to be proved: not by the version, nor by the text, nor to
+    the Python package."""
     fields = output_of("dpkg-deb", "--field", package(program))
     if "~unproved" not in fields or "NOT the proved one" not in fields:
         return fields
-    return None
+    return "Python takes it for proved" if knows_proof(unpacked(program)) else None
+
+
+def copy_without_program(to: str) -> None:
+    """What tools/package reads, where nothing is built."""
+    for folder in ("tools", "docs", "examples", "python"):
+        shutil.copytree(f"{TOP}/{folder}", f"{to}/{folder}")
+    for name in ("README.md", "crates.txt"):
+        shutil.copy(f"{TOP}/{name}", to)
+    os.makedirs(f"{to}/crates/propbench/src")
+
+
+def tells_proof(program: str) -> Optional[str]:
+    """The program that is built is said to be proved; another in its place is not."""
+    with tempfile.TemporaryDirectory(prefix="package-") as copy:
+        copy_without_program(copy)
+        os.makedirs(f"{copy}/crates/propbench/out")
+        shutil.copy(program, f"{copy}/crates/propbench/out/propbench")
+        built = output_of(f"{copy}/tools/package").strip()
+        fields = output_of("dpkg-deb", "--field", built)
+        if "~unproved" in fields or "Every answer is proved" not in fields:
+            return fields
+        root = f"{copy}/root"
+        output_of("dpkg-deb", "--extract", built, root)
+        if not knows_proof(root):
+            return "Python does not know that it is proved"
+        with open(f"{root}/usr/bin/propbench", "ab") as it:
+            it.write(b" ")
+        return "Python takes another one for proved" if knows_proof(root) else None
 
 
 def refuses_without_program(_program: str) -> Optional[str]:
     """Without a proved program there is no package, and it says what to do."""
     with tempfile.TemporaryDirectory(prefix="package-") as copy:
-        shutil.copytree(f"{TOP}/tools", f"{copy}/tools")
-        shutil.copy(f"{TOP}/crates.txt", copy)
-        os.makedirs(f"{copy}/crates/propbench/src")
+        copy_without_program(copy)
         done = ran([f"{copy}/tools/package"])
         if done.returncode != 1 or b"run tools/build first" not in done.stdout:
             return f"{done}"
         return "it writes a package" if os.path.exists(f"{copy}/out") else None
 
 
-@dataclass
-class Packaged:
-    """Something that holds of the package."""
-
-    title: str
-    holds: Callable[[str], Optional[str]]
-
-    @property
-    def name(self) -> str:
-        return f"package: {self.title}"
-
-    def wrong(self, program: str) -> Optional[str]:
-        """What is wrong with it, or None."""
-        return self.holds(os.path.abspath(program))
-
-
-HOLDS = {
+HOLDS: dict[str, Callable[[str], Optional[str]]] = {
     "two runs give the same bytes": same_bytes,
     "owners, modes and times": owners_and_modes,
     "README's first session, in a root of its own": first_session,
@@ -403,8 +436,10 @@ HOLDS = {
     "man pages": pages_are_clean,
     "bash completion": completion_offers,
     "vim's colours": vim_colours,
+    "pygments' lexers": pygments_knows,
     "nothing is left once it is removed": removed,
     "a program that is named is not said to be proved": lacks_proof,
+    "the program that is built is said to be proved": tells_proof,
     "no package without a proved program": refuses_without_program,
 }
 
@@ -416,5 +451,5 @@ def prepare(program: str) -> None:
         installed(os.path.abspath(program))
 
 
-def cases() -> Iterator[Packaged]:
-    yield from (Packaged(title, holds) for title, holds in HOLDS.items())
+def cases() -> Iterator[Check]:
+    yield from (Check(f"{PREFIX}{title}", holds) for title, holds in HOLDS.items())

@@ -21,7 +21,12 @@ DOCUMENT = "docs/PIPE.md"
 MEASURES = "docs/BENCHMARKS.md"
 
 # The examples, and which lines of what the document shows each prints.
-EXAMPLES = {"drive.py": [0, 1, 2, 3, 4, 5], "drive.sh": [1, 4, 5], "drive.c": [1, 4, 5]}
+EXAMPLES = {
+    "session.py": [0, 1, 2, 3, 4],
+    "drive.py": [0, 1, 2, 3, 4, 5],
+    "drive.sh": [1, 4, 5],
+    "drive.c": [1, 4, 5],
+}
 
 # A pipe's bytes on Linux, and how many of them the document says may be left unanswered.
 PIPE, WINDOW = 65_536, 32_768
@@ -78,9 +83,15 @@ class Example:
             file = f"{room}/{self.file}"
             with open(file, "w", encoding="utf-8") as it:
                 it.write(text)
-            path = {**os.environ, "PATH": f"{room}:{os.environ['PATH']}"}
+            env = {
+                **os.environ,
+                "PATH": f"{room}:{os.environ['PATH']}",
+                "PROPBENCH": f"{room}/propbench",
+                "PYTHONPATH": f"{TOP}/python/src",
+                "PYTHONDONTWRITEBYTECODE": "1",
+            }
             words = command_for(file)
-            ran = subprocess.run(words, env=path, capture_output=True, text=True, timeout=SECONDS)
+            ran = subprocess.run(words, env=env, capture_output=True, text=True, timeout=SECONDS)
         if ran.returncode or ran.stderr or ran.stdout != wanted:
             return f"status {ran.returncode}: {ran.stderr}\n{ran.stdout}\nwanted:\n{wanted}"
         return None

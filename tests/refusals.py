@@ -259,6 +259,7 @@ class EachCut(Refusals):
 HUNGRY = [
     "compounds: the same and by its fall",
     "choices: the second side where the first clashes, and back where that no longer does",
+    "choices: premises and sides that lie far apart: back over sixteen choices that clash with nothing",
     "compounds: a definition with a local cell, and what is refused",
     "compounds: elements that are alike",
     "cores: two that are needed, and one that is not",

@@ -4,8 +4,9 @@ import os
 import re
 import stat
 import subprocess
-from dataclasses import dataclass
-from typing import Callable, Iterator, Optional
+from typing import Iterator, Optional
+
+from case import Check
 
 TOP = os.path.dirname(os.path.dirname(os.path.realpath(__file__)))
 FIRST = re.compile(r"#!/usr/bin/python3(?: -\w+)?\n")
@@ -42,20 +43,14 @@ def first_lines() -> Optional[str]:
     return f"{odd}" if odd else None
 
 
+TYPED_TESTS = ["documents", "driver", "first_start", "gate", "lines", "package", "pages", "peers"]
+TYPED_TESTS += ["pipe", "puzzles", "scripts", "searches"]
 # Scripts and modules that are typed and laid out by black, by the folder that they are looked at in.
 TYPED = {
     "tools/start": ["*.py", "../../propbench"],
     "tools/deb": ["*.py", "../package"],
     "tools": ["pipe_speed", "python_gate"],
-    "tests": [
-        "documents.py",
-        "first_start.py",
-        "gate.py",
-        "package.py",
-        "pages.py",
-        "pipe.py",
-        "scripts.py",
-    ],
+    "tests": [f"{it}.py" for it in TYPED_TESTS],
 }
 # (older modules of tests/ have no types)
 MYPY = ["--strict", "--scripts-are-modules", "--follow-imports=silent"]
@@ -84,23 +79,8 @@ def layout_holds() -> Optional[str]:
     return found_by("black", BLACK)
 
 
-@dataclass
-class OfScripts:
-    """Something that holds of the scripts, whatever the program is."""
-
-    title: str
-    holds: Callable[[], Optional[str]]
-
-    @property
-    def name(self) -> str:
-        return f"scripts: {self.title}"
-
-    def wrong(self, _program: str) -> Optional[str]:
-        """What is wrong with them, or None."""
-        return self.holds()
-
-
-def cases() -> Iterator[OfScripts]:
-    yield OfScripts("/usr/bin/python3 runs them", first_lines)
-    yield OfScripts("their types", types_hold)
-    yield OfScripts("their layout", layout_holds)
+def cases() -> Iterator[Check]:
+    # (whatever the program is)
+    yield Check("scripts: /usr/bin/python3 runs them", lambda _: first_lines())
+    yield Check("scripts: their types", lambda _: types_hold())
+    yield Check("scripts: their layout", lambda _: layout_holds())

@@ -31,23 +31,27 @@ WANTED = {
 }
 
 
+# How many cells the statements make, of 100,000 that there may be, and how many are asked for.
+MADE, CELLS = 90_000, 5_000
+
+
 def statements(count: int) -> list[str]:
-    """Lines that make a chain of sums, with something told of every third cell."""
+    """Lines that make a chain of sums, with something told of every third cell. Behind as many cells
+    as that, one more is told of, narrower each time."""
     lines = ["cell c0 span"]
-    number = 0
-    while len(lines) < count:
-        number += 1
+    for number in range(1, MADE):
         before, cell = f"c{number - 1}", f"c{number}"
         lines += [f"cell {cell} span", f"attach adder {before} {before} {cell}"]
         lines += [f"tell p{number % 4000} {cell} {number}..{number + 9}"] if number % 3 == 0 else []
+        if len(lines) >= count:
+            break
+    lines.append("cell more span")
+    lines += [f"tell narrower more 0..{10**9 - number}" for number in range(count - len(lines))]
     return lines[:count]
 
 
-CELLS = 5_000
-
-
 def setup() -> list[str]:
-    """Lines that make a chain of sums over 5,000 cells, whose values follow from two premises."""
+    """Lines that make a chain of sums over some cells, whose values follow from two premises."""
     lines = [f"cell c{i} span" for i in range(CELLS)] + ["cell one span", "tell unit one 1"]
     lines += [f"attach adder c{i} one c{i + 1}" for i in range(CELLS - 1)]
     return [*lines, "tell start c0 3..5", "settle"]

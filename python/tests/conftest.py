@@ -5,6 +5,7 @@ random cases as usual are drawn (1 where it is not set).
 """
 
 import os
+import signal
 import subprocess
 import sys
 from collections.abc import Callable, Iterable
@@ -31,6 +32,12 @@ settings.register_profile(
 settings.load_profile("small")
 
 Bare = Callable[[Iterable[str | bytes], list[str]], str]
+
+
+@pytest.fixture(scope="session", autouse=True)
+def interrupts() -> None:
+    """Has Ctrl-C interrupt: where the tests are run in the background it may be ignored."""
+    signal.signal(signal.SIGINT, signal.default_int_handler)
 
 
 @pytest.fixture(scope="session")

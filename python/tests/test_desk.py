@@ -11,6 +11,7 @@ import sys
 import time
 from collections.abc import Callable, Iterator
 from pathlib import Path
+from typing import Any
 
 import pytest
 from conftest import REPOSITORY
@@ -72,7 +73,7 @@ def test_run_shows_replies_and_a_table(
         "z     13..15  morning, evening",
     ]
     with Session(program) as session:
-        assert ("not proved" in "".join(out)) is not session.proved
+        assert ("not known to be proved" in "".join(out)) is not session.proved
 
 
 def test_run_stops_at_a_refused_line(
@@ -116,6 +117,58 @@ def test_run_as_json(program: str, file: Write, capsys: pytest.CaptureFixture[st
     assert (said["complete"], said["settled"], said["conflict"]) == (True, True, None)
 
 
+Spoil = Callable[[dict[str, Any]], object]
+
+
+def spoilt(report: dict[str, Any], spoil: Spoil) -> dict[str, Any]:
+    """The report with one of its answers changed."""
+    copy: dict[str, Any] = json.loads(json.dumps(report))
+    spoil(copy)
+    return copy
+
+
+def test_check_of_a_report(
+    program: str, file: Write, tmp_path: Path, capsys: pytest.CaptureFixture[str]
+) -> None:
+    lines = FIRST.encode() + b"# \xff\nask w\nchoose c x 4 or 7\nask x\n"
+    assert main(["run", file(lines), "--json", "--keep-going", "--program", program]) == 1
+    report = json.loads(capsys.readouterr().out)
+    where = tmp_path / "report.json"
+
+    def checked(told: dict[str, Any]) -> tuple[int, str]:
+        where.write_text(json.dumps(told))
+        status = main(["check", str(where), "--program", program])
+        return status, capsys.readouterr().out
+
+    status, out = checked(report)
+    assert status == 0
+    assert "All 7 answers of the report are the program's.\n" in out
+    spoils: list[tuple[Spoil, str]] = [
+        (
+            lambda it: it["asked"][0].update(reply="z = 13..14 because morning evening"),
+            "line 7: the report says `z = 13..14 because morning evening`, the program `z = 13..15",
+        ),
+        (lambda it: it["asked"].pop(), "line 11: the report says `None`, the program `x = 4`"),
+        (lambda it: it["refused"][1].update(number=10), "line 9: the report says `10`"),
+        (lambda it: it["cells"]["x"].update(value="7"), "x: the report says"),
+        (lambda it: it["cells"].pop("y"), "y: the report says `None`"),
+        (lambda it: it["plan"].append("c=2"), "plan: the report says"),
+        (lambda it: it.update(conflict=["morning"]), "conflict: the report says"),
+        (lambda it: it["lines"].insert(4, "tell dawn x 3"), "line 7: the report says"),
+    ]
+    for spoil, said in spoils:
+        status, out = checked(spoilt(report, spoil))
+        assert (status, out.count(said)) == (1, 1), out
+
+
+def test_check_of_what_is_no_report(
+    program: str, file: Write, capsys: pytest.CaptureFixture[str]
+) -> None:
+    for text in (FIRST, "{}", "[]", '{"way": {"pace": 3}}'):
+        assert main(["check", file(text), "--program", program]) == 3
+        assert "no report of `propdesk run --json`" in capsys.readouterr().err
+
+
 def test_run_shows_a_conflict(
     program: str, file: Write, capsys: pytest.CaptureFixture[str]
 ) -> None:
@@ -156,7 +209,7 @@ def test_run_of_what_is_no_file(
     program: str, file: Write, capsys: pytest.CaptureFixture[str]
 ) -> None:
     assert main(["run", "/nowhere/plan.prop", "--program", program]) == 3
-    assert "/nowhere/plan.prop" in capsys.readouterr().err
+    assert capsys.readouterr().err == "propdesk: /nowhere/plan.prop: No such file or directory\n"
     assert main(["run", file(FIRST), "--program", "/nowhere/propbench"]) == 3
     assert main(["run", file(FIRST), "--program", program, "--limit", "-1"]) == 2
     assert main(["run", file(b"cell x span\nask \xff\n"), "--program", program]) == 1
@@ -165,15 +218,10 @@ def test_run_of_what_is_no_file(
 
 def test_the_parser_can_be_shown() -> None:
     text = parser().format_help()
-    assert all(word in text for word in ("run", "shell", "check"))
+    assert re.findall(r"^ {4}(\w+)", text, flags=re.M) == ["run", "shell", "check"]
     with pytest.raises(SystemExit) as caught:
         main(["no such command"])
     assert caught.value.code == 2
-
-
-def test_check_says_that_it_comes_later(capsys: pytest.CaptureFixture[str]) -> None:
-    assert main(["check", "any"]) == 3
-    assert "later version" in capsys.readouterr().err
 
 
 def test_the_module_is_the_desk(program: str, file: Write) -> None:
@@ -391,6 +439,25 @@ def test_tables_are_aligned() -> None:
     assert table(("a", "bb"), [("日本", "x"), ("\x1b", "")]) == "a     bb\n日本  x\n\\x1b"
 
 
+def test_long_texts_of_a_table_go_on_below() -> None:
+    rows = [("x", "one two three four five six"), ("yy", "seven")]
+    assert table(("a", "b"), rows, "  ", most=26) == (
+        "  a   b\n  x   one two three four\n      five six\n  yy  seven"
+    )
+
+
+def test_a_premise_that_conflicts_alone(talk: Talk) -> None:
+    talk("tell noon x 9")
+    talk("kick morning")
+    talk("fix x 3")
+    assert talk(":list cells").split("\n")[:4] == [
+        "CONFLICT: noon can't hold. It says:",
+        "  premise  says",
+        "  noon     x = 9",
+        "Give it up by `kick`.",
+    ]
+
+
 def test_an_overview_leaves_no_trace(talk: Talk) -> None:
     session = talk.shell.session
     session.send("settle")
@@ -399,6 +466,17 @@ def test_an_overview_leaves_no_trace(talk: Talk) -> None:
         "z = 13..15 because morning evening"
     )
     assert session.lines == [*before, "settle"]
+
+
+def status_of(pid: int) -> int | None:
+    """The exit status of a child that ends soon, None where it doesn't."""
+    begun = time.monotonic()
+    while time.monotonic() - begun < 20:
+        ended, status = os.waitpid(pid, os.WNOHANG)
+        if ended:
+            return os.waitstatus_to_exitcode(status)
+        time.sleep(0.02)
+    return None
 
 
 def test_a_conversation_at_a_terminal(program: str, tmp_path: Path) -> None:
@@ -410,6 +488,7 @@ def test_a_conversation_at_a_terminal(program: str, tmp_path: Path) -> None:
         os.environ.update(state, PYTHONPATH=str(REPOSITORY / "python/src"))
         os.execv(sys.executable, [sys.executable, "-m", "propbench", "shell", "--program", program])
     seen = ""
+    status: int | None = None
 
     def until(wanted: str) -> str:
         nonlocal seen
@@ -444,13 +523,12 @@ def test_a_conversation_at_a_terminal(program: str, tmp_path: Path) -> None:
         until("^")
         until(">")
         type_in("\x04")
-        time.sleep(1)
+        status = status_of(pid)
     finally:
         os.close(terminal)
-        ended, status = os.waitpid(pid, os.WNOHANG)
-        if ended == 0:
+        if status is None:
             os.kill(pid, signal.SIGKILL)
             os.waitpid(pid, 0)
-    assert ended and os.waitstatus_to_exitcode(status) == 0
+    assert status == 0
     history = (tmp_path / "propbench/history").read_text(encoding="utf-8")
     assert "+kick start" in history and "+ask x" in history

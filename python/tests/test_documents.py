@@ -86,6 +86,14 @@ def test_help_on_each_command(command: str) -> None:
     assert all(usage.form in all_help() for usage in usages_of(command))
 
 
+def test_help_fits_the_terminal(monkeypatch: pytest.MonkeyPatch) -> None:
+    for columns in (60, 100):
+        monkeypatch.setenv("COLUMNS", str(columns))
+        assert max(map(len, all_help().split("\n"))) <= columns
+    assert "answered X = 13..15 because a" in " ".join(help_on("core", Known()).split())
+    assert "below" not in all_help()
+
+
 def test_help_on_procedures_and_refusals() -> None:
     known = Known()
     assert "z is the sum of x and y" in help_on("sum", known)

@@ -1,5 +1,6 @@
 """Which program is found, and what is said where one ends."""
 
+import hashlib
 import os
 import stat
 from pathlib import Path
@@ -7,7 +8,7 @@ from pathlib import Path
 import pytest
 
 from propbench import NoProgram, ProgramEnded, Session, finding
-from propbench.finding import find_program
+from propbench.finding import Found, find_program
 
 
 def script(path: Path, text: str) -> Path:
@@ -33,16 +34,45 @@ def repository(tmp_path: Path, monkeypatch: pytest.MonkeyPatch) -> Path:
 def test_the_order_of_finding(
     repository: Path, tmp_path: Path, monkeypatch: pytest.MonkeyPatch
 ) -> None:
-    assert find_program() == finding.Found(str(repository / "propbench"), False, builds=True)
+    assert find_program() == Found(str(repository / "propbench"), False, builds=True)
     on_path = script(tmp_path / "bin/propbench", "exit 0")
-    assert find_program() == finding.Found(str(on_path), True)
+    assert find_program() == Found(str(on_path), False)
     built = script(repository / "crates/propbench/out/propbench", "exit 0")
-    assert find_program() == finding.Found(str(built), True)
+    assert find_program() == Found(str(built), True)
     named = script(tmp_path / "named", "exit 0")
     monkeypatch.setenv("PROPBENCH", str(named))
-    assert find_program() == finding.Found(str(named), False)
-    assert find_program(built) == finding.Found(str(built), True)
-    assert find_program("propbench") == finding.Found(str(on_path), True)
+    assert find_program() == Found(str(named), False)
+    assert find_program(built) == Found(str(built), True)
+    assert find_program("propbench") == Found(str(on_path), False)
+
+
+def test_a_program_of_a_package_is_proved_where_its_checksum_is_told(
+    repository: Path, tmp_path: Path
+) -> None:
+    installed = script(tmp_path / "bin/propbench", "exit 0")
+    told = tmp_path / "share/propbench/proved.sha256"
+    told.parent.mkdir(parents=True)
+    told.write_text(f"{hashlib.sha256(installed.read_bytes()).hexdigest()}  propbench\n")
+    assert find_program() == Found(str(installed), True)
+    link = tmp_path / "link"
+    link.symlink_to(installed)
+    assert find_program(link) == Found(str(link), True)
+    script(installed, "exit 1")
+    assert not find_program().proved
+    told.write_text("")
+    assert not find_program().proved
+
+
+def test_a_link_to_a_repository_stands_for_what_is_built_there(
+    repository: Path, tmp_path: Path
+) -> None:
+    link = tmp_path / "bin/propbench"
+    link.parent.mkdir()
+    link.symlink_to(repository / "propbench")
+    assert find_program() == Found(str(link), False, builds=True)
+    assert find_program(link) == Found(str(link), False, builds=True)
+    built = script(repository / "crates/propbench/out/propbench", "exit 0")
+    assert find_program(link) == Found(str(built), True)
 
 
 def test_no_program(repository: Path, monkeypatch: pytest.MonkeyPatch) -> None:

@@ -1,6 +1,11 @@
 """Replies are read by what was asked."""
 
+import copy
 import dataclasses
+import pickle
+import sys
+from collections.abc import Callable
+from concurrent.futures import ThreadPoolExecutor
 
 import pytest
 
@@ -96,6 +101,47 @@ READ: list[tuple[str, str, str, Reply]] = [
 def test_reading(line: str, kind: str, text: str, reply: Reply) -> None:
     assert reply_of(line.split(), text, {line.split()[-1]: kind}) == reply
     assert str(reply) == text
+
+
+LOOKS: list[Callable[[Reply], object]] = [
+    repr,
+    hash,
+    lambda reply: pickle.loads(pickle.dumps(reply)),
+    copy.deepcopy,
+    dataclasses.replace,
+    dataclasses.asdict,
+]
+
+
+@pytest.mark.parametrize("look", LOOKS, ids=lambda look: str(look.__name__))
+def test_a_reply_is_read_however_it_is_looked_at(look: Callable[[Reply], object]) -> None:
+    for line, kind, text, reply in READ:
+        unread = reply_of(line.split(), text, {line.split()[-1]: kind})
+        assert type(unread) is type(reply)
+        assert look(unread) == look(reply)
+        assert unread == reply
+
+
+def test_a_value_has_its_fields_alone() -> None:
+    for value in (reply_of(["ask", "x"], "x = 3", {"x": "span"}), Value("x", Span(3, 3))):
+        assert not hasattr(value, "colour")
+        assert isinstance(value, Value) and value.cell == "x"
+        with pytest.raises(AttributeError, match="'colour'"):
+            getattr(value, "colour")
+
+
+def test_threads_read_a_value_together() -> None:
+    """Whichever of them is the first to look at it."""
+    values = [reply_of(["ask", "x"], f"x = {i}", {"x": "span"}) for i in range(3000)]
+    wanted = [Value("x", Span(i, i)) for i in range(3000)]
+    before = sys.getswitchinterval()
+    sys.setswitchinterval(1e-6)
+    try:
+        with ThreadPoolExecutor(4) as pool:
+            found = list(pool.map(lambda _: values == wanted, range(4)))
+    finally:
+        sys.setswitchinterval(before)
+    assert found == [True] * 4
 
 
 def test_replies_are_frozen() -> None:

@@ -36,12 +36,11 @@ fi
 """
 
 
-def needs(program: bytes, with_python: bool) -> str:
+def needs(program: bytes) -> str:
     """The packages that have to be there, the C library as new as the program's symbols ask for."""
     found = re.findall(rb"GLIBC_(\d+)\.(\d+)\b", program)
     newest = max((int(major), int(minor)) for major, minor in found)
-    python = ", python3 (>= 3.10)" if with_python else ""
-    return f"libc6 (>= {newest[0]}.{newest[1]}){python}"
+    return f"libc6 (>= {newest[0]}.{newest[1]}), python3 (>= 3.10)"
 
 
 def architecture() -> str:
@@ -51,20 +50,19 @@ def architecture() -> str:
 
 def control(files: dict[str, bytes], version: str, is_proved: bool) -> str:
     """The file control. Its size is in kilobytes, each file rounded up, as Debian wants it."""
-    with_python = "usr/bin/propdesk" in files
     fields = {
         "Package": "propbench",
         "Version": version,
         "Architecture": architecture(),
         "Maintainer": MAINTAINER,
         "Installed-Size": sum(-(-len(it) // 1024) for it in files.values()),
-        "Depends": needs(files["usr/bin/propbench"], with_python),
+        "Depends": needs(files["usr/bin/propbench"]),
+        "Recommends": "python3-prompt-toolkit, python3-pygments",
+        "Suggests": "python3-starlette, python3-uvicorn, graphviz",
+        "Section": "math",
+        "Priority": "optional",
+        "Description": "workbench for propagator networks with truth maintenance",
     }
-    if with_python:
-        fields["Recommends"] = "python3-prompt-toolkit, python3-pygments"
-        fields["Suggests"] = "python3-starlette, python3-uvicorn, graphviz"
-    fields |= {"Section": "math", "Priority": "optional"}
-    fields["Description"] = "workbench for propagator networks with proved answers"
     told = "".join(f"{name}: {value}\n" for name, value in fields.items())
     return told + SAYS + (PROVED if is_proved else UNPROVED)
 
@@ -75,7 +73,10 @@ def sums(files: dict[str, bytes]) -> str:
 
 def of_package(files: dict[str, bytes], version: str, is_proved: bool) -> dict[str, bytes]:
     """The files of DEBIAN/, by their paths."""
-    found = {"control": control(files, version, is_proved), "md5sums": sums(files)}
-    if "usr/bin/propdesk" in files:
-        found |= {"postinst": COMPILES, "prerm": CLEANS}
+    found = {
+        "control": control(files, version, is_proved),
+        "md5sums": sums(files),
+        "postinst": COMPILES,
+        "prerm": CLEANS,
+    }
     return {f"DEBIAN/{name}": text.encode() for name, text in found.items()}

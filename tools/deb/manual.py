@@ -5,8 +5,8 @@ import subprocess
 import tempfile
 
 TOP = os.path.dirname(os.path.dirname(os.path.dirname(os.path.realpath(__file__))))
-NAME = "a workbench for propagator networks whose every answer is proved"
-NAME_OF_DESK = "work with propbench by files, in a shell and in a browser"
+NAME = "a workbench for propagator networks with truth maintenance"
+NAME_OF_DESK = "work with propbench by files and in a shell"
 COMMANDS = """
 A line is answered
 .B ok

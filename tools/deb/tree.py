@@ -1,9 +1,11 @@
 """What the package holds: each path in it, and the bytes that stand there."""
 import glob
 import gzip
+import hashlib
 import os
 import stat
 import subprocess
+import tomllib
 from dataclasses import dataclass
 
 import completion
@@ -13,6 +15,9 @@ from manual import TOP, document
 PYTHON = f"{TOP}/python/src/propbench"
 MODULES = "usr/lib/python3/dist-packages/propbench"
 DOC = "usr/share/doc/propbench"
+# The checksum of the program, where that is the proved one. By it the Python package knows so, and
+# `sha256sum --check` does.
+CHECKSUM = "usr/share/propbench/proved.sha256"
 VIM = "usr/share/vim/vimfiles"
 COMPLETIONS = "usr/share/bash-completion/completions"
 # What vim is told: which files are sessions, and how a line of them is made a note.
@@ -34,9 +39,11 @@ Comment: The repository of propbench names no licence.
 
 @dataclass
 class Build:
-    """What a package is made from: the program, what it is called, and the moment that it bears."""
+    """What a package is made from: the program, whether it is known to be proved, what it is called,
+    and the moment that it bears."""
 
     program: str
+    is_proved: bool
     version: str
     # Seconds since 1970.
     moment: int
@@ -59,14 +66,35 @@ def tracked(folder: str, pattern: str) -> list[str]:
     return sorted(it for it in found if os.path.isfile(it) and "__pycache__" not in it)
 
 
+def metadata() -> dict[str, bytes]:
+    """What tells other Python programs of the package: its version, and where its command and its
+    lexer are."""
+    project = tomllib.loads(document("python/pyproject.toml"))["project"]
+    about = {
+        "Metadata-Version": "2.1",
+        "Name": project["name"],
+        "Version": project["version"],
+        "Summary": project["description"],
+        "Requires-Python": project["requires-python"],
+    }
+    offers = {"console_scripts": project["scripts"], **project["entry-points"]}
+    lines = []
+    for group, places in offers.items():
+        lines += [f"[{group}]", *(f"{name} = {place}" for name, place in places.items()), ""]
+    folder = f"{MODULES}-{project['version']}.dist-info"
+    return {
+        f"{folder}/METADATA": "".join(f"{name}: {said}\n" for name, said in about.items()).encode(),
+        f"{folder}/entry_points.txt": "\n".join(lines).encode(),
+    }
+
+
 def of_python(build: Build) -> dict[str, bytes]:
-    """The Python package, and its command propdesk, where they are there."""
-    if not os.path.isfile(f"{PYTHON}/__main__.py"):
-        return {}
+    """The Python package, and its command propdesk."""
     files = {
         f"{MODULES}/{os.path.relpath(path, PYTHON)}": read(path)
         for path in tracked("python/src/propbench", "**/*")
     }
+    files |= metadata()
     files["usr/bin/propdesk"] = DESK.encode()
     page = manual.of_desk(build.version, build.moment)
     files["usr/share/man/man1/propdesk.1.gz"] = packed(page)
@@ -74,6 +102,14 @@ def of_python(build: Build) -> dict[str, bytes]:
     offers = completion.script("propdesk", manual.desk_help(), commands)
     files[f"{COMPLETIONS}/propdesk"] = offers.encode()
     return files
+
+
+def of_proof(build: Build) -> dict[str, bytes]:
+    """What tells that the program is the proved one."""
+    if not build.is_proved:
+        return {}
+    checksum = hashlib.sha256(read(build.program)).hexdigest()
+    return {CHECKSUM: f"{checksum}  /usr/bin/propbench\n".encode()}
 
 
 def of_documents() -> dict[str, bytes]:
@@ -99,6 +135,7 @@ def files(build: Build) -> dict[str, bytes]:
         f"{VIM}/ftplugin/propbench.vim": NOTES.encode(),
         f"{DOC}/copyright": COPYRIGHT.encode(),
         f"{DOC}/changelog.gz": packed(build.changes),
+        **of_proof(build),
         **of_documents(),
         **of_python(build),
     }

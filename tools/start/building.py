@@ -29,6 +29,8 @@ from taken import CHECKED, NotBuilt, Try, compile_words, link
 
 # Seconds between two looks.
 LOOK = 0.01
+# The signals that came and ask this to end.
+ENDS: list[int] = []
 
 # A session, with its replies, that a program has to answer before it is kept.
 SESSION = (
@@ -43,6 +45,14 @@ def tell(line: str) -> None:
         print(line, flush=True)
     except OSError:
         sys.stdout = open(os.devnull, "w", encoding="utf-8")
+
+
+def pause() -> None:
+    """Lets a moment pass, and ends this where a signal asks for it. (Wherever else a signal came
+    in, something that was just begun might be left behind.)"""
+    time.sleep(LOOK)
+    if ENDS:
+        sys.exit(128 + ENDS[0])
 
 
 def answers(program: str) -> bool:
@@ -107,7 +117,7 @@ def built(room: str, is_soon: bool) -> str | None:
     try:
         while not build.has_ended():
             build.step()
-            time.sleep(LOOK)
+            pause()
         build.step()
         return build.program()
     finally:
@@ -116,7 +126,7 @@ def built(room: str, is_soon: bool) -> str | None:
 
 def main(words: list[str]) -> int:
     state, where, is_soon = words[0], words[1], "--soon" in words
-    with kept.held(where, lambda: tell("waiting")):
+    with kept.held(where, lambda: tell("waiting"), pause):
         # (another start may have built it meanwhile)
         program = kept.kept_program(state)
         if not program:
@@ -131,7 +141,7 @@ def main(words: list[str]) -> int:
 
 if __name__ == "__main__":
     for it in (signal.SIGTERM, signal.SIGHUP, signal.SIGINT):
-        signal.signal(it, lambda number, _: sys.exit(128 + number))
+        signal.signal(it, lambda number, _: ENDS.append(number))
     try:
         sys.exit(main(sys.argv[1:]))
     except (NotBuilt, OSError) as error:

@@ -69,16 +69,25 @@ def kept_program(state_of: str) -> str | None:
     return None
 
 
+def is_taken(lock: int) -> bool:
+    """Takes a lock where nobody else holds it."""
+    try:
+        fcntl.flock(lock, fcntl.LOCK_EX | fcntl.LOCK_NB)
+    except BlockingIOError:
+        return False
+    return True
+
+
 @contextlib.contextmanager
-def held(where: str, tell: Callable[[], None]) -> Iterator[None]:
-    """Holds the folder's lock. Where another holds it, `tell` is called before it is waited for."""
+def held(where: str, tell: Callable[[], None], pause: Callable[[], None]) -> Iterator[None]:
+    """Holds the folder's lock. Where another holds it, `tell` is called before it is waited for,
+    and `pause` between two looks."""
     lock = os.open(f"{where}/lock", os.O_RDWR | os.O_CREAT | os.O_CLOEXEC, 0o600)
     try:
-        try:
-            fcntl.flock(lock, fcntl.LOCK_EX | fcntl.LOCK_NB)
-        except BlockingIOError:
+        if not is_taken(lock):
             tell()
-            fcntl.flock(lock, fcntl.LOCK_EX)
+            while not is_taken(lock):
+                pause()
         yield
     finally:
         os.close(lock)

@@ -25,6 +25,8 @@ propbench: in about {} seconds; what you send meanwhile is answered then"""
 SLOWLY = """\
 this session runs unproved, and slowly: later ones, from about half a minute on, are fast;
 propbench: tools/build proves and builds the program"""
+# What it is at, by the word that it tells.
+AT = {"waiting": "waiting", "building": "reading the sources"}
 WAITING = "another start builds the program already; waiting for it"
 NO_RT = """\
 no program is built here, and rt, which builds it, is not on the path:
@@ -52,7 +54,7 @@ class Builder:
     def lines(self) -> Iterator[str]:
         """What it tells, line by line, while the time that it takes is told."""
         assert self.process.stdout
-        pipe, at, rest = self.process.stdout.fileno(), "reading the sources", b""
+        pipe, at, rest = self.process.stdout.fileno(), AT["building"], b""
         while True:
             if not select.select([pipe], [], [], 0.5)[0]:
                 self.progress.tell(at)
@@ -61,7 +63,7 @@ class Builder:
             *whole, rest = (rest + more).split(b"\n")
             for line in whole:
                 word, _, text = line.decode(errors="replace").partition(" ")
-                at = text if word == "at" else at
+                at = text if word == "at" else AT.get(word, at)
                 yield line.decode(errors="replace")
             if not more:
                 return

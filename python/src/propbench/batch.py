@@ -1,10 +1,10 @@
 """Many lines at once: they are written while replies are read, and taken in as these come."""
 
 import gc
+from collections import deque
 from collections.abc import Iterable
 
 from propbench.conversation import Conversation
-from propbench.grammar import RUNNING
 from propbench.program import ProgramEnded
 from propbench.refusals import Refused
 from propbench.replies import DONE, SEVERAL, SILENT, Reply, lines_behind, reply_of
@@ -43,89 +43,97 @@ class Batch:
         self._sent = sent
         self.replies: list[Reply | Refused] = [SILENT] * len(lines)
         self.first_refused: Refused | None = None
-        # The places of the lines to which replies are still to come, and the lines of replies that
-        # have come and are not taken in.
-        self._places: list[int] = []
-        self._came: list[str] = []
+        # The places of the lines to which replies are still to come, and the lines of a reply whose
+        # last is still to come.
+        self._places: deque[int] = deque()
+        self._begun: list[str] = []
+        # Whether garbage is looked for at other times.
+        self._collects = gc.isenabled()
 
     def run(self) -> None:
         """Sends all lines and takes in all replies. Where that ends early, what was taken in by
-        then counts as carried out, and the conversation is out of step."""
+        then counts as carried out, and the conversation is out of step.
+
+        Garbage is looked for only while replies are waited for: of replies none comes, and a look
+        goes through all that have come."""
         self._talk.in_step = False
         try:
+            gc.disable()
             self._send()
         except ProgramEnded:
-            self._take_all(self._talk.program.rest())
+            self._take_in(self._talk.program.rest())
             raise
+        finally:
+            if self._collects:
+                gc.enable()
         self._talk.in_step = True
 
     def _send(self) -> None:
         program = self._talk.program
         for first in range(0, len(self._lines), _BLOCK):
             block = self._lines[first : first + _BLOCK]
-            self._places += [
+            self._places.extend(
                 place
                 for place, line in enumerate(block, first)
                 if line[:1] not in _MAY_BE_SILENT or not is_silent(line)
-            ]
+            )
             program.put(_encoded(block))
-            self._take_all(program.take(wait=False))
+            self._take_in(program.take(wait=False))
         while self._places:
-            came = program.take(wait=True)
-            self._take_all(came)
+            came = program.take(wait=False) or self._waited_for()
+            self._take_in(came)
             if len(came) < _FEW < len(self._places):
                 program.gather()
 
-    def _take_all(self, lines: list[str]) -> None:
-        """Takes lines in without looking for garbage, of which replies make none: that looks
-        through all replies so far time and again."""
-        collects = gc.isenabled()
+    def _waited_for(self) -> list[str]:
+        """Lines that have not come yet."""
+        if self._collects:
+            gc.enable()
+        came = self._talk.program.take(wait=True)
         gc.disable()
-        try:
-            self._take_in(lines)
-        finally:
-            if collects:
-                gc.enable()
+        return came
 
     def _take_in(self, lines: list[str]) -> None:
-        """Takes in the replies that have come whole, these lines being the last that came."""
-        self._came += lines
-        carried, journal, kinds = self._talk.carried, self._talk.lines, self._talk.kinds
-        came, places = self._came, self._places
-        count, answered, read = len(came), 0, 0
-        while read < count:
-            text, place = came[read], places[answered]
-            line = self._lines[place]
+        """Takes in the lines of replies that came last."""
+        given, replies, places = self._lines, self.replies, self._places
+        carried, kinds = self._talk.carried, self._talk.kinds
+        for text in lines:
+            place = places[0]
+            line = given[place]
             words = line.split()
-            end = read + 1
-            if words and words[0] in SEVERAL:
-                end += lines_behind(words[0], text)
-                if end > count:
-                    break
-                text = "\n".join(came[read:end])
-            read = end
-            answered += 1
             if text == "ok":
+                replies[place] = DONE
                 carried(line, words)
-                self.replies[place] = DONE
-            elif not text.startswith("error ") and words[0] in RUNNING:
-                journal.append(line)
-                self.replies[place] = reply_of(words, text, kinds)
             else:
-                self._answer(place, words, text)
-        del self._came[:read], self._places[:answered]
+                whole = self._whole(words, text)
+                if whole is None:
+                    continue
+                refused = self._refused(place, whole)
+                if refused:
+                    replies[place] = refused
+                else:
+                    replies[place] = reply_of(words, whole, kinds)
+                    carried(line, words)
+            places.popleft()
 
-    def _answer(self, place: int, words: list[str], text: str) -> None:
-        """Takes in the reply to the line at a place, which is another than `ok`."""
-        line = self._lines[place]
-        if text.startswith("error "):
-            refused = self._talk.refused(line, text, self._sent + place + 1)
-            if refused:
-                self.replies[place] = refused
-                self.first_refused = self.first_refused or refused
-                return
-        self.replies[place] = reply_of(words, text, self._talk.kinds)
-        self._talk.carried(line, words)
+    def _whole(self, words: list[str], text: str) -> str | None:
+        """The reply that a line ends, None where others are to come behind it."""
+        if not words or words[0] not in SEVERAL:
+            return text
+        self._begun.append(text)
+        if len(self._begun) <= lines_behind(words[0], self._begun[0]):
+            return None
+        whole = "\n".join(self._begun)
+        self._begun.clear()
+        return whole
+
+    def _refused(self, place: int, text: str) -> Refused | None:
+        """The refusal of the line at a place, where this reply is one."""
+        if not text.startswith("error "):
+            return None
+        refused = self._talk.refused(self._lines[place], text, self._sent + place + 1)
+        self.first_refused = self.first_refused or refused
+        return refused
 
 
 def _encoded(lines: list[str]) -> bytes:

@@ -4,19 +4,23 @@ import argparse
 import sys
 from collections.abc import Sequence
 
+from propbench.checking import NoReport, check_file
 from propbench.finding import NoProgram
 from propbench.program import ProgramEnded
-from propbench.session import ORDERS, Session
+from propbench.running import Way, run_as_json, run_file
+from propbench.session import ORDERS
+from propbench.showing import said_of
 
 DESCRIPTION = """\
 A desk for the workbench propbench: runs files of its language, and speaks it with you line by line.
 Every answer is a reply of the program, which is the one that --program or $PROPBENCH names, else
-the built one of this repository, else `propbench` on the path.
+the built one of this repository, else `propbench` on the path, else this repository's unproved one.
 """
 
 STATUS = """\
-The exit status is 0 where all went well, 1 where a line was refused, 2 for wrong arguments, 3 where
-a file could not be read or the program was not found or ended, and 130 at Ctrl-C.
+The exit status is 0 where all went well, 1 where a line was refused or a report is not what the
+program says, 2 for wrong arguments, 3 where a file could not be read or the program was not found
+or ended, and 130 at Ctrl-C.
 """
 
 
@@ -35,7 +39,9 @@ def parser() -> argparse.ArgumentParser:
     run.add_argument(
         "--keep-going", action="store_true", help="go on behind refused lines; the status stays 1"
     )
-    run.add_argument("--json", action="store_true", help="write one JSON object and nothing else")
+    run.add_argument(
+        "--json", action="store_true", help="write a report, one JSON object, and nothing else"
+    )
     run.add_argument(
         "--seconds",
         type=_seconds,
@@ -52,17 +58,19 @@ def parser() -> argparse.ArgumentParser:
     shell.add_argument("file", metavar="FILE", nargs="?", help="a file whose lines come first")
     check = commands.add_parser(
         "check",
-        help="check a certificate",
-        description="Checks a certificate. Certificates come with a later version.",
+        help="hold a report of run --json against the program",
+        description="Carries out the lines of a report in a fresh session, and compares each answer"
+        " with that of the report. Says what differs, and ends with status 1 then.",
     )
-    check.add_argument("certificate", metavar="CERTIFICATE", help="the file")
+    check.add_argument("file", metavar="REPORT", help="what `propdesk run --json` wrote")
     for each in (run, shell, check):
-        _add_program(each)
+        each.add_argument("--program", metavar="PATH", help="the program that answers")
+    for each in (run, shell):
+        _add_begin(each)
     return top
 
 
-def _add_program(to: argparse.ArgumentParser) -> None:
-    to.add_argument("--program", metavar="PATH", help="the program that answers")
+def _add_begin(to: argparse.ArgumentParser) -> None:
     to.add_argument(
         "--order", choices=ORDERS, default="fifo", help="which waiting procedure comes next (fifo)"
     )
@@ -83,30 +91,28 @@ def main(words: Sequence[str] | None = None) -> int:
     """Does what the words of a command line say, those of this process where none are given, and
     gives the exit status."""
     options = parser().parse_args(words)
-    if options.command == "check":
-        print("propdesk: certificates come with a later version", file=sys.stderr)
-        return 3
     try:
-        return _with_session(options)
+        return _done(options)
     except KeyboardInterrupt:
         return 130
     except ValueError as error:
         print(f"propdesk: {error}", file=sys.stderr)
         return 2
-    except (NoProgram, ProgramEnded, OSError) as error:
-        print(f"propdesk: {error}", file=sys.stderr)
+    except (NoProgram, NoReport, ProgramEnded, OSError) as error:
+        print(f"propdesk: {said_of(error)}", file=sys.stderr)
         return 3
 
 
-def _with_session(options: argparse.Namespace) -> int:
-    from propbench.running import run_file
-    from propbench.shell import run_shell
+def _done(options: argparse.Namespace) -> int:
+    if options.command == "check":
+        return check_file(options.file, options.program)
+    begin = {"order": options.order, "seed": options.seed, "limit": options.limit}
+    if options.command == "shell":
+        from propbench.shell import run_shell
 
-    with Session(
-        options.program, order=options.order, seed=options.seed, limit=options.limit
-    ) as session:
-        if options.command == "run":
-            return run_file(
-                session, options.file, options.keep_going, options.seconds, options.json
-            )
-        return run_shell(session, options.file)
+        with Way(**begin).session(options.program) as session:
+            return run_shell(session, options.file)
+    way = Way(options.keep_going, options.seconds, **begin)
+    with way.session(options.program) as session:
+        run = run_as_json if options.json else run_file
+        return run(session, options.file, way)

@@ -225,6 +225,8 @@ FORMS: dict[str, Callable[[], Form]] = {
 
 # The commands that run the network.
 RUNNING = frozenset(("ask", "why", "core", "settle", "worldview"))
+# Those that ask: they are answered by more than `ok`, and change nothing that was said.
+ASKING = RUNNING | {"nogoods"}
 
 
 def parsed(line: str) -> Parse:

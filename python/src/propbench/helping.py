@@ -1,6 +1,7 @@
 """Help on commands, procedures and refusals, from docs/LANGUAGE.md where it is there."""
 
 import re
+import shutil
 from collections.abc import Iterator
 from pathlib import Path
 
@@ -11,7 +12,7 @@ from propbench.known import Known
 from propbench.refusals import CLASSES
 from propbench.tables import table
 
-_INSTALLED = Path("/usr/share/doc/propbench/LANGUAGE.md")
+_INSTALLED = Path("/usr/share/doc/propbench/docs/LANGUAGE.md")
 
 # The section of the document that says more of a command.
 _SECTIONS = {"choose": "Choices", "nogoods": "Choices", "core": "Cores", "define": "Definitions"}
@@ -27,14 +28,20 @@ def document() -> str:
 
 
 def plain(text: str) -> str:
-    """The text without the marks of a document."""
-    return re.sub(r"\*\*|`|\[([^]]*)\]\([^)]*\)", r"\1", text)
+    """The text without the marks of a document, and without a note on where it says more."""
+    text = re.sub(r' \("\w+" below\)', "", text)
+    return re.sub(r"\*\*|`|\*(\w+)\*|\[([^]]*)\]\([^)]*\)", r"\1\2", text)
+
+
+def columns() -> int:
+    """How wide help may be: as the terminal is, and 80 letters where none is."""
+    return shutil.get_terminal_size().columns
 
 
 def all_help() -> str:
-    """All commands, a line each."""
+    """All commands, each with what it does."""
     rows = [(usage.form, plain(usage.meaning)) for usage in USAGES]
-    return table(("command", "what it does"), rows)
+    return table(("command", "what it does"), rows, most=columns())
 
 
 def help_on(word: str, known: Known) -> str:
@@ -50,10 +57,12 @@ def help_on(word: str, known: Known) -> str:
 
 def _on_command(word: str) -> Iterator[str]:
     replies = {plain(row[0]): plain(row[2]) for row in _rows("Command", "What it does", "Reply")}
-    rows = [
-        (usage.form, plain(usage.meaning), replies.get(usage.form, "")) for usage in usages_of(word)
-    ]
-    yield table(("written", "what it does", "answered"), rows)
+    rows = []
+    for usage in usages_of(word):
+        reply = replies.get(usage.form, "ok")
+        answered = "" if reply == "ok" else f"; answered {reply}"
+        rows.append((usage.form, plain(usage.meaning) + answered))
+    yield table(("written", "what it does"), rows, most=columns())
     paragraphs = _section(_SECTIONS[word]) if word in _SECTIONS else []
     for paragraph in paragraphs[:2]:
         yield ""

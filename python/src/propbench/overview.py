@@ -7,13 +7,14 @@ says (`venue: days = 2`), and not as `venue=1`.
 from dataclasses import dataclass
 
 from propbench.listing import Told, told_by
-from propbench.replies import Contradiction, Value, Worldview
+from propbench.replies import NO_PREMISE, Contradiction, Value, Worldview
 from propbench.runs import Progress, is_settled
 from propbench.session import Session
 from propbench.tables import table
 
-UNPROVED = "The program that answered is not proved."
+UNPROVED = "The program that answers is not known to be proved."
 _OPEN = "This is not settled: values may still become narrower, or turn out to be in conflict."
+_WAY_OUT = "Give one of them up by `kick`; not all of them may be needed for a conflict."
 _MISSING = "(nothing was told)"
 
 
@@ -37,7 +38,7 @@ class Overview:
     def reasons(self, value: Value) -> str:
         """What a value rests on."""
         names = value.because or ()
-        return ", ".join(map(self.named, names)) if names else "no premise"
+        return ", ".join(map(self.named, names)) or NO_PREMISE
 
     def __str__(self) -> str:
         parts = [self._conflict() if self.conflict is not None else self._values()]
@@ -53,13 +54,17 @@ class Overview:
     def _conflict(self) -> str:
         if not self.conflict:
             return "CONFLICT: what is fixed can't all hold, whatever is believed."
-        lines = [f"CONFLICT: {', '.join(self.conflict)} can't all hold. They say:"]
+        if len(self.conflict) == 1:
+            says, way_out = f"{self.conflict[0]} can't hold. It says:", "Give it up by `kick`."
+        else:
+            says, way_out = f"{', '.join(self.conflict)} can't all hold. They say:", _WAY_OUT
+        lines = [f"CONFLICT: {says}"]
         rows = [
             (premise, ", ".join(map(str, self.told.premises.get(premise, ()))) or _MISSING)
             for premise in self.conflict
         ]
         lines.append(table(("premise", "says"), rows, "  "))
-        lines.append("Give one of them up by `kick`; not all of them may be needed for a conflict.")
+        lines.append(way_out)
         return "\n".join(lines)
 
     def _values(self) -> str:

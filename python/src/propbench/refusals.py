@@ -63,9 +63,18 @@ class Refused(Exception):
         carets = "^" * max(1, width(self.word or ""))
         return f"{indent}{shown}\n{indent}{' ' * before}{carets}"
 
-    def __str__(self) -> str:
-        lines = [f"line {self.line_number}: {self.reply}", self.pointed(), f"  {self.says}"]
+    def told(self, place: str = "") -> str:
+        """What the program answered, with a place in front where one is given; the line, with the
+        word pointed to; and what is wrong."""
+        lines = [
+            f"{place}: {self.reply}" if place else self.reply,
+            self.pointed(),
+            f"  {self.says}",
+        ]
         return "\n".join(line for line in lines if line.strip())
+
+    def __str__(self) -> str:
+        return self.told(f"line {self.line_number}")
 
 
 class LineTooLong(Refused):

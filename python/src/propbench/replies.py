@@ -6,6 +6,7 @@ symbol, and what it rests on. `str(reply)` is the text of the program.
 
 from collections.abc import Mapping
 from dataclasses import dataclass
+from typing import TYPE_CHECKING
 
 from propbench.values import Held, value_of
 
@@ -34,13 +35,15 @@ class Value:
     the premises that are enough for it, as printed (None to an `ask`). `reduced` is True where a
     `core` found that none of them can be left out, False where it was cut before, and None where
     none was asked for.
+
+    The text of a reply is read when a field is first looked at: of many replies few are.
     """
 
     cell: str
     value: Held
-    settled: bool = True
-    because: tuple[str, ...] | None = None
-    reduced: bool | None = None
+    settled: bool
+    because: tuple[str, ...] | None
+    reduced: bool | None
 
     def __init__(
         self,
@@ -50,8 +53,22 @@ class Value:
         because: tuple[str, ...] | None = None,
         reduced: bool | None = None,
     ) -> None:
-        # By hand: replies are many, and a frozen class's own way takes twice as long.
         vars(self).update(cell=cell, value=value, settled=settled, because=because, reduced=reduced)
+
+    # (The checker of types is not told, since it would let any attribute pass.)
+    if not TYPE_CHECKING:
+
+        def __getattr__(self, name: str) -> object:
+            """What isn't there. Where the fields are still to be read, they are read now."""
+            held = vars(self)
+            unread = held.get("_unread")
+            if unread:
+                # (another thread may do the same, so they are there before the text goes)
+                held.update(_fields(*unread))
+                held.pop("_unread", None)
+            if name not in held:
+                raise AttributeError(f"a Value has no {name!r}")
+            return held[name]
 
     def __str__(self) -> str:
         text = f"{self.cell} = {self.value}"
@@ -118,18 +135,21 @@ DONE = Done()
 SETTLED = Settled()
 UNSETTLED = Unsettled()
 
+# What is said in place of premises where there are none.
+NO_PREMISE = "no premise"
 # The commands whose reply may have more than one line.
 SEVERAL = frozenset(("worldview", "nogoods"))
-_PLAIN: dict[str, Reply] = {"ok": DONE, "settled": SETTLED, "unsettled": UNSETTLED}
+_WORDS: tuple[Reply, ...] = (DONE, SETTLED, UNSETTLED)
+_PLAIN = {str(reply): reply for reply in _WORDS}
 _VALUED = frozenset(("ask", "why", "core"))
 
 
 def _named(premises: tuple[str, ...]) -> str:
-    return " ".join(premises) if premises else "no premise"
+    return " ".join(premises) or NO_PREMISE
 
 
 def _names(text: str) -> tuple[str, ...]:
-    return () if text == "no premise" else tuple(text.split(" "))
+    return () if text == NO_PREMISE else tuple(text.split(" "))
 
 
 def refusal_in(text: str) -> tuple[int, str] | None:
@@ -153,11 +173,9 @@ def reply_of(words: list[str], text: str, kinds: Mapping[str, str]) -> Reply:
     """The reply that a text is to a line of these words, which is neither silent nor refused;
     `kinds` are those of the cells."""
     command = words[0]
-    if command in _VALUED:
-        # `X = V`, and what stands behind V, which has no space but within its braces.
-        parts = text.split(" ", 4)
-        if parts[1] == "=":
-            return _value(command, parts, text, kinds[parts[0]])
+    # (no name has the mark `=`)
+    if command in _VALUED and " = " in text:
+        return _unread(text, command, kinds[words[1]])
     if text.startswith("contradiction:"):
         return Contradiction(_names(text[15:]))
     if command == "worldview" and text != "unsettled":
@@ -168,24 +186,25 @@ def reply_of(words: list[str], text: str, kinds: Mapping[str, str]) -> Reply:
     return _PLAIN[text]
 
 
-def _value(command: str, parts: list[str], text: str, kind: str) -> Value:
-    """A value by its first parts, between spaces."""
-    said = parts[2]
-    if said[0] == "{" or (len(parts) > 3 and parts[3] != "because"):
-        return _marked_value(command, parts[0], text, kind)
-    if len(parts) == 3:
-        return Value(parts[0], value_of(said, kind))
-    because = () if parts[4] == "no premise" else tuple(parts[4].split(" "))
-    reduced = True if command == "core" else None
-    return Value(parts[0], value_of(said, kind), True, because, reduced)
+def _unread(text: str, command: str, kind: str) -> Value:
+    """The value that a text says in reply to a command, of a cell of this kind."""
+    made = object.__new__(Value)
+    # (past the freeze; by `vars` it would take twice the time and memory)
+    object.__setattr__(made, "_unread", (text, command, kind))
+    return made
 
 
-def _marked_value(command: str, cell: str, text: str, kind: str) -> Value:
-    """A value that is in braces, or has `unsettled` or `not reduced` behind it."""
-    said = text[len(cell) + 3 :]
-    end = said.index("}") + 1 if said[0] == "{" else said.index(" ")
-    value, (mark, _, names) = value_of(said[:end], kind), said[end:].partition(" because ")
-    if command == "ask":
-        return Value(cell, value, mark == "")
-    reduced = mark == "" if command == "core" else None
-    return Value(cell, value, mark != " unsettled", _names(names), reduced)
+def _fields(text: str, command: str, kind: str) -> dict[str, object]:
+    """The fields of such a value."""
+    cell, _, said = text.partition(" = ")
+    # (a value has no space but within its braces)
+    end = said.find("}") + 1 if said[0] == "{" else said.find(" ")
+    held, behind = (said, "") if end < 0 else (said[:end], said[end:])
+    mark, _, names = behind.partition(" because ")
+    return {
+        "cell": cell,
+        "value": value_of(held, kind),
+        "settled": mark != " unsettled",
+        "because": None if command == "ask" else _names(names),
+        "reduced": (mark == "") if command == "core" else None,
+    }

@@ -6,18 +6,16 @@ A refused line doesn't go unnoticed: the run stops there with the place, the wor
 import json
 import sys
 from collections.abc import Iterator
-from dataclasses import dataclass, field
+from dataclasses import asdict, dataclass, field
 from typing import TextIO
 
-from propbench.overview import Overview, overview
+from propbench.grammar import ASKING
+from propbench.overview import overview
 from propbench.refusals import Refused
 from propbench.replies import Done, Reply, Silent
 from propbench.session import Session
 from propbench.showing import printable
 from propbench.words import as_line
-
-# The commands whose replies are shown: all that are no mere `ok`.
-_ASKING = frozenset(("ask", "why", "core", "settle", "worldview", "nogoods"))
 
 
 def lines_of(path: str) -> list[str]:
@@ -32,11 +30,26 @@ def lines_of(path: str) -> list[str]:
 
 
 def told_of(refused: Refused, name: str) -> str:
-    """What a refusal says of a line of a file: its place, the line with the word, and what is
-    wrong."""
-    place = ":".join(str(part) for part in (name, refused.line_number, refused.column) if part)
-    lines = [f"{place}: {refused.reply}", refused.pointed(), f"  {refused.says}"]
-    return "\n".join(line for line in lines if line.strip())
+    """What a refusal says of a line of a file."""
+    return refused.told(
+        ":".join(str(part) for part in (name, refused.line_number, refused.column) if part)
+    )
+
+
+@dataclass(frozen=True)
+class Way:
+    """How a file is run: whether on behind refused lines, how many seconds may be worked for the
+    table, and what the program begins with."""
+
+    keep_going: bool = False
+    seconds: float = 60.0
+    order: str = "fifo"
+    seed: int = 0
+    limit: int | None = None
+
+    def session(self, program: str | None) -> Session:
+        """A session that begins so. Raises as `Session` does."""
+        return Session(program, order=self.order, seed=self.seed, limit=self.limit)
 
 
 @dataclass
@@ -54,7 +67,7 @@ class FileRun:
         once."""
         begun = 0
         for place, line in enumerate(lines):
-            if line.split()[:1] and line.split()[0] in _ASKING:
+            if line.split()[:1] and line.split()[0] in ASKING:
                 yield from self._some(lines, begun, place)
                 yield place + 1, line, self._one(line)
                 begun = place + 1
@@ -94,26 +107,42 @@ def _exchange(line: str, reply: Reply) -> str:
     return f"{printable(line.strip())}\n{answered}"
 
 
-def run_file(session: Session, path: str, keep_going: bool, seconds: float, as_json: bool) -> int:
+def run_file(session: Session, path: str, way: Way) -> int:
     """Runs a file, and gives the status: 0, or 1 where a line was refused. Raises OSError where the
     file can't be read."""
     lines = lines_of(path)
-    name = "standard input" if path == "-" else path
-    ran = FileRun(session, printable(name), keep_going)
-    reached = ran.run(lines, None if as_json else sys.stdout, sys.stderr)
-    end = overview(session, seconds) if reached else None
-    if as_json:
-        print(json.dumps(_as_json(ran, end), ensure_ascii=False, indent=2))
-    elif end is not None:
+    ran = FileRun(session, _name_of(path), way.keep_going)
+    if ran.run(lines, sys.stdout, sys.stderr):
+        end = overview(session, way.seconds)
         print(f"\n{end}" if ran.asked else str(end))
     else:
         print("Stopped at a refused line; --keep-going goes on behind such lines.", file=sys.stderr)
     return 1 if ran.refused else 0
 
 
-def _as_json(ran: FileRun, end: Overview | None) -> dict[str, object]:
+def run_as_json(session: Session, path: str, way: Way) -> int:
+    """The same, but that a report is written, one JSON object."""
+    told = report(session, _name_of(path), lines_of(path), way)
+    text = json.dumps(told, ensure_ascii=False, indent=2)
+    # (a byte that is no text stands as JSON escapes it)
+    print(text.encode("utf-8", "backslashreplace").decode("utf-8"))
+    return 1 if told["refused"] else 0
+
+
+def _name_of(path: str) -> str:
+    return "standard input" if path == "-" else printable(path)
+
+
+def report(session: Session, name: str, lines: list[str], way: Way) -> dict[str, object]:
+    """What a run of the lines tells, as values that JSON has, with the lines and how they were run.
+    Refusals are told on standard error too."""
+    ran = FileRun(session, name, way.keep_going)
+    reached = ran.run(lines, None, sys.stderr)
+    end = overview(session, way.seconds) if reached else None
     return {
         "file": ran.name,
+        "lines": lines,
+        "way": asdict(way),
         "proved": ran.session.proved,
         "complete": end is not None,
         "asked": [

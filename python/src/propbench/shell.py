@@ -9,7 +9,8 @@ from collections.abc import Callable, Sequence
 from functools import partial
 from typing import TypeVar
 
-from propbench.helping import all_help, help_on
+from propbench.grammar import ASKING
+from propbench.helping import all_help, columns, help_on
 from propbench.listing import Told, told_by
 from propbench.overview import UNPROVED, overview
 from propbench.program import ProgramEnded
@@ -18,7 +19,7 @@ from propbench.replies import Contradiction, Done, Reply, Silent, Value
 from propbench.running import lines_of, told_of
 from propbench.runs import is_settled
 from propbench.session import Session
-from propbench.showing import printable
+from propbench.showing import printable, said_of
 from propbench.tables import table
 
 Result = TypeVar("Result")
@@ -36,8 +37,8 @@ ASIDES = {
     ":quit": "ends",
 }
 
-# The commands that change nothing that a user said.
-_ASKING = frozenset(("ask", "why", "core", "settle", "worldview", "nogoods", "limit"))
+# The commands that `:undo` takes for nothing that was changed.
+_KEPT = ASKING | {"limit"}
 # After so many seconds it is told how far a run is, and then so often.
 _TOLD_AFTER, _TOLD_EVERY = 1.0, 0.5
 
@@ -77,14 +78,14 @@ class Shell:
         try:
             self._obey(line)
         except Refused as refused:
-            self._write(f"{refused.reply}\n{refused.pointed()}\n  {refused.says}".rstrip())
+            self._write(refused.told())
         except KeyboardInterrupt:
             self._write("Stopped. The next question goes on from there.")
         except ProgramEnded as ended:
             self._write(f"{ended}; it is begun anew with what was carried out.")
             self.session.replay()
         except (OSError, ValueError) as error:
-            self._write(str(error))
+            self._write(said_of(error))
 
     def _obey(self, line: str) -> None:
         words = line.split()
@@ -178,7 +179,7 @@ class Shell:
 
     def _undo(self, words: list[str]) -> None:
         lines = self.session.lines
-        while lines and lines[-1].split()[0] in _ASKING:
+        while lines and lines[-1].split()[0] in _KEPT:
             lines.pop()
         if not lines:
             self._write("There is nothing to take back.")
@@ -251,7 +252,7 @@ class Shell:
             return
         self._write(all_help())
         self._write("")
-        self._write(table(("at this desk", ""), list(ASIDES.items())))
+        self._write(table(("at this desk", ""), list(ASIDES.items()), most=columns()))
 
     def _quit(self, words: list[str]) -> None:
         raise Quit

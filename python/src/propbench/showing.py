@@ -14,6 +14,13 @@ def _printable(character: str) -> str:
     return " " if character == "\t" else ascii(character)[1:-1].replace("\\udc", "\\x")
 
 
+def said_of(error: Exception) -> str:
+    """An error as a user reads it; of a file its name and what is wrong, without the number."""
+    if isinstance(error, OSError) and error.filename and error.strerror:
+        return f"{printable(str(error.filename))}: {error.strerror}"
+    return str(error)
+
+
 def quoted(word: str) -> str:
     """The word as a message shows it, in backquotes."""
     return f"`{printable(word)}`"

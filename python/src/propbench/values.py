@@ -10,10 +10,6 @@ class Span:
     low: int
     high: int
 
-    def __init__(self, low: int, high: int) -> None:
-        # By hand: replies are many, and a frozen class's own way takes twice as long.
-        vars(self).update(low=low, high=high)
-
     def __str__(self) -> str:
         return str(self.low) if self.low == self.high else f"{self.low}..{self.high}"
 
@@ -56,6 +52,9 @@ class Impossible:
 
 Held = Span | Elements | Symbol | Nothing | Impossible
 
+_SAID: tuple[Held, ...] = (Nothing(), Impossible())
+_PLAIN = {str(held): held for held in _SAID}
+
 
 def value_of(text: str, kind: str) -> Held:
     """The value that a text of a reply is, for a cell of this kind: `span`, `symbol`, or else
@@ -63,10 +62,8 @@ def value_of(text: str, kind: str) -> Held:
     if kind == "span" and text[-1].isdigit():
         low, dots, high = text.partition("..")
         return Span(int(low), int(high)) if dots else Span(int(low), int(low))
-    if text == "nothing":
-        return Nothing()
-    if text == "contradiction":
-        return Impossible()
+    if text in _PLAIN:
+        return _PLAIN[text]
     if kind == "symbol":
         return Symbol(text)
     return Elements(tuple(text.strip("{}").split()))
