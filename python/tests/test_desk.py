@@ -164,7 +164,12 @@ def test_check_of_a_report(
 def test_check_of_what_is_no_report(
     program: str, file: Write, capsys: pytest.CaptureFixture[str]
 ) -> None:
-    for text in (FIRST, "{}", "[]", '{"way": {"pace": 3}}'):
+    whole = '"file": "f", "lines": [], "way": {}, "cells": {}, "complete": true, "settled": true'
+    whole += ', "conflict": null, "plan": []'
+    some = [f'{{{whole}, "asked": [{{}}], "refused": []}}', f'{{{whole}, "asked": 3}}']
+    paced = whole.replace('"way": {}', '"way": {"seed": []}')
+    some.append(f'{{{paced}, "asked": [], "refused": []}}')
+    for text in (FIRST, "{}", "[]", '{"way": {"pace": 3}}', *some):
         assert main(["check", file(text), "--program", program]) == 3
         assert "no report of `propdesk run --json`" in capsys.readouterr().err
 

@@ -5,76 +5,100 @@ carried out again, by a program that he trusts, and each answer compared.
 """
 
 import json
-from collections.abc import Iterator
-from typing import Any
+from collections.abc import Iterator, Mapping
+from dataclasses import dataclass
 
 from propbench.overview import UNPROVED
 from propbench.running import Way, report
 from propbench.showing import printable, quoted
-
-# What the table at the end tells. Where the run for it was cut, that depends on the clock.
-_TABLE = ("settled", "conflict", "plan")
 
 
 class NoReport(Exception):
     """The file is no report of `propdesk run --json`."""
 
 
+@dataclass(frozen=True)
+class Told:
+    """The answers of a report: by the number of a line, by the name of a cell, and of the end."""
+
+    complete: bool
+    settled: bool
+    lines: Mapping[str, str]
+    table: Mapping[str, str]
+    cells: Mapping[str, str]
+
+    def __len__(self) -> int:
+        return len(self.lines) + len(self.cells)
+
+
+def told_in(said: dict[str, object]) -> Told:
+    """The answers of a report as JSON has it. Raises KeyError and TypeError where it is none."""
+    lines = {}
+    for key, says in (("asked", "reply"), ("refused", "number")):
+        for each in _listed(said[key]):
+            lines[f"line {each['line']}"] = str(each[says])
+    table = {key: str(said[key]) for key in ("conflict", "plan")}
+    cells = {cell: str(of) for cell, of in _named(said["cells"]).items()}
+    return Told(bool(said["complete"]), bool(said["settled"]), lines, table, cells)
+
+
+def _named(value: object) -> dict[str, object]:
+    if not isinstance(value, dict):
+        raise TypeError("no object")
+    return value
+
+
+def _listed(value: object) -> list[dict[str, object]]:
+    if not isinstance(value, list):
+        raise TypeError("no array")
+    return [_named(each) for each in value]
+
+
 def check_file(path: str, program: str | None) -> int:
     """Whether a fresh session tells what the report tells: 0, or 1 where it doesn't, with what
     differs. Raises OSError, NoReport where the file is none, and as `Session` does."""
-    told = _read(path)
-    way = Way(**told["way"])
-    with way.session(program) as session:
-        again = report(session, told["file"], told["lines"], way)
+    with open(path, encoding="utf-8") as file:
+        text = file.read()
+    try:
+        said = _named(json.loads(text))
+        told, name, lines, way = told_in(said), str(said["file"]), said["lines"], said["way"]
+        if not isinstance(lines, list) or not all(isinstance(line, str) for line in lines):
+            raise TypeError("no lines")
+        begun = Way(**_named(way))  # type: ignore[arg-type]  # (looked at below)
+        if not isinstance(begun.seed, int) or not isinstance(begun.limit, int | None):
+            raise TypeError("no numbers")
+        if not isinstance(begun.seconds, int | float):
+            raise TypeError("no seconds")
+    except (ValueError, KeyError, TypeError) as error:
+        raise NoReport(f"{printable(path)}: no report of `propdesk run --json`") from error
+    with begun.session(program) as session:
+        again = told_in(report(session, name, lines, begun))
         proved = session.proved
     found = list(differences(told, again))
     for each in found:
         print(printable(each))
-    answers = len(told["asked"]) + len(told["refused"]) + len(told["cells"])
     if not found:
-        print(f"All {answers} answers of the report are the program's.")
+        print(f"All {len(told)} answers of the report are the program's.")
     if not proved:
         print(UNPROVED)
     return 1 if found else 0
 
 
-def _read(path: str) -> dict[str, Any]:
-    with open(path, encoding="utf-8") as file:
-        try:
-            told = json.load(file)
-            Way(**told["way"])
-            [told[key] for key in ("file", "asked", "refused", "cells", "complete", *_TABLE)]
-            "".join(told["lines"])
-        except (ValueError, KeyError, TypeError) as error:
-            raise NoReport(f"{printable(path)}: no report of `propdesk run --json`") from error
-    return dict(told)
+def differences(told: Told, again: Told) -> Iterator[str]:
+    """In what the answers of a report differ from others to the same lines."""
+    yield from _between(told.lines, again.lines)
+    if told.complete != again.complete:
+        yield f"The end is reached: {_said(str(told.complete), str(again.complete))}"
+    # (where the run for the table was cut, it depends on the clock)
+    elif told.settled:
+        yield from _between({**told.table, **told.cells}, {**again.table, **again.cells})
 
 
-def differences(told: dict[str, Any], again: dict[str, Any]) -> Iterator[str]:
-    """In what a report differs from another one of the same lines."""
-    yield from _of_lines(told["asked"], again["asked"], "reply")
-    yield from _of_lines(told["refused"], again["refused"], "number")
-    if told["complete"] != again["complete"]:
-        yield f"The end is reached: {_said(told['complete'], again['complete'])}"
-    elif told["complete"] and told["settled"]:
-        for key in _TABLE:
-            if told[key] != again[key]:
-                yield f"{key}: {_said(told[key], again[key])}"
-        for cell in {**told["cells"], **again["cells"]}:
-            one, other = told["cells"].get(cell), again["cells"].get(cell)
-            if one != other:
-                yield f"{cell}: {_said(one, other)}"
+def _between(told: Mapping[str, str], again: Mapping[str, str]) -> Iterator[str]:
+    for key in {**told, **again}:
+        if told.get(key) != again.get(key):
+            yield f"{key}: {_said(str(told.get(key)), str(again.get(key)))}"
 
 
-def _of_lines(told: list[dict[str, Any]], again: list[dict[str, Any]], key: str) -> Iterator[str]:
-    one = {each["line"]: each for each in told}
-    other = {each["line"]: each for each in again}
-    for line in sorted({**one, **other}):
-        said = [each[line][key] if line in each else None for each in (one, other)]
-        if said[0] != said[1]:
-            yield f"line {line}: {_said(*said)}"
-
-
-def _said(told: object, again: object) -> str:
-    return f"the report says {quoted(str(told))}, the program {quoted(str(again))}"
+def _said(told: str, again: str) -> str:
+    return f"the report says {quoted(told)}, the program {quoted(again)}"
