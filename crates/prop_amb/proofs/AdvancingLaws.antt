@@ -4,7 +4,7 @@ use Rattle.std.proofs.Common.{length-append, take, drop, Some, refl, sym, ap, su
 use Rattle.std.proofs.Common.{slice_index_or}
 use Rattle.std.specs.List.{AllZip}
 use Rattle.std.proofs.lemmas.List.{take-append-le, take_all}
-use Rattle.prop_premises.specs.Sets.{Members, IsSame, set_of, union}
+use Rattle.prop_numbers.specs.Sets.{Members, IsSame, set_of, union}
 use Rattle.prop_premises.specs.declared.choice.Choice.{Choice}
 use Rattle.prop_premises.specs.ChoiceLists.{hypothetical, IsSide, IsChoiceList, AreOfSides, worldview}
 use Rattle.prop_cells.specs.Problems.{Problem}

@@ -1,16 +1,15 @@
 -- A stand stays one as premises of the user's are believed or not, and as the choices go to their first sides.
-use Rattle.std.proofs.Common.{◌≡◌, ◌≤◌, ◌<◌, ◌==◌, ℕ, zero, suc, ◌+◌, ◌&&◌, Bool, true, false, not, IsTrue, Some, List}
-use Rattle.std.proofs.Common.{[], ◌∷◌, ◌++◌, ◌||◌, length, take, drop, refl, sym, ap, subst, ◌∙◌, arith, inl, inr}
+use Rattle.std.proofs.Common.{◌≡◌, ◌≤◌, ◌<◌, ◌==◌, ℕ, suc, ◌+◌, ◌&&◌, Bool, true, false, not, IsTrue, Some, List, []}
+use Rattle.std.proofs.Common.{◌∷◌, ◌++◌, ◌||◌, length, take, drop, refl, sym, ap, subst, ◌∙◌, arith, inl, inr}
 use Rattle.std.proofs.Common.{slice_get}
 use Rattle.std.specs.List.{AllZip}
 use Rattle.std.proofs.lemmas.Bool.Decides.{eqb_tells}
-use Rattle.prop_lattice.specs.Refusals.{most}
-use Rattle.prop_lattice.specs.declared.refusal.Limit.TheVariants.{Premises}
-use Rattle.prop_premises.specs.Sets.{Members, IsSame, set_of, union, without}
+use Rattle.prop_refusals.specs.Refusals.{most}
+use Rattle.prop_refusals.specs.declared.refusal.Limit.TheVariants.{Premises}
+use Rattle.prop_numbers.specs.Sets.{Members, IsSame, set_of, union, without}
 use Rattle.prop_premises.specs.declared.choice.Choice.{Choice}
 use Rattle.prop_premises.specs.ChoiceLists.{hypothetical, IsChoiceList, AreOfSides, hypotheticals_of, worldview}
-use Rattle.prop_premises.specs.Origins.{Origin, User, Side, is_user_at, believed_in, with_belief_at, choices_of}
-use Rattle.prop_premises.specs.Origins.{IsNumbered}
+use Rattle.prop_premises.specs.Origins.{Origin, is_user_at, believed_in, choices_of, IsNumbered}
 use Rattle.prop_premises.proofs.EntryLemmas.{take-front}
 use Rattle.prop_cells.specs.Problems.{Problem}
 use Rattle.prop_amb.specs.Search.{Stand, IsStand, IsSearch, users_of, choices_in, believed_with}
@@ -20,14 +19,6 @@ use Rattle.prop_amb.proofs.LeavingLaws.{TakenAt}
 use Rattle.prop_amb.proofs.SearchLaws.{both, taken_is_side}
 
 -- ---- one belief that changes
-
--- a belief that changes and goes back leaves all as it was
-pub belief_back : (os : List Origin) (p : ℕ) (other : Bool) (was : Bool) → believed_in os p ≡ was
-    → with_belief_at (with_belief_at os p other) p was ≡ os
-belief_back [] p other was e = refl
-belief_back (User name before ∷ os) zero other was e = ap (λ b. User name b ∷ os) (sym e)
-belief_back (Side name side sides ∷ os) zero other was e = refl
-belief_back (o ∷ os) (suc p) other was e = ap (λ l. o ∷ l) (belief_back os p other was e)
 
 -- the choices stay where they stand
 pub stand_believing : (s : Stand) (origins : List Origin) (w : List ℕ) → IsStand s → IsNumbered origins

@@ -1,7 +1,7 @@
 -- Every list before the one that stands has a listed part.
 use Rattle.std.proofs.Common.{◌≡◌, ℕ, IsTrue, Bool, true, false, Some, List, refl, inl, inr, ◌⊎◌, ◌||◌}
 use Rattle.std.proofs.lemmas.Bool.{cases_eq}
-use Rattle.prop_premises.specs.Sets.{Members, union, set_of}
+use Rattle.prop_numbers.specs.Sets.{Members, union, set_of}
 use Rattle.prop_premises.specs.declared.choice.Choice.{Choice}
 use Rattle.prop_premises.specs.ChoiceLists.{hypothetical, hypotheticals_of, worldview}
 use Rattle.prop_cells.specs.Problems.{Problem}

@@ -1,5 +1,5 @@
 -- How many choice lists there are, the places among them, and the steps over them.
-use Rattle.std.proofs.Common.{◌≡◌, ◌≢◌, ℕ, ◌+◌, ◌-◌, ◌*◌, ◌<◌, ◌≤◌, List, [], ◌∷◌, inl, inr, arith}
+use Rattle.std.proofs.Common.{◌≡◌, ℕ, ◌+◌, ◌-◌, ◌*◌, ◌<◌, ◌≤◌, List, [], ◌∷◌, inl, inr, arith}
 use Rattle.std.proofs.Math.Nat.{mul-le-mul_right, add-mul}
 use Rattle.prop_premises.specs.declared.choice.Choice.{Choice}
 use Rattle.prop_premises.specs.ChoiceLists.{IsChoiceList, IsBefore, lists_count, place_of}
@@ -39,14 +39,6 @@ earlier_place (c ∷ cs) (a ∷ l) (b ∷ m) p q (inr (same, lt)) =
     let e : (a - 1) * lists_count cs ≡ (b - 1) * lists_count cs = λ i. (same i - 1) * lists_count cs in
     omega (arith, less, e)
 
-pub before_differs : (l m : List ℕ) → IsBefore l m → m ≢ l
-before_differs l m lt e = irreflexive l (rw e at lt)
-  where
-    irreflexive : (m : List ℕ) → IsBefore m m → ⊥
-    irreflexive [] lt = lt
-    irreflexive (a ∷ m) (inl lt) = omega (arith, lt)
-    irreflexive (a ∷ m) (inr (same, lt)) = irreflexive m lt
-
 -- ---- steps over lists
 
 -- So many steps, the moves among them, were taken over the lists up to one that stands so much further on, each of
@@ -56,14 +48,6 @@ pub few_within : (further most steps calls : ℕ) → steps ≤ further * (most 
 few_within further most steps calls few c =
     let e = add-mul further 1 (most + 1) in
     omega (arith, e, few, c)
-
--- with one more move they are no more than the further lists allow
-pub few_moved : (further more most steps calls : ℕ) → steps ≤ further * (most + 1) → calls ≤ most → further < more
-    → steps + calls + 1 ≤ more * (most + 1)
-few_moved further more most steps calls few c lt =
-    let e = add-mul further 1 (most + 1) in
-    let le = mul-le-mul_right {m = further + 1} {n = more} (most + 1) (omega (arith, lt)) in
-    omega (arith, e, few, c, le)
 
 -- no list stands further on than the last, so all steps are fewer than the lists allow together
 pub few_in_all : (further place count most steps : ℕ) → steps < (further + 1) * (most + 1) → place + further < count

@@ -3,7 +3,7 @@ use Rattle.std.proofs.Common.{◌≡◌, ◌∙◌, ℕ, ◌≤◌, IsTrue, fals
 use Rattle.std.proofs.Common.{sym, inl, inr, arith, slice_get, slice_index_or}
 use Rattle.std.proofs.lemmas.Bool.{or_cases, and_parts}
 use Rattle.std.proofs.lemmas.List.Elements.{Contains-get_or}
-use Rattle.prop_premises.specs.Sets.{Members, IsSame, set_of, union, without}
+use Rattle.prop_numbers.specs.Sets.{Members, IsSame, set_of, union, without}
 use Rattle.prop_premises.specs.declared.choice.Choice.{Choice}
 use Rattle.prop_premises.specs.ChoiceLists.{hypothetical}
 use Rattle.prop_amb.specs.inner.Joined.{others_of}

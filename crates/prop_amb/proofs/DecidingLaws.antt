@@ -1,6 +1,6 @@
 -- What is known where a list is refuted: that a choice may go on, or that it went on.
 use Rattle.std.proofs.Common.{◌≡◌, ◌∙◌, ◌+◌, ℕ, List, Contains, length, sym, subst, arith}
-use Rattle.prop_premises.specs.Sets.{Members, IsPart, set_of}
+use Rattle.prop_numbers.specs.Sets.{Members, IsPart, set_of}
 use Rattle.prop_cells.specs.Problems.{Problem}
 use Rattle.prop_cells.specs.Data.{Data}
 use Rattle.prop_scheduler.specs.Shifts.{AreShifted}

@@ -4,7 +4,7 @@ use Rattle.std.proofs.Common.{◌==◌, length, take, Some, get_or, refl, sym, �
 use Rattle.std.proofs.Common.{slice_index_or}
 use Rattle.std.specs.List.{AllByRecursion}
 use Rattle.std.proofs.lemmas.Bool.{cases_eq, or_cases, and_parts, ltb-true, lt-leb, and_left}
-use Rattle.prop_premises.specs.Sets.{set_of}
+use Rattle.prop_numbers.specs.Sets.{set_of}
 use Rattle.prop_premises.specs.declared.choice.Choice.{Choice}
 use Rattle.prop_premises.specs.ChoiceLists.{hypothetical, hypotheticals_of, is_hypothetical, is_side_of, IsSide}
 use Rattle.prop_premises.specs.ChoiceLists.{IsChoiceList, AreInOrder}

@@ -1,7 +1,7 @@
 -- One list at one level after the other, until it is refuted or the side of each choice is believed.
 use Rattle.std.proofs.Common.{◌≡◌, ◌∙◌, ℕ, ◌+◌, ◌-◌, ◌<◌, ◌≤◌, ◌⊎◌, List, [], false, length, refl, sym, ap, subst, inl}
 use Rattle.std.proofs.Common.{inr, arith}
-use Rattle.prop_premises.specs.Sets.{Members, set_of}
+use Rattle.prop_numbers.specs.Sets.{Members, set_of}
 use Rattle.prop_procedures.specs.Stored.{Stored}
 use Rattle.prop_cells.specs.Problems.{Problem}
 use Rattle.prop_cells.specs.Data.{Data, IsFree, beliefs, problem_of}

@@ -1,7 +1,7 @@
 -- What a search learned, without a premise of the user's.
 use Rattle.std.proofs.Common.{◌≡◌, ℕ, ◌-◌, ◌||◌, IsTrue, Bool, true, false, not, List, get_or, refl}
 use Rattle.std.proofs.lemmas.List.Elements.{All-filter, All-get_or, filter_passes}
-use Rattle.prop_premises.specs.Sets.{Members, set_of, union}
+use Rattle.prop_numbers.specs.Sets.{Members, set_of, union}
 use Rattle.prop_premises.specs.declared.choice.Choice.{Choice}
 use Rattle.prop_premises.specs.ChoiceLists.{IsChoiceList, hypotheticals_of, is_hypothetical}
 use Rattle.prop_premises.specs.Origins.{is_user_at, IsNumbered}

@@ -3,10 +3,10 @@ use Rattle.std.proofs.Common.{◌≡◌, ◌∙◌, ◌<◌, ◌≤◌, ◌⊎�
 use Rattle.std.proofs.Common.{◌∷◌, take, get_or, refl, sym, subst, arith, inl, inr, IsTrue}
 use Rattle.std.proofs.lemmas.Bool.{leb-true, eqb-true, or_cases}
 use Rattle.std.proofs.lemmas.List.Elements.{All-contains, All-filter, Contains-get_or}
-use Rattle.prop_premises.specs.Sets.{Members, set_of, union, without, is_within, is_below, IsPart, IsSame}
+use Rattle.prop_numbers.specs.Sets.{Members, set_of, union, without, is_within, is_below, IsPart, IsSame}
 use Rattle.prop_premises.specs.declared.choice.Choice.{Choice}
 use Rattle.prop_premises.specs.ChoiceLists.{hypotheticals_of, worldview}
-use Rattle.prop_premises.proofs.WithinLemmas.{within_has, within_from}
+use Rattle.prop_numbers.proofs.WithinLemmas.{within_has, within_from}
 use Rattle.prop_nogoods.specs.Stores.{has_part, lacking, NoneEndsBelow, AddsSet, AreMinimal}
 use Rattle.prop_nogoods.proofs.EndingLemmas.{has_middle}
 use Rattle.prop_nogoods.proofs.StoreLaws.{has_part-from}

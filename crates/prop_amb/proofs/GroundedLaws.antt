@@ -1,7 +1,7 @@
 -- Nogoods and grounded sets through an added choice.
 use Rattle.std.proofs.Common.{◌≡◌, ℕ, ◌≤◌, IsTrue, Bool, true, false, List, [], ◌∷◌, ◌++◌, ◌||◌, refl, arith}
 use Rattle.std.proofs.lemmas.Bool.{true≢false}
-use Rattle.prop_premises.specs.Sets.{Members}
+use Rattle.prop_numbers.specs.Sets.{Members}
 use Rattle.prop_premises.specs.declared.choice.Choice.{Choice}
 use Rattle.prop_premises.specs.ChoiceLists.{hypothetical, is_hypothetical, is_side_of}
 use Rattle.prop_cells.specs.Problems.{Problem}

@@ -3,7 +3,7 @@ use Rattle.std.proofs.Common.{◌≡◌, ℕ, zero, suc, ◌+◌, ◌-◌, ◌<�
 use Rattle.std.proofs.Common.{◌||◌, ◌==◌, refl, sym, ◌∙◌, inl, inr, arith, slice_get}
 use Rattle.std.specs.List.{AllByRecursion}
 use Rattle.std.proofs.lemmas.Bool.{cases_eq, cases_Bool, eq-eqb, and_parts, leb-true, ltb-true, true≢false}
-use Rattle.prop_premises.specs.Sets.{Members, IsPart, union}
+use Rattle.prop_numbers.specs.Sets.{Members, IsPart, union}
 use Rattle.prop_premises.specs.declared.choice.Choice.{Choice}
 use Rattle.prop_premises.specs.ChoiceLists.{hypothetical, IsSide, IsChoiceList, TakesSidesIn, hypotheticals_of}
 use Rattle.prop_premises.specs.ChoiceLists.{is_hypothetical, is_side_of, AreInOrder}

@@ -2,7 +2,7 @@
 use Rattle.std.proofs.Common.{◌≡◌, ℕ, zero, suc, ◌-◌, IsTrue, List, [], ◌∷◌, take, Contains, Some, get_or, ◌⊎◌, inl}
 use Rattle.std.proofs.Common.{inr, slice_get, slice_index_or, Result, Ok, Err, OnOk, OnErr}
 use Rattle.std.proofs.lemmas.List.Elements.{All-contains, Contains-get_or}
-use Rattle.prop_premises.specs.Sets.{Members, IsPart, set_of}
+use Rattle.prop_numbers.specs.Sets.{Members, IsPart, set_of}
 use Rattle.prop_premises.specs.declared.choice.Choice.{Choice}
 use Rattle.prop_premises.specs.ChoiceLists.{hypotheticals_of}
 use Rattle.prop_premises.specs.Origins.{Origin, believed_in, choices_of}

@@ -7,9 +7,9 @@ use Rattle.std.proofs.lemmas.Bool.{or_cases, and_parts, and_left, ltb-true, lt-l
 use Rattle.std.proofs.lemmas.Bool.Decides.{leb_tells}
 use Rattle.std.proofs.Math.Nat.{min-le_left, min-le_right, le-min}
 use Rattle.std.proofs.lemmas.List.{length-take, take_all, take-append-le}
-use Rattle.prop_lattice.specs.Refusals.{most}
-use Rattle.prop_lattice.specs.declared.refusal.Limit.TheVariants.{Premises}
-use Rattle.prop_premises.specs.Sets.{IsBelow, set_of}
+use Rattle.prop_refusals.specs.Refusals.{most}
+use Rattle.prop_refusals.specs.declared.refusal.Limit.TheVariants.{Premises}
+use Rattle.prop_numbers.specs.Sets.{IsBelow, set_of}
 use Rattle.prop_premises.specs.declared.choice.Choice.{Choice}
 use Rattle.prop_premises.specs.ChoiceLists.{hypothetical, IsSide, is_side_of, hypotheticals_of, is_hypothetical}
 use Rattle.prop_premises.specs.ChoiceLists.{AreInOrder, AreOfSides}
@@ -17,7 +17,7 @@ use Rattle.prop_premises.specs.Origins.{Origin, User, Side, is_start, with_choic
 use Rattle.prop_premises.proofs.ChoiceLemmas.{choices_of-with_choice, choices_of-take}
 use Rattle.prop_premises.proofs.ChangeLemmas.{believed_in-with_choice, length-with_choice, take-with_choice}
 use Rattle.prop_premises.proofs.EntryLemmas.{take-front}
-use Rattle.prop_premises.proofs.FlagLemmas.{filter-below}
+use Rattle.prop_numbers.proofs.FlagLemmas.{filter-below}
 use Rattle.prop_premises.proofs.NumberingLaws.{numbered_choice}
 use Rattle.prop_premises.proofs.OriginLemmas.{in_range, is_user_at-believed}
 use Rattle.prop_premises.proofs.WorldviewLemmas.{hypotheticals_of-push}

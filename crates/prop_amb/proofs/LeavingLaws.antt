@@ -1,7 +1,7 @@
 -- The choice at a place and the side that a list takes of it.
 use Rattle.std.proofs.Common.{◌≡◌, ◌∙◌, ℕ, ◌+◌, ◌<◌, ◌&&◌, ◌==◌, not, false, List, length, take, IsTrue, Some, ap}
 use Rattle.std.proofs.Common.{arith, slice_get, slice_index_or}
-use Rattle.prop_premises.specs.Sets.{Members, IsSame, without}
+use Rattle.prop_numbers.specs.Sets.{Members, IsSame, without}
 use Rattle.prop_premises.specs.declared.choice.Choice.{Choice}
 use Rattle.prop_premises.specs.ChoiceLists.{hypothetical, is_hypothetical, worldview, IsSide, IsChoiceList, AreInOrder}
 use Rattle.prop_amb.proofs.ZipLemmas.{zip_both, zip_length}

@@ -5,7 +5,7 @@ use Rattle.std.proofs.Common.{refl, sym, ap, arith, inl, inr}
 use Rattle.std.proofs.lemmas.Bool.{or_cases, ne_eqb}
 use Rattle.std.proofs.lemmas.Bool.Decides.{eqb_tells}
 use Rattle.std.proofs.lemmas.List.{take_all, length-map}
-use Rattle.prop_premises.specs.Sets.{Members}
+use Rattle.prop_numbers.specs.Sets.{Members}
 use Rattle.prop_premises.specs.declared.choice.Choice.{Choice}
 use Rattle.prop_premises.specs.ChoiceLists.{hypothetical, hypotheticals_of, worldview, is_hypothetical, IsChoiceList}
 use Rattle.prop_premises.specs.ChoiceLists.{AreInOrder}

@@ -1,7 +1,7 @@
 -- What stands at a place of a search, and what a refuted set shows of it.
 use Rattle.std.proofs.Common.{◌≡◌, ◌∙◌, ℕ, zero, suc, ◌+◌, ◌<◌, ◌≤◌, IsTrue, List, [], ◌∷◌, length, Some, refl, sym, ap}
 use Rattle.std.proofs.Common.{subst, false, arith, slice_get, slice_index_or}
-use Rattle.prop_premises.specs.Sets.{Members, IsSame, union, without}
+use Rattle.prop_numbers.specs.Sets.{Members, IsSame, union, without}
 use Rattle.prop_premises.specs.declared.choice.Choice.{Choice}
 use Rattle.prop_premises.specs.ChoiceLists.{hypothetical, is_hypothetical, is_side_of, IsSide}
 use Rattle.prop_cells.specs.Problems.{Problem}

@@ -2,9 +2,9 @@
 use Rattle.std.proofs.Common.{◌≡◌, ◌∙◌, ℕ, zero, suc, IsTrue, Bool, true, false, List, [], ◌∷◌, Contains, Some}
 use Rattle.std.proofs.Common.{slice_get, refl, sym, inl, inr, arith}
 use Rattle.std.proofs.lemmas.List.Elements.{All-contains}
-use Rattle.prop_premises.specs.Sets.{Members, IsPart, set_of, is_within}
+use Rattle.prop_numbers.specs.Sets.{Members, IsPart, set_of, is_within}
 use Rattle.prop_premises.specs.ChoiceLists.{IsBefore}
-use Rattle.prop_premises.proofs.WithinLemmas.{within_has}
+use Rattle.prop_numbers.proofs.WithinLemmas.{within_has}
 use Rattle.prop_cells.specs.Problems.{Problem}
 use Rattle.prop_cells.specs.Reach.{IsConflict}
 use Rattle.prop_nogoods.specs.Stores.{has_part, AddsSet}

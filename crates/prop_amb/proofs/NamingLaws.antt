@@ -8,16 +8,16 @@ use Rattle.std.proofs.lemmas.List.{length-take}
 use Rattle.std.proofs.lemmas.List.Folds.{list_any-append}
 use Rattle.std.proofs.lemmas.List.Elements.{filter-append}
 use Rattle.std.proofs.lemmas.Map.Views.{any-filter_same}
-use Rattle.prop_lattice.specs.Refusals.{most}
-use Rattle.prop_lattice.specs.declared.refusal.Limit.TheVariants.{Premises}
-use Rattle.prop_premises.specs.Sets.{Members, IsSame, IsBelow, set_of, union}
+use Rattle.prop_refusals.specs.Refusals.{most}
+use Rattle.prop_refusals.specs.declared.refusal.Limit.TheVariants.{Premises}
+use Rattle.prop_numbers.specs.Sets.{Members, IsSame, IsBelow, set_of, union}
 use Rattle.prop_premises.specs.ChoiceLists.{hypotheticals_of, is_hypothetical}
 use Rattle.prop_premises.specs.Origins.{Origin, User, Side, is_believed, is_user_at, is_start, believed_in}
 use Rattle.prop_premises.specs.Origins.{premise_number, with_name, choices_from, choices_of, IsNumbered}
 use Rattle.prop_premises.proofs.ChoiceLemmas.{choices_of-user}
 use Rattle.prop_premises.proofs.ChangeLemmas.{believed_in-with_name}
 use Rattle.prop_premises.proofs.EntryLemmas.{take-front}
-use Rattle.prop_premises.proofs.FlagLemmas.{filter-below}
+use Rattle.prop_numbers.proofs.FlagLemmas.{filter-below}
 use Rattle.prop_premises.proofs.NumberingLaws.{numbered_user}
 use Rattle.prop_premises.proofs.OriginLemmas.{in_range, is_user_at-believed, is_user_at-push}
 use Rattle.prop_amb.specs.Search.{Stand, IsStand, users_of, choices_in}

@@ -1,6 +1,6 @@
 -- The lists that are tried one after the other: what is known on the way, and what is known of each once it was tried.
 use Rattle.std.proofs.Common.{◌≡◌, ℕ, ◌+◌, ◌*◌, ◌<◌, ◌≤◌, ◌⊎◌, IsTrue, false, List, [], length}
-use Rattle.prop_premises.specs.Sets.{Members, set_of}
+use Rattle.prop_numbers.specs.Sets.{Members, set_of}
 use Rattle.prop_premises.specs.ChoiceLists.{place_of}
 use Rattle.prop_procedures.specs.Stored.{Stored}
 use Rattle.prop_cells.specs.Data.{Data, IsFree, beliefs, problem_of}

@@ -1,6 +1,6 @@
 -- Contradictory sets with more premises, and with more statements.
 use Rattle.std.proofs.Common.{ℕ, IsTrue, Option, Some, None, get_or, refl}
-use Rattle.prop_premises.specs.Sets.{Members, IsPart}
+use Rattle.prop_numbers.specs.Sets.{Members, IsPart}
 use Rattle.prop_cells.specs.Problems.{Problem, Assignment, IsSolution, IsContradictory, is_member}
 
 member_more : (s t : Members) → IsPart s t → (p : Option ℕ) → IsTrue (is_member s p) → IsTrue (is_member t p)

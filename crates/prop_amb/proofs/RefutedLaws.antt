@@ -3,7 +3,7 @@ use Rattle.std.proofs.Common.{◌≡◌, ℕ, ◌+◌, ◌-◌, ◌<◌, IsTrue,
 use Rattle.std.proofs.Common.{sym, inl, inr, ◌⊎◌, arith}
 use Rattle.std.specs.List.{AllZip}
 use Rattle.std.proofs.lemmas.Bool.{cases_order, le-leb, lt-ltb, and_from}
-use Rattle.prop_premises.specs.Sets.{Members, IsPart, union}
+use Rattle.prop_numbers.specs.Sets.{Members, IsPart, union}
 use Rattle.prop_premises.specs.declared.choice.Choice.{Choice}
 use Rattle.prop_premises.specs.ChoiceLists.{hypothetical, IsSide, IsChoiceList, TakesSidesIn, hypotheticals_of}
 use Rattle.prop_premises.specs.ChoiceLists.{worldview, is_hypothetical, is_side_of, IsBefore}
@@ -37,9 +37,6 @@ zip_front R (x ∷ xs) ys (z ∷ zs) h = (h.0, zip_front R xs ys zs h.1)
 or_right : (x y z : Bool) → (y ≡ true → z ≡ true) → (x || y) ≡ true → (x || z) ≡ true
 or_right true y z f h = refl
 or_right false y z f h = f h
-
-or_both : (x y z : Bool) → (y ≡ true → z ≡ true) → (x || y) ≡ true → (x || z) ≡ true
-or_both = or_right
 
 taken_front : (choices more : List Choice) (list : List ℕ) (p : ℕ)
     → IsTrue (hypotheticals_of choices (front choices list) p) → IsTrue (hypotheticals_of (choices ++ more) list p)
@@ -187,10 +184,3 @@ covered_choice choices choice listed m c list is_list =
     (union m (hypotheticals_of (choices ++ choice ∷ []) list))
     (union_right m _ _ (taken_front choices (choice ∷ []) list))
     (c (front choices list) (zip_front IsSide choices (choice ∷ []) list is_list))
-
--- only a refuted set of believed user's premises excludes a first consistent list
-pub settled_or_contradiction : (problem : Problem) (choices : List Choice) (believed n : Members) (list : List ℕ) →
-    IsOfUsers choices n → IsPart n believed → IsRefuted problem choices n
-    → IsFirstConsistent problem believed choices list → ⊥
-settled_or_contradiction problem choices believed n list users part r first =
-    believed_refutes problem choices believed n users part r list first.is_list first.consistent

@@ -3,7 +3,7 @@ use Rattle.std.proofs.Common.{◌≡◌, ◌∙◌, ℕ, zero, suc, ◌+◌, ◌
 use Rattle.std.proofs.Common.{List, [], ◌∷◌, ◌||◌, ◌&&◌, ◌==◌, length, take, Some, refl, sym, ◌⊎◌, inl, inr, arith}
 use Rattle.std.proofs.Common.{slice_get, slice_index_or}
 use Rattle.std.proofs.lemmas.Bool.{cases_lt, cases_Bool, or_cases, and_parts, eqb-true, eq-eqb, lt-ltb, le-ltb}
-use Rattle.prop_premises.specs.Sets.{Members, IsPart, IsSame, set_of, union, without}
+use Rattle.prop_numbers.specs.Sets.{Members, IsPart, IsSame, set_of, union, without}
 use Rattle.prop_premises.specs.declared.choice.Choice.{Choice}
 use Rattle.prop_premises.specs.ChoiceLists.{hypothetical, hypotheticals_of, is_side_of, IsSide, IsChoiceList}
 use Rattle.prop_premises.specs.ChoiceLists.{TakesSidesIn, AreInOrder}

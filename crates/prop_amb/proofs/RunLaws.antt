@@ -5,7 +5,7 @@ use Rattle.prop_cells.specs.Problems.{Problem, Assignment}
 use Rattle.prop_cells.specs.Reach.{IsConflict}
 use Rattle.prop_cells.specs.Data.{Data, problem_of}
 use Rattle.prop_scheduler.specs.Potential.{potential, most_steps}
-use Rattle.prop_premises.specs.Sets.{Members}
+use Rattle.prop_numbers.specs.Sets.{Members}
 
 pub same_problem : {L : Type 0} (stored : L → List Stored) (a b : L) (old new : Data) → b ≡ a
     → new ≡ record old { contents = new.contents } → problem_of (stored b) new ≡ problem_of (stored a) old

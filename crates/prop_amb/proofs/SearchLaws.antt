@@ -4,7 +4,7 @@ use Rattle.std.proofs.Common.{◌||◌, ◌==◌, refl, inl, inr, ◌⊎◌, ari
 use Rattle.std.specs.List.{AllByRecursion}
 use Rattle.std.proofs.lemmas.Bool.{cases_eq, or_cases, eqb-true, eq-eqb, lt-leb, le-ltb, le-leb, lt-ltb, and_from}
 use Rattle.std.proofs.lemmas.Bool.{and_left, and_right}
-use Rattle.prop_premises.specs.Sets.{Members, IsPart, union, set_of}
+use Rattle.prop_numbers.specs.Sets.{Members, IsPart, union, set_of}
 use Rattle.prop_premises.specs.declared.choice.Choice.{Choice}
 use Rattle.prop_premises.specs.ChoiceLists.{hypothetical, IsSide, IsChoiceList, TakesSidesIn, hypotheticals_of}
 use Rattle.prop_premises.specs.ChoiceLists.{worldview, is_hypothetical, is_side_of, IsBefore, AreInOrder}

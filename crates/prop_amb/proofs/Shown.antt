@@ -1,7 +1,7 @@
 -- What is known of a set while choices are looked at from the last on: that it is refuted, and of which choices it
 -- still holds sides.
 use Rattle.std.specs.Prelude.{ℕ, take}
-use Rattle.prop_premises.specs.Sets.{Members, IsPart, union}
+use Rattle.prop_numbers.specs.Sets.{Members, IsPart, union}
 use Rattle.prop_premises.specs.ChoiceLists.{hypotheticals_of}
 use Rattle.prop_cells.specs.Problems.{Problem}
 use Rattle.prop_amb.specs.Refuted.{IsRefuted, IsGrounded, IsCovered}

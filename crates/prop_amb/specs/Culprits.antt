@@ -1,6 +1,6 @@
 -- Which sides of choices a nogood speaks against.
 use Rattle.std.specs.Prelude.{◌≡◌, ℕ, IsTrue, List, [], Some, slice_get, slice_index_or, Contains}
-use Rattle.prop_premises.specs.Sets.{Members, set_of, IsPart}
+use Rattle.prop_numbers.specs.Sets.{Members, set_of, IsPart}
 use Rattle.prop_premises.specs.declared.choice.Choice.{Choice}
 use Rattle.prop_premises.specs.ChoiceLists.{hypothetical}
 use Rattle.prop_amb.specs.Search.{Stand, choices_in, believed_with}

@@ -1,6 +1,6 @@
 -- What settling does, step by step.
 use Rattle.std.specs.Prelude.{◌≡◌, ℕ, ◌+◌, ◌<◌, ◌⊎◌, false, List, [], length, Contains}
-use Rattle.prop_premises.specs.Sets.{set_of}
+use Rattle.prop_numbers.specs.Sets.{set_of}
 use Rattle.prop_procedures.specs.Stored.{Stored}
 use Rattle.prop_cells.specs.Data.{Data, IsFree, IsClash}
 use Rattle.prop_nogoods.specs.Stores.{has_part, AddsSet}

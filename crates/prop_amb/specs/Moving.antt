@@ -2,10 +2,10 @@
 use Rattle.std.specs.Prelude.{◌≡◌, ℕ, zero, suc, ◌+◌, List, [], ◌∷◌, ◌++◌, length, map, cond}
 use Rattle.std.specs.Prelude.{if◌then◌else◌, ◌||◌, ◌==◌, nat_lt, nat_le, is_some, Option, Some}
 use Rattle.std.specs.Prelude.{None, false}
-use Rattle.prop_lattice.specs.Refusals.{most}
-use Rattle.prop_lattice.specs.declared.refusal.Limit.TheVariants.{Premises, Choices}
-use Rattle.prop_lattice.specs.declared.refusal.Refusal.{Refusal}
-use Rattle.prop_lattice.specs.declared.refusal.Refusal.TheVariants.{NameTaken, LimitReached}
+use Rattle.prop_refusals.specs.Refusals.{most}
+use Rattle.prop_refusals.specs.declared.refusal.Limit.TheVariants.{Premises, Choices}
+use Rattle.prop_refusals.specs.declared.refusal.Refusal.{Refusal}
+use Rattle.prop_refusals.specs.declared.refusal.Refusal.TheVariants.{NameTaken, LimitReached}
 use Rattle.prop_premises.specs.Origins.{Origin, premise_number, is_choice, with_name, with_choice}
 use Rattle.prop_premises.specs.Origins.{choices_of}
 use Rattle.prop_premises.specs.declared.choice.Choice.{Choice}

@@ -1,6 +1,6 @@
 -- Sets of premises that no choice list can believe, and the first list that holds.
 use Rattle.std.specs.Prelude.{◌≡◌, ℕ, IsTrue, List, false}
-use Rattle.prop_premises.specs.Sets.{Members, IsPart, union}
+use Rattle.prop_numbers.specs.Sets.{Members, IsPart, union}
 use Rattle.prop_premises.specs.declared.choice.Choice.{Choice}
 use Rattle.prop_premises.specs.ChoiceLists.{IsChoiceList, TakesSidesIn, hypotheticals_of, worldview}
 use Rattle.prop_premises.specs.ChoiceLists.{is_hypothetical, IsBefore}

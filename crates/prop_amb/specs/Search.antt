@@ -2,9 +2,9 @@
 use Rattle.std.specs.Prelude.{◌≡◌, ◌≢◌, ◌≤◌, ◌<◌, ◌⊎◌, ℕ, ◌+◌, ◌-◌, ◌*◌, IsTrue, List, [], length}
 use Rattle.std.specs.Prelude.{Option, Some, slice_get, slice_index_or, take, All}
 use Rattle.std.specs.List.{AllZip}
-use Rattle.prop_lattice.specs.Refusals.{most}
-use Rattle.prop_lattice.specs.declared.refusal.Limit.TheVariants.{Premises}
-use Rattle.prop_premises.specs.Sets.{Members, IsSame, set_of}
+use Rattle.prop_refusals.specs.Refusals.{most}
+use Rattle.prop_refusals.specs.declared.refusal.Limit.TheVariants.{Premises}
+use Rattle.prop_numbers.specs.Sets.{Members, IsSame, set_of}
 use Rattle.prop_premises.specs.Origins.{Origin, believed_in, choices_of, IsNumbered}
 use Rattle.prop_premises.specs.declared.choice.Choice.{Choice}
 use Rattle.prop_premises.specs.ChoiceLists.{hypothetical, hypotheticals_of, worldview, place_of}

@@ -1,6 +1,6 @@
 //! The reasons against all sides of a choice, joined.
 ghost use Rattle.std.specs.Prelude.{◌≡◌, ◌+◌, ◌≤◌, ◌<◌, ◌^◌, length, IfOk};
-ghost use Rattle.prop_premises.specs.Sets.{set_of, union, without, IsSame};
+ghost use Rattle.prop_numbers.specs.Sets.{set_of, union, without, IsSame};
 ghost use Rattle.prop_amb.specs.inner.Joined.{others_of};
 
 use prop_premises::{Premise, PremiseSet};

@@ -1,6 +1,6 @@
 //! Sides of choices that are believed no longer.
 ghost use Rattle.std.specs.Prelude.{◌≡◌, ◌≤◌, ◌<◌, ◌*◌, ℕ, IsTrue, false, length, take};
-ghost use Rattle.prop_premises.specs.Sets.{Members, set_of, IsSame};
+ghost use Rattle.prop_numbers.specs.Sets.{Members, set_of, IsSame};
 ghost use Rattle.prop_premises.specs.ChoiceLists.{worldview, is_hypothetical, IsChoiceList};
 ghost use Rattle.prop_premises.specs.ChoiceLists.{AreInOrder};
 

@@ -19,7 +19,6 @@
 #![tactic(auto)]
 
 pub mod believing;
-pub mod forgetting;
 mod joining;
 pub mod laws;
 mod levels;
@@ -30,6 +29,7 @@ pub mod reasons;
 pub mod resolving;
 pub mod search;
 pub mod settling;
+pub mod unlearning;
 
 pub use laws::additions_keep_searches;
 pub use outcome::Outcome;

@@ -2,7 +2,7 @@
 ghost use Rattle.std.specs.Prelude.{◌≡◌, ◌≤◌, ◌+◌, ◌↔◌, ◌⊎◌, ℕ, List, [], ◌∷◌, ◌++◌, length, take};
 ghost use Rattle.std.specs.Prelude.{Some, None, Err, false, IsTrue, unwrap_or, IfOk, IfErr, OnOk};
 ghost use Rattle.std.specs.Prelude.{OnErr};
-ghost use Rattle.prop_lattice.specs.Refusals.{most};
+ghost use Rattle.prop_refusals.specs.Refusals.{most};
 ghost use Rattle.prop_premises.specs.Origins.{is_user_at, premise_number, is_choice};
 ghost use Rattle.prop_cells.specs.Problems.{Problem};
 ghost use Rattle.prop_amb.specs.Search.{Stand, choices_in, IsStand, IsSearch};
@@ -10,8 +10,8 @@ ghost use Rattle.prop_amb.specs.Moving.{interned, declared, IsLastChoice, IsFres
 
 use crate::reasons::Reasons;
 use crate::search::Search;
-use prop_lattice::{Limit, Refusal};
 use prop_premises::{Choice, Premise};
+use prop_refusals::{Limit, Refusal};
 use std::alloc::AllocError;
 
 impl Search {

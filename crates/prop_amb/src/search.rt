@@ -1,7 +1,7 @@
 //! Where the search for the first consistent list of choices stands, and what it has learned.
 ghost use Rattle.std.specs.Prelude.{◌≡◌, ◌<◌, ◌↔◌, ◌⊎◌, ℕ, List, [], Contains, IsTrue, None, Ok};
 ghost use Rattle.std.specs.Prelude.{false, length, IfOk, IfSome, OnOk, OnErr};
-ghost use Rattle.prop_premises.specs.Sets.{set_of, is_within, IsPart, IsSame};
+ghost use Rattle.prop_numbers.specs.Sets.{set_of, is_within, IsPart, IsSame};
 ghost use Rattle.prop_premises.specs.ChoiceLists.{worldview};
 ghost use Rattle.prop_cells.specs.Problems.{Problem};
 ghost use Rattle.prop_nogoods.specs.Stores.{has_part, NoneEndsBelow, AddsSet};

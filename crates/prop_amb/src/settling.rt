@@ -1,7 +1,7 @@
 //! Settling: the first list of choices that isn't refuted, and the least solution with it.
 ghost use Rattle.std.specs.Prelude.{◌≡◌, ◌⊎◌, ℕ, ◌+◌, ◌*◌, ◌<◌, ◌≤◌, [], false, IsTrue, length, Ok};
 ghost use Rattle.std.specs.Prelude.{Some, None, IfOk, IfSome, OnOk, OnErr};
-ghost use Rattle.prop_premises.specs.Sets.{Members, set_of};
+ghost use Rattle.prop_numbers.specs.Sets.{Members, set_of};
 ghost use Rattle.prop_premises.specs.ChoiceLists.{lists_count};
 ghost use Rattle.prop_procedures.specs.Kept.{AllMean, stored_of};
 ghost use Rattle.prop_cells.specs.Data.{problem_of, beliefs, IsFree};

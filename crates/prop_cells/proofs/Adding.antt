@@ -9,7 +9,7 @@ use Rattle.prop_lattice.specs.declared.info.Info.TheVariants.{Nothing}
 use Rattle.prop_lattice.specs.Order.{Below, merge_of}
 use Rattle.prop_lattice.specs.laws.OrderLaws.{info_laws}
 use Rattle.prop_lattice.specs.Rank.{IsOf}
-use Rattle.prop_premises.specs.Sets.{is_within, is_alike}
+use Rattle.prop_numbers.specs.Sets.{is_within, is_alike}
 use Rattle.prop_tms.specs.Beliefs.{belief_of}
 use Rattle.prop_tms.proofs.BeliefUses.{said_kept}
 use Rattle.prop_procedures.specs.declared.shape.Kinded.{Kinded}

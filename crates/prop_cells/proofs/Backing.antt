@@ -5,11 +5,11 @@ use Rattle.std.specs.List.{list_any}
 use Rattle.std.proofs.lemmas.Bool.{ne_eqb}
 use Rattle.std.proofs.lemmas.List.{length-take, take-append-le}
 use Rattle.std.proofs.lemmas.List.Elements.{All-head, All-tail, All-weaker, All-pop}
-use Rattle.std.proofs.Math.Seq.{take-append_seam, take-length}
+use Rattle.std.proofs.Math.Seq.{take-length}
 use Rattle.prop_procedures.specs.declared.shape.Kinded.{Kinded}
 use Rattle.prop_procedures.specs.declared.shape.Param.{Param}
 use Rattle.prop_cells.specs.Instances.{Instance, IsWithin, readers_of, writers_of}
-use Rattle.prop_cells.specs.Data.{Data, Entry, IsWellMade}
+use Rattle.prop_cells.specs.Data.{Data, IsWellMade}
 use Rattle.prop_cells.specs.inner.Data.{IsStored}
 use Rattle.prop_cells.specs.inner.Rooms.{TakenBack}
 use Rattle.prop_cells.specs.inner.Back.{GoesBackTo}
@@ -23,25 +23,6 @@ pub take_more_of : {X : Type 0} (before xs more : List X) → take (length befor
 take_more_of before xs more e =
     let n : length (take (length before) xs) ≡ length before = ap length e in
     take-append-le (length before) xs more (omega (arith, n, length-take (length before) xs)) ∙ e
-
--- what was made after the data goes back to it
-pub taken_back_is_before : (d : Data) (kinds : List Kinded) (contents : List (List Entry)) (params : List Param)
-    (instances : List Instance) → IsWellMade d →
-    GoesBackTo d (record d {
-      kinds = d.kinds ++ kinds;
-      contents = d.contents ++ contents;
-      params = d.params ++ params;
-      instances = d.instances ++ instances;
-    })
-taken_back_is_before d kinds contents params instances h =
-    let entries : take (length d.kinds) (d.contents ++ contents) ≡ d.contents =
-    ap (λ n. take n (d.contents ++ contents)) (sym h.contents_length) ∙ take-append_seam d.contents contents in
-    λ i. record d {
-      kinds = take-append_seam d.kinds kinds i;
-      contents = entries i;
-      params = take-append_seam d.params params i;
-      instances = take-append_seam d.instances instances i;
-    }
 
 pub goes_back-same : (d : Data) → IsWellMade d → GoesBackTo d d
 goes_back-same d h = λ i. record d {

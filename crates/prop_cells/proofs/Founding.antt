@@ -9,8 +9,8 @@ use Rattle.prop_lattice.specs.declared.info.Info.{Info}
 use Rattle.prop_lattice.specs.declared.info.Info.TheVariants.{Nothing, Contradiction}
 use Rattle.prop_lattice.specs.Order.{Below, merge_of}
 use Rattle.prop_lattice.specs.laws.OrderLaws.{info_laws}
-use Rattle.prop_premises.specs.Sets.{set_of, is_within, union, IsPart, IsSame}
-use Rattle.prop_premises.proofs.WithinLemmas.{within_has, within_from}
+use Rattle.prop_numbers.specs.Sets.{set_of, is_within, union, IsPart, IsSame}
+use Rattle.prop_numbers.proofs.WithinLemmas.{within_has, within_from}
 use Rattle.prop_tms.specs.Beliefs.{belief_of, IsLean}
 use Rattle.prop_tms.proofs.BeliefLemmas.{belief_below}
 use Rattle.prop_tms.proofs.BeliefUses.{within_lean, lean_is_enough}

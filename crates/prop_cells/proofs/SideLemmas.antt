@@ -9,8 +9,8 @@ use Rattle.prop_lattice.specs.declared.info.Info.{Info}
 use Rattle.prop_lattice.specs.declared.info.Info.TheVariants.{Nothing}
 use Rattle.prop_lattice.specs.Order.{Below, merge_of}
 use Rattle.prop_lattice.specs.Rank.{IsOf}
-use Rattle.prop_premises.specs.Sets.{set_of, is_below}
-use Rattle.prop_premises.proofs.WithinLemmas.{within_has, within_from}
+use Rattle.prop_numbers.specs.Sets.{set_of, is_below}
+use Rattle.prop_numbers.proofs.WithinLemmas.{within_has, within_from}
 use Rattle.prop_tms.specs.Beliefs.{Subsumes, joined_with}
 use Rattle.prop_tms.proofs.KeptLemmas.{grown_filter}
 use Rattle.prop_procedures.specs.Fitting.{kind_at}

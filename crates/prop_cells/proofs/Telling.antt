@@ -7,12 +7,12 @@ use Rattle.std.proofs.lemmas.Bool.Decides.{eqb_tells}
 use Rattle.std.proofs.lemmas.List.{get_or_default, get_or-set_other, get_or-set_same, get_or-take, length-append}
 use Rattle.std.proofs.lemmas.List.{length-set, length-take}
 use Rattle.std.proofs.lemmas.List.Folds.{Any-from_list_any}
-use Rattle.std.proofs.lemmas.List.Elements.{All-weaker, All-push, All-contains, All-contains_itself, All-take}
+use Rattle.std.proofs.lemmas.List.Elements.{All-weaker, All-push, All-contains}
 use Rattle.prop_lattice.specs.declared.info.Info.TheVariants.{Nothing}
 use Rattle.prop_lattice.specs.Order.{Below, merge_of}
 use Rattle.prop_lattice.specs.laws.OrderLaws.{info_laws}
 use Rattle.prop_lattice.specs.Rank.{IsOf}
-use Rattle.prop_premises.specs.Sets.{set_of, union, is_within, is_at_most_one_of, IsSame, IsPart}
+use Rattle.prop_numbers.specs.Sets.{set_of, union, is_within, is_at_most_one_of, IsSame, IsPart}
 use Rattle.prop_tms.specs.Beliefs.{belief_of, Trims}
 use Rattle.prop_tms.proofs.BeliefLemmas.{belief_below, below_belief}
 use Rattle.prop_tms.proofs.BeliefUses.{belief_of-more}
@@ -99,15 +99,6 @@ told_taken d told count made h = record {
       rw same (h.each k x l p is);
 }
 
--- fewer statements are told under no other premises
-pub told_fewer : (d : Data) (contents : List (List Entry)) (told : List (List ℕ)) (count : ℕ) → AreTold d told
-    → AreTold (record d { statements = take count d.statements; contents = contents }) told
-told_fewer d contents told count h = record {
-  count = h.count;
-  each = All-take (λ x. (p : ℕ) → x.premise ≡ Some p → IsTrue (set_of (slice_index_or told x.cell []) p)) count
-      d.statements h.each;
-}
-
 -- ---- entries that go
 
 pub trims_at : (s told : Premises) (contents : List (List Entry)) (cell : ℕ) (old new : List Entry)
@@ -137,18 +128,6 @@ trim_keeps s told contents cell old new l at t e c is_told =
 pub read_there : {X : Type 0} (xs : List X) (i : ℕ) (x d : X) → i < length xs → x ≡ slice_index_or xs i x
     → x ≡ slice_index_or xs i d
 read_there xs i x d l at = at ∙ get_or_default xs i x d l
-
--- nothing goes
-pub trims_nothing : (s told : Premises) (contents : List (List Entry)) (cell : ℕ)
-    → TrimsAt s told contents contents cell
-trims_nothing s told contents cell =
-    record {
-      same_length = refl;
-      among = All-contains_itself (content_of contents cell);
-      belief = refl;
-      few = λ le. refl;
-      others = λ c ne. refl;
-    }
 
 -- what rests on one of some premises alone rests on one of more
 one_of_more : (s t : Premises) → IsPart s t → (support : List ℕ) → is_at_most_one_of s support ≡ true

@@ -2,7 +2,7 @@
 use Rattle.std.specs.Prelude.{◌≡◌, ℕ}
 use Rattle.prop_lattice.specs.declared.info.Info.{Info}
 use Rattle.prop_lattice.specs.declared.info.Info.TheVariants.{Contradiction}
-use Rattle.prop_premises.specs.Sets.{IsPart}
+use Rattle.prop_numbers.specs.Sets.{IsPart}
 use Rattle.prop_cells.specs.Problems.{Problem, Premises, Assignment, IsLeastSolution, Entails}
 use Rattle.prop_cells.specs.Problems.{IsContradictory, Extends}
 use Rattle.prop_cells.specs.Reach.{Reaches, IsRelatedAt}

@@ -1,7 +1,7 @@
 -- Which cells a premise can bear on.
 use Rattle.std.specs.Prelude.{◌≡◌, ℕ, IsTrue, Some, Contains}
 use Rattle.prop_lattice.specs.declared.info.Info.{Info}
-use Rattle.prop_premises.specs.Sets.{IsPart}
+use Rattle.prop_numbers.specs.Sets.{IsPart}
 use Rattle.prop_cells.specs.declared.instance.Statement.{Statement}
 use Rattle.prop_cells.specs.Problems.{Premises, Problem, Constraint, Entails, IsContradictory}
 

@@ -4,16 +4,16 @@ use Rattle.std.specs.Prelude.{ℕ, ◌+◌, ◌^◌, ◌/◌, ◌==◌, nat_le, 
 use Rattle.std.specs.Prelude.{[], ◌∷◌, ◌++◌, Option, None, is_none, length, slice_get}
 use Rattle.std.specs.Option.{option_map_or, option_or}
 use Rattle.std.specs.List.{list_any}
-use Rattle.prop_lattice.specs.Refusals.{most, when}
+use Rattle.prop_refusals.specs.Refusals.{most, when}
 use Rattle.prop_lattice.specs.declared.info.Info.{Info}
 use Rattle.prop_lattice.specs.declared.info.Info.TheVariants.{Nothing, Span, Set, Sym}
 use Rattle.prop_lattice.specs.declared.info.Kind.{Kind}
 use Rattle.prop_lattice.specs.declared.info.Kind.TheVariants as kinds
-use Rattle.prop_lattice.specs.declared.refusal.Limit.TheVariants.{Cells, Instances, Statements}
-use Rattle.prop_lattice.specs.declared.refusal.Refusal.{Refusal}
-use Rattle.prop_lattice.specs.declared.refusal.Refusal.TheVariants.{NoSuchCell, WrongCount}
-use Rattle.prop_lattice.specs.declared.refusal.Refusal.TheVariants.{WrongKind, WrongParameter}
-use Rattle.prop_lattice.specs.declared.refusal.Refusal.TheVariants.{LimitReached}
+use Rattle.prop_refusals.specs.declared.refusal.Limit.TheVariants.{Cells, Instances, Statements}
+use Rattle.prop_refusals.specs.declared.refusal.Refusal.{Refusal}
+use Rattle.prop_refusals.specs.declared.refusal.Refusal.TheVariants.{NoSuchCell, WrongCount}
+use Rattle.prop_refusals.specs.declared.refusal.Refusal.TheVariants.{WrongKind, WrongParameter}
+use Rattle.prop_refusals.specs.declared.refusal.Refusal.TheVariants.{LimitReached}
 use Rattle.prop_procedures.specs.Stored.{Stored}
 use Rattle.prop_procedures.specs.Fitting.{kind_at, kinds_fit}
 use Rattle.prop_cells.specs.Instances.{sides_given, param_in}

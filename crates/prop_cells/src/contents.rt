@@ -6,7 +6,7 @@ ghost use Rattle.std.specs.Prelude.{false};
 ghost use Rattle.std.specs.List.{list_any};
 ghost use Rattle.prop_lattice.specs.Order.{Below, merge_of, is_contradiction};
 ghost use Rattle.prop_tms.specs.Beliefs.{AreNeeded};
-ghost use Rattle.prop_premises.specs.Sets.{set_of, union, is_within, is_at_most_one_of, IsSame};
+ghost use Rattle.prop_numbers.specs.Sets.{set_of, union, is_within, is_at_most_one_of, IsSame};
 ghost use Rattle.prop_cells.specs.Data.{beliefs, support_of, IsSupport, IsLeanAt, AddsAt, TrimsAt};
 ghost use Rattle.prop_cells.specs.Data.{Entry, content_of, derived_of, most_derived};
 ghost use Rattle.prop_cells.specs.inner.Sides.{StandsAt, entries_below};

@@ -7,9 +7,9 @@ use Rattle.std.proofs.lemmas.List.{take_all}
 use Rattle.std.proofs.lemmas.List.Folds.{list_any_at, list_any_more}
 use Rattle.prop_procedures.specs.Fitting.{fitting_param}
 use Rattle.std.specs.List.{list_any}
-use Rattle.prop_lattice.specs.declared.refusal.Refusal.{Refusal}
-use Rattle.prop_lattice.specs.declared.refusal.Refusal.TheVariants.{WrongKind, WrongParameter}
-use Rattle.prop_lattice.specs.Refusals.{when, first_of}
+use Rattle.prop_refusals.specs.declared.refusal.Refusal.{Refusal}
+use Rattle.prop_refusals.specs.declared.refusal.Refusal.TheVariants.{WrongKind, WrongParameter}
+use Rattle.prop_refusals.specs.Refusals.{when, first_of}
 use Rattle.prop_procedures.specs.declared.shape.Kinded.{Kinded}
 use Rattle.prop_procedures.specs.declared.shape.Param.{Param}
 use Rattle.prop_procedures.specs.Stored.{Stored}
@@ -28,16 +28,6 @@ stops r b rest e = ap (λ t. first_of (when r t ∷ rest)) e
 pub passes : (r : Refusal) (b : Bool) (rest : List (Option Refusal)) (o : Option Refusal) → b ≡ false
     → first_of rest ≡ o → first_of (when r b ∷ rest) ≡ o
 passes r b rest o e h = ap (λ t. first_of (when r t ∷ rest)) e ∙ h
-
--- one of several does
-pub stops_at : (x : Option Refusal) (rest : List (Option Refusal)) (r : Refusal) → x ≡ Some r
-    → first_of (x ∷ rest) ≡ Some r
-stops_at x rest r e = ap (λ o. first_of (o ∷ rest)) e
-
--- none of several does
-pub passes_by : (x : Option Refusal) (rest : List (Option Refusal)) (o : Option Refusal) → x ≡ None → first_of rest ≡ o
-    → first_of (x ∷ rest) ≡ o
-passes_by x rest o e h = ap (λ y. first_of (y ∷ rest)) e ∙ h
 
 -- none of two did
 pub neither : (r s : Refusal) (a b : Bool) → first_of (when r a ∷ when s b ∷ []) ≡ None → (a ≡ false) × (b ≡ false)

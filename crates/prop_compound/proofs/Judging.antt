@@ -6,11 +6,12 @@ use Rattle.std.specs.Borrow.{Bor}
 use Rattle.std.specs.List.{list_any, flat_map}
 use Rattle.std.proofs.lemmas.List.{take_at, drop_at, length-map, length-append}
 use Rattle.std.proofs.lemmas.Bool.{or_parts, or_left, or_right}
-use Rattle.prop_lattice.specs.Refusals.{most, when, first_of}
-use Rattle.prop_lattice.specs.declared.refusal.Limit.TheVariants.{Definitions as TooMany}
-use Rattle.prop_lattice.specs.declared.refusal.Refusal.{Refusal}
-use Rattle.prop_lattice.specs.declared.refusal.Refusal.TheVariants.{NameTaken, NoSuchDomain, NoSuchRelation, NoSuchCell}
-use Rattle.prop_lattice.specs.declared.refusal.Refusal.TheVariants.{NoSuchProcedure, WrongCount, LimitReached, Memory}
+use Rattle.prop_refusals.specs.Refusals.{most, when, first_of}
+use Rattle.prop_refusals.specs.declared.refusal.Limit.TheVariants.{Definitions as TooMany}
+use Rattle.prop_refusals.specs.declared.refusal.Refusal.{Refusal}
+use Rattle.prop_refusals.specs.declared.refusal.Refusal.TheVariants.{NameTaken, NoSuchDomain, NoSuchRelation}
+use Rattle.prop_refusals.specs.declared.refusal.Refusal.TheVariants.{NoSuchCell, NoSuchProcedure, WrongCount}
+use Rattle.prop_refusals.specs.declared.refusal.Refusal.TheVariants.{LimitReached, Memory}
 use Rattle.prop_sets.specs.Names.{has_repeat}
 use Rattle.prop_procedures.specs.Stored.{Stored, procedure_number}
 use Rattle.prop_vocabulary.specs.Names.{number_in}

@@ -11,8 +11,8 @@ use Rattle.std.proofs.lemmas.List.{drop_at, get_or_at, get_or-take, get_or_defau
 use Rattle.std.proofs.lemmas.List.Folds.{list_any-append, list_any_at, list_any_none}
 use Rattle.std.proofs.lemmas.List.Concat.{flat_map-append, flat_map-cons, flat_map_single}
 use Rattle.std.proofs.lemmas.List.Quantifiers.{position-Some}
-use Rattle.prop_lattice.specs.declared.refusal.Refusal.{Refusal}
-use Rattle.prop_lattice.specs.declared.refusal.Refusal.TheVariants.{NameTaken, Memory}
+use Rattle.prop_refusals.specs.declared.refusal.Refusal.{Refusal}
+use Rattle.prop_refusals.specs.declared.refusal.Refusal.TheVariants.{NameTaken, Memory}
 use Rattle.prop_sets.specs.Names.{is_among, has_repeat}
 use Rattle.prop_sets.proofs.NameLemmas.{no_repeat-push, repeat_from_before}
 use Rattle.prop_vocabulary.specs.Names.{number_in, is_missing}

@@ -1,8 +1,8 @@
 //! For how much a use of a definition stands, known before anything is made.
 ghost use Rattle.std.specs.Prelude.{◌≡◌, ◌+◌, min, All, length, sum_by, IfOk, IfErr};
 ghost use Rattle.std.specs.List.{list_any};
-ghost use Rattle.prop_lattice.specs.Refusals.{most};
-ghost use Rattle.prop_lattice.specs.declared.refusal.Limit.TheVariants.{Cells, Instances};
+ghost use Rattle.prop_refusals.specs.Refusals.{most};
+ghost use Rattle.prop_refusals.specs.declared.refusal.Limit.TheVariants.{Cells, Instances};
 ghost use Rattle.prop_compound.specs.Definitions.{is_passing_on};
 ghost use Rattle.prop_compound.specs.Kept.{all_bare};
 ghost use Rattle.prop_compound.specs.inner.Kept.{fresh_of, instances_of, total_of, IsUseBelow};

@@ -2,7 +2,7 @@
 ghost use Rattle.std.specs.Prelude.{◌≡◌, ◌≤◌, ◌++◌, ◌∷◌, [], false, All, length, map, take, drop};
 ghost use Rattle.std.specs.Prelude.{IfOk, IfErr, IfSome, OnOk, OnErr, Err, None, Some};
 ghost use Rattle.std.specs.List.{flat_map};
-ghost use Rattle.prop_lattice.specs.Refusals.{first_of};
+ghost use Rattle.prop_refusals.specs.Refusals.{first_of};
 ghost use Rattle.prop_procedures.specs.Kept.{stored_of};
 ghost use Rattle.prop_vocabulary.specs.Names.{number_in};
 ghost use Rattle.prop_vocabulary.specs.Refusing.{IsReason};

@@ -8,7 +8,7 @@ use Rattle.std.proofs.Math.Seq.{take-add}
 use Rattle.std.specs.Prelude.{Option, Some, None, Result, Ok, Err, OnErr}
 use Rattle.std.proofs.lemmas.List.{take-append-drop}
 use Rattle.prop_engine.specs.Watched.{AppendsFront}
-use Rattle.std.specs.Io.KnownBytes.{Appends, Consumes, Keeps, ReadConsumes, WriteAppends}
+use Rattle.std.specs.Io.KnownBytes.{Appends, Consumes, Keeps}
 
 pub appends_more : (a b c : Option (List ℕ)) (x y : List ℕ) → Appends a b x → Appends b c y → Appends a c (x ++ y)
 appends_more None b c x y p q = tt
@@ -26,12 +26,6 @@ keeps_appended (Some xs) None c x p q = absurd p
 keeps_appended (Some xs) (Some ys) None x p q = absurd q
 keeps_appended (Some xs) (Some ys) (Some zs) x p q = q ∙ p
 
-pub keeps_before : (a b c : Option (List ℕ)) (x : List ℕ) → Keeps a b → Appends b c x → Appends a c x
-keeps_before None b c x p q = tt
-keeps_before (Some xs) None c x p q = absurd p
-keeps_before (Some xs) (Some ys) None x p q = absurd q
-keeps_before (Some xs) (Some ys) (Some zs) x p q = q ∙ ap (λ l. l ++ x) p
-
 pub consumes_more : (a b c : Option (List ℕ)) (x y : List ℕ) → Consumes a b x → Consumes b c y → Consumes a c (x ++ y)
 consumes_more None b c x y p q = tt
 consumes_more (Some xs) None c x y p q = absurd p
@@ -41,12 +35,6 @@ consumes_more (Some xs) (Some ys) (Some zs) x y p q = p ∙ ap (λ l. x ++ l) q 
 pub consumes_none : (a : Option (List ℕ)) → Consumes a a []
 consumes_none None = tt
 consumes_none (Some xs) = refl
-
-pub consumed_after : (a b c : Option (List ℕ)) (x : List ℕ) → Keeps a b → Consumes b c x → Consumes a c x
-consumed_after None b c x p q = tt
-consumed_after (Some xs) None c x p q = absurd p
-consumed_after (Some xs) (Some ys) None x p q = absurd q
-consumed_after (Some xs) (Some ys) (Some zs) x p q = sym p ∙ q
 
 pub consumed_kept : (a b c : Option (List ℕ)) (x : List ℕ) → Consumes a b x → Keeps b c → Consumes a c x
 consumed_kept None b c x p q = tt
@@ -78,18 +66,6 @@ not_stopped a false n len h e = elim (eqb_tells n 0) [
   | inr p ↦ e ∙ ap (λ t. t && not (len == 0)) p.0
 ]
 
-pub prefix_of_first : (a b : Option (List ℕ)) (x y : List ℕ) → AppendsFront a b x → AppendsFront a b (x ++ y)
-prefix_of_first a b x y (prefix, missing, p, e) =
-    (prefix, missing ++ y, p, ap (λ l. l ++ y) e ∙ append_assoc prefix missing y)
-
-pub prefix_of_second : (a b c : Option (List ℕ)) (x y : List ℕ) → Appends a b x → AppendsFront b c y
-    → AppendsFront a c (x ++ y)
-prefix_of_second a b c x y p (prefix, missing, q, e) =
-    (x ++ prefix, missing, appends_more a b c x prefix p q, ap (λ l. x ++ l) e ∙ sym (append_assoc x prefix missing))
-
-pub prefix_of_whole : (a b : Option (List ℕ)) (x : List ℕ) → Appends a b x → AppendsFront a b x
-prefix_of_whole a b x p = (x, [], p, sym (append-nil x))
-
 pub front_taken : (a b : Option (List ℕ)) (k : ℕ) (x : List ℕ) → Appends a b (take k x) → AppendsFront a b x
 front_taken a b k x p = (take k x, drop k x, p, sym (take-append-drop k x))
 
@@ -97,30 +73,3 @@ front_taken a b k x p = (take k x, drop k x, p, sym (take-append-drop k x))
 pub on_err : {T E : Type 0} (r : Result T E) (P : Type 0) → P → OnErr r P
 on_err (Ok x) P p = tt
 on_err (Err e) P p = p
-
-pub prefix_is : {T E : Type 0} (r : Result T E) (a b : Option (List ℕ)) (x y : List ℕ) → x ≡ y → AppendsFront a b y
-    → OnErr r (AppendsFront a b x)
-prefix_is r a b x y e p = on_err r _ (subst (λ (l : List ℕ). AppendsFront a b l) (sym e) p)
-
--- known bytes that two calls keep
-pub keeps_more : (a b c : Option (List ℕ)) → Keeps a b → Keeps b c → Keeps a c
-keeps_more None b c p q = tt
-keeps_more (Some xs) None c p q = absurd p
-keeps_more (Some xs) (Some ys) None p q = absurd q
-keeps_more (Some xs) (Some ys) (Some zs) p q = q ∙ p
-
-pub keeps_none : (a : Option (List ℕ)) → Keeps a a
-keeps_none None = tt
-keeps_none (Some xs) = refl
-
--- a read behind calls that took nothing
-pub read_after : {E : Type 0} (a b c : Option (List ℕ)) (r : Result ℕ E) (bytes : List ℕ) → Keeps a b
-    → ReadConsumes b c r bytes → ReadConsumes a c r bytes
-read_after a b c (Ok n) bytes p q = (consumed_after a b c (take n bytes) p q.0, q.1)
-read_after a b c (Err e) bytes p q = keeps_more a b c p q
-
--- a write behind calls that wrote nothing
-pub write_after : {E : Type 0} (a b c : Option (List ℕ)) (r : Result ℕ E) (bytes : List ℕ) → Keeps a b
-    → WriteAppends b c r bytes → WriteAppends a c r bytes
-write_after a b c (Ok n) bytes p q = keeps_before a b c (take n bytes) p q
-write_after a b c (Err e) bytes p q = keeps_more a b c p q

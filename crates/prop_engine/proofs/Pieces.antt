@@ -1,15 +1,15 @@
 -- A session, a read at a time.
 use Rattle.std.proofs.Common.{◌≡◌, ℕ, ◌<◌, List, [], ◌++◌, Bool, true, false, refl, sym, ◌∙◌, ap, subst, append-nil}
 use Rattle.std.proofs.Common.{arith, inl, inr}
-use Rattle.std.specs.Prelude.{◌≢◌, Option, Some, None, Result, Ok, Err, IfOk, OnErr, ◌||◌, ◌&&◌, not, ◌==◌}
+use Rattle.std.specs.Prelude.{◌≢◌, Option, Some, None, Result, Ok, Err, OnErr, ◌||◌, ◌&&◌, not, ◌==◌}
 use Rattle.std.specs.Io.KnownBytes.{Appends, Consumes, Keeps, IsAtEnd}
 use Rattle.std.proofs.lemmas.Bool.Decides.{eqb_tells}
 use Rattle.std.proofs.lemmas.Bool.{false≢true}
 use Rattle.prop_engine.specs.Watched.{AppendsFront}
 use Rattle.prop_engine.specs.Answers.{Answer, Silent, text_written}
-use Rattle.prop_engine.specs.Transcripts.{Machine, IsTranscript}
+use Rattle.prop_engine.specs.Transcripts.{Machine}
 use Rattle.prop_engine.specs.inner.Progress.{Progress, CountsAnswer, Advances, Stops}
-use Rattle.prop_engine.specs.Endings.{Tells, WritesTranscript, WritesPrefix}
+use Rattle.prop_engine.specs.Endings.{Tells, WritesPrefix}
 use Rattle.prop_engine.specs.declared.outcome.Counts.{Counts}
 use Rattle.prop_engine.specs.declared.outcome.EngineFault.{EngineFault}
 use Rattle.prop_engine.specs.declared.outcome.EngineFault.TheVariants as faults
@@ -146,21 +146,6 @@ pub told_by : {S : Type 0} (machine : Machine S) (a b x y : Option (List ℕ)) (
     → Told machine a b x y (Err faults.Write) told old new → Told machine a b x y result told old new
 told_by machine a b x y result fault told old new e f p =
     subst (λ (r : Result Counts EngineFault). Told machine a b x y r told old new) (sym (e ∙ ap Err f)) p
-
--- the whole of what a reader had left
-pub whole : {S : Type 0} (machine : Machine S) (a b x y : Option (List ℕ)) (result : Result Counts EngineFault)
-    (told : Bool) (old new : S) → Told machine a b x y result told old new
-    → IfOk result (λ counts. WritesTranscript machine a x y counts old new)
-whole machine None b x y (Ok counts) told old new h = tt
-whole machine (Some xs) None x y (Ok counts) told old new (input, output, p, q, t) = absurd p
-whole machine (Some xs) (Some ys) x y (Ok counts) told old new (input, output, p, q, t) =
-    let same : xs ≡ input = p ∙ ap (λ l. input ++ l) t.1 ∙ append-nil input in (
-      output,
-      q,
-      subst (λ (l : List ℕ). IsTranscript machine old l output counts.lines counts.refused new) (sym same)
-          t.2,
-    )
-whole machine a b x y (Err fault) told old new h = tt
 
 pub prefix_of_whole_input : {S : Type 0} (machine : Machine S) → IsTotal machine
     → (a b x y : Option (List ℕ)) (result : Result Counts EngineFault) (told : Bool) (old new : S)

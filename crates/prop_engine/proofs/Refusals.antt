@@ -4,16 +4,16 @@ use Rattle.std.specs.Prelude.{codes}
 use Rattle.std.specs.Fmt.{decimal}
 use Rattle.std.proofs.lemmas.Fmt.{length-decimal-le}
 use Rattle.std.proofs.lemmas.List.{length-append}
-use Rattle.prop_lattice.specs.declared.refusal.Limit.TheVariants.{Cells, Instances, Premises, Choices, Statements}
-use Rattle.prop_lattice.specs.declared.refusal.Limit.TheVariants.{Domains, Elements, Relations, Definitions, Symbols}
-use Rattle.prop_lattice.specs.declared.refusal.Refusal.{Refusal}
-use Rattle.prop_lattice.specs.declared.refusal.Refusal.TheVariants.{LineTooLong, NotUtf8, UnknownCommand, WrongForm}
-use Rattle.prop_lattice.specs.declared.refusal.Refusal.TheVariants.{NotAName, NotANumber, NameTaken, NoSuchDomain}
-use Rattle.prop_lattice.specs.declared.refusal.Refusal.TheVariants.{NoSuchRelation, NoSuchCell, NoSuchPremise}
-use Rattle.prop_lattice.specs.declared.refusal.Refusal.TheVariants.{NoSuchProcedure, WrongCount, WrongKind}
-use Rattle.prop_lattice.specs.declared.refusal.Refusal.TheVariants.{WrongParameter, NotInTheDomain, EmptyValue}
-use Rattle.prop_lattice.specs.declared.refusal.Refusal.TheVariants.{IsAChoice, LimitReached, Memory}
-use Rattle.prop_lattice.specs.Refusals.{told_as, number_of, reply_to}
+use Rattle.prop_refusals.specs.declared.refusal.Limit.TheVariants.{Cells, Instances, Premises, Choices, Statements}
+use Rattle.prop_refusals.specs.declared.refusal.Limit.TheVariants.{Domains, Elements, Relations, Definitions, Symbols}
+use Rattle.prop_refusals.specs.declared.refusal.Refusal.{Refusal}
+use Rattle.prop_refusals.specs.declared.refusal.Refusal.TheVariants.{LineTooLong, NotUtf8, UnknownCommand, WrongForm}
+use Rattle.prop_refusals.specs.declared.refusal.Refusal.TheVariants.{NotAName, NotANumber, NameTaken, NoSuchDomain}
+use Rattle.prop_refusals.specs.declared.refusal.Refusal.TheVariants.{NoSuchRelation, NoSuchCell, NoSuchPremise}
+use Rattle.prop_refusals.specs.declared.refusal.Refusal.TheVariants.{NoSuchProcedure, WrongCount, WrongKind}
+use Rattle.prop_refusals.specs.declared.refusal.Refusal.TheVariants.{WrongParameter, NotInTheDomain, EmptyValue}
+use Rattle.prop_refusals.specs.declared.refusal.Refusal.TheVariants.{IsAChoice, LimitReached, Memory}
+use Rattle.prop_refusals.specs.Refusals.{told_as, number_of, reply_to}
 
 short_number : (n : ℕ) → n < 100 → length (decimal n) ≤ 2
 short_number n h = length-decimal-le 2 n (omega arith) h (omega arith)

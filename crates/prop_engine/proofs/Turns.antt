@@ -1,10 +1,10 @@
 -- A read and a line come in turn.
 use Rattle.std.proofs.Common.{◌≡◌, ◌≤◌, ◌-◌, ◌∙◌, ℕ, List, Bool, true, false, length, take, drop, refl, ap, arith}
-use Rattle.std.specs.Prelude.{◌||◌, ◌==◌, ◌&&◌, not, ltb}
+use Rattle.std.specs.Prelude.{◌||◌, ltb}
 use Rattle.std.proofs.lemmas.Bool.{le-ltb}
 use Rattle.std.proofs.lemmas.List.{take_rest, length-drop}
 use Rattle.prop_engine.specs.declared.watched.Devices.{Devices}
-use Rattle.prop_engine.specs.Watched.{owed, writer, is_flushed, waits, IsPassedOn}
+use Rattle.prop_engine.specs.Watched.{owed, writer, waits, IsPassedOn}
 
 -- no reply waits where each was passed on
 pub none_waits : {Rd W : Type 0} (d : Devices Rd W) → IsPassedOn d → waits d ≡ false

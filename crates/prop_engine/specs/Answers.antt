@@ -1,9 +1,9 @@
 -- What a line is answered, and what is written for it.
 use Rattle.std.specs.Prelude.{◌≡◌, ◌⊎◌, ℕ, List, [], ◌∷◌, ◌++◌, codes, Bool, true, false, Result}
 use Rattle.std.specs.Prelude.{Ok, Err}
-use Rattle.prop_lattice.specs.declared.refusal.Refusal.{Refusal}
-use Rattle.prop_lattice.specs.declared.refusal.Refusal.TheVariants.{Memory}
-use Rattle.prop_lattice.specs.Refusals.{reply_to}
+use Rattle.prop_refusals.specs.declared.refusal.Refusal.{Refusal}
+use Rattle.prop_refusals.specs.declared.refusal.Refusal.TheVariants.{Memory}
+use Rattle.prop_refusals.specs.Refusals.{reply_to}
 use Rattle.prop_engine.specs.declared.reply.Reply.{Reply}
 
 -- a reply without where its text lies in memory

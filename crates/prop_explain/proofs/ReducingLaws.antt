@@ -3,16 +3,14 @@ use Rattle.std.proofs.Common.{◌≡◌, ◌∙◌, ◌+◌, ◌-◌, ◌*◌, �
 use Rattle.std.proofs.Common.{None, get_or, length, refl, sym, ap, subst, arith}
 use Rattle.prop_lattice.specs.declared.info.Info.{Info}
 use Rattle.prop_lattice.specs.Order.{Below}
-use Rattle.prop_lattice.specs.laws.OrderLaws.{info_laws}
-use Rattle.prop_premises.specs.Sets.{Members, IsPart, set_of, without}
+use Rattle.prop_numbers.specs.Sets.{Members, IsPart, set_of, without}
 use Rattle.prop_procedures.specs.Stored.{Stored}
 use Rattle.prop_cells.specs.Problems.{Problem, Assignment, IsSolution, Entails, IsConsistent, is_member}
 use Rattle.prop_cells.specs.Reach.{IsConflict}
-use Rattle.prop_cells.specs.Data.{Data, problem_of, beliefs, IsKept}
+use Rattle.prop_cells.specs.Data.{Data, problem_of, beliefs}
 use Rattle.prop_scheduler.specs.Agendas.{Waiting}
 use Rattle.prop_scheduler.specs.Potential.{most_steps}
-use Rattle.prop_scheduler.specs.Turns.{IsSettled, IsUnderWay, Turns}
-use Rattle.prop_scheduler.specs.Watching.{IsWatched}
+use Rattle.prop_scheduler.specs.Turns.{IsSettled, Turns}
 use Rattle.prop_explain.specs.inner.Ready.{IsReady, StaysReady}
 use Rattle.prop_explain.specs.Trying.{Tries, TriesOf}
 use Rattle.prop_explain.specs.Trying.TriesOf.{none, tried}
@@ -22,15 +20,6 @@ use Rattle.prop_explain.proofs.TryingLaws.{AreHeld, few_more, held_next, lacks_i
 pub settled_below : (library : List Stored) (s : Members) (d : Data) (cell : ℕ) (v : Info) → IsSettled library s d
     → Entails (problem_of library d) s cell v → Below v (beliefs s d.contents cell)
 settled_below library s d cell v settled e = e.below (beliefs s d.contents) settled.least.solves
-
--- and the other way around
-pub settled_entails : (library : List Stored) (s : Members) (d : Data) (cell : ℕ) (v : Info) → IsSettled library s d
-    → Below v (beliefs s d.contents cell) → Entails (problem_of library d) s cell v
-settled_entails library s d cell v settled h =
-    record {
-      below = λ a solves. info_laws.transitive v (beliefs s d.contents cell) (a cell) h
-          ((settled.least.least cell).below a solves);
-    }
 
 member_more : (s t : Members) → IsPart s t → (p : Option ℕ) → IsTrue (is_member s p) → IsTrue (is_member t p)
 member_more s t part None h = refl
@@ -64,26 +53,6 @@ same_problem library library' start new same rest = λ i. problem_of (same i) (r
 pub as_ready : (library : List Stored) (d : Data) (agenda : Waiting) → IsReady library d agenda
     → StaysReady library d d agenda agenda
 as_ready library d agenda ready = record { rest = refl; ready = ready; room = refl; cells = refl }
-
--- what a run leaves, for which every instance waited
-pub run_leaves : (library library' : List Stored) (s : Members) (old new : Data) (before all after : Waiting)
-    → library' ≡ library → IsReady library old before → new ≡ record old { contents = new.contents }
-    → IsUnderWay library' s new after.line → IsWatched s new after.watched →
-    all.room ≡ before.room → after.room ≡ all.room → all.cells ≡ before.cells → after.cells ≡ all.cells
-    → StaysReady library old new before after
-run_leaves library library' s old new before all after same ready rest under_way watched room room' cells cells' =
-    record {
-      rest = rest;
-      ready = record {
-        kept = subst (λ l. IsKept l new) same under_way.kept;
-        line = under_way.line_below;
-        watched = watched.below;
-        room = rw (room' ∙ room, ap (λ (d : Data). d.instances) rest) ready.room;
-        cells = rw (cells' ∙ cells, ap (λ (d : Data). d.kinds) rest) ready.cells;
-      };
-      room = room' ∙ room;
-      cells = cells' ∙ cells;
-    }
 
 -- what a try leaves of what another left
 pub stays_then : (library : List Stored) (old middle new : Data) (before between after : Waiting)

@@ -8,11 +8,10 @@ use Rattle.std.proofs.lemmas.List.Elements.{All-cons, All-weaker}
 use Rattle.std.proofs.lemmas.List.Folds.{list_any-append}
 use Rattle.std.proofs.Math.Nat.{add-mul}
 use Rattle.prop_lattice.specs.declared.info.Info.{Info}
-use Rattle.prop_premises.specs.Sets.{Members, set_of, IsPart, without}
-use Rattle.prop_premises.proofs.MergeLemmas.{Rising}
+use Rattle.prop_numbers.specs.Sets.{Members, set_of, IsPart, without}
+use Rattle.prop_numbers.proofs.MergeLemmas.{Rising}
 use Rattle.prop_cells.specs.Problems.{Problem, Entails}
 use Rattle.prop_cells.proofs.Founding.{entails_more}
-use Rattle.prop_explain.specs.Irreducible.{IsIrreducible}
 
 -- what is left entails the information, and each premise that was tried and is left is needed
 pub record AreTried (problem : Problem) (cell : ℕ) (v : Info) (tried : List ℕ) (s : Members) : Type 0 where
@@ -93,12 +92,6 @@ module _ (problem : Problem) (cell : ℕ) (v : Info) (tried : List ℕ) (s : Mem
       | inr last ↦ few (rw (sym last) at enough)
     ];
   }
-
--- each premise that is left was tried, so none can be left out
-pub all_tried : (problem : Problem) (cell : ℕ) (v : Info) (tried : List ℕ) (s : Members)
-    → AreTried problem cell v tried s → IsPart s (set_of tried) → IsIrreducible problem s cell v
-all_tried problem cell v tried s known part =
-    record { entails = known.entails; needed = λ p there. known.needed p (part p there) there }
 
 -- one try more, which takes at most so many steps
 pub few_more : (ps : List ℕ) (p most steps calls : ℕ) → steps ≤ length ps * most → calls ≤ most

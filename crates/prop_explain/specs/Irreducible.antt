@@ -1,7 +1,7 @@
 -- Premises that entail an information and of which none can be left out.
 use Rattle.std.specs.Prelude.{ℕ, IsTrue, List}
 use Rattle.prop_lattice.specs.declared.info.Info.{Info}
-use Rattle.prop_premises.specs.Sets.{Members, without}
+use Rattle.prop_numbers.specs.Sets.{Members, without}
 use Rattle.prop_cells.specs.Problems.{Problem, Entails}
 use Rattle.prop_explain.specs.declared.reducing.Core.{Core}
 use Rattle.prop_explain.specs.declared.reducing.Core.TheVariants.{Least, NotReduced}

@@ -1,7 +1,7 @@
 -- What a reduction does, try by try.
 use Rattle.std.specs.Prelude.{ℕ, ◌+◌, ◌<◌, false, ◌≡◌, IsTrue, List, [], ◌∷◌, length, All, Contains}
 use Rattle.prop_procedures.specs.Stored.{Stored}
-use Rattle.prop_premises.specs.Sets.{Members, IsPart}
+use Rattle.prop_numbers.specs.Sets.{Members, IsPart}
 use Rattle.prop_cells.specs.Data.{Data}
 use Rattle.prop_scheduler.specs.Turns.{Turns}
 

@@ -6,14 +6,14 @@ use Rattle.std.specs.Str.{is_utf8}
 use Rattle.std.proofs.lemmas.Option.{none-some}
 use Rattle.std.proofs.lemmas.Bool.{false≢true, lt-ltb, le-ltb, cases_lt}
 use Rattle.std.proofs.lemmas.Str.{IsUtf8-from_is_utf8, is_utf8-from_IsUtf8}
-use Rattle.prop_lattice.specs.declared.refusal.Refusal.{Refusal}
-use Rattle.prop_lattice.specs.declared.refusal.Refusal.TheVariants.{UnknownCommand, WrongForm, NotAName, NotANumber}
+use Rattle.prop_refusals.specs.declared.refusal.Refusal.{Refusal}
+use Rattle.prop_refusals.specs.declared.refusal.Refusal.TheVariants.{UnknownCommand, WrongForm, NotAName, NotANumber}
 use Rattle.prop_language.specs.Tokens.{Token, Word, tokens}
 use Rattle.prop_language.specs.Names.{is_among}
 use Rattle.prop_language.specs.Commands.{Value, Command}
 use Rattle.prop_language.specs.Spelling.{Spells, AreTwoToEight, command_words}
 use Rattle.prop_language.specs.Reading.{without_return, is_silent, command_in_range, begins_as_command, AskFor}
-use Rattle.prop_language.specs.Reading.{IsReadingOf, IsReading, AsRead, HaveOneReading}
+use Rattle.prop_language.specs.Reading.{IsReadingOf, IsReading, HaveOneReading}
 use Rattle.prop_language.specs.Said.{Reads}
 use Rattle.prop_language.specs.declared.command.Command as made
 use Rattle.prop_language.specs.inner.Forms.{forms}
@@ -118,15 +118,6 @@ reading_is line read r = one_reading line read (reading line) r (is_reading line
 
 pub have_one_reading : HaveOneReading
 have_one_reading line = (reading line, is_reading line, λ other r. sym (reading_is line other r))
-
--- what holds of what the reader finds holds of the line as it is read, and the other way round
-pub as_read : (line : List ℕ) (Holds : Result (Option Command) Refusal → Type 0) → Holds (reading line)
-    → AsRead line Holds
-as_read line Holds h = (reading line, is_reading line, h)
-
-pub read_as : (line : List ℕ) (Holds : Result (Option Command) Refusal → Type 0) → AsRead line Holds
-    → Holds (reading line)
-read_as line Holds r = subst Holds (sym (reading_is line r.0 r.1)) r.2
 
 pub reads_line : (line : List ℕ) (result : Result made.Command Refusal) → ReadsAs result (reading line)
     → Reads result (IsReading line)

@@ -3,10 +3,10 @@ use Rattle.std.specs.Prelude.{◌≡◌, ◌⊎◌, ℕ, ◌<◌, ◌≤◌, Lis
 use Rattle.std.specs.Prelude.{not, ◌==◌, length, Option, Some, None, Result, Ok, Err, flat_map}
 use Rattle.std.specs.Prelude.{is_some, IsUtf8}
 use Rattle.std.specs.List.{list_all}
-use Rattle.prop_lattice.specs.declared.refusal.Refusal.{Refusal}
-use Rattle.prop_lattice.specs.declared.refusal.Refusal.TheVariants.{LineTooLong, NotUtf8}
-use Rattle.prop_lattice.specs.declared.refusal.Refusal.TheVariants.{UnknownCommand, WrongForm}
-use Rattle.prop_lattice.specs.declared.refusal.Refusal.TheVariants.{NotAName, NotANumber}
+use Rattle.prop_refusals.specs.declared.refusal.Refusal.{Refusal}
+use Rattle.prop_refusals.specs.declared.refusal.Refusal.TheVariants.{LineTooLong, NotUtf8}
+use Rattle.prop_refusals.specs.declared.refusal.Refusal.TheVariants.{UnknownCommand, WrongForm}
+use Rattle.prop_refusals.specs.declared.refusal.Refusal.TheVariants.{NotAName, NotANumber}
 use Rattle.prop_language.specs.Tokens.{Token, Word, tokens, is_blank}
 use Rattle.prop_language.specs.Names.{is_name, is_among}
 use Rattle.prop_language.specs.Commands.{KindWord, Named, By, Passed, Step, Command}

@@ -10,7 +10,7 @@ ghost use Rattle.prop_language.specs.inner.Parts.{sides_in, few_sides_in, ReadsA
 use crate::command::{Command, Value};
 use crate::forms::{is_end, two_names, two_words, value};
 use crate::steps::behind_word;
-use prop_lattice::Refusal;
+use prop_refusals::Refusal;
 use std::alloc::Global;
 
 /// How many values a choice has at least.

@@ -19,7 +19,7 @@ use crate::command::{By, Command, KindWord, Value};
 use crate::names::name;
 use crate::numbers::{looks_like_number, natural_in, number_in};
 use crate::tokens::{Token, next_token};
-use prop_lattice::Refusal;
+use prop_refusals::Refusal;
 use std::alloc::Global;
 
 /// The word that the bytes begin with, and what stands behind it.

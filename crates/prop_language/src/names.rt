@@ -4,7 +4,7 @@ ghost use Rattle.std.specs.List.{list_all};
 ghost use Rattle.unicode_ident.specs.Ident.{is_xid_continue};
 ghost use Rattle.prop_language.specs.Names.{is_name, is_identifier, is_among, reserved_words};
 
-use prop_lattice::Refusal;
+use prop_refusals::Refusal;
 use unicode_ident::{is_xid_continue, is_xid_start};
 
 /// The words that are never names.

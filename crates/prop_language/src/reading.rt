@@ -13,7 +13,7 @@ ghost use Rattle.prop_language.specs.Said.{Reads, KeepsWords};
 use crate::command::Command;
 use crate::tokens::{Token, is_blank, next_token};
 use crate::{choices, forms, steps};
-use prop_lattice::Refusal;
+use prop_refusals::Refusal;
 use std::alloc::Global;
 
 /// How many bytes a line may have.

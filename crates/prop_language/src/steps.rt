@@ -18,7 +18,7 @@ use crate::forms::{
     two_words, used_names, word,
 };
 use crate::tokens::{Token, next_token};
-use prop_lattice::Refusal;
+use prop_refusals::Refusal;
 use std::alloc::Global;
 
 /// What stands behind a step's `by`: nothing or a word, which is not judged yet, as in a command,

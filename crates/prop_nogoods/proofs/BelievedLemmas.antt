@@ -3,8 +3,8 @@ use Rattle.std.proofs.Common.{◌≡◌, ◌≤◌, ℕ, Bool, true, false, Some
 use Rattle.std.proofs.Common.{Contains, IsTrue}
 use Rattle.std.specs.Prelude.{slice_get}
 use Rattle.std.proofs.lemmas.List.Elements.{All-contains, Contains-get_or}
-use Rattle.prop_premises.specs.Sets.{Members, is_within, is_below}
-use Rattle.prop_premises.proofs.WithinLemmas.{within_from}
+use Rattle.prop_numbers.specs.Sets.{Members, is_within, is_below}
+use Rattle.prop_numbers.proofs.WithinLemmas.{within_from}
 use Rattle.prop_nogoods.specs.Stores.{has_part, AreBySize, PartsEndBelow, NoneEndsBelow}
 use Rattle.prop_nogoods.specs.inner.Stores.{HaveSame}
 use Rattle.prop_nogoods.proofs.StoreLaws.{part-listed}

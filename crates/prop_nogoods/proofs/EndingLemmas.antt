@@ -14,9 +14,9 @@ use Rattle.std.proofs.lemmas.List.Elements.{All-append, All-contains, Contains-a
 use Rattle.std.proofs.lemmas.List.Elements.{Contains-get_or, filter-append}
 use Rattle.std.proofs.lemmas.List.Filters.{length-filter_both}
 use Rattle.std.proofs.lemmas.List.Folds.{flat_map-map, list_any_none}
-use Rattle.prop_premises.proofs.MergeLemmas.{Rising, rising_from_increasing}
-use Rattle.prop_premises.proofs.WithinLemmas.{within_has, within_from}
-use Rattle.prop_premises.specs.Sets.{Members, set_of, is_within, is_below}
+use Rattle.prop_numbers.proofs.MergeLemmas.{Rising, rising_from_increasing}
+use Rattle.prop_numbers.proofs.WithinLemmas.{within_has, within_from}
+use Rattle.prop_numbers.specs.Sets.{Members, set_of, is_within, is_below}
 use Rattle.prop_nogoods.specs.Stores.{has_part, staying, lacking, PartsEndBelow}
 use Rattle.prop_nogoods.specs.inner.Endings.{Group, EndsSo, HasOneMore, HasRoom, end_of, sets_of, left_of, lacking_of}
 use Rattle.prop_nogoods.proofs.StoreLaws.{has_part-from}

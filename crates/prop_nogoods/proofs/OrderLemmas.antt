@@ -10,7 +10,7 @@ use Rattle.std.proofs.lemmas.List.{length-map, take_at, take-append-drop, length
 use Rattle.std.proofs.lemmas.List.Concat.{flat_map-append}
 use Rattle.std.proofs.lemmas.List.Elements.{All-append, All-cons, All-drop, All-filter, All-map, All-set, All-take}
 use Rattle.std.proofs.lemmas.List.Elements.{All-weaker, Contains-append_right}
-use Rattle.prop_premises.specs.Sets.{Members}
+use Rattle.prop_numbers.specs.Sets.{Members}
 use Rattle.prop_nogoods.specs.Stores.{PartsEndBelow}
 use Rattle.prop_nogoods.specs.inner.Endings.{Group, EndsSo, EndTogether, AreInOrder, HasOneMore, end_of, sets_of}
 use Rattle.prop_nogoods.specs.inner.Endings.{left_of, lacking_of}

@@ -9,12 +9,12 @@ use Rattle.std.proofs.lemmas.Bool.Decides.{eqb_tells, leb_tells}
 use Rattle.std.proofs.lemmas.List.Edits.{get_or-insert_at, get_or-insert_below, get_or-insert_above, length-insert}
 use Rattle.std.proofs.lemmas.List.Folds.{list_any_at}
 use Rattle.std.proofs.lemmas.List.Elements.{Contains-get_or}
-use Rattle.prop_premises.specs.Sets.{set_of, is_within}
+use Rattle.prop_numbers.specs.Sets.{set_of, is_within}
 use Rattle.prop_nogoods.specs.Stores.{has_part, no_larger, larger}
 use Rattle.prop_nogoods.specs.inner.Stores.{IsPartOfNone}
 use Rattle.prop_nogoods.proofs.SizeLemmas.{is_small, not_small, part_is_whole}
 use Rattle.prop_nogoods.proofs.StoreLaws.{has_part-from}
-use Rattle.prop_premises.proofs.WithinLemmas.{within_has}
+use Rattle.prop_numbers.proofs.WithinLemmas.{within_has}
 
 -- where a set is listed behind those that are no larger
 abbrev pub IsPlace : List (List ℕ) → List ℕ → ℕ → Type 0

@@ -7,8 +7,8 @@ use Rattle.std.proofs.lemmas.Bool.Decides.{eqb_tells, leb_tells}
 use Rattle.std.proofs.lemmas.List.Folds.{list_any_at}
 use Rattle.std.proofs.lemmas.List.Kept.{AllPairs-from_increasing}
 use Rattle.std.proofs.lemmas.Map.Made.{length-le_from_is_member, IsDistinct-from_AllPairs}
-use Rattle.prop_premises.specs.Sets.{set_of, is_within}
-use Rattle.prop_premises.proofs.WithinLemmas.{within_has, within_from}
+use Rattle.prop_numbers.specs.Sets.{set_of, is_within}
+use Rattle.prop_numbers.proofs.WithinLemmas.{within_has, within_from}
 
 -- the test of `set_of`
 abbrev is_at : ℕ → ℕ → Bool

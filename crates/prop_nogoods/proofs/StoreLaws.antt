@@ -1,8 +1,8 @@
 -- What the layers above use of stores: a set of which a part is listed is more than a listed set.
 use Rattle.std.proofs.Common.{◌≡◌, ℕ, true, List, Contains, IsTrue}
 use Rattle.std.proofs.lemmas.List.Folds.{Any-from_list_any, list_any_at}
-use Rattle.prop_premises.specs.Sets.{Members, set_of, is_within, IsPart}
-use Rattle.prop_premises.proofs.WithinLemmas.{within_has, within_from}
+use Rattle.prop_numbers.specs.Sets.{Members, set_of, is_within, IsPart}
+use Rattle.prop_numbers.proofs.WithinLemmas.{within_has, within_from}
 use Rattle.prop_nogoods.specs.Stores.{has_part}
 
 -- a listed set that is part of this one

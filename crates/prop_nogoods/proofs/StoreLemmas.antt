@@ -10,8 +10,8 @@ use Rattle.std.specs.Option.{option_map}
 use Rattle.std.proofs.lemmas.List.Kept.{AllPairs-filter, IsNonDecreasingBy-filter}
 use Rattle.std.proofs.lemmas.List.Sorted.{All-permutation, Contains-permutation, IsPermutation-insert}
 use Rattle.std.proofs.lemmas.List.Sorted.{IsPermutation-sym, IsNonDecreasingBy-insert}
-use Rattle.prop_premises.specs.Sets.{Members, set_of, is_within}
-use Rattle.prop_premises.proofs.WithinLemmas.{within_has}
+use Rattle.prop_numbers.specs.Sets.{Members, set_of, is_within}
+use Rattle.prop_numbers.proofs.WithinLemmas.{within_has}
 use Rattle.prop_nogoods.specs.Stores.{has_part, staying, lacking, with_set, AreMinimal, AreBySize, AddsSet}
 use Rattle.prop_nogoods.specs.inner.Stores.{HaveSame, IsPartOfNone}
 use Rattle.prop_nogoods.proofs.PlaceLemmas.{IsPlace, pairs_insert, insert_behind}

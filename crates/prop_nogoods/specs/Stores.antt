@@ -3,7 +3,7 @@ use Rattle.std.specs.Prelude.{◌≡◌, ℕ, Bool, false, not, nat_lt, IsTrue, 
 use Rattle.std.specs.Prelude.{filter, All, AllPairs, Contains, ◌⊎◌}
 use Rattle.std.specs.List.{list_any}
 use Rattle.std.specs.List.Sorted.{IsNonDecreasingBy}
-use Rattle.prop_premises.specs.Sets.{Members, set_of, is_within, is_below}
+use Rattle.prop_numbers.specs.Sets.{Members, set_of, is_within, is_below}
 
 -- some listed set is part of this one
 abbrev pub has_part : List (List ℕ) → Members → Bool

@@ -3,7 +3,7 @@ ghost use Rattle.std.specs.Prelude.{◌≡◌, ◌<◌, ◌≤◌, ◌++◌, ◌
 ghost use Rattle.std.specs.Prelude.{nat_lt, vec_capacity, false, All, None, Contains, IsTrue, IfOk};
 ghost use Rattle.std.specs.Prelude.{IfSome, OnOk, OnErr};
 ghost use Rattle.std.specs.List.Sorted.{IsPartitionPoint, IsStrictlyIncreasing};
-ghost use Rattle.prop_premises.specs.Sets.{set_of, is_within};
+ghost use Rattle.prop_numbers.specs.Sets.{set_of, is_within};
 ghost use Rattle.prop_nogoods.specs.Stores.{has_part, staying, AreBySize, PartsEndBelow};
 ghost use Rattle.prop_nogoods.specs.inner.Endings.{Group, EndsSo, AreInOrder, end_of, sets_of};
 ghost use Rattle.prop_nogoods.specs.inner.Endings.{HasOneMore, HasRoom, NoPartEnds, left_of};

@@ -2,7 +2,7 @@
 ghost use Rattle.std.specs.Prelude.{◌≡◌, ◌<◌, ◌≤◌, List, ℕ, length, false, All, None, Contains};
 ghost use Rattle.std.specs.Prelude.{IsTrue, IfOk, IfSome, vec_capacity, vec_len};
 ghost use Rattle.std.specs.List.Sorted.{IsPartitionPoint, IsStrictlyIncreasing};
-ghost use Rattle.prop_premises.specs.Sets.{set_of, is_within};
+ghost use Rattle.prop_numbers.specs.Sets.{set_of, is_within};
 ghost use Rattle.prop_nogoods.specs.Stores.{has_part, staying, lacking, AreBySize};
 ghost use Rattle.prop_nogoods.specs.inner.Endings.{EndsSo};
 ghost use Rattle.prop_nogoods.specs.inner.Stores.{IsPartOfNone};

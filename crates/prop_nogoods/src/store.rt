@@ -2,7 +2,7 @@
 ghost use Rattle.std.specs.Prelude.{◌≡◌, ◌↔◌, ◌≤◌, ◌<◌, ◌+◌, List, ℕ, [], length, not, false, All};
 ghost use Rattle.std.specs.Prelude.{None, Ok, Contains, IsTrue, IfOk, IfSome, OnOk, OnErr};
 ghost use Rattle.std.specs.List.Sorted.{IsStrictlyIncreasing, IsPartitionPoint};
-ghost use Rattle.prop_premises.specs.Sets.{set_of, is_within};
+ghost use Rattle.prop_numbers.specs.Sets.{set_of, is_within};
 ghost use Rattle.prop_nogoods.specs.inner.Endings.{AreInOrder, sets_of};
 ghost use Rattle.prop_nogoods.specs.Stores.{has_part, lacking, with_set, AreMinimal, AreBySize};
 ghost use Rattle.prop_nogoods.specs.Stores.{NoneEndsBelow, AddsSet};

@@ -1,19 +1,14 @@
 -- What a new name and a new choice change, and what they leave.
 use Rattle.std.proofs.Common.{◌≡◌, ℕ, zero, suc, ◌+◌, ◌-◌, ◌<◌, ◌≤◌, Bool, true, false, cond, ◌||◌, List, [], ◌∷◌, ◌++◌}
-use Rattle.std.proofs.Common.{length, take, refl, sym, ap, ◌∙◌, inl, inr, arith, Some, slice_get, bytes_eq, is_some}
+use Rattle.std.proofs.Common.{length, take, refl, sym, ap, ◌∙◌, inl, inr, arith, Some, slice_get, is_some}
 use Rattle.std.proofs.Common.{length-append}
-use Rattle.std.specs.List.{list_any, position_from}
 use Rattle.std.specs.Option.{option_map_or}
 use Rattle.std.proofs.lemmas.Bool.{cases_lt}
-use Rattle.std.proofs.lemmas.Iterator.Adapters.{position_from-zero}
-use Rattle.std.proofs.lemmas.List.Folds.{list_any-append}
-use Rattle.prop_premises.specs.Sets.{IsSame}
+use Rattle.prop_numbers.specs.Sets.{IsSame}
 use Rattle.prop_premises.specs.Origins.{Origin, User, Side, sides_below, with_name, with_choice, believed_in}
-use Rattle.prop_premises.specs.Origins.{is_believed, is_user, is_user_at, is_start, is_user_called, is_side_called}
-use Rattle.prop_premises.specs.Origins.{premise_number, is_choice}
+use Rattle.prop_premises.specs.Origins.{is_believed, is_user, is_user_at, is_start, premise_number}
 use Rattle.prop_premises.proofs.ChoiceLemmas.{length-sides, slice_get-sides, slice_get-skip}
 use Rattle.prop_premises.proofs.EntryLemmas.{take-front}
-use Rattle.prop_premises.proofs.LookupLemmas.{no_user, all_called, found_none}
 use Rattle.prop_premises.proofs.OriginLemmas.{believed_in-at, believed_in-past, is_user_at-at}
 
 -- ---- more premises at the end
@@ -67,15 +62,6 @@ or_none : (b : Bool) → (b || false) ≡ b
 or_none true = refl
 or_none false = refl
 
--- it is no choice's
-pub is_choice-with_name : (os : List Origin) (name other : List ℕ)
-    → is_choice (with_name os name) other ≡ is_choice os other
-is_choice-with_name os name other = by (is_some (premise_number os name))
-  where
-    by : (b : Bool) → is_choice (cond b os (os ++ User name true ∷ [])) other ≡ is_choice os other
-    by true = refl
-    by false = list_any-append (is_side_called other) os (User name true ∷ []) ∙ or_none (is_choice os other)
-
 -- ---- a new choice
 
 pub length-with_choice : (os : List Origin) (name : List ℕ) (sides : ℕ)
@@ -87,22 +73,6 @@ length-with_choice os name sides = length-append os (sides_below name sides side
 pub take-with_choice : (os : List Origin) (name : List ℕ) (sides n : ℕ) → n ≡ length os
     → take n (with_choice os name sides) ≡ os
 take-with_choice os name sides n e = take-front os (sides_below name sides sides) n e
-
-first_starts : (name : List ℕ) (sides n : ℕ) → 1 ≤ n → is_start (sides_below name sides n) 0 ≡ true
-first_starts name sides zero l = absurd (omega (arith, l))
-first_starts name sides (suc zero) l = refl
-first_starts name sides (suc (suc n)) l =
-    front (sides_below name sides (suc n)) (Side name (suc (suc n)) sides ∷ [])
-    (omega (arith, length-sides name sides (suc n))) ∙ first_starts name sides (suc n) (omega arith)
-  where
-    front : (xs ys : List Origin) → 0 < length xs → is_start (xs ++ ys) 0 ≡ is_start xs 0
-    front [] ys l = absurd (omega (arith, l))
-    front (x ∷ xs) ys l = refl
-
-pub is_start-with_choice : (os : List Origin) (name : List ℕ) (sides n : ℕ) → 1 ≤ sides → n ≡ length os
-    → is_start (with_choice os name sides) n ≡ true
-is_start-with_choice os name sides n l e = is_start-append os (sides_below name sides sides) n e
-    ∙ first_starts name sides sides l
 
 side_at_place : (os : List Origin) (name : List ℕ) (sides p : ℕ) → length os ≤ p → p < length os + sides
     → (i : ℕ) × (slice_get (with_choice os name sides) p ≡ Some (Side name (suc i) sides))
@@ -144,23 +114,3 @@ is_user_at-with_choice os name sides p = elim (cases_lt p (length os)) [
       | inr beyond ↦ is_user_at-past (with_choice os name sides) p
           (omega (arith, beyond, length-with_choice os name sides))
     ]
-
--- the names of choices are one more
-pub is_choice-with_choice : (os : List Origin) (name other : List ℕ) (sides : ℕ) → 1 ≤ sides
-    → is_choice (with_choice os name sides) other ≡ (is_choice os other || bytes_eq other name)
-is_choice-with_choice os name other sides l =
-    list_any-append (is_side_called other) os (sides_below name sides sides)
-    ∙ ap (λ b. is_choice os other || b) (all_called other name sides sides l)
-
-same_front : (t : Origin → Bool) (n : ℕ) (xs ys : List Origin) → list_any t ys ≡ false
-    → position_from t n (xs ++ ys) ≡ position_from t n xs
-same_front t n [] ys h = found_none t n ys h
-same_front t n (x ∷ xs) ys h = ap (λ r. cond (t x) (Some n) r) (same_front t (n + 1) xs ys h)
-
--- the premises of the user's keep their numbers, and none is new
-pub premise_number-with_choice : (os : List Origin) (name other : List ℕ) (sides : ℕ)
-    → premise_number (with_choice os name sides) other ≡ premise_number os other
-premise_number-with_choice os name other sides =
-    position_from-zero (is_user_called other) (with_choice os name sides)
-    ∙ same_front (is_user_called other) 0 os (sides_below name sides sides) (no_user other name sides sides)
-    ∙ sym (position_from-zero (is_user_called other) os)

@@ -1,12 +1,4 @@
-pub mod SetLemmas
-pub mod MergeLemmas
-pub mod FlagLemmas
-pub mod BitLemmas
-pub mod WordLemmas
-pub mod PlaceLemmas
-pub mod OneLemmas
 pub mod OriginLemmas
-pub mod WithinLemmas
 pub mod ChoiceLemmas
 pub mod TableLemmas
 pub mod LookupLemmas

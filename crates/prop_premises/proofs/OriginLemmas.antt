@@ -5,7 +5,7 @@ use Rattle.std.proofs.lemmas.Bool.Decides.{nat_tests}
 use Rattle.std.specs.Option.{option_map_or}
 use Rattle.prop_premises.specs.Origins.{Origin, User, Side, is_user_at, is_believed, is_user, believed_in, with_belief}
 use Rattle.prop_premises.specs.Origins.{with_belief_at, side_of, side_at, starts, is_start}
-use Rattle.prop_premises.specs.Sets.{set_of, union, without, IsSame}
+use Rattle.prop_numbers.specs.Sets.{set_of, union, without, IsSame}
 
 pub in_range : (os : List Origin) (p : ℕ) → IsTrue (is_user_at os p) → p < length os
 in_range [] p h = cc
@@ -40,12 +40,6 @@ pub is_start-at : (os : List Origin) (p : ℕ) → p < length os
 is_start-at [] p l = absurd (omega (arith, l))
 is_start-at (o ∷ os) zero l = refl
 is_start-at (o ∷ os) (suc p) l = is_start-at os p (omega (arith, l))
-
-pub is_start-within : (os : List Origin) (p : ℕ) → IsTrue (is_start os p) → p ≤ length os
-is_start-within [] zero h = omega arith
-is_start-within [] (suc p) h = cc
-is_start-within (o ∷ os) zero h = omega arith
-is_start-within (o ∷ os) (suc p) h = omega (arith, is_start-within os p h)
 
 believed_user : (o : Origin) → is_believed o ≡ true → is_user o ≡ true
 believed_user (User name believed) h = refl

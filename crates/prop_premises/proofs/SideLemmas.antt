@@ -1,10 +1,9 @@
 -- The hypothetical premises that a choice list takes, one after another.
 use Rattle.std.proofs.Common.{◌≡◌, ℕ, zero, suc, ◌+◌, ◌-◌, ◌<◌, ◌≤◌, Bool, true, false, ◌||◌, ◌==◌, List, [], ◌∷◌}
 use Rattle.std.proofs.Common.{length, drop, get_or, refl, sym, ap, ◌∙◌, arith, IsTrue}
-use Rattle.std.proofs.Math.ListN.{drop_of_length-le}
 use Rattle.std.proofs.Math.Seq.{drop-cons}
 use Rattle.std.proofs.lemmas.Bool.Decides.{nat_tests}
-use Rattle.prop_premises.specs.Sets.{Members}
+use Rattle.prop_numbers.specs.Sets.{Members}
 use Rattle.std.proofs.lemmas.List.Folds.{list_any_at}
 use Rattle.prop_premises.specs.declared.choice.Choice.{Choice}
 use Rattle.prop_premises.specs.ChoiceLists.{is_side_of, is_hypothetical, IsChoiceList, hypotheticals_of}
@@ -62,9 +61,3 @@ with_side was now choices sides k d e n h l at one_more p =
 or_none : (b : Bool) → (b || false) ≡ b
 or_none true = refl
 or_none false = refl
-
--- no side is left to be taken
-pub no_side_left : (s : Members) (choices : List Choice) (sides : List ℕ) (k p : ℕ) → length choices ≤ k →
-    (s p || hypotheticals_of (drop k choices) (drop k sides) p) ≡ s p
-no_side_left s choices sides k p l =
-    ap (λ cs. s p || hypotheticals_of cs (drop k sides) p) (drop_of_length-le choices l) ∙ or_none (s p)

@@ -4,8 +4,7 @@ use Rattle.std.proofs.Common.{inl, inr, ◌⊎◌, arith, IsTrue}
 use Rattle.std.proofs.lemmas.Bool.Decides.{nat_tests, eqb_tells}
 use Rattle.prop_premises.specs.declared.choice.Choice.{Choice}
 use Rattle.prop_premises.specs.ChoiceLists.{hypothetical, IsSide, is_side_of, is_hypothetical, IsChoiceList}
-use Rattle.prop_premises.specs.ChoiceLists.{hypotheticals_of, worldview}
-use Rattle.prop_premises.specs.Sets.{Members, IsSame}
+use Rattle.prop_premises.specs.ChoiceLists.{hypotheticals_of}
 
 or_cases : (b c : Bool) → (b || c) ≡ true → (b ≡ true) ⊎ (c ≡ true)
 or_cases true c h = inl refl
@@ -43,17 +42,6 @@ or_off : (b c : Bool) → (c ≡ true → ⊥) → (b || c) ≡ b
 or_off true c h = refl
 or_off false true h = absurd (h refl)
 or_off false false h = refl
-
--- of what is not hypothetical just the same is believed with each list
-pub worldview-outside : (believed : Members) (choices : List Choice) (list : List ℕ) (p : ℕ) → IsChoiceList choices list
-    → is_hypothetical choices p ≡ false → worldview believed choices list p ≡ believed p
-worldview-outside believed choices list p l h =
-    or_off (believed p) (hypotheticals_of choices list p) (λ t. cc (hypotheticals_are choices list p l t, h))
-
--- the same beliefs and the same list
-pub worldview-same : (s t : Members) (choices : List Choice) (list : List ℕ) → IsSame s t
-    → IsSame (worldview s choices list) (worldview t choices list)
-worldview-same s t choices list h p = ap (λ b. b || hypotheticals_of choices list p) (h p)
 
 or_assoc : (a b c : Bool) → (a || (b || c)) ≡ ((a || b) || c)
 or_assoc true b c = refl

@@ -2,7 +2,7 @@
 use Rattle.std.specs.Prelude.{◌≡◌, ℕ, ◌+◌, ◌-◌, ◌*◌, ◌<◌, ◌≤◌, Bool, false, ◌==◌, ◌||◌, ◌&&◌}
 use Rattle.std.specs.Prelude.{nat_le, nat_lt, IsTrue, List, [], ◌∷◌, ◌⊎◌, ⊤}
 use Rattle.std.specs.List.{AllZip, AllByRecursion, list_any}
-use Rattle.prop_premises.specs.Sets.{Members, union}
+use Rattle.prop_numbers.specs.Sets.{Members, union}
 use Rattle.prop_premises.specs.declared.choice.Choice.{Choice}
 
 -- the hypothetical premise of a side; sides count from 1

@@ -3,7 +3,7 @@ use Rattle.std.specs.Prelude.{◌≡◌, ◌<◌, ℕ, zero, suc, ◌==◌, Bool
 use Rattle.std.specs.Prelude.{IsTrue, List, [], ◌∷◌, ◌++◌, length, position, Option, Some, None}
 use Rattle.std.specs.Prelude.{is_some}
 use Rattle.std.specs.List.{list_any}
-use Rattle.prop_premises.specs.Sets.{Members}
+use Rattle.prop_numbers.specs.Sets.{Members}
 use Rattle.prop_premises.specs.declared.choice.Choice.{Choice}
 use Rattle.prop_premises.specs.ChoiceLists.{is_hypothetical, AreInOrder, AreOfSides}
 

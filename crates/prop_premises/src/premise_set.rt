@@ -2,11 +2,10 @@
 ghost use Rattle.std.specs.Prelude.{◌≡◌, ◌↔◌, ◌≤◌, List, ℕ, [], ◌∷◌, length, IsTrue, IfOk, OnOk};
 ghost use Rattle.std.specs.Prelude.{OnErr};
 ghost use Rattle.std.specs.List.Sorted.{IsStrictlyIncreasing};
-ghost use Rattle.prop_premises.specs.Sets.{set_of, union, without, is_below, is_within, is_alike};
-ghost use Rattle.prop_premises.specs.Sets.{is_at_most_one_of, IsSame};
+ghost use Rattle.prop_numbers.specs.Sets.{set_of, union, without, is_below, is_within, is_alike};
+ghost use Rattle.prop_numbers.specs.Sets.{is_at_most_one_of, IsSame};
 
-use crate::number_set::NumberSet;
-use crate::numbers::Numbers;
+use prop_numbers::{NumberSet, Numbers};
 use std::alloc::{AllocError, Global};
 use std::default::MadeWith;
 use std::marker::Model;

@@ -3,24 +3,24 @@ ghost use Rattle.std.specs.Prelude.{◌≡◌, ◌≤◌, ◌<◌, ◌+◌, ◌*
 ghost use Rattle.std.specs.Prelude.{length, take, Some, None, Ok, Err, true, false, unwrap_or};
 ghost use Rattle.std.specs.Prelude.{slice_get, option_map, IsTrue, IfOk, IfErr, OnOk, OnErr};
 ghost use Rattle.std.specs.Prelude.{MatchResult};
-ghost use Rattle.prop_lattice.specs.Refusals.{most};
-ghost use Rattle.prop_premises.specs.Sets.{Members, set_of, union, without, IsSame};
-ghost use Rattle.prop_premises.specs.Words.{has_bit};
+ghost use Rattle.prop_refusals.specs.Refusals.{most};
+ghost use Rattle.prop_numbers.specs.Sets.{Members, set_of, union, without, IsSame};
+ghost use Rattle.prop_numbers.specs.Words.{has_bit};
 ghost use Rattle.prop_premises.specs.Origins.{Origin, name_of, is_user_at, premise_number};
 ghost use Rattle.prop_premises.specs.Origins.{is_choice, believed_in, with_belief_at, with_name};
 ghost use Rattle.prop_premises.specs.Origins.{with_choice, choices_of, side_at, is_start};
 ghost use Rattle.prop_premises.specs.ChoiceLists.{hypotheticals_of, is_hypothetical, worldview};
 ghost use Rattle.prop_premises.specs.ChoiceLists.{IsChoiceList};
 
-use crate::bits::set_bit;
 use crate::choice::Choice;
 use crate::named::Kind;
-use crate::number_set::NumberSet;
 use crate::premise_set::Premise;
 use crate::table::Table;
-use crate::words::{Words, blank};
 use crate::worldview::Worldview;
-use prop_lattice::{Limit, Refusal};
+use prop_numbers::bits::set_bit;
+use prop_numbers::words::blank;
+use prop_numbers::{NumberSet, Words};
+use prop_refusals::{Limit, Refusal};
 use std::alloc::{AllocError, Global};
 use std::marker::Model;
 

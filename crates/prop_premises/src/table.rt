@@ -4,8 +4,8 @@ ghost use Rattle.std.specs.Prelude.{replicate, None, true, false, is_some, slice
 ghost use Rattle.std.specs.Prelude.{IsTrue, IsOk, IfSome, OnOk, OnErr};
 ghost use Rattle.std.specs.HashMap.{IsUnique};
 ghost use Rattle.std.specs.String.{string_eq};
-ghost use Rattle.prop_premises.specs.Sets.{union, IsSame};
-ghost use Rattle.prop_premises.specs.Words.{has_bit};
+ghost use Rattle.prop_numbers.specs.Sets.{union, IsSame};
+ghost use Rattle.prop_numbers.specs.Words.{has_bit};
 ghost use Rattle.prop_premises.specs.Origins.{Origin, premise_number, is_choice, is_user_at};
 ghost use Rattle.prop_premises.specs.Origins.{with_belief_at, is_start, name_of, IsNumbered};
 ghost use Rattle.prop_premises.specs.Origins.{choices_of, believed_in};
@@ -14,10 +14,10 @@ ghost use Rattle.prop_premises.specs.inner.Named.{origins_of, origins_of_kind, p
 ghost use Rattle.prop_premises.specs.inner.Named.{told, number_of, is_choices, IsKind};
 ghost use Rattle.prop_premises.specs.inner.Named.{AreNumberedFrom};
 
-use crate::bits::set_bit;
 use crate::named::{Kind, Named, Source};
 use crate::premise_set::Premise;
 use indexmap::IndexMap;
+use prop_numbers::bits::set_bit;
 use std::alloc::{AllocError, Global};
 use std::marker::Model;
 

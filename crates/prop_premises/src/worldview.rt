@@ -1,10 +1,10 @@
 //! What is believed.
 ghost use Rattle.std.specs.Prelude.{◌≡◌, List, [], ◌∷◌, ◌++◌, ℕ, nat_lt, filter, IsOk, IfOk, OnOk};
 ghost use Rattle.std.specs.Prelude.{OnErr};
-ghost use Rattle.prop_premises.specs.Sets.{set_of, union, without, is_within, IsSame, IsBelow};
+ghost use Rattle.prop_numbers.specs.Sets.{set_of, union, without, is_within, IsSame, IsBelow};
 
-use crate::number_set::NumberSet;
 use crate::premise_set::{Premise, PremiseSet};
+use prop_numbers::NumberSet;
 use std::alloc::{AllocError, Global};
 use std::marker::Model;
 

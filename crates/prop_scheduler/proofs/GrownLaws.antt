@@ -1,13 +1,13 @@
 -- What is kept as the readers of cells of which more is believed are alerted, and that no potential rises.
 use Rattle.std.proofs.Common.{◌≡◌, ◌≢◌, ◌∙◌, ◌<◌, ◌≤◌, ◌⊎◌, ℕ, ◌+◌, if◌then◌else◌, List, Some, All, Contains, length}
-use Rattle.std.proofs.Common.{slice_get, refl, sym, ap, subst, arith, inl, inr}
+use Rattle.std.proofs.Common.{slice_get, sym, ap, subst, arith, inl, inr}
 use Rattle.std.specs.Prelude.{nat_le}
 use Rattle.std.proofs.lemmas.Bool.Decides.{eqb_tells, leb_tells}
 use Rattle.std.proofs.lemmas.List.Elements.{All-contains, All-weaker}
 use Rattle.prop_lattice.specs.declared.info.Info.{Info}
 use Rattle.prop_lattice.specs.Order.{Below, merge_of}
 use Rattle.prop_lattice.specs.laws.OrderLaws.{info_laws}
-use Rattle.prop_premises.specs.Sets.{IsPart}
+use Rattle.prop_numbers.specs.Sets.{IsPart}
 use Rattle.prop_tms.proofs.BeliefUses.{belief_of-more}
 use Rattle.prop_procedures.specs.Stored.{Stored}
 use Rattle.prop_cells.specs.Problems.{Premises, Assignment, AreOfKinds, MergesAt, Constraint, Meets, value_at}

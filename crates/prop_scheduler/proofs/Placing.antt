@@ -10,11 +10,11 @@ use Rattle.std.proofs.lemmas.Bool.Decides.{nat_tests}
 use Rattle.std.proofs.lemmas.List.{map-append, length-map}
 use Rattle.std.proofs.lemmas.List.Folds.{list_any_none}
 use Rattle.std.proofs.lemmas.Option.{slice_get_cases, slice_get_past}
-use Rattle.prop_lattice.specs.Refusals.{most, when}
-use Rattle.prop_lattice.specs.declared.refusal.Limit.TheVariants.{Instances}
-use Rattle.prop_lattice.specs.declared.refusal.Refusal.{Refusal}
-use Rattle.prop_lattice.specs.declared.refusal.Refusal.TheVariants.{NoSuchCell, WrongCount, WrongKind, WrongParameter}
-use Rattle.prop_lattice.specs.declared.refusal.Refusal.TheVariants.{LimitReached}
+use Rattle.prop_refusals.specs.Refusals.{most, when}
+use Rattle.prop_refusals.specs.declared.refusal.Limit.TheVariants.{Instances}
+use Rattle.prop_refusals.specs.declared.refusal.Refusal.{Refusal}
+use Rattle.prop_refusals.specs.declared.refusal.Refusal.TheVariants.{NoSuchCell, WrongCount, WrongKind, WrongParameter}
+use Rattle.prop_refusals.specs.declared.refusal.Refusal.TheVariants.{LimitReached}
 use Rattle.prop_procedures.specs.declared.shape.Param.{Param}
 use Rattle.prop_procedures.specs.declared.shape.Param.TheVariants.{Plain}
 use Rattle.prop_procedures.specs.declared.shape.Need.{Need}

@@ -10,9 +10,9 @@ use Rattle.prop_lattice.specs.declared.info.Info.{Info}
 use Rattle.prop_lattice.specs.declared.info.Info.TheVariants.{Nothing, Contradiction}
 use Rattle.prop_lattice.specs.Order.{Below, merge_of}
 use Rattle.prop_lattice.specs.laws.OrderLaws.{info_laws}
-use Rattle.prop_lattice.specs.declared.refusal.Refusal.{Refusal}
+use Rattle.prop_refusals.specs.declared.refusal.Refusal.{Refusal}
 use Rattle.std.specs.Prelude.{⊤, Result, Ok, Err, OnOk, OnErr}
-use Rattle.prop_premises.specs.Sets.{is_within}
+use Rattle.prop_numbers.specs.Sets.{is_within}
 use Rattle.prop_tms.proofs.MergedLemmas.{join-bottom}
 use Rattle.prop_procedures.specs.declared.shape.Kinded.{Kinded}
 use Rattle.prop_procedures.specs.declared.shape.Param.{Param}

@@ -1,15 +1,14 @@
 -- Which cells have to be looked at, as cells, statements and worldviews change.
-use Rattle.std.proofs.Common.{◌≡◌, ◌≢◌, ◌∙◌, ◌<◌, ◌≤◌, ◌⊎◌, ℕ, zero, suc, ◌+◌, Bool, true, false, List, [], ◌∷◌, ◌++◌}
-use Rattle.std.proofs.Common.{All, Contains, Some, map, length, slice_get, refl, sym, ap, arith, inl, inr}
+use Rattle.std.proofs.Common.{◌≡◌, ◌≢◌, ◌∙◌, ◌<◌, ◌≤◌, ◌⊎◌, ℕ, ◌+◌, Bool, true, false, List, [], ◌∷◌, ◌++◌, All}
+use Rattle.std.proofs.Common.{Contains, map, length, refl, sym, ap, arith, inl, inr}
 use Rattle.std.specs.Prelude.{⊤, Result, Ok, Err, OnOk, OnErr, None}
-use Rattle.prop_lattice.specs.Refusals.{most, when}
-use Rattle.prop_lattice.specs.declared.refusal.Refusal.{Refusal}
-use Rattle.prop_lattice.specs.declared.refusal.Limit.TheVariants.{Cells}
-use Rattle.std.specs.List.{remove}
+use Rattle.prop_refusals.specs.Refusals.{most, when}
+use Rattle.prop_refusals.specs.declared.refusal.Refusal.{Refusal}
+use Rattle.prop_refusals.specs.declared.refusal.Limit.TheVariants.{Cells}
 use Rattle.std.proofs.lemmas.Bool.Decides.{eqb_tells}
 use Rattle.std.proofs.lemmas.Bool.{cases_lt, leb-false}
 use Rattle.std.specs.Prelude.{nat_le}
-use Rattle.prop_lattice.specs.declared.refusal.Refusal.TheVariants.{LimitReached}
+use Rattle.prop_refusals.specs.declared.refusal.Refusal.TheVariants.{LimitReached}
 use Rattle.std.proofs.lemmas.List.{get_or_past, length-append}
 use Rattle.std.proofs.lemmas.List.Elements.{All-contains, All-weaker}
 use Rattle.prop_lattice.specs.declared.info.Info.{Info}
@@ -115,25 +114,6 @@ pub watched_free : (s : Premises) (d new : Data) (watched : List ℕ) → length
     → IsWatched s d watched → IsWatched s new watched
 watched_free s d new watched kinds free w =
     record { below = rw kinds w.below; holds = λ k clash. absurd (free k clash) }
-
--- ---- looking at the watched cells
-
--- a cell that was looked at and holds no contradiction goes
-pub watched_less : (s : Premises) (d : Data) (watched : List ℕ) (cell : ℕ) → slice_get watched 0 ≡ Some cell
-    → beliefs s d.contents cell ≢ Contradiction → IsWatched s d watched → IsWatched s d (remove watched 0)
-watched_less s d [] cell at clear w = cc
-watched_less s d (c ∷ cs) cell at clear w = record {
-  below = λ k x l. w.below (suc k) x (omega (arith, l));
-  holds = λ k clash. later k clash (w.holds k clash);
-}
-  where
-    later : (k : ℕ) → beliefs s d.contents k ≡ Contradiction → Contains (c ∷ cs) k → Contains cs k
-    later k clash (zero, l, e) = absurd
-        (clear (let same : c ≡ cell = cc in ap (beliefs s d.contents) (sym same ∙ e) ∙ clash))
-    later k clash (suc i, l, e) = (i, omega (arith, l), e)
-
-pub none_watched : (s : Premises) (d : Data) (watched : List ℕ) → watched ≡ [] → IsWatched s d watched → IsFree s d
-none_watched s d watched none w k clash = let at : Contains [] k = rw none at (w.holds k clash) in omega (arith, at.1)
 
 -- ---- another worldview
 

@@ -2,10 +2,10 @@
 use Rattle.std.specs.Prelude.{◌≡◌, ◌<◌, ◌^◌, ℕ, ◌+◌, ◌-◌, List, [], ◌++◌, All, true, false, nat_lt}
 use Rattle.std.specs.Prelude.{Option, Some, length, map, is_none, slice_get, unwrap_or}
 use Rattle.std.specs.Option.{option_and_then, option_or}
-use Rattle.prop_lattice.specs.Refusals.{most, when}
-use Rattle.prop_lattice.specs.declared.refusal.Limit.TheVariants.{Cells, Instances}
-use Rattle.prop_lattice.specs.declared.refusal.Refusal.{Refusal}
-use Rattle.prop_lattice.specs.declared.refusal.Refusal.TheVariants.{LimitReached}
+use Rattle.prop_refusals.specs.Refusals.{most, when}
+use Rattle.prop_refusals.specs.declared.refusal.Limit.TheVariants.{Cells, Instances}
+use Rattle.prop_refusals.specs.declared.refusal.Refusal.{Refusal}
+use Rattle.prop_refusals.specs.declared.refusal.Refusal.TheVariants.{LimitReached}
 use Rattle.prop_procedures.specs.declared.flat.Placed.{Placed}
 use Rattle.prop_procedures.specs.declared.flat.Flat.{Flat}
 use Rattle.prop_procedures.specs.declared.shape.Kinded.{Kinded}

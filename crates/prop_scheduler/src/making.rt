@@ -3,8 +3,8 @@
 ghost use Rattle.std.specs.Prelude.{◌≡◌, ◌≤◌, ◌<◌, ◌^◌, ◌+◌, ◌-◌, ◌++◌, ◌∷◌, [], ◌⊎◌, ℕ, List, All};
 ghost use Rattle.std.specs.Prelude.{Contains, None, Some, drop, length, map, IfOk, IfErr, OnOk};
 ghost use Rattle.std.specs.Prelude.{OnErr};
-ghost use Rattle.prop_lattice.specs.Refusals.{most};
-ghost use Rattle.prop_lattice.specs.declared.refusal.Limit.TheVariants.{Cells, Instances};
+ghost use Rattle.prop_refusals.specs.Refusals.{most};
+ghost use Rattle.prop_refusals.specs.declared.refusal.Limit.TheVariants.{Cells, Instances};
 ghost use Rattle.prop_procedures.specs.Flats.{cell_placed};
 ghost use Rattle.prop_procedures.specs.Kept.{stored_of};
 ghost use Rattle.prop_cells.specs.Data.{Data as Held, IsKept, IsWellMade};

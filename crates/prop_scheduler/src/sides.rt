@@ -1,7 +1,7 @@
 //! The sides of a choice in a network under way.
 ghost use Rattle.std.specs.Prelude.{◌≡◌, ◌<◌, ◌≤◌, ◌+◌, ◌^◌, ◌++◌, ◌⊎◌, None, Some, OnOk, OnErr};
 ghost use Rattle.std.specs.Prelude.{IfErr, IsTrue, All, length};
-ghost use Rattle.prop_premises.specs.Sets.{set_of};
+ghost use Rattle.prop_numbers.specs.Sets.{set_of};
 ghost use Rattle.prop_procedures.specs.Fitting.{kind_at};
 ghost use Rattle.prop_procedures.specs.Kept.{stored_of};
 ghost use Rattle.prop_cells.specs.Refusing.{sides_refusal, may_be_stated};

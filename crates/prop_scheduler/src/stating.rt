@@ -2,7 +2,7 @@
 ghost use Rattle.std.specs.Prelude.{◌≡◌, ◌<◌, ◌≤◌, ◌⊎◌, true, false, None, Some, OnOk, OnErr};
 ghost use Rattle.std.specs.Prelude.{IfErr, length};
 ghost use Rattle.prop_lattice.specs.Order.{Below};
-ghost use Rattle.prop_premises.specs.Sets.{set_of, is_within};
+ghost use Rattle.prop_numbers.specs.Sets.{set_of, is_within};
 ghost use Rattle.prop_procedures.specs.Kept.{stored_of};
 ghost use Rattle.prop_cells.specs.Data.{States, support_of};
 ghost use Rattle.prop_cells.specs.Refusing.{state_refusal};

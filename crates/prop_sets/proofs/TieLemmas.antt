@@ -34,14 +34,6 @@ no_bit n i j = by (cases_lt i n)
     by (inr past) = rw (get_or_past {X = ℕ} (replicate n 0) i 0 (omega (arith, length-replicate {A = ℕ} n 0)))
         (bit_at-zero j)
 
-pub tied-empty : (height width : ℕ) → AreTied height width (replicate height 0) (replicate width 0)
-tied-empty height width = record {
-  height_is = length-replicate {A = ℕ} height 0;
-  width_is = length-replicate {A = ℕ} width 0;
-  across = λ i j h. absurd (omega (arith, h, no_bit height i j));
-  back = λ i j h. absurd (omega (arith, h, no_bit width i j));
-}
-
 -- ---- one pair more
 
 -- the bits of a list of words in which one bit was set

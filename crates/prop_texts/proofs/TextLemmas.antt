@@ -1,13 +1,13 @@
 -- The texts of premises, one more at a time.
-use Rattle.std.proofs.Common.{◌≡◌, ◌∙◌, ◌+◌, ℕ, zero, suc, Bool, true, false, not, cond, List, [], ◌∷◌, ◌++◌, Some}
-use Rattle.std.proofs.Common.{None, length, filter, slice_get, codes, decimal, refl, sym, ap, arith, append-nil}
+use Rattle.std.proofs.Common.{◌≡◌, ◌∙◌, ◌+◌, ℕ, zero, suc, true, false, not, cond, List, [], ◌∷◌, ◌++◌, Some, None}
+use Rattle.std.proofs.Common.{filter, slice_get, codes, decimal, refl, sym, ap, arith, append-nil}
 use Rattle.std.specs.List.{range_with_len}
 use Rattle.std.specs.Option.{option_map}
 use Rattle.std.proofs.lemmas.List.Concat.{flat_map-append}
-use Rattle.std.proofs.lemmas.List.Elements.{filter-append, filter_agree}
-use Rattle.prop_premises.specs.Sets.{Members, IsSame}
+use Rattle.std.proofs.lemmas.List.Elements.{filter-append}
+use Rattle.prop_numbers.specs.Sets.{Members}
 use Rattle.prop_premises.specs.Origins.{Origin, User, Side, name_of, side_at}
-use Rattle.prop_texts.specs.Texts.{label_at, premises_text, is_listed, members_text, worldview_text}
+use Rattle.prop_texts.specs.Texts.{label_at, premises_text}
 
 -- ---- labels
 
@@ -71,13 +71,3 @@ members_same premises s k before h is =
     is ∙ ap (premises_text premises) (sym
     (filtered_more s k ∙ ap (λ b. filter s (range_with_len 0 k) ++ cond b (k ∷ []) []) h
     ∙ append-nil (filter s (range_with_len 0 k))))
-
--- worldviews with the same premises have the same text
-pub worldview_text-same : (premises : List Origin) (w u : Members) → IsSame w u
-    → worldview_text premises w ≡ worldview_text premises u
-worldview_text-same premises w u same = rw (those true (λ p. same p), those false (λ p. ap not (same p))) refl
-  where
-    those : (believed : Bool) → IsSame (is_listed believed w) (is_listed believed u)
-        → members_text premises (is_listed believed w) ≡ members_text premises (is_listed believed u)
-    those believed h = ap (premises_text premises)
-        (filter_agree (is_listed believed w) (is_listed believed u) h (range_with_len 0 (length premises)))

@@ -3,7 +3,7 @@ use Rattle.std.specs.Prelude.{ℕ, Bool, true, false, not, List, [], ◌∷◌, 
 use Rattle.std.specs.Prelude.{flat_map, slice_get, codes, decimal, if◌then◌else◌}
 use Rattle.std.specs.List.{range_with_len}
 use Rattle.std.specs.Option.{option_map_or}
-use Rattle.prop_premises.specs.Sets.{Members}
+use Rattle.prop_numbers.specs.Sets.{Members}
 use Rattle.prop_premises.specs.Origins.{Origin, User, Side}
 
 -- X = V, and what stands behind it

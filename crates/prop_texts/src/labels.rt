@@ -38,8 +38,9 @@ fn premises_text(alloc: Global, premises: &Premises, set: &PremiseSet) -> Result
     Ok(text)
 }
 
-/// The labels of the premises that something rests on.
-pub(crate) fn support_text(
+/// The labels of the premises that something rests on, each with one space before it; ` no premise`
+/// where there are none. `AllocError` where memory is refused.
+pub fn print_set(
     alloc: Global,
     premises: &Premises,
     support: &PremiseSet,
@@ -68,6 +69,6 @@ pub fn because(
         string_bytes text ≡ because premises.now mark.now support.now) }
     ensures in_order { IsStrictlyIncreasing support.now }
 {
-    let names = support_text(alloc, premises, support)?;
+    let names = print_set(alloc, premises, support)?;
     format!(in alloc; "{mark} because{names}")
 }

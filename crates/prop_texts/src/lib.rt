@@ -10,6 +10,6 @@ mod labels;
 mod nogoods;
 mod texts;
 
-pub use labels::because;
+pub use labels::{because, print_set};
 pub use nogoods::nogoods_reply;
 pub use texts::{contradiction_reply, text_reply, value_reply, worldview_reply};

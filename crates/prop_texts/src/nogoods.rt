@@ -4,7 +4,7 @@ ghost use Rattle.std.specs.List.Sorted.{IsStrictlyIncreasing};
 ghost use Rattle.prop_texts.specs.Texts.{nogoods_text};
 ghost use Rattle.prop_engine.specs.Answers.{answer_of, Says};
 
-use crate::labels::support_text;
+use crate::labels::print_set;
 use prop_engine::Reply;
 use prop_nogoods::Store;
 use prop_premises::Premises;
@@ -20,7 +20,7 @@ fn nogoods_text(alloc: Global, premises: &Premises, store: &Store) -> Result<Str
     let nogoods = store.iter();
     let mut text = format!(in alloc; "nogoods {}", store.len())?;
     for nogood in nogoods {
-        let names = support_text(alloc, premises, nogood)?;
+        let names = print_set(alloc, premises, nogood)?;
         write!(text, "\nnogood:{names}")?;
     }
     Ok(text)

@@ -2,15 +2,15 @@
 ghost use Rattle.std.specs.Prelude.{◌≡◌, ◌<◌, ℕ, not, if◌then◌else◌, All, IfOk, length};
 ghost use Rattle.std.specs.Prelude.{string_bytes};
 ghost use Rattle.std.specs.List.Sorted.{IsStrictlyIncreasing};
-ghost use Rattle.prop_premises.specs.Sets.{set_of};
+ghost use Rattle.prop_numbers.specs.Sets.{set_of};
 ghost use Rattle.prop_texts.specs.Texts.{equation, contradiction_text, is_listed, members_text};
 ghost use Rattle.prop_texts.specs.Texts.{worldview_text};
 ghost use Rattle.prop_engine.specs.Answers.{answer_of, Says};
 
-use crate::labels::{push_label, support_text};
+use crate::labels::{print_set, push_label};
 use prop_engine::Reply;
-use prop_lattice::Refusal;
 use prop_premises::{Premise, PremiseSet, Premises, Worldview};
+use prop_refusals::Refusal;
 use std::alloc::{AllocError, Global};
 
 /// The reply of a text, or want of memory.
@@ -33,7 +33,7 @@ pub fn contradiction_reply(alloc: Global, premises: &Premises, support: &Premise
     ensures says { Says (answer_of result) (contradiction_text premises.now support.now) }
     ensures in_order { IsStrictlyIncreasing support.now }
 {
-    match support_text(alloc, premises, support) {
+    match print_set(alloc, premises, support) {
         Ok(names) => Reply::saying(format!(in alloc; "contradiction:{names}")),
         Err(AllocError) => Reply::Refused(Refusal::Memory),
     }

@@ -4,8 +4,8 @@ use Rattle.std.proofs.Common.{inr, Contains, filter, cond, if◌then◌else◌}
 use Rattle.std.specs.List.{AllByRecursion}
 use Rattle.std.proofs.lemmas.List.Elements.{All-contains, All-from_recursion, recursion_from_All, Contains-get_or}
 use Rattle.prop_lattice.specs.InformationOrder.{IsInformationOrder}
-use Rattle.prop_premises.specs.Sets.{Members, set_of, is_within, is_alike}
-use Rattle.prop_premises.proofs.WithinLemmas.{is_within-trans}
+use Rattle.prop_numbers.specs.Sets.{Members, set_of, is_within, is_alike}
+use Rattle.prop_numbers.proofs.WithinLemmas.{is_within-trans}
 use Rattle.prop_tms.specs.Beliefs.{merge_of_all, believed_of, belief_of, Subsumes, NoneSubsumed, NoneAlike, IsNeedless}
 use Rattle.prop_tms.specs.Beliefs.{Adds, joined_with}
 use Rattle.prop_tms.specs.Kept.{IsLeftWithout}

@@ -6,9 +6,9 @@ use Rattle.std.proofs.lemmas.Bool.Decides.{nat_tests}
 use Rattle.std.proofs.lemmas.List.Folds.{Any-from_list_any, list_any_at}
 use Rattle.std.proofs.lemmas.List.Elements.{recursion_from_All}
 use Rattle.prop_lattice.specs.InformationOrder.{IsInformationOrder}
-use Rattle.prop_premises.specs.Sets.{Members, set_of, is_within, is_below, IsBelow, IsSame}
-use Rattle.prop_premises.proofs.WithinLemmas.{within_has, within_from, is_within-same}
-use Rattle.prop_tms.specs.Beliefs.{merge_of_all, believed_of, belief_of, IsLeastBelief, IsLean, Adds}
+use Rattle.prop_numbers.specs.Sets.{Members, set_of, is_within, is_below, IsBelow}
+use Rattle.prop_numbers.proofs.WithinLemmas.{within_has, within_from}
+use Rattle.prop_tms.specs.Beliefs.{merge_of_all, belief_of, IsLeastBelief, IsLean, Adds}
 use Rattle.prop_tms.specs.declared.supported.Supported.{Supported}
 use Rattle.prop_tms.proofs.KeptLemmas.{contains_here, contains_there}
 use Rattle.prop_tms.proofs.MergedLemmas.{first_below, second_below, merged_below, join-above}
@@ -64,33 +64,6 @@ said_kept bottom join t P base both (e ∷ es) h =
         → P (merge_of_all bottom join (cond b (e ∷ filter t es) (filter t es)))
     by true on ih = both e.value (merge_of_all bottom join (filter t es)) (h e (contains_here e es) on) ih
     by false off ih = ih
-
--- a belief keeps what each entry keeps
-pub belief_of-kept : {V : Type 0} (bottom : V) (join : V → V → V) (P : V → Type 0) → P bottom
-    → ((a b : V) → P a → P b → P (join a b)) → (w : Members) (es : List (Supported V)) →
-    ((x : Supported V) → Contains es x → P x.value) → P (belief_of bottom join w es)
-belief_of-kept bottom join P base both w es h =
-    said_kept bottom join (λ e. is_within w e.support) P base both es (λ x c on. h x c)
-
-believed_of-same : {V : Type 0} (w u : Members) → IsSame w u → (es : List (Supported V))
-    → believed_of w es ≡ believed_of u es
-believed_of-same w u same [] = refl
-believed_of-same w u same (e ∷ es) = rw (is_within-same w u same e.support, believed_of-same w u same es) refl
-
--- worldviews with the same premises believe the same
-pub belief_of-same : {V : Type 0} (bottom : V) (join : V → V → V) (w u : Members) → IsSame w u
-    → (es : List (Supported V)) → belief_of bottom join w es ≡ belief_of bottom join u es
-belief_of-same bottom join w u same es = ap (merge_of_all bottom join) (believed_of-same w u same es)
-
--- what holds of each premise of each entry holds of the premises of a lean support
-pub lean_each : {V : Type 0} (bottom : V) (join : V → V → V) (P : ℕ → Type 0) (entries : List (Supported V))
-    (w : Members) (v : V) (support : List ℕ) → IsLean bottom join entries w v support →
-    ((x : Supported V) → Contains entries x → (p : ℕ) → set_of x.support p ≡ true → P p) → (p : ℕ)
-    → set_of support p ≡ true → P p
-lean_each bottom join P entries w v support lean h p t =
-    let some = Any-from_list_any (λ e. set_of e.support p) lean.chosen (sym (lean.joined p) ∙ t) in
-    let among : Contains entries some.1 = rw some.3 at (lean.among some.0 some.1 some.2) in
-    h some.1 among p some.4
 
 module _ {V : Type 0} {below : V → V → Type 0} {bottom top : V} {join : V → V → V}
     (laws : IsInformationOrder below bottom top join) where

@@ -7,7 +7,7 @@ use Rattle.std.specs.List.{AllByRecursion, list_any, remove, take-map}
 use Rattle.std.proofs.lemmas.List.Elements.{All-nil, All-cons, All-contains, Contains-push, All-from_recursion}
 use Rattle.std.proofs.lemmas.List.Elements.{recursion_from_All, All-take, All-drop, All-append}
 use Rattle.prop_lattice.specs.InformationOrder.{IsInformationOrder}
-use Rattle.prop_premises.specs.Sets.{Members, set_of, union, is_within, IsSame}
+use Rattle.prop_numbers.specs.Sets.{Members, set_of, union, is_within, IsSame}
 use Rattle.prop_tms.specs.Beliefs.{merge_of_all, IsLean}
 use Rattle.prop_tms.specs.inner.Gains.{AreGains, entry_of, gained_of}
 use Rattle.prop_tms.specs.declared.supported.Supported.{Supported}

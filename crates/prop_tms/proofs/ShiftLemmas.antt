@@ -3,7 +3,7 @@ use Rattle.std.proofs.Common.{if◌then◌else◌, ◌≡◌, ◌∙◌, ℕ, Bo
 use Rattle.std.proofs.Common.{refl, sym, ap}
 use Rattle.std.specs.List.{list_any}
 use Rattle.std.proofs.lemmas.List.Elements.{filter-append}
-use Rattle.prop_premises.specs.Sets.{Members, is_within}
+use Rattle.prop_numbers.specs.Sets.{Members, is_within}
 use Rattle.prop_tms.specs.Beliefs.{merge_of_all, belief_of, believed_of}
 use Rattle.prop_tms.specs.Values.{entries_of, entries_of_one}
 use Rattle.prop_tms.specs.inner.Values.{is_in_one}

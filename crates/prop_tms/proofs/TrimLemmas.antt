@@ -8,7 +8,7 @@ use Rattle.std.proofs.lemmas.Bool.{cases_lt}
 use Rattle.std.proofs.lemmas.Option.{slice_get_within}
 use Rattle.std.proofs.lemmas.List.Kept.{AllPairs-cons}
 use Rattle.prop_lattice.specs.InformationOrder.{IsInformationOrder}
-use Rattle.prop_premises.specs.Sets.{Members, is_within, is_alike, is_at_most_one_of}
+use Rattle.prop_numbers.specs.Sets.{Members, is_within, is_alike, is_at_most_one_of}
 use Rattle.prop_tms.specs.Beliefs.{merge_of_all, believed_of, belief_of, Subsumes, NoneSubsumed, NoneAlike, Trims}
 use Rattle.prop_tms.specs.Beliefs.{AreNeeded}
 use Rattle.prop_tms.specs.Values.{entries_of}

@@ -4,8 +4,8 @@ use Rattle.std.proofs.Common.{if◌then◌else◌, List, [], ◌∷◌, ◌++◌
 use Rattle.std.proofs.Common.{slice_get, Some, refl, sym, ap, subst, arith, inl, inr, ◌⊎◌, All, AllPairs, Any, ◌↔◌}
 use Rattle.std.proofs.Common.{append_assoc, append-nil}
 use Rattle.std.specs.List.{list_any, remove}
-use Rattle.std.proofs.lemmas.List.{get_or_append_left, get_or_default, length-append, length-set, map-append, take_more, take-append-drop}
-use Rattle.std.proofs.lemmas.List.{take-set}
+use Rattle.std.proofs.lemmas.List.{get_or_default, length-append, length-set, map-append, take_more, take-set}
+use Rattle.std.proofs.lemmas.List.{take-append-drop}
 use Rattle.std.proofs.lemmas.Grind.{get_or-set_at}
 use Rattle.std.proofs.lemmas.List.Elements.{All-nil, All-cons, All-head, All-tail, filter-append}
 use Rattle.std.proofs.lemmas.List.Kept.{AllPairs-cons}
@@ -14,7 +14,7 @@ use Rattle.std.proofs.Math.ListN.{get_or-map}
 use Rattle.std.proofs.Math.Seq.{take-suc-set}
 use Rattle.smallvec.specs.SmallVec.{HasRoomFor}
 use Rattle.prop_lattice.specs.InformationOrder.{IsInformationOrder}
-use Rattle.prop_premises.specs.Sets.{Members, set_of, is_within}
+use Rattle.prop_numbers.specs.Sets.{Members, set_of, is_within}
 use Rattle.prop_tms.specs.Beliefs.{merge_of_all, belief_of, Subsumes}
 use Rattle.prop_tms.specs.Kept.{IsLeftWithout}
 use Rattle.prop_tms.specs.Values.{entries_of, entries_of_one}
@@ -482,13 +482,6 @@ pub entries_of-new : {V : Type 0} (xs : List (Valued V)) (x : Valued V) → x.su
     → entries_of (xs ++ x ∷ []) ≡ entries_of xs
 entries_of-new xs x none = entries_of-push xs x ∙ ap (λ ss. entries_of xs ++ with_value x.value ss) none
     ∙ append-nil (entries_of xs)
-
-pub bare_but_new : {V : Type 0} (xs : List (Valued V)) (x : Valued V) → NoneBare xs
-    → NoneBareBut (length xs) (xs ++ x ∷ [])
-bare_but_new xs x some k d l other =
-    let n = length-append xs (x ∷ []) in
-    let short : k < length xs = omega (arith, l, n, other) in
-    subst (λ (z : Valued _). z.supports.items ≢ []) (sym (get_or_append_left xs (x ∷ []) d k short)) (some k d short)
 
 -- where no other lost its supports, the one with the new support is the last to have one
 pub none_bare-push : {V : Type 0} (start mid : List (Valued V)) (i : ℕ) (y : Valued V) → i < length mid

@@ -3,8 +3,7 @@ use Rattle.std.specs.Prelude.{◌≡◌, ◌≢◌, ℕ, ◌<◌, ◌≤◌, fal
 use Rattle.std.specs.Prelude.{length, filter, All, AllPairs, Any, Contains, remove, ◌⊎◌}
 use Rattle.std.specs.Prelude.{if◌then◌else◌}
 use Rattle.std.specs.List.{list_any}
-use Rattle.prop_premises.specs.Sets.{Members, set_of, is_within, is_alike, is_at_most_one_of}
-use Rattle.prop_premises.specs.Sets.{IsSame}
+use Rattle.prop_numbers.specs.Sets.{Members, set_of, is_within, is_alike, is_at_most_one_of, IsSame}
 use Rattle.prop_tms.specs.declared.supported.Supported.{Supported}
 
 -- the least value above those of all these

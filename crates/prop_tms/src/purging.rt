@@ -1,7 +1,7 @@
 //! Entries that rest on a premise.
 ghost use Rattle.std.specs.Prelude.{◌≡◌, not, filter};
 ghost use Rattle.std.specs.List.{list_any};
-ghost use Rattle.prop_premises.specs.Sets.{set_of};
+ghost use Rattle.prop_numbers.specs.Sets.{set_of};
 ghost use Rattle.prop_tms.specs.Values.{entries_of};
 ghost use Rattle.prop_tms.specs.inner.Values.{values_of};
 

@@ -1,7 +1,7 @@
 //! What the believed entries say, from one worldview to another.
 ghost use Rattle.std.specs.Prelude.{◌≡◌, ◌≢◌, IsTrue, false};
 ghost use Rattle.std.specs.List.{list_any};
-ghost use Rattle.prop_premises.specs.Sets.{set_of};
+ghost use Rattle.prop_numbers.specs.Sets.{set_of};
 ghost use Rattle.prop_tms.specs.Beliefs.{belief_of};
 ghost use Rattle.prop_tms.specs.Values.{entries_of};
 ghost use Rattle.prop_tms.specs.inner.Values.{is_in_one};

@@ -3,7 +3,7 @@ ghost use Rattle.std.specs.Prelude.{◌≡◌, ◌↔◌, ◌≤◌, ◌+◌, �
 ghost use Rattle.std.specs.Prelude.{All};
 ghost use Rattle.std.specs.Prelude.{Contains, IsTrue, IsOk, IfOk, IfSome, IsSomeAnd};
 ghost use Rattle.std.specs.List.{list_any};
-ghost use Rattle.prop_premises.specs.Sets.{Members, set_of, is_within};
+ghost use Rattle.prop_numbers.specs.Sets.{Members, set_of, is_within};
 ghost use Rattle.prop_tms.specs.Beliefs.{belief_of, believed_of, merge_of_all, IsLean, IsShort};
 ghost use Rattle.prop_tms.specs.inner.Gains.{AreGains, AreRanked, entry_of, gained_of};
 ghost use Rattle.prop_tms.specs.Values.{entries_of};

@@ -2,8 +2,8 @@
 ghost use Rattle.std.specs.Prelude.{◌≡◌, ◌≢◌, ◌↔◌, ◌≤◌, ◌+◌, false, not, List, [], length, filter};
 ghost use Rattle.std.specs.Prelude.{IsTrue, Ok, IsOk, IfOk, IfSome, OnOk, OnErr};
 ghost use Rattle.std.specs.List.{list_any};
-ghost use Rattle.prop_premises.specs.Sets.{Members, set_of, is_within, is_below, is_at_most_one_of};
-ghost use Rattle.prop_premises.specs.Sets.{IsBelow};
+ghost use Rattle.prop_numbers.specs.Sets.{Members, set_of, is_within, is_below, is_at_most_one_of};
+ghost use Rattle.prop_numbers.specs.Sets.{IsBelow};
 ghost use Rattle.prop_tms.specs.Beliefs.{belief_of, IsLeastBelief, Subsumes, NoneSubsumed};
 ghost use Rattle.prop_tms.specs.Beliefs.{NoneAlike, IsNeedless, Adds, IsLean, IsShort, Trims};
 ghost use Rattle.prop_tms.specs.Beliefs.{AreNeeded, joined_with};

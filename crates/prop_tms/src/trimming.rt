@@ -2,7 +2,7 @@
 ghost use Rattle.std.specs.Prelude.{◌≡◌, ◌≢◌, ◌<◌, ◌≤◌, ◌+◌, ◌^◌, IsTrue, false, not, length};
 ghost use Rattle.std.specs.Prelude.{filter, get_or};
 ghost use Rattle.std.specs.List.{remove};
-ghost use Rattle.prop_premises.specs.Sets.{set_of, is_at_most_one_of};
+ghost use Rattle.prop_numbers.specs.Sets.{set_of, is_at_most_one_of};
 ghost use Rattle.prop_tms.specs.Beliefs.{belief_of, NoneSubsumed, NoneAlike, Trims, AreNeeded};
 ghost use Rattle.prop_tms.specs.Values.{entries_of};
 ghost use Rattle.prop_tms.specs.inner.Values.{values_of, place_of, AreKept};

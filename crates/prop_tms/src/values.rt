@@ -4,7 +4,7 @@ ghost use Rattle.std.specs.Prelude.{length, filter, get_or, IsTrue, OnOk, OnErr,
 ghost use Rattle.std.specs.Prelude.{IfNone};
 ghost use Rattle.std.specs.List.{list_any};
 ghost use Rattle.smallvec.specs.SmallVec.{HasRoomFor};
-ghost use Rattle.prop_premises.specs.Sets.{set_of, is_within, is_alike, is_below};
+ghost use Rattle.prop_numbers.specs.Sets.{set_of, is_within, is_alike, is_below};
 ghost use Rattle.prop_tms.specs.Beliefs.{Subsumes, IsNeedless, joined_with};
 ghost use Rattle.prop_tms.specs.Kept.{IsLeftWithout};
 ghost use Rattle.prop_tms.specs.Values.{entries_of, entries_of_one};

@@ -6,3 +6,5 @@ pub mod RefusalLemmas
 pub mod TextLemmas
 pub mod PairLaws
 pub mod CellLookups
+pub mod Halving
+pub mod Choosing

@@ -5,7 +5,7 @@ use Rattle.std.specs.Borrow.{Bor}
 use Rattle.std.specs.List.{list_any}
 use Rattle.std.proofs.lemmas.List.{take_more, map-append}
 use Rattle.std.proofs.lemmas.List.Sums.{fold-append}
-use Rattle.prop_lattice.specs.declared.refusal.Refusal.TheVariants.{NotInTheDomain}
+use Rattle.prop_refusals.specs.declared.refusal.Refusal.TheVariants.{NotInTheDomain}
 use Rattle.prop_sets.specs.Relation.{Relation, with_pair, no_pairs}
 use Rattle.prop_vocabulary.specs.Pairs.{texts_of_pairs, place_of, with_named_pair, with_pairs, is_pair_outside}
 use Rattle.prop_vocabulary.specs.Pairs.{is_outside}

@@ -2,11 +2,11 @@
 use Rattle.std.proofs.Common.{◌≡◌, ◌∙◌, ℕ, ◌<◌, Bool, true, false, List, [], ◌∷◌, Option, Some, None, length, is_some}
 use Rattle.std.proofs.Common.{is_none, nat_le, nat_lt, refl, ap}
 use Rattle.std.proofs.lemmas.Bool.{leb-false, or_from, or_left, or_right}
-use Rattle.prop_lattice.specs.Refusals.{most, when, first_of}
-use Rattle.prop_lattice.specs.declared.refusal.Limit.TheVariants.{Domains, Elements, Relations}
-use Rattle.prop_lattice.specs.declared.refusal.Refusal.{Refusal}
-use Rattle.prop_lattice.specs.declared.refusal.Refusal.TheVariants.{NameTaken, NoSuchDomain, NotInTheDomain}
-use Rattle.prop_lattice.specs.declared.refusal.Refusal.TheVariants.{LimitReached}
+use Rattle.prop_refusals.specs.Refusals.{most, when, first_of}
+use Rattle.prop_refusals.specs.declared.refusal.Limit.TheVariants.{Domains, Elements, Relations}
+use Rattle.prop_refusals.specs.declared.refusal.Refusal.{Refusal}
+use Rattle.prop_refusals.specs.declared.refusal.Refusal.TheVariants.{NameTaken, NoSuchDomain, NotInTheDomain}
+use Rattle.prop_refusals.specs.declared.refusal.Refusal.TheVariants.{LimitReached}
 use Rattle.prop_vocabulary.specs.Names.{number_in}
 use Rattle.prop_vocabulary.specs.Vocabulary.{Vocabulary, domain_number}
 use Rattle.prop_vocabulary.specs.Refusing.{is_domain_taken, domain_limit, domain_refusal, is_domain_missing}

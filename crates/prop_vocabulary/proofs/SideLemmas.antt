@@ -31,11 +31,3 @@ side_from-size domain size l = by (cases_lt 64 size)
     by : (d : (64 < size) ⊎ (size ≤ 64)) → (side_if domain size d).size ≡ size
     by (inl over) = absurd (omega (arith, l, over))
     by (inr fits) = refl
-
-pub side_from-domain : (domain size : ℕ) → (side_from domain size).domain ≡ domain
-unfolding side_from
-side_from-domain domain size = by (cases_lt 64 size)
-  where
-    by : (d : (64 < size) ⊎ (size ≤ 64)) → (side_if domain size d).domain ≡ domain
-    by (inl over) = refl
-    by (inr fits) = refl

@@ -6,3 +6,5 @@ pub mod Vocabulary
 pub mod Refusing
 pub mod Texts
 pub mod Promises
+pub mod Values
+pub mod Said

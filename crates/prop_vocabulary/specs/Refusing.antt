@@ -1,13 +1,13 @@
 -- For what a declaration is refused: each condition by itself, and which of them comes first.
 use Rattle.std.specs.Prelude.{◌≡◌, ◌⊎◌, ℕ, List, [], ◌∷◌, Bool, ◌||◌, ◌&&◌, nat_le, nat_lt, Option}
 use Rattle.std.specs.Prelude.{Some, length, is_some, is_none, unwrap_or}
-use Rattle.prop_lattice.specs.Refusals.{most, when, first_of}
-use Rattle.prop_lattice.specs.declared.refusal.Limit.TheVariants.{Domains, Elements, Relations}
-use Rattle.prop_lattice.specs.declared.refusal.Limit.TheVariants.{Symbols}
-use Rattle.prop_lattice.specs.declared.refusal.Refusal.{Refusal}
-use Rattle.prop_lattice.specs.declared.refusal.Refusal.TheVariants.{NameTaken, NoSuchDomain}
-use Rattle.prop_lattice.specs.declared.refusal.Refusal.TheVariants.{NotInTheDomain, LimitReached}
-use Rattle.prop_lattice.specs.declared.refusal.Refusal.TheVariants.{Memory}
+use Rattle.prop_refusals.specs.Refusals.{most, when, first_of}
+use Rattle.prop_refusals.specs.declared.refusal.Limit.TheVariants.{Domains, Elements, Relations}
+use Rattle.prop_refusals.specs.declared.refusal.Limit.TheVariants.{Symbols}
+use Rattle.prop_refusals.specs.declared.refusal.Refusal.{Refusal}
+use Rattle.prop_refusals.specs.declared.refusal.Refusal.TheVariants.{NameTaken, NoSuchDomain}
+use Rattle.prop_refusals.specs.declared.refusal.Refusal.TheVariants.{NotInTheDomain, LimitReached}
+use Rattle.prop_refusals.specs.declared.refusal.Refusal.TheVariants.{Memory}
 use Rattle.prop_sets.specs.Names.{has_repeat}
 use Rattle.prop_vocabulary.specs.Names.{number_in}
 use Rattle.prop_vocabulary.specs.Pairs.{is_outside}

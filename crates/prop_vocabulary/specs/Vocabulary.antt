@@ -2,8 +2,8 @@
 use Rattle.std.specs.Prelude.{◌≡◌, ℕ, ◌+◌, ◌<◌, ◌≤◌, List, [], ◌∷◌, ◌++◌, All, Option, Some, codes}
 use Rattle.std.specs.Prelude.{is_some, if◌then◌else◌, length, slice_get, take, unwrap_or}
 use Rattle.std.specs.Option.{option_map, option_and_then}
-use Rattle.prop_lattice.specs.Refusals.{most}
-use Rattle.prop_lattice.specs.declared.refusal.Limit.TheVariants.{Domains, Relations, Symbols}
+use Rattle.prop_refusals.specs.Refusals.{most}
+use Rattle.prop_refusals.specs.declared.refusal.Limit.TheVariants.{Domains, Relations, Symbols}
 use Rattle.prop_sets.specs.Names.{AreElements}
 use Rattle.prop_sets.specs.Relation.{Relation, no_pairs}
 use Rattle.prop_sets.specs.declared.side.Side as sides

@@ -1,6 +1,6 @@
 //! The symbols of a vocabulary.
-ghost use Rattle.std.specs.Prelude.{◌≡◌, ◌<◌, ◌⊎◌, length, take, slice_get, None, Some, Ok, Err};
-ghost use Rattle.std.specs.Prelude.{IfSome, IfOk, IfErr, OnOk, OnErr};
+ghost use Rattle.std.specs.Prelude.{◌≡◌, ◌<◌, ◌⊎◌, length, take, None, Some, Ok, Err, IfSome, IfOk};
+ghost use Rattle.std.specs.Prelude.{IfErr, OnOk, OnErr};
 ghost use Rattle.prop_vocabulary.specs.Names.{number_in};
 ghost use Rattle.prop_vocabulary.specs.Vocabulary.{symbol_number, with_symbol, with_first_symbols};
 ghost use Rattle.prop_vocabulary.specs.Vocabulary.{IsWhole};
@@ -25,14 +25,6 @@ impl Vocabulary {
     {
         let number = self.symbols.find(name)?;
         Some(number as u32)
-    }
-
-    /// The name of the symbol with this number.
-    pub fn symbol_name(&self, number: u32) -> &str
-        requires { number < length self.now.symbols }
-        ensures { slice_get self.now.symbols number ≡ Some result.now }
-    {
-        self.symbols.name(number as usize)
     }
 
     /// The number of the symbol with this name; a new one gets the next number.

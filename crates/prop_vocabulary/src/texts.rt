@@ -104,7 +104,7 @@ impl Vocabulary {
 
     /// The text of an information of a cell of the kind: a span by its ends, elements and symbols
     /// by their names.
-    pub fn value_text(&self, alloc: Global, kind: Kind, info: Info) -> Result<String, AllocError>
+    pub fn print_value(&self, alloc: Global, kind: Kind, info: Info) -> Result<String, AllocError>
         ensures { IfOk result (λ text. string_bytes text ≡ value_text self.now kind info) }
     {
         match info {

@@ -4,8 +4,8 @@ use Rattle.std.proofs.Common.{get_or, length, take, codes, ◌∙◌, Result, Ok
 use Rattle.std.specs.List.Sorted.{IsStrictlyIncreasing}
 use Rattle.std.proofs.lemmas.Option.{slice_get-get_or}
 use Rattle.prop_lattice.specs.declared.info.Info.{Info}
-use Rattle.prop_lattice.specs.declared.refusal.Refusal.TheVariants.{NoSuchCell}
-use Rattle.prop_premises.specs.Sets.{Members, IsPart, set_of}
+use Rattle.prop_refusals.specs.declared.refusal.Refusal.TheVariants.{NoSuchCell}
+use Rattle.prop_numbers.specs.Sets.{Members, IsPart, set_of}
 use Rattle.prop_premises.specs.Origins.{Origin, believed_in, choices_of}
 use Rattle.prop_premises.specs.declared.choice.Choice.{Choice}
 use Rattle.prop_premises.specs.ChoiceLists as lists

@@ -9,11 +9,11 @@ use Rattle.std.proofs.lemmas.Bool.{cases_lt, lt-ltb, le-ltb}
 use Rattle.std.proofs.lemmas.List.{length-append, length-map}
 use Rattle.std.proofs.Math.Seq.{drop-append_seam}
 use Rattle.std.proofs.lemmas.List.Elements.{All-append, All-cons, All-head, All-tail, All-map, All-weaker}
-use Rattle.prop_lattice.specs.Refusals.{most, first_of, when}
-use Rattle.prop_lattice.specs.declared.refusal.Limit.TheVariants.{Cells}
-use Rattle.prop_lattice.specs.declared.refusal.Refusal.{Refusal}
-use Rattle.prop_lattice.specs.declared.refusal.Refusal.TheVariants.{NoSuchRelation, NoSuchCell, NoSuchProcedure}
-use Rattle.prop_lattice.specs.declared.refusal.Refusal.TheVariants.{WrongCount, WrongKind, WrongParameter, Memory}
+use Rattle.prop_refusals.specs.Refusals.{most, first_of, when}
+use Rattle.prop_refusals.specs.declared.refusal.Limit.TheVariants.{Cells}
+use Rattle.prop_refusals.specs.declared.refusal.Refusal.{Refusal}
+use Rattle.prop_refusals.specs.declared.refusal.Refusal.TheVariants.{NoSuchRelation, NoSuchCell, NoSuchProcedure}
+use Rattle.prop_refusals.specs.declared.refusal.Refusal.TheVariants.{WrongCount, WrongKind, WrongParameter, Memory}
 use Rattle.prop_procedures.specs.declared.shape.Kinded.{Kinded}
 use Rattle.prop_procedures.specs.declared.shape.Param.{Param}
 use Rattle.prop_procedures.specs.declared.shape.Param.TheVariants.{Plain}
@@ -242,12 +242,6 @@ kinds_placed kinds fresh cells (place ∷ places) below l = λ i.
 or_false : (a b : Bool) → (a || b) ≡ false → (a ≡ false) × (b ≡ false)
 or_false true b h = cc
 or_false false b h = (refl, h)
-
-none_passes : {X : Type 0} (p : X → Bool) (xs : List X) → list_any p xs ≡ false → All (λ x. p x ≡ false) xs
-none_passes p [] e = λ k d l. absurd (omega (arith, l))
-none_passes p (x ∷ xs) e =
-    let both = or_false (p x) (list_any p xs) e in
-    All-cons (λ x. p x ≡ false) x xs both.0 (none_passes p xs both.1)
 
 not_false : (b : Bool) → not b ≡ false → b ≡ true
 not_false true e = refl

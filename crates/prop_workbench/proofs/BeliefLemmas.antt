@@ -2,8 +2,8 @@
 use Rattle.std.proofs.Common.{◌≡◌, ◌∙◌, ℕ, Bool, true, false, List, Some, None, Result, Ok, Err, ◌⊎◌, ◌↔◌, IsTrue, inl}
 use Rattle.std.proofs.Common.{inr, refl, sym, ap}
 use Rattle.std.specs.Prelude.{⊤, OnOk, OnErr, IfErr}
-use Rattle.prop_lattice.specs.declared.refusal.Refusal.{Refusal}
-use Rattle.prop_lattice.specs.declared.refusal.Refusal.TheVariants.{Memory, NoSuchPremise, IsAChoice}
+use Rattle.prop_refusals.specs.declared.refusal.Refusal.{Refusal}
+use Rattle.prop_refusals.specs.declared.refusal.Refusal.TheVariants.{Memory, NoSuchPremise, IsAChoice}
 use Rattle.prop_premises.specs.Origins.{premise_number, is_choice, with_belief_at}
 use Rattle.prop_procedures.specs.Stored.{Stored}
 use Rattle.prop_language.specs.Commands as commands

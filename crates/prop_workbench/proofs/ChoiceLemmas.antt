@@ -8,16 +8,16 @@ use Rattle.std.specs.Result.{result_unwrap_or}
 use Rattle.std.proofs.lemmas.List.Elements.{All-cons, All-head, All-tail}
 use Rattle.prop_lattice.specs.declared.info.Info.TheVariants.{Nothing}
 use Rattle.prop_lattice.specs.declared.info.Kind.{Kind}
-use Rattle.prop_lattice.specs.declared.refusal.Refusal.{Refusal}
-use Rattle.prop_lattice.specs.declared.refusal.Refusal.TheVariants.{NotAName, NotANumber, NameTaken, NoSuchCell}
-use Rattle.prop_lattice.specs.declared.refusal.Refusal.TheVariants.{WrongKind, NotInTheDomain, EmptyValue, Memory}
-use Rattle.prop_lattice.specs.Refusals.{first_of, when}
+use Rattle.prop_refusals.specs.declared.refusal.Refusal.{Refusal}
+use Rattle.prop_refusals.specs.declared.refusal.Refusal.TheVariants.{NotAName, NotANumber, NameTaken, NoSuchCell}
+use Rattle.prop_refusals.specs.declared.refusal.Refusal.TheVariants.{WrongKind, NotInTheDomain, EmptyValue, Memory}
+use Rattle.prop_refusals.specs.Refusals.{first_of, when}
 use Rattle.prop_premises.specs.Origins.{premise_number, is_choice}
 use Rattle.prop_procedures.specs.Stored.{Stored}
 use Rattle.prop_procedures.specs.Fitting.{kind_at}
 use Rattle.prop_language.specs.Commands as commands
 use Rattle.prop_language.specs.Commands.{Value}
-use Rattle.prop_values.specs.Values.{Meant, Known}
+use Rattle.prop_vocabulary.specs.Values.{Meant, Known}
 use Rattle.prop_vocabulary.specs.Cells.{cell_named}
 use Rattle.prop_vocabulary.specs.Texts.{elements_of_kind}
 use Rattle.prop_vocabulary.specs.Vocabulary.{Vocabulary}

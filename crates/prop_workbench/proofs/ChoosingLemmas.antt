@@ -18,7 +18,7 @@ use Rattle.prop_cells.specs.Sides.{sides_at}
 use Rattle.prop_language.specs.Commands.{Value}
 use Rattle.prop_language.specs.declared.command.Value as said
 use Rattle.prop_language.specs.Said.{value_of}
-use Rattle.prop_values.specs.Values.{Meant, Known, Name}
+use Rattle.prop_vocabulary.specs.Values.{Meant, Known, Name}
 use Rattle.prop_vocabulary.specs.Names.{number_in}
 use Rattle.prop_vocabulary.specs.Texts.{elements_of_kind}
 use Rattle.prop_vocabulary.specs.Vocabulary.{Vocabulary, IsWhole, with_first_symbols}
@@ -111,11 +111,6 @@ one_on start now new infos after info all rest meant way none e is_info is_after
   more = omega (arith, way.more, no_fewer now meant);
   back = still_first now meant (length start.symbols) way.more ∙ way.back;
 })
-
--- one of the symbols is refused
-pub limit_here : (words : Vocabulary) (meant : Meant) (rest : List Meant) (e : _) → naming_limit words meant ≡ Some e
-    → all_naming_limit words (meant ∷ rest) ≡ Some e
-limit_here words meant rest e h = rw h refl
 
 -- a value means the same as long as the domains are the same
 pub means_same : (words new : Vocabulary) (kind : Kind) (value : Value) → new.domains ≡ words.domains

@@ -5,12 +5,12 @@ use Rattle.std.specs.List.{AllZip}
 use Rattle.std.proofs.lemmas.Bool.{lt-leb, and_left}
 use Rattle.std.proofs.lemmas.List.Elements.{All-append, All-cons, All-contains, All-weaker, Contains-get_or}
 use Rattle.std.proofs.lemmas.List.Elements.{Contains-append_left}
-use Rattle.prop_lattice.specs.Refusals.{most, first_of, when}
+use Rattle.prop_refusals.specs.Refusals.{most, first_of, when}
 use Rattle.prop_lattice.specs.declared.info.Info.{Info}
-use Rattle.prop_lattice.specs.declared.refusal.Refusal.{Refusal}
-use Rattle.prop_lattice.specs.declared.refusal.Refusal.TheVariants.{LimitReached, Memory}
-use Rattle.prop_lattice.specs.declared.refusal.Limit.TheVariants.{Premises, Choices, Statements}
-use Rattle.prop_premises.specs.Sets.{Members, set_of}
+use Rattle.prop_refusals.specs.declared.refusal.Refusal.{Refusal}
+use Rattle.prop_refusals.specs.declared.refusal.Refusal.TheVariants.{LimitReached, Memory}
+use Rattle.prop_refusals.specs.declared.refusal.Limit.TheVariants.{Premises, Choices, Statements}
+use Rattle.prop_numbers.specs.Sets.{Members, set_of}
 use Rattle.prop_premises.specs.Origins.{premise_number, is_choice, choices_of}
 use Rattle.prop_premises.specs.declared.choice.Choice.{Choice}
 use Rattle.prop_premises.specs.ChoiceLists.{IsSide}
@@ -20,7 +20,6 @@ use Rattle.prop_cells.specs.declared.instance.Statement.{Statement}
 use Rattle.prop_cells.specs.Problems.{Problem, Extends}
 use Rattle.prop_cells.specs.Reach.{Reaches}
 use Rattle.prop_cells.specs.Reach.Reaches.{stated, passed}
-use Rattle.prop_cells.specs.Refusing.{sides_refusal}
 use Rattle.prop_cells.specs.Sides.{sides_at}
 use Rattle.prop_cells.specs.Data.{Data, problem_of}
 use Rattle.prop_cells.specs.Instances.{constraint_of}
@@ -80,14 +79,6 @@ declared_fits stand s name sides made same new free fits =
 pub only_memory : (o : Option Refusal) (e : Refusal) → o ≡ None → (o ≡ Some e) ⊎ (e ≡ Memory) → e ≡ Memory
 only_memory o e none (inl h) = let f : None ≡ Some e = sym none ∙ h in cc
 only_memory o e none (inr m) = m
-
--- its sides are stated
-pub sides_fit : (s : State) (d : Data) (sides : ℕ) → s.statements ≡ d.statements → choosing_limit s sides ≡ None
-    → sides_refusal d sides ≡ None
-sides_fit s d sides same fits =
-    let passed : nat_lt (most Statements) (length d.statements + sides) ≡ false =
-    rw same at (limits_passed s sides fits).2 in
-    rw passed refl
 
 -- ---- the premises of the sides
 

@@ -5,10 +5,10 @@ use Rattle.std.specs.List.{AllByRecursion}
 use Rattle.std.proofs.Math.Nat.{mul-le-mul_right}
 use Rattle.std.proofs.lemmas.List.Elements.{recursion_from_All}
 use Rattle.std.specs.List.Sorted.{IsStrictlyIncreasing}
-use Rattle.prop_premises.specs.Sets.{Members, set_of}
+use Rattle.prop_numbers.specs.Sets.{Members, set_of}
 use Rattle.prop_premises.specs.Origins.{Origin}
 use Rattle.prop_premises.specs.ChoiceLists.{lists_count}
-use Rattle.prop_premises.proofs.MergeLemmas.{Rising, rising_from_increasing}
+use Rattle.prop_numbers.proofs.MergeLemmas.{Rising, rising_from_increasing}
 use Rattle.prop_procedures.specs.declared.shape.Param.{Param}
 use Rattle.prop_procedures.specs.Kept.{stored_of}
 use Rattle.prop_procedures.specs.Stored.{Stored}

@@ -1,8 +1,8 @@
 -- A use on kinds and with what is given.
 use Rattle.std.proofs.Common.{◌≡◌, ◌∙◌, ℕ, List, Option, Some, None, Result, Ok, Err, OnOk, IfErr, IfOk, ◌⊎◌, sym}
 use Rattle.std.proofs.Common.{subst}
-use Rattle.prop_lattice.specs.declared.refusal.Refusal.{Refusal}
-use Rattle.prop_lattice.specs.declared.refusal.Refusal.TheVariants.{Memory}
+use Rattle.prop_refusals.specs.declared.refusal.Refusal.{Refusal}
+use Rattle.prop_refusals.specs.declared.refusal.Refusal.TheVariants.{Memory}
 use Rattle.prop_procedures.specs.declared.shape.Kinded.{Kinded}
 use Rattle.prop_procedures.specs.declared.shape.Param.{Param}
 use Rattle.prop_procedures.specs.Stored.{Stored}

@@ -4,13 +4,13 @@ use Rattle.std.proofs.Common.{◌≡◌, ◌∙◌, ◌⊎◌, ◌||◌, ℕ, Bo
 use Rattle.std.proofs.Common.{Result, Ok, Err, get_or, inl, inr, refl, sym, ap, subst, ◌↔◌}
 use Rattle.std.specs.Prelude.{⊤, OnOk, OnErr, IfErr}
 use Rattle.std.proofs.lemmas.List.Elements.{All-filter, All-get_or, filter_passes}
-use Rattle.prop_lattice.specs.declared.refusal.Refusal.{Refusal}
-use Rattle.prop_lattice.specs.declared.refusal.Refusal.TheVariants.{Memory, NoSuchPremise, IsAChoice}
-use Rattle.prop_premises.specs.Sets.{Members, set_of, union, is_within}
+use Rattle.prop_refusals.specs.declared.refusal.Refusal.{Refusal}
+use Rattle.prop_refusals.specs.declared.refusal.Refusal.TheVariants.{Memory, NoSuchPremise, IsAChoice}
+use Rattle.prop_numbers.specs.Sets.{Members, set_of, union, is_within}
 use Rattle.prop_premises.specs.Origins.{premise_number, is_choice, choices_of}
 use Rattle.prop_premises.specs.declared.choice.Choice.{Choice}
 use Rattle.prop_premises.specs.ChoiceLists.{hypotheticals_of, is_hypothetical}
-use Rattle.prop_premises.proofs.WithinLemmas.{within_has}
+use Rattle.prop_numbers.proofs.WithinLemmas.{within_has}
 use Rattle.prop_premises.proofs.WorldviewLemmas.{hypotheticals_are}
 use Rattle.prop_procedures.specs.Stored.{Stored}
 use Rattle.prop_nogoods.specs.Stores.{has_part, lacking}

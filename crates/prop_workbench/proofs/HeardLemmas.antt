@@ -3,8 +3,8 @@ use Rattle.std.proofs.Common.{◌≡◌, ℕ, Bool, true, false, cond, not, ◌=
 use Rattle.std.proofs.Common.{Err, ◌⊎◌, inl, inr, refl, sym, subst, arith}
 use Rattle.std.specs.List.{list_all}
 use Rattle.std.proofs.lemmas.Bool.{eqb-true}
-use Rattle.prop_lattice.specs.declared.refusal.Refusal.{Refusal}
-use Rattle.prop_lattice.specs.declared.refusal.Refusal.TheVariants.{Memory, NotAName, NotANumber}
+use Rattle.prop_refusals.specs.declared.refusal.Refusal.{Refusal}
+use Rattle.prop_refusals.specs.declared.refusal.Refusal.TheVariants.{Memory, NotAName, NotANumber}
 use Rattle.prop_procedures.specs.Stored.{Stored}
 use Rattle.prop_language.specs.Commands.{Command}
 use Rattle.prop_language.specs.Tokens.{Token, Word, tokens, is_blank, front_word}

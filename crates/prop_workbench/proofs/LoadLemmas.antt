@@ -2,7 +2,7 @@
 use Rattle.std.proofs.Common.{◌≡◌, ◌∙◌, ℕ, ◌<◌, ◌+◌, List, [], ◌∷◌, ◌++◌, length, get_or, take, drop, refl, sym, ap}
 use Rattle.std.proofs.Common.{subst}
 use Rattle.std.proofs.lemmas.List.{take-append-drop, take_more, drop_more}
-use Rattle.prop_lattice.specs.declared.refusal.Refusal.{Refusal}
+use Rattle.prop_refusals.specs.declared.refusal.Refusal.{Refusal}
 use Rattle.prop_engine.specs.declared.reply.Reply.{Reply}
 use Rattle.prop_engine.specs.declared.reply.Reply.TheVariants as replies
 use Rattle.prop_engine.specs.Answers.{Answer, Refused, answer_of}

@@ -1,11 +1,11 @@
 -- Each line leaves the premises numbered.
 use Rattle.std.proofs.Common.{◌≡◌, ℕ, suc, ◌≤◌, true, false, List, [], ◌∷◌, length, Option, Some, None, Result, Ok, Err}
 use Rattle.std.proofs.Common.{unwrap_or, inl, inr, refl, subst, arith, append-nil}
-use Rattle.prop_lattice.specs.declared.refusal.Refusal.{Refusal}
+use Rattle.prop_refusals.specs.declared.refusal.Refusal.{Refusal}
 use Rattle.prop_premises.specs.Origins.{Origin, IsNumbered, with_choice}
 use Rattle.prop_premises.proofs.NumberingLaws.{numbered_name, numbered_choice, numbered_belief}
 use Rattle.prop_procedures.specs.Stored.{Stored}
-use Rattle.prop_values.specs.Values.{Meant}
+use Rattle.prop_vocabulary.specs.Values.{Meant}
 use Rattle.prop_language.specs.Commands as commands
 use Rattle.prop_language.specs.Commands.{Command, Value}
 use Rattle.prop_language.specs.Reading.{IsReading}

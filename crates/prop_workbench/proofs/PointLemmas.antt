@@ -2,7 +2,7 @@
 use Rattle.std.proofs.Common.{◌≡◌, ℕ, List, get_or, map, refl}
 use Rattle.prop_lattice.specs.declared.info.Info.{Info}
 use Rattle.prop_lattice.specs.Points.{Point, Holds}
-use Rattle.prop_premises.specs.Sets.{Members, IsPart, set_of}
+use Rattle.prop_numbers.specs.Sets.{Members, IsPart, set_of}
 use Rattle.prop_premises.specs.Origins.{IsNumbered}
 use Rattle.prop_premises.specs.ChoiceLists.{worldview}
 use Rattle.prop_procedures.specs.declared.shape.Param.{Param}

@@ -1,14 +1,12 @@
 -- Which premises are known, and what changes where one is new, believed or no longer believed.
-use Rattle.std.proofs.Common.{◌≡◌, ◌∙◌, ℕ, ◌<◌, ◌||◌, Bool, true, false, IsTrue, List, [], ◌∷◌, ◌++◌, Some, None, All}
+use Rattle.std.proofs.Common.{◌≡◌, ◌∙◌, ℕ, ◌<◌, ◌||◌, Bool, true, false, IsTrue, List, [], ◌∷◌, ◌++◌, Some, All}
 use Rattle.std.proofs.Common.{Contains, length, take, get_or, ◌≤◌, ◌==◌, refl, sym, ap, arith}
 use Rattle.std.proofs.lemmas.Bool.{eq-eqb}
 use Rattle.std.proofs.lemmas.List.Folds.{list_any_at}
-use Rattle.std.proofs.lemmas.List.Quantifiers.{position-Some}
 use Rattle.std.proofs.lemmas.List.Elements.{All-contains, All-weaker, All-push}
 use Rattle.prop_lattice.specs.declared.info.Info.TheVariants.{Nothing}
 use Rattle.prop_lattice.specs.Order.{merge_of}
-use Rattle.prop_premises.specs.Sets.{Members, set_of, is_within, IsSame}
-use Rattle.prop_premises.specs.Origins.{Origin, User, is_user_called, with_name, premise_number}
+use Rattle.prop_numbers.specs.Sets.{Members, set_of, is_within, IsSame}
 use Rattle.prop_tms.specs.Beliefs.{merge_of_all, believed_of}
 use Rattle.prop_tms.proofs.KeptLemmas.{contains_here, contains_there}
 use Rattle.prop_procedures.specs.Stored.{Stored}
@@ -105,19 +103,6 @@ watched_agree library d n watched s t kept known agree w = record {
 
 -- ---- a new name, and without it
 
-pub with_new_name : (os : List Origin) (name : List ℕ) → premise_number os name ≡ None
-    → with_name os name ≡ os ++ User name true ∷ []
-with_new_name os name none = rw none refl
-
 pub take_front : {X : Type 0} (xs ys : List X) → take (length xs) (xs ++ ys) ≡ xs
 take_front [] ys = refl
 take_front (x ∷ xs) ys = ap (λ zs. x ∷ zs) (take_front xs ys)
-
-pub back_to : (os : List Origin) (name : List ℕ) (n : ℕ) → n ≡ length os → premise_number os name ≡ None
-    → take n (with_name os name) ≡ os
-back_to os name n e none = ap (take n) (with_new_name os name none) ∙ ap (λ k. take k (os ++ User name true ∷ [])) e
-    ∙ take_front os (User name true ∷ [])
-
--- a name that is there has a number below the length
-pub premise_below : (os : List Origin) (name : List ℕ) (n : ℕ) → premise_number os name ≡ Some n → n < length os
-premise_below os name n e = (position-Some (is_user_called name) os n (User [] true) e).0

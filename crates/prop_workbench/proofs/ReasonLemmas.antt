@@ -1,8 +1,8 @@
 -- What an answer names, from the text that was made for it.
 use Rattle.std.proofs.Common.{◌≡◌, ◌∙◌, ◌⊎◌, ℕ, List, Some, Ok, inl, inr, refl, sym}
 use Rattle.prop_lattice.specs.declared.info.Info.{Info}
-use Rattle.prop_lattice.specs.declared.refusal.Refusal.TheVariants.{Memory}
-use Rattle.prop_premises.specs.Sets.{Members}
+use Rattle.prop_refusals.specs.declared.refusal.Refusal.TheVariants.{Memory}
+use Rattle.prop_numbers.specs.Sets.{Members}
 use Rattle.prop_premises.specs.Origins.{Origin}
 use Rattle.prop_cells.specs.Data.{Data, beliefs, IsLeanAt}
 use Rattle.prop_vocabulary.specs.Vocabulary.{Vocabulary}

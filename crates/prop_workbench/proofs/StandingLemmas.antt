@@ -5,7 +5,7 @@ use Rattle.std.proofs.Common.{sym, ap}
 use Rattle.std.proofs.lemmas.Bool.Decides.{nat_tests}
 use Rattle.std.proofs.lemmas.List.{length-append}
 use Rattle.std.proofs.lemmas.List.Elements.{All-filter, All-weaker, Contains-get_or, Contains-append_left}
-use Rattle.prop_premises.specs.Sets.{Members, set_of}
+use Rattle.prop_numbers.specs.Sets.{Members, set_of}
 use Rattle.prop_premises.specs.Origins.{Origin, User, Side, believed_in, is_user_at, is_choice, premise_number}
 use Rattle.prop_premises.specs.Origins.{with_belief_at}
 use Rattle.prop_premises.proofs.ChoiceLemmas.{choices_of-user, choices_of-with_belief_at}

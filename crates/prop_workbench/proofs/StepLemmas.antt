@@ -1,8 +1,8 @@
 -- Steps of the machine from what its parts were tested for.
 use Rattle.std.proofs.Common.{◌≡◌, ◌∙◌, ◌≤◌, arith, ℕ, length, ◌++◌, ap, List, [], ◌∷◌, Option, Some, None, Result, Ok}
 use Rattle.std.proofs.Common.{Err, ◌⊎◌, inl, inr, unwrap_or, refl, sym, subst}
-use Rattle.prop_lattice.specs.declared.refusal.Refusal.{Refusal}
-use Rattle.prop_lattice.specs.declared.refusal.Refusal.TheVariants.{Memory, NameTaken, NoSuchDomain}
+use Rattle.prop_refusals.specs.declared.refusal.Refusal.{Refusal}
+use Rattle.prop_refusals.specs.declared.refusal.Refusal.TheVariants.{Memory, NameTaken, NoSuchDomain}
 use Rattle.prop_premises.specs.Origins.{Origin}
 use Rattle.prop_procedures.specs.declared.shape.Kinded.{Kinded}
 use Rattle.prop_cells.specs.Data.{Data}
@@ -15,7 +15,7 @@ use Rattle.prop_procedures.specs.Stored.{Stored, span_kind}
 use Rattle.prop_language.specs.Commands as commands
 use Rattle.prop_language.specs.Commands.{KindWord, Command}
 use Rattle.std.specs.Prelude.{⊤, OnOk, OnErr, IfErr}
-use Rattle.prop_lattice.specs.Refusals.{first_of}
+use Rattle.prop_refusals.specs.Refusals.{first_of}
 use Rattle.prop_engine.specs.Answers.{Answer, Silent, Done, Text, Refused, answer_done}
 use Rattle.prop_workbench.specs.Machine.{State}
 use Rattle.prop_workbench.specs.Refusing.{refusal_of, limit_refusal}

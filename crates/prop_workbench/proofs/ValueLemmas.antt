@@ -1,27 +1,21 @@
 -- What a value says at a cell, and why it is refused.
-use Rattle.std.proofs.Common.{◌≡◌, ◌∙◌, ℕ, ℤ, pos, neg_ℤ, ◌≤ℤ◌, ◌<◌, ◌≤◌, ◌^◌, ◌/◌, zero, suc, bytes_eq, nat_le, length}
-use Rattle.std.proofs.Common.{Bool, true, false, cond, ◌&&◌, ◌||◌, List, [], ◌∷◌, Option, Some, None, Result, Ok, Err}
-use Rattle.std.proofs.Common.{is_none, unwrap_or, ◌⊎◌, inl, inr, refl, sym, ap, subst, arith, slice_index_or, eq-eqb}
-use Rattle.std.specs.Prelude.{⊤, OnOk, OnErr, IfErr, int_le, int_lt}
-use Rattle.std.specs.Result.{result_unwrap_or}
-use Rattle.std.specs.Option.{option_map, option_map_or, option_and_then}
+use Rattle.std.proofs.Common.{◌≡◌, ◌∙◌, ℕ, ℤ, pos, neg_ℤ, ◌≤ℤ◌, ◌<◌, ◌≤◌, ◌^◌, ◌/◌, zero, suc, bytes_eq, length, Bool}
+use Rattle.std.proofs.Common.{true, false, cond, ◌&&◌, ◌||◌, List, [], ◌∷◌, Option, Some, None, Result, Ok, Err}
+use Rattle.std.proofs.Common.{is_none, ◌⊎◌, inl, inr, refl, ap, subst, arith, slice_index_or, eq-eqb}
+use Rattle.std.specs.Prelude.{⊤, int_le, int_lt}
+use Rattle.std.specs.Option.{option_map_or, option_and_then}
 use Rattle.std.specs.List.{list_all}
 use Rattle.std.proofs.lemmas.Int.{ints}
-use Rattle.std.proofs.lemmas.Bool.{lt-leb}
 use Rattle.prop_lattice.specs.declared.span.TheConstants.{B}
 use Rattle.prop_lattice.specs.declared.info.Info.{Info}
-use Rattle.prop_lattice.specs.declared.info.Info.TheVariants.{Nothing}
 use Rattle.prop_lattice.specs.declared.info.Kind.{Kind}
 use Rattle.prop_lattice.specs.declared.info.Kind.TheVariants as kinds
-use Rattle.prop_lattice.specs.declared.refusal.Refusal.{Refusal}
-use Rattle.prop_lattice.specs.declared.refusal.Refusal.TheVariants.{NotAName, NotANumber, NoSuchCell, WrongKind}
-use Rattle.prop_lattice.specs.declared.refusal.Refusal.TheVariants.{NotInTheDomain, EmptyValue, IsAChoice, LimitReached}
-use Rattle.prop_lattice.specs.declared.refusal.Refusal.TheVariants.{Memory}
-use Rattle.prop_lattice.specs.declared.refusal.Limit.TheVariants.{Statements}
+use Rattle.prop_refusals.specs.declared.refusal.Refusal.{Refusal}
+use Rattle.prop_refusals.specs.declared.refusal.Refusal.TheVariants.{NotAName, NotANumber, NoSuchCell, WrongKind}
+use Rattle.prop_refusals.specs.declared.refusal.Refusal.TheVariants.{NotInTheDomain, EmptyValue, IsAChoice}
 use Rattle.prop_lattice.specs.Ends.{AreEnds, AreSome, ends_or_not, some_or_not, span_if, span_from, elements_if}
 use Rattle.prop_lattice.specs.Ends.{elements_from}
-use Rattle.prop_lattice.specs.Refusals.{most, first_of, when}
-use Rattle.prop_premises.specs.Origins.{premise_number}
+use Rattle.prop_refusals.specs.Refusals.{most, first_of, when}
 use Rattle.prop_procedures.specs.Stored.{Stored}
 use Rattle.prop_procedures.specs.declared.shape.Kinded.{Kinded}
 use Rattle.std.proofs.Math.Pow.{pow_mono}
@@ -31,23 +25,17 @@ use Rattle.std.proofs.lemmas.Nat.Bits.{bit_at-zero}
 use Rattle.std.proofs.lemmas.Slice.Eq.{bytes_eq-Decides}
 use Rattle.prop_sets.specs.laws.ChosenLaws.{bits_where-lt, bits_where-has}
 use Rattle.prop_procedures.specs.Fitting.{kind_at}
-use Rattle.prop_cells.specs.Refusing.{may_be_stated, state_refusal}
-use Rattle.prop_cells.specs.Data.{Data}
-use Rattle.prop_cells.specs.declared.instance.Statement.{Statement}
+use Rattle.prop_cells.specs.Refusing.{may_be_stated}
 use Rattle.prop_language.specs.Commands.{Value, Bare, Braces}
 use Rattle.prop_language.specs.Names.{whole_number, is_name, is_among}
-use Rattle.prop_values.specs.Values.{Meant, Known, Name, known, value_said, span_value, set_value, bits_named}
-use Rattle.prop_values.specs.Values.{ends_value, bounded_number, halves}
+use Rattle.prop_vocabulary.specs.Values.{Meant, Known, Name, known, value_said, span_value, set_value, bits_named}
+use Rattle.prop_vocabulary.specs.Values.{ends_value, bounded_number, halves}
 use Rattle.prop_vocabulary.specs.Texts.{elements_of_kind}
 use Rattle.prop_workbench.specs.Machine.{State}
-use Rattle.prop_workbench.specs.Refusing.{refusal_of, telling_limit, stating_limit, stating_limit_at, meaning_at}
-use Rattle.prop_workbench.specs.Refusing.{is_error, with_meant}
+use Rattle.prop_workbench.specs.Refusing.{refusal_of, stating_limit_at, meaning_at, is_error}
 use Rattle.prop_workbench.specs.inner.Refusing.{is_choice_told}
-use Rattle.prop_engine.specs.Answers.{Done, answer_done}
-use Rattle.prop_workbench.specs.Steps.{Obeys, Carries}
-use Rattle.prop_workbench.specs.Effects.{stated, meant_at, words_at, info_at, info_meant}
+use Rattle.prop_workbench.specs.Effects.{stated}
 use Rattle.prop_workbench.specs.inner.Effects.{stating, MayMean}
-use Rattle.prop_workbench.proofs.StepLemmas.{first_of-one, obeys, refuses_or_lacks}
 use Rattle.prop_vocabulary.specs.Cells.{cell_named}
 
 -- ---- the refusals of values
@@ -288,107 +276,3 @@ value_refused library s premise name value cell e found said =
     value_rows (Some r) (Some cell) (is_choice_told s premise) (stating_limit_at s premise (Some r))) said
     ∙ error_rows e cell (is_choice_told s premise) None
     (value_refusal (kind_at s.kinds cell).kind (elements_of_kind s.words (kind_at s.kinds cell).kind) value e said)
-
--- then a choice's name, where a premise is asked for
-pub choice_told : (library : List Stored) (s : State) (premise : Option (List ℕ)) (name : List ℕ) (value : Value)
-    (cell : ℕ) (meant : Meant) → cell_named s.names name ≡ Some cell
-    → meaning_at s.words (kind_at s.kinds cell).kind value ≡ Ok meant →
-    is_choice_told s premise ≡ true → refusal_of library s (stating premise name value) ≡ Some IsAChoice
-choice_told library s premise name value cell meant found said choice =
-    by_rows library s premise name value cell found
-    ∙ ap (λ (r : Result Meant Refusal).
-    value_rows (Some r) (Some cell) (is_choice_told s premise) (stating_limit_at s premise (Some r))) said
-    ∙ ap (λ (b : Bool). value_rows (Some (Ok meant)) (Some cell) b (stating_limit s premise meant)) choice
-
--- and one that is not, for the limits alone
-pub value_limited : (library : List Stored) (s : State) (premise : Option (List ℕ)) (name : List ℕ) (value : Value)
-    (cell : ℕ) (meant : Meant) → is_choice_told s premise ≡ false → cell_named s.names name ≡ Some cell
-    → meaning_at s.words (kind_at s.kinds cell).kind value ≡ Ok meant →
-    refusal_of library s (stating premise name value) ≡ stating_limit s premise meant
-value_limited library s premise name value cell meant free found said =
-    by_rows library s premise name value cell found
-    ∙ ap (λ (r : Result Meant Refusal).
-    value_rows (Some r) (Some cell) (is_choice_told s premise) (stating_limit_at s premise (Some r))) said
-    ∙ ap (λ (b : Bool). value_rows (Some (Ok meant)) (Some cell) b (stating_limit s premise meant)) free
-    ∙ first_of-one (stating_limit s premise meant)
-
--- what the value means is stated
-made_statement : (s : State) (premise : Option (List ℕ)) (name : List ℕ) (value : Value) (cell : ℕ) (meant : Meant)
-    → cell_named s.names name ≡ Some cell → meaning_at s.words (kind_at s.kinds cell).kind value ≡ Ok meant →
-    stated s premise cell (with_meant s.words meant) (info_meant s.words meant) ≡ stated s premise
-    (unwrap_or (cell_named s.names name) 0) (words_at s name value) (info_at s name value)
-made_statement s premise name value cell meant found said =
-    let at : unwrap_or (cell_named s.names name) 0 ≡ cell = ap (λ (o : Option ℕ). unwrap_or o 0) found in
-    let means : meant_at s name value ≡ meant =
-    ap (λ (o : Option ℕ). option_map_or (λ r. result_unwrap_or r (Known Nothing))
-    (option_map (λ n. meaning_at s.words (kind_at s.kinds n).kind value) o) (Known Nothing)) found
-    ∙ ap (λ (r : Result Meant Refusal). result_unwrap_or r (Known Nothing)) said in
-    λ i. stated s premise (sym at i) (with_meant s.words (sym means i)) (info_meant s.words (sym means i))
-
-changes : (library : List Stored) (s new : State) (premise : Option (List ℕ)) (name : List ℕ) (value : Value)
-    → new ≡ stated s premise (unwrap_or (cell_named s.names name) 0) (words_at s name value) (info_at s name value) →
-    Carries library s (stating premise name value) Done new 0
-changes library s new None name value e = record { answer_is = refl; new_is = e; no_steps = refl }
-changes library s new (Some premise) name value e = record { answer_is = refl; new_is = e; no_steps = refl }
-
--- what a session states is what the machine does
-value_done : (library : List Stored) (s new : State) (premise : Option (List ℕ)) (name : List ℕ) (value : Value)
-    (cell : ℕ) (meant : Meant) → is_choice_told s premise ≡ false → cell_named s.names name ≡ Some cell
-    → meaning_at s.words (kind_at s.kinds cell).kind value ≡ Ok meant →
-    stating_limit s premise meant ≡ None
-    → new ≡ stated s premise cell (with_meant s.words meant) (info_meant s.words meant)
-    → Obeys library s (stating premise name value) Done new 0
-value_done library s new premise name value cell meant free found said fits e =
-    obeys library s new (stating premise name value) Done 0
-    (value_limited library s premise name value cell meant free found said ∙ fits)
-    (changes library s new premise name value (e ∙ made_statement s premise name value cell meant found said))
-
-value_stopped : (library : List Stored) (s : State) (premise : Option (List ℕ)) (name : List ℕ) (value : Value)
-    (cell : ℕ) (meant : Meant) (e : Refusal) → is_choice_told s premise ≡ false → cell_named s.names name ≡ Some cell
-    → meaning_at s.words (kind_at s.kinds cell).kind value ≡ Ok meant →
-    (stating_limit s premise meant ≡ Some e) ⊎ (e ≡ Memory)
-    → (refusal_of library s (stating premise name value) ≡ Some e) ⊎ (e ≡ Memory)
-value_stopped library s premise name value cell meant e free found said (inl h) =
-    inl (value_limited library s premise name value cell meant free found said ∙ h)
-value_stopped library s premise name value cell meant e free found said (inr m) = inr m
-
-pub value_done_or_not : (library : List Stored) (s new : State) (premise : Option (List ℕ)) (name : List ℕ)
-    (value : Value) (cell : ℕ) (meant : Meant) → is_choice_told s premise ≡ false → cell_named s.names name ≡ Some cell
-    → meaning_at s.words (kind_at s.kinds cell).kind value ≡ Ok meant →
-    (r : Result ⊤ Refusal) → OnOk r (stating_limit s premise meant ≡ None)
-    → OnOk r (new ≡ stated s premise cell (with_meant s.words meant) (info_meant s.words meant))
-    → IfErr r (λ e. (stating_limit s premise meant ≡ Some e) ⊎ (e ≡ Memory)) → OnErr r (new ≡ s) →
-    Obeys library s (stating premise name value) (answer_done r) new 0
-value_done_or_not library s new premise name value cell meant free found said (Ok t) fits made why same =
-    value_done library s new premise name value cell meant free found said fits made
-value_done_or_not library s new premise name value cell meant free found said (Err refusal) fits made why same =
-    refuses_or_lacks library s new (stating premise name value) refusal
-    (value_stopped library s premise name value cell meant refusal free found said why) same
-
-pub no_cell : (library : List Stored) (s : State) (premise : Option (List ℕ)) (name : List ℕ) (value : Value)
-    → cell_named s.names name ≡ None → refusal_of library s (stating premise name value) ≡ Some NoSuchCell
-no_cell library s None name value none = rw none refl
-no_cell library s (Some premise) name value none = rw none refl
-
--- ---- what a network tests
-
--- a network refuses a statement that fits for the limit alone
-pub state_limited : (d : Data) (cell : ℕ) (info : Info) → cell < length d.kinds
-    → may_be_stated (kind_at d.kinds cell).kind (kind_at d.kinds cell).size info ≡ true →
-    state_refusal d cell info ≡ when (LimitReached Statements) (nat_le (most Statements) (length d.statements))
-state_limited d cell info l fits = rw (lt-leb (length d.kinds) cell l, fits) refl
-
--- under a premise that there is, the limit of statements alone bears on it
-known_limit : (s : State) (premise : List ℕ) (p : ℕ) → premise_number s.premises premise ≡ Some p
-    → telling_limit s premise ≡ when (LimitReached Statements) (nat_le (most Statements) (length s.statements))
-known_limit s premise p known = rw known
-    (first_of-one (when (LimitReached Statements) (nat_le (most Statements) (length s.statements))))
-
-pub told_limit : (s : State) (d : Data) (premise : List ℕ) (cell : ℕ) (info : Info) (p : ℕ)
-    → s.statements ≡ d.statements → premise_number s.premises premise ≡ Some p → cell < length d.kinds →
-    may_be_stated (kind_at d.kinds cell).kind (kind_at d.kinds cell).size info ≡ true
-    → telling_limit s premise ≡ state_refusal d cell info
-told_limit s d premise cell info p same known l may =
-    known_limit s premise p known ∙ ap (λ (xs : List Statement).
-    when (LimitReached Statements) (nat_le (most Statements) (length xs))) same
-    ∙ sym (state_limited d cell info l may)

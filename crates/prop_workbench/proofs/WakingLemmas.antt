@@ -2,8 +2,8 @@
 use Rattle.std.proofs.Common.{◌≡◌, ◌∙◌, ◌≤◌, ◌⊎◌, ◌++◌, ◌∷◌, ℕ, List, [], Option, Some, None, Result, Ok, Err, OnOk}
 use Rattle.std.proofs.Common.{OnErr, length, refl, ap, inl, inr}
 use Rattle.std.specs.Prelude.{⊤}
-use Rattle.prop_lattice.specs.declared.refusal.Refusal.{Refusal}
-use Rattle.prop_premises.specs.Sets.{set_of}
+use Rattle.prop_refusals.specs.declared.refusal.Refusal.{Refusal}
+use Rattle.prop_numbers.specs.Sets.{set_of}
 use Rattle.prop_premises.specs.Origins.{premise_number}
 use Rattle.prop_procedures.specs.Stored.{Stored}
 use Rattle.prop_cells.specs.Problems.{Premises}
@@ -70,13 +70,6 @@ left_stating old new None cell value r stirred =
     left_stirred old new (commands.Command.Fix cell value) old.search.list r stirred (λ h. h) (λ e h. h)
 left_stating old new (Some premise) cell value r stirred =
     left_stirred old new (commands.Command.Tell premise cell value) old.search.list r stirred (λ h. h) (λ e h. h)
-
--- what is refused before anything is done
-pub left_refused : {R O : Type 0} {X : Type 0} {F : X → Type 0} {g : _} (old new : Session R O X F g)
-    (command : Command) (r : Result ⊤ Refusal) (e : Refusal) → r ≡ Err e
-    → Wakes (state_of old) (state_of new) (work_of old) (work_of new) (Ok (Some command)) (Refused e)
-    → HasLeft old command r new
-left_refused old new command r e is refused = rw is refused
 
 -- the list of nogoods changes nothing
 pub wakes_nogoods : {O : Type 0} (s : State) (work : Work O) (answer : Answer)

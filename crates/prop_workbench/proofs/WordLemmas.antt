@@ -1,16 +1,14 @@
 -- What a vocabulary that grows keeps.
-use Rattle.std.proofs.Common.{◌≡◌, ◌∙◌, ℕ, ◌<◌, Bool, true, false, List, [], ◌∷◌, ◌++◌, Option, Some, None, All, length}
-use Rattle.std.proofs.Common.{slice_get, unwrap_or, is_some, if◌then◌else◌, rules, refl, sym, ap, arith}
-use Rattle.std.proofs.lemmas.List.{length-append, take_all}
-use Rattle.std.proofs.Math.Seq.{take-append_seam}
+use Rattle.std.proofs.Common.{◌≡◌, ◌∙◌, ℕ, ◌<◌, true, List, [], ◌∷◌, ◌++◌, Option, Some, None, All, length, slice_get}
+use Rattle.std.proofs.Common.{unwrap_or, if◌then◌else◌, rules, refl, sym, ap, arith}
+use Rattle.std.proofs.lemmas.List.{length-append}
 use Rattle.std.proofs.lemmas.Option.{unwrap_or-slice_get}
 use Rattle.std.proofs.Math.ListN.{get_or-append}
 use Rattle.std.proofs.lemmas.List.Elements.{All-weaker}
 use Rattle.prop_lattice.specs.declared.info.Kind.{Kind}
 use Rattle.prop_lattice.specs.declared.info.Kind.TheVariants as kinds
 use Rattle.prop_procedures.specs.declared.shape.Kinded.{Kinded}
-use Rattle.prop_vocabulary.specs.Names.{number_in}
-use Rattle.prop_vocabulary.specs.Vocabulary.{Vocabulary, with_domain, with_symbol, with_first_symbols}
+use Rattle.prop_vocabulary.specs.Vocabulary.{Vocabulary, with_domain}
 use Rattle.std.specs.Borrow.{Bor}
 use Rattle.prop_language.specs.Commands.{Command}
 use Rattle.prop_language.specs.Said.{words}
@@ -84,16 +82,6 @@ pub locals_more : (words : Vocabulary) (name : List ℕ) (elements : List (List 
 locals_more words name elements definitions all =
     locals_weaker (IsSized words) (IsSized (with_domain words name elements)) (kind_more words name elements)
     definitions all
-
--- a symbol that was added is taken back
-pub symbol_back : (words : Vocabulary) (name : List ℕ)
-    → with_first_symbols (with_symbol words name) (length words.symbols) ≡ words
-symbol_back words name = by (is_some (number_in words.symbols name))
-  where
-    by : (t : Bool) → with_first_symbols (if t then words else record words { symbols = words.symbols ++ name ∷ [] })
-        (length words.symbols) ≡ words
-    by true = λ i. record words { symbols = take_all (length words.symbols) words.symbols (omega arith) i }
-    by false = λ i. record words { symbols = take-append_seam words.symbols (name ∷ []) i }
 
 -- what declares a domain has an element
 pub some_elements : (name : List ℕ) (elements : List (Bor (List ℕ)))

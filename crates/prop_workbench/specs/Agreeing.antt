@@ -2,7 +2,7 @@
 -- procedures in.
 use Rattle.std.specs.Prelude.{◌≡◌, ◌≢◌, ◌⊎◌, ℕ, List, [], codes, Some, All}
 use Rattle.prop_lattice.specs.declared.info.Info.{Info}
-use Rattle.prop_lattice.specs.declared.refusal.Refusal.TheVariants.{Memory}
+use Rattle.prop_refusals.specs.declared.refusal.Refusal.TheVariants.{Memory}
 use Rattle.prop_premises.specs.Origins.{IsNumbered}
 use Rattle.prop_procedures.specs.Stored.{Stored}
 use Rattle.prop_vocabulary.specs.Cells.{cell_named}

@@ -13,7 +13,7 @@ use Rattle.prop_language.specs.Commands.{Value, Command}
 use Rattle.prop_compound.specs.Defining.{with_definition}
 use Rattle.prop_compound.specs.Kinds.{kind_named}
 use Rattle.prop_compound.specs.Expansion.{Placed, Expansion}
-use Rattle.prop_values.specs.Values.{Meant, Known, Name}
+use Rattle.prop_vocabulary.specs.Values.{Meant, Known, Name}
 use Rattle.prop_procedures.specs.declared.shape.Param.{Param}
 use Rattle.prop_procedures.specs.declared.shape.Param.TheVariants.{Plain}
 use Rattle.prop_procedures.specs.Fitting.{fitting_param}

@@ -13,7 +13,7 @@ use Rattle.prop_workbench.specs.declared.session.Session.{Session}
 use Rattle.prop_workbench.specs.Machine.{State, worldview_at}
 use Rattle.prop_workbench.specs.Steps.{Step, Shown, new_shown, IsStepOf}
 use Rattle.prop_language.specs.Reading.{AsRead}
-use Rattle.prop_premises.specs.Sets.{set_of}
+use Rattle.prop_numbers.specs.Sets.{set_of}
 use Rattle.prop_workbench.specs.Reasons.{IsLeanAnswer}
 use Rattle.prop_workbench.specs.Questions.{Picks, Earns}
 use Rattle.prop_workbench.specs.Waking.{Wakes}

@@ -1,6 +1,6 @@
 -- What loading the prelude does.
 use Rattle.std.specs.Prelude.{◌≡◌, ℕ, List, [], ◌∷◌, ◌++◌, ⊤}
-use Rattle.prop_lattice.specs.declared.refusal.Refusal.{Refusal}
+use Rattle.prop_refusals.specs.declared.refusal.Refusal.{Refusal}
 use Rattle.prop_engine.specs.Answers.{Answer, Refused}
 use Rattle.prop_engine.specs.Transcripts.{Machine}
 

@@ -1,7 +1,7 @@
 -- What an explanation rests on among what the cells of a session hold.
 use Rattle.std.specs.Prelude.{◌≡◌, ℕ, List, [], codes, Option, Some, Result, Ok, ◌⊎◌, ⊤}
-use Rattle.prop_lattice.specs.declared.refusal.Refusal.{Refusal}
-use Rattle.prop_premises.specs.Sets.{Members}
+use Rattle.prop_refusals.specs.declared.refusal.Refusal.{Refusal}
+use Rattle.prop_numbers.specs.Sets.{Members}
 use Rattle.prop_cells.specs.Data.{Data, beliefs, IsLeanAt}
 use Rattle.prop_language.specs.Commands.{Command}
 use Rattle.prop_engine.specs.Answers.{Answer, Text}

@@ -6,22 +6,22 @@ use Rattle.std.specs.Prelude.{map, ◌-◌}
 use Rattle.std.specs.List.{list_any}
 use Rattle.std.specs.Option.{option_map, option_map_or, option_or}
 use Rattle.prop_lattice.specs.declared.info.Kind.{Kind}
-use Rattle.prop_lattice.specs.declared.refusal.Limit.TheVariants.{Cells, Premises, Choices}
-use Rattle.prop_lattice.specs.declared.refusal.Limit.TheVariants.{Statements}
-use Rattle.prop_lattice.specs.declared.refusal.Refusal.{Refusal}
-use Rattle.prop_lattice.specs.declared.refusal.Refusal.TheVariants.{NotAName, NotANumber, NameTaken}
-use Rattle.prop_lattice.specs.declared.refusal.Refusal.TheVariants.{NoSuchDomain, NoSuchRelation}
-use Rattle.prop_lattice.specs.declared.refusal.Refusal.TheVariants.{NoSuchCell, NoSuchPremise}
-use Rattle.prop_lattice.specs.declared.refusal.Refusal.TheVariants.{WrongKind, NotInTheDomain}
-use Rattle.prop_lattice.specs.declared.refusal.Refusal.TheVariants.{EmptyValue, IsAChoice}
-use Rattle.prop_lattice.specs.declared.refusal.Refusal.TheVariants.{LimitReached}
-use Rattle.prop_lattice.specs.Refusals.{number_of, most, when, first_of}
+use Rattle.prop_refusals.specs.declared.refusal.Limit.TheVariants.{Cells, Premises, Choices}
+use Rattle.prop_refusals.specs.declared.refusal.Limit.TheVariants.{Statements}
+use Rattle.prop_refusals.specs.declared.refusal.Refusal.{Refusal}
+use Rattle.prop_refusals.specs.declared.refusal.Refusal.TheVariants.{NotAName, NotANumber}
+use Rattle.prop_refusals.specs.declared.refusal.Refusal.TheVariants.{NameTaken, NoSuchDomain}
+use Rattle.prop_refusals.specs.declared.refusal.Refusal.TheVariants.{NoSuchRelation, NoSuchCell}
+use Rattle.prop_refusals.specs.declared.refusal.Refusal.TheVariants.{NoSuchPremise, WrongKind}
+use Rattle.prop_refusals.specs.declared.refusal.Refusal.TheVariants.{NotInTheDomain, EmptyValue}
+use Rattle.prop_refusals.specs.declared.refusal.Refusal.TheVariants.{IsAChoice, LimitReached}
+use Rattle.prop_refusals.specs.Refusals.{number_of, most, when, first_of}
 use Rattle.prop_premises.specs.Origins.{premise_number, is_choice, choices_of}
 use Rattle.prop_procedures.specs.declared.shape.Param.{Param}
 use Rattle.prop_procedures.specs.declared.shape.Param.TheVariants as params
 use Rattle.prop_procedures.specs.Stored.{Stored}
 use Rattle.prop_language.specs.Commands.{By, Value, Command}
-use Rattle.prop_values.specs.Values.{Meant, Known, Name, value_said}
+use Rattle.prop_vocabulary.specs.Values.{Meant, Known, Name, value_said}
 use Rattle.prop_procedures.specs.Fitting.{kind_at}
 use Rattle.prop_vocabulary.specs.Vocabulary.{Vocabulary, relation_named, with_symbol}
 use Rattle.prop_vocabulary.specs.Texts.{elements_of_kind}

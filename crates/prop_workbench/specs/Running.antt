@@ -6,7 +6,7 @@ use Rattle.prop_lattice.specs.declared.info.Info.{Info}
 use Rattle.prop_lattice.specs.declared.info.Info.TheVariants as infos
 use Rattle.prop_lattice.specs.Order.{Below}
 use Rattle.prop_lattice.specs.Rank.{IsOf}
-use Rattle.prop_premises.specs.Sets.{Members, set_of, IsPart}
+use Rattle.prop_numbers.specs.Sets.{Members, set_of, IsPart}
 use Rattle.prop_premises.specs.ChoiceLists.{IsChoiceList, lists_count}
 use Rattle.prop_procedures.specs.Stored.{Stored}
 use Rattle.prop_cells.specs.Problems.{Assignment, IsLeastSolution, Entails, is_member}

@@ -1,9 +1,9 @@
 -- What a line that runs nothing leaves of the choices and of the instances that wait.
 use Rattle.std.specs.Prelude.{◌≡◌, List, ◌++◌, ◌∷◌, [], ℕ, Option, Some, Result, Ok, if◌then◌else◌}
 use Rattle.std.specs.Prelude.{take, ⊤}
-use Rattle.prop_lattice.specs.declared.refusal.Refusal.{Refusal}
+use Rattle.prop_refusals.specs.declared.refusal.Refusal.{Refusal}
 use Rattle.prop_scheduler.specs.Shifts.{AreStirred}
-use Rattle.prop_premises.specs.Sets.{Members}
+use Rattle.prop_numbers.specs.Sets.{Members}
 use Rattle.prop_amb.specs.Search.{Stand}
 use Rattle.prop_amb.specs.Moving.{first_sides, level_first}
 use Rattle.prop_language.specs.Commands.{Command}

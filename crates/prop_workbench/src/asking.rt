@@ -31,7 +31,7 @@ pub(crate) enum Question<'a> {
 impl<R: Rule + Drop, O: Order + Drop> Session<R, O> {
     ghost use Rattle.std.specs.Prelude.{◌≡◌, ◌≢◌, ◌<◌, ◌≤◌, ◌+◌, ◌*◌, ℕ, List, [], All, Some, IfOk};
     ghost use Rattle.std.specs.Prelude.{codes, length};
-    ghost use Rattle.prop_premises.specs.Sets.{set_of, IsSame};
+    ghost use Rattle.prop_numbers.specs.Sets.{set_of, IsSame};
     ghost use Rattle.prop_premises.specs.ChoiceLists.{lists_count};
     ghost use Rattle.prop_cells.specs.Data.{beliefs};
     ghost use Rattle.prop_scheduler.specs.Potential.{most_steps};
@@ -332,7 +332,7 @@ impl<R: Rule + Drop, O: Order + Drop> Session<R, O> {
             (equation name.now (text_at (state_of self.now) cell info) mark.now) }
     {
         let kind = self.network.data().kind(cell).kind;
-        match self.words.value_text(self.alloc, kind, info) {
+        match self.words.print_value(self.alloc, kind, info) {
             Ok(value) => value_reply(self.alloc, name, &value, mark),
             Err(AllocError) => Reply::Refused(Refusal::Memory),
         }

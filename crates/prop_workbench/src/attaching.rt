@@ -52,7 +52,7 @@ fn kinds_of(alloc: Global, held: &Cells, cells: &[usize]) -> Result<Vec<Kinded>,
 impl<R: Rule + Drop, O: Order + Drop> Session<R, O> {
     ghost use Rattle.std.specs.Prelude.{◌≡◌, ◌<◌, ◌≤◌, ◌+◌, ◌⊎◌, ℕ, All, length, map, None, Some};
     ghost use Rattle.std.specs.Prelude.{IfOk, IfErr, OnOk, OnErr};
-    ghost use Rattle.prop_lattice.specs.declared.refusal.Refusal.TheVariants.{Memory};
+    ghost use Rattle.prop_refusals.specs.declared.refusal.Refusal.TheVariants.{Memory};
     ghost use Rattle.prop_language.specs.Commands as commands;
     ghost use Rattle.prop_language.specs.Said.{by_of, words};
     ghost use Rattle.prop_workbench.specs.Refusing.{used, use_refusal, given_by};

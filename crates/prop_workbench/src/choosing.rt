@@ -1,7 +1,7 @@
 //! The command that makes a choice.
 ghost use Rattle.std.specs.Prelude.{◌≡◌, ◌≤◌, ◌⊎◌, ℕ, None, Some, Ok, All, IfOk, IfErr, OnOk};
 ghost use Rattle.std.specs.Prelude.{OnErr, map, length};
-ghost use Rattle.prop_lattice.specs.declared.refusal.Refusal.TheVariants.{Memory};
+ghost use Rattle.prop_refusals.specs.declared.refusal.Refusal.TheVariants.{Memory};
 ghost use Rattle.prop_language.specs.Said.{value_of};
 ghost use Rattle.prop_vocabulary.specs.Vocabulary.{with_first_symbols};
 ghost use Rattle.prop_workbench.specs.inner.Choosing.{is_one_refused, values_refusal, meaning_of};
@@ -17,8 +17,7 @@ use prop_compound::Value;
 use prop_lattice::{Info, Kind, Limit, Refusal};
 use prop_procedures::Rule;
 use prop_scheduler::{Order, state_sides};
-use prop_values::Meant;
-use prop_vocabulary::Vocabulary;
+use prop_vocabulary::{Meant, Vocabulary};
 use std::alloc::Global;
 
 /// Whether the value is refused so at a cell of the kind.
@@ -134,12 +133,12 @@ fn infos_of(
 impl<R: Rule + Drop, O: Order + Drop> Session<R, O> {
     ghost use Rattle.std.specs.Prelude.{◌≡◌, ◌≤◌, ◌<◌, ◌⊎◌, ◌++◌, ◌∷◌, [], ◌||◌, ℕ, None, Some};
     ghost use Rattle.std.specs.Prelude.{All, false, is_some, OnOk, OnErr, IfOk, IfErr, map, length};
-    ghost use Rattle.prop_lattice.specs.declared.refusal.Refusal.TheVariants.{Memory};
+    ghost use Rattle.prop_refusals.specs.declared.refusal.Refusal.TheVariants.{Memory};
     ghost use Rattle.prop_premises.specs.Origins.{premise_number, is_choice, with_choice};
     ghost use Rattle.prop_language.specs.Commands as commands;
     ghost use Rattle.prop_language.specs.Said.{value_of};
     ghost use Rattle.prop_procedures.specs.Fitting.{kind_at};
-    ghost use Rattle.prop_values.specs.Values.{Known};
+    ghost use Rattle.prop_vocabulary.specs.Values.{Known};
     ghost use Rattle.prop_cells.specs.Sides.{sides_at};
     ghost use Rattle.prop_workbench.specs.inner.Choosing.{Means, meanings_of};
     ghost use Rattle.prop_workbench.specs.Effects.{chosen};

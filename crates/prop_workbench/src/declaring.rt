@@ -8,7 +8,7 @@ use prop_scheduler::{Order, new_cell};
 impl<R: Rule + Drop, O: Order + Drop> Session<R, O> {
     ghost use Rattle.std.specs.Prelude.{◌≡◌, ◌<◌, ◌++◌, ◌∷◌, [], ◌⊎◌, map, All, None, Some, OnOk};
     ghost use Rattle.std.specs.Prelude.{OnErr, IfOk, IfErr, ℕ, length};
-    ghost use Rattle.prop_lattice.specs.declared.refusal.Refusal.TheVariants.{Memory};
+    ghost use Rattle.prop_refusals.specs.declared.refusal.Refusal.TheVariants.{Memory};
     ghost use Rattle.prop_language.specs.Commands as commands;
     ghost use Rattle.prop_language.specs.Said.{kind_of, words, pairs_of, step_of};
     ghost use Rattle.prop_workbench.specs.Sessions.{IsInOrder, IsMeant};

@@ -1,9 +1,9 @@
 //! The commands that state what is known.
 ghost use Rattle.std.specs.Prelude.{◌≡◌, ◌<◌, ◌≤◌, ◌++◌, ◌∷◌, [], ℕ, ◌⊎◌, None, Some, Ok, Err};
 ghost use Rattle.std.specs.Prelude.{OnOk, OnErr, IfOk, IfErr, length};
-ghost use Rattle.prop_lattice.specs.declared.refusal.Refusal.TheVariants.{Memory};
+ghost use Rattle.prop_refusals.specs.declared.refusal.Refusal.TheVariants.{Memory};
 ghost use Rattle.prop_language.specs.Said.{value_of};
-ghost use Rattle.prop_values.specs.Said.{meant_of};
+ghost use Rattle.prop_vocabulary.specs.Said.{meant_of};
 ghost use Rattle.prop_vocabulary.specs.Texts.{elements_of_kind};
 ghost use Rattle.prop_workbench.specs.Refusing.{meaning_at};
 ghost use Rattle.prop_compound.specs.Kinds.{IsKnown};
@@ -14,8 +14,7 @@ use prop_lattice::{Info, Kind, Limit, Refusal};
 use prop_premises::Premise;
 use prop_procedures::Rule;
 use prop_scheduler::{Order, state};
-use prop_values::{Meant, read_value};
-use prop_vocabulary::Vocabulary;
+use prop_vocabulary::{Meant, Vocabulary, read_value};
 
 /// What a value means at a cell of a kind.
 pub(crate) fn meaning<'a>(
@@ -39,7 +38,7 @@ pub(crate) fn meaning<'a>(
 impl<R: Rule + Drop, O: Order + Drop> Session<R, O> {
     ghost use Rattle.std.specs.Prelude.{◌≡◌, ◌<◌, ◌++◌, ◌∷◌, [], ◌⊎◌, ℕ, false, None, Some, OnOk};
     ghost use Rattle.std.specs.Prelude.{OnErr, IfErr, length};
-    ghost use Rattle.prop_lattice.specs.declared.refusal.Refusal.TheVariants.{Memory};
+    ghost use Rattle.prop_refusals.specs.declared.refusal.Refusal.TheVariants.{Memory};
     ghost use Rattle.prop_premises.specs.Origins.{premise_number, is_choice, with_name};
     ghost use Rattle.prop_language.specs.Commands as commands;
     ghost use Rattle.prop_language.specs.Said.{value_of};
@@ -47,8 +46,8 @@ impl<R: Rule + Drop, O: Order + Drop> Session<R, O> {
     ghost use Rattle.prop_cells.specs.Refusing.{state_refusal};
     ghost use Rattle.prop_workbench.specs.inner.Effects.{name_of, stating, MayMean};
     ghost use Rattle.prop_workbench.specs.Effects.{stated, info_meant};
-    ghost use Rattle.prop_values.specs.Said.{meant_of};
-    ghost use Rattle.prop_values.specs.Values.{Known, Name};
+    ghost use Rattle.prop_vocabulary.specs.Said.{meant_of};
+    ghost use Rattle.prop_vocabulary.specs.Values.{Known, Name};
     ghost use Rattle.prop_vocabulary.specs.Vocabulary.{with_symbol, symbol_number};
     ghost use Rattle.prop_workbench.specs.Refusing.{telling_limit, statement_limit, stating_limit};
     ghost use Rattle.prop_workbench.specs.Refusing.{with_meant};

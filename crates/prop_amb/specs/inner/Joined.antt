@@ -1,6 +1,6 @@
 -- The reasons against all sides of a choice, joined without its sides.
 use Rattle.std.specs.Prelude.{◌≡◌, ℕ, suc, ◌||◌, IsTrue, List, [], ◌∷◌, false}
-use Rattle.prop_premises.specs.Sets.{Members, set_of, without}
+use Rattle.prop_numbers.specs.Sets.{Members, set_of, without}
 use Rattle.prop_premises.specs.declared.choice.Choice.{Choice}
 use Rattle.prop_premises.specs.ChoiceLists.{IsSide, is_side_of}
 

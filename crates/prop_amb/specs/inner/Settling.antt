@@ -1,6 +1,6 @@
 -- How settling ends, and what is known of a list on the way.
 use Rattle.std.specs.Prelude.{ℕ, List, Contains}
-use Rattle.prop_premises.specs.Sets.{set_of, IsPart}
+use Rattle.prop_numbers.specs.Sets.{set_of, IsPart}
 use Rattle.prop_cells.specs.Problems.{Problem}
 use Rattle.prop_amb.specs.Refuted.{IsNogood}
 use Rattle.prop_amb.specs.Search.{Stand, choices_in}

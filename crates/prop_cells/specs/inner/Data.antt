@@ -1,7 +1,7 @@
 -- The part of a network that is no library.
 use Rattle.std.specs.Prelude.{◌≡◌, ◌<◌, ℕ, IsTrue, List, [], All, length, slice_get, slice_index_or}
 use Rattle.std.specs.Prelude.{Some, Contains}
-use Rattle.prop_premises.specs.Sets.{set_of}
+use Rattle.prop_numbers.specs.Sets.{set_of}
 use Rattle.prop_cells.specs.Instances.{Instance, readers_of, writers_of}
 use Rattle.prop_cells.specs.Data.{Data, IsWellMade}
 

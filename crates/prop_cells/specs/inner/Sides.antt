@@ -3,7 +3,7 @@
 use Rattle.std.specs.Prelude.{ℕ, List, take, filter, slice_set}
 use Rattle.prop_lattice.specs.declared.info.Info.TheVariants.{Nothing}
 use Rattle.prop_lattice.specs.Order.{Below, merge_of}
-use Rattle.prop_premises.specs.Sets.{is_below}
+use Rattle.prop_numbers.specs.Sets.{is_below}
 use Rattle.prop_tms.specs.Beliefs.{Subsumes, joined_with}
 use Rattle.prop_tms.specs.Kept.{IsGrownBy}
 use Rattle.prop_cells.specs.Data.{Data, Entry, content_of}

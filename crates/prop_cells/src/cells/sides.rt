@@ -1,7 +1,7 @@
 //! Cells take the statements of a choice, all or none.
 ghost use Rattle.std.specs.Prelude.{◌≡◌, ◌<◌, ◌≤◌, ◌+◌, ◌^◌, length, All, IsTrue, OnOk, OnErr};
 ghost use Rattle.prop_lattice.specs.Rank.{IsOf};
-ghost use Rattle.prop_premises.specs.Sets.{is_below};
+ghost use Rattle.prop_numbers.specs.Sets.{is_below};
 ghost use Rattle.prop_procedures.specs.Fitting.{kind_at};
 ghost use Rattle.prop_cells.specs.Data.{IsWellMade, content_of};
 ghost use Rattle.prop_cells.specs.Sides.{sides_at, StatesAll};

@@ -1,9 +1,9 @@
 -- What a definition in words means, and for what it is refused: each condition by itself, and which
 -- of them comes first.
 use Rattle.std.specs.Prelude.{◌≡◌, ◌⊎◌, ℕ, List, ◌++◌, Bool, true, Option}
-use Rattle.prop_lattice.specs.Refusals.{first_of}
-use Rattle.prop_lattice.specs.declared.refusal.Refusal.{Refusal}
-use Rattle.prop_lattice.specs.declared.refusal.Refusal.TheVariants.{NameTaken, Memory}
+use Rattle.prop_refusals.specs.Refusals.{first_of}
+use Rattle.prop_refusals.specs.declared.refusal.Refusal.{Refusal}
+use Rattle.prop_refusals.specs.declared.refusal.Refusal.TheVariants.{NameTaken, Memory}
 use Rattle.prop_procedures.specs.Stored.{Stored}
 use Rattle.prop_vocabulary.specs.Vocabulary.{Vocabulary}
 use Rattle.prop_language.specs.Commands.{Step}

@@ -4,8 +4,8 @@ use Rattle.std.specs.Prelude.{false, cond, not, ◌||◌, length, reverse, slice
 use Rattle.std.specs.Prelude.{sum_by, ⊤}
 use Rattle.std.specs.List.{list_any, flat_map}
 use Rattle.std.specs.Option.{option_map_or}
-use Rattle.prop_lattice.specs.Refusals.{most}
-use Rattle.prop_lattice.specs.declared.refusal.Limit.TheVariants.{Cells, Instances}
+use Rattle.prop_refusals.specs.Refusals.{most}
+use Rattle.prop_refusals.specs.declared.refusal.Limit.TheVariants.{Cells, Instances}
 use Rattle.prop_procedures.specs.declared.shape.Param.{Param}
 use Rattle.prop_vocabulary.specs.Vocabulary.{Vocabulary}
 use Rattle.prop_compound.specs.declared.definition.KeptDefinition.{KeptDefinition}

@@ -2,7 +2,7 @@
 use Rattle.std.specs.Prelude.{◌≡◌, ◌<◌, ◌≤◌, false, ◌+◌, ℕ, List, insert, length, Option, Some}
 use Rattle.std.specs.Prelude.{None, IfSome, IsTrue, All, AllPairs}
 use Rattle.std.specs.List.{flat_map}
-use Rattle.prop_premises.specs.Sets.{Members, set_of, is_below}
+use Rattle.prop_numbers.specs.Sets.{Members, set_of, is_below}
 use Rattle.prop_nogoods.specs.Stores.{has_part, staying, lacking}
 
 -- nogoods, the premise that each of them has, and how many there is memory for

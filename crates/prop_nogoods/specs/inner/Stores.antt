@@ -1,6 +1,6 @@
 -- Lists of nogoods, none of which is part of another or smaller than one before it.
 use Rattle.std.specs.Prelude.{◌≡◌, ℕ, List, false, All, Contains}
-use Rattle.prop_premises.specs.Sets.{set_of, is_within}
+use Rattle.prop_numbers.specs.Sets.{set_of, is_within}
 
 -- both list the same sets
 pub record HaveSame (a b : List (List ℕ)) : Type 0 where

@@ -31,15 +31,6 @@ all_lawful value library h =
 
 -- ---- the points that belong together
 
--- one more whose answers do
-pub AreSound-push : {R : Type 0} {X : Type 0} {F : X → Type 0} {g : _}
-    → (value : R → Param → List Info → Info) (related : R → Param → List Point → Point → Type 0)
-    (procedures : List (Procedure R X F g)) (p : Procedure R X F g) (all : List (Procedure R X F g))
-    → all ≡ procedures ++ p ∷ [] → AreSound value related procedures → IsSoundFor value related p
-    → AreSound value related all
-AreSound-push value related procedures p all e h m =
-    rw e (All-push (IsSoundFor value related) procedures p h m)
-
 -- a stored procedure's value holds the points that belong together at its number
 pub sound_at : {R : Type 0} {X : Type 0} {F : X → Type 0} {g : _}
     → (value : R → Param → List Info → Info) (related : R → Param → List Point → Point → Type 0)

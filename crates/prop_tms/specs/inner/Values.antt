@@ -1,7 +1,7 @@
 -- Values, each once, with the supports that say so.
 use Rattle.std.specs.Prelude.{◌≡◌, ◌≢◌, ℕ, ◌+◌, ◌^◌, ◌<◌, ◌≤◌, Bool, not, ◌&&◌, ◌||◌, List, []}
 use Rattle.std.specs.Prelude.{length, get_or, map, take, All, AllPairs}
-use Rattle.prop_premises.specs.Sets.{Members, is_within}
+use Rattle.prop_numbers.specs.Sets.{Members, is_within}
 use Rattle.prop_tms.specs.Beliefs.{NoneSubsumed, NoneAlike}
 use Rattle.prop_tms.specs.declared.values.Valued.{Valued}
 use Rattle.prop_tms.specs.Values.{entries_of}

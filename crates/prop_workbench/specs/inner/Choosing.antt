@@ -5,13 +5,13 @@ use Rattle.std.specs.Result.{result_unwrap_or}
 use Rattle.prop_lattice.specs.declared.info.Info.{Info}
 use Rattle.prop_lattice.specs.declared.info.Info.TheVariants.{Nothing}
 use Rattle.prop_lattice.specs.declared.info.Kind.{Kind}
-use Rattle.prop_lattice.specs.declared.refusal.Refusal.{Refusal}
-use Rattle.prop_lattice.specs.declared.refusal.Refusal.TheVariants.{NotAName, NotANumber, NameTaken}
-use Rattle.prop_lattice.specs.declared.refusal.Refusal.TheVariants.{WrongKind, NotInTheDomain}
-use Rattle.prop_lattice.specs.declared.refusal.Refusal.TheVariants.{EmptyValue}
-use Rattle.prop_lattice.specs.Refusals.{first_of, when}
+use Rattle.prop_refusals.specs.declared.refusal.Refusal.{Refusal}
+use Rattle.prop_refusals.specs.declared.refusal.Refusal.TheVariants.{NotAName, NotANumber}
+use Rattle.prop_refusals.specs.declared.refusal.Refusal.TheVariants.{NameTaken, WrongKind}
+use Rattle.prop_refusals.specs.declared.refusal.Refusal.TheVariants.{NotInTheDomain, EmptyValue}
+use Rattle.prop_refusals.specs.Refusals.{first_of, when}
 use Rattle.prop_language.specs.Commands.{Value}
-use Rattle.prop_values.specs.Values.{Meant, Known}
+use Rattle.prop_vocabulary.specs.Values.{Meant, Known}
 use Rattle.prop_vocabulary.specs.Vocabulary.{Vocabulary}
 use Rattle.prop_workbench.specs.Refusing.{meaning_at, is_error, with_meant}
 use Rattle.prop_workbench.specs.Effects.{info_meant}

@@ -5,7 +5,7 @@ use Rattle.std.specs.Option.{option_map}
 use Rattle.prop_lattice.specs.declared.info.Kind.TheVariants as kinds
 use Rattle.prop_procedures.specs.declared.shape.Kinded.{Kinded}
 use Rattle.prop_language.specs.Commands.{Value, Command}
-use Rattle.prop_values.specs.Values.{Meant, Known, Name}
+use Rattle.prop_vocabulary.specs.Values.{Meant, Known, Name}
 use Rattle.prop_nogoods.specs.Stores.{lacking}
 use Rattle.prop_cells.specs.Refusing.{may_be_stated}
 use Rattle.prop_workbench.specs.Machine.{State}

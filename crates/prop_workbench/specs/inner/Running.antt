@@ -2,10 +2,10 @@
 use Rattle.std.specs.Prelude.{◌≡◌, ℕ, List, ◌⊎◌}
 use Rattle.std.specs.List.Sorted.{IsStrictlyIncreasing}
 use Rattle.prop_lattice.specs.declared.info.Info.{Info}
-use Rattle.prop_premises.specs.Sets.{Members, set_of}
+use Rattle.prop_numbers.specs.Sets.{Members, set_of}
 use Rattle.prop_procedures.specs.Stored.{Stored}
 use Rattle.prop_cells.specs.Reach.{Explains}
-use Rattle.prop_lattice.specs.declared.refusal.Refusal.TheVariants.{Memory}
+use Rattle.prop_refusals.specs.declared.refusal.Refusal.TheVariants.{Memory}
 use Rattle.prop_engine.specs.Answers.{Answer, Text, Refused}
 use Rattle.prop_workbench.specs.Machine.{State, problem_in, text_at}
 use Rattle.prop_texts.specs.Texts.{equation, because}

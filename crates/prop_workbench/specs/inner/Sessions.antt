@@ -2,7 +2,7 @@
 use Rattle.std.specs.Prelude.{◌≡◌, ◌≤◌, List, [], Option, Some, length, ⊤}
 use Rattle.prop_language.specs.Commands.{Command}
 use Rattle.prop_lattice.specs.declared.info.Info.{Info}
-use Rattle.prop_premises.specs.Sets.{Members}
+use Rattle.prop_numbers.specs.Sets.{Members}
 use Rattle.prop_procedures.specs.declared.shape.Param.{Param}
 use Rattle.prop_amb.specs.Refuted.{IsCovered}
 use Rattle.prop_amb.specs.Search.{choices_in}

@@ -1,6 +1,6 @@
 -- What the machine may do with one line.
 use Rattle.std.specs.Prelude.{ℕ, List, Option, Result}
-use Rattle.prop_lattice.specs.declared.refusal.Refusal.{Refusal}
+use Rattle.prop_refusals.specs.declared.refusal.Refusal.{Refusal}
 use Rattle.prop_procedures.specs.Stored.{Stored}
 use Rattle.prop_language.specs.Commands.{Command}
 use Rattle.prop_engine.specs.Answers.{Answer}

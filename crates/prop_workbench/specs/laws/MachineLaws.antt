@@ -4,8 +4,8 @@ use Rattle.std.proofs.Common.{arith}
 use Rattle.std.specs.Prelude.{Option, Some, None, Result, Ok, Err}
 use Rattle.std.proofs.lemmas.List.{length-take, take_all}
 use Rattle.std.proofs.lemmas.Bool.{cases_lt}
-use Rattle.prop_lattice.specs.declared.refusal.Refusal.{Refusal}
-use Rattle.prop_lattice.specs.declared.refusal.Refusal.TheVariants.{LineTooLong, Memory}
+use Rattle.prop_refusals.specs.declared.refusal.Refusal.{Refusal}
+use Rattle.prop_refusals.specs.declared.refusal.Refusal.TheVariants.{LineTooLong, Memory}
 use Rattle.prop_procedures.specs.Stored.{Stored}
 use Rattle.prop_language.specs.Commands.{Command}
 use Rattle.prop_language.specs.Reading.{IsReading, AsRead}
@@ -45,10 +45,6 @@ kept_steps : (library : List Stored) (old new : State) (line : List ℕ) (answer
     → Step library old (kept_of line) answer new steps → Step library old line answer new steps
 kept_steps library old new line answer steps (read, is, follows) =
     (read, kept_is_read line read is, follows)
-
-pub workbench_asks_by_prefix : (library : List Stored) → AsksByPrefix (workbench library)
-workbench_asks_by_prefix library old line answer new s =
-    record { steps = s.steps; step = kept_steps library old new line answer s.steps s.step }
 
 -- and what is said of how a line was read
 kept_as_read : (line : List ℕ) (Holds : Result (Option Command) Refusal → Type 0)

@@ -1,8 +1,8 @@
 -- A refusal says nothing of the work behind it, and leaves it.
 use Rattle.std.proofs.Common.{refl}
 use Rattle.std.specs.Prelude.{ℕ, List, Option, Some, None, Result, Ok, Err}
-use Rattle.prop_lattice.specs.declared.refusal.Refusal.{Refusal}
-use Rattle.prop_premises.specs.Sets.{Members}
+use Rattle.prop_refusals.specs.declared.refusal.Refusal.{Refusal}
+use Rattle.prop_numbers.specs.Sets.{Members}
 use Rattle.prop_procedures.specs.Stored.{Stored}
 use Rattle.prop_cells.specs.Data.{Data}
 use Rattle.prop_amb.specs.Going.{Work}

@@ -1,7 +1,7 @@
 use Rattle.std.proofs.Common.{◌≡◌, ◌∙◌, ◌+◌, ◌<◌, ℕ, zero, suc, Bool, true, false, ◌||◌, List, [], ◌∷◌, length, take}
 use Rattle.std.proofs.Common.{slice_index_or, refl, sym, arith, add-one}
 use Rattle.std.proofs.lemmas.List.{take_all}
-use Rattle.prop_premises.specs.Sets.{Members, set_of, union, without, IsSame}
+use Rattle.prop_numbers.specs.Sets.{Members, set_of, union, without, IsSame}
 use Rattle.prop_amb.specs.inner.Joined.{others_of}
 use Rattle.prop_amb.proofs.joining.joined.Goals as goal
 

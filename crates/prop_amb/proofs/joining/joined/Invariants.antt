@@ -1,5 +1,5 @@
 use Rattle.std.proofs.Common.{◌≡◌, ◌+◌, take}
-use Rattle.prop_premises.specs.Sets.{set_of, union, without, IsSame}
+use Rattle.prop_numbers.specs.Sets.{set_of, union, without, IsSame}
 use Rattle.prop_amb.specs.inner.Joined.{others_of}
 use Rattle.prop_amb.proofs.joining.joined.Given as goal
 

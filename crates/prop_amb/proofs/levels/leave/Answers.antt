@@ -1,5 +1,5 @@
 use Rattle.std.proofs.Common.{◌≡◌, ◌-◌, ◌<◌, length, take, subst, arith}
-use Rattle.prop_premises.specs.Sets.{set_of, IsSame}
+use Rattle.prop_numbers.specs.Sets.{set_of, IsSame}
 use Rattle.prop_premises.specs.ChoiceLists.{worldview, IsSide}
 use Rattle.prop_amb.proofs.ZipLemmas.{zip_length}
 use Rattle.prop_amb.proofs.LeavingLaws.{taken_there, left_one}

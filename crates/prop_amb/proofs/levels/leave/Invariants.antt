@@ -1,5 +1,5 @@
 use Rattle.std.proofs.Common.{◌≡◌, ◌≤◌, ℕ, IsTrue, false, take}
-use Rattle.prop_premises.specs.Sets.{Members, set_of, IsSame}
+use Rattle.prop_numbers.specs.Sets.{Members, set_of, IsSame}
 use Rattle.prop_premises.specs.ChoiceLists.{worldview, is_hypothetical}
 use Rattle.prop_amb.proofs.levels.leave.Given as goal
 

@@ -1,5 +1,5 @@
 use Rattle.std.proofs.Common.{◌≡◌, ◌++◌, ◌⊎◌, [], IsTrue}
-use Rattle.prop_premises.specs.Sets.{set_of}
+use Rattle.prop_numbers.specs.Sets.{set_of}
 use Rattle.prop_amb.proofs.search.last_of.Given as goal
 
 abbrev pub invariant-loop-premise : goal.invariant-loop-premise

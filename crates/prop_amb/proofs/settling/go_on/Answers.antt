@@ -1,6 +1,6 @@
 use Rattle.std.proofs.Common.{Contains}
-use Rattle.prop_premises.specs.Sets.{IsPart, set_of}
-use Rattle.prop_premises.proofs.WithinLemmas.{within_has}
+use Rattle.prop_numbers.specs.Sets.{IsPart, set_of}
+use Rattle.prop_numbers.proofs.WithinLemmas.{within_has}
 use Rattle.prop_cells.specs.Problems.{Problem}
 use Rattle.prop_amb.specs.Search.{IsSearch}
 use Rattle.prop_amb.specs.Resolving.{IsReason}

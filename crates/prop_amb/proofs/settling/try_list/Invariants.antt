@@ -1,6 +1,6 @@
 use Rattle.std.proofs.Common.{◌≡◌, ◌≤◌, ◌-◌, length}
 use Rattle.prop_procedures.specs.Kept.{stored_of}
-use Rattle.prop_premises.specs.Sets.{set_of}
+use Rattle.prop_numbers.specs.Sets.{set_of}
 use Rattle.prop_scheduler.specs.Watching.{IsWatched}
 use Rattle.prop_amb.proofs.OnWay.{Deepening}
 use Rattle.prop_amb.proofs.settling.try_list.Given as goal

@@ -1,6 +1,6 @@
 use Rattle.std.proofs.Common.{◌≢◌, ◌<◌, ℕ}
 use Rattle.prop_lattice.specs.declared.info.Info.TheVariants.{Contradiction}
-use Rattle.prop_premises.specs.Sets.{set_of}
+use Rattle.prop_numbers.specs.Sets.{set_of}
 use Rattle.prop_cells.specs.Data.{beliefs}
 use Rattle.prop_cells.proofs.contents.first_clash.Given as goal
 

@@ -1,6 +1,6 @@
 use Rattle.std.proofs.Common.{not, arith}
 use Rattle.std.proofs.lemmas.Bool.{ltb-true}
-use Rattle.prop_premises.specs.Sets.{set_of, is_at_most_one_of}
+use Rattle.prop_numbers.specs.Sets.{set_of, is_at_most_one_of}
 use Rattle.prop_tms.proofs.ValueLemmas.{filter_length}
 use Rattle.prop_cells.specs.Data.{Entry}
 use Rattle.prop_cells.proofs.contents.has_many_derived.Goals as goal

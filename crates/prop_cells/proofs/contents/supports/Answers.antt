@@ -1,5 +1,5 @@
 use Rattle.std.proofs.Common.{arith}
-use Rattle.prop_premises.specs.Sets.{set_of}
+use Rattle.prop_numbers.specs.Sets.{set_of}
 use Rattle.prop_cells.proofs.Founding.{support_more}
 use Rattle.prop_cells.proofs.contents.supports.Goals as goal
 

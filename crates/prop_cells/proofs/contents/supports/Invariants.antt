@@ -1,5 +1,5 @@
 use Rattle.std.proofs.Common.{take}
-use Rattle.prop_premises.specs.Sets.{set_of}
+use Rattle.prop_numbers.specs.Sets.{set_of}
 use Rattle.prop_cells.specs.Data.{IsSupport}
 use Rattle.prop_cells.proofs.contents.supports.Given as goal
 

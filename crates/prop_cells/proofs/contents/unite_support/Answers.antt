@@ -1,7 +1,7 @@
 use Rattle.std.proofs.Common.{Result, Ok, Err, OnOk, List, [], subst}
 use Rattle.prop_lattice.specs.declared.info.Info.TheVariants.{Nothing}
 use Rattle.prop_lattice.specs.Order.{merge_of}
-use Rattle.prop_premises.specs.Sets.{set_of}
+use Rattle.prop_numbers.specs.Sets.{set_of}
 use Rattle.prop_tms.specs.Beliefs.{belief_of, IsLean}
 use Rattle.prop_cells.specs.Data.{Entry}
 use Rattle.prop_cells.proofs.Telling.{read_there}

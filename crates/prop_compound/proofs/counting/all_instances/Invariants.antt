@@ -1,6 +1,6 @@
 use Rattle.std.proofs.Common.{◌≡◌, ◌+◌, min, sum_by, take}
-use Rattle.prop_lattice.specs.Refusals.{most}
-use Rattle.prop_lattice.specs.declared.refusal.Limit.TheVariants.{Instances}
+use Rattle.prop_refusals.specs.Refusals.{most}
+use Rattle.prop_refusals.specs.declared.refusal.Limit.TheVariants.{Instances}
 use Rattle.prop_compound.specs.Kept.{all_bare}
 use Rattle.prop_compound.specs.inner.Kept.{instances_of, total_of}
 use Rattle.prop_compound.proofs.counting.all_instances.Given as goal

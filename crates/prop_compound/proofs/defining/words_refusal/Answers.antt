@@ -1,5 +1,5 @@
 use Rattle.std.proofs.Common.{sym}
-use Rattle.prop_lattice.specs.declared.refusal.Refusal.TheVariants.{NoSuchDomain, NoSuchRelation, NoSuchCell}
+use Rattle.prop_refusals.specs.declared.refusal.Refusal.TheVariants.{NoSuchDomain, NoSuchRelation, NoSuchCell}
 use Rattle.prop_compound.specs.Defining.{is_domain_missing, is_relation_missing}
 use Rattle.prop_compound.proofs.Judging.{some_said, first_of_three, second_of_three, third_of_three, none_of_three}
 use Rattle.prop_compound.proofs.defining.words_refusal.Goals as goal

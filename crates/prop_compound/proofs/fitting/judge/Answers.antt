@@ -1,6 +1,6 @@
 use Rattle.std.proofs.Common.{[], ◌∷◌, inl, ap, ◌∙◌}
-use Rattle.prop_lattice.specs.declared.refusal.Refusal.TheVariants.{WrongParameter}
-use Rattle.prop_lattice.specs.Refusals.{when, first_of}
+use Rattle.prop_refusals.specs.declared.refusal.Refusal.TheVariants.{WrongParameter}
+use Rattle.prop_refusals.specs.Refusals.{when, first_of}
 use Rattle.prop_procedures.specs.Kept.{stored_of}
 use Rattle.prop_compound.proofs.Firsts.{kind_stops, spare_stops, given_decides}
 use Rattle.prop_compound.proofs.fitting.judge.Goals as goal

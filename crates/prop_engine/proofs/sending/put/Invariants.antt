@@ -1,4 +1,4 @@
-use Rattle.std.proofs.Common.{◌≤◌, ◌<◌, ◌≡◌, ◌+◌, false, length, take, ◌-◌}
+use Rattle.std.proofs.Common.{◌≤◌, ◌<◌, ◌≡◌, false, length, take, ◌-◌}
 use Rattle.std.specs.Io.KnownBytes.{Appends}
 use Rattle.prop_engine.specs.Watched.{reader, writer, owed, has_gone_ahead, device, has_failed, has_stopped, is_flushed}
 use Rattle.prop_engine.specs.Watched.{has_flushed_idly}

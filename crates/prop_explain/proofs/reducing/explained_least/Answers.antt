@@ -1,5 +1,5 @@
 use Rattle.std.proofs.Common.{}
-use Rattle.prop_premises.specs.Sets.{set_of}
+use Rattle.prop_numbers.specs.Sets.{set_of}
 use Rattle.prop_procedures.specs.Kept.{stored_of}
 use Rattle.prop_explain.proofs.ReducingLaws.{tries_of_more}
 use Rattle.prop_explain.proofs.reducing.explained_least.Goals as goal

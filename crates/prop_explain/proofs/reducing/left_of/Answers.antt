@@ -1,7 +1,7 @@
 use Rattle.std.proofs.Common.{◌≡◌, ◌∙◌, ◌∷◌, [], List, ℕ, refl, sym, subst, arith, append_assoc}
 use Rattle.std.proofs.lemmas.List.Elements.{All-nil}
-use Rattle.prop_premises.specs.Sets.{Members, set_of, without, IsPart}
-use Rattle.prop_premises.proofs.MergeLemmas.{Rising, rising_from_increasing}
+use Rattle.prop_numbers.specs.Sets.{Members, set_of, without, IsPart}
+use Rattle.prop_numbers.proofs.MergeLemmas.{Rising, rising_from_increasing}
 use Rattle.prop_procedures.specs.Kept.{stored_of}
 use Rattle.prop_cells.specs.Data.{problem_of}
 use Rattle.prop_explain.specs.Trying.TriesOf.{none}

@@ -1,5 +1,5 @@
 use Rattle.std.proofs.Common.{◌≡◌, ◌++◌}
-use Rattle.prop_premises.specs.Sets.{set_of, IsPart}
+use Rattle.prop_numbers.specs.Sets.{set_of, IsPart}
 use Rattle.prop_procedures.specs.Kept.{stored_of}
 use Rattle.prop_cells.specs.Data.{problem_of}
 use Rattle.prop_explain.proofs.ReducingLaws.{HasTried}

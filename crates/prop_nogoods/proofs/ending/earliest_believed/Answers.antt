@@ -1,7 +1,7 @@
 use Rattle.std.proofs.Common.{◌≡◌, ◌∙◌, ◌-◌, length, take, drop, All, Contains, arith, ap, subst, refl}
 use Rattle.std.proofs.Math.Seq.{take-length}
 use Rattle.std.proofs.lemmas.List.Elements.{All-more}
-use Rattle.prop_premises.specs.Sets.{set_of}
+use Rattle.prop_numbers.specs.Sets.{set_of}
 use Rattle.prop_nogoods.specs.inner.Endings.{Group, sets_of}
 use Rattle.prop_nogoods.proofs.EndingLemmas.{EndsBelow, group_contains}
 use Rattle.prop_nogoods.proofs.OrderLemmas.{all_end_below_place, behind_contains, rest_is}

@@ -1,5 +1,5 @@
 use Rattle.std.proofs.Common.{take, All}
-use Rattle.prop_premises.specs.Sets.{set_of}
+use Rattle.prop_numbers.specs.Sets.{set_of}
 use Rattle.prop_nogoods.proofs.EndingLemmas.{EndsBelow}
 use Rattle.prop_nogoods.proofs.ending.earliest_believed.Given as goal
 

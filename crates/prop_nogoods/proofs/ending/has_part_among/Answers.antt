@@ -1,5 +1,5 @@
 use Rattle.std.proofs.Common.{rules, ◌≡◌, ◌∙◌, ◌++◌, ℕ, [], Some, All, ap, sym, subst, refl, append-nil}
-use Rattle.prop_premises.specs.Sets.{set_of}
+use Rattle.prop_numbers.specs.Sets.{set_of}
 use Rattle.prop_nogoods.specs.inner.Endings.{NoPartEnds}
 use Rattle.prop_nogoods.proofs.AmongLemmas.{in_set, no_part_anywhere}
 use Rattle.prop_nogoods.proofs.ending.has_part_among.Goals as goal

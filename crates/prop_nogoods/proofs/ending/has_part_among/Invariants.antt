@@ -1,5 +1,5 @@
 use Rattle.std.proofs.Common.{◌≡◌, ◌++◌, Some, All}
-use Rattle.prop_premises.specs.Sets.{set_of}
+use Rattle.prop_numbers.specs.Sets.{set_of}
 use Rattle.prop_nogoods.specs.inner.Endings.{NoPartEnds}
 use Rattle.prop_nogoods.proofs.ending.has_part_among.Given as goal
 

@@ -3,7 +3,7 @@ use Rattle.std.specs.List.{find}
 use Rattle.std.specs.Option.{option_map}
 use Rattle.std.proofs.lemmas.Iterator.{YieldsList-from_slice}
 use Rattle.std.proofs.lemmas.Iterator.Search.{find_from_yields_List}
-use Rattle.prop_premises.specs.Sets.{set_of, is_within}
+use Rattle.prop_numbers.specs.Sets.{set_of, is_within}
 use Rattle.prop_nogoods.proofs.StoreLemmas.{none_found, smallest_found}
 use Rattle.prop_nogoods.proofs.listed.first_believed.Goals as goal
 

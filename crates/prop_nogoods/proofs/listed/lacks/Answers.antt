@@ -1,6 +1,6 @@
 use Rattle.std.proofs.Common.{◌≡◌, ◌∙◌, ℕ, List, Bool, true, false, not, refl}
-use Rattle.prop_premises.specs.Sets.{set_of, is_within}
-use Rattle.prop_premises.proofs.WithinLemmas.{within_has}
+use Rattle.prop_numbers.specs.Sets.{set_of, is_within}
+use Rattle.prop_numbers.proofs.WithinLemmas.{within_has}
 use Rattle.prop_nogoods.proofs.listed.lacks.Goals as goal
 
 not_both : (b : Bool) → not b ≡ true → b ≡ true → ⊥

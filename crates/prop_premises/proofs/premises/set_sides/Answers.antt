@@ -1,5 +1,5 @@
 use Rattle.std.proofs.Common.{◌≡◌, ◌+◌, ◌-◌, ◌∙◌, arith, get_or}
-use Rattle.prop_premises.specs.Words.{has_bit}
+use Rattle.prop_numbers.specs.Words.{has_bit}
 use Rattle.prop_premises.specs.declared.choice.Choice.{Choice}
 use Rattle.prop_premises.proofs.SideLemmas.{taken, taken_is_hypothetical, with_side}
 use Rattle.prop_premises.proofs.premises.set_sides.Goals as goal

@@ -1,5 +1,5 @@
 use Rattle.std.proofs.Common.{◌≡◌, ◌||◌, ℕ, length, drop}
-use Rattle.prop_premises.specs.Words.{has_bit}
+use Rattle.prop_numbers.specs.Words.{has_bit}
 use Rattle.prop_premises.specs.ChoiceLists.{hypotheticals_of}
 use Rattle.prop_premises.proofs.premises.set_sides.Given as goal
 

@@ -1,6 +1,6 @@
 use Rattle.std.proofs.Common.{◌∙◌}
-use Rattle.prop_lattice.specs.Refusals.{most}
-use Rattle.prop_lattice.specs.declared.refusal.Limit.TheVariants.{Instances}
+use Rattle.prop_refusals.specs.Refusals.{most}
+use Rattle.prop_refusals.specs.declared.refusal.Limit.TheVariants.{Instances}
 use Rattle.prop_procedures.specs.Kept.{stored_of}
 use Rattle.prop_cells.proofs.Backing.{goes_back-same}
 use Rattle.prop_scheduler.proofs.Stages.{first_there, each_may, room_for, all_made}

@@ -1,7 +1,7 @@
 use Rattle.std.proofs.Common.{◌≡◌, ◌∙◌, ◌+◌, sym, ap, filter, not, if◌then◌else◌}
 use Rattle.std.specs.List.{range_with_len}
 use Rattle.std.specs.String.{string_bytes}
-use Rattle.prop_premises.specs.Sets.{set_of}
+use Rattle.prop_numbers.specs.Sets.{set_of}
 use Rattle.prop_texts.specs.Texts.{premises_text, is_listed}
 use Rattle.prop_texts.proofs.TextLemmas.{members_more, members_same}
 use Rattle.prop_texts.proofs.texts.listed.Goals as goal

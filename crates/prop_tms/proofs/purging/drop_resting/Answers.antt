@@ -1,5 +1,5 @@
 use Rattle.std.proofs.Common.{◌≡◌, ◌<◌, ◌∙◌, sym, refl, ap, get_or, length, arith, not}
-use Rattle.prop_premises.specs.Sets.{set_of}
+use Rattle.prop_numbers.specs.Sets.{set_of}
 use Rattle.prop_tms.proofs.PurgeLemmas.{any_more}
 use Rattle.prop_tms.proofs.ValueLemmas.{filter_more, rest_at, rest_set, values_of-set}
 use Rattle.prop_tms.proofs.purging.drop_resting.Goals as goal

@@ -1,6 +1,6 @@
 use Rattle.std.proofs.Common.{◌≡◌, take, drop, filter, not}
 use Rattle.std.specs.List.{list_any}
-use Rattle.prop_premises.specs.Sets.{set_of}
+use Rattle.prop_numbers.specs.Sets.{set_of}
 use Rattle.prop_tms.specs.Values.{entries_of}
 use Rattle.prop_tms.specs.inner.Values.{values_of}
 use Rattle.prop_tms.proofs.purging.drop_resting.Given as goal

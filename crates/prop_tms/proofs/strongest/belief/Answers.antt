@@ -1,5 +1,5 @@
 use Rattle.std.proofs.Common.{◌≡◌, ◌∙◌, [], ◌∷◌, ◌++◌, Bool, ℕ, List, true, false, sym, ap}
-use Rattle.prop_premises.specs.Sets.{set_of, is_within}
+use Rattle.prop_numbers.specs.Sets.{set_of, is_within}
 use Rattle.prop_tms.specs.Beliefs.{belief_of}
 use Rattle.prop_tms.specs.Values.{entries_of}
 use Rattle.prop_tms.proofs.ValueLemmas.{said_beside}

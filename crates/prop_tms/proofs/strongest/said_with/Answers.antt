@@ -1,6 +1,6 @@
 use Rattle.std.proofs.Common.{◌≡◌, ◌∙◌, Bool, ℕ, List, true, false, sym, refl}
 use Rattle.std.specs.List.{list_any}
-use Rattle.prop_premises.specs.Sets.{set_of, is_within}
+use Rattle.prop_numbers.specs.Sets.{set_of, is_within}
 use Rattle.prop_tms.proofs.MergedLemmas.{join-assoc}
 use Rattle.prop_tms.proofs.ValueLemmas.{said_more, said_passed}
 use Rattle.prop_tms.proofs.strongest.said_with.Goals as goal

@@ -1,6 +1,6 @@
 use Rattle.std.proofs.Common.{◌≡◌, ◌∙◌, Bool, ℕ, List, true, false, sym, refl, take}
 use Rattle.std.specs.List.{list_any}
-use Rattle.prop_premises.specs.Sets.{set_of, is_within}
+use Rattle.prop_numbers.specs.Sets.{set_of, is_within}
 use Rattle.prop_tms.proofs.MergedLemmas.{join-assoc, bottom-join}
 use Rattle.prop_tms.proofs.ValueLemmas.{said_first, said_more, said_passed}
 use Rattle.prop_tms.proofs.strongest.says.Goals as goal

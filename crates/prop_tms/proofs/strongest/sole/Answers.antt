@@ -1,7 +1,7 @@
 use Rattle.std.proofs.Common.{◌≡◌, ◌++◌, ◌∙◌, sym, ap, take, length, arith}
 use Rattle.std.proofs.Math.Seq.{take-length}
 use Rattle.std.proofs.lemmas.List.Elements.{filter-append}
-use Rattle.prop_premises.specs.Sets.{set_of, is_within}
+use Rattle.prop_numbers.specs.Sets.{set_of, is_within}
 use Rattle.prop_tms.specs.Beliefs.{believed_of}
 use Rattle.prop_tms.specs.Values.{entries_of, entries_of_one}
 use Rattle.prop_tms.proofs.ValueLemmas.{with_value, entries_of-more}

@@ -1,5 +1,5 @@
 use Rattle.std.proofs.Common.{refl, sym, subst}
-use Rattle.prop_premises.specs.Sets.{set_of}
+use Rattle.prop_numbers.specs.Sets.{set_of}
 use Rattle.prop_tms.specs.Beliefs.{IsLean}
 use Rattle.prop_tms.specs.inner.Gains.{entry_of}
 use Rattle.prop_tms.specs.Values.{entries_of}

@@ -1,6 +1,6 @@
 use Rattle.std.proofs.Common.{◌≡◌, ◌≢◌, ◌∙◌, true, [], sym, inl, inr, arith, Contains}
 use Rattle.std.proofs.lemmas.List.Elements.{All-contains}
-use Rattle.prop_premises.specs.Sets.{set_of, is_within}
+use Rattle.prop_numbers.specs.Sets.{set_of, is_within}
 use Rattle.prop_tms.specs.inner.Gains.{entry_of, gained_of}
 use Rattle.prop_tms.specs.Values.{entries_of}
 use Rattle.prop_tms.proofs.GainLemmas.{merged_said, lean_alone, lean_among, none_gained}

@@ -2,7 +2,7 @@ use Rattle.std.proofs.Common.{◌++◌, ◌∷◌, [], ◌≡◌, ◌≤◌, ◌
 use Rattle.std.proofs.Math.Seq.{take-nil}
 use Rattle.std.proofs.lemmas.List.{nil_from_length}
 use Rattle.std.proofs.lemmas.List.Elements.{All-contains, All-contains_itself}
-use Rattle.prop_premises.specs.Sets.{is_within}
+use Rattle.prop_numbers.specs.Sets.{is_within}
 use Rattle.prop_tms.specs.Beliefs.{merge_of_all}
 use Rattle.prop_tms.specs.inner.Gains.{AreGains, entry_of, gained_of}
 use Rattle.prop_tms.proofs.LeanLemmas.{IsThinned, IsThinned-init, IsLean-thinned, IsThinned-keep, AreGains-front}

@@ -1,5 +1,5 @@
 use Rattle.std.proofs.Common.{◌≡◌, [], All, Contains, IsTrue, vec_len}
-use Rattle.prop_premises.specs.Sets.{Members, is_within}
+use Rattle.prop_numbers.specs.Sets.{Members, is_within}
 use Rattle.prop_tms.specs.inner.Gains.{gained_of}
 use Rattle.prop_tms.proofs.LeanLemmas.{AreEnough, IsThinned}
 use Rattle.prop_tms.proofs.strongest.thinned.Given as goal

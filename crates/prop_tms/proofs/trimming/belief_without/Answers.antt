@@ -4,7 +4,7 @@ use Rattle.prop_tms.specs.declared.values.Valued.{Valued}
 use Rattle.std.specs.List.{list_any}
 use Rattle.std.proofs.lemmas.List.{length-drop}
 use Rattle.std.proofs.Math.Seq.{take-length}
-use Rattle.prop_premises.specs.Sets.{set_of, is_within}
+use Rattle.prop_numbers.specs.Sets.{set_of, is_within}
 use Rattle.prop_tms.proofs.ValueLemmas.{or_first, or_second, said_without}
 use Rattle.prop_tms.proofs.trimming.belief_without.Goals as goal
 use Rattle.prop_tms.proofs.trimming.belief_without.Goals.{then-believes_any, else-believes_any}

@@ -1,5 +1,5 @@
 use Rattle.std.proofs.Common.{◌+◌, List, ℕ, Bool, take, not, arith}
-use Rattle.prop_premises.specs.Sets.{set_of, is_at_most_one_of}
+use Rattle.prop_numbers.specs.Sets.{set_of, is_at_most_one_of}
 use Rattle.prop_tms.proofs.ValueLemmas.{entries_of-take, filter_length, filtered_more}
 use Rattle.prop_tms.specs.Values.{entries_of}
 use Rattle.prop_tms.proofs.trimming.count_derived.Goals as goal

@@ -1,5 +1,5 @@
 use Rattle.std.proofs.Common.{◌≡◌, length, take, filter, not}
-use Rattle.prop_premises.specs.Sets.{set_of, is_at_most_one_of}
+use Rattle.prop_numbers.specs.Sets.{set_of, is_at_most_one_of}
 use Rattle.prop_tms.specs.Values.{entries_of}
 use Rattle.prop_tms.proofs.trimming.count_derived.Given as goal
 

@@ -2,7 +2,7 @@ use Rattle.std.proofs.Common.{◌≡◌, ◌≢◌, ◌⊎◌, ◌∙◌, ◌<�
 use Rattle.std.proofs.Common.{inl, inr, arith, subst}
 use Rattle.std.specs.List.{remove}
 use Rattle.std.proofs.lemmas.List.{get_or-set_same, get_or_default, length-set}
-use Rattle.prop_premises.specs.Sets.{set_of, is_at_most_one_of}
+use Rattle.prop_numbers.specs.Sets.{set_of, is_at_most_one_of}
 use Rattle.prop_tms.specs.Beliefs.{belief_of}
 use Rattle.prop_tms.specs.Values.{entries_of}
 use Rattle.prop_tms.specs.inner.Values.{place_of}

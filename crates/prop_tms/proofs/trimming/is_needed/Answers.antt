@@ -1,6 +1,6 @@
 use Rattle.std.proofs.Common.{◌∙◌, ◌<◌, length, sym, subst}
 use Rattle.prop_tms.specs.declared.values.Valued.{Valued}
-use Rattle.prop_premises.specs.Sets.{set_of}
+use Rattle.prop_numbers.specs.Sets.{set_of}
 use Rattle.prop_tms.specs.Values.{entries_of}
 use Rattle.prop_tms.specs.inner.Values.{place_of}
 use Rattle.prop_tms.proofs.TrimLemmas.{is_needless, unbelieved_removed}

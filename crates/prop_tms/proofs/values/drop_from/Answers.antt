@@ -1,5 +1,5 @@
 use Rattle.std.proofs.Common.{◌≡◌, ◌<◌, ◌∙◌, sym, refl, ap, get_or, length, arith}
-use Rattle.prop_premises.specs.Sets.{is_below}
+use Rattle.prop_numbers.specs.Sets.{is_below}
 use Rattle.prop_tms.proofs.ValueLemmas.{filter_more, rest_at, rest_set, values_of-set}
 use Rattle.prop_tms.proofs.values.drop_from.Goals as goal
 

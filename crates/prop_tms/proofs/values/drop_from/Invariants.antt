@@ -1,5 +1,5 @@
 use Rattle.std.proofs.Common.{◌≡◌, take, drop, filter}
-use Rattle.prop_premises.specs.Sets.{is_below}
+use Rattle.prop_numbers.specs.Sets.{is_below}
 use Rattle.prop_tms.specs.Values.{entries_of}
 use Rattle.prop_tms.specs.inner.Values.{values_of}
 use Rattle.prop_tms.proofs.values.drop_from.Given as goal

@@ -1,7 +1,7 @@
 use Rattle.std.proofs.Common.{◌≡◌, ◌∙◌, List, ℕ, Bool, true, false, take, sym, refl, length, arith}
 use Rattle.std.specs.List.{list_any}
 use Rattle.std.proofs.Math.Seq.{take-length}
-use Rattle.prop_premises.specs.Sets.{is_alike}
+use Rattle.prop_numbers.specs.Sets.{is_alike}
 use Rattle.prop_tms.proofs.ValueLemmas.{said_more}
 use Rattle.prop_tms.proofs.values.joined.Goals as goal
 use Rattle.prop_tms.proofs.values.joined.Goals.{then-has_same, else-has_same}

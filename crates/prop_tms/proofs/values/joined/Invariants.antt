@@ -1,5 +1,5 @@
 use Rattle.std.proofs.Common.{◌≡◌, take, filter}
-use Rattle.prop_premises.specs.Sets.{is_alike}
+use Rattle.prop_numbers.specs.Sets.{is_alike}
 use Rattle.prop_tms.specs.Beliefs.{merge_of_all}
 use Rattle.prop_tms.specs.Values.{entries_of}
 use Rattle.prop_tms.proofs.values.joined.Given as goal

@@ -2,7 +2,7 @@ use Rattle.std.proofs.Common.{◌≡◌, ◌∙◌, ◌<◌, ap, arith, length, 
 use Rattle.std.proofs.Math.Nat.{min-le_left, min-le_right}
 use Rattle.prop_premises.specs.Origins.{choices_of}
 use Rattle.prop_premises.specs.declared.choice.Choice.{Choice}
-use Rattle.prop_premises.specs.Sets.{set_of}
+use Rattle.prop_numbers.specs.Sets.{set_of}
 use Rattle.prop_amb.specs.Moving.{advanced, reasons_advanced}
 use Rattle.prop_amb.specs.Resolving.{MayAdvance, IsReason}
 use Rattle.prop_amb.specs.Search.{IsSearch, users_of}

@@ -1,5 +1,5 @@
 use Rattle.std.proofs.Common.{◌∙◌, ap, true}
-use Rattle.prop_premises.specs.Sets.{set_of}
+use Rattle.prop_numbers.specs.Sets.{set_of}
 use Rattle.prop_premises.specs.Origins.{believed_in, choices_of}
 use Rattle.prop_premises.proofs.ChoiceLemmas.{choices_of-with_belief_at}
 use Rattle.prop_premises.proofs.NumberingLaws.{length-with_belief_at, numbered_belief}

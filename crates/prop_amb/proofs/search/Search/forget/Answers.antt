@@ -1,5 +1,5 @@
 use Rattle.std.proofs.Common.{◌∙◌, sym, ap, subst}
-use Rattle.prop_premises.specs.Sets.{set_of}
+use Rattle.prop_numbers.specs.Sets.{set_of}
 use Rattle.prop_premises.specs.Origins.{IsNumbered}
 use Rattle.prop_nogoods.specs.Stores.{lacking}
 use Rattle.prop_nogoods.proofs.StoreLemmas.{minimal_lacking}

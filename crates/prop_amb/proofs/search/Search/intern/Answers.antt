@@ -1,5 +1,5 @@
 use Rattle.std.proofs.Common.{◌≡◌, ◌∙◌, ◌++◌, ◌∷◌, [], sym, ap, arith}
-use Rattle.prop_premises.specs.Sets.{set_of}
+use Rattle.prop_numbers.specs.Sets.{set_of}
 use Rattle.prop_premises.specs.Origins.{choices_of, believed_in}
 use Rattle.prop_premises.proofs.ChoiceLemmas.{choices_of-with_name}
 use Rattle.prop_premises.proofs.ChangeLemmas.{is_start-with_name}

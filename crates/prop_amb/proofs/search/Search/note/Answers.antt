@@ -1,4 +1,4 @@
-use Rattle.prop_premises.specs.Sets.{set_of}
+use Rattle.prop_numbers.specs.Sets.{set_of}
 use Rattle.std.proofs.Common.{arith}
 use Rattle.std.proofs.Math.Nat.{min-le_left, min-le_right}
 use Rattle.prop_amb.specs.contracts.search.Search.{the_view}

@@ -1,4 +1,4 @@
-use Rattle.prop_premises.specs.Sets.{set_of}
+use Rattle.prop_numbers.specs.Sets.{set_of}
 use Rattle.prop_amb.proofs.FromLaws.{none_below_any}
 use Rattle.prop_amb.proofs.search.Search.pass_over.Goals as goal
 

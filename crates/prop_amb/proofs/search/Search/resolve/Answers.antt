@@ -1,5 +1,5 @@
 use Rattle.std.proofs.Common.{◌≡◌, ℕ, ◌+◌, ◌-◌, ◌<◌, length, subst, sym, ap, arith}
-use Rattle.prop_premises.specs.Sets.{set_of}
+use Rattle.prop_numbers.specs.Sets.{set_of}
 use Rattle.prop_amb.specs.Search.{Stand, IsStand}
 use Rattle.prop_amb.specs.Culprits.IsCulprit.{own}
 use Rattle.prop_amb.proofs.Shown.{IsWithin}

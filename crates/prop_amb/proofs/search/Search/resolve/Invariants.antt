@@ -1,5 +1,5 @@
 use Rattle.std.proofs.Common.{ℕ, IsTrue}
-use Rattle.prop_premises.specs.Sets.{set_of}
+use Rattle.prop_numbers.specs.Sets.{set_of}
 use Rattle.prop_cells.specs.Problems.{Problem}
 use Rattle.prop_nogoods.specs.Stores.{has_part}
 use Rattle.prop_amb.specs.Refuted.{IsNogood}

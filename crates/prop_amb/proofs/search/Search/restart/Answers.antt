@@ -1,5 +1,5 @@
 use Rattle.std.proofs.Common.{◌≡◌, ◌∙◌, ap, refl, arith, length}
-use Rattle.prop_premises.specs.Sets.{set_of}
+use Rattle.prop_numbers.specs.Sets.{set_of}
 use Rattle.prop_amb.specs.Moving.{first_sides, level_first, no_reasons}
 use Rattle.prop_amb.specs.Search.{users_of}
 use Rattle.prop_amb.specs.contracts.search.Search.{the_view}

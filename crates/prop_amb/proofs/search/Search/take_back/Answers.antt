@@ -1,5 +1,5 @@
 use Rattle.std.proofs.Common.{◌∙◌}
-use Rattle.prop_premises.specs.Sets.{set_of}
+use Rattle.prop_numbers.specs.Sets.{set_of}
 use Rattle.prop_amb.proofs.NamingLaws.{last_start, stand_taken_back, taken_back_undoes}
 use Rattle.prop_amb.proofs.FromLaws.{none_below_zero}
 use Rattle.prop_amb.proofs.search.Search.take_back.Goals as goal

@@ -1,5 +1,5 @@
 use Rattle.std.proofs.Common.{◌∙◌, ap, min, arith}
-use Rattle.prop_premises.specs.Sets.{set_of}
+use Rattle.prop_numbers.specs.Sets.{set_of}
 use Rattle.prop_amb.specs.contracts.search.Search.{the_view}
 use Rattle.prop_amb.proofs.LastChoiceLaws.{last_choice_starts, level_left, stand_undeclared, undeclared_undoes}
 use Rattle.prop_amb.proofs.FromLaws.{none_below_zero}

@@ -1,5 +1,5 @@
 use Rattle.std.proofs.Common.{◌<◌, [], length, subst, arith}
-use Rattle.prop_premises.specs.Sets.{set_of}
+use Rattle.prop_numbers.specs.Sets.{set_of}
 use Rattle.prop_cells.specs.Data.{Data, TrimsAt, told_of}
 use Rattle.prop_cells.proofs.Telling.{read_there, stored_trim, told_part, trims_told}
 use Rattle.prop_cells.proofs.cells.Cells.trim.Goals as goal

@@ -1,4 +1,4 @@
-use Rattle.prop_premises.specs.Sets.{set_of}
+use Rattle.prop_numbers.specs.Sets.{set_of}
 use Rattle.prop_procedures.specs.Kept.{stored_of}
 use Rattle.prop_cells.proofs.Founding.{lean_at_explains}
 use Rattle.prop_cells.proofs.network.Network.explanation.Goals as goal

@@ -1,8 +1,8 @@
 use Rattle.std.proofs.Common.{length, arith}
 use Rattle.std.proofs.lemmas.Bool.{le-leb, lt-leb}
-use Rattle.prop_lattice.specs.Refusals.{most}
-use Rattle.prop_lattice.specs.declared.refusal.Limit.TheVariants.{Definitions as TooMany}
-use Rattle.prop_lattice.specs.declared.refusal.Refusal.TheVariants.{NoSuchProcedure, WrongCount, LimitReached}
+use Rattle.prop_refusals.specs.Refusals.{most}
+use Rattle.prop_refusals.specs.declared.refusal.Limit.TheVariants.{Definitions as TooMany}
+use Rattle.prop_refusals.specs.declared.refusal.Refusal.TheVariants.{NoSuchProcedure, WrongCount, LimitReached}
 use Rattle.prop_procedures.specs.Kept.{stored_of}
 use Rattle.prop_compound.specs.Defining.{is_unknown, is_count_wrong}
 use Rattle.prop_compound.proofs.Judging.{some_said, first_of_three, second_of_three, third_of_three, none_of_three}

@@ -1,4 +1,4 @@
-use Rattle.std.proofs.Common.{◌≡◌, ◌++◌, ◌∙◌, ap, lit<, string_bytes}
+use Rattle.std.proofs.Common.{◌++◌, ◌∙◌, ap, lit<, string_bytes}
 use Rattle.prop_engine.proofs.Lines.{text_of, ends_with_feed}
 use Rattle.prop_engine.proofs.line.Line.new.Goals as goal
 

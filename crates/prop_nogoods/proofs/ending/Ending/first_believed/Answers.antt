@@ -1,6 +1,6 @@
 use Rattle.std.proofs.Common.{rules, ◌≡◌, None, Some, All, arith}
 use Rattle.std.proofs.lemmas.Bool.Decides.{nat_tests}
-use Rattle.prop_premises.specs.Sets.{set_of}
+use Rattle.prop_numbers.specs.Sets.{set_of}
 use Rattle.prop_nogoods.specs.inner.Endings.{EndsSo}
 use Rattle.prop_nogoods.proofs.EndingLemmas.{ends_below, none_without_last, end_below_where_none}
 use Rattle.prop_nogoods.proofs.ending.Ending.first_believed.Goals as goal

@@ -1,6 +1,6 @@
 use Rattle.std.proofs.Common.{◌≡◌, ◌<◌, ℕ, Bool, true, false, Option, Some, None, IsTrue, IfSome, length, refl, arith}
-use Rattle.prop_premises.specs.Sets.{set_of, is_within}
-use Rattle.prop_premises.proofs.WithinLemmas.{within_has}
+use Rattle.prop_numbers.specs.Sets.{set_of, is_within}
+use Rattle.prop_numbers.proofs.WithinLemmas.{within_has}
 use Rattle.prop_nogoods.proofs.SizeLemmas.{larger_no_part}
 use Rattle.prop_nogoods.proofs.listed.Listed.is_part_of.Goals as goal
 

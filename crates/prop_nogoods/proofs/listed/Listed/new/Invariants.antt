@@ -1,5 +1,5 @@
 use Rattle.std.proofs.Common.{◌≡◌, ◌++◌, length, IsTrue, IfSome}
-use Rattle.prop_premises.specs.Sets.{set_of, is_below}
+use Rattle.prop_numbers.specs.Sets.{set_of, is_below}
 use Rattle.prop_nogoods.specs.inner.Endings.{end_of}
 use Rattle.prop_nogoods.proofs.listed.Listed.new.Given as goal
 

@@ -1,5 +1,5 @@
 use Rattle.std.proofs.Common.{◌≡◌, ◌∙◌, Bool, true, false, not, sym, ap}
-use Rattle.prop_premises.specs.Sets.{set_of}
+use Rattle.prop_numbers.specs.Sets.{set_of}
 use Rattle.prop_nogoods.specs.Stores.{has_part}
 use Rattle.prop_nogoods.specs.inner.Endings.{sets_of}
 use Rattle.prop_nogoods.proofs.AmongLemmas.{has_part-same}

@@ -1,6 +1,6 @@
 use Rattle.std.proofs.Common.{◌≡◌, ◌≤◌, refl, false, length}
 use Rattle.std.specs.List.Sorted.{IsStrictlyIncreasing}
-use Rattle.prop_premises.specs.Sets.{set_of}
+use Rattle.prop_numbers.specs.Sets.{set_of}
 use Rattle.prop_nogoods.specs.Stores.{has_part, staying}
 use Rattle.prop_nogoods.specs.inner.Stores.{HaveSame, IsPartOfNone}
 use Rattle.prop_nogoods.specs.inner.Endings.{sets_of}

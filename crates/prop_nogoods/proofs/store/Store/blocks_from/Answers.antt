@@ -1,6 +1,6 @@
 use Rattle.std.proofs.Common.{◌≡◌, ℕ, List, Some, None, length, refl, ◌∙◌, ap, Contains}
 use Rattle.std.specs.Prelude.{slice_get}
-use Rattle.prop_premises.specs.Sets.{set_of}
+use Rattle.prop_numbers.specs.Sets.{set_of}
 use Rattle.prop_nogoods.specs.inner.Endings.{sets_of}
 use Rattle.prop_nogoods.specs.Stores.{PartsEndBelow, NoneEndsBelow}
 use Rattle.prop_nogoods.proofs.BelievedLemmas.{end_below_same, each_has_one, no_part_from}

@@ -1,5 +1,5 @@
 use Rattle.std.proofs.Common.{◌≡◌, ◌∙◌, false}
-use Rattle.prop_premises.specs.Sets.{set_of}
+use Rattle.prop_numbers.specs.Sets.{set_of}
 use Rattle.prop_nogoods.specs.Stores.{has_part}
 use Rattle.prop_nogoods.specs.inner.Endings.{sets_of}
 use Rattle.prop_nogoods.specs.inner.Stores.{IsPartOfNone}

@@ -1,5 +1,5 @@
 use Rattle.std.proofs.Common.{◌∙◌, sym}
-use Rattle.prop_premises.proofs.WithinLemmas.{has_both}
+use Rattle.prop_numbers.proofs.WithinLemmas.{has_both}
 use Rattle.prop_premises.proofs.premise_set.PremiseSet.unite.Goals as goal
 
 pub returns-else-not-is_subset-clause-ok : goal.returns-else-not-is_subset-clause-ok

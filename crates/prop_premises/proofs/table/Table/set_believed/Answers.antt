@@ -1,5 +1,5 @@
 use Rattle.std.proofs.Common.{◌∙◌, ◌+◌, ◌||◌, ◌==◌, refl, sym, ap, arith, length, take}
-use Rattle.prop_premises.specs.Words.{has_bit}
+use Rattle.prop_numbers.specs.Words.{has_bit}
 use Rattle.prop_premises.specs.Origins.{believed_in}
 use Rattle.prop_premises.specs.inner.Named.{origins_of, is_believed_kind}
 use Rattle.prop_premises.proofs.BelievedLemmas.{first_within, believed_in-next, told_of, not_told}

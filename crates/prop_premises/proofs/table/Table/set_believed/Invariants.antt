@@ -1,5 +1,5 @@
 use Rattle.std.proofs.Common.{◌≡◌, ◌||◌, ℕ, length, take}
-use Rattle.prop_premises.specs.Words.{has_bit}
+use Rattle.prop_numbers.specs.Words.{has_bit}
 use Rattle.prop_premises.specs.Origins.{believed_in}
 use Rattle.prop_premises.specs.inner.Named.{origins_of}
 use Rattle.prop_premises.proofs.table.Table.set_believed.Given as goal

@@ -1,4 +1,4 @@
-use Rattle.prop_premises.specs.Sets.{set_of}
+use Rattle.prop_numbers.specs.Sets.{set_of}
 use Rattle.prop_tms.proofs.BeliefUses.{belief_of-least}
 use Rattle.prop_tms.proofs.tms.Tms.believed_value.Goals as goal
 

@@ -1,6 +1,6 @@
 use Rattle.std.proofs.Common.{◌≡◌, ◌∙◌, false, not, refl, sym, ap, subst, length, filter, arith}
 use Rattle.std.proofs.lemmas.List.Kept.{AllPairs-filter}
-use Rattle.prop_premises.specs.Sets.{set_of, is_alike}
+use Rattle.prop_numbers.specs.Sets.{set_of, is_alike}
 use Rattle.prop_tms.specs.Beliefs.{Subsumes, NoneSubsumed, NoneAlike, belief_of}
 use Rattle.prop_tms.specs.Values.{entries_of}
 use Rattle.prop_tms.specs.declared.supported.Supported.{Supported}

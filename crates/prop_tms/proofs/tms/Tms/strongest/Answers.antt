@@ -1,4 +1,4 @@
-use Rattle.prop_premises.specs.Sets.{set_of}
+use Rattle.prop_numbers.specs.Sets.{set_of}
 use Rattle.prop_tms.proofs.BeliefUses.{ok_within, ok_says}
 use Rattle.prop_tms.proofs.tms.Tms.strongest.Goals as goal
 

@@ -8,7 +8,7 @@ use Rattle.prop_cells.specs.Data.{problem_of}
 use Rattle.prop_workbench.proofs.BeliefLemmas.{found_free}
 use Rattle.prop_workbench.proofs.StandingLemmas.{believing_keeps, same_keeps, same_done}
 use Rattle.std.proofs.lemmas.Result.{err_from_is_err_and}
-use Rattle.prop_premises.specs.Sets.{set_of}
+use Rattle.prop_numbers.specs.Sets.{set_of}
 use Rattle.prop_scheduler.proofs.Behind.{touched_stirred}
 use Rattle.prop_workbench.specs.Sessions.{state_of, work_of}
 use Rattle.prop_workbench.proofs.AskLemmas.{believes_same}

@@ -5,7 +5,7 @@ use Rattle.prop_workbench.specs.Sessions.{state_of}
 use Rattle.prop_workbench.proofs.ChosenLemmas.{declared_fits, declared_under_way, declared_watched, only_memory}
 use Rattle.prop_workbench.proofs.ChosenLemmas.{chosen_at_work, chosen_covers}
 use Rattle.prop_workbench.proofs.StandingLemmas.{back_keeps, same_keeps}
-use Rattle.prop_premises.specs.Sets.{set_of}
+use Rattle.prop_numbers.specs.Sets.{set_of}
 use Rattle.prop_amb.specs.Search.{Stand}
 use Rattle.prop_workbench.specs.Sessions.{work_of}
 use Rattle.prop_workbench.proofs.AskLemmas.{believes_same}

@@ -1,5 +1,5 @@
 use Rattle.std.proofs.Common.{sym}
-use Rattle.prop_lattice.specs.declared.refusal.Refusal.TheVariants.{NoSuchCell}
+use Rattle.prop_refusals.specs.declared.refusal.Refusal.TheVariants.{NoSuchCell}
 use Rattle.prop_procedures.specs.Kept.{stored_of}
 use Rattle.prop_language.specs.Commands as commands
 use Rattle.prop_workbench.specs.Sessions.{state_of}

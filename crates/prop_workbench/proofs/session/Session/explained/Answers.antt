@@ -1,6 +1,6 @@
 use Rattle.std.proofs.Common.{length, refl}
 use Rattle.prop_procedures.specs.Kept.{stored_of}
-use Rattle.prop_premises.specs.Sets.{set_of}
+use Rattle.prop_numbers.specs.Sets.{set_of}
 use Rattle.prop_cells.specs.Data.{problem_of}
 use Rattle.prop_texts.specs.Texts.{because}
 use Rattle.prop_workbench.proofs.PremiseLemmas.{support_known}

@@ -1,8 +1,8 @@
 use Rattle.std.proofs.Common.{◌≡◌, ◌∙◌, false, Some, Ok, Err, refl, ap, inl, inr}
 use Rattle.std.proofs.lemmas.Result.{err_from_is_err_and}
-use Rattle.prop_lattice.specs.declared.refusal.Refusal.TheVariants.{Memory}
+use Rattle.prop_refusals.specs.declared.refusal.Refusal.TheVariants.{Memory}
 use Rattle.prop_procedures.specs.Kept.{stored_of}
-use Rattle.prop_premises.specs.Sets.{set_of}
+use Rattle.prop_numbers.specs.Sets.{set_of}
 use Rattle.prop_premises.specs.Origins.{premise_number, is_choice}
 use Rattle.prop_nogoods.specs.Stores.{lacking}
 use Rattle.prop_cells.specs.Data.{problem_of}

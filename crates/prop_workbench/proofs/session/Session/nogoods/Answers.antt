@@ -1,6 +1,6 @@
 use Rattle.std.proofs.Common.{◌<◌, List, ℕ, All, length}
 use Rattle.std.proofs.lemmas.List.Elements.{All-weaker}
-use Rattle.prop_premises.specs.Sets.{set_of}
+use Rattle.prop_numbers.specs.Sets.{set_of}
 use Rattle.prop_premises.specs.Origins.{choices_of}
 use Rattle.prop_amb.specs.Refuted.{IsNogood}
 use Rattle.prop_procedures.specs.Kept.{stored_of}

@@ -1,5 +1,5 @@
 use Rattle.std.proofs.Common.{◌≡◌, ◌∙◌, ◌+◌, ap, length, refl, inr, arith, subst, codes, []}
-use Rattle.prop_premises.specs.Sets.{Members, set_of}
+use Rattle.prop_numbers.specs.Sets.{Members, set_of}
 use Rattle.prop_procedures.specs.Kept.{stored_of}
 use Rattle.prop_cells.specs.Data.{Data, problem_of}
 use Rattle.prop_scheduler.specs.Turns.{IsSettled}

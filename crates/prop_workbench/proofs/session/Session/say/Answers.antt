@@ -1,10 +1,10 @@
 use Rattle.std.proofs.Common.{◌≡◌, ◌<◌, Ok, Err, refl, sym, length}
-use Rattle.prop_lattice.specs.declared.refusal.Refusal.TheVariants.{NoSuchCell, IsAChoice}
+use Rattle.prop_refusals.specs.declared.refusal.Refusal.TheVariants.{NoSuchCell, IsAChoice}
 use Rattle.prop_procedures.specs.Kept.{stored_of}
 use Rattle.prop_procedures.specs.Stored.{span_kind}
 use Rattle.prop_procedures.specs.Fitting.{kind_at}
 use Rattle.prop_language.specs.Said.{value_of}
-use Rattle.prop_values.specs.Said.{meant_of}
+use Rattle.prop_vocabulary.specs.Said.{meant_of}
 use Rattle.prop_workbench.specs.inner.Effects.{stating, name_of}
 use Rattle.prop_workbench.specs.Refusing.{meaning_at}
 use Rattle.prop_workbench.specs.Sessions.{state_of}

@@ -1,0 +1,12 @@
+//! Sets of numbers below 2^16.
+#![tactic(auto)]
+
+pub mod bits;
+pub mod number_set;
+pub mod numbers;
+pub mod one_word;
+pub mod words;
+
+pub use number_set::NumberSet;
+pub use numbers::Numbers;
+pub use words::Words;

@@ -1,5 +1,0 @@
-use Rattle.prop_premises.proofs.WordLemmas.{increasing-numbers_from}
-use Rattle.prop_premises.proofs.number_set.NumberSet.of_one.Goals as goal
-
-pub returns-clause-ordered : goal.returns-clause-ordered
-returns-clause-ordered c = increasing-numbers_from _ _

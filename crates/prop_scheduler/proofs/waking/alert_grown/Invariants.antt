@@ -1,0 +1,22 @@
+use Rattle.std.proofs.Common.{◌≡◌, ◌≤◌}
+use Rattle.prop_numbers.specs.Sets.{set_of}
+use Rattle.prop_procedures.specs.Kept.{stored_of}
+use Rattle.prop_cells.specs.Data.{beliefs, problem_of}
+use Rattle.prop_scheduler.specs.Potential.{potential}
+use Rattle.prop_scheduler.specs.Shifts.{AreGrown}
+use Rattle.prop_scheduler.proofs.GrownLaws.{partly}
+use Rattle.prop_scheduler.proofs.WatchLaws.{AreLooked}
+use Rattle.prop_scheduler.proofs.waking.alert_grown.Given as goal
+
+abbrev pub invariant-loop-cell : goal.invariant-loop-cell
+invariant-loop-cell g l = record {
+  grown : AreGrown (set_of l.before) (set_of l.after) l.network.cells l.cell l.initial.agenda.line l.agenda.line;
+  falls : potential (problem_of (stored_of g.R.Rule.value_of l.network.library) l.network.cells)
+      (partly (set_of l.before) (set_of l.after) l.network.cells l.cell) l.agenda.line
+      ≤ potential (problem_of (stored_of g.R.Rule.value_of l.network.library) l.network.cells)
+      (beliefs (set_of l.before) l.network.cells.contents) l.initial.agenda.line;
+  room : l.agenda.room ≡ l.initial.agenda.room;
+  cells : l.agenda.cells ≡ l.initial.agenda.cells;
+  looked : AreLooked (set_of l.before) (set_of l.after) l.network.cells l.cell l.initial.agenda.watched
+      l.agenda.watched;
+}

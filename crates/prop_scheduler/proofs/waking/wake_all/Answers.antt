@@ -1,0 +1,34 @@
+use Rattle.std.proofs.Common.{◌<◌, ℕ, Contains, length, arith, inl, inr}
+use Rattle.std.proofs.lemmas.List.Elements.{All-contains}
+use Rattle.prop_procedures.specs.Kept.{stored_of}
+use Rattle.prop_cells.proofs.Fixpoint.{All-from_contains}
+use Rattle.prop_scheduler.proofs.UnderWay.{under_way_all}
+use Rattle.prop_scheduler.proofs.WatchLaws.{watched_all}
+use Rattle.prop_scheduler.proofs.waking.wake_all.Goals as goal
+
+pub returns-clause-under_way : goal.returns-clause-under_way
+returns-clause-under_way g c =
+    let d = c.args.network.now.cells in
+    let n = length d.instances in
+    let line = c.alert_first.new.self.line in
+    let first = c.alert_first.ensures.alerted in
+    let count = c.instances.ensures.count in
+    let below : (j : ℕ) → Contains line j
+    → j < n = λ j k. elim (first.only j k) as (λ _. j < n) [
+      | inl was ↦ All-contains (λ i. i < n) c.args.agenda.now.line j c.requires.line was
+      | inr l ↦
+          omega (arith, l, count)
+    ] in
+    λ s. rw c.watch_first.ensures.line (under_way_all (stored_of g.R.Rule.value_of c.args.network.now.library) s d line
+    c.requires.kept (All-from_contains (λ j. j < n) line below) (λ j l. first.alerted j (omega (arith, l, count))))
+
+pub returns-clause-all : goal.returns-clause-all
+returns-clause-all g c =
+    let count = c.instances.ensures.count in
+    λ j l. rw c.watch_first.ensures.line (c.alert_first.ensures.alerted.alerted j (omega (arith, l, count)))
+
+pub returns-clause-watched : goal.returns-clause-watched
+returns-clause-watched g c s =
+    watched_all s c.args.network.now.cells c.args.agenda.now.watched c.watch_first.new.self.watched c.cells.result
+    c.cells.ensures.contents c.cells.ensures.count c.requires.watched
+    (rw c.alert_first.ensures.watched at c.watch_first.ensures.watched)
