@@ -1,9 +1,10 @@
 -- The rules of the kit and their forms.
-use Rattle.std.specs.Prelude.{◌≡◌, ℕ, List, [], ◌∷◌, codes}
+use Rattle.std.specs.Prelude.{List, [], ◌∷◌, codes}
 use Rattle.prop_procedures.specs.declared.shape.Shape.{Shape}
 use Rattle.prop_procedures.specs.declared.shape.Shape.TheVariants.{Span, Truth, Any, From, To}
 use Rattle.prop_procedures.specs.declared.shape.Need.{Need}
 use Rattle.prop_procedures.specs.declared.shape.Need.TheVariants.{Nothing, Scale, Rows}
+use Rattle.prop_procedures.specs.Forms.{Form, HasForm}
 use Rattle.prop_arith.specs.declared.kit.Kit as kits
 use Rattle.prop_arith.specs.declared.kit.Kit.TheVariants.{Add, Sub, Mul, Div, Square, Root, Less}
 use Rattle.prop_arith.specs.declared.kit.Kit.TheVariants.{Below, Above, Copy, Alike, Apart, Switch}
@@ -16,14 +17,7 @@ in_order =
     Add ∷ Sub ∷ Mul ∷ Div ∷ Square ∷ Root ∷ Less ∷ Below ∷ Above ∷ Copy ∷ Alike ∷ Apart ∷ Switch
     ∷ Not ∷ And ∷ AndBack ∷ Or ∷ OrBack ∷ Image ∷ Coimage ∷ []
 
--- the name that a command uses, the shapes of the inputs and of the output, and the parameter that
--- is needed
-pub record Form : Type 0 where
-  pub name : List ℕ
-  pub ins : List Shape
-  pub out : Shape
-  pub need : Need
-
+-- the one form of each rule
 abbrev pub form_of : kits.Kit → Form
 form_of Add = record { name = codes "adder"; ins = Span ∷ Span ∷ []; out = Span; need = Nothing }
 form_of Sub = record {
@@ -88,5 +82,4 @@ form_of Coimage = record { name = codes "coimager"; ins = To ∷ []; out = From;
 
 -- the one form of a rule
 abbrev pub FormOf : kits.Kit → List Shape → Shape → Need → Type 0
-FormOf rule ins out need =
-    (ins ≡ (form_of rule).ins) × (out ≡ (form_of rule).out) × (need ≡ (form_of rule).need)
+FormOf = HasForm form_of

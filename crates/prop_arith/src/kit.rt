@@ -4,6 +4,7 @@ ghost use Rattle.prop_arith.specs.Kit.{FormOf, form_of, in_order};
 ghost use Rattle.prop_arith.specs.Points.{Related};
 ghost use Rattle.prop_arith.specs.Values.{value_of};
 ghost use Rattle.prop_arith.specs.laws.KitLaws.{kit_monotone, kit_keeps_kind, kit_sound};
+ghost use Rattle.prop_arith.specs.laws.KitLaws.{kit_few, kit_formed};
 ghost use Rattle.prop_arith.specs.Narrowest.{AddIsNarrowest, SubIsNarrowest, MulIsNarrowest};
 ghost use Rattle.prop_arith.specs.Narrowest.{SquareIsNarrowest, RootIsNarrowest, ImageIsNarrowest};
 ghost use Rattle.prop_arith.specs.Narrowest.{CoimageIsNarrowest};
@@ -13,7 +14,7 @@ use crate::functions::{adder, copier, divider, multiplier, rooter, squarer, subt
 use crate::linking::{coimager, imager};
 use crate::logic::{conjoin_back, conjoiner, disjoin_back, disjoiner, inverter, passer};
 use prop_lattice::Info;
-use prop_procedures::{Need, Param, Rule, Shape};
+use prop_procedures::{Named, Need, Param, Rule, Shape};
 
 /// The rules that come with the program. A rule works in one direction: from its inputs to its
 /// output.
@@ -86,93 +87,6 @@ pub const KITS: [Kit; 20] = [
 ];
 
 impl Kit {
-    /// The name that a command uses.
-    pub fn name(self) -> &'static str
-        ensures { result.now ≡ (form_of self).name }
-    {
-        match self {
-            Kit::Add => "adder",
-            Kit::Sub => "subtracter",
-            Kit::Mul => "multiplier",
-            Kit::Div => "divider",
-            Kit::Square => "squarer",
-            Kit::Root => "rooter",
-            Kit::Less => "lesser",
-            Kit::Below => "below",
-            Kit::Above => "above",
-            Kit::Copy => "copier",
-            Kit::Alike => "comparer",
-            Kit::Apart => "parter",
-            Kit::Switch => "passer",
-            Kit::Not => "inverter",
-            Kit::And => "conjoiner",
-            Kit::AndBack => "conjoin_back",
-            Kit::Or => "disjoiner",
-            Kit::OrBack => "disjoin_back",
-            Kit::Image => "imager",
-            Kit::Coimage => "coimager",
-        }
-    }
-
-    /// The shapes of its inputs.
-    pub fn ins(self) -> &'static [Shape]
-        ensures { result.now ≡ (form_of self).ins }
-    {
-        match self {
-            Kit::Add | Kit::Sub | Kit::Mul | Kit::Div | Kit::Root | Kit::Less => {
-                &[Shape::Span, Shape::Span]
-            }
-            Kit::Square => &[Shape::Span],
-            Kit::Below | Kit::Above => &[Shape::Truth, Shape::Span],
-            Kit::Copy => &[Shape::Any(0)],
-            Kit::Alike => &[Shape::Any(0), Shape::Any(0)],
-            Kit::Apart => &[Shape::Truth, Shape::Any(0), Shape::Any(0)],
-            Kit::Switch => &[Shape::Truth, Shape::Any(0)],
-            Kit::Not => &[Shape::Truth],
-            Kit::And | Kit::AndBack | Kit::Or | Kit::OrBack => &[Shape::Truth, Shape::Truth],
-            Kit::Image => &[Shape::From],
-            Kit::Coimage => &[Shape::To],
-        }
-    }
-
-    /// The shape of its output.
-    pub fn out(self) -> Shape
-        ensures { result ≡ (form_of self).out }
-    {
-        match self {
-            Kit::Less | Kit::Alike | Kit::Not => Shape::Truth,
-            Kit::And | Kit::AndBack | Kit::Or | Kit::OrBack => Shape::Truth,
-            Kit::Copy | Kit::Apart | Kit::Switch => Shape::Any(0),
-            Kit::Image => Shape::To,
-            Kit::Coimage => Shape::From,
-            _ => Shape::Span,
-        }
-    }
-
-    /// The parameter that it needs.
-    pub fn need(self) -> Need
-        ensures { result ≡ (form_of self).need }
-    {
-        match self {
-            Kit::Mul | Kit::Div => Need::Scale,
-            Kit::Image | Kit::Coimage => Need::Rows,
-            _ => Need::Nothing,
-        }
-    }
-
-    /// What the rule answers, `Info::Nothing` where the parameter is none that it needs or the
-    /// arguments are not as many as its inputs.
-    pub fn run(self, param: &Param, args: &[Info]) -> Info
-        ensures { result ≡ value_of self param.now args.now }
-    {
-        match args {
-            [x] => self.of_one(param, *x),
-            [first, second] => self.of_two(param, *first, *second),
-            [first, second, third] => self.of_three(*first, *second, *third),
-            _ => Info::Nothing,
-        }
-    }
-
     /// What the rule answers to one argument.
     fn of_one(self, param: &Param, x: Info) -> Info
         ensures { result ≡ value_of self param.now (x ∷ []) }
@@ -268,4 +182,83 @@ impl Rule for Kit {
     ghost keeps_kind = { kit_keeps_kind };
 
     ghost sound = { kit_sound };
+}
+
+impl Named for Kit {
+    ghost form_of = { form_of };
+
+    fn name(&self) -> &'static str {
+        match self {
+            Kit::Add => "adder",
+            Kit::Sub => "subtracter",
+            Kit::Mul => "multiplier",
+            Kit::Div => "divider",
+            Kit::Square => "squarer",
+            Kit::Root => "rooter",
+            Kit::Less => "lesser",
+            Kit::Below => "below",
+            Kit::Above => "above",
+            Kit::Copy => "copier",
+            Kit::Alike => "comparer",
+            Kit::Apart => "parter",
+            Kit::Switch => "passer",
+            Kit::Not => "inverter",
+            Kit::And => "conjoiner",
+            Kit::AndBack => "conjoin_back",
+            Kit::Or => "disjoiner",
+            Kit::OrBack => "disjoin_back",
+            Kit::Image => "imager",
+            Kit::Coimage => "coimager",
+        }
+    }
+
+    fn ins(&self) -> &'static [Shape] {
+        match self {
+            Kit::Add | Kit::Sub | Kit::Mul | Kit::Div | Kit::Root | Kit::Less => {
+                &[Shape::Span, Shape::Span]
+            }
+            Kit::Square => &[Shape::Span],
+            Kit::Below | Kit::Above => &[Shape::Truth, Shape::Span],
+            Kit::Copy => &[Shape::Any(0)],
+            Kit::Alike => &[Shape::Any(0), Shape::Any(0)],
+            Kit::Apart => &[Shape::Truth, Shape::Any(0), Shape::Any(0)],
+            Kit::Switch => &[Shape::Truth, Shape::Any(0)],
+            Kit::Not => &[Shape::Truth],
+            Kit::And | Kit::AndBack | Kit::Or | Kit::OrBack => &[Shape::Truth, Shape::Truth],
+            Kit::Image => &[Shape::From],
+            Kit::Coimage => &[Shape::To],
+        }
+    }
+
+    fn out(&self) -> Shape {
+        match self {
+            Kit::Less | Kit::Alike | Kit::Not => Shape::Truth,
+            Kit::And | Kit::AndBack | Kit::Or | Kit::OrBack => Shape::Truth,
+            Kit::Copy | Kit::Apart | Kit::Switch => Shape::Any(0),
+            Kit::Image => Shape::To,
+            Kit::Coimage => Shape::From,
+            _ => Shape::Span,
+        }
+    }
+
+    fn need(&self) -> Need {
+        match self {
+            Kit::Mul | Kit::Div => Need::Scale,
+            Kit::Image | Kit::Coimage => Need::Rows,
+            _ => Need::Nothing,
+        }
+    }
+
+    fn run(&self, param: &Param, args: &[Info]) -> Info {
+        match args {
+            [x] => self.of_one(param, *x),
+            [first, second] => self.of_two(param, *first, *second),
+            [first, second, third] => self.of_three(*first, *second, *third),
+            _ => Info::Nothing,
+        }
+    }
+
+    ghost few = { kit_few };
+
+    ghost formed = { kit_formed };
 }

@@ -1,6 +1,6 @@
 -- The laws of the rules of the kit.
 use Rattle.std.specs.Prelude.{List, [], ◌∷◌}
-use Rattle.std.proofs.Common.{rules, subst}
+use Rattle.std.proofs.Common.{arith, refl, rules, subst}
 use Rattle.prop_intervals.specs.Relations.{IsSum, IsProduct, IsSquare, SaysLess}
 use Rattle.prop_intervals.specs.Spans.{sum_of, difference_of, product_of, quotient_of, square_of}
 use Rattle.prop_intervals.specs.laws.SumLaws.{sum_monotone, sum_kind, sum_sound}
@@ -20,6 +20,7 @@ use Rattle.prop_lattice.specs.declared.info.Kind.TheVariants as kinds
 use Rattle.prop_procedures.specs.declared.shape.Shape.{Shape}
 use Rattle.prop_procedures.specs.declared.shape.Shape.TheVariants.{Any}
 use Rattle.prop_procedures.specs.declared.shape.Need.{Need}
+use Rattle.prop_procedures.specs.Forms.{HasFewInputs}
 use Rattle.prop_procedures.specs.Rules.{IsMonotone, KeepsKind, IsSound, AreOf, EachHolds}
 use Rattle.prop_sets.specs.laws.ImageLaws.{image_monotone, image_sound, coimage_monotone}
 use Rattle.prop_sets.specs.laws.ImageLaws.{coimage_sound}
@@ -39,7 +40,7 @@ use Rattle.prop_arith.specs.declared.kit.Kit.TheVariants.{Coimage}
 use Rattle.prop_arith.specs.Comparing.{comparer_of}
 use Rattle.prop_arith.specs.laws.Combined.{Combined, RelatesSame, at_one, combined_of, on_span}
 use Rattle.prop_arith.specs.laws.Combined.{on_spans, on_truth, parter_of, passer_of, rooter_of}
-use Rattle.prop_arith.specs.Kit.{FormOf}
+use Rattle.prop_arith.specs.Kit.{FormOf, form_of}
 use Rattle.prop_arith.specs.Values.{value_of}
 use Rattle.prop_arith.specs.Points.{Related}
 use Rattle.prop_arith.specs.laws.CombinedLaws.{value_is, related_is}
@@ -236,3 +237,31 @@ kit_sound rule ins out need f =
     IsSound (λ param args. value_is rule param args i)
     (λ param points point. related_is rule param points point i) ins out need)
     (sound rule ins out need f)
+
+-- ---- each stands in its one form, with one to three inputs
+
+pub kit_formed : (rule : Kit)
+    → FormOf rule (form_of rule).ins (form_of rule).out (form_of rule).need
+kit_formed rule = (refl, refl, refl)
+
+pub kit_few : (rule : Kit) → HasFewInputs (form_of rule)
+kit_few Add = (omega arith, omega arith)
+kit_few Sub = (omega arith, omega arith)
+kit_few Mul = (omega arith, omega arith)
+kit_few Div = (omega arith, omega arith)
+kit_few Square = (omega arith, omega arith)
+kit_few Root = (omega arith, omega arith)
+kit_few Less = (omega arith, omega arith)
+kit_few Below = (omega arith, omega arith)
+kit_few Above = (omega arith, omega arith)
+kit_few Copy = (omega arith, omega arith)
+kit_few Alike = (omega arith, omega arith)
+kit_few Apart = (omega arith, omega arith)
+kit_few Switch = (omega arith, omega arith)
+kit_few Not = (omega arith, omega arith)
+kit_few And = (omega arith, omega arith)
+kit_few AndBack = (omega arith, omega arith)
+kit_few Or = (omega arith, omega arith)
+kit_few OrBack = (omega arith, omega arith)
+kit_few Image = (omega arith, omega arith)
+kit_few Coimage = (omega arith, omega arith)

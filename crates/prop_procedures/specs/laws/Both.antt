@@ -9,6 +9,7 @@ use Rattle.prop_procedures.specs.declared.shape.Shape.{Shape}
 use Rattle.prop_procedures.specs.declared.shape.Need.{Need}
 use Rattle.prop_procedures.specs.Rules.{IsMonotone, KeepsKind, IsSound}
 use Rattle.prop_procedures.specs.Both.{either_of}
+use Rattle.prop_procedures.specs.Forms.{Form, HasFewInputs}
 
 module _ {A B : Type 0} (form_a : A → List Shape → Shape → Need → Type 0)
     (form_b : B → List Shape → Shape → Need → Type 0) (value_a : A → Param → List Info → Info)
@@ -44,3 +45,21 @@ module _ {A B : Type 0} (form_a : A → List Shape → Shape → Need → Type 0
       → IsSound (either_of value_a value_b rule) (either_of related_a related_b rule) ins out need
   either_sound related_a related_b p q (One a) = p a
   either_sound related_a related_b p q (Two b) = q b
+
+-- each stands in its one form
+module _ {A B : Type 0} (one_a : A → Form) (one_b : B → Form) where
+  pub either_few : ((rule : A) → HasFewInputs (one_a rule))
+      → ((rule : B) → HasFewInputs (one_b rule))
+      → (rule : Both A B) → HasFewInputs (either_of one_a one_b rule)
+  either_few p q (One a) = p a
+  either_few p q (Two b) = q b
+
+  pub either_formed : (form_a : A → List Shape → Shape → Need → Type 0)
+      (form_b : B → List Shape → Shape → Need → Type 0)
+      → ((rule : A) → form_a rule (one_a rule).ins (one_a rule).out (one_a rule).need)
+      → ((rule : B) → form_b rule (one_b rule).ins (one_b rule).out (one_b rule).need)
+      → (rule : Both A B)
+      → either_of form_a form_b rule (either_of one_a one_b rule).ins
+      (either_of one_a one_b rule).out (either_of one_a one_b rule).need
+  either_formed form_a form_b p q (One a) = p a
+  either_formed form_a form_b p q (Two b) = q b
