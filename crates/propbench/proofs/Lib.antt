@@ -1,3 +1,1 @@
 pub mod Starts
-pub mod Taken
-pub mod Devices

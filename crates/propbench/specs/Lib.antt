@@ -1,4 +1,1 @@
-pub mod Program
-pub mod Faults
 pub mod Kits
-pub mod inner

@@ -1,22 +1,22 @@
 use Rattle.std.proofs.Common.{◌≡◌, ◌∙◌, Err, inl, inr, refl, sym, subst, ap}
 use Rattle.std.proofs.lemmas.Result.{err_from_is_err_and}
-use Rattle.propbench.specs.Faults.{TellsDevices}
-use Rattle.propbench.specs.Kits.{IsAnsweredInPartBy}
-use Rattle.propbench.proofs.Devices.{carried, told}
+use Rattle.prop_program.specs.Faults.{TellsDevices}
+use Rattle.prop_program.specs.Answering.{IsAnsweredInPartBy}
+use Rattle.prop_program.proofs.Devices.{carried, told}
 use Rattle.prop_workbench.specs.Engine.{standing_of, working, working_of}
 use Rattle.prop_engine.proofs.Io.{on_err}
 use Rattle.prop_procedures.specs.Kept.{stored_of}
-use Rattle.propbench.proofs.running.answer.Goals as goal
+use Rattle.prop_program.proofs.running.answer.Goals as goal
 
 pub returns-in-Err-clause-err : goal.returns-in-Err-clause-err
 returns-in-Err-clause-err g c = inl refl
 
 pub returns-clause-ok : goal.returns-clause-ok
 returns-clause-ok g c =
-    let same = c.load_prelude.ensures.same in
-    let machine : working_of g.O.Order.picks g.R.Rule.value_of c.load_prelude.new.self ≡ working_of g.O.Order.picks
+    let same = c.load.ensures.same in
+    let machine : working_of g.O.Order.picks g.R.Rule.value_of c.load.new.self ≡ working_of g.O.Order.picks
     g.R.Rule.value_of c.args.session.now = λ i. working g.O.Order.picks (stored_of g.R.Rule.value_of (same i)) in (
-      standing_of c.load_prelude.new.self,
+      standing_of c.load.new.self,
       standing_of c.run_session.new.self,
       c.in-Ok.ensures.ok,
       rw machine at c.in_ok-run_session.ensures.transcript,
@@ -24,15 +24,15 @@ returns-clause-ok g c =
 
 pub returns-in_err-run_session-clause-err : goal.returns-in_err-run_session-clause-err
 returns-in_err-run_session-clause-err g c =
-    let same = c.load_prelude.ensures.same in
-    let machine : working_of g.O.Order.picks g.R.Rule.value_of c.load_prelude.new.self ≡ working_of g.O.Order.picks
+    let same = c.load.ensures.same in
+    let machine : working_of g.O.Order.picks g.R.Rule.value_of c.load.new.self ≡ working_of g.O.Order.picks
     g.R.Rule.value_of c.args.session.now = λ i. working g.O.Order.picks (stored_of g.R.Rule.value_of (same i)) in
     on_err _ (IsAnsweredInPartBy (working_of g.O.Order.picks g.R.Rule.value_of c.args.session.now)
-    (standing_of c.args.session.now) _ _ _)
-    (inr (standing_of c.load_prelude.new.self, c.in-Ok.ensures.ok, rw machine at c.in_err-run_session.ensures.prefix))
+    (standing_of c.args.session.now) _ _ _ _)
+    (inr (standing_of c.load.new.self, c.in-Ok.ensures.ok, rw machine at c.in_err-run_session.ensures.prefix))
 
 pub run_session-requires-clause-means : goal.run_session-requires-clause-means
-run_session-requires-clause-means g c = rw c.load_prelude.ensures.same c.requires.means
+run_session-requires-clause-means g c = rw c.load.ensures.same c.requires.means
 
 pub returns-in_err-run_session-clause-devices : goal.returns-in_err-run_session-clause-devices
 returns-in_err-run_session-clause-devices g c =

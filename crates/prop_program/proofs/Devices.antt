@@ -8,9 +8,9 @@ use Rattle.prop_engine.specs.declared.outcome.Counts.{Counts}
 use Rattle.prop_engine.specs.declared.outcome.EngineFault.{EngineFault}
 use Rattle.prop_engine.specs.declared.outcome.EngineFault.TheVariants.{Read, Write, Reads}
 use Rattle.prop_engine.specs.declared.watched.Devices.{Devices}
-use Rattle.propbench.specs.declared.fault.Fault.{Fault}
-use Rattle.propbench.specs.declared.fault.Fault.TheVariants.{Engine, Memory}
-use Rattle.propbench.specs.Faults.{IsMemory, IfMemory, TellsDevices}
+use Rattle.prop_program.specs.declared.fault.Fault.{Fault}
+use Rattle.prop_program.specs.declared.fault.Fault.TheVariants.{Engine, Memory}
+use Rattle.prop_program.specs.Faults.{IsMemory, IfMemory, TellsDevices}
 
 -- an end of a session as the program's
 abbrev pub carried : Result Counts EngineFault → Result Counts Fault

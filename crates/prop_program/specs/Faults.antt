@@ -7,8 +7,8 @@ use Rattle.prop_engine.specs.Watched.{IsFaulty}
 use Rattle.prop_engine.specs.declared.outcome.Counts.{Counts}
 use Rattle.prop_engine.specs.declared.outcome.EngineFault.TheVariants.{Read, Write, Reads}
 use Rattle.prop_engine.specs.declared.watched.Devices.{Devices}
-use Rattle.propbench.specs.declared.fault.Fault.{Fault}
-use Rattle.propbench.specs.declared.fault.Fault.TheVariants.{Engine, Memory}
+use Rattle.prop_program.specs.declared.fault.Fault.{Fault}
+use Rattle.prop_program.specs.declared.fault.Fault.TheVariants.{Engine, Memory}
 
 abbrev pub status_of : Fault → ℕ
 status_of (Engine Read) = 2

@@ -1,7 +1,7 @@
 //! Why the program ends before its input does.
 ghost use Rattle.std.specs.Prelude.{◌≡◌};
-ghost use Rattle.propbench.specs.Faults.{status_of, IsMemory};
-ghost use Rattle.propbench.specs.declared.fault.Fault.TheVariants.{Engine as EngineOf};
+ghost use Rattle.prop_program.specs.Faults.{status_of, IsMemory};
+ghost use Rattle.prop_program.specs.declared.fault.Fault.TheVariants.{Engine as EngineOf};
 
 use prop_workbench::EngineFault;
 use std::alloc::{AllocError, AllocFailed};

@@ -1,7 +1,7 @@
 use Rattle.std.proofs.Common.{◌≡◌, ◌∙◌, ap, true}
 use Rattle.clap.specs.Words.{App}
 use Rattle.clap.specs.Simple.{app_of_fields}
-use Rattle.propbench.proofs.options.named.Goals as goal
+use Rattle.prop_program.proofs.options.named.Goals as goal
 
 pub returns : goal.returns
 returns c =

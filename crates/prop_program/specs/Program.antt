@@ -1,4 +1,4 @@
--- The options of the program, and what their words say.
+-- The options of a program, and what their words say.
 use Rattle.std.specs.Prelude.{◌≡◌, ◌⊎◌, ℕ, pos, unsigned_abs, List, Option, Some, None, cond, codes}
 use Rattle.std.specs.Prelude.{bytes_eq, true}
 use Rattle.std.specs.Option.{option_map}
@@ -10,22 +10,22 @@ use Rattle.clap.specs.declared.parser.matches.ArgMatches.{ArgMatches}
 use Rattle.clap.specs.declared.error.Error.{Error}
 use Rattle.clap.specs.declared.error.kind.ErrorKind.TheVariants.{OutOfMemory}
 use Rattle.prop_language.specs.Names.{number_in}
-use Rattle.propbench.specs.declared.chosen.Options.{Options}
-use Rattle.propbench.specs.declared.chosen.Pick.{Pick}
-use Rattle.propbench.specs.declared.chosen.Pick.TheVariants.{Fifo, Lifo, Mixed}
+use Rattle.prop_program.specs.declared.chosen.Options.{Options}
+use Rattle.prop_program.specs.declared.chosen.Pick.{Pick}
+use Rattle.prop_program.specs.declared.chosen.Pick.TheVariants.{Fifo, Lifo, Mixed}
 
 -- an option of this name, which takes one value
 abbrev pub value_rule : List ℕ → Rule
 value_rule name = record (new_rule name) { long = Some name; action = Some Set; value_names = 1 }
 
 -- the program's name, and that it has a version, which --version prints
-abbrev pub versioned : App
-versioned = let named = new_app (codes "propbench")
+abbrev pub versioned : List ℕ → App
+versioned name = let named = new_app name
     in record named { top = record named.top { has_version = true } }
 
 -- the program as the option reader sees it: --limit N, --order ORDER, --seed N
-abbrev pub program : App
-program = with_rule (with_rule (with_rule versioned (value_rule (codes "limit")))
+abbrev pub program : List ℕ → App
+program name = with_rule (with_rule (with_rule (versioned name) (value_rule (codes "limit")))
     (value_rule (codes "order"))) (value_rule (codes "seed"))
 
 -- the number from 0 to the high end that the word is, and the program's own where there is none
@@ -62,21 +62,22 @@ abbrev pub AreWrong : Found → Type 0
 AreWrong found = (limit_given found ≡ None)
     ⊎ ((order_chosen found ≡ None) ⊎ (seed_given found ≡ None))
 
--- the option reader's entries for the words choose these options
-pub record AreGiven (words : List (List ℕ)) (options : Options) : Type 0 where
+-- the entries that the option reader has for the words, for a program of this name, choose these
+-- options
+pub record AreGiven (name : List ℕ) (words : List (List ℕ)) (options : Options) : Type 0 where
   pub entries : ArgMatches
-  pub of_words : HasMatchesOf program words entries
+  pub of_words : HasMatchesOf (program name) words entries
   pub chosen : AreChosen (found_of entries) options
 
 -- the option reader has entries for the words, but a value is none of its option's
-pub record AreOutOfRange (words : List (List ℕ)) : Type 0 where
+pub record AreOutOfRange (name : List ℕ) (words : List (List ℕ)) : Type 0 where
   pub entries : ArgMatches
-  pub of_words : HasMatchesOf program words entries
+  pub of_words : HasMatchesOf (program name) words entries
   pub wrong : AreWrong (found_of entries)
 
 -- the option reader takes the words
-pub record AreTaken (words : List (List ℕ)) : Type 0 where
-  pub taken : takes program words ≡ true
+pub record AreTaken (name : List ℕ) (words : List (List ℕ)) : Type 0 where
+  pub taken : takes (program name) words ≡ true
 
 -- the option reader lacked memory
 abbrev pub IsWantOfMemory : Error → Type 0

@@ -1,87 +1,78 @@
 use Rattle.std.proofs.Common.{◌∙◌, arith, sym, subst}
 use Rattle.std.proofs.lemmas.Result.{err_from_is_err_and}
-use Rattle.propbench.specs.Faults.{TellsDevices}
-use Rattle.propbench.proofs.Devices.{told_first}
+use Rattle.prop_program.specs.Faults.{TellsDevices}
+use Rattle.prop_program.proofs.Devices.{told_first}
 use Rattle.prop_engine.proofs.Io.{on_err}
 use Rattle.prop_procedures.specs.inner.Kept.{AllMean-push}
-use Rattle.prop_arith.specs.Values.{value_of}
-use Rattle.propbench.proofs.Starts.{nothing_yet, stored_is, listed_more, all_listed, kit_is_sound, inputs_fit}
-use Rattle.propbench.proofs.Starts.{nothing_worked, worked_answered, worked_answered_in_part}
-use Rattle.propbench.proofs.running.run.Goals as goal
+use Rattle.prop_program.proofs.Starts.{nothing_yet, stored_is, listed_more, all_listed, nothing_worked}
+use Rattle.prop_program.proofs.Starts.{worked_answered, worked_answered_in_part}
+use Rattle.prop_program.proofs.running.run.Goals as goal
 
 pub returns-in_err-ins-clause-err : goal.returns-in_err-ins-clause-err
-returns-in_err-ins-clause-err g c = on_err _ _ (nothing_yet _ _ _)
+returns-in_err-ins-clause-err g c = on_err _ _ (nothing_yet _ _ _ _)
 
 pub returns-in_err-ins-clause-earned_in_part : goal.returns-in_err-ins-clause-earned_in_part
 returns-in_err-ins-clause-earned_in_part g c =
-    on_err _ _ (nothing_worked c.args.options.order c.args.options.seed c.args.options.limit _ _)
-
-pub returns-in_err-ins-clause-points : goal.returns-in_err-ins-clause-points
-returns-in_err-ins-clause-points g c = kit_is_sound
-
-pub returns-in_err-call-clause-points : goal.returns-in_err-call-clause-points
-returns-in_err-call-clause-points g c = kit_is_sound
-
-pub returns-in_err-push-clause-points : goal.returns-in_err-push-clause-points
-returns-in_err-push-clause-points g c = kit_is_sound
+    on_err _ _ (nothing_worked _ c.args.options.order c.args.options.seed c.args.options.limit _ _)
 
 pub returns-in_err-call-clause-err : goal.returns-in_err-call-clause-err
-returns-in_err-call-clause-err g c = on_err _ _ (nothing_yet _ _ _)
+returns-in_err-call-clause-err g c = on_err _ _ (nothing_yet _ _ _ _)
 
 pub returns-in_err-call-clause-earned_in_part : goal.returns-in_err-call-clause-earned_in_part
 returns-in_err-call-clause-earned_in_part g c =
-    on_err _ _ (nothing_worked c.args.options.order c.args.options.seed c.args.options.limit _ _)
+    on_err _ _ (nothing_worked _ c.args.options.order c.args.options.seed c.args.options.limit _ _)
 
 pub returns-in_err-push-clause-err : goal.returns-in_err-push-clause-err
-returns-in_err-push-clause-err g c = on_err _ _ (nothing_yet _ _ _)
+returns-in_err-push-clause-err g c = on_err _ _ (nothing_yet _ _ _ _)
 
 pub returns-in_err-push-clause-earned_in_part : goal.returns-in_err-push-clause-earned_in_part
 returns-in_err-push-clause-earned_in_part g c =
-    on_err _ _ (nothing_worked c.args.options.order c.args.options.seed c.args.options.limit _ _)
+    on_err _ _ (nothing_worked _ c.args.options.order c.args.options.seed c.args.options.limit _ _)
 
 pub new-requires-in-loop-rule-clause-some_inputs : goal.new-requires-in-loop-rule-clause-some_inputs
-new-requires-in-loop-rule-clause-some_inputs g c = rw (c.in_ok-ins.ensures.ok, c.ins.ensures) (inputs_fit _).0
+new-requires-in-loop-rule-clause-some_inputs g c = rw (c.in_ok-ins.ensures.ok, c.ins.ensures) (g.R.Named.few _).0
 
 pub new-requires-in-loop-rule-clause-few_inputs : goal.new-requires-in-loop-rule-clause-few_inputs
-new-requires-in-loop-rule-clause-few_inputs g c = rw (c.in_ok-ins.ensures.ok, c.ins.ensures) (inputs_fit _).1
+new-requires-in-loop-rule-clause-few_inputs g c = rw (c.in_ok-ins.ensures.ok, c.ins.ensures) (g.R.Named.few _).1
 
 pub new-requires-in-loop-rule-clause-formed : goal.new-requires-in-loop-rule-clause-formed
-new-requires-in-loop-rule-clause-formed g c = (c.in_ok-ins.ensures.ok ∙ c.ins.ensures, c.out.ensures, c.need.ensures)
+new-requires-in-loop-rule-clause-formed g c = rw (c.in_ok-ins.ensures.ok, c.ins.ensures, c.out.ensures, c.need.ensures) (g.R.Named.formed _)
 
 pub loop-rule-preserved : goal.loop-rule-preserved
 loop-rule-preserved g c =
     let p = c.new-in-loop-rule.ensures in
-    let stored = stored_is c.new-in-loop-rule.result _ (p.name ∙ c.name.ensures)
+    let stored = stored_is g.R.Named.form_of g.R.Rule.value_of c.new-in-loop-rule.result _ (p.name ∙ c.name.ensures)
     (p.ins ∙ c.in_ok-ins.ensures.ok ∙ c.ins.ensures) (p.out ∙ c.out.ensures) (p.need ∙ c.need.ensures) p.rule
     in record {
-      means = AllMean-push value_of _ _ _ c.in_ok-push.ensures.items c.loop-rule.invariant.means p.means;
-      listed = listed_more _ _ _ _ _ _ c.in_ok-push.ensures.items c.loop-rule-test.true stored
+      means = AllMean-push g.R.Rule.value_of _ _ _ c.in_ok-push.ensures.items c.loop-rule.invariant.means p.means;
+      listed = listed_more g.R.Named.form_of g.R.Rule.value_of _ _ _ _ _ _ c.in_ok-push.ensures.items c.loop-rule-test.true stored
           c.loop-rule.invariant.listed;
     }
-
-pub serve-requires-clause-listed : goal.serve-requires-clause-listed
-serve-requires-clause-listed g c = c.loop-rule.invariant.listed
-    ∙ all_listed c.loop-rule.rule-index (let past = c.loop-rule-test.false in omega (arith, past))
 
 pub serve-requires-clause-means : goal.serve-requires-clause-means
 serve-requires-clause-means g c = c.loop-rule.invariant.means
 
-pub returns-clause-ok : goal.returns-clause-ok
-returns-clause-ok g c = worked_answered c.args.options.order c.args.options.seed c.args.options.limit _ _ _
-    c.serve.result c.serve.ensures.earned
-
 pub returns-clause-earned : goal.returns-clause-earned
-returns-clause-earned g c = c.serve.ensures.earned
-
-pub returns-clause-err : goal.returns-clause-err
-returns-clause-err g c = worked_answered_in_part c.args.options.order c.args.options.seed c.args.options.limit _ _ _
-    c.serve.result c.serve.ensures.earned_in_part
+returns-clause-earned g c =
+    let past = c.loop-rule-test.false in
+    let listed = c.loop-rule.invariant.listed ∙ all_listed g.R.Named.form_of g.R.Rule.value_of c.args.rules.now
+    c.loop-rule.rule-index (omega (arith, past)) in
+    rw (← listed) c.serve.ensures.earned
 
 pub returns-clause-earned_in_part : goal.returns-clause-earned_in_part
-returns-clause-earned_in_part g c = c.serve.ensures.earned_in_part
+returns-clause-earned_in_part g c =
+    let past = c.loop-rule-test.false in
+    let listed = c.loop-rule.invariant.listed ∙ all_listed g.R.Named.form_of g.R.Rule.value_of c.args.rules.now
+    c.loop-rule.rule-index (omega (arith, past)) in
+    rw (← listed) c.serve.ensures.earned_in_part
 
-pub returns-clause-points : goal.returns-clause-points
-returns-clause-points g c = kit_is_sound
+pub returns-clause-ok : goal.returns-clause-ok
+returns-clause-ok g c = worked_answered _ c.args.options.order c.args.options.seed c.args.options.limit _ _ _
+    c.serve.result (returns-clause-earned g c)
+
+pub returns-clause-err : goal.returns-clause-err
+returns-clause-err g c = worked_answered_in_part _ c.args.options.order c.args.options.seed c.args.options.limit _ _ _
+    c.serve.result (returns-clause-earned_in_part g c)
 
 pub returns-in_err-ins-clause-devices : goal.returns-in_err-ins-clause-devices
 returns-in_err-ins-clause-devices g c =

@@ -1,10 +1,10 @@
-//! The options of the program.
-ghost use Rattle.std.specs.Prelude.{◌≡◌, ◌⊎◌, false, IfOk, IfErr, OnErr, map, string_bytes};
+//! The options of a program.
+ghost use Rattle.std.specs.Prelude.{◌≡◌, ◌⊎◌, ℕ, List, false, IfOk, IfErr, OnErr, map, string_bytes};
 ghost use Rattle.clap.specs.Words.{app_of, found_of, rule_of};
-ghost use Rattle.propbench.specs.Program.{program, versioned, value_rule, number_given};
-ghost use Rattle.propbench.specs.Program.{order_given, AreChosen, AreWrong, AreGiven};
-ghost use Rattle.propbench.specs.Program.{AreOutOfRange, AreTaken, IsWantOfMemory};
-ghost use Rattle.propbench.specs.inner.Program.{word_of};
+ghost use Rattle.prop_program.specs.Program.{program, versioned, value_rule, number_given};
+ghost use Rattle.prop_program.specs.Program.{order_given, AreChosen, AreWrong, AreGiven};
+ghost use Rattle.prop_program.specs.Program.{AreOutOfRange, AreTaken, IsWantOfMemory};
+ghost use Rattle.prop_program.specs.inner.Program.{word_of};
 
 use crate::chosen::{Options, Pick};
 use clap::error::ErrorKind;
@@ -18,34 +18,27 @@ const STEPS: u64 = 1_000_000_000;
 /// The highest limit that can be given.
 const MOST_STEPS: u64 = 1_000_000_000_000_000;
 
-/// The program's version, and the toolchain that proves it.
-const VERSION: &str = "1.0 (rattle-kit-13f)";
-
-/// What the program is for.
-const ABOUT: &str = "Answers commands on a propagator network with truth maintenance.
-
-Reads commands from standard input, one on each line, and writes a reply or a refusal to each.
-To run a file of commands or to work at a terminal: propdesk run FILE, propdesk shell.";
-
-/// The commands by group, and where they are described.
-const COMMANDS: &str = "Commands:
-  networks    domain, relation, define, cell, attach
-  statements  fix, tell, choose, forget
-  premises    kick, bring, worldview, nogoods
-  questions   ask, why, core, settle
-  steps       limit
-
-TUTORIAL.md is a first session, and LANGUAGE.md describes each command: in docs/ of the sources,
-and in /usr/share/doc/propbench of the Debian package.";
+/// What a program says of itself.
+#[derive(Clone, Copy)]
+pub struct Said {
+    /// Its name, which a fault begins with.
+    pub name: &'static str,
+    /// Its version, and the toolchain that proves it.
+    pub version: &'static str,
+    /// What it is for.
+    pub about: &'static str,
+    /// The commands that it reads, and where they are described.
+    pub commands: &'static str,
+}
 
 /// The options that the words give, the first of which is the program's name. The error is the
 /// option reader's own, or that a value is none of its option's, or want of memory.
-pub fn options(alloc: Global, words: &[String]) -> Result<Options, Error>
-    ensures ok { IfOk result (AreGiven (map string_bytes words.now)) }
-    ensures err { IfErr result (λ e. AreTaken (map string_bytes words.now)
-        → IsWantOfMemory e ⊎ AreOutOfRange (map string_bytes words.now)) }
+pub fn options(alloc: Global, said: Said, words: &[String]) -> Result<Options, Error>
+    ensures ok { IfOk result (AreGiven said.name.now (map string_bytes words.now)) }
+    ensures err { IfErr result (λ e. AreTaken said.name.now (map string_bytes words.now)
+        → IsWantOfMemory e ⊎ AreOutOfRange said.name.now (map string_bytes words.now)) }
 {
-    let mut command = program(alloc)?;
+    let mut command = program(alloc, said)?;
     let options = read(&mut command, words);
     // One call in place of the drop of each part, which a proof would go through one by one.
     drop(command);
@@ -54,10 +47,11 @@ pub fn options(alloc: Global, words: &[String]) -> Result<Options, Error>
 
 /// The options that the words give, by the program as the option reader sees it.
 fn read<'a>(command: &mut Command<'a>, words: &'a [String]) -> Result<Options, Error>
-    requires { app_of command.old ≡ program }
-    ensures ok { IfOk result (AreGiven (map string_bytes words.now)) }
-    ensures err { IfErr result (λ e. AreTaken (map string_bytes words.now)
-        → IsWantOfMemory e ⊎ AreOutOfRange (map string_bytes words.now)) }
+    ensures ok { (name : List ℕ) → app_of command.old ≡ program name
+        → IfOk result (AreGiven name (map string_bytes words.now)) }
+    ensures err { (name : List ℕ) → app_of command.old ≡ program name
+        → IfErr result (λ e. AreTaken name (map string_bytes words.now)
+        → IsWantOfMemory e ⊎ AreOutOfRange name (map string_bytes words.now)) }
 {
     let matches = command.try_get_matches_from_mut(words)?;
     let chosen = chosen(&matches);
@@ -69,23 +63,23 @@ fn read<'a>(command: &mut Command<'a>, words: &'a [String]) -> Result<Options, E
 }
 
 /// The program's name and version, and what its help says beside the options.
-fn named<'a>(alloc: Global) -> Command<'a>
-    ensures { app_of result ≡ versioned }
+fn named<'a>(alloc: Global, said: Said) -> Command<'a>
+    ensures { app_of result ≡ versioned said.name.now }
 {
-    Command::new(alloc, "propbench")
-        .version(VERSION)
-        .about(ABOUT)
-        .after_help(COMMANDS)
+    Command::new(alloc, said.name)
+        .version(said.version)
+        .about(said.about)
+        .after_help(said.commands)
 }
 
 /// The program as the option reader sees it.
-fn program<'a>(alloc: Global) -> Result<Command<'a>, AllocError>
-    ensures { IfOk result (λ command. app_of command ≡ program) }
+fn program<'a>(alloc: Global, said: Said) -> Result<Command<'a>, AllocError>
+    ensures { IfOk result (λ command. app_of command ≡ program said.name.now) }
 {
     let limit = "Steps per running command, 0 to 1000000000000000 [default: 1000000000]";
     let order = "Which waiting procedure comes next: fifo, lifo or mixed [default: fifo]";
     let seed = "What mixed begins with, 0 to 18446744073709551615 [default: 0]";
-    named(alloc)
+    named(alloc, said)
         .arg(value(alloc, "limit", "N").help(limit))?
         .arg(value(alloc, "order", "ORDER").help(order))?
         .arg(value(alloc, "seed", "N").help(seed))

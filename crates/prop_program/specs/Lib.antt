@@ -1,0 +1,4 @@
+pub mod Program
+pub mod Faults
+pub mod Answering
+pub mod inner
