@@ -15,6 +15,10 @@ pub record Form : Type 0 where
   pub out : Shape
   pub need : Need
 
+-- the form with this name, these inputs, this output and this need
+abbrev pub form : List ℕ → List Shape → Shape → Need → Form
+form name ins out need = record { name = name; ins = ins; out = out; need = need }
+
 -- the rule stands with these inputs, this output and this need just where they are those of its form
 abbrev pub HasForm : {R : Type 0} → (R → Form) → R → List Shape → Shape → Need → Type 0
 HasForm form_of rule ins out need =

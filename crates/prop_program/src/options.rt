@@ -1,5 +1,6 @@
 //! The options of a program.
-ghost use Rattle.std.specs.Prelude.{◌≡◌, ◌⊎◌, ℕ, List, false, IfOk, IfErr, OnErr, map, string_bytes};
+ghost use Rattle.std.specs.Prelude.{◌≡◌, ◌⊎◌, ℕ, List, false, IfOk, IfErr, OnErr, map};
+ghost use Rattle.std.specs.Prelude.{string_bytes};
 ghost use Rattle.clap.specs.Words.{app_of, found_of, rule_of};
 ghost use Rattle.prop_program.specs.Program.{program, versioned, value_rule, number_given};
 ghost use Rattle.prop_program.specs.Program.{order_given, AreChosen, AreWrong, AreGiven};
