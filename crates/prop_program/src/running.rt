@@ -155,7 +155,7 @@ fn answer<R: Rule + Drop, O: Order + Drop, Rd: Read, W: Write>(
         (W.contents (device (writer devices.new)))) }
     ensures devices { TellsDevices result devices.old devices.new }
 {
-    match session.load(prelude) {
+    match session.load_prelude(prelude) {
         Ok(()) => {}
         Err(_) => return Err(Fault::Memory(AllocError)),
     }

@@ -1,4 +1,4 @@
--- What loading lines does, as those of a prelude.
+-- What loading a prelude does.
 use Rattle.std.specs.Prelude.{◌≡◌, ℕ, List, [], ◌∷◌, ◌++◌, ⊤}
 use Rattle.prop_refusals.specs.declared.refusal.Refusal.{Refusal}
 use Rattle.prop_engine.specs.Answers.{Answer, Refused}

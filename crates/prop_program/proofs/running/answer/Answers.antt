@@ -13,10 +13,10 @@ returns-in-Err-clause-err g c = inl refl
 
 pub returns-clause-ok : goal.returns-clause-ok
 returns-clause-ok g c =
-    let same = c.load.ensures.same in
-    let machine : working_of g.O.Order.picks g.R.Rule.value_of c.load.new.self ≡ working_of g.O.Order.picks
+    let same = c.load_prelude.ensures.same in
+    let machine : working_of g.O.Order.picks g.R.Rule.value_of c.load_prelude.new.self ≡ working_of g.O.Order.picks
     g.R.Rule.value_of c.args.session.now = λ i. working g.O.Order.picks (stored_of g.R.Rule.value_of (same i)) in (
-      standing_of c.load.new.self,
+      standing_of c.load_prelude.new.self,
       standing_of c.run_session.new.self,
       c.in-Ok.ensures.ok,
       rw machine at c.in_ok-run_session.ensures.transcript,
@@ -24,15 +24,15 @@ returns-clause-ok g c =
 
 pub returns-in_err-run_session-clause-err : goal.returns-in_err-run_session-clause-err
 returns-in_err-run_session-clause-err g c =
-    let same = c.load.ensures.same in
-    let machine : working_of g.O.Order.picks g.R.Rule.value_of c.load.new.self ≡ working_of g.O.Order.picks
+    let same = c.load_prelude.ensures.same in
+    let machine : working_of g.O.Order.picks g.R.Rule.value_of c.load_prelude.new.self ≡ working_of g.O.Order.picks
     g.R.Rule.value_of c.args.session.now = λ i. working g.O.Order.picks (stored_of g.R.Rule.value_of (same i)) in
     on_err _ (IsAnsweredInPartBy (working_of g.O.Order.picks g.R.Rule.value_of c.args.session.now)
     (standing_of c.args.session.now) _ _ _ _)
-    (inr (standing_of c.load.new.self, c.in-Ok.ensures.ok, rw machine at c.in_err-run_session.ensures.prefix))
+    (inr (standing_of c.load_prelude.new.self, c.in-Ok.ensures.ok, rw machine at c.in_err-run_session.ensures.prefix))
 
 pub run_session-requires-clause-means : goal.run_session-requires-clause-means
-run_session-requires-clause-means g c = rw c.load.ensures.same c.requires.means
+run_session-requires-clause-means g c = rw c.load_prelude.ensures.same c.requires.means
 
 pub returns-in_err-run_session-clause-devices : goal.returns-in_err-run_session-clause-devices
 returns-in_err-run_session-clause-devices g c =

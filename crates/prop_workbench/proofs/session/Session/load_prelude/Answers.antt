@@ -7,7 +7,7 @@ use Rattle.prop_engine.specs.Answers.{answer_of}
 use Rattle.prop_workbench.specs.Engine.{standing_of, WorkFits, working}
 use Rattle.prop_workbench.proofs.WorkLemmas.{works_by, sound_fits}
 use Rattle.prop_workbench.proofs.LoadLemmas.{loads_next, stops_at, no_refusal}
-use Rattle.prop_workbench.proofs.session.Session.load.Goals as goal
+use Rattle.prop_workbench.proofs.session.Session.load_prelude.Goals as goal
 
 pub returns-in-Refused-clause-err : goal.returns-in-Refused-clause-err
 returns-in-Refused-clause-err g c =

@@ -3,7 +3,7 @@ use Rattle.prop_language.specs.Said.{words}
 use Rattle.prop_workbench.specs.Loading.{Loads}
 use Rattle.prop_workbench.specs.Sessions.{IsSound}
 use Rattle.prop_workbench.specs.Engine.{standing_of, working_of}
-use Rattle.prop_workbench.proofs.session.Session.load.Given as goal
+use Rattle.prop_workbench.proofs.session.Session.load_prelude.Given as goal
 
 abbrev pub invariant-loop-line : goal.invariant-loop-line
 invariant-loop-line g l = record {
