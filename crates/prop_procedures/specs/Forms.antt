@@ -19,7 +19,7 @@ pub record Form : Type 0 where
 abbrev pub form : List ℕ → List Shape → Shape → Need → Form
 form name ins out need = record { name = name; ins = ins; out = out; need = need }
 
--- the rule stands with these inputs, this output and this need just where they are those of its form
+-- the rule stands with these inputs, this output and this need: those of its form
 abbrev pub HasForm : {R : Type 0} → (R → Form) → R → List Shape → Shape → Need → Type 0
 HasForm form_of rule ins out need =
     (ins ≡ (form_of rule).ins) × (out ≡ (form_of rule).out) × (need ≡ (form_of rule).need)

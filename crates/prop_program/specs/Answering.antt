@@ -17,6 +17,10 @@ pub record Stock : Type 0 where
   pub library : List Stored
   pub prelude : List (List ℕ)
 
+-- these procedures and these lines
+abbrev pub stocked : List Stored → List (List ℕ) → Stock
+stocked library prelude = record { library = library; prelude = prelude }
+
 -- a writer got a transcript of all that the reader had left, where that is known, of a session that
 -- loaded the prelude where it began
 abbrev pub IsAnsweredBy : {S : Type 0} → Machine S → S → List (List ℕ) → Option (List ℕ)

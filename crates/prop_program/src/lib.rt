@@ -1,6 +1,6 @@
 //! What programs of the workbench share, whatever rules they come with.
 //!
-//! A session over the rules and the prelude that a program gives writes a transcript of the
+//! A session over the procedures and the prelude that a program gives writes a transcript of the
 //! workbench, or at a fault nothing or a prefix of one, with work behind it in the order that was
 //! chosen, from the seed that was given. A fault tells which device failed, that there were too
 //! many reads, or that memory was refused before anything was read or written (`run`).
@@ -20,6 +20,6 @@ pub mod starting;
 pub use chosen::{Options, Pick};
 pub use fault::Fault;
 pub use laws::rules_are_sound;
-pub use options::{Said, options};
+pub use options::Said;
 pub use running::run;
 pub use starting::{chosen_options, stopped};

@@ -1,5 +1,6 @@
 //! A session with the kit's procedures and the prelude, over a reader and a writer.
 ghost use Rattle.std.specs.Prelude.{◌≡◌, IfOk, OnErr};
+ghost use Rattle.prop_arith.specs.Values.{value_of};
 ghost use Rattle.prop_engine.specs.Watched.{reader, writer, device, IsFresh, IsPassedOn};
 ghost use Rattle.prop_program.specs.Faults.{TellsDevices};
 ghost use Rattle.prop_program.specs.Answering.{IsAnswered, IsAnsweredInPart, IsWorked};
@@ -8,8 +9,11 @@ ghost use Rattle.propbench.specs.Kits.{kit, kit_related};
 ghost use Rattle.prop_cells.specs.Points.{AreSoundBy};
 
 use prop_arith::{KITS, PRELUDE};
+use prop_lattice::Info;
+use prop_procedures::{Named, Param, Procedure, Shape};
 use prop_program::{Fault, Options};
 use prop_workbench::{Counts, Devices};
+use smallvec::SmallVec;
 use std::alloc::Global;
 use std::io::{Read, Write};
 
@@ -39,5 +43,16 @@ pub fn run<Rd: Read, W: Write>(
     // So values that belong together and satisfy all that is believed lie in each answer.
     ensures points { AreSoundBy kit.library kit_related }
 {
-    prop_program::run(alloc, &KITS, &PRELUDE, options, devices)
+    let mut procedures = Vec::new(alloc);
+    for rule in KITS {
+        let ins = SmallVec::<Shape, 8>::from_slice(alloc, rule.ins())?;
+        let call = Box::new(
+            alloc,
+            move |param: &Param, args: &[Info]| -> Info
+                ensures { result ≡ value_of rule param.now args.now }
+            { rule.run(param, args) },
+        )?;
+        procedures.push(Procedure::new(rule.name(), ins, rule.out(), rule.need(), rule, call))?;
+    }
+    prop_program::run(alloc, procedures, &PRELUDE, options, devices)
 }

@@ -1,4 +1,4 @@
-use Rattle.prop_program.proofs.Starts.{library_is_sound}
+use Rattle.prop_program.proofs.Listing.{library_is_sound}
 use Rattle.prop_program.proofs.laws.rules_are_sound.Goals as goal
 
 pub returns : goal.returns

@@ -1,8 +1,0 @@
-use Rattle.std.proofs.Common.{◌∙◌, ap, inl, refl, sym, subst, map}
-use Rattle.std.proofs.lemmas.Result.{err_from_is_err_and}
-use Rattle.prop_procedures.specs.Kept.{stored_as}
-use Rattle.prop_program.specs.Faults.{TellsDevices}
-use Rattle.prop_program.proofs.Devices.{told_first}
-use Rattle.prop_engine.proofs.Io.{on_err}
-use Rattle.prop_program.proofs.Starts.{worked_by, worked_in_part_by, nothing_worked}
-use Rattle.prop_program.proofs.running.serve.Goals as goal
