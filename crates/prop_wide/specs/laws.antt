@@ -1,0 +1,9 @@
+pub mod EndLaws
+pub mod HullLaws
+pub mod TruthLaws
+pub mod ArgumentLaws
+pub mod ExtremeLaws
+pub mod DistanceLaws
+pub mod ChoiceLaws
+pub mod CountLaws
+pub mod WideLaws
