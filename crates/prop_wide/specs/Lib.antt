@@ -3,6 +3,7 @@ pub mod Hulls
 pub mod Truths
 pub mod Extremes
 pub mod Distances
+pub mod Squares
 pub mod Choices
 pub mod Counts
 pub mod Wide

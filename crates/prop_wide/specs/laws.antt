@@ -4,6 +4,7 @@ pub mod TruthLaws
 pub mod ArgumentLaws
 pub mod ExtremeLaws
 pub mod DistanceLaws
+pub mod SquareLaws
 pub mod ChoiceLaws
 pub mod CountLaws
 pub mod WideLaws

@@ -1,9 +1,10 @@
 //! How far a number is from zero, and back.
-ghost use Rattle.std.specs.Prelude.{◌≡◌};
-ghost use Rattle.prop_wide.specs.Distances.{abs_of, abs_back_of};
+ghost use Rattle.std.specs.Prelude.{◌≡◌, ◌≤ℤ◌, pos, neg_ℤ, ◌^◌};
+ghost use Rattle.prop_wide.specs.Distances.{abs_of, abs_back_of, at_distance};
 
 use crate::ends::{high_of, low_of};
 use crate::hulls::{hull, narrowed};
+use prop_intervals::clipped;
 use prop_lattice::Info;
 
 /// What is known of how far `x` is from zero.
@@ -15,12 +16,24 @@ pub fn absoluter(x: Info) -> Info
     Info::between(low, high)
 }
 
+/// The numbers of `x` that are as far from zero as `near` at least and `far` at most, as a span; a
+/// contradiction where there are none.
+pub(crate) fn at_distance(x: Info, near: i128, far: i128) -> Info
+    requires near { (pos 0 ≤ℤ near) × (near ≤ℤ pos (2 ^ 120)) }
+    requires far { far ≤ℤ pos (2 ^ 120) }
+    requires from { neg_ℤ (pos (2 ^ 120)) ≤ℤ far }
+    ensures { result ≡ at_distance x near far }
+{
+    let (low, high) = (i128::from(low_of(x)), i128::from(high_of(x)));
+    let below = clipped(low.max(-far), high.min(-near));
+    let above = clipped(low.max(near), high.min(far));
+    narrowed(hull(below, above))
+}
+
 /// What is known of `x` where `y` is how far it is from zero, beside what is known of it already.
 pub fn abs_back(y: Info, x: Info) -> Info
     ensures { result ≡ abs_back_of y x }
 {
     let (near, far) = (low_of(y).max(0), high_of(y));
-    let below = Info::between(low_of(x).max(-far), high_of(x).min(-near));
-    let above = Info::between(low_of(x).max(near), high_of(x).min(far));
-    narrowed(hull(below, above))
+    at_distance(x, i128::from(near), i128::from(far))
 }

@@ -1,8 +1,10 @@
 -- The laws of distances from zero.
-use Rattle.std.specs.Prelude.{◌≡◌, ◌≢◌, ℤ, pos, neg_ℤ, ◌≤ℤ◌, ◌<ℤ◌}
+use Rattle.std.specs.Prelude.{◌≡◌, ◌≢◌, ℤ, pos, neg_ℤ, ◌≤ℤ◌, unsigned_abs}
 use Rattle.std.specs.Int.{int_max, int_min}
 use Rattle.std.proofs.Common.{arith}
 use Rattle.std.proofs.lemmas.Int.{ints, clamps, by_lt_z}
+use Rattle.prop_intervals.specs.Clip.{clip}
+use Rattle.prop_intervals.specs.laws.ClipLaws.{clip_below, clip_holds, clip_of_span}
 use Rattle.prop_intervals.specs.laws.ClipLaws.{span_from_below, span_from_holds, span_from_of_span}
 use Rattle.prop_intervals.specs.laws.Relations.{IsInRange}
 use Rattle.prop_lattice.specs.Ends.{span_from}
@@ -13,7 +15,7 @@ use Rattle.prop_lattice.specs.declared.span.TheConstants.{B}
 use Rattle.prop_lattice.specs.declared.info.Info.{Info}
 use Rattle.prop_lattice.specs.declared.info.Info.TheVariants.{Contradiction}
 use Rattle.prop_lattice.specs.declared.info.Kind.TheVariants as kinds
-use Rattle.prop_wide.specs.Distances.{IsDistance, abs_of, abs_back_of, part_of, nearest}
+use Rattle.prop_wide.specs.Distances.{IsDistance, abs_of, abs_back_of, part_of, at_distance}
 use Rattle.prop_wide.specs.Ends.{low_of, high_of}
 use Rattle.prop_wide.specs.Hulls.{hull_of}
 use Rattle.prop_wide.specs.laws.EndLaws.{AreOrdered, AreWithin, IsBetween}
@@ -55,19 +57,19 @@ abs_sound x u w h r s e =
     by lo hi p q k l = span_from_holds _ _ w (omega (arith, ints, clamps, e))
         (omega (arith, ints, clamps, e)) (omega (arith, ints, clamps)) (omega (arith, ints, clamps))
 
--- ---- and back
+-- ---- numbers at a distance
 
 part_below : (x x' : Info) (lo hi lo' hi' : ℤ) → AreWithin x x' → lo ≤ℤ lo' → hi' ≤ℤ hi
     → Below (part_of x lo hi) (part_of x' lo' hi')
 part_below x x' lo hi lo' hi' a p q =
-    let o = ends_ordered x in
-    by (low_of x) (high_of x) (low_of x') (high_of x') a.low a.high o.above o.below
+    clip_below _ _ _ _ (max_grows (low_of x) (low_of x') lo lo' a.low p)
+    (min_grows (high_of x') (high_of x) hi' hi a.high q)
   where
-    by : (l h l' h' : ℤ) → l ≤ℤ l' → h' ≤ℤ h → neg_ℤ B ≤ℤ l → h ≤ℤ B →
-        Below (span_from (int_max l lo) (int_min h hi)) (span_from (int_max l' lo') (int_min h' hi'))
-    by l h l' h' r s k m = span_from_below _ _ _ _ (omega (arith, ints, clamps, p, r))
-        (omega (arith, ints, clamps, q, s)) (omega (arith, ints, clamps, k))
-        (omega (arith, ints, clamps, m))
+    max_grows : (a b c d : ℤ) → a ≤ℤ b → c ≤ℤ d → int_max a c ≤ℤ int_max b d
+    max_grows a b c d p q = omega (arith, ints, clamps)
+
+    min_grows : (a b c d : ℤ) → a ≤ℤ b → c ≤ℤ d → int_min a c ≤ℤ int_min b d
+    min_grows a b c d p q = omega (arith, ints, clamps)
 
 part_holds : (x : Info) (lo hi v : ℤ) → IsBetween x v → lo ≤ℤ v → v ≤ℤ hi
     → Holds (part_of x lo hi) (Number v)
@@ -75,58 +77,59 @@ part_holds x lo hi v a p q =
     let o = ends_ordered x in by (low_of x) (high_of x) a.from a.to o.above o.below
   where
     by : (l h : ℤ) → l ≤ℤ v → v ≤ℤ h → neg_ℤ B ≤ℤ l → h ≤ℤ B
-        → Holds (span_from (int_max l lo) (int_min h hi)) (Number v)
-    by l h r s k m = span_from_holds _ _ v (omega (arith, ints, clamps, p, r))
-        (omega (arith, ints, clamps, q, s)) (omega (arith, ints, clamps, k))
-        (omega (arith, ints, clamps, m))
-
-nearest_grows : (a b : ℤ) → a ≤ℤ b → int_max a (pos 0) ≤ℤ int_max b (pos 0)
-nearest_grows a b p = omega (arith, ints, clamps)
+        → Holds (clip (int_max l lo) (int_min h hi)) (Number v)
+    by l h r s k m = clip_holds _ _ v (omega (arith, ints, clamps, p, r))
+        (omega (arith, ints, clamps, q, s)) (omega (arith, ints, k, r)) (omega (arith, ints, m, s))
 
 turned : (a b : ℤ) → a ≤ℤ b → neg_ℤ b ≤ℤ neg_ℤ a
 turned a b p = omega (arith, ints)
+
+pub at_distance_below : (x x' : Info) (near far near' far' : ℤ) → AreWithin x x' → near ≤ℤ near'
+    → far' ≤ℤ far → Below (at_distance x near far) (at_distance x' near' far')
+at_distance_below x x' near far near' far' a p q = narrowed_below _ _ (hull_below _ _ _ _
+    (part_below x x' _ _ _ _ a (turned _ _ q) (turned _ _ p)) (part_below x x' _ _ _ _ a p q))
+
+pub at_distance_kind : (x : Info) (near far : ℤ) → IsOf kinds.Span 0 (at_distance x near far)
+at_distance_kind x near far = narrowed_kind _
+    (hull_kind kinds.Span 0 (part_of x (neg_ℤ far) (neg_ℤ near)) (part_of x near far)
+    (clip_of_span 0 _ _) (clip_of_span 0 _ _))
+
+pub at_distance_holds : (x : Info) (near far u : ℤ) → IsBetween x u → near ≤ℤ pos (unsigned_abs u)
+    → pos (unsigned_abs u) ≤ℤ far → Holds (at_distance x near far) (Number u)
+at_distance_holds x near far u b p q = narrowed_holds _ (Number u) (by_lt_z u (pos 0)
+    (λ l. hull_holds_first (part_of x (neg_ℤ far) (neg_ℤ near)) (part_of x near far) (Number u)
+    (part_holds x _ _ u b (omega (arith, ints, p, q)) (omega (arith, ints, p, q))))
+    (λ l. hull_holds_second (part_of x (neg_ℤ far) (neg_ℤ near)) (part_of x near far) (Number u)
+    (part_holds x _ _ u b (omega (arith, ints, p, q)) (omega (arith, ints, p, q)))))
+
+-- ---- and back
+
+nearest_grows : (a b : ℤ) → a ≤ℤ b → int_max a (pos 0) ≤ℤ int_max b (pos 0)
+nearest_grows a b p = omega (arith, ints, clamps)
 
 pub abs_back_below : (y x y' x' : Info) → Below y y' → Below x x' → y' ≢ Contradiction
     → x' ≢ Contradiction → Below (abs_back_of y x) (abs_back_of y' x')
 abs_back_below y x y' x' p q n m =
     let a = ends_within y y' p n in
-    let b = ends_within x x' q m in
-    let near = nearest_grows (low_of y) (low_of y') a.low in
-    narrowed_below _ _ (hull_below _ _ _ _
-    (part_below x x' _ _ _ _ b (turned _ _ a.high) (turned _ _ near))
-    (part_below x x' _ _ _ _ b near a.high))
+    at_distance_below x x' _ _ _ _ (ends_within x x' q m)
+    (nearest_grows (low_of y) (low_of y') a.low) a.high
 
 pub abs_back_kind : (y x : Info) → IsOf kinds.Span 0 (abs_back_of y x)
-abs_back_kind y x = narrowed_kind _
-    (hull_kind kinds.Span 0 (part_of x (neg_ℤ (high_of y)) (neg_ℤ (nearest y)))
-    (part_of x (nearest y) (high_of y)) (span_from_of_span 0 _ _) (span_from_of_span 0 _ _))
+abs_back_kind y x = at_distance_kind x _ _
 
 pub abs_back_sound : (y x : Info) (w u v : ℤ) → Holds y (Number w) → Holds x (Number u)
     → IsInRange w → IsInRange u → IsInRange v → (v ≡ u) × IsDistance u w
     → Holds (abs_back_of y x) (Number v)
 abs_back_sound y x w u v h k r s t e =
     let a = held_between y w h r in
-    let b = held_between x u k s in
-    let same : v ≡ u = e.0 in
-    rw same (narrowed_holds _ (Number u) (by_lt_z u (pos 0)
-    (λ l. hull_holds_first (part_of x (neg_ℤ (high_of y)) (neg_ℤ (nearest y)))
-    (part_of x (nearest y) (high_of y)) (Number u)
-    (part_holds x _ _ u b (below_far (high_of y) a.to l) (below_near (low_of y) a.from l)))
-    (λ l. hull_holds_second (part_of x (neg_ℤ (high_of y)) (neg_ℤ (nearest y)))
-    (part_of x (nearest y) (high_of y)) (Number u)
-    (part_holds x _ _ u b (above_near (low_of y) a.from l) (above_far (high_of y) a.to l)))))
+    rw e.0 (at_distance_holds x _ _ u (held_between x u k s) (near (low_of y) a.from)
+    (far (high_of y) a.to))
   where
     is : w ≡ int_max u (neg_ℤ u)
     is = e.1
 
-    below_far : (hi : ℤ) → w ≤ℤ hi → u <ℤ pos 0 → neg_ℤ hi ≤ℤ u
-    below_far hi p l = omega (arith, ints, clamps, is)
+    near : (lo : ℤ) → lo ≤ℤ w → int_max lo (pos 0) ≤ℤ pos (unsigned_abs u)
+    near lo p = omega (arith, ints, clamps, is)
 
-    below_near : (lo : ℤ) → lo ≤ℤ w → u <ℤ pos 0 → u ≤ℤ neg_ℤ (int_max lo (pos 0))
-    below_near lo p l = omega (arith, ints, clamps, is)
-
-    above_near : (lo : ℤ) → lo ≤ℤ w → pos 0 ≤ℤ u → int_max lo (pos 0) ≤ℤ u
-    above_near lo p l = omega (arith, ints, clamps, is)
-
-    above_far : (hi : ℤ) → w ≤ℤ hi → pos 0 ≤ℤ u → u ≤ℤ hi
-    above_far hi p l = omega (arith, ints, clamps, is)
+    far : (hi : ℤ) → w ≤ℤ hi → pos (unsigned_abs u) ≤ℤ hi
+    far hi p = omega (arith, ints, clamps, is)
