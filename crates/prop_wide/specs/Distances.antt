@@ -1,10 +1,9 @@
 -- How far numbers are from zero.
 use Rattle.std.specs.Prelude.{◌≡◌, ℤ, pos, neg_ℤ}
-use Rattle.std.specs.Int.{int_max, int_min}
-use Rattle.prop_intervals.specs.Clip.{clip}
+use Rattle.std.specs.Int.{int_max}
 use Rattle.prop_lattice.specs.Ends.{span_from}
 use Rattle.prop_lattice.specs.declared.info.Info.{Info}
-use Rattle.prop_wide.specs.Ends.{low_of, high_of}
+use Rattle.prop_wide.specs.Ends.{low_of, high_of, part_of}
 use Rattle.prop_wide.specs.Hulls.{hull_of, narrowed}
 
 -- y is how far x is from zero
@@ -21,10 +20,6 @@ greatest_distance x = int_max (high_of x) (neg_ℤ (low_of x))
 -- how far x is from zero
 abbrev pub abs_of : Info → Info
 abs_of x = span_from (least_distance x) (greatest_distance x)
-
--- the numbers of x from lo to hi
-abbrev pub part_of : Info → ℤ → ℤ → Info
-part_of x lo hi = clip (int_max (low_of x) lo) (int_min (high_of x) hi)
 
 -- the numbers of x that are as far from zero as near at least and far at most, below it or above
 abbrev pub at_distance : Info → ℤ → ℤ → Info

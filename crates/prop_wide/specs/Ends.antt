@@ -1,5 +1,6 @@
 -- The ends of what is known of a number.
 use Rattle.std.specs.Prelude.{ℤ, neg_ℤ, int_le, ◌&&◌, if◌then◌else◌}
+use Rattle.std.specs.Int.{int_max, int_min}
 use Rattle.prop_intervals.specs.Clip.{clip}
 use Rattle.prop_lattice.specs.declared.span.TheConstants.{B}
 use Rattle.prop_lattice.specs.declared.info.Info.{Info}
@@ -14,6 +15,10 @@ low_of a = neg_ℤ B
 abbrev pub high_of : Info → ℤ
 high_of (Span a) = a.hi
 high_of a = B
+
+-- the numbers of x from lo to hi, a contradiction where there are none
+unfoldable pub part_of : Info → ℤ → ℤ → Info
+part_of x lo hi = clip (int_max (low_of x) lo) (int_min (high_of x) hi)
 
 -- the numbers in range from lo to hi, a contradiction where there are none; nothing where these are
 -- all numbers in range

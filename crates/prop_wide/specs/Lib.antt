@@ -4,6 +4,7 @@ pub mod Truths
 pub mod Extremes
 pub mod Distances
 pub mod Squares
+pub mod Quotients
 pub mod Choices
 pub mod Counts
 pub mod Wide

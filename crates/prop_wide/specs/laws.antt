@@ -5,6 +5,7 @@ pub mod ArgumentLaws
 pub mod ExtremeLaws
 pub mod DistanceLaws
 pub mod SquareLaws
+pub mod QuotientLaws
 pub mod ChoiceLaws
 pub mod CountLaws
 pub mod WideLaws

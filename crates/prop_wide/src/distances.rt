@@ -2,9 +2,8 @@
 ghost use Rattle.std.specs.Prelude.{◌≡◌, ◌≤ℤ◌, pos, neg_ℤ, ◌^◌};
 ghost use Rattle.prop_wide.specs.Distances.{abs_of, abs_back_of, at_distance};
 
-use crate::ends::{high_of, low_of};
+use crate::ends::{high_of, low_of, part_of};
 use crate::hulls::{hull, narrowed};
-use prop_intervals::clipped;
 use prop_lattice::Info;
 
 /// What is known of how far `x` is from zero.
@@ -24,10 +23,7 @@ pub(crate) fn at_distance(x: Info, near: i128, far: i128) -> Info
     requires from { neg_ℤ (pos (2 ^ 120)) ≤ℤ far }
     ensures { result ≡ at_distance x near far }
 {
-    let (low, high) = (i128::from(low_of(x)), i128::from(high_of(x)));
-    let below = clipped(low.max(-far), high.min(-near));
-    let above = clipped(low.max(near), high.min(far));
-    narrowed(hull(below, above))
+    narrowed(hull(part_of(x, -far, -near), part_of(x, near, far)))
 }
 
 /// What is known of `x` where `y` is how far it is from zero, beside what is known of it already.

@@ -1,7 +1,7 @@
 //! The ends of what is known of a number, and what two ends tell.
 ghost use Rattle.std.specs.Prelude.{◌≡◌, ◌≤ℤ◌, neg_ℤ};
 ghost use Rattle.prop_lattice.specs.declared.span.TheConstants.{B};
-ghost use Rattle.prop_wide.specs.Ends.{low_of, high_of, known};
+ghost use Rattle.prop_wide.specs.Ends.{low_of, high_of, known, part_of};
 
 use prop_intervals::clipped;
 use prop_lattice::Info;
@@ -42,4 +42,12 @@ pub fn known(lo: i128, hi: i128) -> Info
     } else {
         clipped(lo, hi)
     }
+}
+
+/// The numbers of `x` from `lo` to `hi`, as a span; a contradiction where there are none.
+#[tactic(auto, unfolding(crate::specs::Ends::part_of))]
+pub(crate) fn part_of(x: Info, lo: i128, hi: i128) -> Info
+    ensures { result ≡ part_of x lo hi }
+{
+    clipped(i128::from(low_of(x)).max(lo), i128::from(high_of(x)).min(hi))
 }

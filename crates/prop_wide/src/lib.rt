@@ -11,6 +11,7 @@ pub mod distances;
 pub mod ends;
 pub mod extremes;
 pub mod hulls;
+pub mod quotients;
 pub mod squares;
 pub mod truths;
 pub mod wide;

@@ -23,7 +23,8 @@ use Rattle.prop_wide.specs.Points.{RelatesCount, RelatesLast}
 use Rattle.prop_wide.specs.Wide.{AreTruths, is_truth}
 use Rattle.std.specs.List.{list_all}
 use Rattle.std.proofs.lemmas.Bool.{and_parts}
-use Rattle.prop_wide.specs.laws.EndLaws.{AreWithin, IsBetween, ends_within, held_between}
+use Rattle.prop_wide.specs.laws.EndLaws.{AreWithin, IsBetween, ends_within, held_between, both_le}
+use Rattle.prop_wide.specs.laws.EndLaws.{both_from, both_to}
 use Rattle.prop_wide.specs.laws.TruthLaws.{leaves_less, held_is_left, told_below, told_kind, never}
 use Rattle.prop_wide.specs.laws.TruthLaws.{told_holds_yes, told_holds_no}
 
@@ -144,27 +145,6 @@ count_sound any ins truths points (Number n) f ps k e r =
 count_sound any ins truths points point f ps k e r = search rules
 
 -- ---- and back
-
--- both orders hold
-abbrev both_le : ℤ → ℤ → ℤ → ℤ → Bool
-both_le l p s h = int_le l p && int_le s h
-
-both_from : (l p s h : ℤ) → l ≤ℤ p → s ≤ℤ h → both_le l p s h ≡ true
-both_from l p s h a b = by (int_le l p) refl (int_le s h) refl
-  where
-    by : (m : Bool) → int_le l p ≡ m → (n : Bool) → int_le s h ≡ n → (m && n) ≡ true
-    by true e true f = refl
-    by true e false f = absurd (omega (arith, ints))
-    by false e n f = absurd (omega (arith, ints))
-
-both_to : (l p s h : ℤ) → both_le l p s h ≡ true → (l ≤ℤ p) × (s ≤ℤ h)
-both_to l p s h = by (int_le l p) refl (int_le s h) refl
-  where
-    by : (m : Bool) → int_le l p ≡ m → (n : Bool) → int_le s h ≡ n → (m && n) ≡ true
-        → (l ≤ℤ p) × (s ≤ℤ h)
-    by true e true f g = (omega (arith, ints), omega (arith, ints))
-    by true e false f g = absurd (never g)
-    by false e n f g = absurd (never g)
 
 -- closer bounds hold less
 both_less : (l p s h l' p' s' h' : ℤ) → l ≤ℤ l' → p' ≤ℤ p → s ≤ℤ s' → h' ≤ℤ h

@@ -15,10 +15,11 @@ use Rattle.prop_lattice.specs.declared.span.TheConstants.{B}
 use Rattle.prop_lattice.specs.declared.info.Info.{Info}
 use Rattle.prop_lattice.specs.declared.info.Info.TheVariants.{Contradiction}
 use Rattle.prop_lattice.specs.declared.info.Kind.TheVariants as kinds
-use Rattle.prop_wide.specs.Distances.{IsDistance, abs_of, abs_back_of, part_of, at_distance}
-use Rattle.prop_wide.specs.Ends.{low_of, high_of}
+use Rattle.prop_wide.specs.Distances.{IsDistance, abs_of, abs_back_of, at_distance}
+use Rattle.prop_wide.specs.Ends.{low_of, high_of, part_of}
 use Rattle.prop_wide.specs.Hulls.{hull_of}
 use Rattle.prop_wide.specs.laws.EndLaws.{AreOrdered, AreWithin, IsBetween}
+use Rattle.prop_wide.specs.laws.EndLaws.{part_below, part_holds, part_kind}
 use Rattle.prop_wide.specs.laws.EndLaws.{ends_ordered, ends_within, held_between}
 use Rattle.prop_wide.specs.laws.HullLaws.{hull_below, hull_kind, hull_holds_first}
 use Rattle.prop_wide.specs.laws.HullLaws.{hull_holds_second, narrowed_below, narrowed_kind}
@@ -59,28 +60,6 @@ abs_sound x u w h r s e =
 
 -- ---- numbers at a distance
 
-part_below : (x x' : Info) (lo hi lo' hi' : ℤ) → AreWithin x x' → lo ≤ℤ lo' → hi' ≤ℤ hi
-    → Below (part_of x lo hi) (part_of x' lo' hi')
-part_below x x' lo hi lo' hi' a p q =
-    clip_below _ _ _ _ (max_grows (low_of x) (low_of x') lo lo' a.low p)
-    (min_grows (high_of x') (high_of x) hi' hi a.high q)
-  where
-    max_grows : (a b c d : ℤ) → a ≤ℤ b → c ≤ℤ d → int_max a c ≤ℤ int_max b d
-    max_grows a b c d p q = omega (arith, ints, clamps)
-
-    min_grows : (a b c d : ℤ) → a ≤ℤ b → c ≤ℤ d → int_min a c ≤ℤ int_min b d
-    min_grows a b c d p q = omega (arith, ints, clamps)
-
-part_holds : (x : Info) (lo hi v : ℤ) → IsBetween x v → lo ≤ℤ v → v ≤ℤ hi
-    → Holds (part_of x lo hi) (Number v)
-part_holds x lo hi v a p q =
-    let o = ends_ordered x in by (low_of x) (high_of x) a.from a.to o.above o.below
-  where
-    by : (l h : ℤ) → l ≤ℤ v → v ≤ℤ h → neg_ℤ B ≤ℤ l → h ≤ℤ B
-        → Holds (clip (int_max l lo) (int_min h hi)) (Number v)
-    by l h r s k m = clip_holds _ _ v (omega (arith, ints, clamps, p, r))
-        (omega (arith, ints, clamps, q, s)) (omega (arith, ints, k, r)) (omega (arith, ints, m, s))
-
 turned : (a b : ℤ) → a ≤ℤ b → neg_ℤ b ≤ℤ neg_ℤ a
 turned a b p = omega (arith, ints)
 
@@ -92,7 +71,7 @@ at_distance_below x x' near far near' far' a p q = narrowed_below _ _ (hull_belo
 pub at_distance_kind : (x : Info) (near far : ℤ) → IsOf kinds.Span 0 (at_distance x near far)
 at_distance_kind x near far = narrowed_kind _
     (hull_kind kinds.Span 0 (part_of x (neg_ℤ far) (neg_ℤ near)) (part_of x near far)
-    (clip_of_span 0 _ _) (clip_of_span 0 _ _))
+    (part_kind 0 x (neg_ℤ far) (neg_ℤ near)) (part_kind 0 x near far))
 
 pub at_distance_holds : (x : Info) (near far u : ℤ) → IsBetween x u → near ≤ℤ pos (unsigned_abs u)
     → pos (unsigned_abs u) ≤ℤ far → Holds (at_distance x near far) (Number u)

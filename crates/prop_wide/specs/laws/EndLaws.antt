@@ -2,7 +2,8 @@
 use Rattle.std.specs.Prelude.{◌≡◌, ◌≢◌, ℕ, ℤ, neg_ℤ, ◌≤ℤ◌, Bool, true, false, int_le, ◌&&◌}
 use Rattle.std.specs.Prelude.{if◌then◌else◌}
 use Rattle.std.proofs.Common.{arith, refl, rules}
-use Rattle.std.proofs.lemmas.Int.{ints}
+use Rattle.std.specs.Int.{int_max, int_min}
+use Rattle.std.proofs.lemmas.Int.{ints, clamps}
 use Rattle.prop_intervals.specs.Clip.{clip}
 use Rattle.prop_intervals.specs.laws.ClipLaws.{clip_below, clip_of_span, clip_holds}
 use Rattle.prop_intervals.specs.laws.Relations.{IsInRange}
@@ -14,7 +15,7 @@ use Rattle.prop_lattice.specs.declared.info.Info.{Info}
 use Rattle.prop_lattice.specs.declared.info.Info.TheVariants.{Nothing, Span, Set, Sym}
 use Rattle.prop_lattice.specs.declared.info.Info.TheVariants.{Contradiction}
 use Rattle.prop_lattice.specs.declared.info.Kind.TheVariants as kinds
-use Rattle.prop_wide.specs.Ends.{low_of, high_of, known}
+use Rattle.prop_wide.specs.Ends.{low_of, high_of, known, part_of}
 
 -- ---- the ends
 
@@ -59,6 +60,36 @@ pub held_between : (x : Info) (v : ℤ) → Holds x (Number v) → IsInRange v �
 held_between (Span a) v h r = record { from = h.0; to = h.1 }
 held_between Nothing v h r = record { from = r.0; to = r.1 }
 held_between x v h r = search rules
+
+-- ---- parts
+
+pub part_below : (x x' : Info) (lo hi lo' hi' : ℤ) → AreWithin x x' → lo ≤ℤ lo' → hi' ≤ℤ hi
+    → Below (part_of x lo hi) (part_of x' lo' hi')
+unfolding part_of
+part_below x x' lo hi lo' hi' a p q =
+    clip_below _ _ _ _ (max_grows (low_of x) (low_of x') lo lo' a.low p)
+    (min_grows (high_of x') (high_of x) hi' hi a.high q)
+  where
+    max_grows : (a b c d : ℤ) → a ≤ℤ b → c ≤ℤ d → int_max a c ≤ℤ int_max b d
+    max_grows a b c d p q = omega (arith, ints, clamps)
+
+    min_grows : (a b c d : ℤ) → a ≤ℤ b → c ≤ℤ d → int_min a c ≤ℤ int_min b d
+    min_grows a b c d p q = omega (arith, ints, clamps)
+
+pub part_holds : (x : Info) (lo hi v : ℤ) → IsBetween x v → lo ≤ℤ v → v ≤ℤ hi
+    → Holds (part_of x lo hi) (Number v)
+unfolding part_of
+part_holds x lo hi v a p q =
+    let o = ends_ordered x in by (low_of x) (high_of x) a.from a.to o.above o.below
+  where
+    by : (l h : ℤ) → l ≤ℤ v → v ≤ℤ h → neg_ℤ B ≤ℤ l → h ≤ℤ B
+        → Holds (clip (int_max l lo) (int_min h hi)) (Number v)
+    by l h r s k m = clip_holds _ _ v (omega (arith, ints, clamps, p, r))
+        (omega (arith, ints, clamps, q, s)) (omega (arith, ints, k, r)) (omega (arith, ints, m, s))
+
+pub part_kind : (size : ℕ) (x : Info) (lo hi : ℤ) → IsOf kinds.Span size (part_of x lo hi)
+unfolding part_of
+part_kind size x lo hi = clip_of_span size (int_max (low_of x) lo) (int_min (high_of x) hi)
 
 -- ---- what two ends tell
 
@@ -106,3 +137,29 @@ known_holds lo hi v p q r = by (int_le lo (neg_ℤ B) && int_le B hi)
     by : (s : Bool) → Holds (if s then Nothing else clip lo hi) (Number v)
     by true = tt
     by false = clip_holds lo hi v p q r.0 r.1
+
+-- ---- two orders
+
+clash : false ≡ true → ⊥
+clash e = cc
+
+-- both hold
+abbrev pub both_le : ℤ → ℤ → ℤ → ℤ → Bool
+both_le l p s h = int_le l p && int_le s h
+
+pub both_from : (l p s h : ℤ) → l ≤ℤ p → s ≤ℤ h → both_le l p s h ≡ true
+both_from l p s h a b = by (int_le l p) refl (int_le s h) refl
+  where
+    by : (m : Bool) → int_le l p ≡ m → (n : Bool) → int_le s h ≡ n → (m && n) ≡ true
+    by true e true f = refl
+    by true e false f = absurd (omega (arith, ints))
+    by false e n f = absurd (omega (arith, ints))
+
+pub both_to : (l p s h : ℤ) → both_le l p s h ≡ true → (l ≤ℤ p) × (s ≤ℤ h)
+both_to l p s h = by (int_le l p) refl (int_le s h) refl
+  where
+    by : (m : Bool) → int_le l p ≡ m → (n : Bool) → int_le s h ≡ n → (m && n) ≡ true
+        → (l ≤ℤ p) × (s ≤ℤ h)
+    by true e true f g = (omega (arith, ints), omega (arith, ints))
+    by true e false f g = absurd (clash g)
+    by false e n f g = absurd (clash g)

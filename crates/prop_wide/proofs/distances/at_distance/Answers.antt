@@ -1,8 +1,8 @@
 use Rattle.std.proofs.Common.{arith, ◌≡◌, ◌∙◌, neg_ℤ}
-use Rattle.std.proofs.lemmas.Int.{ints, clamps}
-use Rattle.prop_intervals.specs.laws.ClipLaws.{clip_is}
-use Rattle.prop_wide.specs.Distances.{part_of}
+use Rattle.std.proofs.lemmas.Int.{ints}
+use Rattle.prop_wide.specs.Ends.{part_of}
 use Rattle.prop_wide.specs.Hulls.{hull_of, narrowed}
+use Rattle.prop_wide.proofs.SameEnds.{part_is}
 use Rattle.prop_wide.proofs.distances.at_distance.Goals as goal
 
 pub returns : goal.returns
@@ -10,8 +10,8 @@ returns c =
     let x = c.args.x in
     let near = c.args.near in
     let far = c.args.far in
-    let below : c.clipped-below.result ≡ part_of x (neg_ℤ far) (neg_ℤ near) =
-    clip_is _ _ _ _ _ c.clipped-below.ensures (omega (arith, ints, clamps)) (omega (arith, ints, clamps)) in
-    let above : c.clipped-above.result ≡ part_of x near far =
-    clip_is _ _ _ _ _ c.clipped-above.ensures (omega (arith, ints, clamps)) (omega (arith, ints, clamps)) in
+    let below : c.part_of.result ≡ part_of x (neg_ℤ far) (neg_ℤ near) =
+    part_is x _ _ _ _ _ c.part_of.ensures (omega (arith, ints)) (omega (arith, ints)) in
+    let above : c.part_of-2.result ≡ part_of x near far =
+    part_is x _ _ _ _ _ c.part_of-2.ensures (omega (arith, ints)) (omega (arith, ints)) in
     c.narrowed.ensures ∙ (λ i. narrowed ((c.hull.ensures ∙ (λ j. hull_of (below j) (above j))) i))
