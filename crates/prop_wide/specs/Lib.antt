@@ -1,0 +1,13 @@
+pub mod Ends
+pub mod Hulls
+pub mod Truths
+pub mod Extremes
+pub mod Distances
+pub mod Squares
+pub mod Quotients
+pub mod Choices
+pub mod Counts
+pub mod Wide
+pub mod Values
+pub mod Points
+pub mod laws

@@ -1,0 +1,11 @@
+pub mod EndLaws
+pub mod HullLaws
+pub mod TruthLaws
+pub mod ArgumentLaws
+pub mod ExtremeLaws
+pub mod DistanceLaws
+pub mod SquareLaws
+pub mod QuotientLaws
+pub mod ChoiceLaws
+pub mod CountLaws
+pub mod WideLaws
