@@ -1,0 +1,2 @@
+pub mod SelectedLemmas
+pub mod ExcludeLemmas

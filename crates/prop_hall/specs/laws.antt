@@ -1,0 +1,5 @@
+pub mod HullLaws
+pub mod SelectionLaws
+pub mod MergeLaws
+pub mod PigeonLaws
+pub mod ExcludingLaws
