@@ -1,2 +1,3 @@
 pub mod SelectedLemmas
 pub mod ExcludeLemmas
+pub mod PlaceLemmas

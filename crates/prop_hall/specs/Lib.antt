@@ -1,7 +1,7 @@
 pub mod Hulls
 pub mod Selections
 pub mod Excluding
--- pub mod Excluder
+pub mod Excluder
 pub mod Points
 pub mod inner
 pub mod laws

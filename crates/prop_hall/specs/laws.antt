@@ -3,3 +3,4 @@ pub mod SelectionLaws
 pub mod MergeLaws
 pub mod PigeonLaws
 pub mod ExcludingLaws
+pub mod ExcluderLaws

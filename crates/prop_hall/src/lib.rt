@@ -6,9 +6,9 @@
 //! they are monotone, keep kinds, and hold each point that differs from different points.
 #![tactic(auto)]
 
-//pub mod excluder;
+pub mod excluder;
 pub mod excluding;
 mod hulls;
 
-//pub use excluder::{EXCLUDERS, Excluder};
+pub use excluder::{EXCLUDERS, Excluder};
 pub use excluding::exclude;

@@ -308,7 +308,7 @@ told_holds h y q ps few k each d = by (room (points_in h) (length ps))
 
 -- ---- what all selections tell
 
-hold_all : (infos : List Info) (ps : List Point) → EachHolds infos ps
+pub hold_all : (infos : List Info) (ps : List Point) → EachHolds infos ps
     → (length infos ≡ length ps) × Each (Holds (hull_of infos)) ps
 hold_all [] [] h = (refl, tt)
 hold_all (a ∷ infos) (p ∷ ps) h =
@@ -323,7 +323,7 @@ hold_all (a ∷ infos) (p ∷ ps) h =
     )
 hold_all infos ps h = search rules
 
-same_length : (olds news : List Info) → EachBelow olds news → length olds ≡ length news
+pub same_length : (olds news : List Info) → EachBelow olds news → length olds ≡ length news
 same_length [] [] p = refl
 same_length (a ∷ olds) (b ∷ news) p = ap suc (same_length olds news p.1)
 same_length olds news p = search rules
