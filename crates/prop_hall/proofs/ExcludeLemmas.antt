@@ -98,6 +98,23 @@ one_merged y others count known m =
             (merge_of known (told_by y (selected others count))) (m.each c (omega (arith, l, other)))
             (info_laws.least_above known (told_by y (selected others count))).above_first
 
+-- one that says nothing makes no difference
+pub idle_merged : (y : Info) (others : List Info) (count : ℕ) (known : Info) → IsMergedSoFar y others count known
+    → told_by y (selected others count) ≡ y → IsMergedSoFar y others (count + 1) known
+idle_merged y others count known m idle = record {
+  first = m.first;
+  each = each;
+  least = λ r p h. m.least r p (λ c l. h c (omega (arith, l)));
+}
+  where
+    each : (c : ℕ) → c < count + 1 → Below (told_by y (selected others c)) known
+    each c l = by (cases_eq c count)
+      where
+        by : (c ≡ count) ⊎ (¬ (c ≡ count)) → Below (told_by y (selected others c)) known
+        by (inl same) = subst (λ n. Below (told_by y (selected others n)) known) (sym same)
+            (subst (λ a. Below a known) (sym idle) m.first)
+        by (inr other) = m.each c (omega (arith, l, other))
+
 pub all_merged : (y : Info) (others : List Info) (count : ℕ) (known : Info) → 2 ^ length others ≤ count
     → IsMergedSoFar y others count known → known ≡ excluded_of y others
 all_merged y others count known past m =

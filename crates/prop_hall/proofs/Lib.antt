@@ -1,3 +1,4 @@
 pub mod SelectedLemmas
 pub mod ExcludeLemmas
 pub mod PlaceLemmas
+pub mod WideLemmas

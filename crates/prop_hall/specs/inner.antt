@@ -1,2 +1,3 @@
 pub mod Selected
 pub mod Places
+pub mod Idle

@@ -2,6 +2,7 @@
 ghost use Rattle.std.specs.Prelude.{◌≡◌, ◌<◌, length};
 ghost use Rattle.prop_hall.specs.Excluding.{told, excluded_of};
 ghost use Rattle.prop_hall.specs.Hulls.{hull_of};
+ghost use Rattle.prop_hall.specs.inner.Idle.{AreIdle};
 ghost use Rattle.prop_hall.specs.inner.Selected.{selected};
 
 use crate::hulls::{hull, points_in, without};
@@ -49,15 +50,34 @@ fn told(selection: Selection, y: Info) -> Info
     }
 }
 
+/// The others, as bits, that leave more points than there are others: no selection with one of them
+/// says anything.
+fn wide_among(others: &[Info]) -> u64
+    requires { length others.now < 8 }
+    ensures { AreIdle others.now result }
+{
+    let many = others.len() as u64;
+    let mut wide = 0;
+    for (i, other) in others.iter().enumerate() {
+        if many < points_in(*other) {
+            wide |= 1 << i;
+        }
+    }
+    wide
+}
+
 /// What is known of `y`, which differs from each of the others, where these all differ from each
 /// other too: what all selections of the others say of it. At most seven others are looked at.
 pub fn exclude(y: Info, others: &[Info]) -> Info
     requires { length others.now < 8 }
     ensures { result ≡ excluded_of y others.now }
 {
+    let wide = wide_among(others);
     let mut known = y;
     for chosen in 0..1 << others.len() {
-        known = known.merge(told(select(others, chosen), y));
+        if chosen & wide == 0 {
+            known = known.merge(told(select(others, chosen), y));
+        }
     }
     known
 }
