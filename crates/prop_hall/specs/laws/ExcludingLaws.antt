@@ -142,7 +142,7 @@ last_holds y h v p n = elim (last_is y h) [
 
 -- ---- elements without those of a set
 
-abbrev others : ℕ → ℕ → ℕ
+abbrev pub others : ℕ → ℕ → ℕ
 others y h = bit_and y (bit_not w64 h)
 
 others_part : (y h : ℕ) → HasBitsOf y (others y h)
@@ -157,7 +157,7 @@ others_has y h i p n = by (cases_lt i 64)
         bit_at_not w64 h.bits i h.fits low, bit_at-lt h.bits i)
     by (inr high) = absurd (omega (arith, p, bit_at_above y.bits 64 i y.fits high))
 
-others_lacks : (y h : sets.Elements) (i : ℕ) → bit_at (others y.bits h.bits) i ≡ 1
+pub others_lacks : (y h : sets.Elements) (i : ℕ) → bit_at (others y.bits h.bits) i ≡ 1
     → ¬ (bit_at h.bits i ≡ 1)
 others_lacks y h i p q = by (cases_lt i 64)
   where
@@ -229,11 +229,11 @@ without_kind kind size y h k = search rules
 
 -- ---- what so many points tell
 
-told_over : (n : ℕ) (h y : Info) → points_in h < n → told n h y ≡ Contradiction
+pub told_over : (n : ℕ) (h y : Info) → points_in h < n → told n h y ≡ Contradiction
 told_over n h y l =
     let e : nat_lt (points_in h) n ≡ true = grind (arith, nat_tests) in rw e refl
 
-told_tight : (n : ℕ) (h y : Info) → points_in h ≡ n → told n h y ≡ without_of y h
+pub told_tight : (n : ℕ) (h y : Info) → points_in h ≡ n → told n h y ≡ without_of y h
 told_tight n h y l =
     let e : nat_lt (points_in h) n ≡ false = grind (arith, nat_tests) in
     let f : (points_in h == n) ≡ true = eq-eqb (points_in h) n l in rw (e, f) refl
@@ -243,12 +243,12 @@ told_loose n h y l =
     let e : nat_lt (points_in h) n ≡ false = grind (arith, nat_tests) in
     let f : (points_in h == n) ≡ false = grind (arith, nat_tests) in rw (e, f) refl
 
-data Room (points n : ℕ) : Type 0 where
+pub data Room (points n : ℕ) : Type 0 where
   Over : points < n → Room points n
   Tight : points ≡ n → Room points n
   Loose : n < points → Room points n
 
-room : (points n : ℕ) → Room points n
+pub room : (points n : ℕ) → Room points n
 room points n = elim (cases_lt points n) [
   | inl l ↦ Over l
   | inr g ↦ elim (cases_eq points n) [ inl e ↦ Tight e | inr d ↦ Loose (omega (arith, g, d)) ]

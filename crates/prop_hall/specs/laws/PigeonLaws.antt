@@ -79,15 +79,15 @@ pigeons size word fits (n ∷ ns) h d =
 
 -- ---- points in places
 
-placed_none : (place : Point → ℕ) (Q : Point → Type 0)
-    → ((p q : Point) → Q p → Q q → place p ≡ place q → p ≡ q) → (p : Point) (ps : List Point) → Q p
-    → Each Q ps → IsNoneOf p ps → IsNoneOf (place p) (map place ps)
+placed_none : {X Y : Type 0} (place : X → Y) (Q : X → Type 0)
+    → ((p q : X) → Q p → Q q → place p ≡ place q → p ≡ q) → (p : X) (ps : List X) → Q p → Each Q ps
+    → IsNoneOf p ps → IsNoneOf (place p) (map place ps)
 placed_none place Q same p [] h k d = tt
 placed_none place Q same p (q ∷ ps) h k d =
     (λ e. d.0 (same p q h k.0 e), placed_none place Q same p ps h k.1 d.1)
 
-placed_different : (place : Point → ℕ) (Q : Point → Type 0)
-    → ((p q : Point) → Q p → Q q → place p ≡ place q → p ≡ q) → (ps : List Point) → Each Q ps
+pub placed_different : {X Y : Type 0} (place : X → Y) (Q : X → Type 0)
+    → ((p q : X) → Q p → Q q → place p ≡ place q → p ≡ q) → (ps : List X) → Each Q ps
     → AreDifferent ps → AreDifferent (map place ps)
 placed_different place Q same [] h d = tt
 placed_different place Q same (p ∷ ps) h d =
