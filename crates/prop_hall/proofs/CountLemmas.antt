@@ -1,15 +1,12 @@
 -- How many bits words have together.
-use Rattle.std.proofs.Common.{◌≡◌, ◌≢◌, ◌⊎◌, ℕ, zero, suc, ◌+◌, ◌*◌, ◌/◌, ◌%◌, ◌^◌, ◌<◌, ◌≤◌, bit_and, bit_or, arith, ap, sym, subst, refl}
+use Rattle.std.proofs.Common.{◌≡◌, ◌⊎◌, ℕ, zero, suc, ◌+◌, ◌*◌, ◌/◌, ◌^◌, ◌<◌, bit_and, bit_or, arith, ap, sym}
 use Rattle.std.proofs.Common.{◌∙◌, inl, inr, pow-suc}
-use Rattle.std.specs.Prelude.{count_ones, max, min}
+use Rattle.std.specs.Prelude.{count_ones}
 use Rattle.std.specs.Int.{bit_at}
-use Rattle.std.specs.Int.Count.{ones_step, ones-ones}
+use Rattle.std.specs.Int.Count.{ones_step}
 use Rattle.std.proofs.lemmas.Bool.{cases_eq}
 use Rattle.std.proofs.lemmas.Nat.{or_shr, and_shr, ones_cat, ones_le_self, pow_pos}
-use Rattle.std.proofs.lemmas.Nat.Bits.{and_pow, bit_at_or, bit_at_and, bit_at_lowest, bit_at-lt, bit_at-pow_other, bit_at-pow_same}
-use Rattle.prop_lattice.specs.laws.Parts.{HasBitsOf}
-use Rattle.prop_lattice.specs.laws.PartLaws.{same_parts}
-use Rattle.prop_lattice.proofs.PartLemmas.{ones_part}
+use Rattle.std.proofs.lemmas.Nat.Bits.{and_pow, bit_at_or, bit_at_and, bit_at_lowest, bit_at-lt}
 
 -- ---- which bits a union has
 
@@ -41,9 +38,22 @@ ones_shared zero a b l m =
     ∙ sym (λ i. count_ones (none i) + count_ones (nor i))
 ones_shared (suc k) a b l m =
     let ih = ones_shared k (a / 2) (b / 2) (omega (arith, l, pow-suc 2 k)) (omega (arith, m, pow-suc 2 k)) in
-    omega (arith, ih, ones_step a, ones_step b, ones_step (bit_or a b), ones_step (bit_and a b),
-    ap count_ones (or_shr a b 1), ap count_ones (and_shr a b 1), bit_at_lowest (bit_or a b), bit_at_lowest (bit_and a b),
-    bit_at_lowest a, bit_at_lowest b, bit_at_or a b 0, bit_at_and a b 0)
+    omega (
+      arith,
+      ih,
+      ones_step a,
+      ones_step b,
+      ones_step (bit_or a b),
+      ones_step (bit_and a b),
+      ap count_ones (or_shr a b 1),
+      ap count_ones (and_shr a b 1),
+      bit_at_lowest (bit_or a b),
+      bit_at_lowest (bit_and a b),
+      bit_at_lowest a,
+      bit_at_lowest b,
+      bit_at_or a b 0,
+      bit_at_and a b 0,
+    )
 
 pub ones_one : (i : ℕ) → count_ones (2 ^ i) ≡ 1
 ones_one i =

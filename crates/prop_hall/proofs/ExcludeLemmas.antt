@@ -1,8 +1,8 @@
 -- What selections tell together, one by one by their numbers.
-use Rattle.std.proofs.Common.{◌≡◌, ◌⊎◌, ℕ, suc, ◌+◌, ◌*◌, ◌/◌, ◌%◌, ◌^◌, ◌<◌, ◌≤◌, ◌==◌, List, [], ◌∷◌, map, length, true, false}
-use Rattle.std.proofs.Common.{arith, refl, ap, sym, subst, ◌∙◌, inl, inr, eq-eqb}
+use Rattle.std.proofs.Common.{◌≡◌, ◌⊎◌, ℕ, ◌+◌, ◌*◌, ◌/◌, ◌%◌, ◌^◌, ◌<◌, ◌≤◌, ◌==◌, List, [], ◌∷◌, map, length, false}
+use Rattle.std.proofs.Common.{arith, ap, sym, subst, ◌∙◌, inl, inr}
 use Rattle.std.specs.List.{AllByRecursion as Each}
-use Rattle.std.proofs.lemmas.Bool.{cases_lt, cases_eq}
+use Rattle.std.proofs.lemmas.Bool.{cases_eq}
 use Rattle.std.proofs.lemmas.Bool.Decides.{nat_tests}
 use Rattle.std.proofs.Math.Nat.{pow-suc}
 use Rattle.std.proofs.Math.Pow.{pow-lt}
@@ -12,7 +12,6 @@ use Rattle.prop_lattice.specs.laws.OrderLaws.{info_laws}
 use Rattle.prop_hall.specs.Excluding.{told_by, merge_all, excluded_of}
 use Rattle.prop_hall.specs.Selections.{selections}
 use Rattle.prop_hall.specs.inner.Selected.{selected}
-use Rattle.prop_hall.specs.laws.ExcludingLaws.{excluded_holds}
 use Rattle.prop_hall.specs.laws.MergeLaws.{all_above_first, all_above_each, all_least}
 use Rattle.prop_hall.specs.laws.SelectionLaws.{each_append, each_split, each_map, each_unmap}
 use Rattle.prop_hall.proofs.SelectedLemmas.{selected_with, selected_without}

@@ -1,14 +1,14 @@
 -- Hall's theorem: where each selection of some words has no fewer bits than members, there are different bits, one of
 -- each word.
-use Rattle.std.proofs.Common.{◌≡◌, ◌≢◌, ◌⊎◌, ℕ, zero, suc, ◌+◌, ◌^◌, ◌<◌, ◌≤◌, Bool, true, false, ◌&&◌, ◌||◌, cond, List, [], ◌∷◌}
+use Rattle.std.proofs.Common.{◌≡◌, ◌⊎◌, ℕ, zero, suc, ◌+◌, ◌^◌, ◌<◌, ◌≤◌, Bool, true, false, ◌&&◌, ◌||◌, cond, List, [], ◌∷◌}
 use Rattle.std.proofs.Common.{bit_and, bit_or, arith, ap, sym, subst, refl, ◌∙◌, inl, inr}
 use Rattle.std.specs.Prelude.{count_ones}
 use Rattle.std.specs.Int.{bit_at}
 use Rattle.std.specs.List.{AllByRecursion as Each, AllZip}
 use Rattle.std.proofs.Math.Pow.{pow-lt}
 use Rattle.std.proofs.lemmas.Bool.{cases_eq, cases_lt}
-use Rattle.std.proofs.lemmas.Nat.{or_lt, and_le_l, le_or_r, pow_pos}
-use Rattle.std.proofs.lemmas.Nat.Bits.{bit_at-zero, bit_at_above, bit_at-pow_same, bit_at-pow_other}
+use Rattle.std.proofs.lemmas.Nat.{or_lt, and_le_l, pow_pos}
+use Rattle.std.proofs.lemmas.Nat.Bits.{bit_at-zero, bit_at_above, bit_at-pow_same}
 use Rattle.prop_lattice.specs.laws.Parts.{HasBitsOf}
 use Rattle.prop_lattice.specs.laws.PartLaws.{same_parts}
 use Rattle.prop_lattice.proofs.PartLemmas.{ones_part}
@@ -214,11 +214,20 @@ tight_either size taken ws fits fit roomy f g tf tg =
     let a_fits : a < 2 ^ size = or_lt size taken (union_of ws f) fits (union_fits size ws f fit) in
     let b_fits : b < 2 ^ size = or_lt size taken (union_of ws g) fits (union_fits size ws g fit) in
     let more = (ones_part size (bit_or a b) (bit_or taken (union_of ws (either f g)))
-        (or_lt size a b a_fits b_fits) in_either).0 in
+    (or_lt size a b a_fits b_fits) in_either).0 in
     let fewer = (ones_part size (bit_and a b) (bit_or taken (union_of ws (both f g)))
-        (omega (arith, a_fits, and_le_l a b)) in_shared).0 in
-    omega (arith, tf, tg, more, fewer, ones_shared size a b a_fits b_fits, members_shared ws f g, roomy (either f g),
-    roomy (both f g))
+    (omega (arith, a_fits, and_le_l a b)) in_shared).0 in
+    omega (
+      arith,
+      tf,
+      tg,
+      more,
+      fewer,
+      ones_shared size a b a_fits b_fits,
+      members_shared ws f g,
+      roomy (either f g),
+      roomy (both f g),
+    )
   where
     in_either : HasBitsOf (bit_or (bit_or taken (union_of ws f)) (bit_or taken (union_of ws g)))
         (bit_or taken (union_of ws (either f g)))
@@ -281,7 +290,7 @@ tight_from size taken k ws fits low fit free roomy g l =
     let small = bit_or taken (union_of ws g) in
     let big = bit_or (bit_or taken (2 ^ k)) (union_of ws g) in
     let big_fits : big < 2 ^ size = or_lt size (bit_or taken (2 ^ k)) (union_of ws g)
-        (or_lt size taken (2 ^ k) fits low) (union_fits size ws g fit) in
+    (or_lt size taken (2 ^ k) fits low) (union_fits size ws g fit) in
     let part = ones_part size big small big_fits within in
     let tight : count_ones small ≡ count_ones taken + members_of ws g =
     omega (arith, l, part.0, roomy g, ones_more size taken k fits low free) in
@@ -289,7 +298,7 @@ tight_from size taken k ws fits low fit free roomy g l =
     part.1 (omega (arith, l, part.0, roomy g, ones_more size taken k fits low free)) in (
       tight,
       subst (λ n. bit_at n k ≡ 1) same
-      (in_left (bit_or taken (2 ^ k)) (union_of ws g) k (in_right taken (2 ^ k) k (bit_at-pow_same k))),
+          (in_left (bit_or taken (2 ^ k)) (union_of ws g) k (in_right taken (2 ^ k) k (bit_at-pow_same k))),
     )
   where
     within : HasBitsOf (bit_or (bit_or taken (2 ^ k)) (union_of ws g)) (bit_or taken (union_of ws g))
@@ -326,19 +335,30 @@ cover size taken w ws fits fit roomy (suc k) le = by (cover size taken w ws fits
     by_bit : Covered taken w ws k → (bit_at w k ≡ 1) ⊎ (¬ (bit_at w k ≡ 1)) → (bit_at taken k ≡ 1) ⊎ (¬ (bit_at taken k ≡ 1))
         → Holds (count_ones (bit_or taken (2 ^ k))) (bit_or taken (2 ^ k)) ws ⊎ Fails (count_ones (bit_or taken (2 ^ k))) (bit_or taken (2 ^ k)) ws
         → Free taken w ws ⊎ Covered taken w ws (suc k)
-    by_bit c (inr lacks) t r = inr (c.0, c.1, λ x l h. elim (cases_eq x k) [
-      | inl same ↦ absurd (lacks (sym (ap (bit_at w) same) ∙ h))
-      | inr other ↦ c.2 x (omega (arith, l, other)) h
-    ])
-    by_bit c (inl has) (inl used) r = inr (c.0, c.1, λ x l h. elim (cases_eq x k) [
-      | inl same ↦ in_left taken (union_of ws c.0) x (ap (bit_at taken) same ∙ used)
-      | inr other ↦ c.2 x (omega (arith, l, other)) h
-    ])
+    by_bit c (inr lacks) t r = inr (
+      c.0,
+      c.1,
+      λ x l h. elim (cases_eq x k) [
+        | inl same ↦ absurd (lacks (sym (ap (bit_at w) same) ∙ h))
+        | inr other ↦ c.2 x (omega (arith, l, other)) h
+      ],
+    )
+    by_bit c (inl has) (inl used) r = inr (
+      c.0,
+      c.1,
+      λ x l h. elim (cases_eq x k) [
+        | inl same ↦ in_left taken (union_of ws c.0) x (ap (bit_at taken) same ∙ used)
+        | inr other ↦ c.2 x (omega (arith, l, other)) h
+      ],
+    )
     by_bit c (inl has) (inr free) (inl room) = inl (k, (has, free, room))
     by_bit c (inl has) (inr free) (inr fails) =
         let tight = tight_from size taken k ws fits low fit free roomy fails.0 fails.1 in
-        inr (either c.0 fails.0, tight_either size taken ws fits fit roomy c.0 fails.0 c.1 tight.0,
-        more c.0 fails.0 c.2 tight.1)
+        inr (
+          either c.0 fails.0,
+          tight_either size taken ws fits fit roomy c.0 fails.0 c.1 tight.0,
+          more c.0 fails.0 c.2 tight.1,
+        )
 
     by : Free taken w ws ⊎ Covered taken w ws k → Free taken w ws ⊎ Covered taken w ws (suc k)
     by (inl free) = inl free
@@ -356,7 +376,7 @@ free_bit size taken w ws fits wide fit roomy = by (cover size taken w ws fits fi
     by (inl free) = free
     by (inr c) =
         let few = (ones_part size (bit_or taken (union_of ws c.0)) (bit_or taken (bit_or w (union_of ws c.0)))
-            (or_lt size taken (union_of ws c.0) fits (union_fits size ws c.0 fit)) within).0 in
+        (or_lt size taken (union_of ws c.0) fits (union_fits size ws c.0 fit)) within).0 in
         absurd (omega (arith, few, c.1, roomy (put true c.0)))
       where
         bit_low : (i : ℕ) → bit_at w i ≡ 1 → i < size
@@ -403,7 +423,7 @@ hall size (w ∷ ws) taken fits fit roomy =
         free = (
           free.1.1,
           each_weaker (λ i. ¬ (bit_at (bit_or taken (2 ^ x)) i ≡ 1)) (λ i. ¬ (bit_at taken i ≡ 1))
-          (λ i h k. h (in_left taken (2 ^ x) i k)) rest.0 rest.1.free,
+              (λ i h k. h (in_left taken (2 ^ x) i k)) rest.0 rest.1.free,
         );
         different = (chosen_none taken x rest.0 rest.1.free, rest.1.different);
       },

@@ -1,5 +1,5 @@
 -- What selections leave of a set, by Hall's theorem.
-use Rattle.std.proofs.Common.{◌≡◌, ◌≢◌, ◌⊎◌, ℕ, suc, ◌+◌, ◌^◌, ◌<◌, ◌≤◌, Bool, true, false, cond, List, [], ◌∷◌, map, length}
+use Rattle.std.proofs.Common.{◌≡◌, ◌⊎◌, ℕ, suc, ◌+◌, ◌^◌, ◌<◌, ◌≤◌, Bool, true, false, cond, List, [], ◌∷◌, map, length}
 use Rattle.std.proofs.Common.{bit_or, arith, rules, ap, sym, subst, refl, ◌∙◌, inl, inr}
 use Rattle.std.specs.Prelude.{count_ones, ⊤}
 use Rattle.std.proofs.lemmas.List.{length-map}
@@ -20,21 +20,20 @@ use Rattle.prop_lattice.specs.laws.Parts.{HasBitsOf}
 use Rattle.prop_lattice.proofs.EndLemmas.{elements_are, elements_from-none}
 use Rattle.prop_lattice.proofs.PartLemmas.{ones_part}
 use Rattle.prop_procedures.specs.Rules.{EachHolds}
-use Rattle.prop_sets.specs.Narrowest.{IsNarrowest}
 use Rattle.prop_sets.specs.laws.NarrowestLaws.{bit_from_held}
-use Rattle.prop_hall.specs.Excluding.{told, told_by, merge_all, excluded_of}
+use Rattle.prop_hall.specs.Excluding.{told, told_by, excluded_of}
 use Rattle.prop_hall.specs.Hulls.{hull_of, hull_of_two, points_in, without_of}
 use Rattle.prop_hall.specs.Narrowest.{IsLeft, ExcludedIsNarrowest}
-use Rattle.prop_hall.specs.Points.{AreDifferent, IsNoneOf}
+use Rattle.prop_hall.specs.Points.{IsNoneOf}
 use Rattle.prop_hall.specs.Selections.{selections}
-use Rattle.prop_hall.specs.laws.ExcludingLaws.{excluded_holds, others, others_lacks, told_over, told_tight, told_loose}
+use Rattle.prop_hall.specs.laws.ExcludingLaws.{excluded_holds, others, others_lacks, told_over, told_tight}
 use Rattle.prop_hall.specs.laws.ExcludingLaws.{Room, Over, Tight, Loose, room}
 use Rattle.prop_hall.specs.laws.HullLaws.{below_holds}
 use Rattle.prop_hall.specs.laws.MergeLaws.{all_above_first, all_above_each}
 use Rattle.prop_hall.specs.laws.PigeonLaws.{placed_different}
 use Rattle.prop_hall.specs.laws.SelectionLaws.{each_split, each_unmap, each_weaker}
 use Rattle.prop_hall.proofs.CountLemmas.{in_right, ones_more, ones_one}
-use Rattle.prop_hall.proofs.HallLemmas.{IsRoomy, IsChoice, hall, members_of, union_of, union_fits, or_zero}
+use Rattle.prop_hall.proofs.HallLemmas.{IsRoomy, hall, members_of, union_of, union_fits, or_zero}
 
 -- ---- selections by a test of places
 
@@ -83,9 +82,9 @@ hull_with s bits fits = by (some_or_not bits)
     by (inr none) = elim (cases_lt 0 bits) [
       | inl some ↦ absurd (none (some, fits))
       | inr le ↦ (
-        let zeroth : bits ≡ 0 = omega (arith, le) in
-        elements_are (bit_or s.bits bits) s (sym (or_zero s.bits) ∙ ap (bit_or s.bits) (sym zeroth))
-        )
+          let zeroth : bits ≡ 0 = omega (arith, le) in
+          elements_are (bit_or s.bits bits) s (sym (or_zero s.bits) ∙ ap (bit_or s.bits) (sym zeroth))
+          )
     ]
 
 picked_hull : (ss : List sets.Elements) (f : ℕ → Bool)
@@ -183,7 +182,7 @@ left_by_hall : (y : sets.Elements) (ss : List sets.Elements) (j : ℕ)
     → Holds (excluded_of (Set y) (map Set ss)) (Element j) → IsLeft y ss j
 left_by_hall y ss j h =
     let in_y : HasElement y j = below_holds (Set y) (excluded_of (Set y) (map Set ss)) (Element j)
-        (all_above_first (Set y) (map (told_by (Set y)) (selections (map Set ss)))) h in
+    (all_above_first (Set y) (map (told_by (Set y)) (selections (map Set ss)))) h in
     let low = element_low y j in_y in
     let choice = hall 64 (words_of ss) (2 ^ j) (pow-lt low) (words_fit ss) (roomy low) in
     (in_y, choice.0, sides_of ss choice.0 choice.1.each, (not_among j choice.0 choice.1.free, choice.1.different))
@@ -193,7 +192,7 @@ left_by_hall y ss j h =
       arith,
       ones_one j,
       roomy_from y j (members_of (words_of ss) f) (union_of (words_of ss) f) low (union_fits 64 (words_of ss) f (words_fit ss))
-      (told_picked y ss j h f),
+          (told_picked y ss j h f),
     )
 
 -- ---- the narrowest

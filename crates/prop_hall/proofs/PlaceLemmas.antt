@@ -1,6 +1,6 @@
 -- Shapes that are all those of places.
-use Rattle.std.proofs.Common.{◌≡◌, ◌+◌, ◌==◌, ◌&&◌, ℕ, zero, suc, List, [], ◌∷◌, Bool, true, false, length, replicate, arith, refl, rules}
-use Rattle.std.proofs.Common.{ap, sym, ◌∙◌, eqb-true}
+use Rattle.std.proofs.Common.{◌≡◌, ◌+◌, ℕ, zero, suc, List, [], ◌∷◌, true, length, replicate, arith, refl}
+use Rattle.std.proofs.Common.{ap, ◌∙◌, eqb-true}
 use Rattle.std.specs.List.{list_all}
 use Rattle.std.proofs.lemmas.Bool.{and_parts}
 use Rattle.std.proofs.lemmas.List.{length-replicate}

@@ -1,5 +1,5 @@
 -- Selections by number, and hulls as they grow.
-use Rattle.std.proofs.Common.{◌≡◌, ℕ, suc, ◌+◌, ◌%◌, ◌/◌, ◌<◌, ◌≤◌, ◌==◌, List, [], ◌∷◌, Bool, true, false, cond, length, drop}
+use Rattle.std.proofs.Common.{◌≡◌, ℕ, suc, ◌+◌, ◌%◌, ◌/◌, ◌<◌, ◌≤◌, ◌==◌, List, [], ◌∷◌, false, length, drop}
 use Rattle.std.proofs.Common.{get_or, arith, ap, sym, refl, ◌∙◌}
 use Rattle.std.proofs.Common.{◌≢◌, bit_and}
 use Rattle.std.proofs.lemmas.Bool.Decides.{nat_tests}

@@ -1,18 +1,17 @@
 -- Items with more points than there are items.
-use Rattle.std.proofs.Common.{◌≡◌, ◌≢◌, ◌⊎◌, ℕ, zero, suc, ◌+◌, ◌*◌, ◌/◌, ◌%◌, ◌^◌, ◌<◌, ◌≤◌, ◌==◌, List, [], ◌∷◌, length}
-use Rattle.std.proofs.Common.{get_or, bit_and, bit_or, true, false, arith, ap, sym, subst, refl, ◌∙◌, inl, inr}
+use Rattle.std.proofs.Common.{◌≡◌, ◌⊎◌, ℕ, zero, suc, ◌*◌, ◌/◌, ◌%◌, ◌^◌, ◌<◌, ◌≤◌, ◌==◌, List, [], ◌∷◌, length}
+use Rattle.std.proofs.Common.{get_or, bit_and, bit_or, false, arith, ap, sym, subst, ◌∙◌, inl, inr}
 use Rattle.std.specs.Int.{bit_at, w64, trailing_zeros}
 use Rattle.std.proofs.lemmas.Bool.{cases_eq}
 use Rattle.std.proofs.lemmas.Bool.Decides.{nat_tests}
 use Rattle.std.proofs.lemmas.List.{get_or_default}
 use Rattle.std.proofs.lemmas.Nat.{and_le_r, or_lt}
 use Rattle.std.proofs.lemmas.Nat.Bits.{bit_at-zero, bit_at-suc, bit_at_lowest, bit_at_and, bit_at-lt, bit_at_set_other}
-use Rattle.std.proofs.lemmas.Nat.Bits.{bit_at-trailing_zeros, same_from_bits}
+use Rattle.std.proofs.lemmas.Nat.Bits.{bit_at-trailing_zeros}
 use Rattle.prop_lattice.specs.Order.{Below}
 use Rattle.prop_lattice.specs.declared.info.Info.{Info}
 use Rattle.prop_lattice.specs.declared.info.Info.TheVariants.{Nothing}
 use Rattle.prop_lattice.specs.laws.OrderLaws.{info_laws}
-use Rattle.prop_hall.specs.Excluding.{told_by}
 use Rattle.prop_hall.specs.Hulls.{hull_of, points_in}
 use Rattle.prop_hall.specs.inner.Idle.{AreIdle}
 use Rattle.prop_hall.specs.inner.Selected.{selected}

@@ -1,6 +1,5 @@
 -- Points that all differ.
-use Rattle.std.specs.Prelude.{◌≡◌, ◌≢◌, List, [], ◌∷◌, ⊤}
-use Rattle.prop_lattice.specs.Points.{Point}
+use Rattle.std.specs.Prelude.{◌≢◌, List, [], ◌∷◌, ⊤}
 
 -- the item is none of these
 abbrev pub IsNoneOf : {X : Type 0} → X → List X → Type 0

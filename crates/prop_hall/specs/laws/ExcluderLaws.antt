@@ -1,6 +1,6 @@
 -- The laws of the rules of excluding.
-use Rattle.std.specs.Prelude.{◌≡◌, ℕ, ◌<◌, ◌==◌, Bool, true, false, if◌then◌else◌, List, [], ◌∷◌, length, replicate}
-use Rattle.std.proofs.Common.{arith, refl, rules, sym, subst, ap, ◌∙◌, eqb-true}
+use Rattle.std.specs.Prelude.{◌≡◌, ◌<◌, ◌==◌, Bool, true, false, if◌then◌else◌, List, [], ◌∷◌, length}
+use Rattle.std.proofs.Common.{arith, refl, rules, sym, subst, ap, eqb-true}
 use Rattle.prop_lattice.specs.Order.{Below}
 use Rattle.prop_lattice.specs.Points.{Point, Holds}
 use Rattle.prop_lattice.specs.Rank.{IsOf}
@@ -14,7 +14,6 @@ use Rattle.prop_procedures.specs.declared.shape.Shape.TheVariants.{Any}
 use Rattle.prop_procedures.specs.Rules.{IsMonotone, KeepsKind, IsSound, AreOf, EachBelow, EachHolds}
 use Rattle.prop_hall.specs.Excluder.{FormOf, Related, value_of, others_of, ins_of}
 use Rattle.prop_hall.specs.Excluding.{excluded_of}
-use Rattle.prop_hall.specs.Points.{AreDifferent}
 use Rattle.prop_hall.specs.declared.excluder.Excluder.{Excluder}
 use Rattle.prop_hall.specs.declared.excluder.Excluder.TheVariants.{One, Two, Three, Four, Five, Six}
 use Rattle.prop_hall.specs.declared.excluder.Excluder.TheVariants.{Seven}
@@ -72,8 +71,12 @@ left rule param (y ∷ others) (q ∷ points) point h r =
     by : (t : Bool) → (length others == others_of rule) ≡ t
         → Holds (if t then excluded_of y others else Nothing) point
     by true e =
-        let few : length points < 64 = omega (arith, (hold_all others points h.1).0,
-        eqb-true (length others) (others_of rule) e, others_few rule) in
+        let few : length points < 64 = omega (
+          arith,
+          (hold_all others points h.1).0,
+          eqb-true (length others) (others_of rule) e,
+          others_few rule,
+        ) in
         subst (Holds (excluded_of y others)) (sym r.0)
         (excluded_holds y others q points few h.0 h.1 r.1)
     by false e = tt

@@ -1,6 +1,6 @@
 -- The laws of what different values tell about one more.
-use Rattle.std.specs.Prelude.{◌≡◌, ◌≢◌, ◌⊎◌, ℕ, suc, ◌+◌, ◌<◌, ◌≤◌, ◌^◌, ℤ, pos, neg_ℤ, ◌≤ℤ◌, ◌<ℤ◌, ◌+ℤ◌, ◌-ℤ◌}
-use Rattle.std.specs.Prelude.{int_le, nat_lt, ◌==◌, ◌&&◌, Bool, true, false, if◌then◌else◌, List, [], ◌∷◌, length, map}
+use Rattle.std.specs.Prelude.{◌≡◌, ◌⊎◌, ℕ, suc, ◌<◌, ◌≤◌, ◌^◌, ℤ, pos, ◌≤ℤ◌, ◌<ℤ◌, ◌+ℤ◌, ◌-ℤ◌}
+use Rattle.std.specs.Prelude.{nat_lt, ◌==◌, Bool, true, false, if◌then◌else◌, List, [], ◌∷◌, length, map}
 use Rattle.std.specs.Prelude.{bit_and}
 use Rattle.std.specs.Bool.{Decides}
 use Rattle.std.specs.Int.{bit_at, bit_not, w64}
@@ -12,7 +12,6 @@ use Rattle.std.proofs.lemmas.Int.{ints, by_lt_z}
 use Rattle.std.proofs.lemmas.Nat.{and_le_l}
 use Rattle.std.proofs.lemmas.Nat.Bits.{bit_at_and, bit_at_not, bit_at_above, bit_at-lt}
 use Rattle.prop_intervals.specs.laws.ClipLaws.{span_from_below, span_from_holds, span_from_of_span}
-use Rattle.prop_lattice.specs.Ends.{elements_from, span_from}
 use Rattle.prop_lattice.specs.Order.{Below}
 use Rattle.prop_lattice.specs.Points.{Point, Number, Element, Symbol, Holds}
 use Rattle.prop_lattice.specs.Rank.{IsOf}
@@ -23,13 +22,12 @@ use Rattle.prop_lattice.specs.declared.info.Info.TheVariants.{Contradiction}
 use Rattle.prop_lattice.specs.declared.info.Kind.{Kind}
 use Rattle.prop_lattice.specs.declared.info.Kind.TheVariants as kinds
 use Rattle.prop_lattice.specs.declared.span.Span as spans
-use Rattle.prop_lattice.specs.declared.span.TheConstants.{B}
 use Rattle.prop_lattice.specs.laws.OrderLaws.{info_laws, to_top}
 use Rattle.prop_lattice.specs.laws.PartLaws.{part_left}
 use Rattle.prop_lattice.specs.laws.Parts.{HasBitsOf}
 use Rattle.prop_procedures.specs.Rules.{EachBelow, EachHolds}
 use Rattle.prop_sets.specs.laws.NarrowestLaws.{elements_below, elements_hold, elements_of_kind}
-use Rattle.prop_hall.specs.Excluding.{told, told_by, merge_all, excluded_of}
+use Rattle.prop_hall.specs.Excluding.{told, told_by, excluded_of}
 use Rattle.prop_hall.specs.Hulls.{hull_of, points_in, without_of, first_without, last_without, is_between}
 use Rattle.prop_hall.specs.Points.{AreDifferent, IsNoneOf}
 use Rattle.prop_hall.specs.Selections.{selections}
@@ -153,8 +151,12 @@ others_has : (y h : sets.Elements) (i : ℕ) → bit_at y.bits i ≡ 1 → ¬ (b
 others_has y h i p n = by (cases_lt i 64)
   where
     by : (i < 64) ⊎ (64 ≤ i) → bit_at (others y.bits h.bits) i ≡ 1
-    by (inl low) = grind (arith, bit_at_and y.bits (bit_not w64 h.bits) i,
-        bit_at_not w64 h.bits i h.fits low, bit_at-lt h.bits i)
+    by (inl low) = grind (
+      arith,
+      bit_at_and y.bits (bit_not w64 h.bits) i,
+      bit_at_not w64 h.bits i h.fits low,
+      bit_at-lt h.bits i,
+    )
     by (inr high) = absurd (omega (arith, p, bit_at_above y.bits 64 i y.fits high))
 
 pub others_lacks : (y h : sets.Elements) (i : ℕ) → bit_at (others y.bits h.bits) i ≡ 1
@@ -162,8 +164,13 @@ pub others_lacks : (y h : sets.Elements) (i : ℕ) → bit_at (others y.bits h.b
 others_lacks y h i p q = by (cases_lt i 64)
   where
     by : (i < 64) ⊎ (64 ≤ i) → ⊥
-    by (inl low) = omega (arith, p, q, bit_at_and y.bits (bit_not w64 h.bits) i,
-        bit_at_not w64 h.bits i h.fits low)
+    by (inl low) = omega (
+      arith,
+      p,
+      q,
+      bit_at_and y.bits (bit_not w64 h.bits) i,
+      bit_at_not w64 h.bits i h.fits low,
+    )
     by (inr high) = omega (arith, q, bit_at_above h.bits 64 i h.fits high)
 
 others_fit : (y h : sets.Elements) → others y.bits h.bits < 2 ^ 64
@@ -317,8 +324,8 @@ hold_all (a ∷ infos) (p ∷ ps) h =
       (
         below_holds (hull_of (a ∷ infos)) a p (hull_first a (hull_of infos)) h.0,
         each_weaker (Holds (hull_of infos)) (Holds (hull_of (a ∷ infos)))
-        (λ q. below_holds (hull_of (a ∷ infos)) (hull_of infos) q (hull_second a (hull_of infos)))
-        ps rest.1,
+            (λ q. below_holds (hull_of (a ∷ infos)) (hull_of infos) q (hull_second a (hull_of infos)))
+            ps rest.1,
       ),
     )
 hold_all infos ps h = search rules
@@ -358,7 +365,7 @@ told_each y q [] ts k h d = tt
 told_each y q (s ∷ ss) (t ∷ ts) k h d =
     let all = hold_all s t h.0 in (
       subst (λ n. Holds (told n (hull_of s) y) q) (sym all.0)
-      (told_holds (hull_of s) y q t d.0.0 k all.1 d.0.1),
+          (told_holds (hull_of s) y q t d.0.0 k all.1 d.0.1),
       told_each y q ss ts k h.1 d.1,
     )
 told_each y q (s ∷ ss) [] k h d = absurd h

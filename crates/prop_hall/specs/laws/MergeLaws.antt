@@ -85,8 +85,8 @@ all_above_each y (a ∷ infos) =
     let above = info_laws.least_above a all in (
       above.above_first,
       each_weaker (λ b. Below b all) (λ b. Below b (merge_of a all))
-      (λ b h. info_laws.transitive b all (merge_of a all) h above.above_second) infos
-      (all_above_each y infos),
+          (λ b h. info_laws.transitive b all (merge_of a all) h above.above_second) infos
+          (all_above_each y infos),
     )
 
 pub all_least : (y : Info) (infos : List Info) (r : Info) → Below y r → Each (λ a. Below a r) infos

@@ -1,15 +1,15 @@
 -- Different points of an information are no more than it has.
-use Rattle.std.specs.Prelude.{◌≡◌, ◌≢◌, ◌⊎◌, ℕ, suc, ◌+◌, ◌-◌, ◌<◌, ◌≤◌, ◌^◌, ℤ, pos, ◌-ℤ◌, ◌≤ℤ◌, List, [], ◌∷◌, length, map}
-use Rattle.std.specs.Prelude.{bit_and, count_ones, unsigned_abs}
+use Rattle.std.specs.Prelude.{◌≡◌, ◌≢◌, ◌⊎◌, ℕ, ◌-◌, ◌<◌, ◌≤◌, ◌^◌, ℤ, ◌-ℤ◌, List, [], ◌∷◌, length, map}
+use Rattle.std.specs.Prelude.{count_ones, unsigned_abs}
 use Rattle.std.specs.Int.{bit_at}
 use Rattle.std.specs.Int.Count.{ones-ones}
 use Rattle.std.specs.List.{AllByRecursion as Each}
-use Rattle.std.proofs.Common.{arith, refl, rules, ap, sym, ◌∙◌, inl, inr}
+use Rattle.std.proofs.Common.{arith, rules, ap, sym, ◌∙◌, inl, inr}
 use Rattle.std.proofs.lemmas.Bool.{cases_eq}
 use Rattle.std.proofs.lemmas.Int.{ints}
 use Rattle.std.proofs.lemmas.List.{length-map}
 use Rattle.std.proofs.lemmas.Nat.{pow_pos, and_le_l}
-use Rattle.std.proofs.lemmas.Nat.Bits.{bit_at-lt, bit_at_and, bit_at_xor, bit_at_ones, bit_at-pow_same, bit_at-pow_other}
+use Rattle.std.proofs.lemmas.Nat.Bits.{bit_at-lt, bit_at_xor, bit_at_ones, bit_at-pow_same, bit_at-pow_other}
 use Rattle.std.specs.Int.RustNames.{bit_xor}
 use Rattle.prop_lattice.proofs.PartLemmas.{ones_part, and_from_part}
 use Rattle.prop_lattice.specs.Ends.{numbers_in}
@@ -46,8 +46,12 @@ dropped_lacks word k h = omega (arith, h, bit_at_xor word (2 ^ k) k, bit_at-pow_
 
 dropped_fits : (size word k : ℕ) → word < 2 ^ size → bit_at word k ≡ 1 → dropped word k < 2 ^ size
 dropped_fits size word k fits h =
-    omega (arith, fits, and_le_l word (dropped word k),
-    and_from_part word (dropped word k) (dropped_part word k h))
+    omega (
+      arith,
+      fits,
+      and_le_l word (dropped word k),
+      and_from_part word (dropped word k) (dropped_part word k h),
+    )
 
 -- a word has one bit less without one
 dropped_ones : (size word k : ℕ) → word < 2 ^ size → bit_at word k ≡ 1
@@ -116,8 +120,12 @@ element_place p = 0
 same_number : (s : spans.Span) (p q : Point) → Holds (Span s) p → Holds (Span s) q
     → number_place s.lo p ≡ number_place s.lo q → p ≡ q
 same_number s (Number u) (Number v) h k e =
-    ap Number (omega (arith, ints, size_of (u -ℤ s.lo) (omega (arith, ints)),
-    size_of (v -ℤ s.lo) (omega (arith, ints))))
+    ap Number (omega (
+      arith,
+      ints,
+      size_of (u -ℤ s.lo) (omega (arith, ints)),
+      size_of (v -ℤ s.lo) (omega (arith, ints)),
+    ))
 same_number s p q h k e = search rules
 
 number_lies : (s : spans.Span) (p : Point) → Holds (Span s) p
@@ -157,8 +165,12 @@ no_more_points Nothing ps few h d = omega arith
 no_more_points (Span s) ps few h d =
     let word = 2 ^ numbers_in s - 1 in
     let fits : word < 2 ^ numbers_in s = omega (arith, pow_pos (numbers_in s)) in
-    omega (arith, ones-ones (numbers_in s), in_places (number_place s.lo) (Holds (Span s))
-    (numbers_in s) word fits (same_number s) (number_lies s) ps h d)
+    omega (
+      arith,
+      ones-ones (numbers_in s),
+      in_places (number_place s.lo) (Holds (Span s))
+          (numbers_in s) word fits (same_number s) (number_lies s) ps h d,
+    )
 no_more_points (Set s) ps few h d =
     in_places element_place (Holds (Set s)) 64 s.bits s.fits (same_element s) (element_lies s) ps h d
 no_more_points (Sym a) ps few h d = one_symbol a ps h d

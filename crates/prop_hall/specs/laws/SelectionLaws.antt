@@ -1,5 +1,5 @@
 -- The laws of selections.
-use Rattle.std.specs.Prelude.{◌≢◌, List, [], ◌∷◌, ◌++◌, map}
+use Rattle.std.specs.Prelude.{List, [], ◌∷◌, ◌++◌, map}
 use Rattle.std.specs.List.{AllByRecursion as Each, AllZip}
 use Rattle.std.proofs.Common.{rules}
 use Rattle.prop_lattice.specs.Points.{Point}

@@ -1,5 +1,5 @@
-use Rattle.std.proofs.Common.{length, sym, subst}
-use Rattle.prop_hall.proofs.ExcludeLemmas.{IsMergedSoFar, one_merged, idle_merged, all_merged, count_is}
+use Rattle.std.proofs.Common.{length}
+use Rattle.prop_hall.proofs.ExcludeLemmas.{one_merged, idle_merged, all_merged, count_is}
 use Rattle.prop_hall.proofs.excluding.exclude.Goals.{then-chosen-wide-eq0, else-chosen-wide-eq0}
 use Rattle.prop_hall.proofs.excluding.exclude.Goals as goal
 

@@ -1,5 +1,5 @@
-use Rattle.std.proofs.Common.{◌≡◌, ◌≢◌, ℕ, ◌+◌, ◌/◌, arith, sym, subst, ap}
-use Rattle.prop_hall.proofs.SelectedLemmas.{IsSelectedSoFar, at_start, at_end, with_item, without_item}
+use Rattle.std.proofs.Common.{◌+◌, ◌/◌, arith, sym, subst, ap}
+use Rattle.prop_hall.proofs.SelectedLemmas.{IsSelectedSoFar, with_item, without_item}
 use Rattle.prop_hall.proofs.SelectedLemmas.{odd_from_and, even_from_and}
 use Rattle.prop_hall.specs.declared.excluding.Selection.{Selection}
 use Rattle.prop_hall.proofs.excluding.select.Goals.{then-rest-eq1, else-rest-eq1}
@@ -24,4 +24,3 @@ loop-other-preserved c =
             c.loop-other-test.true (even_from_and c.loop-other.rest w.if-rest-eq1.false) c.loop-other.invariant.so_far);
       }
     ]
-
