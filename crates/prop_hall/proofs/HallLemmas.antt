@@ -1,6 +1,7 @@
 -- Hall's theorem: where each selection of some words has no fewer bits than members, there are different bits, one of
 -- each word.
-use Rattle.std.proofs.Common.{◌≡◌, ◌⊎◌, ℕ, zero, suc, ◌+◌, ◌^◌, ◌<◌, ◌≤◌, Bool, true, false, ◌&&◌, ◌||◌, cond, List, [], ◌∷◌}
+use Rattle.std.proofs.Common.{◌≡◌, ◌⊎◌, ℕ, zero, suc, ◌+◌, ◌^◌, ◌<◌, ◌≤◌, Bool, true, false, ◌&&◌, ◌||◌, cond, List, []}
+use Rattle.std.proofs.Common.{◌∷◌}
 use Rattle.std.proofs.Common.{bit_and, bit_or, arith, ap, sym, subst, refl, ◌∙◌, inl, inr}
 use Rattle.std.specs.Prelude.{count_ones}
 use Rattle.std.specs.Int.{bit_at}
@@ -179,8 +180,10 @@ try (w ∷ ws) n taken = by (try ws n taken) (try ws (n + 1) (bit_or taken w))
         each f = this (f 0)
           where
             this : (s : Bool) → n + (cond s 1 0 + members_of ws (λ i. f (suc i)))
-                ≤ count_ones (bit_or taken (cond s (bit_or w (union_of ws (λ i. f (suc i)))) (union_of ws (λ i. f (suc i)))))
-            this true = omega (arith, with_it (λ i. f (suc i)), ap count_ones (or_more taken w (union_of ws (λ i. f (suc i)))))
+                ≤ count_ones (bit_or taken (cond s (bit_or w (union_of ws (λ i. f (suc i))))
+                (union_of ws (λ i. f (suc i)))))
+            this true =
+                omega (arith, with_it (λ i. f (suc i)), ap count_ones (or_more taken w (union_of ws (λ i. f (suc i)))))
             this false = omega (arith, without (λ i. f (suc i)))
 
 -- ---- tight selections
@@ -332,8 +335,10 @@ cover size taken w ws fits fit roomy (suc k) le = by (cover size taken w ws fits
       ]
     ]
 
-    by_bit : Covered taken w ws k → (bit_at w k ≡ 1) ⊎ (¬ (bit_at w k ≡ 1)) → (bit_at taken k ≡ 1) ⊎ (¬ (bit_at taken k ≡ 1))
-        → Holds (count_ones (bit_or taken (2 ^ k))) (bit_or taken (2 ^ k)) ws ⊎ Fails (count_ones (bit_or taken (2 ^ k))) (bit_or taken (2 ^ k)) ws
+    by_bit : Covered taken w ws k → (bit_at w k ≡ 1) ⊎ (¬ (bit_at w k ≡ 1))
+        → (bit_at taken k ≡ 1) ⊎ (¬ (bit_at taken k ≡ 1))
+        → Holds (count_ones (bit_or taken (2 ^ k))) (bit_or taken (2 ^ k)) ws
+        ⊎ Fails (count_ones (bit_or taken (2 ^ k))) (bit_or taken (2 ^ k)) ws
         → Free taken w ws ⊎ Covered taken w ws (suc k)
     by_bit c (inr lacks) t r = inr (
       c.0,

@@ -77,7 +77,8 @@ hull_with : (s : sets.Elements) (bits : ℕ) → bits < 2 ^ 64
 unfolding elements_from
 hull_with s bits fits = by (some_or_not bits)
   where
-    by : (d : AreSome bits ⊎ ¬ (AreSome bits)) → hull_of_two (Set s) (elements_if bits d) ≡ elements_from (bit_or s.bits bits)
+    by : (d : AreSome bits ⊎ ¬ (AreSome bits))
+        → hull_of_two (Set s) (elements_if bits d) ≡ elements_from (bit_or s.bits bits)
     by (inl e) = refl
     by (inr none) = elim (cases_lt 0 bits) [
       | inl some ↦ absurd (none (some, fits))
@@ -92,11 +93,14 @@ picked_hull : (ss : List sets.Elements) (f : ℕ → Bool)
 picked_hull [] f = sym (elements_from-none 0 (λ some. omega (arith, some.0)))
 picked_hull (s ∷ ss) f = by (f 0) (picked_hull ss (λ i. f (suc i)))
   where
-    by : (t : Bool) → hull_of (picked (map Set ss) (λ i. f (suc i))) ≡ elements_from (union_of (words_of ss) (λ i. f (suc i)))
+    by : (t : Bool)
+        → hull_of (picked (map Set ss) (λ i. f (suc i))) ≡ elements_from (union_of (words_of ss) (λ i. f (suc i)))
         → hull_of (cond t (Set s ∷ picked (map Set ss) (λ i. f (suc i))) (picked (map Set ss) (λ i. f (suc i))))
-        ≡ elements_from (cond t (bit_or s.bits (union_of (words_of ss) (λ i. f (suc i)))) (union_of (words_of ss) (λ i. f (suc i))))
+        ≡ elements_from (cond t (bit_or s.bits (union_of (words_of ss) (λ i. f (suc i))))
+        (union_of (words_of ss) (λ i. f (suc i))))
     by true ih = ap (hull_of_two (Set s)) ih
-        ∙ hull_with s (union_of (words_of ss) (λ i. f (suc i))) (union_fits 64 (words_of ss) (λ i. f (suc i)) (words_fit ss))
+        ∙ hull_with s (union_of (words_of ss) (λ i. f (suc i)))
+        (union_fits 64 (words_of ss) (λ i. f (suc i)) (words_fit ss))
     by false ih = ih
 
 points_are : (bits : ℕ) → bits < 2 ^ 64 → points_in (elements_from bits) ≡ count_ones bits
@@ -112,8 +116,8 @@ points_are bits fits = by (some_or_not bits)
 
 -- ---- what a selection leaves
 
-without_lacks : (y : sets.Elements) (bits j : ℕ) → Holds (without_of (Set y) (elements_from bits)) (Element j) → bits < 2 ^ 64
-    → ¬ (bit_at bits j ≡ 1)
+without_lacks : (y : sets.Elements) (bits j : ℕ) → Holds (without_of (Set y) (elements_from bits)) (Element j)
+    → bits < 2 ^ 64 → ¬ (bit_at bits j ≡ 1)
 unfolding elements_from
 without_lacks y bits j h fits k = by (some_or_not bits) h
   where
@@ -122,7 +126,9 @@ without_lacks y bits j h fits k = by (some_or_not bits) h
         others_lacks y (record { bits = bits; some = e.0; fits = e.1 }) j (bit_from_held (others y.bits bits) j h) k
     by (inr none) h = elim (cases_lt 0 bits) [
       | inl some ↦ none (some, fits)
-      | inr le ↦ (let zeroth : bits ≡ 0 = omega (arith, le) in omega (arith, k, ap (λ n. bit_at n j) zeroth, bit_at-zero j))
+      | inr le ↦ (
+          let zeroth : bits ≡ 0 = omega (arith, le) in
+          omega (arith, k, ap (λ n. bit_at n j) zeroth, bit_at-zero j))
     ]
 
 -- an element that is left is beside a word of its own bit roomy
@@ -145,7 +151,13 @@ roomy_from y j n bits low fits h = by (room (points_in (elements_from bits)) n)
     by (Tight e) =
         let lacks = without_lacks y bits j
         (subst (λ a. Holds a (Element j)) (told_tight n (elements_from bits) (Set y) e) h) fits in
-        omega (arith, e, points_are bits fits, ones_more 64 bits j fits power lacks, ap count_ones (or_comm (2 ^ j) bits))
+        omega (
+          arith,
+          e,
+          points_are bits fits,
+          ones_more 64 bits j fits power lacks,
+          ap count_ones (or_comm (2 ^ j) bits),
+        )
     by (Loose l) = omega (arith, l, points_are bits fits, more)
 
 told_picked : (y : sets.Elements) (ss : List sets.Elements) (j : ℕ)
@@ -191,7 +203,8 @@ left_by_hall y ss j h =
     roomy low f = omega (
       arith,
       ones_one j,
-      roomy_from y j (members_of (words_of ss) f) (union_of (words_of ss) f) low (union_fits 64 (words_of ss) f (words_fit ss))
+      roomy_from y j (members_of (words_of ss) f) (union_of (words_of ss) f) low
+          (union_fits 64 (words_of ss) f (words_fit ss))
           (told_picked y ss j h f),
     )
 

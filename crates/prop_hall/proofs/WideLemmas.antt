@@ -90,7 +90,8 @@ wide_idle others wide w y chosen some =
     let fits : both < 2 ^ 64 = omega (arith, w.fit, and_le_r chosen wide) in
     let first = bit_at-trailing_zeros w64 both (omega (arith, some)) fits in
     let i = trailing_zeros w64 both in
-    let in_wide : bit_at wide i ≡ 1 = omega (arith, first.1, bit_at_and chosen wide i, bit_at-lt chosen i, bit_at-lt wide i) in
+    let in_wide : bit_at wide i ≡ 1 =
+    omega (arith, first.1, bit_at_and chosen wide i, bit_at-lt chosen i, bit_at-lt wide i) in
     let in_chosen : bit_at chosen i ≡ 1 =
     omega (arith, first.1, bit_at_and chosen wide i, bit_at-lt chosen i, bit_at-lt wide i) in
     let item = w.each i in_wide in

@@ -1,5 +1,6 @@
 -- The laws of the rules of excluding.
-use Rattle.std.specs.Prelude.{◌≡◌, ◌<◌, ◌==◌, Bool, true, false, if◌then◌else◌, List, [], ◌∷◌, length}
+use Rattle.std.specs.Prelude.{◌≡◌, ◌<◌, ◌==◌, Bool, true, false, if◌then◌else◌, List, [], ◌∷◌}
+use Rattle.std.specs.Prelude.{length}
 use Rattle.std.proofs.Common.{arith, refl, rules, sym, subst, ap, eqb-true}
 use Rattle.prop_lattice.specs.Order.{Below}
 use Rattle.prop_lattice.specs.Points.{Point, Holds}
@@ -18,7 +19,8 @@ use Rattle.prop_hall.specs.declared.excluder.Excluder.{Excluder}
 use Rattle.prop_hall.specs.declared.excluder.Excluder.TheVariants.{One, Two, Three, Four, Five, Six}
 use Rattle.prop_hall.specs.declared.excluder.Excluder.TheVariants.{Seven}
 use Rattle.prop_hall.specs.laws.HullLaws.{never}
-use Rattle.prop_hall.specs.laws.ExcludingLaws.{excluded_monotone, excluded_kind, excluded_holds, same_length, hold_all}
+use Rattle.prop_hall.specs.laws.ExcludingLaws.{excluded_monotone, excluded_kind, excluded_holds}
+use Rattle.prop_hall.specs.laws.ExcludingLaws.{same_length, hold_all}
 
 pub others_few : (rule : Excluder) → others_of rule < 8
 others_few One = omega arith
@@ -37,7 +39,8 @@ more rule param (y ∷ olds) (y' ∷ news) p =
     (ap (λ n. n == others_of rule) (same_length olds news p.1))
   where
     by : (s t : Bool) → s ≡ t
-        → Below (if s then excluded_of y olds else Nothing) (if t then excluded_of y' news else Nothing)
+        → Below (if s then excluded_of y olds else Nothing)
+        (if t then excluded_of y' news else Nothing)
     by true true e = excluded_monotone y y' olds news p.0 p.1
     by true false e = absurd (never (sym e))
     by false t e = tt
@@ -64,7 +67,8 @@ excluder_keeps_kind rule ins out need f any param args c =
     rw f.1 (of_kind rule param any args (rw f.0 at c.of_kinds))
 
 left : (rule : Excluder) (param : Param) (args : List Info) (points : List Point) (point : Point)
-    → EachHolds args points → Related rule param points point → Holds (value_of rule param args) point
+    → EachHolds args points → Related rule param points point
+    → Holds (value_of rule param args) point
 left rule param (y ∷ others) (q ∷ points) point h r =
     by (length others == others_of rule) refl
   where

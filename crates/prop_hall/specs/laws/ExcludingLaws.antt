@@ -1,6 +1,7 @@
 -- The laws of what different values tell about one more.
 use Rattle.std.specs.Prelude.{◌≡◌, ◌⊎◌, ℕ, suc, ◌<◌, ◌≤◌, ◌^◌, ℤ, pos, ◌≤ℤ◌, ◌<ℤ◌, ◌+ℤ◌, ◌-ℤ◌}
-use Rattle.std.specs.Prelude.{nat_lt, ◌==◌, Bool, true, false, if◌then◌else◌, List, [], ◌∷◌, length, map}
+use Rattle.std.specs.Prelude.{nat_lt, ◌==◌, Bool, true, false, if◌then◌else◌, List, [], ◌∷◌, length}
+use Rattle.std.specs.Prelude.{map}
 use Rattle.std.specs.Prelude.{bit_and}
 use Rattle.std.specs.Bool.{Decides}
 use Rattle.std.specs.Int.{bit_at, bit_not, w64}
@@ -28,14 +29,17 @@ use Rattle.prop_lattice.specs.laws.Parts.{HasBitsOf}
 use Rattle.prop_procedures.specs.Rules.{EachBelow, EachHolds}
 use Rattle.prop_sets.specs.laws.NarrowestLaws.{elements_below, elements_hold, elements_of_kind}
 use Rattle.prop_hall.specs.Excluding.{told, told_by, excluded_of}
-use Rattle.prop_hall.specs.Hulls.{hull_of, points_in, without_of, first_without, last_without, is_between}
+use Rattle.prop_hall.specs.Hulls.{hull_of, points_in, without_of, first_without, last_without}
+use Rattle.prop_hall.specs.Hulls.{is_between}
 use Rattle.prop_hall.specs.Points.{AreDifferent, IsNoneOf}
 use Rattle.prop_hall.specs.Selections.{selections}
-use Rattle.prop_hall.specs.laws.HullLaws.{never, above_span, above_set, below_holds, hull_first, hull_second, hull_below}
+use Rattle.prop_hall.specs.laws.HullLaws.{never, above_span, above_set, below_holds, hull_first}
+use Rattle.prop_hall.specs.laws.HullLaws.{hull_second, hull_below}
 use Rattle.prop_hall.specs.laws.HullLaws.{fewer_points}
 use Rattle.prop_hall.specs.laws.MergeLaws.{all_below, all_hold, all_of_kind}
 use Rattle.prop_hall.specs.laws.PigeonLaws.{no_more_points}
-use Rattle.prop_hall.specs.laws.SelectionLaws.{each_append, each_map, each_weaker, zip_map, selections_below, selections_hold}
+use Rattle.prop_hall.specs.laws.SelectionLaws.{each_append, each_map, each_weaker, zip_map}
+use Rattle.prop_hall.specs.laws.SelectionLaws.{selections_below, selections_hold}
 use Rattle.prop_hall.specs.laws.SelectionLaws.{none_selected, different_selected, each_both}
 
 -- ---- numbers without those of a span
@@ -324,7 +328,8 @@ hold_all (a ∷ infos) (p ∷ ps) h =
       (
         below_holds (hull_of (a ∷ infos)) a p (hull_first a (hull_of infos)) h.0,
         each_weaker (Holds (hull_of infos)) (Holds (hull_of (a ∷ infos)))
-            (λ q. below_holds (hull_of (a ∷ infos)) (hull_of infos) q (hull_second a (hull_of infos)))
+            (λ q. below_holds (hull_of (a ∷ infos)) (hull_of infos) q
+            (hull_second a (hull_of infos)))
             ps rest.1,
       ),
     )

@@ -1,5 +1,6 @@
 -- The laws of hulls: the highest information that both or all say, and how many points it has.
-use Rattle.std.specs.Prelude.{neg_ℤ, ◌⊎◌, ◌≡◌, ℕ, ◌≤◌, ◌<◌, ◌^◌, ℤ, pos, ◌≤ℤ◌, ◌-ℤ◌, ◌+ℤ◌, Bool, true, false}
+use Rattle.std.specs.Prelude.{neg_ℤ, ◌⊎◌, ◌≡◌, ℕ, ◌≤◌, ◌<◌, ◌^◌, ℤ, pos, ◌≤ℤ◌, ◌-ℤ◌, ◌+ℤ◌, Bool}
+use Rattle.std.specs.Prelude.{true, false}
 use Rattle.std.specs.Prelude.{◌==◌, if◌then◌else◌, List, [], ◌∷◌, bit_or, count_ones, unsigned_abs}
 use Rattle.std.specs.Int.{int_max, int_min}
 use Rattle.std.proofs.Common.{inl, inr, arith, refl, rules, ap, sym, subst, ◌∙◌, eqb-true, eq-eqb}

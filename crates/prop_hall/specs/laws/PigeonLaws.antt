@@ -1,5 +1,6 @@
 -- Different points of an information are no more than it has.
-use Rattle.std.specs.Prelude.{◌≡◌, ◌≢◌, ◌⊎◌, ℕ, ◌-◌, ◌<◌, ◌≤◌, ◌^◌, ℤ, ◌-ℤ◌, List, [], ◌∷◌, length, map}
+use Rattle.std.specs.Prelude.{◌≡◌, ◌≢◌, ◌⊎◌, ℕ, ◌-◌, ◌<◌, ◌≤◌, ◌^◌, ℤ, ◌-ℤ◌, List, [], ◌∷◌, length}
+use Rattle.std.specs.Prelude.{map}
 use Rattle.std.specs.Prelude.{count_ones, unsigned_abs}
 use Rattle.std.specs.Int.{bit_at}
 use Rattle.std.specs.Int.Count.{ones-ones}
@@ -9,7 +10,8 @@ use Rattle.std.proofs.lemmas.Bool.{cases_eq}
 use Rattle.std.proofs.lemmas.Int.{ints}
 use Rattle.std.proofs.lemmas.List.{length-map}
 use Rattle.std.proofs.lemmas.Nat.{pow_pos, and_le_l}
-use Rattle.std.proofs.lemmas.Nat.Bits.{bit_at-lt, bit_at_xor, bit_at_ones, bit_at-pow_same, bit_at-pow_other}
+use Rattle.std.proofs.lemmas.Nat.Bits.{bit_at-lt, bit_at_xor, bit_at_ones, bit_at-pow_same}
+use Rattle.std.proofs.lemmas.Nat.Bits.{bit_at-pow_other}
 use Rattle.std.specs.Int.RustNames.{bit_xor}
 use Rattle.prop_lattice.proofs.PartLemmas.{ones_part, and_from_part}
 use Rattle.prop_lattice.specs.Ends.{numbers_in}
@@ -36,10 +38,12 @@ dropped_part word k h i g = by (cases_eq i k)
   where
     by : (i ≡ k) ⊎ (i ≢ k) → bit_at word i ≡ 1
     by (inl same) = ap (bit_at word) same ∙ h
-    by (inr other) = omega (arith, g, bit_at_xor word (2 ^ k) i, bit_at-pow_other k i other, bit_at-lt word i)
+    by (inr other) =
+        omega (arith, g, bit_at_xor word (2 ^ k) i, bit_at-pow_other k i other, bit_at-lt word i)
 
 dropped_has : (word k i : ℕ) → i ≢ k → bit_at word i ≡ 1 → bit_at (dropped word k) i ≡ 1
-dropped_has word k i other h = omega (arith, h, bit_at_xor word (2 ^ k) i, bit_at-pow_other k i other)
+dropped_has word k i other h =
+    omega (arith, h, bit_at_xor word (2 ^ k) i, bit_at-pow_other k i other)
 
 dropped_lacks : (word k : ℕ) → bit_at word k ≡ 1 → bit_at (dropped word k) k ≡ 0
 dropped_lacks word k h = omega (arith, h, bit_at_xor word (2 ^ k) k, bit_at-pow_same k)
@@ -60,10 +64,13 @@ dropped_ones size word k fits h =
     let part = ones_part size word (dropped word k) fits (dropped_part word k h) in
     by (cases_eq (count_ones (dropped word k)) (count_ones word)) part.1 part.0
   where
-    by : (count_ones (dropped word k) ≡ count_ones word) ⊎ (count_ones (dropped word k) ≢ count_ones word)
+    by : (count_ones (dropped word k) ≡ count_ones word)
+        ⊎ (count_ones (dropped word k) ≢ count_ones word)
         → (count_ones (dropped word k) ≡ count_ones word → word ≡ dropped word k)
-        → count_ones (dropped word k) ≤ count_ones word → count_ones (dropped word k) < count_ones word
-    by (inl same) is le = absurd (omega (arith, h, ap (λ n. bit_at n k) (is same), dropped_lacks word k h))
+        → count_ones (dropped word k) ≤ count_ones word
+        → count_ones (dropped word k) < count_ones word
+    by (inl same) is le =
+        absurd (omega (arith, h, ap (λ n. bit_at n k) (is same), dropped_lacks word k h))
     by (inr other) is le = omega (arith, le, other)
 
 each_dropped : (word n : ℕ) (ns : List ℕ) → IsNoneOf n ns → Each (λ m. bit_at word m ≡ 1) ns
@@ -172,6 +179,7 @@ no_more_points (Span s) ps few h d =
           (numbers_in s) word fits (same_number s) (number_lies s) ps h d,
     )
 no_more_points (Set s) ps few h d =
-    in_places element_place (Holds (Set s)) 64 s.bits s.fits (same_element s) (element_lies s) ps h d
+    in_places element_place (Holds (Set s)) 64 s.bits s.fits (same_element s)
+    (element_lies s) ps h d
 no_more_points (Sym a) ps few h d = one_symbol a ps h d
 no_more_points Contradiction ps few h d = none_left ps h

@@ -13,7 +13,8 @@ loop-chosen-preserved c =
           w.told.ensures,
           w.select.ensures.members,
           w.select.ensures.hull,
-        ) (one_merged c.args.y c.args.others.now c.loop-chosen.chosen c.loop-chosen.known c.loop-chosen.invariant.so_far);
+        ) (one_merged c.args.y c.args.others.now c.loop-chosen.chosen c.loop-chosen.known
+            c.loop-chosen.invariant.so_far);
       }
       | else-chosen-wide-eq0 w ↦ record {
         so_far = rw w.known-is (idle_merged c.args.y c.args.others.now c.loop-chosen.chosen c.loop-chosen.known

@@ -10,7 +10,8 @@ loop-other-preserved c =
     elim c.if-rest-eq1.branch [
       | then-rest-eq1 w ↦ record {
         few = omega (arith, ap (λ s. s.members) w.selection-is);
-        so_far = subst (λ (s : Selection). IsSelectedSoFar c.args.others.now c.args.chosen (c.loop-other.other-index + 1)
+        so_far = subst (λ (s : Selection). IsSelectedSoFar c.args.others.now c.args.chosen
+            (c.loop-other.other-index + 1)
             (c.loop-other.rest / 2) s.members s.hull) (sym w.selection-is)
             (rw w.hull-selection.ensures (with_item c.args.others.now c.args.chosen _ c.loop-other.rest _ _
             c.other-item.result c.loop-other-test.true c.other-item.is
@@ -18,7 +19,8 @@ loop-other-preserved c =
       }
       | else-rest-eq1 w ↦ record {
         few = omega (arith, ap (λ s. s.members) w.selection-is);
-        so_far = subst (λ (s : Selection). IsSelectedSoFar c.args.others.now c.args.chosen (c.loop-other.other-index + 1)
+        so_far = subst (λ (s : Selection). IsSelectedSoFar c.args.others.now c.args.chosen
+            (c.loop-other.other-index + 1)
             (c.loop-other.rest / 2) s.members s.hull) (sym w.selection-is)
             (without_item c.args.others.now c.args.chosen _ c.loop-other.rest _ _
             c.loop-other-test.true (even_from_and c.loop-other.rest w.if-rest-eq1.false) c.loop-other.invariant.so_far);
