@@ -6,6 +6,8 @@
 #[cfg(test)]
 mod devices;
 #[cfg(test)]
+mod hall;
+#[cfg(test)]
 mod intervals;
 #[cfg(test)]
 mod lattice;
