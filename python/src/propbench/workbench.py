@@ -1,0 +1,381 @@
+"""A workbench: cells, constraints and premises in Python, and what follows from them.
+
+    from propbench import Workbench
+
+    w = Workbench()
+    days = w.number("days", 0, 60)
+    price = w.number("price", 0, 9000)
+    w.require(price >= 400 * days)
+    w.require(price <= 2000, under="cheap")
+    print(days.ask())                          days = 0..5 because of cheap
+"""
+
+import os
+from collections.abc import Mapping, Iterable, Sequence
+from types import TracebackType
+from typing import TypeVar, overload
+
+from propbench.model.answers import Answer, Conflict, NotSettled
+from propbench.model.cells import Cell, ElementCell, NumberCell, SymbolCell, TruthCell, words_of
+from propbench.model.events import (
+    CellMade,
+    Choice,
+    ConstraintChoice,
+    DomainMade,
+    Event,
+    Required,
+    Told,
+    ValueChoice,
+)
+from propbench.model.expressions import Expression, Truth, node_of, point_of
+from propbench.model.given import Given, alternative_of, values_of
+from propbench.model.kinds import Domain, Kind, Plain, kind_text
+from propbench.model.kit import offered
+from propbench.model.nodes import Declared, Node, cells_in
+from propbench.model.premises import Premises
+from propbench.model.reading import Reader
+from propbench.model.script import Script
+from propbench.model.seam import BenchModel
+from propbench.model.shrinking import shrunk
+from propbench.model.vocabulary import Vocabulary
+from propbench.model.writer import YES
+from propbench.model.writing import text_of
+from propbench.refusals import LimitReached, NotAName, Refused
+from propbench.replies import Contradiction, Reply, Settled, Value, Worldview
+from propbench.session import Session
+
+# What each alternative of a choice states: one constraint or several.
+Stated = Truth | bool | Sequence[Truth | bool]
+MOST_ALTERNATIVES = 8
+SomeCell = TypeVar("SomeCell", bound=Cell)
+
+
+class Workbench:
+    """A network of cells with constraints, some of them under premises, and what follows."""
+
+    def __init__(
+        self,
+        program: str | os.PathLike[str] | None = None,
+        *,
+        order: str = "fifo",
+        seed: int = 0,
+        limit: int | None = None,
+    ) -> None:
+        """Starts the program, found as a `Session` finds it, with its options."""
+        self._session = Session(program, order=order, seed=seed, limit=limit)
+        self._owner = object()
+        self._vocabulary = Vocabulary(self._is_taken_as_name)
+        self._cells: dict[str, Cell] = {}
+        self._domains: dict[str, Domain] = {}
+        self._premises = Premises()
+        self._reader = Reader(self._vocabulary, self._premises)
+        self._events: list[Event] = []
+        self._begin()
+        self._model = BenchModel(
+            self._session,
+            self._vocabulary,
+            self._premises,
+            lambda: self._events,
+            self._base,
+        )
+
+    def __enter__(self) -> "Workbench":
+        return self
+
+    def __exit__(
+        self,
+        kind: type[BaseException] | None,
+        error: BaseException | None,
+        trace: TracebackType | None,
+    ) -> None:
+        self.close()
+
+    def close(self) -> None:
+        """Ends the program. Nothing can be stated or asked after that."""
+        self._session.close()
+
+    @property
+    def session(self) -> Session:
+        """The session that the workbench speaks through."""
+        return self._session
+
+    @property
+    def model(self) -> BenchModel:
+        """The workbench as questions see it, which take many asks."""
+        return self._model
+
+    @property
+    def proved(self) -> bool:
+        """Whether the program is known to be built from proofs."""
+        return self._session.proved
+
+    # --- cells ---
+
+    def number(self, name: str, low: int | None = None, high: int | None = None) -> NumberCell:
+        """A cell for a whole number from `low` to `high`, each of which may be left open."""
+        ends = [end if end is None else point_of(end, Plain.NUMBER) for end in (low, high)]
+        if low is not None and high is not None and low > high:
+            raise ValueError(f"from {low} to {high} there is no number, for {name!r}")
+        least, most = (None if end is None else int(end) for end in ends)
+        return self._added(NumberCell(self._declared(name, Plain.NUMBER, least, most), self))
+
+    def truth(self, name: str) -> TruthCell:
+        """A cell for a truth."""
+        return self._added(TruthCell(self._declared(name, Plain.TRUTH), self))
+
+    def domain(self, name: str, elements: str | Iterable[str]) -> Domain:
+        """A domain of these elements, given in one text with spaces between or one by one."""
+        names = words_of(elements)
+        if not 1 <= len(names) <= 64:
+            raise ValueError(f"a domain has one to 64 elements, and {name!r} {len(names)}")
+        if len(set(names)) < len(names) or name in self._domains:
+            what = f"{name!r} is there" if name in self._domains else "an element stands twice"
+            raise ValueError(f"no domain {name!r} can be made: {what}")
+        made = Domain(name, names)
+        self._do(DomainMade(made))
+        self._domains[name] = made
+        return made
+
+    def element(self, name: str, domain: Domain) -> ElementCell:
+        """A cell for an element of a domain that this workbench has made."""
+        if not isinstance(domain, Domain) or self._domains.get(domain.name) is not domain:
+            raise TypeError(f"{domain!s} is no domain of this workbench: make one by `w.domain`")
+        return self._added(ElementCell(self._declared(name, domain), self))
+
+    def symbol(self, name: str) -> SymbolCell:
+        """A cell for a symbol, which is any name."""
+        return self._added(SymbolCell(self._declared(name, Plain.SYMBOL), self))
+
+    # --- statements ---
+
+    def require(self, constraint: Truth | bool, under: str | None = None) -> None:
+        """States a constraint, always or under a premise.
+
+        While the premise is kicked out the constraint has no effect at all, also where it is false
+        or can't be worked out; while it is believed it tells as much as one that holds always.
+        """
+        if isinstance(constraint, Expression) and not isinstance(constraint, Truth):
+            raise TypeError(f"`{constraint!r}` is {kind_text(constraint.node.kind)}, no constraint")
+        node = node_of(constraint, Plain.TRUTH)
+        self._check_own(node)
+        if under is not None:
+            self._premises.check(under)
+        self._do(Required(node, under))
+
+    def fix(self, cell: Cell, value: Given, high: int | None = None) -> None:
+        """States that a cell has a value, always: a number, or the numbers up to `high`; a truth,
+        a name, or a list of elements of which it is one."""
+        self._do(Told(self._own(cell), values_of(self._own(cell), value, high), None))
+
+    def tell(self, premise: str, cell: Cell, value: Given, high: int | None = None) -> None:
+        """States the same under a premise."""
+        self._premises.check(premise)
+        self._do(Told(self._own(cell), values_of(self._own(cell), value, high), premise))
+
+    # --- premises ---
+
+    @property
+    def premises(self) -> tuple[str, ...]:
+        """The premises, in the order of their first mention."""
+        return tuple(self._premises.believed)
+
+    @property
+    def believed(self) -> tuple[str, ...]:
+        """The premises that are believed."""
+        return tuple(self._premises.in_force)
+
+    def kick(self, premise: str) -> None:
+        """What is stated under the premise does not count from now on."""
+        self._premises.check_known(premise)
+        self._session.send(f"kick {self._vocabulary.premises.line(premise)}")
+        self._premises.believed[premise] = False
+
+    def bring(self, premise: str) -> None:
+        """What is stated under the premise counts again."""
+        self._premises.check_known(premise)
+        self._session.send(f"bring {self._vocabulary.premises.line(premise)}")
+        self._premises.believed[premise] = True
+
+    def forget(self, premise: str) -> None:
+        """What is stated under the premise goes for good, and the premise with it."""
+        self.bring(premise)
+        self._session.send(f"forget {self._vocabulary.premises.line(premise)}")
+        self._premises.forget(premise)
+        self._script.forget(premise)
+        self._events = [
+            event for event in self._events if getattr(event, "premise", None) != premise
+        ]
+
+    # --- choices ---
+
+    @overload
+    def choose(self, name: str, cell: Cell, alternatives: Sequence[object]) -> None:
+        ...
+
+    @overload
+    def choose(self, name: str, cell: Mapping[str, Stated]) -> None:
+        ...
+
+    def choose(
+        self,
+        name: str,
+        cell: Cell | Mapping[str, Stated],
+        alternatives: Sequence[object] | None = None,
+    ) -> None:
+        """Makes a choice between two to eight alternatives, the one to be tried first in front:
+        values of a cell, or, by name, constraints that hold together.
+
+            w.choose("plan", price, [1400, 2000])
+            w.choose("venue", {"hotel": [days == 2, price == 4000], "uni": [days == 5]})
+
+        Answers are those of one plan, the first that fits: choices in the order in which they were
+        made, alternatives as they stand. A pair of numbers is from the one to the other.
+        """
+        self._premises.check_choice(name)
+        given = cell if isinstance(cell, Mapping) else alternatives
+        if given is None or not 2 <= len(given) <= MOST_ALTERNATIVES:
+            count = 0 if given is None else len(given)
+            raise ValueError(
+                f"a choice has two to {MOST_ALTERNATIVES} alternatives, and {name!r} {count}"
+            )
+        event: Choice
+        if isinstance(cell, Mapping):
+            named = [(side, self._constraints(stated)) for side, stated in cell.items()]
+            event = ConstraintChoice(name, tuple(named))
+        else:
+            own = self._own(cell)
+            event = ValueChoice(name, own, tuple(alternative_of(own, each) for each in given))
+        self._do(event)
+        self._premises.choices[name] = event
+
+    # --- questions ---
+
+    def settle(self, *, seconds: float | None = None) -> bool:
+        """Whether all that follows was found, and nothing speaks against it: False at a conflict.
+
+        Raises NotSettled where the run is cut first.
+        """
+        reply = self._session.send("settle", seconds=seconds)
+        if isinstance(reply, (Settled, Contradiction)):
+            return isinstance(reply, Settled)
+        raise NotSettled("the run was cut before it settled: ask again, it goes on from there")
+
+    def answer(
+        self, command: str, cell: Declared, seconds: float | None, over: str | None
+    ) -> Answer:
+        """What follows for a cell: by `why`, or by `core`."""
+        line = f"{command} {self._vocabulary.cells.line(cell.name)}"
+        reply = self._session.send(line, seconds=seconds)
+        if isinstance(reply, Contradiction):
+            raise self._conflict(reply)
+        assert isinstance(reply, Value)
+        return self._reader.answer(cell, reply, self._plan())
+
+    # --- within ---
+
+    def _begin(self) -> None:
+        """Has the program begin with what every network has."""
+        self._script = Script(self._vocabulary, lambda name: name in self._offered)
+        self._session.send_all(self._script.writer.taken())
+        self._offered = offered(self._session, YES)
+
+    def _do(self, event: Event) -> None:
+        """Carries out an event: its lines are sent, or nothing of it is kept."""
+        try:
+            self._session.send_all(self._script.lines_of(event))
+        except BaseException as error:
+            self._begin_anew()
+            if isinstance(error, LimitReached):
+                raise _too_large(error) from None
+            raise
+        self._events.append(event)
+        if isinstance(event, (Required, Told)):
+            self._premises.state(event)
+
+    def _begin_anew(self) -> None:
+        """Has the program begin anew, with all events that are known to be carried out."""
+        self._script = Script(self._vocabulary, lambda name: name in self._offered)
+        lines = self._script.writer.taken()
+        for event in self._events:
+            lines += self._script.lines_of(event)
+        self._session.replay([*lines, *self._kicks()])
+
+    def _base(self) -> list[str]:
+        """The lines that make the network as it is, from nothing."""
+        script = Script(self._vocabulary, lambda name: name in self._offered)
+        lines = script.writer.taken()
+        for event in self._events:
+            lines += script.lines_of(event)
+        return [*lines, *self._kicks()]
+
+    def _kicks(self) -> list[str]:
+        return [
+            f"kick {self._vocabulary.premises.line(name)}"
+            for name, is_believed in self._premises.believed.items()
+            if not is_believed
+        ]
+
+    def _is_taken_as_name(self, name: str) -> bool:
+        """Whether the program takes a word for a name: nothing changes by asking."""
+        try:
+            self._session.send(f"ask {name}")
+        except NotAName:
+            return False
+        except Refused:
+            pass
+        return True
+
+    def _plan(self) -> dict[str, object]:
+        """For each choice what it stands on, where a run has found that."""
+        if not self._premises.choices:
+            return {}
+        [reply] = self._session.look(["worldview"])
+        return self._reader.plan(reply.inside) if isinstance(reply, Worldview) else {}
+
+    def _conflict(self, found: Contradiction) -> Conflict:
+        """The conflict, made small."""
+        names = self._vocabulary.premises
+        believed = [names.line(name) for name in self._premises.in_force]
+        kept = map(names.text, shrunk(self._session, believed, found.premises))
+        says = {name: self._premises.text(name) for name in kept}
+        return Conflict(tuple(says), says)
+
+    def _declared(
+        self, name: str, kind: Kind, low: int | None = None, high: int | None = None
+    ) -> Declared:
+        if not isinstance(name, str) or not name:
+            raise TypeError(f"a cell is named by a text: {name!r}")
+        if name in self._cells:
+            raise ValueError(f"there is a cell of this name: {name!r}")
+        return Declared(name, kind, low, high, self._owner)
+
+    def _added(self, cell: SomeCell) -> SomeCell:
+        self._do(CellMade(cell.declared))
+        self._cells[cell.name] = cell
+        return cell
+
+    def _own(self, cell: object) -> Declared:
+        """The cell, where it is one of this workbench. Raises TypeError and ValueError."""
+        if not isinstance(cell, Cell):
+            hint = f": write `w.require({cell!r} == ..)`" if isinstance(cell, Expression) else ""
+            raise TypeError(f"`{cell!r}` is no cell{hint}")
+        self._check_own(cell.node)
+        return cell.declared
+
+    def _check_own(self, node: Node) -> None:
+        for cell in cells_in(node):
+            if cell.owner is not self._owner:
+                raise ValueError(f"{cell.name!r} is a cell of another workbench")
+
+    def _constraints(self, stated: Stated) -> tuple[Node, ...]:
+        """The constraints of an alternative."""
+        several = [stated] if isinstance(stated, (Truth, bool)) else list(stated)
+        nodes = tuple(node_of(each, Plain.TRUTH) for each in several)
+        for node in nodes:
+            self._check_own(node)
+        return nodes
+
+
+def _too_large(refused: LimitReached) -> ValueError:
+    what = refused.text.rpartition(": ")[2]
+    return ValueError(f"the program has no room for more {what}; nothing of this was stated")
