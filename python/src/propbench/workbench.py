@@ -22,7 +22,6 @@ from propbench.model.events import (
     Choice,
     ConstraintChoice,
     DomainMade,
-    Event,
     Required,
     Told,
     ValueChoice,
@@ -30,18 +29,12 @@ from propbench.model.events import (
 from propbench.model.expressions import Expression, Truth, node_of, point_of
 from propbench.model.given import Given, alternative_of, values_of
 from propbench.model.kinds import Domain, Kind, Plain, kind_text
-from propbench.model.kit import offered
+from propbench.model.network import Network
 from propbench.model.nodes import Declared, Node, cells_in
-from propbench.model.premises import Premises
 from propbench.model.reading import Reader
-from propbench.model.script import Script
 from propbench.model.seam import BenchModel
 from propbench.model.shrinking import shrunk
-from propbench.model.vocabulary import Vocabulary
-from propbench.model.writer import YES
-from propbench.model.writing import text_of
-from propbench.refusals import LimitReached, NotAName, Refused
-from propbench.replies import Contradiction, Reply, Settled, Value, Worldview
+from propbench.replies import Contradiction, Settled, Value, Worldview
 from propbench.session import Session
 
 # What each alternative of a choice states: one constraint or several.
@@ -62,22 +55,13 @@ class Workbench:
         limit: int | None = None,
     ) -> None:
         """Starts the program, found as a `Session` finds it, with its options."""
-        self._session = Session(program, order=order, seed=seed, limit=limit)
+
+        def open_session() -> Session:
+            return Session(program, order=order, seed=seed, limit=limit)
+
         self._owner = object()
-        self._vocabulary = Vocabulary(self._is_taken_as_name)
+        self._network = Network(open_session)
         self._cells: dict[str, Cell] = {}
-        self._domains: dict[str, Domain] = {}
-        self._premises = Premises()
-        self._reader = Reader(self._vocabulary, self._premises)
-        self._events: list[Event] = []
-        self._begin()
-        self._model = BenchModel(
-            self._session,
-            self._vocabulary,
-            self._premises,
-            lambda: self._events,
-            self._base,
-        )
 
     def __enter__(self) -> "Workbench":
         return self
@@ -92,22 +76,22 @@ class Workbench:
 
     def close(self) -> None:
         """Ends the program. Nothing can be stated or asked after that."""
-        self._session.close()
+        self._network.session.close()
 
     @property
     def session(self) -> Session:
         """The session that the workbench speaks through."""
-        return self._session
+        return self._network.session
 
     @property
     def model(self) -> BenchModel:
         """The workbench as questions see it, which take many asks."""
-        return self._model
+        return BenchModel(self._network)
 
     @property
     def proved(self) -> bool:
         """Whether the program is known to be built from proofs."""
-        return self._session.proved
+        return self._network.session.proved
 
     # --- cells ---
 
@@ -128,17 +112,16 @@ class Workbench:
         names = words_of(elements)
         if not 1 <= len(names) <= 64:
             raise ValueError(f"a domain has one to 64 elements, and {name!r} {len(names)}")
-        if len(set(names)) < len(names) or name in self._domains:
-            what = f"{name!r} is there" if name in self._domains else "an element stands twice"
+        if len(set(names)) < len(names) or name in self._network.domains:
+            what = f"{name!r} is there" if name in self._network.domains else "an element stands twice"
             raise ValueError(f"no domain {name!r} can be made: {what}")
         made = Domain(name, names)
-        self._do(DomainMade(made))
-        self._domains[name] = made
-        return made
+        self._network.do(DomainMade(made))
+                return made
 
     def element(self, name: str, domain: Domain) -> ElementCell:
         """A cell for an element of a domain that this workbench has made."""
-        if not isinstance(domain, Domain) or self._domains.get(domain.name) is not domain:
+        if not isinstance(domain, Domain) or self._network.domains.get(domain.name) is not domain:
             raise TypeError(f"{domain!s} is no domain of this workbench: make one by `w.domain`")
         return self._added(ElementCell(self._declared(name, domain), self))
 
@@ -159,52 +142,45 @@ class Workbench:
         node = node_of(constraint, Plain.TRUTH)
         self._check_own(node)
         if under is not None:
-            self._premises.check(under)
-        self._do(Required(node, under))
+            self._network.premises.check(under)
+        self._network.do(Required(node, under))
 
     def fix(self, cell: Cell, value: Given, high: int | None = None) -> None:
         """States that a cell has a value, always: a number, or the numbers up to `high`; a truth,
         a name, or a list of elements of which it is one."""
-        self._do(Told(self._own(cell), values_of(self._own(cell), value, high), None))
+        self._network.do(Told(self._own(cell), values_of(self._own(cell), value, high), None))
 
     def tell(self, premise: str, cell: Cell, value: Given, high: int | None = None) -> None:
         """States the same under a premise."""
-        self._premises.check(premise)
-        self._do(Told(self._own(cell), values_of(self._own(cell), value, high), premise))
+        self._network.premises.check(premise)
+        self._network.do(Told(self._own(cell), values_of(self._own(cell), value, high), premise))
 
     # --- premises ---
 
     @property
     def premises(self) -> tuple[str, ...]:
         """The premises, in the order of their first mention."""
-        return tuple(self._premises.believed)
+        return tuple(self._network.premises.believed)
 
     @property
     def believed(self) -> tuple[str, ...]:
         """The premises that are believed."""
-        return tuple(self._premises.in_force)
+        return tuple(self._network.premises.in_force)
 
     def kick(self, premise: str) -> None:
         """What is stated under the premise does not count from now on."""
-        self._premises.check_known(premise)
-        self._session.send(f"kick {self._vocabulary.premises.line(premise)}")
-        self._premises.believed[premise] = False
+        self._network.premises.check_known(premise)
+        self._network.kick(premise)
 
     def bring(self, premise: str) -> None:
         """What is stated under the premise counts again."""
-        self._premises.check_known(premise)
-        self._session.send(f"bring {self._vocabulary.premises.line(premise)}")
-        self._premises.believed[premise] = True
+        self._network.premises.check_known(premise)
+        self._network.bring(premise)
 
     def forget(self, premise: str) -> None:
         """What is stated under the premise goes for good, and the premise with it."""
-        self.bring(premise)
-        self._session.send(f"forget {self._vocabulary.premises.line(premise)}")
-        self._premises.forget(premise)
-        self._script.forget(premise)
-        self._events = [
-            event for event in self._events if getattr(event, "premise", None) != premise
-        ]
+        self._network.premises.check_known(premise)
+        self._network.forget(premise)
 
     # --- choices ---
 
@@ -231,7 +207,7 @@ class Workbench:
         Answers are those of one plan, the first that fits: choices in the order in which they were
         made, alternatives as they stand. A pair of numbers is from the one to the other.
         """
-        self._premises.check_choice(name)
+        self._network.premises.check_choice(name)
         given = cell if isinstance(cell, Mapping) else alternatives
         if given is None or not 2 <= len(given) <= MOST_ALTERNATIVES:
             count = 0 if given is None else len(given)
@@ -245,8 +221,7 @@ class Workbench:
         else:
             own = self._own(cell)
             event = ValueChoice(name, own, tuple(alternative_of(own, each) for each in given))
-        self._do(event)
-        self._premises.choices[name] = event
+        self._network.do(event)
 
     # --- questions ---
 
@@ -255,7 +230,7 @@ class Workbench:
 
         Raises NotSettled where the run is cut first.
         """
-        reply = self._session.send("settle", seconds=seconds)
+        reply = self.session.send("settle", seconds=seconds)
         if isinstance(reply, (Settled, Contradiction)):
             return isinstance(reply, Settled)
         raise NotSettled("the run was cut before it settled: ask again, it goes on from there")
@@ -264,80 +239,43 @@ class Workbench:
         self, command: str, cell: Declared, seconds: float | None, over: str | None
     ) -> Answer:
         """What follows for a cell: by `why`, or by `core`."""
-        line = f"{command} {self._vocabulary.cells.line(cell.name)}"
-        reply = self._session.send(line, seconds=seconds)
+        line = f"{command} {self._network.vocabulary.cells.line(cell.name)}"
+        reply = self.session.send(line, seconds=seconds)
         if isinstance(reply, Contradiction):
             raise self._conflict(reply)
         assert isinstance(reply, Value)
-        return self._reader.answer(cell, reply, self._plan())
+        return self._reader().answer(cell, reply, self._plan())
 
     # --- within ---
 
-    def _begin(self) -> None:
-        """Has the program begin with what every network has."""
-        self._script = Script(self._vocabulary, lambda name: name in self._offered)
-        self._session.send_all(self._script.writer.taken())
-        self._offered = offered(self._session, YES)
+    def _set_aside(self) -> Network:
+        """Has a copy of the network, in a session of its own, stand in its place; gives the one
+        that is to be put back."""
+        kept = self._network
+        self._network = kept.copy()
+        return kept
 
-    def _do(self, event: Event) -> None:
-        """Carries out an event: its lines are sent, or nothing of it is kept."""
-        try:
-            self._session.send_all(self._script.lines_of(event))
-        except BaseException as error:
-            self._begin_anew()
-            if isinstance(error, LimitReached):
-                raise _too_large(error) from None
-            raise
-        self._events.append(event)
-        if isinstance(event, (Required, Told)):
-            self._premises.state(event)
+    def _put_back(self, kept: Network) -> None:
+        """Ends the copy, and puts back the network that it stood for."""
+        self._network.session.close()
+        self._network = kept
 
-    def _begin_anew(self) -> None:
-        """Has the program begin anew, with all events that are known to be carried out."""
-        self._script = Script(self._vocabulary, lambda name: name in self._offered)
-        lines = self._script.writer.taken()
-        for event in self._events:
-            lines += self._script.lines_of(event)
-        self._session.replay([*lines, *self._kicks()])
-
-    def _base(self) -> list[str]:
-        """The lines that make the network as it is, from nothing."""
-        script = Script(self._vocabulary, lambda name: name in self._offered)
-        lines = script.writer.taken()
-        for event in self._events:
-            lines += script.lines_of(event)
-        return [*lines, *self._kicks()]
-
-    def _kicks(self) -> list[str]:
-        return [
-            f"kick {self._vocabulary.premises.line(name)}"
-            for name, is_believed in self._premises.believed.items()
-            if not is_believed
-        ]
-
-    def _is_taken_as_name(self, name: str) -> bool:
-        """Whether the program takes a word for a name: nothing changes by asking."""
-        try:
-            self._session.send(f"ask {name}")
-        except NotAName:
-            return False
-        except Refused:
-            pass
-        return True
+    def _reader(self) -> Reader:
+        return Reader(self._network.vocabulary, self._network.premises)
 
     def _plan(self) -> dict[str, object]:
         """For each choice what it stands on, where a run has found that."""
-        if not self._premises.choices:
+        if not self._network.premises.choices:
             return {}
-        [reply] = self._session.look(["worldview"])
-        return self._reader.plan(reply.inside) if isinstance(reply, Worldview) else {}
+        [reply] = self.session.look(["worldview"])
+        return self._reader().plan(reply.inside) if isinstance(reply, Worldview) else {}
 
     def _conflict(self, found: Contradiction) -> Conflict:
         """The conflict, made small."""
-        names = self._vocabulary.premises
-        believed = [names.line(name) for name in self._premises.in_force]
-        kept = map(names.text, shrunk(self._session, believed, found.premises))
-        says = {name: self._premises.text(name) for name in kept}
+        names = self._network.vocabulary.premises
+        believed = [names.line(name) for name in self._network.premises.in_force]
+        kept = map(names.text, shrunk(self.session, believed, found.premises))
+        says = {name: self._network.premises.text(name) for name in kept}
         return Conflict(tuple(says), says)
 
     def _declared(
@@ -345,12 +283,12 @@ class Workbench:
     ) -> Declared:
         if not isinstance(name, str) or not name:
             raise TypeError(f"a cell is named by a text: {name!r}")
-        if name in self._cells:
+        if name in self._network.cells:
             raise ValueError(f"there is a cell of this name: {name!r}")
         return Declared(name, kind, low, high, self._owner)
 
     def _added(self, cell: SomeCell) -> SomeCell:
-        self._do(CellMade(cell.declared))
+        self._network.do(CellMade(cell.declared))
         self._cells[cell.name] = cell
         return cell
 
@@ -374,8 +312,3 @@ class Workbench:
         for node in nodes:
             self._check_own(node)
         return nodes
-
-
-def _too_large(refused: LimitReached) -> ValueError:
-    what = refused.text.rpartition(": ")[2]
-    return ValueError(f"the program has no room for more {what}; nothing of this was stated")

@@ -15,7 +15,7 @@ from propbench.model.nodes import Node
 class Context:
     """Where constraints hold. `gate` is the truth's name on a line, `yes` there while they do;
     `premise` is the one on whose lines may be told here, "" where these are to be fixed, and None
-    where neither can be: there a constant comes in by the gate."""
+    where neither can be: there a constant comes in by the gate, which may also be `no`."""
 
     gate: str
     premise: str | None
@@ -23,7 +23,8 @@ class Context:
     # The cell of each expression that has one here, and what was stated to hold.
     cells: dict[Node, str] = field(default_factory=dict)
     stated: set[Node] = field(default_factory=set)
-    # The cell that is `no` while the gate is open, once one is needed.
+    # Cells that are `yes` and `no` while the gate is open and else not known, once they are needed.
+    opened: str = ""
     closed: str = ""
 
     @property

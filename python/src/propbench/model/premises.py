@@ -12,6 +12,13 @@ class Premises:
         self.choices: dict[str, Choice] = {}
         self.statements: dict[str, list[Statement]] = {}
 
+    def copy(self) -> "Premises":
+        """The same, which changes by itself."""
+        made = Premises()
+        made.believed, made.choices = dict(self.believed), dict(self.choices)
+        made.statements = {name: list(stated) for name, stated in self.statements.items()}
+        return made
+
     def check(self, name: str) -> None:
         """Raises ValueError where something can't be stated under this name."""
         if not isinstance(name, str):

@@ -47,11 +47,13 @@ class Translation:
         elif core.op is Op.CELL or core in context.cells:
             self._narrow(core, "yes", context)
         elif core.op is Op.OR:
-            self._truths.any_into(core, context.gate, context)
-            self._is_known(core, context.gate, context)
+            opened = self.writer.opened(context)
+            self._truths.any_into(core, opened, context)
+            self._is_known(core, opened, context)
         elif core.op is Op.RAW:
             self._state_comparison(core.args[0], context)
-            self._is_known(core, context.gate, context)
+            if not _is_told_whole(core.args[0]):
+                self._is_known(core, self.writer.opened(context), context)
 
     def deny(self, truth: Node, context: Context) -> None:
         """Writes the lines by which a truth doesn't hold while the context does."""
@@ -70,8 +72,8 @@ class Translation:
             self._is_known(core, self.writer.closed(context), context)
         elif core.op is Op.RAW:
             self._deny_comparison(core.args[0], context)
-            if context.closed:
-                self._is_known(core, context.closed, context)
+            if context.closed or not _is_told_whole(core.args[0]):
+                self._is_known(core, self.writer.closed(context), context)
 
     def cell_of(self, each: Node, context: Context) -> str:
         """The cell of an expression in a context, made where there is none yet."""
@@ -163,7 +165,7 @@ class Translation:
             self._truths.link(each, True, context)
         elif each.op is Op.LESS:
             if not self._compared_with_constant(each, True, context):
-                self._attach("less", each, context.gate, context)
+                self._attach("less", each, self.writer.opened(context), context)
         else:
             self._state_equal(each.args[0], each.args[1], context)
 
@@ -236,3 +238,9 @@ class Translation:
             self._narrow(each, self.vocabulary.some(kept, domain), context)
         else:
             self.state(FALSE, context)
+
+
+def _is_told_whole(comparison: Node) -> bool:
+    """Whether what is compared tells all of the comparison, once that is stated."""
+    is_with_constant = any(arg.op is Op.CONSTANT for arg in comparison.args)
+    return comparison.op is Op.AMONG or (is_with_constant and comparison.op in (Op.LESS, Op.EQUAL))

@@ -94,14 +94,19 @@ class Writer:
         else:
             self.attach("same", outside, inside)
 
+    def opened(self, context: Context) -> str:
+        """A truth that is `yes` while the context holds, and else not known: what holds there. (A
+        gate may be `no`, and what it is the truth of would not hold then.)"""
+        if not context.opened:
+            context.opened = context.gate
+            if context.premise is None:
+                context.opened = self.constant(True, Plain.TRUTH, context)
+        return context.opened
+
     def closed(self, context: Context) -> str:
-        """A truth that is `no` while the context holds."""
+        """A truth that is `no` while the context holds, and else not known."""
         if not context.closed:
-            if context.is_gated:
-                context.closed = self.new_cell(Plain.TRUTH)
-                self.attach("inverter", context.gate, context.closed)
-            else:
-                context.closed = self.fixed(Plain.TRUTH, "no")
+            context.closed = self.constant(False, Plain.TRUTH, context)
         return context.closed
 
     def relation(self, first: Domain, second: Domain, pairs: Iterable[tuple[str, str]]) -> str:
