@@ -112,12 +112,13 @@ class Workbench:
         names = words_of(elements)
         if not 1 <= len(names) <= 64:
             raise ValueError(f"a domain has one to 64 elements, and {name!r} {len(names)}")
-        if len(set(names)) < len(names) or name in self._network.domains:
-            what = f"{name!r} is there" if name in self._network.domains else "an element stands twice"
+        is_there = name in self._network.domains
+        if is_there or len(set(names)) < len(names):
+            what = "there is one" if is_there else "an element stands twice"
             raise ValueError(f"no domain {name!r} can be made: {what}")
         made = Domain(name, names)
         self._network.do(DomainMade(made))
-                return made
+        return made
 
     def element(self, name: str, domain: Domain) -> ElementCell:
         """A cell for an element of a domain that this workbench has made."""
