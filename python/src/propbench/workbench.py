@@ -32,8 +32,12 @@ from propbench.model.kinds import Domain, Kind, Plain, kind_text
 from propbench.model.network import Network
 from propbench.model.nodes import Declared, Node, cells_in
 from propbench.model.reading import Reader
+from propbench.model.saving import read, saved
 from propbench.model.seam import BenchModel
 from propbench.model.shrinking import shrunk
+from propbench.model.tabling import Table
+from propbench.nearby import near_names
+from propbench.overview import UNPROVED
 from propbench.replies import Contradiction, Settled, Value, Worldview
 from propbench.session import Session
 
@@ -129,6 +133,19 @@ class Workbench:
     def symbol(self, name: str) -> SymbolCell:
         """A cell for a symbol, which is any name."""
         return self._added(SymbolCell(self._declared(name, Plain.SYMBOL), self))
+
+    def cell(self, name: str) -> Cell:
+        """The cell of this name. Raises ValueError where there is none."""
+        if name not in self._network.cells:
+            near = near_names(name, self._network.cells)
+            hint = f" Did you mean {' or '.join(map(repr, near))}?" if near else ""
+            raise ValueError(f"no cell is called {name!r}.{hint}")
+        return self._cells[name]
+
+    @property
+    def cells(self) -> tuple[Cell, ...]:
+        """The cells, in the order in which they were made."""
+        return tuple(self._cells[name] for name in self._network.cells)
 
     # --- statements ---
 
@@ -247,6 +264,68 @@ class Workbench:
         assert isinstance(reply, Value)
         return self._reader().answer(cell, reply, self._plan())
 
+    def table(self, *cells: Cell, seconds: float | None = None) -> Table:
+        """What follows for these cells, of all where none is given, as a table.
+
+        Raises Conflict where what is believed can't all hold.
+        """
+        declared = [self._own(cell) for cell in cells] or list(self._network.cells.values())
+        reply = self.session.send("settle", seconds=seconds)
+        if isinstance(reply, Contradiction):
+            raise self._conflict(reply)
+        names = self._network.vocabulary.cells
+        replies = self.session.look([f"why {names.line(cell.name)}" for cell in declared])
+        choices, read = self._plan(), self._reader()
+        answers = tuple(
+            read.answer(cell, reply, choices)
+            for cell, reply in zip(declared, replies)
+            if isinstance(reply, Value)
+        )
+        return Table(answers, choices, () if self.proved else (UNPROVED,))
+
+    def show(self, *cells: Cell) -> None:
+        """Prints what follows for these cells, or for all; at a conflict, what can't all hold."""
+        print(self._shown(*cells))
+
+    def _repr_html_(self) -> str:
+        shown = self._shown()
+        return shown if isinstance(shown, str) else shown._repr_html_()
+
+    def _shown(self, *cells: Cell) -> Table | str:
+        try:
+            return self.table(*cells)
+        except Conflict as conflict:
+            return f"CONFLICT: {conflict}"
+
+    # --- files ---
+
+    def save(self, path: str | os.PathLike[str]) -> None:
+        """Writes the workbench to a file: a session of the language, whose comments tell what its
+        lines are for."""
+        with open(path, "w", encoding="utf-8") as file:
+            file.writelines(f"{line}\n" for line in saved(self._network))
+
+    @classmethod
+    def load(
+        cls, path: str | os.PathLike[str], program: str | os.PathLike[str] | None = None
+    ) -> "Workbench":
+        """The workbench of a file that `save` has written; `cell` gives its cells by name.
+
+        Raises NotAWorkbench, a ValueError, where the file is none, or its lines were changed.
+        """
+        with open(path, encoding="utf-8") as file:
+            lines = file.read().split("\n")
+        made = cls(program)
+        events, kicked = read([line for line in lines if line], made._owner)
+        for event in events:
+            if isinstance(event, CellMade):
+                made._added(_cell_of(event.cell, made))
+            else:
+                made._network.do(event)
+        for premise in kicked:
+            made.kick(premise)
+        return made
+
     # --- within ---
 
     def _set_aside(self) -> Network:
@@ -313,3 +392,11 @@ class Workbench:
         for node in nodes:
             self._check_own(node)
         return nodes
+
+
+def _cell_of(declared: Declared, workbench: Workbench) -> Cell:
+    """The cell that was declared so, by its kind."""
+    if isinstance(declared.kind, Domain):
+        return ElementCell(declared, workbench)
+    classes = {Plain.NUMBER: NumberCell, Plain.TRUTH: TruthCell, Plain.SYMBOL: SymbolCell}
+    return classes[declared.kind](declared, workbench)

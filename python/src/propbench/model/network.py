@@ -38,7 +38,7 @@ class Network:
         self.domains: dict[str, Domain] = {}
         self.offered: frozenset[str] = frozenset()
         self._base: list[str] | None = None
-        self._script = self._new_script()
+        self._script = self.new_script()
         self.session.send_all(self._script.writer.taken())
         self.offered = offered(self.session, YES)
 
@@ -100,20 +100,20 @@ class Network:
         """The lines that make the network as it is: a fresh session that is sent these is in the
         state of this one."""
         if self._base is None:
-            script = self._new_script()
+            script = self.new_script()
             lines = script.writer.taken()
             for event in self.events:
                 lines += script.lines_of(event)
-            self._base = [*lines, *self._kicks()]
+            self._base = [*lines, *self.kicks()]
         return list(self._base)
 
     def begin_anew(self) -> None:
         """Has the program begin anew, with what is known to be carried out."""
-        self._script = self._new_script()
+        self._script = self.new_script()
         lines = self._script.writer.taken()
         for event in self.events:
             lines += self._script.lines_of(event)
-        self.session.replay([*lines, *self._kicks()])
+        self.session.replay([*lines, *self.kicks()])
 
     def _believe(self, premise: str, is_believed: bool) -> None:
         command = "bring" if is_believed else "kick"
@@ -121,10 +121,12 @@ class Network:
         self.premises.believed[premise] = is_believed
         self._base = None
 
-    def _new_script(self) -> Script:
+    def new_script(self) -> Script:
+        """A script that begins from nothing."""
         return Script(self.vocabulary, lambda name: name in self.offered)
 
-    def _kicks(self) -> list[str]:
+    def kicks(self) -> list[str]:
+        """The lines that kick out what isn't believed."""
         names = self.vocabulary.premises
         return [
             f"kick {names.line(name)}"
