@@ -16,6 +16,7 @@ from types import TracebackType
 from typing import TypeVar, overload
 
 from propbench.model.answers import Answer, Conflict, NotSettled
+from propbench.model.blaming import always, beyond
 from propbench.model.cells import Cell, ElementCell, NumberCell, SymbolCell, TruthCell, words_of
 from propbench.model.events import (
     CellMade,
@@ -297,6 +298,17 @@ class Workbench:
         except Conflict as conflict:
             return f"CONFLICT: {conflict}"
 
+    def lines(self, constraint: Truth) -> list[str]:
+        """The lines of the language that state a constraint, with those that make the cells in
+        them which have no name of yours. Raises ValueError for one that was not required.
+
+        A line may rest on what stands elsewhere: where `z == x + y` holds, `z` is that sum.
+        """
+        found = self._network.lines_of(node_of(constraint, Plain.TRUTH))
+        if not found:
+            raise ValueError(f"`{constraint!r}` was not required")
+        return found
+
     # --- files ---
 
     def save(self, path: str | os.PathLike[str]) -> None:
@@ -356,7 +368,10 @@ class Workbench:
         believed = [names.line(name) for name in self._network.premises.in_force]
         kept = map(names.text, shrunk(self.session, believed, found.premises))
         says = {name: self._network.premises.text(name) for name in kept}
-        return Conflict(tuple(says), says)
+        notes = beyond(self._network, list(says))
+        if not says:
+            notes += [f"not all of this: {'; '.join(texts)}" for texts in [always(self._network)]]
+        return Conflict(tuple(says), says, tuple(notes))
 
     def _declared(
         self, name: str, kind: Kind, low: int | None = None, high: int | None = None

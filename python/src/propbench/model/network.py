@@ -3,7 +3,7 @@
 An event is carried out whole or not at all. A copy has a session of its own.
 """
 
-from collections.abc import Callable
+from collections.abc import Callable, Sequence
 
 from propbench.model.events import (
     CellMade,
@@ -16,7 +16,7 @@ from propbench.model.events import (
 )
 from propbench.model.kinds import Domain
 from propbench.model.kit import offered
-from propbench.model.nodes import Declared
+from propbench.model.nodes import Declared, Node
 from propbench.model.premises import Premises
 from propbench.model.script import Script
 from propbench.model.vocabulary import Vocabulary
@@ -42,13 +42,14 @@ class Network:
         self.session.send_all(self._script.writer.taken())
         self.offered = offered(self.session, YES)
 
-    def copy(self) -> "Network":
-        """The same in a session of its own."""
+    def copy(self, events: Sequence[Event] | None = None) -> "Network":
+        """The same in a session of its own; with other events where these are given."""
         made = Network(self._open_session)
         made.vocabulary, made.offered = self.vocabulary, self.offered
-        made.premises = self.premises.copy()
-        made.events = list(self.events)
         made.cells, made.domains = dict(self.cells), dict(self.domains)
+        if events is None:
+            made.premises = self.premises.copy()
+        made.events = list(self.events if events is None else events)
         made.begin_anew()
         return made
 
@@ -106,6 +107,14 @@ class Network:
                 lines += script.lines_of(event)
             self._base = [*lines, *self.kicks()]
         return list(self._base)
+
+    def lines_of(self, constraint: Node) -> list[str]:
+        """The lines that state a constraint, wherever it was required; none where it wasn't."""
+        lines: dict[str, None] = {}
+        for event in self.events:
+            if isinstance(event, Required) and event.constraint is constraint:
+                lines.update(dict.fromkeys(self._script.explained(event)))
+        return list(lines)
 
     def begin_anew(self) -> None:
         """Has the program begin anew, with what is known to be carried out."""

@@ -80,9 +80,10 @@ class Numbers:
         """The cell of the first few of a sum, before which that of one less is there."""
         if part not in context.cells:
             added = self._all.cell_of(part.args[-1], context)
+            since = self._writer.position
             cell = self._writer.new_cell(Plain.NUMBER)
             self._writer.attach("sum", before, added, cell)
-            context.cells[part] = cell
+            context.cells[part] = self._writer.made(cell, since)
             self._all.join(part, cell, context)
         return context.cells[part]
 
@@ -231,8 +232,10 @@ class Numbers:
         self._writer.attach("sum", part, context.cells[remainder], held)
         for each in (quotient, remainder):
             self._writer.between(context.cells[each], *range_of(each), context)
-        for truth in _remainder_fits(remainder, right):
-            self._all.state(truth, context)
+        # (of a constant divisor that says it all)
+        if right.op is not Op.CONSTANT:
+            for truth in _remainder_fits(remainder, right):
+                self._all.state(truth, context)
 
 
 def _bit_of(truth: Node) -> Node:

@@ -1,46 +1,68 @@
-"""Between which numbers an expression lies, whatever is told: by what its cells were declared as.
+"""Between which numbers an expression lies, where it is known of its cells.
 
-Worked out once a node and shared. A range may be wider than what is possible, never narrower.
+A range may be wider than what is possible, never narrower.
 """
 
 from collections.abc import Callable
 from weakref import WeakKeyDictionary
 
 from propbench.model.kinds import MOST
-from propbench.model.nodes import Node, Op
+from propbench.model.nodes import Declared, Node, Op
 
 Range = tuple[int, int]
 ALL: Range = (-MOST, MOST)
-_found: "WeakKeyDictionary[Node, Range]" = WeakKeyDictionary()
+
+
+class Ranges:
+    """Ranges of expressions over cells of which it is known between which numbers they lie."""
+
+    def __init__(self, of_cell: Callable[[Declared], Range]) -> None:
+        self._of_cell = of_cell
+        self._found: "WeakKeyDictionary[Node, Range]" = WeakKeyDictionary()
+
+    def of(self, node: Node) -> Range:
+        """The least and the greatest number that an expression may be, cut off at 10^18."""
+        low, high = self.uncut(node)
+        return _cut(low), _cut(high)
+
+    def uncut(self, node: Node) -> Range:
+        """The same of one operation, as if numbers had no end: both may lie beyond 10^18."""
+        found = self._found.get(node)
+        if found is None:
+            found = self._found[node] = self._range(node)
+        return found
+
+    def _range(self, node: Node) -> Range:
+        if node.op is Op.CELL:
+            return self._of_cell(node.declared)
+        if node.op is Op.CONSTANT:
+            return int(node.constant), int(node.constant)
+        if node.op is Op.TABLE:
+            numbers = [int(str(each)) for each in node.entries]
+            return min(numbers), max(numbers)
+        if node.op in (Op.BIT, Op.COUNT):
+            return 0, len(node.args)
+        if node.op is Op.IF:
+            return _hull([self.of(arg) for arg in node.args[1:]])
+        return _RANGES[node.op]([self.of(arg) for arg in node.args])
+
+
+def declared_range(cell: Declared) -> Range:
+    """Between which numbers a cell lies, by what it was declared as."""
+    return (-MOST if cell.low is None else cell.low, MOST if cell.high is None else cell.high)
+
+
+# By what the cells were declared as.
+_ALWAYS = Ranges(declared_range)
 
 
 def range_of(node: Node) -> Range:
-    """The least and the greatest number that the expression may be, cut off at 10^18."""
-    found = _found.get(node)
-    if found is None:
-        low, high = _range(node)
-        found = _found[node] = (_cut(low), _cut(high))
-    return found
+    """The least and the greatest number that an expression may be, whatever is told."""
+    return _ALWAYS.of(node)
 
 
 def _cut(number: int) -> int:
     return min(max(number, -MOST), MOST)
-
-
-def _range(node: Node) -> Range:
-    if node.op is Op.CELL:
-        low, high = node.declared.low, node.declared.high
-        return (-MOST if low is None else low, MOST if high is None else high)
-    if node.op is Op.CONSTANT:
-        return int(node.constant), int(node.constant)
-    if node.op is Op.TABLE:
-        numbers = [int(str(each)) for each in node.entries]
-        return min(numbers), max(numbers)
-    if node.op in (Op.BIT, Op.COUNT):
-        return 0, len(node.args)
-    if node.op is Op.IF:
-        return _hull([range_of(arg) for arg in node.args[1:]])
-    return _RANGES[node.op]([range_of(arg) for arg in node.args])
 
 
 def _hull(ranges: list[Range]) -> Range:

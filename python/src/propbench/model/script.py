@@ -29,9 +29,11 @@ class Script:
         self.translation = Translation(self.writer)
         self._premises: dict[str, Context] = {}
         self._alternatives: dict[int, Domain] = {}
+        self._places: dict[Event, tuple[int, int]] = {}
 
     def lines_of(self, event: Event) -> list[str]:
         """The lines that say what the event does; before those of the first, some for all."""
+        first = self.writer.position
         if isinstance(event, DomainMade):
             names = self.vocabulary.elements(event.domain)
             elements = " ".join(map(names.line, event.domain.elements))
@@ -47,7 +49,12 @@ class Script:
             self._choose_value(event)
         else:
             self._choose_constraints(event)
+        self._places[event] = (first, self.writer.position)
         return self.writer.taken()
+
+    def explained(self, event: Event) -> list[str]:
+        """The lines of an event that was carried out, with all that they need of earlier ones."""
+        return self.writer.with_what_they_need(*self._places[event])
 
     def forget(self, premise: str) -> None:
         """Takes in that all that was told under a premise is gone, its gates with it."""
@@ -69,8 +76,10 @@ class Script:
         """Where the constraints under a premise hold."""
         if premise not in self._premises:
             name = self.vocabulary.premises.line(premise)
+            since = self.writer.position
             gate = self.writer.new_cell(Plain.TRUTH)
             self.writer.line(f"tell {name} {gate} yes")
+            self.writer.made(gate, since)
             self._premises[premise] = Context(gate, name, self.writer.root)
         return self._premises[premise]
 
@@ -105,7 +114,7 @@ class Script:
         if count not in self._alternatives:
             elements = tuple(f"a{number}" for number in range(1, count + 1))
             made = self._alternatives[count] = self.vocabulary.own_domain(f"_of{count}", elements)
-            self.writer.line(f"domain {made.name} {' '.join(elements)}")
+            self.writer.own_domain(made)
         return self._alternatives[count]
 
     def _written(self, cell: Declared, values: Values) -> str:

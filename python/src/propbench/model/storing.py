@@ -24,8 +24,8 @@ from propbench.model.nodes import Declared, Node, Op, cell, constant, node
 # A comment begins so, and goes on so where a line is too short for it.
 BEGINS, GOES_ON = "#: ", "#+ "
 _LONGEST = 4000
-# What JSON gives: the parts of an event are read by what stands there.
-Told_ = Mapping[str, Any]
+# What JSON gives: its parts are read by what stands there.
+Record = Mapping[str, Any]
 
 
 def comments(event: Mapping[str, object]) -> Iterator[str]:
@@ -89,7 +89,7 @@ class Records:
     cells: dict[str, Declared] = field(default_factory=dict)
     domains: dict[str, Domain] = field(default_factory=dict)
 
-    def event(self, record: Told_) -> Event:
+    def event(self, record: Record) -> Event:
         """The event that a record is. Raises KeyError, TypeError or ValueError for what is none."""
         if "domain" in record:
             made = Domain(record["domain"], tuple(record["elements"]))
@@ -106,7 +106,7 @@ class Records:
         self.cells[declared.name] = declared
         return CellMade(declared)
 
-    def _declared(self, record: Told_) -> Declared:
+    def _declared(self, record: Record) -> Declared:
         if "element" in record:
             kind: Kind = self.domains[record["domain_of"]]
             return Declared(record["element"], kind, None, None, self.owner)
@@ -116,9 +116,9 @@ class Records:
         [(plain, name)] = record.items()
         return Declared(name, Plain(plain), None, None, self.owner)
 
-    def _choice(self, record: Told_) -> ValueChoice | ConstraintChoice:
+    def _choice(self, record: Record) -> ValueChoice | ConstraintChoice:
         if "of" in record:
-            alternatives = tuple(map(tuple, record["values"]))
+            alternatives = tuple(tuple(values) for values in record["values"])
             return ValueChoice(record["choose"], self.cells[record["of"]], alternatives)
         sides = tuple(
             (side, tuple(self._node(each) for each in nodes)) for side, nodes in record["sides"]

@@ -78,7 +78,10 @@ class Translation:
     def cell_of(self, each: Node, context: Context) -> str:
         """The cell of an expression in a context, made where there is none yet."""
         if each not in context.cells:
+            since = self.writer.position
             self._make(each, context)
+            if self.writer.position > since:
+                self.writer.made(context.cells[each], since)
         return context.cells[each]
 
     def define(self, each: Node, context: Context, cell: str) -> None:
@@ -100,10 +103,11 @@ class Translation:
     def bring_in(self, each: Node, context: Context) -> str:
         """The context's copy of a cell that the context around it has."""
         assert context.outer
+        since = self.writer.position
         copy = self.writer.new_cell(each.kind)
         self.writer.link(self.cell_of(each, context.outer), copy, context)
         context.cells[each] = context.cells[in_core(each)] = copy
-        return copy
+        return self.writer.made(copy, since)
 
     def join(self, each: Node, cell: str, context: Context) -> None:
         """Has the cells of one expression in several contexts hold the same while they hold."""

@@ -74,9 +74,10 @@ class Truths:
                 return
             part = node(each.op, each.args[:count])
             if part not in context.cells:
+                since = self._writer.position
                 made = self._writer.new_cell(Plain.TRUTH)
                 self._writer.attach(procedure, before, added, made)
-                context.cells[part] = made
+                context.cells[part] = self._writer.made(made, since)
                 self._all.join(part, made, context)
             before = context.cells[part]
 

@@ -1,13 +1,14 @@
 """Lines for the program: cells that a user never sees, constants, gates, and what is stated.
 
-A writer knows what stands on the lines so far. What it writes for the next statement is taken from
-it by `taken`.
+A writer knows what stands on the lines so far, and which of them make which cell. What it writes
+for the next statement is taken from it by `taken`.
 """
 
 from collections.abc import Callable, Iterable
 
 from propbench.model.context import Context
 from propbench.model.kinds import MOST, Domain, Kind, Plain, Point
+from propbench.model.naming import INNER
 from propbench.model.vocabulary import SIDES, Vocabulary
 
 YES = "_yes"
@@ -21,19 +22,44 @@ class Writer:
         self.vocabulary = vocabulary
         self.offers = offers
         self.root = Context(YES, "")
-        self._lines = [f"cell {YES} truth", f"fix {YES} yes"]
+        self._log = [f"cell {YES} truth", f"fix {YES} yes"]
+        self._taken = 0
+        # For each cell that a user never sees the lines by which it is made: from one to another.
+        self._made: dict[str, tuple[int, int]] = {YES: (0, 2)}
         self._count = 0
         self._constants: dict[tuple[str, str], str] = {}
         self._relations: dict[object, str] = {}
 
+    @property
+    def position(self) -> int:
+        """How many lines were written so far."""
+        return len(self._log)
+
     def taken(self) -> list[str]:
         """The lines that were written since the last call."""
-        lines, self._lines = self._lines, []
+        lines, self._taken = self._log[self._taken :], len(self._log)
         return lines
 
     def line(self, text: str) -> None:
         """Writes a line."""
-        self._lines.append(text)
+        self._log.append(text)
+
+    def made(self, cell: str, since: int) -> str:
+        """Takes in that the lines from a position on are those that make a cell."""
+        if cell.startswith(INNER):
+            self._made[cell] = (since, len(self._log))
+        return cell
+
+    def with_what_they_need(self, first: int, last: int) -> list[str]:
+        """The lines from one position to another, and all that make the cells in them which a user
+        never sees."""
+        wanted, waiting = set(range(first, last)), list(range(first, last))
+        while waiting:
+            for word in self._log[waiting.pop()].split():
+                fresh = set(range(*self._made.get(word, (0, 0)))) - wanted
+                wanted |= fresh
+                waiting += fresh
+        return [self._log[place] for place in sorted(wanted)]
 
     def attach(self, procedure: str, *cells: str, by: str = "") -> None:
         """Puts a procedure or compound between cells."""
@@ -55,9 +81,10 @@ class Writer:
         if (words, text) == ("truth", "yes"):
             return YES
         if (words, text) not in self._constants:
+            since = self.position
             cell = self._new_cell(words)
             self.line(f"fix {cell} {text}")
-            self._constants[words, text] = cell
+            self._constants[words, text] = self.made(cell, since)
         return self._constants[words, text]
 
     def constant(self, value: Point, kind: Kind, context: Context) -> str:
@@ -68,9 +95,10 @@ class Writer:
             if kind is SIDES:
                 self._declare_sides()
             return self.fixed(kind, text)
+        since = self.position
         cell = self.new_cell(kind)
         self.narrow(cell, text, kind, context)
-        return cell
+        return self.made(cell, since)
 
     def narrow(self, cell: str, text: str, kind: Kind, context: Context) -> None:
         """States that a cell has a value, as written, while the context holds."""
@@ -129,19 +157,25 @@ class Writer:
             for right in second.elements
             if (left, right) in pairs
         )
-        name = self.new_name()
+        name, since = self.new_name(), self.position
         self.line(f"relation {name} {names.domain(first)} {names.domain(second)} = {written}")
-        return name
+        return self.made(name, since)
+
+    def own_domain(self, domain: Domain) -> None:
+        """Declares a domain that a user never sees."""
+        since = self.position
+        self.line(f"domain {domain.name} {' '.join(domain.elements)}")
+        self.made(domain.name, since)
 
     def _declare_sides(self) -> None:
         if SIDES not in self._relations:
             self._relations[SIDES] = SIDES.name
-            self.line(f"domain {SIDES.name} {' '.join(SIDES.elements)}")
+            self.own_domain(SIDES)
 
     def _new_cell(self, words: str) -> str:
-        name = self.new_name()
+        name, since = self.new_name(), self.position
         self.line(f"cell {name} {words}")
-        return name
+        return self.made(name, since)
 
 
 def span_text(low: int, high: int) -> str:
