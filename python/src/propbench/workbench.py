@@ -230,9 +230,7 @@ class Workbench:
         given = cell if isinstance(cell, Mapping) else alternatives
         if given is None or not 2 <= len(given) <= MOST_ALTERNATIVES:
             count = 0 if given is None else len(given)
-            raise ValueError(
-                f"a choice has two to {MOST_ALTERNATIVES} alternatives, and {name!r} {count}"
-            )
+            raise ValueError(f"a choice has two to eight alternatives, and {name!r} has {count}")
         event: Choice
         if isinstance(cell, Mapping):
             named = [(side, self._constraints(stated)) for side, stated in cell.items()]
@@ -258,6 +256,10 @@ class Workbench:
         self, command: str, cell: Declared, seconds: float | None, over: str | None
     ) -> Answer:
         """What follows for a cell: by `why`, or by `core`."""
+        if over is not None:
+            if over != "all plans":
+                raise ValueError(f'an answer may be over="all plans", and not over={over!r}')
+            raise NotImplementedError
         line = f"{command} {self._network.vocabulary.cells.line(cell.name)}"
         reply = self.session.send(line, seconds=seconds)
         if isinstance(reply, Contradiction):
@@ -299,10 +301,12 @@ class Workbench:
             return f"CONFLICT: {conflict}"
 
     def lines(self, constraint: Truth) -> list[str]:
-        """The lines of the language that state a constraint, with those that make the cells in
-        them which have no name of yours. Raises ValueError for one that was not required.
+        """The lines of the language that state a constraint, where it was required.
 
-        A line may rest on what stands elsewhere: where `z == x + y` holds, `z` is that sum.
+        With them stand those that make the cells in them which have no name of yours. Raises
+        ValueError for one that was not required.
+
+        Lines may rest on other constraints: where `z == x + y` holds, `z` stands for that sum.
         """
         found = self._network.lines_of(node_of(constraint, Plain.TRUTH))
         if not found:
@@ -312,8 +316,9 @@ class Workbench:
     # --- files ---
 
     def save(self, path: str | os.PathLike[str]) -> None:
-        """Writes the workbench to a file: a session of the language, whose comments tell what its
-        lines are for."""
+        """Writes the workbench to a file.
+
+        It is a session of the language, whose comments tell what its lines are for."""
         with open(path, "w", encoding="utf-8") as file:
             file.writelines(f"{line}\n" for line in saved(self._network))
 
@@ -327,8 +332,10 @@ class Workbench:
         """
         with open(path, encoding="utf-8") as file:
             lines = file.read().split("\n")
+        owner = object()
+        events, kicked = read(lines, owner)
         made = cls(program)
-        events, kicked = read([line for line in lines if line], made._owner)
+        made._owner = owner
         for event in events:
             if isinstance(event, CellMade):
                 made._added(_cell_of(event.cell, made))
