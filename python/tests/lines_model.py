@@ -91,6 +91,17 @@ class LineModel(Questions):
     def literal(self, cell: str, value: Point) -> str:
         return TRUTHS[value] if isinstance(value, bool) else str(value)
 
+    def point(self, cell: str, text: str) -> Point:
+        kind = self.kinds[cell]
+        return int(text) if kind == "span" else text == "yes" if kind == "truth" else text
+
+    def held(self, plan: Mapping[str, Point]) -> Sequence[str]:
+        return [
+            premise
+            for premise in self.premises()
+            if all(allows(each, plan) for each in self.told.premises[premise])
+        ]
+
     def violated(self, plan: Mapping[str, Point], believed: Sequence[str]) -> str | None:
         told = self.told
         for premise in ("", *believed):

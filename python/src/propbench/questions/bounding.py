@@ -69,7 +69,7 @@ class Bounding:
         self._sign = 1 if sort == LEAST else -1
         self._low = room.low if sort == LEAST else -room.high
         self._best: int | None = None
-        self.plan: Plan | None = None
+        self.fits: Fits | None = None
         self.proved = False
         self.tree: Fork | None = None
 
@@ -93,14 +93,14 @@ class Bounding:
         if isinstance(first, Cannot):
             self.proved, self.tree = True, first.tree
         if isinstance(first, Fits):
-            self._find(first.plan)
+            self._find(first)
         while self._best is not None and not self.proved and self._close_in(self._best):
             continue
 
-    def _find(self, plan: Plan) -> None:
-        value = plan[self.cell]
+    def _find(self, fits: Fits) -> None:
+        value = fits.plan[self.cell]
         assert isinstance(value, int)
-        self._best, self.plan = self._sign * value, plan
+        self._best, self.fits = self._sign * value, fits
         self.proved = self._best == -MOST
         self.trial.clock.tell(f"{self.cell}: {value} found, {self.bound} is the bound")
 
@@ -109,7 +109,7 @@ class Bounding:
         most = best - 1 if best <= self._low else (self._low + best - 1) // 2
         outcome = self.trial.decide(self.premises, [(self.cell, self.beyond(most))])
         if isinstance(outcome, Fits):
-            self._find(outcome.plan)
+            self._find(outcome)
         elif isinstance(outcome, Cannot):
             self._low, self.tree = most + 1, outcome.tree
             self.proved = self._low == best
@@ -119,12 +119,12 @@ class Bounding:
         """Adds what shows the bounds to the evidence, and gives the claim; None where nothing is
         known."""
         given = evidence.lines_of(self.premises)
-        if self.plan is None:
+        if self.fits is None:
             if not self.proved:
                 return None
             evidence.add_tree(self.premises, [], self.tree)
             return "fails", {"given": given, "told": []}
-        evidence.add_plan(self.premises, self.plan)
+        evidence.add_plan(self.premises, self.fits)
         cell = evidence.cells[self.cell]
         if self.bound is None:
             return "fits", {"given": given, "told": [[cell, str(self.value)]]}
@@ -138,9 +138,8 @@ class Bounding:
         evidence = Evidence.of(self.trial)
         claim = self.show(evidence)
         certificate = evidence.certificate([claim]) if claim else None
-        return Optimum(
-            self.cell, self.sort, self.value, self.plan, self.bound, self.proved, certificate
-        )
+        plan = self.fits.plan if self.fits else None
+        return Optimum(self.cell, self.sort, self.value, plan, self.bound, self.proved, certificate)
 
 
 def find_optimum(

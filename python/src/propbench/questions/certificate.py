@@ -9,9 +9,8 @@ from dataclasses import dataclass, field
 from propbench.finding import find_program
 from propbench.questions import checker
 from propbench.questions.checker import CertificateError
-from propbench.questions.model import Model, Plan
-from propbench.questions.outcomes import Fork
-from propbench.questions.rooms import written
+from propbench.questions.model import Model
+from propbench.questions.outcomes import Fits, Fork
 from propbench.questions.trial import Trial
 from propbench.words import is_silent
 
@@ -101,13 +100,10 @@ class Evidence:
         """The names of premises on lines, as the checker wants them."""
         return sorted(self.premises[premise] for premise in premises)
 
-    def values(self, plan: Plan) -> dict[str, str]:
-        """A plan as lines say it."""
-        return {self.cells[cell]: written(point) for cell, point in plan.items()}
-
-    def add_plan(self, premises: Iterable[str], plan: Plan) -> None:
+    def add_plan(self, premises: Iterable[str], fits: Fits) -> None:
         """Adds a plan in which these premises hold."""
-        made: dict[str, object] = {"in": self.lines_of(premises), "values": self.values(plan)}
+        values = on_lines(self.cells, fits)
+        made: dict[str, object] = {"in": self.lines_of(premises), "values": values}
         if made not in self.plans:
             self.plans.append(made)
 
@@ -131,6 +127,11 @@ class Evidence:
         }
         lines = [checker.HEAD, json.dumps(claims), json.dumps(evidence), *self.base]
         return Certificate((*lines, hashlib.sha256("\n".join(lines).encode()).hexdigest()))
+
+
+def on_lines(cells: Mapping[str, str], fits: Fits) -> dict[str, str]:
+    """A plan as lines say it, by the names of cells on them."""
+    return {cells[cell]: value for cell, value in fits.values.items()}
 
 
 def as_json(tree: Fork | None) -> Tree:

@@ -186,7 +186,7 @@ def _certificate(explored: Exploring, outs: Sequence[int], are_conflicts: bool) 
     needed += [explored.all & ~hit for hit in (explored.repairs if explored.complete else outs)]
     for mask in needed:
         kept = next(kept for kept in explored.plans if kept.mask & mask == mask)
-        evidence.add_plan(explored.names(kept.mask), kept.plan)
+        evidence.add_plan(explored.names(kept.mask), kept.fits)
 
     def claim(sets: Sequence[int], is_all: bool) -> tuple[str, dict[str, object]]:
         said: dict[str, object] = {

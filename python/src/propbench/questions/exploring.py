@@ -9,7 +9,6 @@ from collections.abc import Mapping, Sequence
 from dataclasses import dataclass
 
 from propbench.questions.hitting import Hitting, bits_of
-from propbench.questions.model import Plan
 from propbench.questions.outcomes import Cannot, Fits, Fork, Open
 from propbench.questions.trial import Case, Trial
 
@@ -19,7 +18,7 @@ class Kept:
     """A plan, and the premises that hold in it, as bits."""
 
     mask: int
-    plan: Plan
+    fits: Fits
 
 
 @dataclass(frozen=True)
@@ -94,15 +93,11 @@ class Exploring:
         if isinstance(outcome, Cannot):
             return Refuted(self.mask(self.trial.named(outcome)), outcome.tree, False)
         if isinstance(outcome, Fits):
-            self.plans.append(Kept(self._holding(outcome.plan, mask), outcome.plan))
+            held = set(self.trial.model.held(outcome.plan))
+            holding = self.mask([premise for premise in self.premises if premise in held])
+            self.plans.append(Kept(mask | holding, outcome))
             return self.plans[-1]
         return outcome
-
-    def _holding(self, plan: Plan, mask: int) -> int:
-        """The premises that hold in a plan in which these do."""
-        violated = self.trial.model.violated
-        others = bits_of(self.all & ~mask)
-        return mask | sum(bit for bit in others if violated(plan, self.names(bit)) is None)
 
     def shrunk(self, refuted: Refuted) -> Refuted:
         """A least conflict among these premises."""

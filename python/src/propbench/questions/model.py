@@ -7,6 +7,7 @@ from propbench.session import Session
 
 # A value told for one of the user's cells: a number, a name, or whether a truth holds.
 Point = int | str | bool
+# Points by the names of cells.
 Plan = dict[str, Point]
 
 
@@ -47,10 +48,18 @@ class Model(Protocol):
         """How this value is written on a line for `tell`, `fix`, `choose`."""
         ...
 
+    def point(self, cell: str, text: str) -> Point:
+        """The value of the cell that is written so on a line."""
+        ...
+
     def violated(self, plan: Mapping[str, Point], believed: Sequence[str]) -> str | None:
         """The text of a constraint (always, or under one of these premises) that does not hold at
         these points in exact whole numbers, or None where all hold. Statements that are told under
         these premises count too, and each choice as one of its sides."""
+        ...
+
+    def held(self, plan: Mapping[str, Point]) -> Sequence[str]:
+        """The premises of which all that is stated holds at these points."""
         ...
 
     def text(self, premise: str) -> str:

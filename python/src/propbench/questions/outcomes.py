@@ -15,9 +15,11 @@ class Fork:
 
 @dataclass(frozen=True)
 class Fits:
-    """A plan in points, each constraint of which was evaluated."""
+    """A plan in points, at which each constraint was evaluated; `values` are these points as lines
+    say them."""
 
     plan: Plan
+    values: dict[str, str]
 
 
 @dataclass(frozen=True)

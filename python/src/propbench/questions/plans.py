@@ -3,11 +3,11 @@
 from collections.abc import Iterable, Sequence
 
 from propbench.questions.asking import CellLike, answered, cell_named
-from propbench.questions.certificate import Certificate, Evidence, Tree, as_json
+from propbench.questions.certificate import Certificate, Evidence, Tree, as_json, on_lines
 from propbench.questions.clock import Clock, Progress
 from propbench.questions.model import Model, Plan
 from propbench.questions.outcomes import Cannot, Fits, Open, Outcome
-from propbench.questions.rooms import Names, Room, around, written
+from propbench.questions.rooms import Names, Room, around
 from propbench.questions.shown import NOT_REFUTED, Shown
 from propbench.questions.trial import Case, Trial
 
@@ -48,8 +48,7 @@ class Listing:
             if trial.rooms[cell] is None:
                 raise ValueError(f"{cell} is for symbols, and these are too many to go through")
         self.trial, self.show, self.most = trial, list(show), most
-        self.evidence = Evidence.of(trial)
-        self.found: list[Plan] = []
+        self.found: list[Fits] = []
         self.tree: Tree = _OPEN
         self.complete = False
 
@@ -75,9 +74,9 @@ class Listing:
         cell = next((cell for cell in self.show if len(rooms[cell]) > 1), None)
         if cell is not None:
             return [self.trial.cell_line[cell], self._cases(told, cell, outcome)]
-        self.found.append({shown: outcome.plan[shown] for shown in self.show})
+        self.found.append(outcome)
         self.trial.clock.tell(f"{len(self.found)} plans so far")
-        return self.evidence.values(outcome.plan)
+        return on_lines(self.trial.cell_line, outcome)
 
     def _cases(self, told: tuple[Case, ...], cell: str, first: Fits) -> list[list[object]]:
         """The values of a cell, each with its tree, and what lies between; one plan is known."""
@@ -88,35 +87,34 @@ class Listing:
             within = (*told, (cell, part))
             outcome = known or self._within(within)
             if isinstance(outcome, Fits) and len(part) > 1:
-                point = outcome.plan[cell]
-                for each in reversed(around(part, point)):
-                    waiting.append((each, outcome if str(each) == written(point) else None))
+                value = outcome.values[cell]
+                for each in reversed(around(part, value)):
+                    waiting.append((each, outcome if str(each) == value else None))
             else:
                 cases.append([str(part), self._tree(within, outcome)])
         return cases
 
     def result(self) -> Plans:
         """The plans that were found, in order."""
+        evidence = Evidence.of(self.trial)
         claim: dict[str, object] = {
-            "given": self.evidence.lines_of(self.trial.basis),
+            "given": evidence.lines_of(self.trial.basis),
             "show": [self.trial.cell_line[cell] for cell in self.show],
-            "plans": [[written(point) for point in plan.values()] for plan in self.found],
+            "plans": [[fits.values[cell] for cell in self.show] for fits in self.found],
             "tree": self.tree,
             "complete": self.complete,
         }
-        certificate = self.evidence.certificate([("plans_are", claim)])
-        return Plans(self.show, sorted(self.found, key=self._place), self.complete, certificate)
+        certificate = evidence.certificate([("plans_are", claim)])
+        found = sorted(self.found, key=self._place)
+        shown = ({cell: fits.plan[cell] for cell in self.show} for fits in found)
+        return Plans(self.show, shown, self.complete, certificate)
 
-    def _place(self, plan: Plan) -> list[int]:
+    def _place(self, fits: Fits) -> list[int]:
         """What plans are ordered by: each number, or the place of each name in its domain."""
         places = []
-        for cell, point in plan.items():
-            room = self.trial.rooms[cell]
-            if isinstance(room, Names):
-                places.append(room.names.index(written(point)))
-            else:
-                assert isinstance(point, int)
-                places.append(point)
+        for cell in self.show:
+            room, value = self.trial.rooms[cell], fits.values[cell]
+            places.append(room.names.index(value) if isinstance(room, Names) else int(value))
         return places
 
 

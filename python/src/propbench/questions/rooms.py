@@ -7,7 +7,6 @@ from collections.abc import Sequence
 from dataclasses import dataclass
 
 from propbench.questions.checker import MOST, SIDES
-from propbench.questions.model import Point
 from propbench.values import Elements, Held, Span, Symbol
 
 # A number with more values than this is not chosen digit by digit, but halved.
@@ -43,14 +42,13 @@ class Names:
 
 Room = Numbers | Names
 ALL_NUMBERS = Numbers(-MOST, MOST)
-TRUTHS = ("no", "yes")
 
 
-def whole_room(candidates: range | Sequence[str] | None, kind: str) -> Room | None:
+def whole_room(elements: Sequence[str] | None, kind: str) -> Room | None:
     """All values that a cell of this kind may have; None for a symbol."""
     if kind == "span":
         return ALL_NUMBERS
-    return None if kind == "symbol" or candidates is None else Names(tuple(map(str, candidates)))
+    return None if kind == "symbol" or elements is None else Names(tuple(elements))
 
 
 def room_left(held: Held, whole: Room | None) -> Room | None:
@@ -60,20 +58,12 @@ def room_left(held: Held, whole: Room | None) -> Room | None:
     return Names(held.names) if isinstance(held, Elements) else whole
 
 
-def point_in(held: Held) -> Point | None:
-    """The one value that a reply leaves, None where there are more."""
-    if isinstance(held, Span):
-        return held.low if held.low == held.high else None
-    if isinstance(held, Symbol):
-        return held.name
-    if isinstance(held, Elements) and len(held.names) == 1:
-        return held.names[0] == "yes" if held.names[0] in TRUTHS else held.names[0]
-    return None
-
-
-def written(point: Point) -> str:
-    """A point as a line says it."""
-    return TRUTHS[point] if isinstance(point, bool) else str(point)
+def single(held: Held) -> str | None:
+    """The one value that a reply leaves, as a line says it; None where there are more."""
+    is_open = isinstance(held, Span) and held.low != held.high
+    if is_open or isinstance(held, Elements) and len(held.names) > 1:
+        return None
+    return str(held) if isinstance(held, Span | Elements | Symbol) else None
 
 
 def choices_in(room: Room) -> list[list[str]] | None:
@@ -106,11 +96,10 @@ def halves(room: Room, held: Room) -> list[Room]:
     return [Names(first), Names(tuple(name for name in room.names if name not in first))]
 
 
-def around(room: Room, point: Point) -> list[Room]:
+def around(room: Room, value: str) -> list[Room]:
     """The room in parts: one value of it, and what lies below and above, or beside."""
     if isinstance(room, Names):
-        name = written(point)
-        return [Names((name,)), Names(tuple(other for other in room.names if other != name))]
-    assert isinstance(point, int)
+        return [Names((value,)), Names(tuple(name for name in room.names if name != value))]
+    point = int(value)
     parts = [Numbers(point, point), Numbers(room.low, point - 1), Numbers(point + 1, room.high)]
     return [part for part in parts if part.low <= part.high]

@@ -10,7 +10,7 @@ from types import TracebackType
 
 from propbench.questions.checker import digits
 from propbench.questions.clock import Clock
-from propbench.questions.model import Model, Plan
+from propbench.questions.model import Model
 from propbench.questions.outcomes import Cannot, Fits, Fork, Open, Outcome
 from propbench.questions.rooms import (
     Numbers,
@@ -19,8 +19,8 @@ from propbench.questions.rooms import (
     choices_in,
     digits_of,
     halves,
-    point_in,
     room_left,
+    single,
     whole_room,
 )
 from propbench.replies import Contradiction, Reply, Settled, Unsettled, Value
@@ -109,9 +109,15 @@ class Trial:
         self.whole: dict[str, Room | None] = {}
         self.rooms: dict[str, Room | None] = {}
         for cell, reply in zip(self.cells, replies[end - len(asked) : end]):
-            whole = whole_room(self.model.candidates(cell), kinds[self.cell_line[cell]])
+            kind = kinds[self.cell_line[cell]]
+            whole = whole_room(None if kind == "span" else self._elements(cell), kind)
             self.whole[cell] = whole
             self.rooms[cell] = room_left(_held_in(reply), whole)
+
+    def _elements(self, cell: str) -> list[str] | None:
+        """The names of a cell's elements on lines, None for a symbol."""
+        elements = self.model.candidates(cell)
+        return None if elements is None else [self.model.literal(cell, each) for each in elements]
 
     def decide(self, premises: Iterable[str], told: Sequence[Case] = ()) -> Outcome:
         """Whether there is a plan with these premises, within what is supposed."""
@@ -129,18 +135,22 @@ class Trial:
             if not isinstance(reply, Settled):
                 return Open("there was no time for more")
             held = self._held()
-            plan = _plan_in(held)
-            if plan is not None:
+            loose = [cell for cell in self.cells if single(held[cell]) is None]
+            if not loose:
                 break
-            loose = [cell for cell in self.cells if point_in(held[cell]) is None]
             if not self._cover_one(loose):
                 corner = self._corner(premises, told, held)
-                if corner is not None:
-                    return Fits(corner)
-                return self._fork(premises, told, self._halved(loose, held, told))
-        if self.model.violated(plan, premises) is None:
-            return Fits(plan)
-        return self._fork(premises, told, self._beside(plan, told))
+                return corner or self._fork(premises, told, self._halved(loose, held, told))
+        fits = self._fits(premises, held)
+        return fits or self._fork(premises, told, self._beside(held, told))
+
+    def _fits(self, premises: Sequence[str], held: dict[str, Held]) -> Fits | None:
+        """The plan of what is left for each cell, where that is one value each and all holds."""
+        values = {cell: value for cell in self.cells if (value := single(held[cell])) is not None}
+        if len(values) < len(self.cells):
+            return None
+        plan = {cell: self.model.point(cell, value) for cell, value in values.items()}
+        return None if self.model.violated(plan, premises) else Fits(plan, values)
 
     def _settle(self, premises: Iterable[str], told: Iterable[Case], *more: str) -> Reply:
         """What `settle` is answered with these premises alone and what is supposed."""
@@ -188,21 +198,18 @@ class Trial:
 
     def _corner(
         self, premises: Sequence[str], told: Sequence[Case], held: dict[str, Held]
-    ) -> Plan | None:
+    ) -> Fits | None:
         """A plan of the lowest values that are left, where that is one."""
         lines = [f"forget {self._corners}"] if self._has_corner else []
         for number, cell in enumerate(self.cells):
-            if point_in(held[cell]) is None:
+            if single(held[cell]) is None:
                 low = _lowest(held[cell], self.whole[cell]) or f"{self.mark}any{number}"
                 lines.append(f"tell {self._corners} {self.cell_line[cell]} {low}")
         lines += [] if not self._has_corner else [f"bring {self._corners}"]
         self._has_corner = True
         reply = self._settle(premises, told, *lines)
         self._inside.add(self._corners)
-        plan = _plan_in(self._held()) if isinstance(reply, Settled) else None
-        if plan is not None and self.model.violated(plan, premises) is None:
-            return plan
-        return None
+        return self._fits(premises, self._held()) if isinstance(reply, Settled) else None
 
     def _cover_one(self, loose: Sequence[str]) -> bool:
         """Makes choices that cover one more of these cells, the smallest; whether that was done."""
@@ -249,11 +256,11 @@ class Trial:
         cell = small[0][1]
         return cell, halves(known[cell], rooms[cell] or known[cell])
 
-    def _beside(self, plan: Plan, told: Sequence[Case]) -> tuple[str, list[Room]] | None:
-        """A cell in its value of a plan and what lies beside, None where no cell has other values."""
+    def _beside(self, held: dict[str, Held], told: Sequence[Case]) -> tuple[str, list[Room]] | None:
+        """A cell in the value that is left and what lies beside, None where no cell has others."""
         for cell, room in self.known(told).items():
             if len(room) > 1:
-                return cell, around(room, plan[cell])
+                return cell, around(room, str(held[cell]))
         return None
 
     def _fork(
@@ -288,17 +295,6 @@ class Trial:
 
 def _held_in(reply: Reply) -> Held:
     return reply.value if isinstance(reply, Value) else Nothing()
-
-
-def _plan_in(held: dict[str, Held]) -> Plan | None:
-    """The points that are left, where each cell has but one."""
-    plan = {}
-    for cell, each in held.items():
-        point = point_in(each)
-        if point is None:
-            return None
-        plan[cell] = point
-    return plan
 
 
 def _lowest(held: Held, whole: Room | None) -> str | None:
