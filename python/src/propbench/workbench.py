@@ -39,6 +39,7 @@ from propbench.model.shrinking import shrunk
 from propbench.model.tabling import Table
 from propbench.nearby import near_names
 from propbench.overview import UNPROVED
+from propbench.questions import Questions
 from propbench.replies import Contradiction, Settled, Value, Worldview
 from propbench.session import Session
 
@@ -48,7 +49,7 @@ MOST_ALTERNATIVES = 8
 SomeCell = TypeVar("SomeCell", bound=Cell)
 
 
-class Workbench:
+class Workbench(Questions):
     """A network of cells with constraints, some of them under premises, and what follows."""
 
     def __init__(

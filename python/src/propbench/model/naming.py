@@ -35,6 +35,10 @@ class Names:
         """What a user calls what has this name on a line."""
         return self._texts[line]
 
+    def has(self, line: str) -> bool:
+        """Whether something has this name on a line."""
+        return line in self._texts
+
     def known(self, text: str) -> str | None:
         """The name on a line, where the text has one already."""
         return self._lines.get(text)

@@ -69,6 +69,18 @@ class BenchModel:
             return value
         return self._network.vocabulary.literal(value, kind)
 
+    def point(self, cell: str, text: str) -> Point:
+        """The value of the cell that is written so on a line."""
+        kind = self._network.cells[cell].kind
+        if kind is Plain.NUMBER:
+            return int(text)
+        if kind is Plain.TRUTH:
+            return text == "yes"
+        names = self._network.vocabulary
+        if isinstance(kind, Domain):
+            return names.elements(kind).text(text)
+        return names.symbols.text(text) if names.symbols.has(text) else text
+
     def violated(self, plan: Mapping[str, Point], believed: Sequence[str]) -> str | None:
         """The text of what is stated, always or under one of these premises, and does not hold at
         these points in exact whole numbers; None where all holds. Of a choice one alternative has
