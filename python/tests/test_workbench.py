@@ -384,3 +384,21 @@ def test_the_manual() -> None:
     assert len(public) > 25
     for name, member in public.items():
         assert member.__doc__ and member.__doc__.split("\n")[0].endswith((".", ",", ":")), name
+
+
+def test_over_all_plans(w: Workbench) -> None:
+    day = w.domain("day", "mon tue wed")
+    x, y, d, t = w.number("x", 0, 9), w.number("y", 0, 9), w.element("d", day), w.truth("t")
+    w.choose("way", {"slow": [x == 2, d == "mon"], "fast": [x == 7, d == "wed", ~t]})
+    w.require(y * y == x + 2, under="square")
+    assert x.ask().value == 2 and x.ask(over="all plans").value == Span(2, 7)
+    answer = y.ask(over="all plans")
+    assert (answer.value, answer.settled, answer.because) == (Span(2, 3), True, ("square",))
+    assert d.ask(over="all plans").value == Elements(("mon", "wed"))
+    assert t.ask(over="all plans").value == Elements(("yes", "no"))
+    w.require(y >= 3, under="much")
+    assert d.ask(over="all plans").value == "wed" and t.ask(over="all plans").value is False
+    w.tell("none", t, True)
+    with pytest.raises(Conflict) as caught:
+        y.ask(over="all plans")
+    assert set(caught.value.premises) == {"much", "square", "none"}

@@ -15,7 +15,7 @@ from collections.abc import Mapping, Iterable, Sequence
 from types import TracebackType
 from typing import TypeVar, overload
 
-from propbench.model.answers import Answer, Conflict, NotSettled
+from propbench.model.answers import Answer, Conflict, NotSettled, ends_of
 from propbench.model.blaming import always, beyond
 from propbench.model.cells import Cell, ElementCell, NumberCell, SymbolCell, TruthCell, words_of
 from propbench.model.events import (
@@ -32,6 +32,7 @@ from propbench.model.given import Given, alternative_of, values_of
 from propbench.model.kinds import Domain, Kind, Plain, kind_text
 from propbench.model.network import Network
 from propbench.model.nodes import Declared, Node, cells_in
+from propbench.model.overall import over_all_plans
 from propbench.model.reading import Reader
 from propbench.model.saving import read, saved
 from propbench.model.seam import BenchModel
@@ -260,7 +261,7 @@ class Workbench(Questions):
         if over is not None:
             if over != "all plans":
                 raise ValueError(f'an answer may be over="all plans", and not over={over!r}')
-            raise NotImplementedError
+            return self._over_all_plans(cell, seconds)
         line = f"{command} {self._network.vocabulary.cells.line(cell.name)}"
         reply = self.session.send(line, seconds=seconds)
         if isinstance(reply, Contradiction):
@@ -362,6 +363,17 @@ class Workbench(Questions):
 
     def _reader(self) -> Reader:
         return Reader(self._network.vocabulary, self._network.premises)
+
+    def _over_all_plans(self, cell: Declared, seconds: float | None) -> Answer:
+        """What the cell may be in some plan, whatever the choices take."""
+        found = over_all_plans(self, cell, seconds)
+        if found is None:
+            [conflict] = self.conflicts(most=1)
+            says = {name: self._network.premises.text(name) for name in conflict}
+            raise Conflict(tuple(says), says)
+        value, is_settled = found
+        low, high = ends_of(value)
+        return Answer(cell.name, value, low, high, is_settled, self.believed)
 
     def _plan(self) -> dict[str, object]:
         """For each choice what it stands on, where a run has found that."""
