@@ -1,11 +1,24 @@
 """propbench: propagator networks whose answers are proved, from Python.
 
-A `Session` is the program as an object. What it answers is the program's reply; what this package
-itself works out (which word of a line is at fault, what to complete) is translated from the
-language's description, and nothing is concluded from it.
+A `Workbench` has cells, expressions, and premises; a `Session` is the program as an object. What
+they answer is the program's reply; what this package itself works out (which lines say a
+constraint, which word of a line is at fault, what to complete) is translated from the language's
+description, and nothing is concluded from it.
 """
 
 from propbench.finding import NoProgram, find_program
+from propbench.model.answers import Answer, Conflict, NotSettled
+from propbench.model.expressions import (
+    all_different,
+    count,
+    element,
+    if_else,
+    implies,
+    maximum,
+    minimum,
+    pairs,
+    total,
+)
 from propbench.program import ProgramEnded
 from propbench.refusals import (
     EmptyValue,
@@ -43,8 +56,11 @@ from propbench.replies import (
 )
 from propbench.session import Session
 from propbench.values import Elements, Impossible, Nothing, Span, Symbol
+from propbench.workbench import Workbench
 
 __all__ = [
+    "Answer",
+    "Conflict",
     "Contradiction",
     "Done",
     "Elements",
@@ -64,6 +80,7 @@ __all__ = [
     "NotAName",
     "NotANumberInRange",
     "NotInTheDomain",
+    "NotSettled",
     "NotUtf8",
     "Nothing",
     "OutOfMemory",
@@ -78,10 +95,20 @@ __all__ = [
     "UnknownCommand",
     "Unsettled",
     "Value",
+    "Workbench",
     "Worldview",
     "WrongCountOfCells",
     "WrongForm",
     "WrongKind",
     "WrongParameter",
+    "all_different",
+    "count",
+    "element",
     "find_program",
+    "if_else",
+    "implies",
+    "maximum",
+    "minimum",
+    "pairs",
+    "total",
 ]

@@ -1,0 +1,81 @@
+"""Cells: what a user declares, states and asks."""
+
+from collections.abc import Iterable
+from typing import Protocol
+
+from propbench.model.answers import Answer
+from propbench.model.expressions import Element, Expression, Number, Symbol, Truth
+from propbench.model.kinds import Domain
+from propbench.model.nodes import Declared, cell
+
+
+class Asked(Protocol):
+    """Who answers for a cell: a workbench."""
+
+    def answer(
+        self, command: str, cell: Declared, seconds: float | None, over: str | None
+    ) -> Answer:
+        """The answer to `why` or `core`."""
+
+
+class Cell(Expression):
+    """A cell: it has a name, and can be asked what follows for it."""
+
+    def __init__(self, declared: Declared, workbench: Asked) -> None:
+        super().__init__(cell(declared))
+        self._declared = declared
+        self._workbench = workbench
+
+    @property
+    def name(self) -> str:
+        """The name, as it was given."""
+        return self._declared.name
+
+    @property
+    def declared(self) -> Declared:
+        """The cell as it was declared."""
+        return self._declared
+
+    def ask(self, *, over: str | None = None, seconds: float | None = None) -> Answer:
+        """What follows for the cell. Under choices that is the answer in one plan, the first that
+        fits; with `over="all plans"` it is the true range over all of them.
+
+        A run that isn't done after `seconds` is cut, and the answer says that it isn't settled.
+        Raises Conflict where what is believed can't all hold.
+        """
+        return self._workbench.answer("why", self._declared, seconds, over)
+
+    def why(self, *, seconds: float | None = None) -> Answer:
+        """The same as `ask`: `because` has premises that are enough for it."""
+        return self._workbench.answer("why", self._declared, seconds, None)
+
+    def core(self, *, seconds: float | None = None) -> Answer:
+        """The same, from premises of which none can be left out."""
+        return self._workbench.answer("core", self._declared, seconds, None)
+
+
+class NumberCell(Cell, Number):
+    """A cell for a whole number."""
+
+
+class TruthCell(Cell, Truth):
+    """A cell for a truth."""
+
+
+class ElementCell(Cell, Element):
+    """A cell for an element of a domain."""
+
+    @property
+    def elements(self) -> tuple[str, ...]:
+        """The elements of the domain."""
+        assert isinstance(self._declared.kind, Domain)
+        return self._declared.kind.elements
+
+
+class SymbolCell(Cell, Symbol):
+    """A cell for a symbol."""
+
+
+def words_of(given: "str | Iterable[str]") -> tuple[str, ...]:
+    """Names given as one text with spaces between them, or one by one."""
+    return tuple(given.split() if isinstance(given, str) else given)

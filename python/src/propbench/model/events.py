@@ -1,0 +1,160 @@
+"""What a user states, one event a call: all that a workbench is, in order."""
+
+from dataclasses import dataclass
+
+from propbench.model.kinds import MOST, Domain, Plain, Point, point_text
+from propbench.model.meaning import Points, holds
+from propbench.model.nodes import Declared, Node
+from propbench.model.writing import text_of
+from propbench.showing import printable
+
+# What is stated of a cell, or an alternative of it: numbers from a low to a high, some elements of
+# a domain, or one truth or symbol.
+Values = tuple[Point, ...]
+
+
+@dataclass(frozen=True)
+class DomainMade:
+    """A domain is there."""
+
+    domain: Domain
+
+
+@dataclass(frozen=True)
+class CellMade:
+    """A cell is there; of a number it is fixed between which numbers it lies."""
+
+    cell: Declared
+
+
+@dataclass(frozen=True)
+class Required:
+    """A constraint holds, always or under a premise."""
+
+    constraint: Node
+    premise: str | None
+
+    @property
+    def text(self) -> str:
+        """What is stated."""
+        return text_of(self.constraint)
+
+    def is_met(self, points: Points) -> bool:
+        """Whether the points fit it. Raises Beyond."""
+        return holds(self.constraint, points)
+
+
+@dataclass(frozen=True)
+class Told:
+    """A cell has a value, always or under a premise."""
+
+    cell: Declared
+    values: Values
+    premise: str | None
+
+    @property
+    def text(self) -> str:
+        """What is stated."""
+        return f"{printable(self.cell.name)} = {values_text(self.cell, self.values)}"
+
+    def is_met(self, points: Points) -> bool:
+        """Whether the point of the cell is one of the values."""
+        return is_among(points[self.cell], self.cell, self.values)
+
+
+@dataclass(frozen=True)
+class ValueChoice:
+    """A choice between values of a cell, the one to be tried first in front."""
+
+    name: str
+    cell: Declared
+    alternatives: tuple[Values, ...]
+
+    @property
+    def premise(self) -> None:
+        """A choice is under no premise."""
+        return None
+
+    @property
+    def text(self) -> str:
+        """What is stated."""
+        return f"{printable(self.name)}: {printable(self.cell.name)} = {' or '.join(self.sides)}"
+
+    @property
+    def sides(self) -> tuple[str, ...]:
+        """The alternatives, as texts."""
+        return tuple(values_text(self.cell, values) for values in self.alternatives)
+
+    def stands_on(self, side: int) -> object:
+        """What an alternative is, as it was written."""
+        values = self.alternatives[side]
+        return plain_values(self.cell, values)
+
+    def is_met(self, points: Points) -> bool:
+        """Whether the point is one that an alternative gives."""
+        return any(is_among(points[self.cell], self.cell, each) for each in self.alternatives)
+
+
+@dataclass(frozen=True)
+class ConstraintChoice:
+    """A choice between named alternatives, each of which states constraints."""
+
+    name: str
+    alternatives: tuple[tuple[str, tuple[Node, ...]], ...]
+
+    @property
+    def premise(self) -> None:
+        """A choice is under no premise."""
+        return None
+
+    @property
+    def text(self) -> str:
+        """What is stated."""
+        return f"{printable(self.name)}: {' or '.join(self.sides)}"
+
+    @property
+    def sides(self) -> tuple[str, ...]:
+        """The alternatives, as texts."""
+        return tuple(printable(side) for side, _ in self.alternatives)
+
+    def stands_on(self, side: int) -> object:
+        """What an alternative is called."""
+        return self.alternatives[side][0]
+
+    def is_met(self, points: Points) -> bool:
+        """Whether all constraints of some alternative fit the points. Raises Beyond."""
+        return any(all(holds(each, points) for each in nodes) for _, nodes in self.alternatives)
+
+
+Choice = ValueChoice | ConstraintChoice
+Event = DomainMade | CellMade | Required | Told | ValueChoice | ConstraintChoice
+Statement = Required | Told | ValueChoice | ConstraintChoice
+
+
+def values_text(cell: Declared, values: Values) -> str:
+    """What is stated of a cell, for people."""
+    if cell.kind is Plain.NUMBER:
+        low, high = values
+        return str(low) if low == high else f"{_end(low)}..{_end(high)}"
+    texts = [printable(point_text(value)) for value in values]
+    return texts[0] if len(texts) == 1 else "{" + " ".join(texts) + "}"
+
+
+def _end(number: Point) -> str:
+    return "" if abs(int(number)) == MOST else str(number)
+
+
+def plain_values(cell: Declared, values: Values) -> object:
+    """What is stated of a cell, as a user gives it to `choose`."""
+    if cell.kind is Plain.NUMBER:
+        low, high = values
+        return low if low == high else values
+    return values[0] if len(values) == 1 else values
+
+
+def is_among(point: Point, cell: Declared, values: Values) -> bool:
+    """Whether a point is one of the values that are stated."""
+    if cell.kind is Plain.NUMBER:
+        low, high = values
+        return int(low) <= int(point) <= int(high)
+    return point in values

@@ -1,0 +1,51 @@
+"""Values as a user gives them, and what is stated by them."""
+
+from collections.abc import Iterable, Sequence
+
+from propbench.model.cells import words_of
+from propbench.model.events import Values
+from propbench.model.expressions import point_of
+from propbench.model.kinds import Domain, Plain
+from propbench.model.nodes import Declared
+
+# A number, a truth, a name, or several names of which one is it.
+Given = int | bool | str | Sequence[str]
+
+
+def values_of(cell: Declared, value: object, high: object = None) -> Values:
+    """What is stated of a cell: a value, the numbers up to `high`, or some elements.
+
+    Raises TypeError where a value is of another kind than the cell, and ValueError for an empty one
+    and one that the cell can't hold.
+    """
+    if high is not None and cell.kind is not Plain.NUMBER:
+        raise TypeError(f"{cell.name!r} holds no numbers, so there is no {high!r} to go up to")
+    if cell.kind is Plain.NUMBER:
+        low = int(point_of(value, cell.kind))
+        most = low if high is None else int(point_of(high, cell.kind))
+        if low > most:
+            raise ValueError(f"from {low} to {most} there is no number, for {cell.name!r}")
+        return low, most
+    if isinstance(cell.kind, Domain):
+        points = {point_of(name, cell.kind) for name in _several(cell, value)}
+        if not points:
+            raise ValueError(f"{cell.name!r} is one of no elements")
+        return tuple(name for name in cell.kind.elements if name in points)
+    return (point_of(value, cell.kind),)
+
+
+def alternative_of(cell: Declared, value: object) -> Values:
+    """What an alternative of a choice states of a cell: a pair of numbers is from one to other."""
+    if cell.kind is Plain.NUMBER and isinstance(value, Sequence) and len(value) == 2:
+        return values_of(cell, *value)
+    return values_of(cell, value)
+
+
+def _several(cell: Declared, value: object) -> Iterable[object]:
+    """The names: one, several in one text with spaces between, or several one by one."""
+    assert isinstance(cell.kind, Domain)
+    if isinstance(value, str):
+        return [value] if value in cell.kind.elements else words_of(value)
+    if not isinstance(value, Iterable):
+        raise TypeError(f"{value!r} is no element of {cell.kind}: write its name as a text")
+    return value

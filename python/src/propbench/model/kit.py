@@ -1,0 +1,30 @@
+"""Which procedures of the wider kit a program has."""
+
+from collections.abc import Iterable
+
+from propbench.refusals import NoSuchProcedure, Refused
+from propbench.session import Session
+
+# What is used where it is there; else the translation does with the kit that is always there.
+WIDER = (
+    "max",
+    "min",
+    "abs",
+    "if",
+    "quotient",
+    "remainder",
+    *(f"count{number}" for number in range(1, 9)),
+    *(f"different{number}" for number in range(2, 10)),
+)
+
+
+def offered(session: Session, cell: str, names: Iterable[str] = WIDER) -> frozenset[str]:
+    """Those that the program has: put at a single cell, each is refused, and what isn't there as
+    unknown. Nothing changes by that."""
+    asked = list(names)
+    replies = session.send_all([f"attach {name} {cell}" for name in asked], keep_refused=True)
+    return frozenset(
+        name
+        for name, reply in zip(asked, replies)
+        if isinstance(reply, Refused) and not isinstance(reply, NoSuchProcedure)
+    )

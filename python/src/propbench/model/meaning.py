@@ -1,0 +1,147 @@
+"""What expressions mean at points, in exact whole numbers.
+
+A quotient or remainder by zero has no value, and a comparison over what has no value is false. A
+number beyond 10^18 either way is none that the program holds: whatever needs it doesn't hold.
+"""
+
+from collections.abc import Callable, Mapping
+
+from propbench.model.kinds import MOST, Point, domain_of
+from propbench.model.nodes import COMPARISONS, Declared, Node, Op
+
+
+class Beyond(Exception):
+    """A value that lies beyond 10^18 either way, and the expression that has it."""
+
+    def __init__(self, node: Node) -> None:
+        super().__init__(node)
+        self.node = node
+
+
+class Undefined(Exception):
+    """A value by zero: there is none."""
+
+
+Points = Mapping[Declared, Point]
+
+
+def value_of(node: Node, points: Points) -> Point:
+    """The value of an expression where each cell has its point. Raises Undefined and Beyond."""
+    return _Reading(points).value(node)
+
+
+def holds(node: Node, points: Points) -> bool:
+    """Whether a constraint holds at these points. Raises Beyond."""
+    return bool(value_of(node, points))
+
+
+class _Reading:
+    """Values by node, so that what several expressions share is worked out once."""
+
+    def __init__(self, points: Points) -> None:
+        self.points = points
+        self.found: dict[Node, Point] = {}
+
+    def value(self, node: Node) -> Point:
+        if node not in self.found:
+            self.found[node] = self._value(node)
+        return self.found[node]
+
+    def number(self, node: Node) -> int:
+        return int(self.value(node))
+
+    def _value(self, node: Node) -> Point:
+        if node.op is Op.CELL:
+            return self.points[node.declared]
+        if node.op is Op.CONSTANT:
+            return node.constant
+        if node.op is Op.IF:
+            taken = node.args[1] if self.value(node.args[0]) else node.args[2]
+            # (the other has to be a number that the program holds too, if it has a value)
+            self._all_values(node)
+            return self.value(taken)
+        if node.op in COMPARISONS:
+            values = self._all_values(node)
+            return values is not None and _TRUTHS[node.op](node, values)
+        if node.op in _LOGIC:
+            return _LOGIC[node.op]([bool(self.value(arg)) for arg in node.args])
+        if node.op is Op.TABLE:
+            return _looked_up(node, self.value(node.args[0]))
+        found = _NUMBERS[node.op](node, [self.number(arg) for arg in node.args])
+        if abs(found) > MOST:
+            raise Beyond(node)
+        return found
+
+    def _all_values(self, node: Node) -> list[Point] | None:
+        """The values of all arguments, None where one has none."""
+        values: list[Point] = []
+        for arg in node.args:
+            try:
+                values.append(self.value(arg))
+            except Undefined:
+                pass
+        return values if len(values) == len(node.args) else None
+
+
+def _sum(node: Node, numbers: list[int]) -> int:
+    total = 0
+    for number in numbers:
+        total += number
+        if abs(total) > MOST:
+            raise Beyond(node)
+    return total
+
+
+def _quotient(node: Node, numbers: list[int]) -> int:
+    left, right = numbers
+    if right == 0:
+        raise Undefined
+    if abs(left // right * right) > MOST:
+        raise Beyond(node)
+    return left // right
+
+
+def _remainder(node: Node, numbers: list[int]) -> int:
+    return numbers[0] - _quotient(node, numbers) * numbers[1]
+
+
+def _looked_up(node: Node, element: Point) -> int:
+    place = domain_of(node.args[0].kind).elements.index(str(element))
+    entry = node.entries[place]
+    assert isinstance(entry, int)
+    return entry
+
+
+_NUMBERS: dict[Op, Callable[[Node, list[int]], int]] = {
+    Op.SUM: _sum,
+    Op.DIFFERENCE: lambda node, numbers: numbers[0] - numbers[1],
+    Op.NEGATIVE: lambda node, numbers: -numbers[0],
+    Op.PRODUCT: lambda node, numbers: numbers[0] * numbers[1],
+    Op.QUOTIENT: _quotient,
+    Op.REMAINDER: _remainder,
+    Op.ABSOLUTE: lambda node, numbers: abs(numbers[0]),
+    Op.MAXIMUM: lambda node, numbers: max(numbers),
+    Op.MINIMUM: lambda node, numbers: min(numbers),
+    Op.BIT: lambda node, numbers: numbers[0],
+    Op.COUNT: lambda node, numbers: sum(numbers),
+}
+
+_TRUTHS: dict[Op, Callable[[Node, list[Point]], bool]] = {
+    Op.LESS: lambda node, values: int(values[0]) < int(values[1]),
+    Op.AT_MOST: lambda node, values: int(values[0]) <= int(values[1]),
+    Op.GREATER: lambda node, values: int(values[0]) > int(values[1]),
+    Op.AT_LEAST: lambda node, values: int(values[0]) >= int(values[1]),
+    Op.EQUAL: lambda node, values: values[0] == values[1],
+    Op.UNEQUAL: lambda node, values: values[0] != values[1],
+    Op.ALL_DIFFERENT: lambda node, values: len(set(values)) == len(values),
+    Op.AMONG: lambda node, values: values[0] in node.entries,
+    Op.PAIR: lambda node, values: tuple(values) in node.entries,
+}
+
+_LOGIC: dict[Op, Callable[[list[bool]], bool]] = {
+    Op.NOT: lambda truths: not truths[0],
+    Op.AND: all,
+    Op.OR: any,
+    Op.XOR: lambda truths: truths[0] != truths[1],
+    Op.IMPLIES: lambda truths: not truths[0] or truths[1],
+}

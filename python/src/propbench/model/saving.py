@@ -1,0 +1,68 @@
+"""A workbench as a file, and a file as a workbench."""
+
+from collections.abc import Iterator, Sequence
+
+from propbench.model.events import Event
+from propbench.model.network import Network
+from propbench.model.script import Script
+from propbench.model.storing import Records, comments, record_of, records
+from propbench.model.vocabulary import Vocabulary
+
+_HEAD = "# A workbench: the lines beginning with #: tell what the others are for."
+_FORM = 1
+
+
+def saved(network: Network) -> Iterator[str]:
+    """The lines of a file, each event with those that say it."""
+    yield _HEAD
+    yield from comments({"workbench": _FORM, "kit": sorted(network.offered)})
+    script = network.new_script()
+    yield from script.writer.taken()
+    for event in network.events:
+        yield from comments(record_of(event))
+        yield from script.lines_of(event)
+    kicked = [name for name, believed in network.premises.believed.items() if not believed]
+    yield from comments({"kicked": kicked})
+    yield from network.kicks()
+
+
+class NotAWorkbench(ValueError):
+    """A file is not one that a workbench has saved, or its lines were changed since."""
+
+
+def read(lines: Sequence[str], owner: object) -> tuple[list[Event], list[str]]:
+    """The events of a file, and the premises that are kicked out. The cells are the owner's.
+
+    Raises NotAWorkbench: the lines of a file have to be those that its events stand for.
+    """
+    try:
+        head, *middle, last = records(lines)
+        if head["workbench"] != _FORM:
+            raise NotAWorkbench(f"the file is of another form: {head['workbench']}")
+        kit, kicked = frozenset(head["kit"]), list(last["kicked"])
+        found = Records(owner)
+        events = [found.event(record) for record in middle]
+    except (KeyError, TypeError, ValueError, IndexError) as error:
+        if isinstance(error, NotAWorkbench):
+            raise
+        raise NotAWorkbench("the file was not saved by a workbench") from error
+    _check(lines, events, kit, kicked)
+    return events, kicked
+
+
+def _check(
+    lines: Sequence[str], events: Sequence[Event], kit: frozenset[str], kicked: Sequence[str]
+) -> None:
+    """Compares the lines of a file with those that the events stand for."""
+    vocabulary = Vocabulary(lambda name: True)
+    script = Script(vocabulary, lambda name: name in kit)
+    wanted = script.writer.taken()
+    for event in events:
+        wanted += script.lines_of(event)
+    wanted += [f"kick {vocabulary.premises.line(name)}" for name in kicked]
+    there = [(place, line) for place, line in enumerate(lines, 1) if line and line[0] != "#"]
+    for (number, line), meant in zip(there, wanted):
+        if line != meant:
+            raise NotAWorkbench(f"line {number} was changed: {line!r} stands for {meant!r}")
+    if len(there) != len(wanted):
+        raise NotAWorkbench(f"the file has {len(there)} lines where {len(wanted)} are meant")

@@ -1,0 +1,129 @@
+"""The lines of events, in order: what makes the network on the program's side."""
+
+from collections.abc import Callable
+
+from propbench.model.context import Context
+from propbench.model.events import (
+    CellMade,
+    ConstraintChoice,
+    DomainMade,
+    Event,
+    Required,
+    Told,
+    ValueChoice,
+    Values,
+)
+from propbench.model.kinds import MOST, Domain, Plain
+from propbench.model.nodes import Declared
+from propbench.model.translation import Translation
+from propbench.model.vocabulary import Vocabulary
+from propbench.model.writer import Writer, span_text
+
+
+class Script:
+    """Turns events into lines. Those of one event depend on those before it."""
+
+    def __init__(self, vocabulary: Vocabulary, offers: Callable[[str], bool]) -> None:
+        self.vocabulary = vocabulary
+        self.writer = Writer(vocabulary, offers)
+        self.translation = Translation(self.writer)
+        self._premises: dict[str, Context] = {}
+        self._alternatives: dict[int, Domain] = {}
+        self._places: dict[Event, tuple[int, int]] = {}
+
+    def lines_of(self, event: Event) -> list[str]:
+        """The lines that say what the event does; before those of the first, some for all."""
+        first = self.writer.position
+        if isinstance(event, DomainMade):
+            names = self.vocabulary.elements(event.domain)
+            elements = " ".join(map(names.line, event.domain.elements))
+            self.writer.line(f"domain {self.vocabulary.domain(event.domain)} {elements}")
+        elif isinstance(event, CellMade):
+            self._make_cell(event.cell)
+        elif isinstance(event, Required):
+            context = self._context(event.premise) if event.premise is not None else None
+            self.translation.state(event.constraint, context or self.writer.root)
+        elif isinstance(event, Told):
+            self._tell(event)
+        elif isinstance(event, ValueChoice):
+            self._choose_value(event)
+        else:
+            self._choose_constraints(event)
+        self._places[event] = (first, self.writer.position)
+        return self.writer.taken()
+
+    def explained(self, event: Event) -> list[str]:
+        """The lines of an event that was carried out, with all that they need of earlier ones."""
+        return self.writer.with_what_they_need(*self._places[event])
+
+    def forget(self, premise: str) -> None:
+        """Takes in that all that was told under a premise is gone, its gates with it."""
+        self._premises.pop(premise, None)
+
+    def _make_cell(self, cell: Declared) -> None:
+        name = self.vocabulary.cells.line(cell.name)
+        self.writer.line(f"cell {name} {self.vocabulary.kind(cell.kind)}")
+        if isinstance(cell.kind, Domain):
+            self.writer.line(f"fix {name} {self.vocabulary.some(cell.kind.elements, cell.kind)}")
+        elif cell.kind is Plain.TRUTH:
+            self.writer.line(f"fix {name} {{no yes}}")
+        elif (cell.low, cell.high) != (None, None):
+            low = -MOST if cell.low is None else cell.low
+            high = MOST if cell.high is None else cell.high
+            self.writer.line(f"fix {name} {span_text(low, high)}")
+
+    def _context(self, premise: str) -> Context:
+        """Where the constraints under a premise hold."""
+        if premise not in self._premises:
+            name = self.vocabulary.premises.line(premise)
+            since = self.writer.position
+            gate = self.writer.new_cell(Plain.TRUTH)
+            self.writer.line(f"tell {name} {gate} yes")
+            self.writer.made(gate, since)
+            self._premises[premise] = Context(gate, name, self.writer.root)
+        return self._premises[premise]
+
+    def _tell(self, event: Told) -> None:
+        cell = self.vocabulary.cells.line(event.cell.name)
+        value = self._written(event.cell, event.values)
+        if event.premise is None:
+            self.writer.line(f"fix {cell} {value}")
+        else:
+            self.writer.line(f"tell {self.vocabulary.premises.line(event.premise)} {cell} {value}")
+
+    def _choose_value(self, event: ValueChoice) -> None:
+        cell = self.vocabulary.cells.line(event.cell.name)
+        values = " or ".join(self._written(event.cell, each) for each in event.alternatives)
+        self.writer.line(f"choose {self.vocabulary.premises.line(event.name)} {cell} {values}")
+
+    def _choose_constraints(self, event: ConstraintChoice) -> None:
+        """A cell of the choice's own stands on one of its alternatives, and opens that one's gate."""
+        domain = self._domain_of_alternatives(len(event.alternatives))
+        chosen = self.writer.new_cell(domain)
+        for element, (_, constraints) in zip(domain.elements, event.alternatives):
+            gate = self.writer.new_cell(Plain.TRUTH)
+            self.writer.attach("comparer", chosen, self.writer.fixed(domain, element), gate)
+            within = Context(gate, None, self.writer.root)
+            for constraint in constraints:
+                self.translation.state(constraint, within)
+        name = self.vocabulary.premises.line(event.name)
+        self.writer.line(f"choose {name} {chosen} {' or '.join(domain.elements)}")
+
+    def _domain_of_alternatives(self, count: int) -> Domain:
+        """The workbench's own domain of so many alternatives."""
+        if count not in self._alternatives:
+            elements = tuple(f"a{number}" for number in range(1, count + 1))
+            made = self._alternatives[count] = self.vocabulary.own_domain(f"_of{count}", elements)
+            self.writer.own_domain(made)
+        return self._alternatives[count]
+
+    def _written(self, cell: Declared, values: Values) -> str:
+        """What is stated of a cell, as a line has it."""
+        if cell.kind is Plain.NUMBER:
+            low, high = values
+            return span_text(int(low), int(high))
+        if isinstance(cell.kind, Domain):
+            return self.vocabulary.some(tuple(map(str, values)), cell.kind)
+        if len(values) == 2:
+            return "{no yes}"
+        return self.vocabulary.literal(values[0], cell.kind)

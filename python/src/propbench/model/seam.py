@@ -1,0 +1,139 @@
+"""A workbench as questions see it: lines, names on lines, and what points fit.
+
+This is all that `propbench.questions` uses of a workbench beside what a user does.
+"""
+
+from collections.abc import Mapping, Sequence
+
+from propbench.model.events import CellMade, DomainMade, Event
+from propbench.model.kinds import Domain, Plain, Point
+from propbench.model.meaning import Beyond
+from propbench.model.nodes import Declared
+from propbench.model.network import Network, premise_of
+from propbench.model.writing import text_of
+from propbench.session import Session
+
+
+class BenchModel:
+    """A network with named premises of the user's, and cells of the user's."""
+
+    def __init__(self, network: Network) -> None:
+        self._network = network
+
+    @property
+    def session(self) -> Session:
+        """The session that the workbench speaks through."""
+        return self._network.session
+
+    def base(self) -> Sequence[str]:
+        """The lines that make the network: a fresh session that is sent these is in the state of
+        this one."""
+        return self._network.base()
+
+    def premises(self) -> Sequence[str]:
+        """The user's premises, in the order of their first mention."""
+        return list(self._network.premises.believed)
+
+    def believed(self) -> Sequence[str]:
+        """Those that are believed."""
+        return self._network.premises.in_force
+
+    def line_name(self, premise: str) -> str:
+        """The name on a line of a premise or a choice."""
+        return self._network.vocabulary.premises.line(premise)
+
+    def cells(self) -> Sequence[str]:
+        """The user's cells, in the order in which they were made."""
+        return list(self._network.cells)
+
+    def cell_name(self, cell: str) -> str:
+        """The name of a cell on a line."""
+        return self._network.vocabulary.cells.line(cell)
+
+    def candidates(self, cell: str) -> "range | Sequence[str] | None":
+        """The values that the cell's declaration leaves: None for symbols, and for numbers without
+        an end."""
+        declared = self._network.cells[cell]
+        if declared.kind is Plain.NUMBER:
+            if declared.low is None or declared.high is None:
+                return None
+            return range(declared.low, declared.high + 1)
+        if declared.kind is Plain.TRUTH:
+            return ("no", "yes")
+        return declared.kind.elements if isinstance(declared.kind, Domain) else None
+
+    def literal(self, cell: str, value: Point) -> str:
+        """How a value of the cell is written on a line."""
+        kind = self._network.cells[cell].kind
+        if kind is Plain.TRUTH and isinstance(value, str):
+            return value
+        return self._network.vocabulary.literal(value, kind)
+
+    def point(self, cell: str, text: str) -> Point:
+        """The value of the cell that is written so on a line."""
+        kind = self._network.cells[cell].kind
+        if kind is Plain.NUMBER:
+            return int(text)
+        if kind is Plain.TRUTH:
+            return text == "yes"
+        names = self._network.vocabulary
+        if isinstance(kind, Domain):
+            return names.elements(kind).text(text)
+        return names.symbols.text(text) if names.symbols.has(text) else text
+
+    def violated(self, plan: Mapping[str, Point], believed: Sequence[str]) -> str | None:
+        """The text of what is stated, always or under one of these premises, and does not hold at
+        these points in exact whole numbers; None where all holds. Of a choice one alternative has
+        to hold."""
+        points = self._points(plan)
+        for event in self._network.events:
+            if premise_of(event) is None or premise_of(event) in believed:
+                said = _against(event, points)
+                if said is not None:
+                    return said
+        return None
+
+    def held(self, plan: Mapping[str, Point]) -> list[str]:
+        """The premises of which all that is stated holds at these points."""
+        points = self._points(plan)
+        return [
+            premise
+            for premise, stated in self._network.premises.statements.items()
+            if all(_against(each, points) is None for each in stated)
+        ]
+
+    def text(self, premise: str) -> str:
+        """What the premise states, for people."""
+        return self._network.premises.text(premise)
+
+    def _points(self, plan: Mapping[str, Point]) -> dict[Declared, Point]:
+        cells = self._network.cells
+        return {cells[name]: _point(cells[name], value) for name, value in plan.items()}
+
+
+def _against(event: Event, points: dict[Declared, Point]) -> str | None:
+    """What is stated, where it doesn't hold at these points."""
+    if isinstance(event, DomainMade):
+        return None
+    if isinstance(event, CellMade):
+        is_met = event.cell not in points or _is_declared(points[event.cell], event.cell)
+        return None if is_met else f"{event.cell.name} is not what it was declared as"
+    try:
+        return None if event.is_met(points) else event.text
+    except Beyond as beyond:
+        return f"{event.text} ({text_of(beyond.node)} lies beyond 10^18)"
+
+
+def _point(cell: Declared, value: Point) -> Point:
+    """A point, where a truth may be told as a text."""
+    if cell.kind is Plain.TRUTH and isinstance(value, str):
+        return value == "yes"
+    return value
+
+
+def _is_declared(value: Point, cell: Declared) -> bool:
+    """Whether a value is one of those that a cell may have."""
+    if cell.kind is Plain.NUMBER:
+        low = cell.low is None or cell.low <= int(value)
+        return low and (cell.high is None or int(value) <= cell.high)
+    return not isinstance(cell.kind, Domain) or value in cell.kind.elements

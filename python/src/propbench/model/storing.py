@@ -1,0 +1,141 @@
+"""What a user stated, as text that can be read again: events as JSON in comments of a session.
+
+A saved workbench is a session of the language: its lines make the network, and each comment that
+begins with `#:` tells in the user's words what the lines below it are for.
+"""
+
+import json
+from collections.abc import Iterable, Iterator, Mapping
+from dataclasses import dataclass, field
+from typing import Any
+
+from propbench.model.events import (
+    CellMade,
+    ConstraintChoice,
+    DomainMade,
+    Event,
+    Required,
+    Told,
+    ValueChoice,
+)
+from propbench.model.kinds import Domain, Kind, Plain
+from propbench.model.nodes import Declared, Node, Op, cell, constant, node
+
+# A comment begins so, and goes on so where a line is too short for it.
+BEGINS, GOES_ON = "#: ", "#+ "
+_LONGEST = 4000
+# What JSON gives: its parts are read by what stands there.
+Record = Mapping[str, Any]
+
+
+def comments(event: Mapping[str, object]) -> Iterator[str]:
+    """A record as comments."""
+    text = json.dumps(event)
+    for first in range(0, len(text), _LONGEST):
+        yield (GOES_ON if first else BEGINS) + text[first : first + _LONGEST]
+
+
+def records(lines: Iterable[str]) -> list[dict[str, Any]]:
+    """The records that comments hold. Raises ValueError where one can't be read."""
+    texts: list[str] = []
+    for line in lines:
+        if line.startswith(BEGINS):
+            texts.append(line.removeprefix(BEGINS))
+        elif line.startswith(GOES_ON) and texts:
+            texts[-1] += line.removeprefix(GOES_ON)
+    return [json.loads(text) for text in texts]
+
+
+def record_of(event: Event) -> dict[str, object]:
+    """An event as a record."""
+    if isinstance(event, DomainMade):
+        return {"domain": event.domain.name, "elements": event.domain.elements}
+    if isinstance(event, CellMade):
+        return _cell_record(event.cell)
+    if isinstance(event, Required):
+        return {"require": _parts(event.constraint), "under": event.premise}
+    if isinstance(event, Told):
+        return {"state": event.cell.name, "values": event.values, "under": event.premise}
+    if isinstance(event, ValueChoice):
+        return {"choose": event.name, "of": event.cell.name, "values": event.alternatives}
+    sides = [[side, [_parts(each) for each in nodes]] for side, nodes in event.alternatives]
+    return {"choose": event.name, "sides": sides}
+
+
+def _cell_record(declared: Declared) -> dict[str, object]:
+    if isinstance(declared.kind, Domain):
+        return {"element": declared.name, "domain_of": declared.kind.name}
+    if declared.kind is Plain.NUMBER:
+        return {"number": declared.name, "low": declared.low, "high": declared.high}
+    return {declared.kind.value: declared.name}
+
+
+def _parts(each: Node) -> list[object]:
+    """A node as nested lists: its operation, its arguments, and what else it holds."""
+    if each.op is Op.CELL:
+        return ["CELL", each.declared.name]
+    if each.op is Op.CONSTANT:
+        kind = each.kind.name if isinstance(each.kind, Domain) else each.kind.value
+        return ["CONSTANT", each.constant, kind]
+    more = [] if each.payload is None else [each.entries]
+    return [each.op.name, [_parts(arg) for arg in each.args], *more]
+
+
+@dataclass
+class Records:
+    """Reads records as events, one after the other: each may speak of those before it."""
+
+    owner: object
+    cells: dict[str, Declared] = field(default_factory=dict)
+    domains: dict[str, Domain] = field(default_factory=dict)
+
+    def event(self, record: Record) -> Event:
+        """The event that a record is. Raises KeyError, TypeError or ValueError for what is none."""
+        if "domain" in record:
+            made = Domain(record["domain"], tuple(record["elements"]))
+            self.domains[made.name] = made
+            return DomainMade(made)
+        if "require" in record:
+            return Required(self._node(record["require"]), record["under"])
+        if "state" in record:
+            values = tuple(record["values"])
+            return Told(self.cells[record["state"]], values, record["under"])
+        if "choose" in record:
+            return self._choice(record)
+        declared = self._declared(record)
+        self.cells[declared.name] = declared
+        return CellMade(declared)
+
+    def _declared(self, record: Record) -> Declared:
+        if "element" in record:
+            kind: Kind = self.domains[record["domain_of"]]
+            return Declared(record["element"], kind, None, None, self.owner)
+        if "number" in record:
+            name, low, high = record["number"], record["low"], record["high"]
+            return Declared(name, Plain.NUMBER, low, high, self.owner)
+        [(plain, name)] = record.items()
+        return Declared(name, Plain(plain), None, None, self.owner)
+
+    def _choice(self, record: Record) -> ValueChoice | ConstraintChoice:
+        if "of" in record:
+            alternatives = tuple(tuple(values) for values in record["values"])
+            return ValueChoice(record["choose"], self.cells[record["of"]], alternatives)
+        sides = tuple(
+            (side, tuple(self._node(each) for each in nodes)) for side, nodes in record["sides"]
+        )
+        return ConstraintChoice(record["choose"], sides)
+
+    def _node(self, parts: list[Any]) -> Node:
+        op, first, *more = parts
+        if op == "CELL":
+            return cell(self.cells[first])
+        if op == "CONSTANT":
+            named = [kind for kind in Plain if kind.value == more[0]]
+            return constant(first, named[0] if named else self.domains[more[0]])
+        args = [self._node(each) for each in first]
+        entries = tuple(_as_tuple(each) for each in more[0]) if more else None
+        return node(Op[op], args, entries, args[1].kind if op == "IF" else None)
+
+
+def _as_tuple(entry: object) -> object:
+    return tuple(entry) if isinstance(entry, list) else entry

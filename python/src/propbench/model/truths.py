@@ -1,0 +1,119 @@
+"""Lines for truths: logic, comparisons, pairs of a relation."""
+
+from typing import TYPE_CHECKING
+
+from propbench.model.context import Context
+from propbench.model.core import different, rows_of
+from propbench.model.kinds import Plain, domain_of
+from propbench.model.nodes import Node, Op, constant, node
+from propbench.model.vocabulary import SIDES
+from propbench.model.writer import TRUTHS
+
+if TYPE_CHECKING:
+    from propbench.model.translation import Translation
+
+_MOST_DIFFERENT = 9
+
+
+class Truths:
+    """Writes what a truth's cell holds."""
+
+    def __init__(self, translation: "Translation") -> None:
+        self._all = translation
+        self._writer = translation.writer
+
+    def define(self, each: Node, cell: str, context: Context) -> None:
+        """Has a cell hold a truth, which is in core operations."""
+        if each.op is Op.NOT:
+            self._writer.attach("not", self._all.cell_of(each.args[0], context), cell)
+        elif each.op is Op.AND:
+            self.all_into(each, cell, context)
+        elif each.op is Op.OR:
+            self.any_into(each, cell, context)
+        else:
+            assert each.op is Op.RAW
+            self._compare(each.args[0], cell, context)
+
+    def all_into(self, each: Node, cell: str, context: Context) -> None:
+        """Has a cell tell whether all of these hold."""
+        self._chain("and", each, cell, context)
+
+    def any_into(self, each: Node, cell: str, context: Context) -> None:
+        """Has a cell tell whether one of these holds."""
+        self._chain("or", each, cell, context)
+
+    def all_different(self, each: Node, context: Context) -> None:
+        """States that all differ: any two, and where the program can tell more from all at once,
+        that."""
+        count = len(each.args)
+        if 2 < count <= _MOST_DIFFERENT and self._writer.offers(f"different{count}"):
+            cells = [self._all.cell_of(arg, context) for arg in each.args]
+            self._writer.attach(f"different{count}", *cells)
+        self._all.state(different(each), context)
+
+    def link(self, pair: Node, holds: bool, context: Context) -> None:
+        """States that two are a pair of a relation, or none."""
+        first, second = (domain_of(arg.kind) for arg in pair.args)
+        pairs = [
+            (left, right)
+            for left in first.elements
+            for right in second.elements
+            if ((left, right) in pair.entries) is holds
+        ]
+        relation = self._writer.relation(first, second, pairs)
+        cells = [self._all.cell_of(arg, context) for arg in pair.args]
+        self._writer.attach("link", *cells, by=relation)
+
+    def _chain(self, procedure: str, each: Node, cell: str, context: Context) -> None:
+        """A chain of truths, each joined to those before it, which have a cell too."""
+        before = self._all.cell_of(each.args[0], context)
+        for count in range(2, len(each.args) + 1):
+            added = self._all.cell_of(each.args[count - 1], context)
+            if count == len(each.args):
+                self._writer.attach(procedure, before, added, cell)
+                return
+            part = node(each.op, each.args[:count])
+            if part not in context.cells:
+                since = self._writer.position
+                made = self._writer.new_cell(Plain.TRUTH)
+                self._writer.attach(procedure, before, added, made)
+                context.cells[part] = self._writer.made(made, since)
+                self._all.join(part, made, context)
+            before = context.cells[part]
+
+    def _compare(self, each: Node, cell: str, context: Context) -> None:
+        if each.op is Op.ALL_DIFFERENT:
+            self._all.define_as(different(each), context, cell)
+        elif each.op is Op.AMONG:
+            self._among(each, cell, context)
+        elif each.op is Op.PAIR:
+            self._pair(each, cell, context)
+        else:
+            cells = [self._all.cell_of(arg, context) for arg in each.args]
+            if each.op is Op.EQUAL and each.args[0].kind is Plain.TRUTH:
+                # (what isn't known to be one of both is not told that it differs)
+                for known in cells:
+                    self._writer.narrow(known, TRUTHS, Plain.TRUTH, context)
+            self._writer.attach("less" if each.op is Op.LESS else "alike", *cells, cell)
+
+    def _among(self, each: Node, cell: str, context: Context) -> None:
+        """One of some elements: by a relation to a domain of `in` and `out`."""
+        element = each.args[0]
+        domain = domain_of(element.kind)
+        pairs = [(name, "in" if name in each.entries else "out") for name in domain.elements]
+        relation = self._writer.relation(domain, SIDES, pairs)
+        side = self._writer.new_cell(SIDES)
+        inside = self._all.cell_of(constant("in", SIDES), context)
+        self._writer.attach("link", self._all.cell_of(element, context), side, by=relation)
+        self._writer.attach("alike", side, inside, cell)
+
+    def _pair(self, each: Node, cell: str, context: Context) -> None:
+        """A pair of a relation: by its rows, and as a link where it is one, or is none."""
+        self._all.define_as(rows_of(each), context, cell)
+        other = self._writer.new_cell(Plain.TRUTH)
+        self._writer.attach("not", cell, other)
+        for gate, holds in ((cell, True), (other, False)):
+            within = Context(gate, None, context)
+            for arg in dict.fromkeys(each.args):
+                self._all.bring_in(arg, within)
+            self.link(each, holds, within)

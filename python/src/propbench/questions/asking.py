@@ -1,0 +1,78 @@
+"""How a question is asked: with a time, with an end at Ctrl-C, and of cells by name."""
+
+from collections.abc import Callable, Collection, Iterable
+from typing import Protocol, TypeVar
+
+from propbench.nearby import near_names
+from propbench.questions.clock import Clock
+from propbench.questions.model import Model
+from propbench.questions.trial import Trial
+from propbench.showing import quoted
+
+Result = TypeVar("Result")
+
+
+class Named(Protocol):
+    """A cell of the user's."""
+
+    @property
+    def name(self) -> str:
+        """The name that the user gave it."""
+        ...
+
+
+# A cell, or its name.
+CellLike = str | Named
+
+
+class Interrupted(KeyboardInterrupt):
+    """A question was ended by Ctrl-C. `so_far` is what was known by then, a result that is not
+    complete; the session goes on."""
+
+    def __init__(self, so_far: object) -> None:
+        super().__init__(str(so_far))
+        self.so_far = so_far
+
+
+def answered(
+    clock: Clock, trial: Trial, run: Callable[[], None], result: Callable[[], Result]
+) -> Result:
+    """The result of a question after its run, or as far as that came. Raises Interrupted."""
+    try:
+        with trial:
+            run()
+    except KeyboardInterrupt:
+        raise Interrupted(result()) from None
+    finally:
+        clock.end()
+    return result()
+
+
+def cell_named(model: Model, cell: CellLike) -> str:
+    """The name of a cell of the model. Raises KeyError for another."""
+    name = cell if isinstance(cell, str) else cell.name
+    _demand(name, model.cells(), "cell")
+    return name
+
+
+def premises_named(model: Model, names: Iterable[str]) -> list[str]:
+    """The names of premises of the model. Raises KeyError for another."""
+    found, known = list(names), model.premises()
+    for name in found:
+        _demand(name, known, "premise")
+    return found
+
+
+class NoSuchName(KeyError):
+    """There is no cell, or no premise, of that name."""
+
+    def __str__(self) -> str:
+        return str(self.args[0])
+
+
+def _demand(name: str, known: Collection[str], what: str) -> None:
+    if name in known:
+        return
+    near = near_names(name, known)
+    hint = f" Did you mean {' or '.join(near)}?" if near else ""
+    raise NoSuchName(f"There is no {what} {quoted(name)}.{hint}")

@@ -1,0 +1,152 @@
+"""The least and the greatest value of a cell in any plan, by bounds that close in on it."""
+
+from collections.abc import Sequence
+from dataclasses import dataclass
+
+from propbench.questions.asking import CellLike, answered, cell_named
+from propbench.questions.certificate import Certificate, Evidence
+from propbench.questions.checker import MOST
+from propbench.questions.clock import Clock, Progress
+from propbench.questions.model import Model, Plan
+from propbench.questions.outcomes import Cannot, Fits, Fork
+from propbench.questions.rooms import Numbers
+from propbench.questions.shown import NOT_REFUTED, Shown
+from propbench.questions.trial import Trial
+
+LEAST, GREATEST = "least", "greatest"
+
+
+@dataclass(frozen=True, repr=False)
+class Optimum(Shown):
+    """The least or greatest value of a cell in any plan.
+
+    `value` is that of the best plan that was found, and `plan` has the values of all cells in it;
+    both are None where none was found. `bound` is a number beyond which nothing fits. `proved` says
+    that there is nothing better than `value`, or no plan at all where that is None.
+    """
+
+    cell: str
+    sort: str
+    value: int | None
+    plan: Plan | None
+    bound: int | None
+    proved: bool
+    _certificate: Certificate | None
+
+    @property
+    def complete(self) -> bool:  # type: ignore[override]  # (what `proved` says)
+        """Whether that is proved."""
+        return self.proved
+
+    def headline(self) -> str:
+        best = "The least" if self.sort == LEAST else "The greatest"
+        if self.value is None:
+            says = "nothing fits" if self.proved else f"no plan was found, and {NOT_REFUTED} is one"
+            return f"{best} {self.cell}: {says}."
+        if self.proved:
+            return f"{best} {self.cell} is {self.value}:"
+        beyond = "less" if self.sort == LEAST else "more"
+        last = "" if self.bound is None else f", to {self.bound}"
+        return f"{self.cell} can be {self.value}; that it is {beyond}{last}, is {NOT_REFUTED}:"
+
+    def heads(self) -> Sequence[str]:
+        return ("cell", "value")
+
+    def rows(self) -> Sequence[Sequence[object]]:
+        return list((self.plan or {}).items())
+
+
+class Bounding:
+    """The search for an optimum with some premises: its bounds as far as they are known."""
+
+    def __init__(self, trial: Trial, premises: Sequence[str], cell: str, sort: str) -> None:
+        """That of a cell for numbers. Raises ValueError for another."""
+        room = trial.rooms[cell]
+        if not isinstance(room, Numbers):
+            raise ValueError(f"{cell} is not for numbers, and only of these one is the {sort}")
+        self.trial, self.premises, self.cell, self.sort = trial, list(premises), cell, sort
+        # (Seen from the other end, the greatest of the numbers is the least.)
+        self._sign = 1 if sort == LEAST else -1
+        self._low = room.low if sort == LEAST else -room.high
+        self._best: int | None = None
+        self.fits: Fits | None = None
+        self.proved = False
+        self.tree: Fork | None = None
+
+    @property
+    def value(self) -> int | None:
+        """The best value that was found."""
+        return None if self._best is None else self._sign * self._best
+
+    @property
+    def bound(self) -> int | None:
+        """A number beyond which nothing fits, None where none is known."""
+        return None if self._low == -MOST else self._sign * self._low
+
+    def beyond(self, most: int) -> Numbers:
+        """The values up to one, seen from this end."""
+        return Numbers(-MOST, most) if self._sign == 1 else Numbers(-most, MOST)
+
+    def run(self) -> None:
+        """Closes in on the optimum, until it is found or the time is over."""
+        first = self.trial.decide(self.premises)
+        if isinstance(first, Cannot):
+            self.proved, self.tree = True, first.tree
+        if isinstance(first, Fits):
+            self._find(first)
+        while self._best is not None and not self.proved and self._close_in(self._best):
+            continue
+
+    def _find(self, fits: Fits) -> None:
+        value = fits.plan[self.cell]
+        assert isinstance(value, int)
+        self._best, self.fits = self._sign * value, fits
+        self.proved = self._best == -MOST
+        self.trial.clock.tell(f"{self.cell}: {value} found, {self.bound} is the bound")
+
+    def _close_in(self, best: int) -> bool:
+        """Tries whether there is a plan in the better half; whether that was found out in time."""
+        most = best - 1 if best <= self._low else (self._low + best - 1) // 2
+        outcome = self.trial.decide(self.premises, [(self.cell, self.beyond(most))])
+        if isinstance(outcome, Fits):
+            self._find(outcome)
+        elif isinstance(outcome, Cannot):
+            self._low, self.tree = most + 1, outcome.tree
+            self.proved = self._low == best
+        return isinstance(outcome, Fits | Cannot) and not self.trial.clock.is_over()
+
+    def show(self, evidence: Evidence) -> tuple[str, dict[str, object]] | None:
+        """Adds what shows the bounds to the evidence, and gives the claim; None where nothing is
+        known."""
+        given = evidence.lines_of(self.premises)
+        if self.fits is None:
+            if not self.proved:
+                return None
+            evidence.add_tree(self.premises, [], self.tree)
+            return "fails", {"given": given, "told": []}
+        evidence.add_plan(self.premises, self.fits)
+        cell = evidence.cells[self.cell]
+        if self.bound is None:
+            return "fits", {"given": given, "told": [[cell, str(self.value)]]}
+        beyond = [[cell, str(self.beyond(self._low - 1))]]
+        evidence.add_tree(self.premises, beyond, self.tree)
+        best = {"cell": cell, "value": self.value, "bound": self.bound}
+        return "optimum", {"given": given, "sort": self.sort, **best}
+
+    def result(self) -> Optimum:
+        """What is known by now."""
+        evidence = Evidence.of(self.trial)
+        claim = self.show(evidence)
+        certificate = evidence.certificate([claim]) if claim else None
+        plan = self.fits.plan if self.fits else None
+        return Optimum(self.cell, self.sort, self.value, plan, self.bound, self.proved, certificate)
+
+
+def find_optimum(
+    model: Model, cell: CellLike, sort: str, seconds: float | None, progress: Progress | None
+) -> Optimum:
+    """The least or greatest value of a cell in any plan with what is believed."""
+    name, clock = cell_named(model, cell), Clock(seconds, progress)
+    trial = Trial(model, model.believed(), clock)
+    bounding = Bounding(trial, model.believed(), name, sort)
+    return answered(clock, trial, bounding.run, bounding.result)

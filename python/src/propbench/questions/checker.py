@@ -1,0 +1,221 @@
+"""Checks a certificate: asks a program again whether a network has what is claimed of it.
+
+This file reads no other part of the package: `python3 checker.py CERTIFICATE PROGRAM` is enough. A
+certificate has claims, evidence (plans, choices, trees of cases) and the base, the lines that make
+the network; what is asked is derived from the claims. A plan counts where it tells one value for
+each of the user's cells and the program settles. Nothing fits where the program says
+`contradiction` in each of some cases that cover everything.
+"""
+
+import hashlib
+import json
+import re
+import subprocess
+import sys
+from collections.abc import Callable, Iterable, Sequence
+from functools import partial
+from typing import Any
+
+HEAD, MOST, SIDES = "propbench certificate 1", 10**18, 8
+Room = Sequence[Any]  # what is left for a cell: the lowest and the highest number, or names
+Told = Sequence[Sequence[str]]  # cells, and what is told of each
+Names = Iterable[str]
+Wanted = Callable[[str], object]  # what is wanted of a reply
+CONTRADICTS: Wanted = re.compile("contradiction:").match
+CLAIMS = ("fits", "fails", "optimum", "conflicts", "plans_are", "answer")
+
+
+class CertificateError(Exception):
+    """A certificate does not show what it claims."""
+
+
+def demand(holds: object, says: str) -> None:
+    if not holds:
+        raise CertificateError(says)
+
+
+def room_of(value: str) -> Room:
+    """The values that a text leaves, as `3`, `3..5`, `red` or `{red blue}`."""
+    low, dots, high = value.partition("..")
+    if not low.removeprefix("-").isdecimal():
+        return value.strip("{}").split()
+    return [int(low), int(high if dots else low)]
+
+
+def covers(parts: Names, room: Room) -> bool:
+    """Whether each value of the room is among those that one of these texts leaves."""
+    rooms = [[*room_of(part)] for part in parts]
+    if not room or isinstance(room[0], str):
+        return {*room} <= {name for each in rooms for name in each}
+    low = room[0]
+    for first, last in sorted(rooms):
+        low = max(low, last + 1) if first <= low else low
+    return bool(low > room[1])
+
+
+def is_within(part: str, whole: Room, said: str) -> bool:
+    """Whether a reply to `ask` leaves a part alone, for a cell that may have all of the whole."""
+    value = said.partition(" = ")[2].removesuffix(" unsettled")
+    return covers([part], whole if value == "nothing" else room_of(value))
+
+
+def digits(cell: str, room: Room, mark: str) -> list[str]:
+    """Lines that leave all plans as they are: a number of the room is its low end and the sum of
+    cells, one for each digit to the base of 8, of which the largest is chosen first."""
+    made, total = [f"cell {mark}low span", f"fix {mark}low {room[0]}"], f"{mark}low"
+    for size in reversed([SIDES**n for n in range(60) if SIDES ** n <= room[1] - room[0]]):
+        digit, sides = f"{mark}digit{size}", [str(n * size) for n in range(SIDES)]
+        made += [f"cell {digit} span", f"fix {digit} 0..{sides[-1]}", f"cell {mark}to{size} span"]
+        made += [f"attach sum {total} {digit} {mark}to{size}"]
+        made += [f"choose {digit} {digit} {' or '.join(sides)}"]
+        total = f"{mark}to{size}"
+    return [*made, f"attach same {total} {cell}"]
+
+
+def hitting(sets: Sequence[Names], out: frozenset[str] = frozenset()) -> list[set[str]]:
+    """Sets that have a name of each of these sets, none that is out; each least one among them."""
+    found: list[set[str]] = []
+    for name in sorted({*sets[0]} - out) if sets else ():
+        found += [{name, *more} for more in hitting([s for s in sets if name not in s], out)]
+        out |= {name}
+    return found if sets else [set()]
+
+
+class Checker:
+    """The lines to send, with what is wanted of the reply to each."""
+
+    def __init__(self, base: Sequence[str], evidence: dict[str, Any]) -> None:
+        self.asked: list[tuple[str, Wanted]] = []
+        self.inside, self.basis, self.mark = set[str](), {*evidence["basis"]}, evidence["mark"]
+        self.cells, self.plans = {*evidence["cells"]}, evidence["plans"]
+        self.trees = {json.dumps(key): tree for key, tree in evidence["trees"]}
+        words = [line.split() for line in base]
+        demand(not any(w.startswith(self.mark) for line in words for w in line), "a mark is taken")
+        demand(not {w[0] for w in words} & {"limit", "settle", "ask"}, "the base asks")
+        kinds: dict[str, Room] = {"span": [-MOST, MOST], "truth": ["no", "yes"]}
+        kinds |= {w[1]: w[2:] for w in words if w[0] == "domain"}
+        self.rooms = {w[1]: kinds.get(w[2], ["any symbol"]) for w in words if w[0] == "cell"}
+        self.say(*(line for line, w in zip(base, words) if w[0] != "choose"))
+        self.say(*(f"kick {name}" for name in {w[1]: 0 for w in words if w[0] == "tell"}))
+        self.believe(self.basis)
+        for cell, part in evidence["rooms"].items():  # no choice is made yet: all plans lie within
+            whole, self.rooms[cell] = self.rooms[cell], room_of(part)
+            self.say(f"ask {cell}", wanted=partial(is_within, part, whole))
+        self.say(*(line for line, w in zip(base, words) if w[0] == "choose"))
+        for n, (cell, parts) in enumerate(evidence["choices"]):
+            room, name = self.rooms[cell], f"{self.mark}c{n}"
+            demand(not parts or covers(parts, room), f"a choice leaves out a value of {cell}")
+            made = [f"choose {name} {cell} {' or '.join(parts)}"] if parts else []
+            self.say(*made or digits(cell, room, name))
+        for plan in self.plans:
+            self.believe(plan["in"])
+            self.settles([], plan["values"])
+
+    def say(self, *lines: str, wanted: Wanted = "ok".__eq__) -> None:
+        self.asked += [(line, wanted) for line in lines]
+
+    def believe(self, names: Names) -> None:
+        """Brings in these premises, and kicks all others out."""
+        wanted = {*names}
+        demand(wanted >= self.basis, "a premise of the basis is missing")
+        self.say(*(f"kick {name}" for name in sorted(self.inside - wanted)))
+        self.say(*(f"bring {name}" for name in sorted(wanted - self.inside)))
+        self.inside = wanted
+
+    def tells(self, told: Told, line: str, wanted: Wanted) -> None:
+        """Wants this of the reply to a line after values are told, which are forgotten then."""
+        self.say(*(f"tell {self.mark}{n} {cell} {value}" for n, (cell, value) in enumerate(told)))
+        self.say(line, wanted=wanted)
+        self.say(*(f"forget {self.mark}{n}" for n in range(len(told))))
+
+    def settles(self, told: Told, plan: dict[str, str]) -> None:
+        single = all(len({*room_of(value)}) == 1 for value in plan.values())
+        demand(single and {*plan} >= self.cells, "a plan without one value for each cell")
+        self.tells([*told, *plan.items()], "settle", "settled".__eq__)
+
+    def cases(self, tree: Any, told: Told, leaf: Callable[[Any, Told], None]) -> None:
+        """Goes to the leaves of a tree, where the cases of each fork cover all that may be."""
+        if not isinstance(tree, list):
+            return leaf(tree, told)
+        room = {**self.rooms, **{cell: room_of(part) for cell, part in told}}[tree[0]]
+        demand(covers([part for part, _ in tree[1]], room), f"a case of {tree[0]} is left out")
+        for part, below in tree[1]:
+            self.cases(below, [*told, [tree[0], part]], leaf)
+
+    def fits(self, given: Names, told: Told) -> None:
+        """A plan of the evidence has these premises, and values among those that are told."""
+        plans = [plan["values"] for plan in self.plans if {*given} <= {*plan["in"]}]
+        found = any(all(covers([v], room_of(plan[c])) for c, v in told) for plan in plans)
+        demand(found, f"no plan is given with {[*given]} {[*told]}")
+
+    def fails(self, given: Names, told: Told) -> None:
+        """Nothing fits with these premises within what is told."""
+        self.believe(given)
+        tree = self.trees.get(json.dumps([sorted(given), told]))
+        self.cases(tree, told, lambda _, path: self.tells(path, "settle", CONTRADICTS))
+
+    def optimum(self, sort: str, given: Names, cell: str, value: int, bound: int) -> None:
+        """A plan has this value, and nothing fits where it is less, or greater, than the bound."""
+        self.fits(given, [[cell, f"{value}"]])
+        beyond = f"{-MOST}..{bound - 1}" if sort == "least" else f"{bound + 1}..{MOST}"
+        self.fails(given, [[cell, beyond]])
+
+    def conflicts(
+        self, given: Names, told: Told, sets: Any, outs: Any, least: bool, complete: bool
+    ) -> None:
+        """Each of the sets fails and, where they are least, fits without any name. Without each of
+        the outs all fits, and not with a name of it back. Where that is complete, nothing else is.
+        """
+        for names in map(set[str], sets):
+            self.fails(names, told)
+            for name in names if least else ():
+                self.fits(names - {name}, told)
+        for out, name in ((out, name) for out in outs for name in out):
+            back = {*given}.difference(out) | {name}
+            demand(any({*names} <= back for names in sets), f"{name} need not be left out")
+        for out in [*outs, *(hitting(sets) if complete else ())]:
+            self.fits({*given}.difference(out), told)
+            demand(not outs or any({*each} <= {*out} for each in outs), "a repair is left out")
+
+    def plans_are(self, given: Names, show: Names, plans: Any, tree: Any, complete: bool) -> None:
+        """Each leaf is a contradiction, or a plan with one value for each cell that is shown."""
+        found = []
+
+        def leaf(plan: Any, told: Told) -> None:
+            if not isinstance(plan, dict):
+                demand(plan is None or not complete, "a case is left open")
+                return None if plan else self.tells(told, "settle", CONTRADICTS)
+            rooms = {**self.rooms, **{cell: room_of(part) for cell, part in told}}
+            demand(all(len({*rooms[cell]}) == 1 for cell in show), "a case that may have two plans")
+            self.settles(told, plan)
+            found.append([plan[cell] for cell in show])
+
+        self.believe(given)
+        self.cases(tree, [], leaf)
+        demand(sorted(found) == sorted(plans), "the plans are not those of the cases")
+
+    def answer(self, given: Names, told: Told, ask: str, said: str) -> None:
+        self.believe(given)
+        self.tells(told, ask, said.__eq__)
+
+
+def check(lines: Sequence[str], program: str) -> bool:
+    """True where the program answers so that the claims hold, else CertificateError is raised."""
+    digest = hashlib.sha256("\n".join(lines[:-1]).encode()).hexdigest()
+    demand(lines[0] == HEAD and lines[-1] == digest, "not as it was written")
+    checker = Checker(lines[3:-1], json.loads(lines[2]))
+    for sort, claim in json.loads(lines[1]):
+        demand(sort in CLAIMS, f"no claim is called {sort}")
+        getattr(checker, sort)(**claim)
+    sent = "".join(f"{line}\n" for line, _ in checker.asked)
+    ran = subprocess.run([program], input=sent, capture_output=True, encoding="utf-8")
+    said = ran.stdout.splitlines()
+    for (line, wanted), reply in zip(checker.asked, said):
+        demand(wanted(reply), f"{line} is answered: {reply}")
+    demand(len(said) == len(checker.asked), f"the program ended early: {ran.stderr}")
+    return True
+
+
+if __name__ == "__main__":
+    with open(sys.argv[1], encoding="utf-8") as file:
+        print(check(file.read().split("\n")[:-1], sys.argv[2]))

@@ -1,0 +1,50 @@
+"""How long a question may take, and what is told while it runs."""
+
+import sys
+import time
+from collections.abc import Callable
+
+# What is told of a question that goes on: a line of text.
+Progress = Callable[[str], None]
+
+# A terminal is told of a question after so many seconds, and so often.
+_FIRST, _AGAIN = 1.0, 0.2
+
+
+class Clock:
+    """The time that a question has."""
+
+    def __init__(self, seconds: float | None, progress: Progress | None) -> None:
+        """So many seconds from now, without an end where that is None. Raises ValueError for less
+        than nothing."""
+        if seconds is not None and not seconds >= 0:
+            raise ValueError(f"a question can't take {seconds} seconds")
+        self._began = time.monotonic()
+        self._until = None if seconds is None else self._began + seconds
+        self._progress = progress or on_terminal
+        self._is_asked_for = progress is not None
+        self._next = self._began + _FIRST
+        self._told = False
+
+    def is_over(self) -> bool:
+        """Whether the time is used up."""
+        return self._until is not None and time.monotonic() >= self._until
+
+    def tell(self, text: str) -> None:
+        """Tells of how far a question is, now and then."""
+        now = time.monotonic()
+        if self._is_asked_for or now >= self._next:
+            self._next = now + _AGAIN
+            self._told = True
+            self._progress(text)
+
+    def end(self) -> None:
+        """Tells that the question has come to its end."""
+        if self._told and not self._is_asked_for:
+            self._progress("")
+
+
+def on_terminal(text: str) -> None:
+    """Shows a line on standard error where that is a terminal, in place of the one before."""
+    if sys.stderr.isatty():
+        print(f"\r\x1b[K{text}", end="", file=sys.stderr, flush=True)

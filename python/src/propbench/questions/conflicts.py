@@ -1,0 +1,205 @@
+"""Conflicts, the least sets of premises that can't all hold, and repairs, the least to give up."""
+
+from collections.abc import Iterable, Iterator, Mapping, Sequence
+
+from propbench.questions.asking import answered, premises_named
+from propbench.questions.certificate import Certificate, Evidence
+from propbench.questions.clock import Clock, Progress
+from propbench.questions.exploring import Exploring
+from propbench.questions.hitting import bits_of
+from propbench.questions.model import Model
+from propbench.questions.shown import NOT_REFUTED, Shown, listed
+from propbench.questions.trial import Trial
+
+
+class Premises(frozenset[str]):
+    """A set of premises, in the order in which the user first named them."""
+
+    names: tuple[str, ...]
+
+    def __new__(cls, names: Iterable[str]) -> "Premises":
+        """The set of these names."""
+        ordered = tuple(names)
+        made = frozenset.__new__(cls, ordered)
+        made.names = ordered
+        return made
+
+    def __iter__(self) -> Iterator[str]:
+        return iter(self.names)
+
+    def __str__(self) -> str:
+        return listed(self.names) or "no premise"
+
+    def __repr__(self) -> str:
+        return str(self)
+
+
+class Conflict(Premises):
+    """Premises that can't all hold. `least` says that without any one of them the rest has a plan;
+    where no time was left to find these plans, it is False."""
+
+    least: bool
+
+
+class Repair(Premises):
+    """Premises without which all the others have a plan, and none of which can come back. `cost` is
+    the sum of their weights."""
+
+    cost: float
+
+
+class Conflicts(Shown, list[Conflict]):
+    """Conflicts among the premises that are believed; all there are where it is `complete`."""
+
+    def __init__(
+        self,
+        found: Iterable[Conflict],
+        complete: bool,
+        texts: Mapping[str, str],
+        certificate: Certificate,
+    ) -> None:
+        super().__init__(found)
+        self.complete = complete
+        self._texts = texts
+        self._certificate = certificate
+
+    def headline(self) -> str:
+        if self.complete and not self:
+            return "No conflict: all that is believed fits together."
+        if self.complete and not self[0]:
+            return "What always holds can't hold, whatever is believed."
+        number = f"{len(self)} conflict{'' if len(self) == 1 else 's'}"
+        return f"{number}, {'no others' if self.complete else f'others are {NOT_REFUTED}'}:"
+
+    def heads(self) -> Sequence[str]:
+        return ("conflict", "premise", "says")
+
+    def rows(self) -> Sequence[Sequence[object]]:
+        return [
+            (str(number) if place == 0 else "", premise, self._texts[premise])
+            for number, conflict in enumerate(self, 1)
+            for place, premise in enumerate(conflict)
+        ]
+
+
+class Repairs(Shown, list[Repair]):
+    """Repairs of what is believed, the cheapest first; all there are where it is `complete`."""
+
+    def __init__(
+        self, found: Iterable[Repair], complete: bool, has_conflict: bool, certificate: Certificate
+    ) -> None:
+        super().__init__(found)
+        self.complete = complete
+        self._has_conflict = has_conflict
+        self._certificate = certificate
+
+    def headline(self) -> str:
+        if self.complete and not self:
+            return "There is no repair: what always holds can't hold, whatever is believed."
+        if self.complete and not self[0]:
+            return "Nothing has to be given up: all that is believed fits together."
+        number = f"{len(self)} repair{'' if len(self) == 1 else 's'}"
+        return f"{number}, {'no others' if self.complete else f'others are {NOT_REFUTED}'}:"
+
+    def heads(self) -> Sequence[str]:
+        return ("cost", "give up")
+
+    def rows(self) -> Sequence[Sequence[object]]:
+        return [(f"{repair.cost:g}", str(repair)) for repair in self]
+
+
+def find_conflicts(
+    model: Model, most: int, seconds: float | None, progress: Progress | None
+) -> Conflicts:
+    """The least sets of believed premises that can't all hold, so many at the most."""
+    explored = _explore(model, {}, seconds, progress)
+
+    def run() -> None:
+        while explored.step() and len(explored.conflicts) < most:
+            _tell(explored)
+
+    def result() -> Conflicts:
+        found = []
+        for refuted in explored.conflicts:
+            found.append(Conflict(explored.names(refuted.mask)))
+            found[-1].least = refuted.least
+        certificate = _certificate(explored, [], True)
+        return Conflicts(found, explored.complete, _texts(model), certificate)
+
+    return answered(explored.trial.clock, explored.trial, run, result)
+
+
+def find_repairs(
+    model: Model,
+    weight: Mapping[str, float],
+    most: int,
+    seconds: float | None,
+    progress: Progress | None,
+) -> Repairs:
+    """The least sets of believed premises without which the others have a plan, by their cost."""
+    premises_named(model, weight)
+    for premise, value in weight.items():
+        if not value >= 0:
+            raise ValueError(f"the weight of {premise} is less than nothing: {value}")
+    explored = _explore(model, weight, seconds, progress)
+
+    def run() -> None:
+        while explored.step() and len(explored.repairs) < most:
+            _tell(explored)
+
+    def result() -> Repairs:
+        found = []
+        for mask in explored.repairs:
+            found.append(Repair(explored.names(mask)))
+            found[-1].cost = explored.cost(mask)
+        certificate = _certificate(explored, explored.repairs, False)
+        return Repairs(found, explored.complete, bool(explored.conflicts), certificate)
+
+    return answered(explored.trial.clock, explored.trial, run, result)
+
+
+def _explore(
+    model: Model, weight: Mapping[str, float], seconds: float | None, progress: Progress | None
+) -> Exploring:
+    clock = Clock(seconds, progress)
+    return Exploring(Trial(model, (), clock), model.believed(), weight)
+
+
+def _tell(explored: Exploring) -> None:
+    conflicts, repairs = len(explored.conflicts), len(explored.repairs)
+    explored.trial.clock.tell(f"{conflicts} conflicts, {repairs} repairs so far")
+
+
+def _texts(model: Model) -> dict[str, str]:
+    return {premise: model.text(premise) for premise in model.premises()}
+
+
+def _certificate(explored: Exploring, outs: Sequence[int], are_conflicts: bool) -> Certificate:
+    """What shows the conflicts, and that each is least where these were asked for; or the repairs,
+    and that none of a repair can come back; and that there are no more where all were found."""
+    evidence = Evidence.of(explored.trial)
+    for refuted in explored.conflicts:
+        evidence.add_tree(explored.names(refuted.mask), [], refuted.tree)
+    least = [refuted.mask for refuted in explored.conflicts if refuted.least and are_conflicts]
+    others = [refuted.mask for refuted in explored.conflicts if refuted.mask not in least]
+    needed = [mask & ~bit for mask in least for bit in bits_of(mask)]
+    needed += [explored.all & ~hit for hit in (explored.repairs if explored.complete else outs)]
+    for mask in needed:
+        kept = next(kept for kept in explored.plans if kept.mask & mask == mask)
+        evidence.add_plan(explored.names(kept.mask), kept.fits)
+
+    def claim(sets: Sequence[int], is_all: bool) -> tuple[str, dict[str, object]]:
+        said: dict[str, object] = {
+            "given": evidence.lines_of(explored.premises),
+            "told": [],
+            "sets": [evidence.lines_of(explored.names(mask)) for mask in sets],
+            "outs": [evidence.lines_of(explored.names(hit)) for hit in outs],
+            "least": are_conflicts and sets is least,
+            "complete": is_all and explored.complete,
+        }
+        return "conflicts", said
+
+    if not are_conflicts:
+        return evidence.certificate([claim(others, True)])
+    claims = [claim(least, True), *([claim(others, False)] if others else [])]
+    return evidence.certificate(claims)

@@ -1,0 +1,113 @@
+"""Which premises can't all hold, and which have to be given up: found by trying sets of them.
+
+The cheapest set that hits all known conflicts is given up for a try. Either the rest has a plan:
+then that set is a repair. Or it has not: then what the program names is shrunk to a least conflict
+by leaving out one premise after another. (MARCO's way, with the map solved for its cheapest sets.)
+"""
+
+from collections.abc import Mapping, Sequence
+from dataclasses import dataclass
+
+from propbench.questions.hitting import Hitting, bits_of
+from propbench.questions.outcomes import Cannot, Fits, Fork, Open
+from propbench.questions.trial import Case, Trial
+
+
+@dataclass(frozen=True)
+class Kept:
+    """A plan, and the premises that hold in it, as bits."""
+
+    mask: int
+    fits: Fits
+
+
+@dataclass(frozen=True)
+class Refuted:
+    """A set of premises that can't all hold, with the cases that show it. It is `least` where the
+    rest has a plan without any one of them."""
+
+    mask: int
+    tree: Fork | None
+    least: bool
+
+
+class Exploring:
+    """The conflicts and repairs among some premises, as far as they are known."""
+
+    def __init__(
+        self,
+        trial: Trial,
+        premises: Sequence[str],
+        weights: Mapping[str, float],
+        told: Sequence[Case] = (),
+    ) -> None:
+        """Those among these premises, in this order, within what is supposed."""
+        self.trial, self.premises, self._told = trial, premises, tuple(told)
+        self._bit = {premise: 1 << place for place, premise in enumerate(premises)}
+        self.all = (1 << len(premises)) - 1
+        self._hitting = Hitting([weights.get(premise, 1) for premise in premises])
+        self.plans: list[Kept] = []
+        self.conflicts: list[Refuted] = []
+        self.repairs: list[int] = []
+        # Whether all conflicts and repairs were found, and what was neither shown nor refuted.
+        self.complete = False
+        self.unknown: list[int] = []
+
+    def names(self, mask: int) -> tuple[str, ...]:
+        """The premises of a set."""
+        return tuple(premise for premise in self.premises if self._bit[premise] & mask)
+
+    def mask(self, premises: Sequence[str]) -> int:
+        """The set of these premises."""
+        return sum(self._bit[premise] for premise in premises)
+
+    def cost(self, mask: int) -> float:
+        """The sum of the weights of a set."""
+        return self._hitting.cost(mask)[0]
+
+    def step(self) -> bool:
+        """Finds one conflict or repair more; whether there may be others."""
+        hit = self._hitting.next()
+        if hit is None:
+            self.complete = not self.unknown and all(each.least for each in self.conflicts)
+            return False
+        rest = self.all & ~hit
+        outcome = self.try_out(rest)
+        if isinstance(outcome, Refuted):
+            self.conflicts.append(self.shrunk(outcome))
+            self._hitting.learn(self.conflicts[-1].mask)
+            return True
+        if isinstance(outcome, Kept):
+            self.repairs.append(hit)
+        else:
+            self.unknown.append(rest)
+        self._hitting.finish(hit)
+        return not self.trial.clock.is_over()
+
+    def try_out(self, mask: int) -> Kept | Refuted | Open:
+        """A plan in which all of these premises hold, or what can't hold of them."""
+        for kept in self.plans:
+            if kept.mask & mask == mask:
+                return kept
+        outcome = self.trial.decide(self.names(mask), self._told)
+        if isinstance(outcome, Cannot):
+            return Refuted(self.mask(self.trial.named(outcome)), outcome.tree, False)
+        if isinstance(outcome, Fits):
+            held = set(self.trial.model.held(outcome.plan))
+            holding = self.mask([premise for premise in self.premises if premise in held])
+            self.plans.append(Kept(mask | holding, outcome))
+            return self.plans[-1]
+        return outcome
+
+    def shrunk(self, refuted: Refuted) -> Refuted:
+        """A least conflict among these premises."""
+        mask, tree, least = refuted.mask, refuted.tree, True
+        for bit in reversed(bits_of(mask)):
+            if not mask & bit:
+                continue
+            outcome = self.try_out(mask & ~bit)
+            if isinstance(outcome, Refuted):
+                mask, tree = outcome.mask, outcome.tree
+            elif isinstance(outcome, Open):
+                least = False
+        return Refuted(mask, tree, least)

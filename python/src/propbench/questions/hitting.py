@@ -1,0 +1,89 @@
+"""Least sets that have something of each of some sets, the cheapest first: what is left to try.
+
+What may be given up are the bits of whole numbers. Each set that is known to be in conflict has to
+be hit; the cheapest way to do so is tried next, and either repairs all or brings a new conflict.
+"""
+
+import heapq
+from collections.abc import Sequence
+from itertools import count
+
+# What a set costs: its weight, and how many it has.
+Cost = tuple[float, int]
+
+
+def bits_of(mask: int) -> list[int]:
+    """The bits of a set, the lowest first."""
+    found = []
+    while mask:
+        low = mask & -mask
+        found.append(low)
+        mask ^= low
+    return found
+
+
+class Hitting:
+    """The sets that hit all conflicts, each handed out once and only the least ones."""
+
+    def __init__(self, weights: Sequence[float]) -> None:
+        """Sets of the bits with these weights, which are not negative."""
+        self._weight = {1 << place: weight for place, weight in enumerate(weights)}
+        self._conflicts: list[int] = []
+        self._done: list[int] = []
+        self._order = count()
+        # What is to be looked at: the least cost, the set so far, and what it does not take.
+        self._open: list[tuple[Cost, int, int, int]] = [((0, 0), next(self._order), 0, 0)]
+
+    def learn(self, conflict: int) -> None:
+        """Takes in a set that has to be hit."""
+        self._conflicts.append(conflict)
+
+    def finish(self, hit: int) -> None:
+        """Takes in that nothing has to be looked at that has all of this set."""
+        self._done.append(hit)
+
+    def next(self) -> int | None:
+        """The cheapest set that hits all, and has none of those that are finished; None where there
+        is no more. It comes again until it is finished or another conflict is learned."""
+        while self._open:
+            cost, _, hit, out = entry = heapq.heappop(self._open)
+            if any(done & hit == done for done in self._done):
+                continue
+            missed = [conflict & ~out for conflict in self._conflicts if not conflict & hit]
+            if not missed:
+                heapq.heappush(self._open, entry)
+                return hit
+            least = self._least(hit, missed)
+            if least is None:
+                continue
+            if least > cost:
+                heapq.heappush(self._open, (least, next(self._order), hit, out))
+                continue
+            self._fork(hit, out, min(missed, key=int.bit_count))
+        return None
+
+    def _fork(self, hit: int, out: int, conflict: int) -> None:
+        """The ways to hit one more conflict: by its first bit, by the next and not the first, .."""
+        for bit in bits_of(conflict):
+            cost = self.cost(hit | bit)
+            heapq.heappush(self._open, (cost, next(self._order), hit | bit, out))
+            out |= bit
+
+    def cost(self, hit: int) -> Cost:
+        """What a set costs."""
+        bits = bits_of(hit)
+        return sum(self._weight[bit] for bit in bits), len(bits)
+
+    def _least(self, hit: int, missed: Sequence[int]) -> Cost | None:
+        """A cost below which these conflicts can't be hit in addition: that of some which have
+        nothing in common. None where one of them can't be hit."""
+        weight, number = self.cost(hit)
+        seen = 0
+        for conflict in sorted(missed, key=int.bit_count):
+            if not conflict:
+                return None
+            if not conflict & seen:
+                seen |= conflict
+                weight += min(self._weight[bit] for bit in bits_of(conflict))
+                number += 1
+        return weight, number

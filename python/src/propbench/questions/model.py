@@ -1,0 +1,72 @@
+"""What the questions ask of a workbench: all that they know of one."""
+
+from collections.abc import Mapping, Sequence
+from typing import Protocol
+
+from propbench.session import Session
+
+# A value told for one of the user's cells: a number, a name, or whether a truth holds.
+Point = int | str | bool
+# Points by the names of cells.
+Plan = dict[str, Point]
+
+
+class Model(Protocol):
+    """A network with named premises of the user's, and cells of the user's."""
+
+    def base(self) -> Sequence[str]:
+        """The lines that make the network, as it is saved: a fresh session that is sent these lines
+        is in the same state (statements, premises, what is kicked out, choices)."""
+        ...
+
+    def premises(self) -> Sequence[str]:
+        """The user's premises, as the user wrote them, in the order of their first mention."""
+        ...
+
+    def believed(self) -> Sequence[str]:
+        """Those of them that are believed."""
+        ...
+
+    def line_name(self, premise: str) -> str:
+        """The premise's name on a line."""
+        ...
+
+    def cells(self) -> Sequence[str]:
+        """The user's cells, by the names that the user gave."""
+        ...
+
+    def cell_name(self, cell: str) -> str:
+        """The cell's name on a line."""
+        ...
+
+    def candidates(self, cell: str) -> range | Sequence[str] | None:
+        """The values that the declaration leaves: a range for numbers (None where unbounded), the
+        domain's names, ("no", "yes") for truths; None for symbols."""
+        ...
+
+    def literal(self, cell: str, value: Point) -> str:
+        """How this value is written on a line for `tell`, `fix`, `choose`."""
+        ...
+
+    def point(self, cell: str, text: str) -> Point:
+        """The value of the cell that is written so on a line."""
+        ...
+
+    def violated(self, plan: Mapping[str, Point], believed: Sequence[str]) -> str | None:
+        """The text of a constraint (always, or under one of these premises) that does not hold at
+        these points in exact whole numbers, or None where all hold. Statements that are told under
+        these premises count too, and each choice as one of its sides."""
+        ...
+
+    def held(self, plan: Mapping[str, Point]) -> Sequence[str]:
+        """The premises of which all that is stated holds at these points."""
+        ...
+
+    def text(self, premise: str) -> str:
+        """What the premise states, for people."""
+        ...
+
+    @property
+    def session(self) -> Session:
+        """The session that the workbench talks through."""
+        ...

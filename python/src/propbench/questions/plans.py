@@ -1,0 +1,135 @@
+"""All plans over some cells, each once: a tree of cases, each leaf a plan or a contradiction."""
+
+from collections.abc import Iterable, Sequence
+
+from propbench.questions.asking import CellLike, answered, cell_named
+from propbench.questions.certificate import Certificate, Evidence, Tree, as_json, on_lines
+from propbench.questions.clock import Clock, Progress
+from propbench.questions.model import Model, Plan
+from propbench.questions.outcomes import Cannot, Fits, Open, Outcome
+from propbench.questions.rooms import Names, Room, around
+from propbench.questions.shown import NOT_REFUTED, Shown
+from propbench.questions.trial import Case, Trial
+
+_OPEN = "open"
+
+
+class Plans(Shown, list[Plan]):
+    """Plans over the cells that are shown, each a dict by their names; all there are where it is
+    `complete`."""
+
+    def __init__(
+        self, show: Sequence[str], found: Iterable[Plan], complete: bool, certificate: Certificate
+    ) -> None:
+        super().__init__(found)
+        self.show = tuple(show)
+        self.complete = complete
+        self._certificate = certificate
+
+    def headline(self) -> str:
+        if self.complete and not self:
+            return "Nothing fits."
+        number = f"{len(self)} plan{'' if len(self) == 1 else 's'}"
+        return f"{number}, {'no others' if self.complete else f'others are {NOT_REFUTED}'}:"
+
+    def heads(self) -> Sequence[str]:
+        return self.show
+
+    def rows(self) -> Sequence[Sequence[object]]:
+        return [[plan[cell] for cell in self.show] for plan in self]
+
+
+class Listing:
+    """The search for all plans: the tree of cases, as far as it has grown."""
+
+    def __init__(self, trial: Trial, show: Sequence[str], most: int) -> None:
+        """Over these cells, so many at the most. Raises ValueError for a cell for symbols."""
+        for cell in show:
+            if trial.rooms[cell] is None:
+                raise ValueError(f"{cell} is for symbols, and these are too many to go through")
+        self.trial, self.show, self.most = trial, list(show), most
+        self.found: list[Fits] = []
+        self.tree: Tree = _OPEN
+        self.complete = False
+
+    def run(self) -> None:
+        """Goes through all cases, as long as there is time."""
+        self.complete = True
+        self.tree = self._tree((), self._within(()))
+
+    def _within(self, told: Sequence[Case]) -> Outcome:
+        """What comes of a search within these cases."""
+        if len(self.found) >= self.most or self.trial.clock.is_over():
+            return Open("enough plans were found")
+        return self.trial.decide(self.trial.basis, told)
+
+    def _tree(self, told: tuple[Case, ...], outcome: Outcome) -> Tree:
+        """The tree of what lies within these cases, of which this is known."""
+        if isinstance(outcome, Cannot):
+            return as_json(outcome.tree)
+        if isinstance(outcome, Open):
+            self.complete = False
+            return _OPEN
+        rooms = self.trial.known(told)
+        cell = next((cell for cell in self.show if len(rooms[cell]) > 1), None)
+        if cell is not None:
+            return [self.trial.cell_line[cell], self._cases(told, cell, outcome)]
+        self.found.append(outcome)
+        self.trial.clock.tell(f"{len(self.found)} plans so far")
+        return on_lines(self.trial.cell_line, outcome)
+
+    def _cases(self, told: tuple[Case, ...], cell: str, first: Fits) -> list[list[object]]:
+        """The values of a cell, each with its tree, and what lies between; one plan is known."""
+        cases: list[list[object]] = []
+        waiting: list[tuple[Room, Outcome | None]] = [(self.trial.known(told)[cell], first)]
+        while waiting:
+            part, known = waiting.pop()
+            within = (*told, (cell, part))
+            outcome = known or self._within(within)
+            if isinstance(outcome, Fits) and len(part) > 1:
+                value = outcome.values[cell]
+                for each in reversed(around(part, value)):
+                    waiting.append((each, outcome if str(each) == value else None))
+            else:
+                cases.append([str(part), self._tree(within, outcome)])
+        return cases
+
+    def result(self) -> Plans:
+        """The plans that were found, in order."""
+        evidence = Evidence.of(self.trial)
+        claim: dict[str, object] = {
+            "given": evidence.lines_of(self.trial.basis),
+            "show": [self.trial.cell_line[cell] for cell in self.show],
+            "plans": [[fits.values[cell] for cell in self.show] for fits in self.found],
+            "tree": self.tree,
+            "complete": self.complete,
+        }
+        certificate = evidence.certificate([("plans_are", claim)])
+        found = sorted(self.found, key=self._place)
+        shown = ({cell: fits.plan[cell] for cell in self.show} for fits in found)
+        return Plans(self.show, shown, self.complete, certificate)
+
+    def _place(self, fits: Fits) -> list[int]:
+        """What plans are ordered by: each number, or the place of each name in its domain."""
+        places = []
+        for cell in self.show:
+            room, value = self.trial.rooms[cell], fits.values[cell]
+            places.append(room.names.index(value) if isinstance(room, Names) else int(value))
+        return places
+
+
+def find_plans(
+    model: Model,
+    show: Iterable[CellLike] | None,
+    most: int,
+    seconds: float | None,
+    progress: Progress | None,
+) -> Plans:
+    """All plans with what is believed, over these cells, or over all but those for symbols."""
+    clock = Clock(seconds, progress)
+    names = None if show is None else [cell_named(model, cell) for cell in show]
+    trial = Trial(model, model.believed(), clock)
+    if names is None:
+        names = [cell for cell in trial.cells if trial.rooms[cell] is not None]
+    listing = Listing(trial, list(dict.fromkeys(names)), most)
+    return answered(clock, trial, listing.run, listing.result)

@@ -1,0 +1,84 @@
+"""How results are shown: as text, as a table of a notebook, as a table of pandas where it is there."""
+
+import html
+from collections.abc import Sequence
+from importlib import import_module
+from typing import TYPE_CHECKING, Any
+
+from propbench.showing import printable
+from propbench.tables import table
+
+if TYPE_CHECKING:
+    from propbench.questions.certificate import Certificate
+
+NOT_REFUTED = "not refuted"
+
+
+class Shown:
+    """A result with a headline and rows under heads. `complete` is False where the question was cut
+    before all was found, and `certificate` has what anyone can ask the program again."""
+
+    complete: bool
+    _certificate: "Certificate | None"
+
+    def headline(self) -> str:
+        """The result in a sentence."""
+        raise NotImplementedError
+
+    def heads(self) -> Sequence[str]:
+        """The heads of the table."""
+        raise NotImplementedError
+
+    def rows(self) -> Sequence[Sequence[object]]:
+        """The rows of the table."""
+        raise NotImplementedError
+
+    @property
+    def certificate(self) -> "Certificate":
+        """What anyone can ask the program again. Raises ValueError where there is nothing to show."""
+        if self._certificate is None:
+            raise ValueError("there is nothing that a certificate could show")
+        return self._certificate
+
+    def __str__(self) -> str:
+        rows = [[said(value) for value in row] for row in self.rows()]
+        return "\n".join([self.headline(), *([table(self.heads(), rows, "  ")] if rows else [])])
+
+    def __repr__(self) -> str:
+        return str(self)
+
+    def _repr_html_(self) -> str:
+        heads = "".join(f"<th>{_escaped(head)}</th>" for head in self.heads())
+        rows = "".join(
+            f"<tr>{''.join(f'<td>{_escaped(value)}</td>' for value in row)}</tr>"
+            for row in self.rows()
+        )
+        head = f"<thead><tr>{heads}</tr></thead>" if rows else ""
+        return f"<p>{_escaped(self.headline())}</p><table>{head}<tbody>{rows}</tbody></table>"
+
+    def to_pandas(self) -> Any:
+        """The table as a DataFrame. Raises ImportError where pandas isn't there."""
+        try:
+            pandas = import_module("pandas")
+        except ImportError:
+            raise ImportError("a table of pandas needs pandas, which isn't installed") from None
+        return pandas.DataFrame([list(row) for row in self.rows()], columns=list(self.heads()))
+
+
+def said(value: object) -> str:
+    """A value in a table."""
+    if isinstance(value, bool):
+        return "yes" if value else "no"
+    if isinstance(value, tuple | list):
+        return ", ".join(map(said, value))
+    return "" if value is None else str(value)
+
+
+def listed(names: Sequence[str], joint: str = "and") -> str:
+    """Names in a sentence."""
+    shown = [printable(name) for name in names]
+    return f" {joint} ".join([*([", ".join(shown[:-1])] if shown[1:] else []), *shown[-1:]])
+
+
+def _escaped(value: object) -> str:
+    return html.escape(printable(said(value)))

@@ -1,0 +1,437 @@
+"""A workbench: cells, constraints and premises in Python, and what follows from them.
+
+    from propbench import Workbench
+
+    w = Workbench()
+    days = w.number("days", 0, 60)
+    price = w.number("price", 0, 9000)
+    w.require(price >= 400 * days)
+    w.require(price <= 2000, under="cheap")
+    print(days.ask())                          days = 0..5 because of cheap
+"""
+
+import os
+from collections.abc import Mapping, Iterable, Sequence
+from types import TracebackType
+from typing import TypeVar, overload
+
+from propbench.model.answers import Answer, Conflict, NotSettled, ends_of
+from propbench.model.blaming import always, beyond
+from propbench.model.cells import Cell, ElementCell, NumberCell, SymbolCell, TruthCell, words_of
+from propbench.model.events import (
+    CellMade,
+    Choice,
+    ConstraintChoice,
+    DomainMade,
+    Required,
+    Told,
+    ValueChoice,
+)
+from propbench.model.expressions import Expression, Truth, node_of, point_of
+from propbench.model.given import Given, alternative_of, values_of
+from propbench.model.kinds import Domain, Kind, Plain, kind_text
+from propbench.model.network import Network
+from propbench.model.nodes import Declared, Node, cells_in
+from propbench.model.overall import over_all_plans
+from propbench.model.reading import Reader
+from propbench.model.saving import read, saved
+from propbench.model.seam import BenchModel
+from propbench.model.shrinking import shrunk
+from propbench.model.tabling import Table
+from propbench.nearby import near_names
+from propbench.overview import UNPROVED
+from propbench.questions import Questions
+from propbench.replies import Contradiction, Settled, Value, Worldview
+from propbench.session import Session
+
+# What each alternative of a choice states: one constraint or several.
+Stated = Truth | bool | Sequence[Truth | bool]
+MOST_ALTERNATIVES = 8
+SomeCell = TypeVar("SomeCell", bound=Cell)
+
+
+class Workbench(Questions):
+    """A network of cells with constraints, some of them under premises, and what follows."""
+
+    def __init__(
+        self,
+        program: str | os.PathLike[str] | None = None,
+        *,
+        order: str = "fifo",
+        seed: int = 0,
+        limit: int | None = None,
+    ) -> None:
+        """Starts the program, found as a `Session` finds it, with its options."""
+
+        def open_session() -> Session:
+            return Session(program, order=order, seed=seed, limit=limit)
+
+        self._owner = object()
+        self._network = Network(open_session)
+        self._cells: dict[str, Cell] = {}
+
+    def __enter__(self) -> "Workbench":
+        return self
+
+    def __exit__(
+        self,
+        kind: type[BaseException] | None,
+        error: BaseException | None,
+        trace: TracebackType | None,
+    ) -> None:
+        self.close()
+
+    def close(self) -> None:
+        """Ends the program. Nothing can be stated or asked after that."""
+        self._network.session.close()
+
+    @property
+    def session(self) -> Session:
+        """The session that the workbench speaks through."""
+        return self._network.session
+
+    @property
+    def model(self) -> BenchModel:
+        """The workbench as questions see it, which take many asks."""
+        return BenchModel(self._network)
+
+    @property
+    def proved(self) -> bool:
+        """Whether the program is known to be built from proofs."""
+        return self._network.session.proved
+
+    # --- cells ---
+
+    def number(self, name: str, low: int | None = None, high: int | None = None) -> NumberCell:
+        """A cell for a whole number from `low` to `high`, each of which may be left open."""
+        ends = [end if end is None else point_of(end, Plain.NUMBER) for end in (low, high)]
+        if low is not None and high is not None and low > high:
+            raise ValueError(f"from {low} to {high} there is no number, for {name!r}")
+        least, most = (None if end is None else int(end) for end in ends)
+        return self._added(NumberCell(self._declared(name, Plain.NUMBER, least, most), self))
+
+    def truth(self, name: str) -> TruthCell:
+        """A cell for a truth."""
+        return self._added(TruthCell(self._declared(name, Plain.TRUTH), self))
+
+    def domain(self, name: str, elements: str | Iterable[str]) -> Domain:
+        """A domain of these elements, given in one text with spaces between or one by one."""
+        names = words_of(elements)
+        if not 1 <= len(names) <= 64:
+            raise ValueError(f"a domain has one to 64 elements, and {name!r} {len(names)}")
+        is_there = name in self._network.domains
+        if is_there or len(set(names)) < len(names):
+            what = "there is one" if is_there else "an element stands twice"
+            raise ValueError(f"no domain {name!r} can be made: {what}")
+        made = Domain(name, names)
+        self._network.do(DomainMade(made))
+        return made
+
+    def element(self, name: str, domain: Domain) -> ElementCell:
+        """A cell for an element of a domain that this workbench has made."""
+        if not isinstance(domain, Domain) or self._network.domains.get(domain.name) is not domain:
+            raise TypeError(f"{domain!s} is no domain of this workbench: make one by `w.domain`")
+        return self._added(ElementCell(self._declared(name, domain), self))
+
+    def symbol(self, name: str) -> SymbolCell:
+        """A cell for a symbol, which is any name."""
+        return self._added(SymbolCell(self._declared(name, Plain.SYMBOL), self))
+
+    def cell(self, name: str) -> Cell:
+        """The cell of this name. Raises ValueError where there is none."""
+        if name not in self._network.cells:
+            near = near_names(name, self._network.cells)
+            hint = f" Did you mean {' or '.join(map(repr, near))}?" if near else ""
+            raise ValueError(f"no cell is called {name!r}.{hint}")
+        return self._cells[name]
+
+    @property
+    def cells(self) -> tuple[Cell, ...]:
+        """The cells, in the order in which they were made."""
+        return tuple(self._cells[name] for name in self._network.cells)
+
+    # --- statements ---
+
+    def require(self, constraint: Truth | bool, under: str | None = None) -> None:
+        """States a constraint, always or under a premise.
+
+        While the premise is kicked out the constraint has no effect at all, also where it is false
+        or can't be worked out; while it is believed it tells as much as one that holds always.
+        """
+        if isinstance(constraint, Expression) and not isinstance(constraint, Truth):
+            raise TypeError(f"`{constraint!r}` is {kind_text(constraint.node.kind)}, no constraint")
+        node = node_of(constraint, Plain.TRUTH)
+        self._check_own(node)
+        if under is not None:
+            self._network.premises.check(under)
+        self._network.do(Required(node, under))
+
+    def fix(self, cell: Cell, value: Given, high: int | None = None) -> None:
+        """States that a cell has a value, always: a number, or the numbers up to `high`; a truth,
+        a name, or a list of elements of which it is one."""
+        self._network.do(Told(self._own(cell), values_of(self._own(cell), value, high), None))
+
+    def tell(self, premise: str, cell: Cell, value: Given, high: int | None = None) -> None:
+        """States the same under a premise."""
+        self._network.premises.check(premise)
+        self._network.do(Told(self._own(cell), values_of(self._own(cell), value, high), premise))
+
+    # --- premises ---
+
+    @property
+    def premises(self) -> tuple[str, ...]:
+        """The premises, in the order of their first mention."""
+        return tuple(self._network.premises.believed)
+
+    @property
+    def believed(self) -> tuple[str, ...]:
+        """The premises that are believed."""
+        return tuple(self._network.premises.in_force)
+
+    def kick(self, premise: str) -> None:
+        """What is stated under the premise does not count from now on."""
+        self._network.premises.check_known(premise)
+        self._network.kick(premise)
+
+    def bring(self, premise: str) -> None:
+        """What is stated under the premise counts again."""
+        self._network.premises.check_known(premise)
+        self._network.bring(premise)
+
+    def forget(self, premise: str) -> None:
+        """What is stated under the premise goes for good, and the premise with it."""
+        self._network.premises.check_known(premise)
+        self._network.forget(premise)
+
+    # --- choices ---
+
+    @overload
+    def choose(self, name: str, cell: Cell, alternatives: Sequence[object]) -> None:
+        ...
+
+    @overload
+    def choose(self, name: str, cell: Mapping[str, Stated]) -> None:
+        ...
+
+    def choose(
+        self,
+        name: str,
+        cell: Cell | Mapping[str, Stated],
+        alternatives: Sequence[object] | None = None,
+    ) -> None:
+        """Makes a choice between two to eight alternatives, the one to be tried first in front:
+        values of a cell, or, by name, constraints that hold together.
+
+            w.choose("plan", price, [1400, 2000])
+            w.choose("venue", {"hotel": [days == 2, price == 4000], "uni": [days == 5]})
+
+        Answers are those of one plan, the first that fits: choices in the order in which they were
+        made, alternatives as they stand. A pair of numbers is from the one to the other.
+        """
+        self._network.premises.check_choice(name)
+        given = cell if isinstance(cell, Mapping) else alternatives
+        if given is None or not 2 <= len(given) <= MOST_ALTERNATIVES:
+            count = 0 if given is None else len(given)
+            raise ValueError(f"a choice has two to eight alternatives, and {name!r} has {count}")
+        event: Choice
+        if isinstance(cell, Mapping):
+            named = [(side, self._constraints(stated)) for side, stated in cell.items()]
+            event = ConstraintChoice(name, tuple(named))
+        else:
+            own = self._own(cell)
+            event = ValueChoice(name, own, tuple(alternative_of(own, each) for each in given))
+        self._network.do(event)
+
+    # --- questions ---
+
+    def settle(self, *, seconds: float | None = None) -> bool:
+        """Whether all that follows was found, and nothing speaks against it: False at a conflict.
+
+        Raises NotSettled where the run is cut first.
+        """
+        reply = self.session.send("settle", seconds=seconds)
+        if isinstance(reply, (Settled, Contradiction)):
+            return isinstance(reply, Settled)
+        raise NotSettled("the run was cut before it settled: ask again, it goes on from there")
+
+    def answer(
+        self, command: str, cell: Declared, seconds: float | None, over: str | None
+    ) -> Answer:
+        """What follows for a cell: by `why`, or by `core`."""
+        if over is not None:
+            if over != "all plans":
+                raise ValueError(f'an answer may be over="all plans", and not over={over!r}')
+            return self._over_all_plans(cell, seconds)
+        line = f"{command} {self._network.vocabulary.cells.line(cell.name)}"
+        reply = self.session.send(line, seconds=seconds)
+        if isinstance(reply, Contradiction):
+            raise self._conflict(reply)
+        assert isinstance(reply, Value)
+        return self._reader().answer(cell, reply, self._plan())
+
+    def table(self, *cells: Cell, seconds: float | None = None) -> Table:
+        """What follows for these cells, of all where none is given, as a table.
+
+        Raises Conflict where what is believed can't all hold.
+        """
+        declared = [self._own(cell) for cell in cells] or list(self._network.cells.values())
+        reply = self.session.send("settle", seconds=seconds)
+        if isinstance(reply, Contradiction):
+            raise self._conflict(reply)
+        names = self._network.vocabulary.cells
+        replies = self.session.look([f"why {names.line(cell.name)}" for cell in declared])
+        choices, read = self._plan(), self._reader()
+        answers = tuple(
+            read.answer(cell, reply, choices)
+            for cell, reply in zip(declared, replies)
+            if isinstance(reply, Value)
+        )
+        return Table(answers, choices, () if self.proved else (UNPROVED,))
+
+    def show(self, *cells: Cell) -> None:
+        """Prints what follows for these cells, or for all; at a conflict, what can't all hold."""
+        print(self._shown(*cells))
+
+    def _repr_html_(self) -> str:
+        shown = self._shown()
+        return shown if isinstance(shown, str) else shown._repr_html_()
+
+    def _shown(self, *cells: Cell) -> Table | str:
+        try:
+            return self.table(*cells)
+        except Conflict as conflict:
+            return f"CONFLICT: {conflict}"
+
+    def lines(self, constraint: Truth) -> list[str]:
+        """The lines of the language that state a constraint, where it was required.
+
+        With them stand those that make the cells in them which have no name of yours. Raises
+        ValueError for one that was not required.
+
+        Lines may rest on other constraints: where `z == x + y` holds, `z` stands for that sum.
+        """
+        found = self._network.lines_of(node_of(constraint, Plain.TRUTH))
+        if not found:
+            raise ValueError(f"`{constraint!r}` was not required")
+        return found
+
+    # --- files ---
+
+    def save(self, path: str | os.PathLike[str]) -> None:
+        """Writes the workbench to a file.
+
+        It is a session of the language, whose comments tell what its lines are for."""
+        with open(path, "w", encoding="utf-8") as file:
+            file.writelines(f"{line}\n" for line in saved(self._network))
+
+    @classmethod
+    def load(
+        cls, path: str | os.PathLike[str], program: str | os.PathLike[str] | None = None
+    ) -> "Workbench":
+        """The workbench of a file that `save` has written; `cell` gives its cells by name.
+
+        Raises NotAWorkbench, a ValueError, where the file is none, or its lines were changed.
+        """
+        with open(path, encoding="utf-8") as file:
+            lines = file.read().split("\n")
+        owner = object()
+        events, kicked = read(lines, owner)
+        made = cls(program)
+        made._owner = owner
+        for event in events:
+            if isinstance(event, CellMade):
+                made._added(_cell_of(event.cell, made))
+            else:
+                made._network.do(event)
+        for premise in kicked:
+            made.kick(premise)
+        return made
+
+    # --- within ---
+
+    def _set_aside(self) -> Network:
+        """Has a copy of the network, in a session of its own, stand in its place; gives the one
+        that is to be put back."""
+        kept = self._network
+        self._network = kept.copy()
+        return kept
+
+    def _put_back(self, kept: Network) -> None:
+        """Ends the copy, and puts back the network that it stood for."""
+        self._network.session.close()
+        self._network = kept
+
+    def _reader(self) -> Reader:
+        return Reader(self._network.vocabulary, self._network.premises)
+
+    def _over_all_plans(self, cell: Declared, seconds: float | None) -> Answer:
+        """What the cell may be in some plan, whatever the choices take."""
+        found = over_all_plans(self, cell, seconds)
+        if found is None:
+            [conflict] = self.conflicts(most=1)
+            says = {name: self._network.premises.text(name) for name in conflict}
+            raise Conflict(tuple(says), says)
+        value, is_settled = found
+        low, high = ends_of(value)
+        return Answer(cell.name, value, low, high, is_settled, self.believed)
+
+    def _plan(self) -> dict[str, object]:
+        """For each choice what it stands on, where a run has found that."""
+        if not self._network.premises.choices:
+            return {}
+        [reply] = self.session.look(["worldview"])
+        return self._reader().plan(reply.inside) if isinstance(reply, Worldview) else {}
+
+    def _conflict(self, found: Contradiction) -> Conflict:
+        """The conflict, made small."""
+        names = self._network.vocabulary.premises
+        believed = [names.line(name) for name in self._network.premises.in_force]
+        kept = map(names.text, shrunk(self.session, believed, found.premises))
+        says = {name: self._network.premises.text(name) for name in kept}
+        notes = beyond(self._network, list(says))
+        if not says:
+            notes += [f"not all of this: {'; '.join(texts)}" for texts in [always(self._network)]]
+        return Conflict(tuple(says), says, tuple(notes))
+
+    def _declared(
+        self, name: str, kind: Kind, low: int | None = None, high: int | None = None
+    ) -> Declared:
+        if not isinstance(name, str) or not name:
+            raise TypeError(f"a cell is named by a text: {name!r}")
+        if name in self._network.cells:
+            raise ValueError(f"there is a cell of this name: {name!r}")
+        return Declared(name, kind, low, high, self._owner)
+
+    def _added(self, cell: SomeCell) -> SomeCell:
+        self._network.do(CellMade(cell.declared))
+        self._cells[cell.name] = cell
+        return cell
+
+    def _own(self, cell: object) -> Declared:
+        """The cell, where it is one of this workbench. Raises TypeError and ValueError."""
+        if not isinstance(cell, Cell):
+            hint = f": write `w.require({cell!r} == ..)`" if isinstance(cell, Expression) else ""
+            raise TypeError(f"`{cell!r}` is no cell{hint}")
+        self._check_own(cell.node)
+        return cell.declared
+
+    def _check_own(self, node: Node) -> None:
+        for cell in cells_in(node):
+            if cell.owner is not self._owner:
+                raise ValueError(f"{cell.name!r} is a cell of another workbench")
+
+    def _constraints(self, stated: Stated) -> tuple[Node, ...]:
+        """The constraints of an alternative."""
+        several = [stated] if isinstance(stated, (Truth, bool)) else list(stated)
+        nodes = tuple(node_of(each, Plain.TRUTH) for each in several)
+        for node in nodes:
+            self._check_own(node)
+        return nodes
+
+
+def _cell_of(declared: Declared, workbench: Workbench) -> Cell:
+    """The cell that was declared so, by its kind."""
+    if isinstance(declared.kind, Domain):
+        return ElementCell(declared, workbench)
+    classes = {Plain.NUMBER: NumberCell, Plain.TRUTH: TruthCell, Plain.SYMBOL: SymbolCell}
+    return classes[declared.kind](declared, workbench)

@@ -1,0 +1,91 @@
+"""Questions of many asks hold against going through all points of random models."""
+
+from collections.abc import Iterable
+from itertools import chain, combinations
+
+import pytest
+from drawn_models import model_lines
+from hypothesis import given
+from hypothesis import strategies as st
+from lines_model import LineModel
+
+from propbench import Session
+from propbench.questions import Plan
+
+
+def subsets(names: Iterable[str]) -> list[frozenset[str]]:
+    """All sets of some of these names, the smaller ones first."""
+    known = list(names)
+    each = (combinations(known, size) for size in range(len(known) + 1))
+    return [frozenset(some) for some in chain.from_iterable(each)]
+
+
+def fitting(model: LineModel) -> dict[frozenset[str], bool]:
+    """For each set of believed premises whether there is a plan, by going through all points."""
+    plans = list(model.all_plans([]))
+    holding = [
+        frozenset(p for p in model.believed() if model.violated(plan, [p]) is None)
+        for plan in plans
+    ]
+    return {some: any(some <= held for held in holding) for some in subsets(model.believed())}
+
+
+@given(model_lines(conflicting=True))
+def test_conflicts_and_repairs_are_all_there_are(lines: list[str]) -> None:
+    with Session() as session:
+        model = LineModel(session, lines)
+        fits = fitting(model)
+        conflicts = {
+            some for some, fit in fits.items() if not fit and all(fits[some - {p}] for p in some)
+        }
+        everything = frozenset(model.believed())
+        repairs = {
+            some
+            for some in fits
+            if fits[everything - some] and not any(fits[everything - some | {p}] for p in some)
+        }
+        found, mended = model.conflicts(most=1000), model.repairs(most=1000)
+        if found.complete:
+            assert set(found) == conflicts
+        else:
+            assert all(not fits[each] for each in found)
+            assert {each for each in found if each.least} <= conflicts
+        assert not mended.complete or set(mended) == repairs
+        assert set(mended) <= repairs
+        assert found.certificate.check() and mended.certificate.check()
+
+
+@given(model_lines(), st.data())
+def test_bounds_are_those_of_all_plans(lines: list[str], data: st.DataObject) -> None:
+    with Session() as session:
+        model = LineModel(session, lines)
+        cell = data.draw(st.sampled_from([c for c, kind in model.kinds.items() if kind == "span"]))
+        values = [plan[cell] for plan in model.all_plans(model.believed())]
+        for found, wanted in ((model.least(cell), min), (model.greatest(cell), max)):
+            if found.proved:
+                assert found.value == (wanted(values) if values else None)
+            else:
+                assert found.value is None or found.value in values
+            if found.plan:
+                assert model.violated(found.plan, model.believed()) is None
+            if found.value is not None or found.proved:
+                assert found.certificate.check()
+
+
+@given(model_lines(), st.data())
+def test_plans_are_all_there_are(lines: list[str], data: st.DataObject) -> None:
+    with Session() as session:
+        model = LineModel(session, lines)
+        show = data.draw(st.lists(st.sampled_from(model.cells()), min_size=1, unique=True))
+        wanted: list[Plan] = []
+        for plan in model.all_plans(model.believed()):
+            shown = {cell: plan[cell] for cell in show}
+            if shown not in wanted:
+                wanted.append(shown)
+        most = data.draw(st.sampled_from([1, 3, 10_000]))
+        found = model.plans(show, most=most)
+        assert len(found) <= most
+        assert all(plan in wanted and found.count(plan) == 1 for plan in found)
+        if found.complete:
+            assert len(found) == len(wanted)
+        assert found.certificate.check()
