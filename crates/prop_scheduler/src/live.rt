@@ -24,8 +24,7 @@ impl<R: Rule + Drop> Live<R> {
     /// A network without cells, in which nothing waits. It takes no memory.
     pub fn new(alloc: Global, network: Network<R>) -> Live<R>
         requires empty { network.cells ≡ no_data }
-        ensures library { result.network.library ≡ network.library }
-        ensures cells { result.network.cells ≡ no_data }
+        ensures network { result.network ≡ network }
         ensures agenda { result.agenda ≡ record { line = []; room = 0; watched = []; cells = 0 } }
     {
         Live {
