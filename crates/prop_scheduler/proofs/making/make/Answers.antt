@@ -21,11 +21,17 @@ returns-clause-alive g c = λ s was. record {
       let first = c.instances-first.ensures.count in
       let all : length new.instances ≡ length (d.instances ++ made) = ap (λ x. length x.instances) is in
       let more = length-append d.instances made in
-      rw c.make_all.ensures.same (under_way_made library s d new c.args.live.now.agenda.line c.alert_between.new.agenda.line
+      rw c.make_all.ensures.same (under_way_made library s d new c.args.live.now.agenda.line
+      c.alert_between.new.agenda.line
       flat.fresh.items flat.params.items made
       was.under_way (rw c.make_all.ensures.same at c.make_all.ensures.kept) is
       (λ i waits. c.alert_between.ensures.before i (rw c.in_default.ensures.line waits))
-      (λ i from below. c.alert_between.ensures.alerted i (omega (arith, from, first)) (omega (arith, below, count, all)))
+      (λ i from below. c.alert_between.ensures.alerted i (omega (arith, from, first)) (omega (
+        arith,
+        below,
+        count,
+        all,
+      )))
       (c.alert_between.ensures.below (length (d.instances ++ made)) (omega (arith, count, all))
       (rw c.in_default.ensures.line (All-weaker (λ j. j < length d.instances) (λ j. j < length (d.instances ++ made))
       (λ j l. omega (arith, l, more)) c.args.live.now.agenda.line was.under_way.line_below)))));
@@ -36,7 +42,8 @@ returns-clause-alive g c = λ s was. record {
       let more : length d.kinds ≤ length new.kinds =
       rw kinds (let n = length-append d.kinds c.args.flat.fresh.items in omega (arith, n)) in
       rw (c.alert_between.ensures.watched, c.in_default.ensures.watched)
-      (watched_fresh s d new c.args.live.now.agenda.watched c.args.flat.fresh.items (ap (λ x. x.contents) is) more was.watched));
+      (watched_fresh s d new c.args.live.now.agenda.watched c.args.flat.fresh.items (ap (λ x. x.contents) is) more
+      was.watched));
 }
 
 pub returns-clause-stirred : goal.returns-clause-stirred

@@ -46,7 +46,11 @@ returns-in-Some-clause-ran g c =
 
 pub returns-in-Some-clause-alive : goal.returns-in-Some-clause-alive
 returns-in-Some-clause-alive g c =
-    record { under_way = rw c.first_clash.ensures.line c.requires.alive.under_way; watched = c.first_clash.ensures.watched }
+    record {
+      under_way = rw c.first_clash.ensures.line c.requires.alive.under_way;
+      watched =
+          c.first_clash.ensures.watched;
+    }
 
 pub returns-in-Some-clause-turns : goal.returns-in-Some-clause-turns
 returns-in-Some-clause-turns g c =
@@ -123,7 +127,11 @@ returns-in_err-why-in-Some-clause-ran g c =
 
 pub returns-in_err-why-in-Some-clause-alive : goal.returns-in_err-why-in-Some-clause-alive
 returns-in_err-why-in-Some-clause-alive g c =
-    record { under_way = rw c.first_clash.ensures.line c.requires.alive.under_way; watched = c.first_clash.ensures.watched }
+    record {
+      under_way = rw c.first_clash.ensures.line c.requires.alive.under_way;
+      watched =
+          c.first_clash.ensures.watched;
+    }
 
 pub returns-in_err-why-in-Some-clause-err : goal.returns-in_err-why-in-Some-clause-err
 returns-in_err-why-in-Some-clause-err g c =
@@ -138,7 +146,11 @@ loop-steps-init g c =
     record {
       same = refl;
       rest = refl;
-      alive = record { under_way = rw c.first_clash.ensures.line c.requires.alive.under_way; watched = c.first_clash.ensures.watched };
+      alive = record {
+        under_way = rw c.first_clash.ensures.line c.requires.alive.under_way;
+        watched =
+            c.first_clash.ensures.watched;
+      };
       free = c.first_clash.ensures.free c.in-None.is;
       turns = rw c.first_clash.ensures.line none;
       waiting = c.waiting-waiting.ensures.waiting ∙ ap length (sym c.first_clash.ensures.line);
@@ -170,14 +182,21 @@ pub returns-in-Some-clash-clause-ran : goal.returns-in-Some-clash-clause-ran
 returns-in-Some-clash-clause-ran g c =
     record {
       library = c.turn.ensures.same ∙ c.loop-steps.invariant.same;
-      rest = (let turn : Turn (stored_of g.R.Rule.value_of c.args.live.now.network.library) (set_of c.args.worldview.now)
-          c.pick-place.result c.loop-steps.live.network.cells c.turn.new.live.network.cells c.loop-steps.live.agenda.line
-          c.turn.new.live.agenda.line = turn_on (stored_of g.R.Rule.value_of) (set_of c.args.worldview.now) c.pick-place.result
-          c.loop-steps.live.network.cells c.turn.new.live.network.cells c.loop-steps.live.agenda.line c.turn.new.live.agenda.line
-          c.args.live.now.network.library c.loop-steps.live.network.library c.loop-steps.invariant.same c.in_ok-clash.ensures.turn
+      rest = (let turn : Turn (stored_of g.R.Rule.value_of c.args.live.now.network.library) (set_of
+          c.args.worldview.now)
+          c.pick-place.result c.loop-steps.live.network.cells c.turn.new.live.network.cells
+          c.loop-steps.live.agenda.line
+          c.turn.new.live.agenda.line = turn_on (stored_of g.R.Rule.value_of) (set_of c.args.worldview.now)
+          c.pick-place.result
+          c.loop-steps.live.network.cells c.turn.new.live.network.cells c.loop-steps.live.agenda.line
+          c.turn.new.live.agenda.line
+          c.args.live.now.network.library c.loop-steps.live.network.library c.loop-steps.invariant.same
+          c.in_ok-clash.ensures.turn
           in
-          turn_rest (stored_of g.R.Rule.value_of c.args.live.now.network.library) (set_of c.args.worldview.now) c.pick-place.result
-          c.args.live.now.network.cells c.loop-steps.live.network.cells c.turn.new.live.network.cells c.loop-steps.live.agenda.line
+          turn_rest (stored_of g.R.Rule.value_of c.args.live.now.network.library) (set_of c.args.worldview.now)
+          c.pick-place.result
+          c.args.live.now.network.cells c.loop-steps.live.network.cells c.turn.new.live.network.cells
+          c.loop-steps.live.agenda.line
           c.turn.new.live.agenda.line turn c.loop-steps.invariant.rest);
     }
 
@@ -189,9 +208,12 @@ pub returns-in-Some-clash-clause-turns : goal.returns-in-Some-clash-clause-turns
 returns-in-Some-clash-clause-turns g c =
     let turn : Turn (stored_of g.R.Rule.value_of c.args.live.now.network.library) (set_of c.args.worldview.now)
     c.pick-place.result c.loop-steps.live.network.cells c.turn.new.live.network.cells c.loop-steps.live.agenda.line
-    c.turn.new.live.agenda.line = turn_on (stored_of g.R.Rule.value_of) (set_of c.args.worldview.now) c.pick-place.result
-    c.loop-steps.live.network.cells c.turn.new.live.network.cells c.loop-steps.live.agenda.line c.turn.new.live.agenda.line
-    c.args.live.now.network.library c.loop-steps.live.network.library c.loop-steps.invariant.same c.in_ok-clash.ensures.turn
+    c.turn.new.live.agenda.line = turn_on (stored_of g.R.Rule.value_of) (set_of c.args.worldview.now)
+    c.pick-place.result
+    c.loop-steps.live.network.cells c.turn.new.live.network.cells c.loop-steps.live.agenda.line
+    c.turn.new.live.agenda.line
+    c.args.live.now.network.library c.loop-steps.live.network.library c.loop-steps.invariant.same
+    c.in_ok-clash.ensures.turn
     in
     more c.loop-steps.steps c.pick-place.result c.loop-steps.live.network.cells _ c.loop-steps.live.agenda.line _
     c.loop-steps.order _ c.loop-steps.invariant.turns
@@ -248,9 +270,12 @@ returns-in-Some-clash-clause-at_rest g c =
     λ empty free.
     let turn : Turn (stored_of g.R.Rule.value_of c.args.live.now.network.library) (set_of c.args.worldview.now)
     c.pick-place.result c.loop-steps.live.network.cells c.turn.new.live.network.cells c.loop-steps.live.agenda.line
-    c.turn.new.live.agenda.line = turn_on (stored_of g.R.Rule.value_of) (set_of c.args.worldview.now) c.pick-place.result
-    c.loop-steps.live.network.cells c.turn.new.live.network.cells c.loop-steps.live.agenda.line c.turn.new.live.agenda.line
-    c.args.live.now.network.library c.loop-steps.live.network.library c.loop-steps.invariant.same c.in_ok-clash.ensures.turn
+    c.turn.new.live.agenda.line = turn_on (stored_of g.R.Rule.value_of) (set_of c.args.worldview.now)
+    c.pick-place.result
+    c.loop-steps.live.network.cells c.turn.new.live.network.cells c.loop-steps.live.agenda.line
+    c.turn.new.live.agenda.line
+    c.args.live.now.network.library c.loop-steps.live.network.library c.loop-steps.invariant.same
+    c.in_ok-clash.ensures.turn
     in
     let idle = no_turns g.O.Order.picks (stored_of g.R.Rule.value_of c.args.live.now.network.library)
     (set_of c.args.worldview.now) c.args.live.now.network.cells c.args.live.now.agenda.line c.args.order.now
@@ -272,14 +297,21 @@ pub returns-in_err-why-in-Some-clash-clause-ran : goal.returns-in_err-why-in-Som
 returns-in_err-why-in-Some-clash-clause-ran g c =
     record {
       library = c.turn.ensures.same ∙ c.loop-steps.invariant.same;
-      rest = (let turn : Turn (stored_of g.R.Rule.value_of c.args.live.now.network.library) (set_of c.args.worldview.now)
-          c.pick-place.result c.loop-steps.live.network.cells c.turn.new.live.network.cells c.loop-steps.live.agenda.line
-          c.turn.new.live.agenda.line = turn_on (stored_of g.R.Rule.value_of) (set_of c.args.worldview.now) c.pick-place.result
-          c.loop-steps.live.network.cells c.turn.new.live.network.cells c.loop-steps.live.agenda.line c.turn.new.live.agenda.line
-          c.args.live.now.network.library c.loop-steps.live.network.library c.loop-steps.invariant.same c.in_ok-clash.ensures.turn
+      rest = (let turn : Turn (stored_of g.R.Rule.value_of c.args.live.now.network.library) (set_of
+          c.args.worldview.now)
+          c.pick-place.result c.loop-steps.live.network.cells c.turn.new.live.network.cells
+          c.loop-steps.live.agenda.line
+          c.turn.new.live.agenda.line = turn_on (stored_of g.R.Rule.value_of) (set_of c.args.worldview.now)
+          c.pick-place.result
+          c.loop-steps.live.network.cells c.turn.new.live.network.cells c.loop-steps.live.agenda.line
+          c.turn.new.live.agenda.line
+          c.args.live.now.network.library c.loop-steps.live.network.library c.loop-steps.invariant.same
+          c.in_ok-clash.ensures.turn
           in
-          turn_rest (stored_of g.R.Rule.value_of c.args.live.now.network.library) (set_of c.args.worldview.now) c.pick-place.result
-          c.args.live.now.network.cells c.loop-steps.live.network.cells c.turn.new.live.network.cells c.loop-steps.live.agenda.line
+          turn_rest (stored_of g.R.Rule.value_of c.args.live.now.network.library) (set_of c.args.worldview.now)
+          c.pick-place.result
+          c.args.live.now.network.cells c.loop-steps.live.network.cells c.turn.new.live.network.cells
+          c.loop-steps.live.agenda.line
           c.turn.new.live.agenda.line turn c.loop-steps.invariant.rest);
     }
 
@@ -291,9 +323,12 @@ pub returns-in_err-why-in-Some-clash-clause-err : goal.returns-in_err-why-in-Som
 returns-in_err-why-in-Some-clash-clause-err g c =
     let turn : Turn (stored_of g.R.Rule.value_of c.args.live.now.network.library) (set_of c.args.worldview.now)
     c.pick-place.result c.loop-steps.live.network.cells c.turn.new.live.network.cells c.loop-steps.live.agenda.line
-    c.turn.new.live.agenda.line = turn_on (stored_of g.R.Rule.value_of) (set_of c.args.worldview.now) c.pick-place.result
-    c.loop-steps.live.network.cells c.turn.new.live.network.cells c.loop-steps.live.agenda.line c.turn.new.live.agenda.line
-    c.args.live.now.network.library c.loop-steps.live.network.library c.loop-steps.invariant.same c.in_ok-clash.ensures.turn
+    c.turn.new.live.agenda.line = turn_on (stored_of g.R.Rule.value_of) (set_of c.args.worldview.now)
+    c.pick-place.result
+    c.loop-steps.live.network.cells c.turn.new.live.network.cells c.loop-steps.live.agenda.line
+    c.turn.new.live.agenda.line
+    c.args.live.now.network.library c.loop-steps.live.network.library c.loop-steps.invariant.same
+    c.in_ok-clash.ensures.turn
     in
     let stopped : Interrupted g.O.Order.picks (stored_of g.R.Rule.value_of c.args.live.now.network.library)
     (set_of c.args.worldview.now) c.args.live.now.network.cells c.args.live.now.agenda.line c.args.order.now
@@ -301,7 +336,8 @@ returns-in_err-why-in-Some-clash-clause-err g c =
     record {
       steps = c.loop-steps.steps + 1;
       last = c.pick-place.new.self;
-      turns = more c.loop-steps.steps c.pick-place.result c.loop-steps.live.network.cells _ c.loop-steps.live.agenda.line _
+      turns = more c.loop-steps.steps c.pick-place.result c.loop-steps.live.network.cells _
+          c.loop-steps.live.agenda.line _
           c.loop-steps.order _ c.loop-steps.invariant.turns
           (rw c.loop-steps.invariant.waiting at c.pick-place.ensures.picks) turn;
       picked = inl refl;
@@ -312,20 +348,25 @@ pub loop-steps-preserved : goal.loop-steps-preserved
 loop-steps-preserved g c =
     let turn : Turn (stored_of g.R.Rule.value_of c.args.live.now.network.library) (set_of c.args.worldview.now)
     c.pick-place.result c.loop-steps.live.network.cells c.turn.new.live.network.cells c.loop-steps.live.agenda.line
-    c.turn.new.live.agenda.line = turn_on (stored_of g.R.Rule.value_of) (set_of c.args.worldview.now) c.pick-place.result
-    c.loop-steps.live.network.cells c.turn.new.live.network.cells c.loop-steps.live.agenda.line c.turn.new.live.agenda.line
-    c.args.live.now.network.library c.loop-steps.live.network.library c.loop-steps.invariant.same c.in_ok-clash.ensures.turn
+    c.turn.new.live.agenda.line = turn_on (stored_of g.R.Rule.value_of) (set_of c.args.worldview.now)
+    c.pick-place.result
+    c.loop-steps.live.network.cells c.turn.new.live.network.cells c.loop-steps.live.agenda.line
+    c.turn.new.live.agenda.line
+    c.args.live.now.network.library c.loop-steps.live.network.library c.loop-steps.invariant.same
+    c.in_ok-clash.ensures.turn
     in
     let library = stored_of g.R.Rule.value_of c.args.live.now.network.library in
     record {
       same = c.turn.ensures.same ∙ c.loop-steps.invariant.same;
       rest = turn_rest library (set_of c.args.worldview.now) c.pick-place.result c.args.live.now.network.cells
-          c.loop-steps.live.network.cells c.turn.new.live.network.cells c.loop-steps.live.agenda.line c.turn.new.live.agenda.line turn
+          c.loop-steps.live.network.cells c.turn.new.live.network.cells c.loop-steps.live.agenda.line
+          c.turn.new.live.agenda.line turn
           c.loop-steps.invariant.rest;
       alive = record { under_way = c.turn.ensures.alive.under_way; watched = c.turn.ensures.alive.watched };
       free = c.in_ok-clash.ensures.free c.in-None-clash.is;
       waiting = c.waiting-waiting-in-loop-steps.ensures.waiting;
-      turns = more c.loop-steps.steps c.pick-place.result c.loop-steps.live.network.cells _ c.loop-steps.live.agenda.line _
+      turns = more c.loop-steps.steps c.pick-place.result c.loop-steps.live.network.cells _
+          c.loop-steps.live.agenda.line _
           c.loop-steps.order _ c.loop-steps.invariant.turns
           (rw c.loop-steps.invariant.waiting at c.pick-place.ensures.picks) turn;
       steps = omega arith;
@@ -385,7 +426,11 @@ returns-then-waiting-eq0-clause-quiet g c =
     λ quiet.
     settled (stored_of g.R.Rule.value_of c.loop-steps.live.network.library) (set_of c.args.worldview.now)
     c.loop-steps.live.network.cells c.loop-steps.live.agenda.line c.loop-steps.invariant.alive.under_way
-    (nil_from_length c.loop-steps.live.agenda.line (omega (arith, c.loop-steps.invariant.waiting, c.if-waiting-eq0.true)))
+    (nil_from_length c.loop-steps.live.agenda.line (omega (
+      arith,
+      c.loop-steps.invariant.waiting,
+      c.if-waiting-eq0.true,
+    )))
     c.loop-steps.invariant.free
 
 pub returns-then-waiting-eq0-clause-rests : goal.returns-then-waiting-eq0-clause-rests
@@ -495,9 +540,11 @@ pub returns-clause-earned : goal.returns-clause-earned
 returns-clause-earned g c =
     λ spent.
     let library = stored_of g.R.Rule.value_of c.args.live.now.network.library in
-    let most = under_way_within library (set_of c.args.worldview.now) c.args.live.now.network.cells c.args.live.now.agenda
+    let most = under_way_within library (set_of c.args.worldview.now) c.args.live.now.network.cells
+    c.args.live.now.agenda
     c.waiting-waiting.ensures.line c.requires.alive.under_way in
-    let same = most_same library (stored_of g.R.Rule.value_of c.loop-steps.live.network.library) c.args.live.now.network.cells
+    let same = most_same library (stored_of g.R.Rule.value_of c.loop-steps.live.network.library)
+    c.args.live.now.network.cells
     c.loop-steps.live.network.cells (ap (stored_of g.R.Rule.value_of) c.loop-steps.invariant.same)
     c.loop-steps.invariant.rest in
     omega (arith, most, c.loop-steps.invariant.falls, c.loop-steps.invariant.waiting, same)
@@ -505,9 +552,11 @@ returns-clause-earned g c =
 pub returns-clause-bounded : goal.returns-clause-bounded
 returns-clause-bounded g c =
     let library = stored_of g.R.Rule.value_of c.args.live.now.network.library in
-    let most = under_way_within library (set_of c.args.worldview.now) c.args.live.now.network.cells c.args.live.now.agenda
+    let most = under_way_within library (set_of c.args.worldview.now) c.args.live.now.network.cells
+    c.args.live.now.agenda
     c.waiting-waiting.ensures.line c.requires.alive.under_way in
-    let same = most_same library (stored_of g.R.Rule.value_of c.loop-steps.live.network.library) c.args.live.now.network.cells
+    let same = most_same library (stored_of g.R.Rule.value_of c.loop-steps.live.network.library)
+    c.args.live.now.network.cells
     c.loop-steps.live.network.cells (ap (stored_of g.R.Rule.value_of) c.loop-steps.invariant.same)
     c.loop-steps.invariant.rest in
     omega (arith, most, c.loop-steps.invariant.falls, same)
@@ -515,9 +564,11 @@ returns-clause-bounded g c =
 pub returns-then-waiting-eq0-clause-bounded : goal.returns-then-waiting-eq0-clause-bounded
 returns-then-waiting-eq0-clause-bounded g c =
     let library = stored_of g.R.Rule.value_of c.args.live.now.network.library in
-    let most = under_way_within library (set_of c.args.worldview.now) c.args.live.now.network.cells c.args.live.now.agenda
+    let most = under_way_within library (set_of c.args.worldview.now) c.args.live.now.network.cells
+    c.args.live.now.agenda
     c.waiting-waiting.ensures.line c.requires.alive.under_way in
-    let same = most_same library (stored_of g.R.Rule.value_of c.loop-steps.live.network.library) c.args.live.now.network.cells
+    let same = most_same library (stored_of g.R.Rule.value_of c.loop-steps.live.network.library)
+    c.args.live.now.network.cells
     c.loop-steps.live.network.cells (ap (stored_of g.R.Rule.value_of) c.loop-steps.invariant.same)
     c.loop-steps.invariant.rest in
     omega (arith, most, c.loop-steps.invariant.falls, same)
@@ -525,19 +576,25 @@ returns-then-waiting-eq0-clause-bounded g c =
 pub returns-in-Some-clash-clause-bounded : goal.returns-in-Some-clash-clause-bounded
 returns-in-Some-clash-clause-bounded g c =
     let library = stored_of g.R.Rule.value_of c.args.live.now.network.library in
-    let most = under_way_within library (set_of c.args.worldview.now) c.args.live.now.network.cells c.args.live.now.agenda
+    let most = under_way_within library (set_of c.args.worldview.now) c.args.live.now.network.cells
+    c.args.live.now.agenda
     c.waiting-waiting.ensures.line c.requires.alive.under_way in
     let turn : Turn library (set_of c.args.worldview.now) c.pick-place.result c.loop-steps.live.network.cells
     c.turn.new.live.network.cells c.loop-steps.live.agenda.line c.turn.new.live.agenda.line =
     turn_on (stored_of g.R.Rule.value_of) (set_of c.args.worldview.now) c.pick-place.result
-    c.loop-steps.live.network.cells c.turn.new.live.network.cells c.loop-steps.live.agenda.line c.turn.new.live.agenda.line
-    c.args.live.now.network.library c.loop-steps.live.network.library c.loop-steps.invariant.same c.in_ok-clash.ensures.turn
+    c.loop-steps.live.network.cells c.turn.new.live.network.cells c.loop-steps.live.agenda.line
+    c.turn.new.live.agenda.line
+    c.args.live.now.network.library c.loop-steps.live.network.library c.loop-steps.invariant.same
+    c.in_ok-clash.ensures.turn
     in
     let rest = turn_rest library (set_of c.args.worldview.now) c.pick-place.result c.args.live.now.network.cells
-    c.loop-steps.live.network.cells c.turn.new.live.network.cells c.loop-steps.live.agenda.line c.turn.new.live.agenda.line turn
+    c.loop-steps.live.network.cells c.turn.new.live.network.cells c.loop-steps.live.agenda.line
+    c.turn.new.live.agenda.line turn
     c.loop-steps.invariant.rest in
-    let same = most_same library (stored_of g.R.Rule.value_of c.turn.new.live.network.library) c.args.live.now.network.cells
-    c.turn.new.live.network.cells (ap (stored_of g.R.Rule.value_of) (c.turn.ensures.same ∙ c.loop-steps.invariant.same))
+    let same = most_same library (stored_of g.R.Rule.value_of c.turn.new.live.network.library)
+    c.args.live.now.network.cells
+    c.turn.new.live.network.cells (ap (stored_of g.R.Rule.value_of) (c.turn.ensures.same ∙
+    c.loop-steps.invariant.same))
     rest in
     omega (arith, most, c.in_ok-clash.ensures.falls, c.loop-steps.invariant.falls, same)
 

@@ -48,9 +48,11 @@ returns-then-not-implies-clause-alive g c =
           rw (c.readers.ensures, same) at c.alert_all.ensures.alerted in
           let written : AllAlerted mid after (writers_of old.instances c.args.cell) =
           rw (c.writers.ensures, same) at c.alert_all-then-not-implies.ensures.alerted in
-          let first_below = all_after_alerts (λ k. k < length old.instances) (readers_of old.instances c.args.cell) line mid
+          let first_below = all_after_alerts (λ k. k < length old.instances) (readers_of old.instances c.args.cell)
+          line mid
           (readers_are old.instances c.args.cell).below c.requires.alive.under_way.line_below read in
-          let below = all_after_alerts (λ k. k < length old.instances) (writers_of old.instances c.args.cell) mid after
+          let below = all_after_alerts (λ k. k < length old.instances) (writers_of old.instances c.args.cell) mid
+          after
           (writers_below old.instances c.args.cell) first_below written in
           rw (c.watch.ensures.line, c.state_sides.ensures.same)
           (under_way_sides library (set_of c.args.worldview.now) old new line after c.args.first c.args.cell
@@ -61,7 +63,8 @@ returns-then-not-implies-clause-alive g c =
       watched = (let s = set_of c.args.worldview.now in
           let old = c.args.live.now.network.cells in
           let new = c.state_sides.new.self.cells in
-          let grown = grown_sides s old new c.args.first c.args.cell c.args.infos.now c.in_ok-state_sides.ensures.ok in
+          let grown = grown_sides s old new c.args.first c.args.cell c.args.infos.now
+          c.in_ok-state_sides.ensures.ok in
           watched_at s old new c.args.live.now.agenda.watched c.watch.new.self.watched c.args.cell
           (ap (λ d. length d.kinds) c.in_ok-state_sides.ensures.rest) c.requires.cell grown.others
           (rw (c.alert_all-then-not-implies.ensures.watched, c.alert_all.ensures.watched) at c.watch.ensures.watched)
@@ -79,17 +82,21 @@ returns-else-not-implies-clause-alive g c =
           let kept : IsKept library new = rw c.state_sides.ensures.same at c.state_sides.ensures.kept in
           let less : Below (beliefs s new.contents c.args.cell) (beliefs s old.contents c.args.cell) =
           rw (c.belief-after.ensures, c.belief-before.ensures) at (c.implies.ensures.0 c.if-not-implies.false) in
-          rw c.state_sides.ensures.same (under_way_sides library s old new c.args.live.now.agenda.line c.args.live.now.agenda.line
-          c.args.first c.args.cell c.args.infos.now c.requires.alive.under_way kept same c.in_ok-state_sides.ensures.ok
+          rw c.state_sides.ensures.same (under_way_sides library s old new c.args.live.now.agenda.line
+          c.args.live.now.agenda.line
+          c.args.first c.args.cell c.args.infos.now c.requires.alive.under_way kept same
+          c.in_ok-state_sides.ensures.ok
           (λ k w. w) c.requires.alive.under_way.line_below (inl less)));
       watched = (let s = set_of c.args.worldview.now in
           let old = c.args.live.now.network.cells in
           let new = c.state_sides.new.self.cells in
           let kinds = ap (λ d. length d.kinds) c.in_ok-state_sides.ensures.rest in
-          let grown = grown_sides s old new c.args.first c.args.cell c.args.infos.now c.in_ok-state_sides.ensures.ok in
+          let grown = grown_sides s old new c.args.first c.args.cell c.args.infos.now
+          c.in_ok-state_sides.ensures.ok in
           let less : Below (beliefs s new.contents c.args.cell) (beliefs s old.contents c.args.cell) =
           rw (c.belief-after.ensures, c.belief-before.ensures) at (c.implies.ensures.0 c.if-not-implies.false) in
-          let here = info_laws.antisymmetric (beliefs s new.contents c.args.cell) (beliefs s old.contents c.args.cell) less
+          let here = info_laws.antisymmetric (beliefs s new.contents c.args.cell) (beliefs s old.contents
+          c.args.cell) less
           (grown.grown c.args.cell) in
           watched_same s old new c.args.live.now.agenda.watched (omega (arith, kinds))
           (same_but s old new c.args.cell here grown.others) c.requires.alive.watched);
@@ -105,7 +112,8 @@ returns-then-not-implies-clause-stirred g c =
     let after = c.watch.new.self.line in
     let read : mid ≡ all_alerted line (readers_of new.instances c.args.cell) =
     rw c.readers.ensures at c.alert_all.ensures.line in
-    let written : c.alert_all-then-not-implies.new.self.line ≡ all_alerted mid (writers_of new.instances c.args.cell) =
+    let written : c.alert_all-then-not-implies.new.self.line ≡ all_alerted mid (writers_of new.instances
+    c.args.cell) =
     rw c.writers.ensures at c.alert_all-then-not-implies.ensures.line in
     let more : beliefs s old.contents c.args.cell ≢ beliefs s new.contents c.args.cell = λ same.
     let below : Below (beliefs s new.contents c.args.cell) (beliefs s old.contents c.args.cell) =

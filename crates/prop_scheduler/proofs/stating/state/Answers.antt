@@ -27,8 +27,10 @@ returns-then-is_contradiction-clause-alive g c =
           let new = c.state_under.new.self.cells in
           let kept : IsKept library new = rw c.state_under.ensures.same at c.state_under.ensures.kept in
           rw (c.watch.ensures.line, c.state_under.ensures.same)
-          (under_way_grown library (set_of c.args.worldview.now) c.args.live.now.network.cells new c.args.live.now.agenda.line
-          c.alert_all.new.self.line c.readers.result.now _ c.requires.alive.under_way kept c.in_ok-state_under.ensures.ok
+          (under_way_grown library (set_of c.args.worldview.now) c.args.live.now.network.cells new
+          c.args.live.now.agenda.line
+          c.alert_all.new.self.line c.readers.result.now _ c.requires.alive.under_way kept
+          c.in_ok-state_under.ensures.ok
           c.alert_all.ensures.alerted c.readers.ensures));
       watched = (let s = set_of c.args.worldview.now in
           let old = c.args.live.now.network.cells in
@@ -45,7 +47,8 @@ returns-else-is_contradiction-clause-alive g c =
       under_way = (let library = stored_of g.R.Rule.value_of c.args.live.now.network.library in
           let new = c.state_under.new.self.cells in
           let kept : IsKept library new = rw c.state_under.ensures.same at c.state_under.ensures.kept in
-          rw c.state_under.ensures.same (under_way_grown library (set_of c.args.worldview.now) c.args.live.now.network.cells new
+          rw c.state_under.ensures.same (under_way_grown library (set_of c.args.worldview.now)
+          c.args.live.now.network.cells new
           c.args.live.now.agenda.line c.alert_all.new.self.line c.readers.result.now _ c.requires.alive.under_way kept
           c.in_ok-state_under.ensures.ok c.alert_all.ensures.alerted c.readers.ensures));
       watched = (let s = set_of c.args.worldview.now in
@@ -57,7 +60,8 @@ returns-else-is_contradiction-clause-alive g c =
           let clear = states_clear s old new _ states
           (λ clash. cc (c.is_contradiction.ensures.1 (both ∙ clash), c.if-is_contradiction.false)) in
           rw c.alert_all.ensures.watched (watched_clear s old new c.args.live.now.agenda.watched c.args.cell
-          (ap (λ d. length d.kinds) states.rest) (states_merge s old new _ states).1.others clear c.requires.alive.watched));
+          (ap (λ d. length d.kinds) states.rest) (states_merge s old new _ states).1.others clear
+          c.requires.alive.watched));
     }
 
 pub returns-else-says_more-clause-alive : goal.returns-else-says_more-clause-alive
@@ -70,7 +74,8 @@ returns-else-says_more-clause-alive g c =
           let kept : IsKept library new = rw c.state_under.ensures.same at c.state_under.ensures.kept in
           let same = states_same s old new _ c.in_ok-state_under.ensures.ok
           (rw c.belief-before.ensures at (c.says_more.ensures.less c.if-says_more.false)) in
-          rw c.state_under.ensures.same (under_way_same library s old new c.args.live.now.agenda.line _ c.requires.alive.under_way kept
+          rw c.state_under.ensures.same (under_way_same library s old new c.args.live.now.agenda.line _
+          c.requires.alive.under_way kept
           c.in_ok-state_under.ensures.ok same));
       watched = (let s = set_of c.args.worldview.now in
           let old = c.args.live.now.network.cells in
@@ -88,7 +93,8 @@ returns-then-is_contradiction-clause-stirred g c =
     let s = set_of c.args.worldview.now in
     let old = c.args.live.now.network.cells in
     let new = c.state_under.new.self.cells in
-    let line : c.alert_all.new.self.line ≡ all_alerted c.args.live.now.agenda.line (readers_of new.instances c.args.cell) =
+    let line : c.alert_all.new.self.line ≡ all_alerted c.args.live.now.agenda.line (readers_of new.instances
+    c.args.cell) =
     rw c.readers.ensures at c.alert_all.ensures.line in
     let said = c.says_more.ensures.more c.if-says_more.true in
     let more = states_more s old new (record { premise = c.args.premise; cell = c.args.cell; info = c.args.info })
@@ -102,7 +108,8 @@ returns-else-is_contradiction-clause-stirred g c =
     let s = set_of c.args.worldview.now in
     let old = c.args.live.now.network.cells in
     let new = c.state_under.new.self.cells in
-    let line : c.alert_all.new.self.line ≡ all_alerted c.args.live.now.agenda.line (readers_of new.instances c.args.cell) =
+    let line : c.alert_all.new.self.line ≡ all_alerted c.args.live.now.agenda.line (readers_of new.instances
+    c.args.cell) =
     rw c.readers.ensures at c.alert_all.ensures.line in
     let said = c.says_more.ensures.more c.if-says_more.true in
     let more = states_more s old new (record { premise = c.args.premise; cell = c.args.cell; info = c.args.info })

@@ -64,7 +64,8 @@ loop-cell-preserved g c =
           let so_far = h.falls in
           rw w.agenda-is record {
             grown = rw w.watch.ensures.line (grown_more s t d c.loop-cell.cell c.args.live.now.agenda.line
-                c.loop-cell.agenda.line w.alert_all.new.self.line h.grown (c.shifted.ensures.shifted w.if-shifted.true)
+                c.loop-cell.agenda.line w.alert_all.new.self.line h.grown (c.shifted.ensures.shifted
+                w.if-shifted.true)
                 read (rw w.readers.ensures at w.alert_all.ensures.line));
             falls = rw w.watch.ensures.line (omega (arith, less, so_far));
             room = w.watch.ensures.room ∙ w.alert_all.ensures.room ∙ h.room;
@@ -82,7 +83,8 @@ loop-cell-preserved g c =
             falls = omega (arith, less, so_far);
             room = h.room;
             cells = h.cells;
-            looked = looked_same s t d c.loop-cell.cell c.args.live.now.agenda.watched c.loop-cell.agenda.watched h.looked
+            looked = looked_same s t d c.loop-cell.cell c.args.live.now.agenda.watched c.loop-cell.agenda.watched
+                h.looked
                 (c.shifted.ensures.stays w.if-shifted.false);
           }
     ]
@@ -109,17 +111,22 @@ returns-clause-grown g c =
 pub returns-clause-alive : goal.returns-clause-alive
 returns-clause-alive g c =
     record {
-      under_way = (under_way_grown (stored_of g.R.Rule.value_of c.args.live.now.network.library) (set_of c.args.before.now)
+      under_way = (under_way_grown (stored_of g.R.Rule.value_of c.args.live.now.network.library) (set_of
+          c.args.before.now)
           (set_of c.args.after.now) c.args.live.now.network.cells c.args.live.now.agenda.line c.loop-cell.agenda.line
           c.requires.more c.cells-cell-end.ensures.within c.requires.alive.under_way
-          (all_grown _ _ _ c.cells-cell-end.result c.loop-cell.cell _ _ c.cells-cell-end.ensures.count c.loop-cell-test.false
+          (all_grown _ _ _ c.cells-cell-end.result c.loop-cell.cell _ _ c.cells-cell-end.ensures.count
+          c.loop-cell-test.false
           c.loop-cell.auto.cell-end c.loop-cell.invariant.grown));
       watched = (let s = set_of c.args.before.now in
           let t = set_of c.args.after.now in
           let d = c.args.live.now.network.cells in
-          watched_shifted s t d c.args.live.now.agenda.watched c.loop-cell.agenda.watched c.cells-cell-end.ensures.contents
-          (all_looked s t d c.cells-cell-end.result c.loop-cell.cell c.args.live.now.agenda.watched c.loop-cell.agenda.watched
-          c.cells-cell-end.ensures.count c.loop-cell-test.false c.loop-cell.auto.cell-end c.loop-cell.invariant.looked)
+          watched_shifted s t d c.args.live.now.agenda.watched c.loop-cell.agenda.watched
+          c.cells-cell-end.ensures.contents
+          (all_looked s t d c.cells-cell-end.result c.loop-cell.cell c.args.live.now.agenda.watched
+          c.loop-cell.agenda.watched
+          c.cells-cell-end.ensures.count c.loop-cell-test.false c.loop-cell.auto.cell-end
+          c.loop-cell.invariant.looked)
           c.requires.alive.watched);
     }
 
@@ -132,6 +139,7 @@ returns-clause-falls g c =
     let end = at_end c.cells-cell-end.result c.loop-cell.cell (length d.kinds) c.cells-cell-end.ensures.count
     c.loop-cell-test.false c.loop-cell.auto.cell-end in
     let so_far = rw end at c.loop-cell.invariant.falls in
-    let last = potential_at_last library s t d c.requires.alive.under_way.kept.made c.requires.more c.loop-cell.agenda.line
+    let last = potential_at_last library s t d c.requires.alive.under_way.kept.made c.requires.more
+    c.loop-cell.agenda.line
     c.cells-cell-end.ensures.contents in
     omega (arith, so_far, last)

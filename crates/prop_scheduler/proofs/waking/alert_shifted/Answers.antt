@@ -21,7 +21,8 @@ loop-cell-init g c =
       room = refl;
       cells = refl;
       looked =
-          looked_none (set_of c.args.before.now) (set_of c.args.after.now) c.args.live.now.network.cells c.args.live.now.agenda.watched
+          looked_none (set_of c.args.before.now) (set_of c.args.after.now) c.args.live.now.network.cells
+          c.args.live.now.agenda.watched
           c.requires.alive.watched.below;
     }
 
@@ -74,11 +75,13 @@ loop-cell-preserved g c =
           }
       | else-shifted w ↦
           rw w.agenda-is record {
-            shifted = shifted_same s t d c.loop-cell.cell c.args.live.now.agenda.line c.loop-cell.agenda.line h.shifted
+            shifted = shifted_same s t d c.loop-cell.cell c.args.live.now.agenda.line c.loop-cell.agenda.line
+                h.shifted
                 (c.shifted.ensures.stays w.if-shifted.false);
             room = h.room;
             cells = h.cells;
-            looked = looked_same s t d c.loop-cell.cell c.args.live.now.agenda.watched c.loop-cell.agenda.watched h.looked
+            looked = looked_same s t d c.loop-cell.cell c.args.live.now.agenda.watched c.loop-cell.agenda.watched
+                h.looked
                 (c.shifted.ensures.stays w.if-shifted.false);
           }
     ]
@@ -100,7 +103,8 @@ all_looked s t d end cell old new count least most h =
 pub returns-clause-alive : goal.returns-clause-alive
 returns-clause-alive g c =
     record {
-      under_way = (under_way_shifted (stored_of g.R.Rule.value_of c.args.live.now.network.library) (set_of c.args.before.now)
+      under_way = (under_way_shifted (stored_of g.R.Rule.value_of c.args.live.now.network.library) (set_of
+          c.args.before.now)
           (set_of c.args.after.now) c.args.live.now.network.cells c.args.live.now.agenda.line c.loop-cell.agenda.line
           c.cells-cell-end.ensures.within c.requires.alive.under_way
           (all_shifted _ _ _ c.cells-cell-end.result c.loop-cell.cell _ _ c.cells-cell-end.ensures.count
@@ -108,9 +112,12 @@ returns-clause-alive g c =
       watched = (let s = set_of c.args.before.now in
           let t = set_of c.args.after.now in
           let d = c.args.live.now.network.cells in
-          watched_shifted s t d c.args.live.now.agenda.watched c.loop-cell.agenda.watched c.cells-cell-end.ensures.contents
-          (all_looked s t d c.cells-cell-end.result c.loop-cell.cell c.args.live.now.agenda.watched c.loop-cell.agenda.watched
-          c.cells-cell-end.ensures.count c.loop-cell-test.false c.loop-cell.auto.cell-end c.loop-cell.invariant.looked)
+          watched_shifted s t d c.args.live.now.agenda.watched c.loop-cell.agenda.watched
+          c.cells-cell-end.ensures.contents
+          (all_looked s t d c.cells-cell-end.result c.loop-cell.cell c.args.live.now.agenda.watched
+          c.loop-cell.agenda.watched
+          c.cells-cell-end.ensures.count c.loop-cell-test.false c.loop-cell.auto.cell-end
+          c.loop-cell.invariant.looked)
           c.requires.alive.watched);
     }
 
