@@ -92,10 +92,6 @@ pub same_in : (library : List Stored) (start d : Data) → d ≡ record start { 
 same_in library start d rest = λ i. problem_of library (rest i)
 
 -- what an attempt and a run leave as it was
-pub count_in : (start d : Data) → d ≡ record start { contents = d.contents }
-    → length d.instances ≡ length start.instances
-count_in start d rest = λ i. length (rest i).instances
-
 pub rest_on : (start d new : Data) → d ≡ record start { contents = d.contents }
     → new ≡ record d { contents = new.contents } → new ≡ record start { contents = new.contents }
 rest_on start d new first then = then ∙ (λ i. record (first i) { contents = new.contents })

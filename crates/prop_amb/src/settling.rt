@@ -334,12 +334,15 @@ pub fn settle<R: Rule + Drop, O: Order>(
 {
     let mut steps: u64 = 0;
     loop {
-        let tried = try_list(live, search, order, budget - steps)?;
-        steps += tried.steps;
-        let decided = decide(live, search, tried.end, budget - steps)?;
-        match decided.end {
+        let Ended {
+            end: tried,
+            steps: calls,
+        } = try_list(live, search, order, budget - steps)?;
+        steps += calls;
+        let Ended { end, steps: moves } = decide(live, search, tried, budget - steps)?;
+        match end {
             Some(end) => return Ok(Ended { end, steps }),
-            None => steps += decided.steps,
+            None => steps += moves,
         }
     }
 }

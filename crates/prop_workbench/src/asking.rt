@@ -345,11 +345,11 @@ impl<R: Rule + Drop, O: Order + Drop> Session<R, O> {
         requires cell { cell < length self.now.live.network.cells.kinds }
         ensures explained { Explained (library_of R.value_of self.now) (state_of self.now)
             (set_of worldview.now) cell
-            (beliefs (set_of worldview.now) self.now.live.network.cells.contents cell) name.now mark.now
-            (answer_of result) }
+            (beliefs (set_of worldview.now) self.now.live.network.cells.contents cell) name.now
+            mark.now (answer_of result) }
         ensures lean { (text : List ℕ) → answer_of result ≡ Text text
-            → IsLeanExplanation (set_of worldview.now) self.now.live.network.cells (state_of self.now)
-            cell name.now mark.now text }
+            → IsLeanExplanation (set_of worldview.now) self.now.live.network.cells
+            (state_of self.now) cell name.now mark.now text }
     {
         let why = match self.live.network().explanation(cell, worldview) {
             Ok(why) => why,

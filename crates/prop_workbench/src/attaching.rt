@@ -113,11 +113,12 @@ impl<R: Rule + Drop, O: Order + Drop> Session<R, O> {
         requires sound { IsInOrder R.value_of self.now }
         requires cells { All (λ c. c < length self.now.live.network.cells.kinds) cells.now }
         ensures fits { OnOk result (expand_refusal (library_of R.value_of self.now) self.now.words
-            self.now.definitions name.now (map (kind_at self.now.live.network.cells.kinds) cells.now)
+            self.now.definitions name.now
+            (map (kind_at self.now.live.network.cells.kinds) cells.now)
             (given_by self.now.words (by_of by.entry)) ≡ None) }
         ensures ok { IfOk result (λ flat.
-            expansion_of_flat (map (kind_at self.now.live.network.cells.kinds) cells.now) flat ≡ used
-            (library_of R.value_of self.now) (state_of self.now) name.now cells.now
+            expansion_of_flat (map (kind_at self.now.live.network.cells.kinds) cells.now) flat
+            ≡ used (library_of R.value_of self.now) (state_of self.now) name.now cells.now
             (by_of by.entry)) }
         ensures safe { IfOk result (λ flat.
             IsFlatOver (library_of R.value_of self.now) (length cells.now) flat) }

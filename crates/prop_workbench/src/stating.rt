@@ -244,8 +244,8 @@ impl<R: Rule + Drop, O: Order + Drop> Session<R, O> {
               statements = (state_of self.old).statements
                   ++ record { premise = premise; cell = cell; info = info } ∷ [];
             }) }
-        ensures err { IfErr result (λ e. (state_refusal self.old.live.network.cells cell info ≡ Some e)
-            ⊎ (e ≡ Memory)) }
+        ensures err { IfErr result (λ e.
+            (state_refusal self.old.live.network.cells cell info ≡ Some e) ⊎ (e ≡ Memory)) }
         ensures err_same { OnErr result (state_of self.new ≡ state_of self.old) }
         ensures stirred { HasStirred self.old self.old.search.list result self.new }
     {

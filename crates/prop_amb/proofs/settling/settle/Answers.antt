@@ -8,10 +8,11 @@ use Rattle.prop_amb.specs.declared.outcome.Outcome.{Outcome}
 use Rattle.prop_amb.specs.declared.outcome.Outcome.TheVariants.{Settled, Unsettled}
 use Rattle.prop_scheduler.specs.declared.outcome.Ended.{Ended}
 use Rattle.prop_scheduler.specs.declared.outcome.Run.TheVariants.{Quiet, Spent}
+use Rattle.prop_amb.specs.inner.Trying.{Attempted}
 use Rattle.prop_amb.proofs.Blocked.{kept_block}
 use Rattle.prop_amb.proofs.OnWay.{OnTry}
 use Rattle.prop_amb.proofs.SearchLaws.{kept_refute}
-use Rattle.prop_amb.proofs.SettlingLaws.{count_in, rest_on, premises_in, search_in, search_from, attempted_in}
+use Rattle.prop_amb.proofs.SettlingLaws.{rest_on, premises_in, search_in, search_from, attempted_in}
 use Rattle.prop_amb.proofs.SettlingLaws.{contradiction_in, blamed_in, at_start, after_try, after_move, ended}
 use Rattle.prop_amb.proofs.SettlingLaws.{first_consistent, all_moves, spent_earned, held_earned}
 use Rattle.prop_amb.proofs.settling.settle.Goals as goal
@@ -97,8 +98,8 @@ decide-requires-clause-search g c =
     c.loop-tried.live.network.cells c.try_list.new.live.network.cells c.try_list.new.search
     c.try_list.ensures.ran.library c.try_list.ensures.ran.rest c.try_list.ensures.search
 
-pub returns-in_err-decided-clause-ran : goal.returns-in_err-decided-clause-ran
-returns-in_err-decided-clause-ran g c = record {
+pub returns-in_err-end-clause-ran : goal.returns-in_err-end-clause-ran
+returns-in_err-end-clause-ran g c = record {
   library = ap (λ n. n.library) c.decide.ensures.network ∙ c.try_list.ensures.ran.library
       ∙ c.loop-tried.invariant.same;
   rest = rw (ap (λ n. n.cells) c.decide.ensures.network)
@@ -106,11 +107,11 @@ returns-in_err-decided-clause-ran g c = record {
       c.loop-tried.invariant.way.rest c.try_list.ensures.ran.rest);
 }
 
-pub returns-in_err-decided-clause-alive : goal.returns-in_err-decided-clause-alive
-returns-in_err-decided-clause-alive g c = c.decide.ensures.alive
+pub returns-in_err-end-clause-alive : goal.returns-in_err-end-clause-alive
+returns-in_err-end-clause-alive g c = c.decide.ensures.alive
 
-pub returns-in_err-decided-clause-learns : goal.returns-in_err-decided-clause-learns
-returns-in_err-decided-clause-learns g c =
+pub returns-in_err-end-clause-learns : goal.returns-in_err-end-clause-learns
+returns-in_err-end-clause-learns g c =
     let problem = problem_of (stored_of g.R.Rule.value_of c.args.live.now.network.library) c.args.live.now.network.cells
     in
     let both = c.try_list.ensures.ran.library ∙ c.loop-tried.invariant.same in
@@ -134,42 +135,47 @@ returns-in_err-decided-clause-learns g c =
 
 pub returns-in-Some : goal.returns-in-Some
 returns-in-Some g c =
+    let some : c.in_ok-end.field-0.end ≡ Some c.in-Some.end = c.in-Some.is in
     let same = c.loop-tried.invariant.same in
     let way = c.loop-tried.invariant.way in
-    let a = c.in_ok-tried.ensures.tried in
+    let a : Attempted g.O.Order.picks (stored_of g.R.Rule.value_of c.loop-tried.live.network.library) c.loop-tried.search
+    c.loop-tried.live.network.cells c.loop-tried.live.agenda.line c.loop-tried.order
+    (c.args.budget - c.loop-tried.steps) c.in_ok-tried.field-0.end c.in_ok-tried.field-0.steps c.try_list.new.search
+    c.try_list.new.live.network.cells c.try_list.new.live.agenda.line c.try_list.new.order =
+    c.in_ok-tried.ensures.tried in
     let x : OnTry g.O.Order.picks (stored_of g.R.Rule.value_of c.args.live.now.network.library) c.args.search.now
     c.args.live.now.network.cells c.args.live.now.agenda.line c.args.order.now c.try_list.new.search
     c.try_list.new.live.network.cells c.try_list.new.live.agenda.line c.try_list.new.order
-    (c.loop-tried.steps + c.in_ok-tried.tried.steps) c.args.budget c.in_ok-tried.tried.end =
+    (c.loop-tried.steps + c.in_ok-tried.field-0.steps) c.args.budget c.in_ok-tried.field-0.end =
     after_try g.O.Order.picks (stored_of g.R.Rule.value_of c.args.live.now.network.library) c.args.search.now
     c.args.live.now.network.cells c.args.live.now.agenda.line c.args.order.now c.loop-tried.search c.loop-tried.live.network.cells
-    c.loop-tried.live.agenda.line c.loop-tried.order c.loop-tried.steps c.args.budget c.in_ok-tried.tried.end
-    c.in_ok-tried.tried.steps c.try_list.new.search c.try_list.new.live.network.cells c.try_list.new.live.agenda.line
+    c.loop-tried.live.agenda.line c.loop-tried.order c.loop-tried.steps c.args.budget c.in_ok-tried.field-0.end
+    c.in_ok-tried.field-0.steps c.try_list.new.search c.try_list.new.live.network.cells c.try_list.new.live.agenda.line
     c.try_list.new.order way c.loop-tried.invariant.within
     (attempted_in (stored_of g.R.Rule.value_of) c.args.live.now.network.library c.loop-tried.live.network.library g.O.Order.picks
     c.loop-tried.search c.loop-tried.live.network.cells c.loop-tried.live.agenda.line c.loop-tried.order
-    (c.args.budget - c.loop-tried.steps) c.in_ok-tried.tried.end c.in_ok-tried.tried.steps c.try_list.new.search
+    (c.args.budget - c.loop-tried.steps) c.in_ok-tried.field-0.end c.in_ok-tried.field-0.steps c.try_list.new.search
     c.try_list.new.live.network.cells c.try_list.new.live.agenda.line c.try_list.new.order same a) in
     let both : c.try_list.new.live.network.library ≡ c.args.live.now.network.library = c.try_list.ensures.ran.library ∙ same in
-    let as_was : c.decide.new.search ≡ c.try_list.new.search = rw c.in-Some.is at c.in_ok-decided.ensures.same in
+    let as_was : c.decide.new.search ≡ c.try_list.new.search = rw some at c.in_ok-end.ensures.same in
     let line_as_was : c.decide.new.live.agenda.line ≡ c.try_list.new.live.agenda.line =
-    rw c.in-Some.is at c.in_ok-decided.ensures.same_line in
+    rw some at c.in_ok-end.ensures.same_line in
     let t : OnTry g.O.Order.picks (stored_of g.R.Rule.value_of c.args.live.now.network.library) c.args.search.now
     c.args.live.now.network.cells c.args.live.now.agenda.line c.args.order.now c.decide.new.search
     c.decide.new.live.network.cells c.decide.new.live.agenda.line c.try_list.new.order
-    (c.loop-tried.steps + c.in_ok-tried.tried.steps) c.args.budget c.in_ok-tried.tried.end =
+    (c.loop-tried.steps + c.in_ok-tried.field-0.steps) c.args.budget c.in_ok-tried.field-0.end =
     rw (ap (λ n. n.cells) c.decide.ensures.network) (ended g.O.Order.picks (stored_of g.R.Rule.value_of c.args.live.now.network.library) c.args.search.now
     c.args.live.now.network.cells c.args.live.now.agenda.line c.args.order.now c.try_list.new.search
     c.try_list.new.live.network.cells c.try_list.new.live.agenda.line c.try_list.new.order
-    (c.loop-tried.steps + c.in_ok-tried.tried.steps) c.args.budget c.in_ok-tried.tried.end c.decide.new.search
+    (c.loop-tried.steps + c.in_ok-tried.field-0.steps) c.args.budget c.in_ok-tried.field-0.end c.decide.new.search
     c.decide.new.live.agenda.line x as_was line_as_was) in
     let library = stored_of g.R.Rule.value_of c.args.live.now.network.library in
     let quiet : c.in-Some.end ≡ Settled
-    → c.in_ok-tried.tried.end ≡ Quiet = λ e. c.in_ok-decided.ensures.settled (c.in-Some.is ∙ ap Some e) in
+    → c.in_ok-tried.field-0.end ≡ Quiet = λ e. c.in_ok-end.ensures.settled (some ∙ ap Some e) in
     let unsettled : c.in-Some.end ≡ Unsettled
-    → (c.in_ok-tried.tried.end ≡ Spent) ⊎ ((c.args.budget - (c.loop-tried.steps + c.in_ok-tried.tried.steps) ≡ 0)
+    → (c.in_ok-tried.field-0.end ≡ Spent) ⊎ ((c.args.budget - (c.loop-tried.steps + c.in_ok-tried.field-0.steps) ≡ 0)
     × ((j : ℕ) × MayMove c.decide.new.search j)) =
-    λ e. rw as_was (c.in_ok-decided.ensures.unsettled (c.in-Some.is ∙ ap Some e)) in
+    λ e. rw as_was (c.in_ok-end.ensures.unsettled (some ∙ ap Some e)) in
     record {
       ran = record { library = ap (λ n. n.library) c.decide.ensures.network ∙ both; rest = t.rest };
       alive = c.decide.ensures.alive;
@@ -187,7 +193,7 @@ returns-in-Some g c =
         first = first_consistent g.O.Order.picks (stored_of g.R.Rule.value_of c.args.live.now.network.library)
             c.args.search.now c.args.live.now.network.cells c.args.live.now.agenda.line c.args.order.now c.decide.new.search
             c.decide.new.live.network.cells c.decide.new.live.agenda.line c.try_list.new.order
-            (c.loop-tried.steps + c.in_ok-tried.tried.steps) c.args.budget c.in_ok-tried.tried.end t (quiet e);
+            (c.loop-tried.steps + c.in_ok-tried.field-0.steps) c.args.budget c.in_ok-tried.field-0.end t (quiet e);
         full = t.full (quiet e);
         settled = t.quiet (quiet e);
         rests = t.rests (quiet e);
@@ -195,20 +201,20 @@ returns-in-Some g c =
       contradiction = contradiction_in (stored_of g.R.Rule.value_of) c.args.live.now.network.library
           c.try_list.new.live.network.library c.args.live.now.network.cells c.try_list.new.live.network.cells c.try_list.new.search
           c.decide.new.search c.in-Some.end both x.rest as_was
-          (rw c.in-Some.is at c.in_ok-decided.ensures.contradiction);
+          (rw some at c.in_ok-end.ensures.contradiction);
       named = blamed_in c.try_list.new.search c.decide.new.search c.in-Some.end as_was
-          (rw c.in-Some.is at c.in_ok-decided.ensures.named);
+          (rw some at c.in_ok-end.ensures.named);
       unsettled = λ e. record {
         spent = elim (unsettled e) [ inl q ↦ t.spent q | inr h ↦ omega (arith, h.0, t.within) ];
         earned = elim (unsettled e) [
           | inl q ↦ spent_earned g.O.Order.picks (stored_of g.R.Rule.value_of c.args.live.now.network.library)
               c.args.search.now c.args.live.now.network.cells c.args.live.now.agenda.line c.args.order.now c.decide.new.search
               c.decide.new.live.network.cells c.decide.new.live.agenda.line c.try_list.new.order
-              (c.loop-tried.steps + c.in_ok-tried.tried.steps) c.args.budget c.in_ok-tried.tried.end t q
+              (c.loop-tried.steps + c.in_ok-tried.field-0.steps) c.args.budget c.in_ok-tried.field-0.end t q
           | inr h ↦ held_earned g.O.Order.picks (stored_of g.R.Rule.value_of c.args.live.now.network.library) c.args.search.now
               c.args.live.now.network.cells c.args.live.now.agenda.line c.args.order.now c.decide.new.search
               c.decide.new.live.network.cells c.decide.new.live.agenda.line c.try_list.new.order
-              (c.loop-tried.steps + c.in_ok-tried.tried.steps) c.args.budget c.in_ok-tried.tried.end t (omega (arith, h.0)) h.1.0
+              (c.loop-tried.steps + c.in_ok-tried.field-0.steps) c.args.budget c.in_ok-tried.field-0.end t (omega (arith, h.0)) h.1.0
               h.1.1
         ];
         left = elim (unsettled e) [ inl q ↦ inl (t.leaves q) | inr h ↦ inr h.1 ];
@@ -217,51 +223,57 @@ returns-in-Some g c =
       moves = all_moves g.O.Order.picks (stored_of g.R.Rule.value_of c.args.live.now.network.library) c.args.search.now
           c.args.live.now.network.cells c.args.live.now.agenda.line c.args.order.now c.decide.new.search
           c.decide.new.live.network.cells c.decide.new.live.agenda.line c.try_list.new.order
-          (c.loop-tried.steps + c.in_ok-tried.tried.steps) c.args.budget c.in_ok-tried.tried.end t;
+          (c.loop-tried.steps + c.in_ok-tried.field-0.steps) c.args.budget c.in_ok-tried.field-0.end t;
       falls = t.falls;
       at_rest = λ resting.
-          (let r : (c.in_ok-tried.tried.end ≡ Quiet)
-          × (c.loop-tried.steps + c.in_ok-tried.tried.steps ≡ 0) =
+          (let r : (c.in_ok-tried.field-0.end ≡ Quiet)
+          × (c.loop-tried.steps + c.in_ok-tried.field-0.steps ≡ 0) =
           t.at_rest resting
-          in (settled_at (c.decide.ensures.quiet r.0) c.in_ok-decided.was c.in-Some.is, r.1));
+          in (settled_at (c.decide.ensures.quiet r.0) c.in_ok-end.was some, r.1));
       gone = t.gone;
     }
 
 pub loop-tried-smaller : goal.loop-tried-smaller
 loop-tried-smaller g c =
-    omega (arith, c.in_ok-decided.ensures.some c.in-None.is, c.in_ok-decided.ensures.few)
+    let none = c.in-None.is in
+    omega (arith, c.in_ok-end.ensures.some none, c.in_ok-end.ensures.few)
 
 pub loop-tried-preserved : goal.loop-tried-preserved
 loop-tried-preserved g c =
+    let none : c.in_ok-end.field-0.end ≡ None = c.in-None.is in
     let same = c.loop-tried.invariant.same in
     let way = c.loop-tried.invariant.way in
-    let a = c.in_ok-tried.ensures.tried in
+    let a : Attempted g.O.Order.picks (stored_of g.R.Rule.value_of c.loop-tried.live.network.library) c.loop-tried.search
+    c.loop-tried.live.network.cells c.loop-tried.live.agenda.line c.loop-tried.order
+    (c.args.budget - c.loop-tried.steps) c.in_ok-tried.field-0.end c.in_ok-tried.field-0.steps c.try_list.new.search
+    c.try_list.new.live.network.cells c.try_list.new.live.agenda.line c.try_list.new.order =
+    c.in_ok-tried.ensures.tried in
     let x : OnTry g.O.Order.picks (stored_of g.R.Rule.value_of c.args.live.now.network.library) c.args.search.now
     c.args.live.now.network.cells c.args.live.now.agenda.line c.args.order.now c.try_list.new.search
     c.try_list.new.live.network.cells c.try_list.new.live.agenda.line c.try_list.new.order
-    (c.loop-tried.steps + c.in_ok-tried.tried.steps) c.args.budget c.in_ok-tried.tried.end =
+    (c.loop-tried.steps + c.in_ok-tried.field-0.steps) c.args.budget c.in_ok-tried.field-0.end =
     after_try g.O.Order.picks (stored_of g.R.Rule.value_of c.args.live.now.network.library) c.args.search.now
     c.args.live.now.network.cells c.args.live.now.agenda.line c.args.order.now c.loop-tried.search c.loop-tried.live.network.cells
-    c.loop-tried.live.agenda.line c.loop-tried.order c.loop-tried.steps c.args.budget c.in_ok-tried.tried.end
-    c.in_ok-tried.tried.steps c.try_list.new.search c.try_list.new.live.network.cells c.try_list.new.live.agenda.line
+    c.loop-tried.live.agenda.line c.loop-tried.order c.loop-tried.steps c.args.budget c.in_ok-tried.field-0.end
+    c.in_ok-tried.field-0.steps c.try_list.new.search c.try_list.new.live.network.cells c.try_list.new.live.agenda.line
     c.try_list.new.order way c.loop-tried.invariant.within
     (attempted_in (stored_of g.R.Rule.value_of) c.args.live.now.network.library c.loop-tried.live.network.library g.O.Order.picks
     c.loop-tried.search c.loop-tried.live.network.cells c.loop-tried.live.agenda.line c.loop-tried.order
-    (c.args.budget - c.loop-tried.steps) c.in_ok-tried.tried.end c.in_ok-tried.tried.steps c.try_list.new.search
+    (c.args.budget - c.loop-tried.steps) c.in_ok-tried.field-0.end c.in_ok-tried.field-0.steps c.try_list.new.search
     c.try_list.new.live.network.cells c.try_list.new.live.agenda.line c.try_list.new.order same a) in
     let both : c.try_list.new.live.network.library ≡ c.args.live.now.network.library = c.try_list.ensures.ran.library ∙ same in
-    let some = c.in_ok-decided.ensures.some c.in-None.is in
+    let some = c.in_ok-end.ensures.some none in
     record {
       same = ap (λ n. n.library) c.decide.ensures.network ∙ both;
       alive = c.decide.ensures.alive;
-      within = omega (arith, some, c.in_ok-decided.ensures.few, x.within);
+      within = omega (arith, some, c.in_ok-end.ensures.few, x.within);
       way = rw (ap (λ n. n.cells) c.decide.ensures.network) (after_move g.O.Order.picks (stored_of g.R.Rule.value_of c.args.live.now.network.library) c.args.search.now
           c.args.live.now.network.cells c.args.live.now.agenda.line c.args.order.now c.try_list.new.search
           c.try_list.new.live.network.cells c.try_list.new.live.agenda.line c.try_list.new.order
-          (c.loop-tried.steps + c.in_ok-tried.tried.steps) c.args.budget c.in_ok-tried.tried.end c.decide.new.search
-          c.decide.new.live.agenda.line c.in_ok-decided.decided.steps x
-          (λ q. no_end (c.decide.ensures.quiet q) c.in_ok-decided.was c.in-None.is)
+          (c.loop-tried.steps + c.in_ok-tried.field-0.steps) c.args.budget c.in_ok-tried.field-0.end c.decide.new.search
+          c.decide.new.live.agenda.line c.in_ok-end.field-0.steps x
+          (λ q. no_end (c.decide.ensures.quiet q) c.in_ok-end.was none)
           c.decide.ensures.premises c.decide.ensures.listed (rw both at c.decide.ensures.search)
-          (rw (c.decide.ensures.network, both) at c.decide.ensures.alive.under_way) some (c.in_ok-decided.ensures.moves c.in-None.is)
-          (c.in_ok-decided.ensures.shifted c.in-None.is));
+          (rw (c.decide.ensures.network, both) at c.decide.ensures.alive.under_way) some (c.in_ok-end.ensures.moves none)
+          (c.in_ok-end.ensures.shifted none));
     }
