@@ -13,11 +13,12 @@ use Rattle.prop_amb.specs.Search.{Stand, IsStand, IsSearch, believed_with}
 use Rattle.prop_amb.specs.Moving.{deepened}
 use Rattle.prop_amb.specs.Going.{work, MayDeepen}
 use Rattle.prop_amb.specs.Going.Goes.{none, deeper}
-use Rattle.prop_amb.specs.declared.settling.Tried.{Tried}
-use Rattle.prop_amb.specs.declared.settling.Tried.TheVariants.{Quiet}
+use Rattle.prop_scheduler.specs.declared.outcome.Run.{Run}
+use Rattle.prop_scheduler.specs.declared.outcome.Run.TheVariants.{Quiet}
 use Rattle.prop_amb.proofs.GoingLaws.{goes_then}
 use Rattle.prop_amb.proofs.MetLaws.{believes_worldview}
-use Rattle.prop_amb.specs.inner.Trying.{IsResting, Attempted}
+use Rattle.prop_amb.specs.Settling.{IsResting}
+use Rattle.prop_amb.specs.inner.Trying.{Attempted}
 use Rattle.prop_amb.proofs.OnWay.{IsStart, AtLevel, Deepening}
 use Rattle.prop_amb.proofs.SettlingLaws.{same_in, rest_on}
 
@@ -31,7 +32,7 @@ grown_believed d s new waiting line stand stand' grown =
 
 -- of the same library in other words
 pub at_level : {V O : Type 0} (mean : V → List Stored) (was now : V) (picks : O → ℕ → ℕ → O → Type 0) (s : Stand)
-    (d : Data) (waiting : List ℕ) (order : O) (budget : ℕ) (tried : Tried) (calls : ℕ) (new : Stand) (cells : Data)
+    (d : Data) (waiting : List ℕ) (order : O) (budget : ℕ) (tried : Run) (calls : ℕ) (new : Stand) (cells : Data)
     (after : List ℕ) (next : O) → now ≡ was →
     AtLevel picks (mean now) s d waiting order budget tried calls new cells after next
     → AtLevel picks (mean was) s d waiting order budget tried calls new cells after next
@@ -55,7 +56,7 @@ module _ {O : Type 0} (picks : O → ℕ → ℕ → O → Type 0) (library : Li
   }
 
   module _ (t : Stand) (mid : Data) (line : List ℕ) (last : O) (steps budget : ℕ)
-      (w : Deepening picks library s d waiting order t mid line last steps) (within : steps ≤ budget) (tried : Tried)
+      (w : Deepening picks library s d waiting order t mid line last steps) (within : steps ≤ budget) (tried : Run)
       (calls : ℕ) (new : Stand) (cells : Data) (after : List ℕ) (next : O)
       (a : AtLevel picks library t mid line last (budget - steps) tried calls new cells after next) where
     same : problem_of library mid ≡ problem_of library d

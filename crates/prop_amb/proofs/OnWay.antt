@@ -9,9 +9,9 @@ use Rattle.prop_scheduler.specs.Turns.{IsUnderWay, IsSettled}
 use Rattle.prop_scheduler.specs.Potential.{potential, most_steps}
 use Rattle.prop_amb.specs.Search.{Stand, IsStand, IsSearch, choices_in}
 use Rattle.prop_amb.specs.Going.{work, MayCall, Goes}
-use Rattle.prop_amb.specs.inner.Trying.{IsResting}
-use Rattle.prop_amb.specs.declared.settling.Tried.{Tried}
-use Rattle.prop_amb.specs.declared.settling.Tried.TheVariants.{Quiet, Spent}
+use Rattle.prop_amb.specs.Settling.{IsResting}
+use Rattle.prop_scheduler.specs.declared.outcome.Run.{Run}
+use Rattle.prop_scheduler.specs.declared.outcome.Run.TheVariants.{Quiet, Spent}
 
 -- nothing has happened yet
 pub record IsStart (old s : Stand) (start d : Data) (line waiting : List ℕ) (steps : ℕ) : Type 0 where
@@ -36,7 +36,7 @@ pub record OnWay {O : Type 0} (picks : O → ℕ → ℕ → O → Type 0) (libr
 
 -- what came of one list at a level
 pub record AtLevel {O : Type 0} (picks : O → ℕ → ℕ → O → Type 0) (library : List Stored) (s : Stand) (d : Data)
-    (waiting : List ℕ) (order : O) (budget : ℕ) (tried : Tried) (calls : ℕ) (new : Stand) (cells : Data)
+    (waiting : List ℕ) (order : O) (budget : ℕ) (tried : Run) (calls : ℕ) (new : Stand) (cells : Data)
     (after : List ℕ) (next : O) : Type 0 where
   pub only : new ≡ record s { listed = new.listed }
   pub kept : (m : Members) → IsTrue (has_part s.listed m) → IsTrue (has_part new.listed m)
@@ -77,7 +77,7 @@ pub record Deepening {O : Type 0} (picks : O → ℕ → ℕ → O → Type 0) (
 
 -- a list was tried, after so many steps of the budget
 pub record OnTry {O : Type 0} (picks : O → ℕ → ℕ → O → Type 0) (library : List Stored) (old : Stand) (start : Data)
-    (line : List ℕ) (first : O) (s : Stand) (d : Data) (waiting : List ℕ) (order : O) (steps budget : ℕ) (tried : Tried)
+    (line : List ℕ) (first : O) (s : Stand) (d : Data) (waiting : List ℕ) (order : O) (steps budget : ℕ) (tried : Run)
     : Type 0 where
   pub premises : s.premises ≡ old.premises
   pub listed : (m : Members) → IsTrue (has_part old.listed m) → IsTrue (has_part s.listed m)

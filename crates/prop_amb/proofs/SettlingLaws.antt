@@ -21,15 +21,16 @@ use Rattle.prop_amb.specs.Going.{work, Passes}
 use Rattle.prop_amb.specs.Going.Passes.{none, next as one_more}
 use Rattle.prop_amb.specs.Going.Goes.{none as not_gone, moved}
 use Rattle.prop_amb.specs.declared.outcome.Outcome.{Outcome}
-use Rattle.prop_amb.specs.declared.settling.Tried.{Tried}
-use Rattle.prop_amb.specs.declared.settling.Tried.TheVariants.{Quiet, Spent}
+use Rattle.prop_scheduler.specs.declared.outcome.Run.{Run}
+use Rattle.prop_scheduler.specs.declared.outcome.Run.TheVariants.{Quiet, Spent}
 use Rattle.prop_amb.proofs.Consistent.{settled_consistent}
 use Rattle.prop_amb.proofs.AdvancingLaws.{advanced_is_list}
 use Rattle.prop_amb.proofs.CountLaws.{place_below, earlier_place, few_within, few_in_all}
 use Rattle.prop_amb.proofs.GoingLaws.{goes_then}
 use Rattle.prop_amb.proofs.LevelLaws.{whole_is}
 use Rattle.prop_amb.proofs.MetLaws.{believes_worldview, advanced_later}
-use Rattle.prop_amb.specs.inner.Trying.{IsResting, Attempted}
+use Rattle.prop_amb.specs.Settling.{IsResting}
+use Rattle.prop_amb.specs.inner.Trying.{Attempted}
 use Rattle.prop_amb.proofs.OnWay.{IsStart, OnWay, OnTry}
 use Rattle.prop_amb.proofs.RunLaws.{same_problem}
 use Rattle.prop_amb.proofs.SearchLaws.{kept_refute}
@@ -91,10 +92,6 @@ pub same_in : (library : List Stored) (start d : Data) → d ≡ record start { 
 same_in library start d rest = λ i. problem_of library (rest i)
 
 -- what an attempt and a run leave as it was
-pub count_in : (start d : Data) → d ≡ record start { contents = d.contents }
-    → length d.instances ≡ length start.instances
-count_in start d rest = λ i. length (rest i).instances
-
 pub rest_on : (start d new : Data) → d ≡ record start { contents = d.contents }
     → new ≡ record d { contents = new.contents } → new ≡ record start { contents = new.contents }
 rest_on start d new first then = then ∙ (λ i. record (first i) { contents = new.contents })
@@ -117,7 +114,7 @@ search_from stored a b start d s same rest h =
     subst (λ p. IsSearch p s) (sym (same_problem stored a b start d same rest)) h
 
 pub attempted_in : {L O : Type 0} (stored : L → List Stored) (a b : L) (picks : O → ℕ → ℕ → O → Type 0) (s : Stand)
-    (d : Data) (waiting : List ℕ) (order : O) (budget : ℕ) (tried : Tried) (calls : ℕ) (new : Stand) (cells : Data)
+    (d : Data) (waiting : List ℕ) (order : O) (budget : ℕ) (tried : Run) (calls : ℕ) (new : Stand) (cells : Data)
     (after : List ℕ) (next : O) → b ≡ a →
     Attempted picks (stored b) s d waiting order budget tried calls new cells after next
     → Attempted picks (stored a) s d waiting order budget tried calls new cells after next
@@ -174,7 +171,7 @@ module _ {O : Type 0} (picks : O → ℕ → ℕ → O → Type 0) (library : Li
       let e : place_of choices s.list ≡ place_of choices old.list = ap (place_of choices) same in
       omega (arith, place, one, e)
 
-  pub after_try : (s : Stand) (d : Data) (waiting : List ℕ) (order : O) (steps budget : ℕ) (tried : Tried) (calls : ℕ)
+  pub after_try : (s : Stand) (d : Data) (waiting : List ℕ) (order : O) (steps budget : ℕ) (tried : Run) (calls : ℕ)
       (new : Stand) (cells : Data) (after : List ℕ) (next : O)
       → OnWay picks library old start line first s d waiting order steps → steps ≤ budget →
       Attempted picks library s d waiting order (budget - steps) tried calls new cells after next
@@ -232,7 +229,7 @@ module _ {O : Type 0} (picks : O → ℕ → ℕ → O → Type 0) (library : Li
   in_old : (s : Stand) → s.premises ≡ old.premises → IsStand s → IsChoiceList choices s.list
   in_old s same stand = subst (λ (o : List Origin). IsChoiceList (choices_of o) s.list) same stand.is_list
 
-  pub after_move : (s : Stand) (d : Data) (waiting : List ℕ) (order : O) (steps budget : ℕ) (tried : Tried)
+  pub after_move : (s : Stand) (d : Data) (waiting : List ℕ) (order : O) (steps budget : ℕ) (tried : Run)
       (new : Stand) (after : List ℕ) (moves : ℕ)
       → OnTry picks library old start line first s d waiting order steps budget tried →
       (tried ≡ Quiet → ⊥) → new.premises ≡ s.premises → new.listed ≡ s.listed → IsSearch (problem_of library d) new
@@ -260,13 +257,13 @@ module _ {O : Type 0} (picks : O → ℕ → ℕ → O → Type 0) (library : Li
 
   -- ---- the end
 
-  pub ended : (s : Stand) (d : Data) (waiting : List ℕ) (order : O) (steps budget : ℕ) (tried : Tried) (new : Stand)
+  pub ended : (s : Stand) (d : Data) (waiting : List ℕ) (order : O) (steps budget : ℕ) (tried : Run) (new : Stand)
       (after : List ℕ) → OnTry picks library old start line first s d waiting order steps budget tried → new ≡ s
       → after ≡ waiting →
       OnTry picks library old start line first new d after order steps budget tried
   ended s d waiting order steps budget tried new after t same same_line = rw (same, same_line) t
 
-  module _ (s : Stand) (d : Data) (waiting : List ℕ) (order : O) (steps budget : ℕ) (tried : Tried)
+  module _ (s : Stand) (d : Data) (waiting : List ℕ) (order : O) (steps budget : ℕ) (tried : Run)
       (t : OnTry picks library old start line first s d waiting order steps budget tried) where
     same_choices : choices_in s ≡ choices
     same_choices = ap (λ (o : List Origin). choices_of o) t.premises

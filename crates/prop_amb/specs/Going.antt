@@ -4,6 +4,8 @@ use Rattle.prop_numbers.specs.Sets.{set_of}
 use Rattle.prop_procedures.specs.Stored.{Stored}
 use Rattle.prop_cells.specs.Data.{Data, IsFree, IsClash}
 use Rattle.prop_nogoods.specs.Stores.{has_part, AddsSet}
+use Rattle.prop_scheduler.specs.Live.{cells_of, line_of}
+use Rattle.prop_scheduler.specs.declared.live.Live.{Live}
 use Rattle.prop_scheduler.specs.Turns.{Turn}
 use Rattle.prop_scheduler.specs.Shifts.{AreShifted, AreGrown}
 use Rattle.prop_amb.specs.Search.{Stand, believed_with}
@@ -23,6 +25,11 @@ pub record Work (O : Type 0) : Type 0 where
 
 abbrev pub work : {O : Type 0} → Stand → Data → List ℕ → O → Work O
 work s d line order = record { search = s; cells = d; line = line; order = order }
+
+-- the same over a network under way
+abbrev pub work_on : {R : Type 0} {X : Type 0} {F : X → Type 0} {g : _} {O : Type 0} → Stand
+    → Live R X F g → O → Work O
+work_on s live order = work s (cells_of live) (line_of live) order
 
 -- an instance waits, no noted nogood is believed, and no cell is believed to hold a contradiction
 pub record MayCall {O : Type 0} (w : Work O) : Type 0 where

@@ -1,199 +1,144 @@
 //! Settling: the first list of choices that isn't refuted, and the least solution with it.
-ghost use Rattle.std.specs.Prelude.{◌≡◌, ◌⊎◌, ℕ, ◌+◌, ◌*◌, ◌<◌, ◌≤◌, [], false, IsTrue, length, Ok};
+ghost use Rattle.std.specs.Prelude.{◌≡◌, ◌⊎◌, ℕ, ◌+◌, ◌<◌, ◌≤◌, [], false, IsTrue, length, Ok};
 ghost use Rattle.std.specs.Prelude.{Some, None, IfOk, IfSome, OnOk, OnErr};
 ghost use Rattle.prop_numbers.specs.Sets.{Members, set_of};
-ghost use Rattle.prop_premises.specs.ChoiceLists.{lists_count};
-ghost use Rattle.prop_procedures.specs.Kept.{AllMean, stored_of};
-ghost use Rattle.prop_cells.specs.Data.{problem_of, beliefs, IsFree};
-ghost use Rattle.prop_scheduler.specs.Turns.{IsUnderWay, IsSettled};
-ghost use Rattle.prop_scheduler.specs.Potential.{potential, most_steps};
-ghost use Rattle.prop_scheduler.specs.Watching.{IsWatched};
+ghost use Rattle.prop_procedures.specs.Kept.{AllMean};
+ghost use Rattle.prop_cells.specs.Data.{IsFree};
+ghost use Rattle.prop_cells.specs.Problems.{Problem};
+ghost use Rattle.prop_scheduler.specs.Ends.{IfClash};
+ghost use Rattle.prop_scheduler.specs.Live.{cells_of, line_of, library_of, problem_in};
+ghost use Rattle.prop_scheduler.specs.Live.{potential_by, potential_in, IsLiveIn, OnlyRan};
+ghost use Rattle.prop_scheduler.specs.Turns.{IsSettled};
+ghost use Rattle.prop_scheduler.specs.Potential.{most_steps};
 ghost use Rattle.prop_scheduler.specs.Shifts.{AreShifted, AreGrown};
 ghost use Rattle.prop_nogoods.specs.Stores.{has_part};
-ghost use Rattle.prop_amb.specs.Refuted.{AllBeforeRefuted, IsFirstConsistent, IsRuledOut};
+ghost use Rattle.prop_amb.specs.Refuted.{IsRuledOut};
 ghost use Rattle.prop_amb.specs.Search.{users_of, choices_in, believed_with, IsStand, IsSearch};
-ghost use Rattle.prop_amb.specs.Search.{AllBeforeBlocked, Moves};
+ghost use Rattle.prop_amb.specs.Search.{Moves};
 ghost use Rattle.prop_amb.specs.Culprits.{IsBlamed, MayMove};
-ghost use Rattle.prop_amb.specs.Going.{work, MayCall, MayGoOn, Passes, Goes};
-ghost use Rattle.prop_cells.specs.Problems.{Problem};
-ghost use Rattle.prop_amb.specs.Settling.{IfContradiction};
+ghost use Rattle.prop_amb.specs.Going.{work_on, MayCall, Passes, Goes};
+ghost use Rattle.prop_amb.specs.Settling.{IfContradiction, IsResting, Learns, HasSettled, HasUsed};
 ghost use Rattle.prop_amb.specs.Moving.{deepened};
-ghost use Rattle.prop_amb.specs.inner.Settling.{IfRefuted, IsMet};
+ghost use Rattle.prop_amb.specs.inner.Settling.{IsMet};
 ghost use Rattle.prop_amb.specs.inner.Trying.{Attempted};
 
 use crate::outcome::Outcome;
 use crate::resolving::Resolved;
 use crate::search::Search;
-use prop_cells::Network;
-use prop_premises::{Premise, PremiseSet};
 use prop_procedures::Rule;
-use prop_scheduler::{Agenda, Order, Run, alert_grown, alert_shifted, run};
-use std::alloc::{AllocError, Global};
-
-/// What came of one list of choices.
-#[derive(Drop)]
-enum Tried {
-    /// It holds, and no instance waits.
-    Quiet,
-    /// It is refuted by this nogood, which is noted.
-    Refuted(PremiseSet),
-    /// The budget is used.
-    Spent,
-}
+use prop_scheduler::{Ended, Live, Order, Run, alert_grown, alert_shifted, run};
+use std::alloc::AllocError;
 
 /// Looks whether a noted nogood is believed, and else runs the network with the sides that are
-/// believed; a clash is noted. Answers what came of them and how many instances were called.
+/// believed; a clash is noted. Where the list is refuted, the clash is a noted nogood.
 fn attempt<R: Rule + Drop, O: Order>(
-    alloc: Global,
+    live: &mut Live<R>,
     search: &mut Search,
-    network: &mut Network<R>,
-    agenda: &mut Agenda,
     order: &mut O,
     budget: u64,
-) -> Result<(Tried, u64), AllocError>
-    requires means { AllMean R.value_of network.old.library.procedures.items }
-    requires under_way { IsUnderWay (stored_of R.value_of network.old.library)
-        (set_of search.old.worldview) network.old.cells agenda.old.line }
-    requires room { length network.old.cells.instances ≤ agenda.old.room }
-    requires watched { IsWatched (set_of search.old.worldview) network.old.cells
-        agenda.old.watched }
-    requires cells { length network.old.cells.kinds ≤ agenda.old.cells }
-    requires search { IsSearch (problem_of (stored_of R.value_of network.old.library)
-        network.old.cells) search.old }
-    ensures same { network.new.library ≡ network.old.library }
-    ensures rest { network.new.cells
-        ≡ record network.old.cells { contents = network.new.cells.contents } }
-    ensures room { agenda.new.room ≡ agenda.old.room }
-    ensures watched { IsWatched (set_of search.old.worldview) network.new.cells agenda.new.watched }
-    ensures cells { agenda.new.cells ≡ agenda.old.cells }
+) -> Result<Ended<Run>, AllocError>
+    requires means { AllMean R.value_of live.old.network.library.procedures.items }
+    requires alive { IsLiveIn R.value_of (set_of search.old.worldview) live.old }
+    requires search { IsSearch (problem_in R.value_of live.old) search.old }
+    ensures ran { OnlyRan live.old live.new }
+    ensures alive { IsLiveIn R.value_of (set_of search.old.worldview) live.new }
     ensures only { search.new ≡ record search.old { listed = search.new.listed } }
     ensures listed { (m : Members) → IsTrue (has_part search.old.listed m)
         → IsTrue (has_part search.new.listed m) }
-    ensures search { IsSearch (problem_of (stored_of R.value_of network.old.library)
-        network.old.cells) search.new }
+    ensures search { IsSearch (problem_in R.value_of live.old) search.new }
     ensures stand { IsStand search.new }
-    ensures under_way { IsUnderWay (stored_of R.value_of network.old.library)
-        (set_of search.old.worldview) network.new.cells agenda.new.line }
-    ensures gone { IfOk result (λ r. Goes O.picks (stored_of R.value_of network.old.library)
-        (work search.old network.old.cells agenda.old.line order.old) r.1
-        (work search.new network.new.cells agenda.new.line order.new)) }
-    ensures quiet { IfOk result (λ r. r.0 ≡ Tried.Quiet
-        → IsSettled (stored_of R.value_of network.old.library) (set_of search.old.worldview)
-        network.new.cells) }
-    ensures rests { IfOk result (λ r. r.0 ≡ Tried.Quiet → agenda.new.line ≡ []) }
-    ensures unblocked { IfOk result (λ r. r.0 ≡ Tried.Quiet
+    ensures gone { IfOk result (λ r. Goes O.picks (library_of R.value_of live.old)
+        (work_on search.old live.old order.old) r.steps
+        (work_on search.new live.new order.new)) }
+    ensures quiet { IfOk result (λ r. r.end ≡ Run.Quiet → IsSettled (library_of R.value_of live.old)
+        (set_of search.old.worldview) (cells_of live.new)) }
+    ensures rests { IfOk result (λ r. r.end ≡ Run.Quiet → line_of live.new ≡ []) }
+    ensures unblocked { IfOk result (λ r. r.end ≡ Run.Quiet
         → has_part search.new.listed (set_of search.old.worldview) ≡ false) }
-    ensures refuted { IfOk result
-        (λ r. IfRefuted r.0 (IsMet (problem_of (stored_of R.value_of network.old.library)
-        network.old.cells) search.new)) }
-    ensures spent { IfOk result (λ r. r.0 ≡ Tried.Spent → r.1 ≡ budget) }
-    ensures left { IfOk result (λ r. r.0 ≡ Tried.Spent →
-        MayCall (work search.new network.new.cells agenda.new.line order.new)) }
-    ensures earned { IfOk result (λ r. r.0 ≡ Tried.Spent
-        → r.1 < most_steps (problem_of (stored_of R.value_of network.old.library)
-        network.old.cells)) }
-    ensures steps { IfOk result (λ r. r.1 ≤ budget) }
-    ensures at_rest { IfOk result
-        (λ r. agenda.old.line ≡ [] → IsFree (set_of search.old.worldview) network.old.cells
+    ensures refuted { IfOk result (λ r.
+        IfClash r.end (IsMet (problem_in R.value_of live.old) search.new)) }
+    ensures spent { IfOk result (λ r. r.end ≡ Run.Spent → r.steps ≡ budget) }
+    ensures left { IfOk result (λ r. r.end ≡ Run.Spent
+        → MayCall (work_on search.new live.new order.new)) }
+    ensures earned { IfOk result (λ r. r.end ≡ Run.Spent
+        → r.steps < most_steps (problem_in R.value_of live.old)) }
+    ensures steps { IfOk result (λ r. r.steps ≤ budget) }
+    ensures at_rest { IfOk result (λ r. line_of live.old ≡ []
+        → IsFree (set_of search.old.worldview) (cells_of live.old)
         → has_part search.old.listed (set_of search.old.worldview) ≡ false
-        → (r.0 ≡ Tried.Quiet) × (r.1 ≡ 0)) }
+        → (r.end ≡ Run.Quiet) × (r.steps ≡ 0)) }
     ensures falls { IfOk result (λ r.
-        potential (problem_of (stored_of R.value_of network.old.library) network.old.cells)
-        (beliefs (set_of search.old.worldview) network.new.cells.contents)
-        agenda.new.line + r.1 ≤ potential
-        (problem_of (stored_of R.value_of network.old.library) network.old.cells)
-        (beliefs (set_of search.old.worldview) network.old.cells.contents) agenda.old.line) }
-    ensures few { IfOk result (λ r.
-        r.1 ≤ most_steps (problem_of (stored_of R.value_of network.old.library)
-        network.old.cells)) }
-    ensures most { IfOk result (λ r. (r.1 ≡ 0)
-        ⊎ (potential (problem_of (stored_of R.value_of network.old.library) network.old.cells)
-        (beliefs (set_of search.old.worldview) network.old.cells.contents) agenda.old.line
-        ≤ most_steps (problem_of (stored_of R.value_of network.old.library) network.old.cells))) }
+        potential_by (problem_in R.value_of live.old) (set_of search.old.worldview) live.new
+        + r.steps
+        ≤ potential_in R.value_of (set_of search.old.worldview) live.old) }
+    ensures few { IfOk result (λ r. r.steps ≤ most_steps (problem_in R.value_of live.old)) }
+    ensures most { IfOk result (λ r. (r.steps ≡ 0)
+        ⊎ (potential_in R.value_of (set_of search.old.worldview) live.old
+        ≤ most_steps (problem_in R.value_of live.old))) }
 {
     if let Some(nogood) = search.blocked() {
-        return Ok((Tried::Refuted(nogood.copy()?), 0));
+        let end = Run::Clash(nogood.copy()?);
+        return Ok(Ended { end, steps: 0 });
     }
-    let (end, calls) = run(alloc, network, search.worldview(), agenda, order, budget)?;
+    let Ended { end, steps } = run(live, search.worldview(), order, budget)?;
     match end {
-        Run::Quiet => Ok((Tried::Quiet, calls)),
-        Run::Spent => Ok((Tried::Spent, calls)),
+        Run::Quiet => {
+            let end = Run::Quiet;
+            Ok(Ended { end, steps })
+        }
+        Run::Spent => {
+            let end = Run::Spent;
+            Ok(Ended { end, steps })
+        }
         Run::Clash(support) => {
             search.note(support.copy()?)?;
-            Ok((Tried::Refuted(support), calls))
+            let end = Run::Clash(support);
+            Ok(Ended { end, steps })
         }
     }
 }
 
 /// The side of one choice more is believed, and of the cells of which more is believed then the
 /// readers wait. After want of memory nothing has changed.
-fn believe_more<R: Rule + Drop>(
-    search: &mut Search,
-    network: &Network<R>,
-    agenda: &mut Agenda,
-) -> Result<(), AllocError>
+fn believe_more<R: Rule + Drop>(live: &mut Live<R>, search: &mut Search) -> Result<(), AllocError>
     requires left { search.old.level < length search.old.list }
     requires unblocked { has_part search.old.listed (set_of search.old.worldview) ≡ false }
     requires stand { IsStand search.old }
-    requires under_way { IsUnderWay (stored_of R.value_of network.now.library)
-        (set_of search.old.worldview) network.now.cells agenda.old.line }
-    requires room { length network.now.cells.instances ≤ agenda.old.room }
-    requires watched { IsWatched (set_of search.old.worldview) network.now.cells
-        agenda.old.watched }
-    requires cells { length network.now.cells.kinds ≤ agenda.old.cells }
+    requires alive { IsLiveIn R.value_of (set_of search.old.worldview) live.old }
+    ensures network { live.new.network ≡ live.old.network }
+    ensures alive { IsLiveIn R.value_of (set_of search.new.worldview) live.new }
     ensures ok { OnOk result (search.new
         ≡ record (deepened search.old) { worldview = search.new.worldview }) }
     ensures err { OnErr result (search.new ≡ search.old) }
     ensures search { (problem : Problem) → IsSearch problem search.old
         → IsSearch problem search.new }
     ensures stand { IsStand search.new }
-    ensures under_way { IsUnderWay (stored_of R.value_of network.now.library)
-        (set_of search.new.worldview) network.now.cells agenda.new.line }
     ensures grown { OnOk result (AreGrown (believed_with search.old) (believed_with search.new)
-        network.now.cells (length network.now.cells.kinds) agenda.old.line agenda.new.line) }
-    ensures falls { potential (problem_of (stored_of R.value_of network.now.library)
-        network.now.cells) (beliefs (set_of search.new.worldview) network.now.cells.contents)
-        agenda.new.line ≤ potential (problem_of (stored_of R.value_of network.now.library)
-        network.now.cells) (beliefs (set_of search.old.worldview) network.now.cells.contents)
-        agenda.old.line }
-    ensures room { agenda.new.room ≡ agenda.old.room }
-    ensures watched { IsWatched (set_of search.new.worldview) network.now.cells
-        agenda.new.watched }
-    ensures cells { agenda.new.cells ≡ agenda.old.cells }
+        (cells_of live.old) (length (cells_of live.old).kinds) (line_of live.old)
+        (line_of live.new)) }
+    ensures falls { potential_in R.value_of (set_of search.new.worldview) live.new
+        ≤ potential_in R.value_of (set_of search.old.worldview) live.old }
 {
     let before = search.deepen()?;
-    alert_grown(network, agenda, &before, search.worldview());
+    alert_grown(live, &before, search.worldview());
     drop(before);
     Ok(())
 }
 
 /// Tries the list on which the choices stand: with the sides that are believed, and where nothing
 /// waits then, with that of one choice more, until the list is refuted or the side of each choice
-/// is believed. Answers what came of the list and how many instances were called.
+/// is believed.
 fn try_list<R: Rule + Drop, O: Order>(
-    alloc: Global,
+    live: &mut Live<R>,
     search: &mut Search,
-    network: &mut Network<R>,
-    agenda: &mut Agenda,
     order: &mut O,
     budget: u64,
-) -> Result<(Tried, u64), AllocError>
-    requires means { AllMean R.value_of network.old.library.procedures.items }
-    requires under_way { IsUnderWay (stored_of R.value_of network.old.library)
-        (set_of search.old.worldview) network.old.cells agenda.old.line }
-    requires room { length network.old.cells.instances ≤ agenda.old.room }
-    requires watched { IsWatched (set_of search.old.worldview) network.old.cells
-        agenda.old.watched }
-    requires cells { length network.old.cells.kinds ≤ agenda.old.cells }
-    requires search { IsSearch (problem_of (stored_of R.value_of network.old.library)
-        network.old.cells) search.old }
-    ensures same { network.new.library ≡ network.old.library }
-    ensures rest { network.new.cells
-        ≡ record network.old.cells { contents = network.new.cells.contents } }
-    ensures room { agenda.new.room ≡ agenda.old.room }
-    ensures watched { IsWatched (set_of search.new.worldview) network.new.cells
-        agenda.new.watched }
-    ensures cells { agenda.new.cells ≡ agenda.old.cells }
+) -> Result<Ended<Run>, AllocError>
+    requires means { AllMean R.value_of live.old.network.library.procedures.items }
+    requires alive { IsLiveIn R.value_of (set_of search.old.worldview) live.old }
+    requires search { IsSearch (problem_in R.value_of live.old) search.old }
+    ensures ran { OnlyRan live.old live.new }
+    ensures alive { IsLiveIn R.value_of (set_of search.new.worldview) live.new }
     ensures only { search.new ≡ record search.old {
       level = search.new.level;
       listed = search.new.listed;
@@ -201,29 +146,27 @@ fn try_list<R: Rule + Drop, O: Order>(
     } }
     ensures listed { (m : Members) → IsTrue (has_part search.old.listed m)
         → IsTrue (has_part search.new.listed m) }
-    ensures search { IsSearch (problem_of (stored_of R.value_of network.old.library)
-        network.old.cells) search.new }
+    ensures search { IsSearch (problem_in R.value_of live.old) search.new }
     ensures stand { IsStand search.new }
-    ensures under_way { IsUnderWay (stored_of R.value_of network.old.library)
-        (set_of search.new.worldview) network.new.cells agenda.new.line }
-    ensures refuted { IfOk result (λ r. IfRefuted r.0 (IsMet
-        (problem_of (stored_of R.value_of network.old.library) network.old.cells) search.new)) }
-    ensures tried { IfOk result (λ r. Attempted O.picks (stored_of R.value_of network.old.library)
-        search.old network.old.cells agenda.old.line order.old budget r.0 r.1 search.new
-        network.new.cells agenda.new.line order.new) }
+    ensures refuted { IfOk result (λ r.
+        IfClash r.end (IsMet (problem_in R.value_of live.old) search.new)) }
+    ensures tried { IfOk result (λ r. Attempted O.picks (library_of R.value_of live.old)
+        search.old (cells_of live.old) (line_of live.old) order.old budget r.end r.steps search.new
+        (cells_of live.new) (line_of live.new) order.new) }
 {
     let mut steps: u64 = 0;
     loop {
-        let (tried, calls) = attempt(alloc, search, network, agenda, order, budget - steps)?;
-        steps += calls;
-        match tried {
-            Tried::Quiet => {
+        let tried = attempt(live, search, order, budget - steps)?;
+        steps += tried.steps;
+        match tried.end {
+            Run::Quiet => {
                 if search.is_whole() {
-                    return Ok((Tried::Quiet, steps));
+                    let end = Run::Quiet;
+                    return Ok(Ended { end, steps });
                 }
-                believe_more(search, network, agenda)?;
+                believe_more(live, search)?;
             }
-            ended => return Ok((ended, steps)),
+            end => return Ok(Ended { end, steps }),
         }
     }
 }
@@ -278,164 +221,127 @@ fn pass(search: &mut Search, most: u64) -> Result<u64, AllocError>
 
 /// What follows where a list was tried: an end, or the choices go on to a later list, and further
 /// as far as noted nogoods ask for it, and of the cells that this shifts the readers and writers
-/// wait. Answers the end, if it is one, and how many moves were made, one at least where it is
-/// none. Where no move is allowed, that is an end too.
+/// wait. Each move is a step, and where there is no end at least one was made. Where no move is
+/// allowed, that is an end too.
 fn decide<R: Rule + Drop>(
+    live: &mut Live<R>,
     search: &mut Search,
-    network: &Network<R>,
-    agenda: &mut Agenda,
-    tried: Tried,
+    tried: Run,
     most: u64,
-) -> Result<(Option<Outcome>, u64), AllocError>
-    requires room { length network.now.cells.instances ≤ agenda.old.room }
-    requires watched { IsWatched (set_of search.old.worldview) network.now.cells
-        agenda.old.watched }
-    requires cells { length network.now.cells.kinds ≤ agenda.old.cells }
-    requires search { IsSearch (problem_of (stored_of R.value_of network.now.library)
-        network.now.cells) search.old }
-    requires under_way { IsUnderWay (stored_of R.value_of network.now.library)
-        (set_of search.old.worldview) network.now.cells agenda.old.line }
+) -> Result<Ended<Option<Outcome>>, AllocError>
+    requires alive { IsLiveIn R.value_of (set_of search.old.worldview) live.old }
+    requires search { IsSearch (problem_in R.value_of live.old) search.old }
     requires stand { IsStand search.old }
-    requires met { IfRefuted tried
-        (IsMet (problem_of (stored_of R.value_of network.now.library) network.now.cells)
-        search.old) }
+    requires met { IfClash tried (IsMet (problem_in R.value_of live.old) search.old) }
+    ensures network { live.new.network ≡ live.old.network }
+    ensures alive { IsLiveIn R.value_of (set_of search.new.worldview) live.new }
     ensures premises { search.new.premises ≡ search.old.premises }
     ensures listed { search.new.listed ≡ search.old.listed }
-    ensures search { IsSearch (problem_of (stored_of R.value_of network.now.library)
-        network.now.cells) search.new }
+    ensures search { IsSearch (problem_in R.value_of live.old) search.new }
     ensures stand { IsStand search.new }
-    ensures under_way { IsUnderWay (stored_of R.value_of network.now.library)
-        (set_of search.new.worldview) network.now.cells agenda.new.line }
-    ensures room { agenda.new.room ≡ agenda.old.room }
-    ensures watched { IsWatched (set_of search.new.worldview) network.now.cells agenda.new.watched }
-    ensures cells { agenda.new.cells ≡ agenda.old.cells }
-    ensures same { IfOk result (λ r. IfSome r.0 (λ end. search.new ≡ search.old)) }
-    ensures same_line { IfOk result (λ r. IfSome r.0 (λ end. agenda.new.line ≡ agenda.old.line)) }
-    ensures quiet { tried ≡ Tried.Quiet → result ≡ Ok (Some Outcome.Settled, 0) }
-    ensures settled { IfOk result (λ r. r.0 ≡ Some Outcome.Settled → tried ≡ Tried.Quiet) }
-    ensures contradiction { IfOk result
-        (λ r. IfSome r.0 (λ end. IfContradiction end
-        (λ n. IsRuledOut (problem_of (stored_of R.value_of network.now.library) network.now.cells)
-        (users_of search.old) (choices_in search.old) search.old.listed (set_of n)))) }
-    ensures named { IfOk result (λ r. IfSome r.0 (λ end.
+    ensures same { IfOk result (λ r. IfSome r.end (λ end. search.new ≡ search.old)) }
+    ensures same_line { IfOk result (λ r.
+        IfSome r.end (λ end. line_of live.new ≡ line_of live.old)) }
+    ensures quiet { tried ≡ Run.Quiet
+        → result ≡ Ok (record { end = Some Outcome.Settled; steps = 0 }) }
+    ensures settled { IfOk result (λ r. r.end ≡ Some Outcome.Settled → tried ≡ Run.Quiet) }
+    ensures contradiction { IfOk result (λ r. IfSome r.end (λ end. IfContradiction end
+        (λ n. IsRuledOut (problem_in R.value_of live.old) (users_of search.old)
+        (choices_in search.old) search.old.listed (set_of n)))) }
+    ensures named { IfOk result (λ r. IfSome r.end (λ end.
         IfContradiction end (λ n. IsBlamed search.old (set_of n)))) }
-    ensures unsettled { IfOk result (λ r. r.0 ≡ Some Outcome.Unsettled →
-        (tried ≡ Tried.Spent) ⊎ ((most ≡ 0) × ((j : ℕ) × MayMove search.old j))) }
-    ensures some { IfOk result (λ r. r.0 ≡ None → 1 ≤ r.1) }
-    ensures few { IfOk result (λ r. r.1 ≤ most) }
-    ensures moves { IfOk result (λ r. r.0 ≡ None → Passes search.old r.1 search.new) }
-    ensures shifted { IfOk result (λ r. r.0 ≡ None →
-        AreShifted (believed_with search.old) (believed_with search.new) network.now.cells
-        (length network.now.cells.kinds) agenda.old.line agenda.new.line) }
+    ensures unsettled { IfOk result (λ r. r.end ≡ Some Outcome.Unsettled →
+        (tried ≡ Run.Spent) ⊎ ((most ≡ 0) × ((j : ℕ) × MayMove search.old j))) }
+    ensures some { IfOk result (λ r. r.end ≡ None → 1 ≤ r.steps) }
+    ensures few { IfOk result (λ r. r.steps ≤ most) }
+    ensures moves { IfOk result (λ r. r.end ≡ None → Passes search.old r.steps search.new) }
+    ensures shifted { IfOk result (λ r. r.end ≡ None → AreShifted (believed_with search.old)
+        (believed_with search.new) (cells_of live.old) (length (cells_of live.old).kinds)
+        (line_of live.old) (line_of live.new)) }
 {
     let nogood = match tried {
-        Tried::Quiet => return Ok((Some(Outcome::Settled), 0)),
-        Tried::Spent => return Ok((Some(Outcome::Unsettled), 0)),
-        Tried::Refuted(nogood) => nogood,
+        Run::Quiet => {
+            let end = Some(Outcome::Settled);
+            return Ok(Ended { end, steps: 0 });
+        }
+        Run::Spent => {
+            let end = Some(Outcome::Unsettled);
+            return Ok(Ended { end, steps: 0 });
+        }
+        Run::Clash(nogood) => nogood,
     };
     match search.resolve(nogood)? {
-        Resolved::RuledOut(premises) => Ok((Some(Outcome::Contradiction(premises)), 0)),
+        Resolved::RuledOut(premises) => {
+            let end = Some(Outcome::Contradiction(premises));
+            Ok(Ended { end, steps: 0 })
+        }
         Resolved::Against(place, reason) => {
             if most == 0 {
-                return Ok((Some(Outcome::Unsettled), 0));
+                let end = Some(Outcome::Unsettled);
+                return Ok(Ended { end, steps: 0 });
             }
             let before = search.advance(place, reason)?;
             let passed = pass(search, most - 1);
-            alert_shifted(network, agenda, &before, search.worldview());
+            alert_shifted(live, &before, search.worldview());
             drop(before);
-            Ok((None, passed? + 1))
+            let steps = passed? + 1;
+            Ok(Ended { end: None, steps })
         }
     }
 }
 
 /// Looks for the first list that isn't refuted, from the one on which the choices stand, and for
 /// the least solution with it. The sides of the list are believed one after the other. Each call of
-/// an instance is a step, and each move to a later list. Answers how it ended, and after how many
-/// steps.
+/// an instance is a step, and each move to a later list.
 ///
 /// After want of memory the steps that were taken stay.
 pub fn settle<R: Rule + Drop, O: Order>(
-    alloc: Global,
+    live: &mut Live<R>,
     search: &mut Search,
-    network: &mut Network<R>,
-    agenda: &mut Agenda,
     order: &mut O,
     budget: u64,
-) -> Result<(Outcome, u64), AllocError>
-    requires means { AllMean R.value_of network.old.library.procedures.items }
-    requires under_way { IsUnderWay (stored_of R.value_of network.old.library)
-        (set_of search.old.worldview) network.old.cells agenda.old.line }
-    requires room { length network.old.cells.instances ≤ agenda.old.room }
-    requires watched { IsWatched (set_of search.old.worldview) network.old.cells
-        agenda.old.watched }
-    requires cells { length network.old.cells.kinds ≤ agenda.old.cells }
-    requires search { IsSearch (problem_of (stored_of R.value_of network.old.library)
-        network.old.cells) search.old }
-    ensures same { network.new.library ≡ network.old.library }
-    ensures rest { network.new.cells
-        ≡ record network.old.cells { contents = network.new.cells.contents } }
-    ensures room { agenda.new.room ≡ agenda.old.room }
-    ensures watched { IsWatched (set_of search.new.worldview) network.new.cells agenda.new.watched }
-    ensures cells { agenda.new.cells ≡ agenda.old.cells }
-    ensures premises { search.new.premises ≡ search.old.premises }
-    ensures listed { (m : Members) → IsTrue (has_part search.old.listed m)
-        → IsTrue (has_part search.new.listed m) }
-    ensures search { IsSearch (problem_of (stored_of R.value_of network.old.library)
-        network.old.cells) search.new }
-    ensures stand { IsStand search.new }
-    ensures under_way { IsUnderWay (stored_of R.value_of network.old.library)
-        (set_of search.new.worldview) network.new.cells agenda.new.line }
-    ensures settled { IfOk result
-        (λ r. r.0 ≡ Outcome.Settled → IsSettled (stored_of R.value_of network.old.library)
-        (set_of search.new.worldview) network.new.cells) }
-    ensures first { IfOk result (λ r. r.0 ≡ Outcome.Settled
-        → IsFirstConsistent (problem_of (stored_of R.value_of network.old.library)
-        network.old.cells) (users_of search.new) (choices_in search.new) search.new.list) }
-    ensures rests { IfOk result (λ r. r.0 ≡ Outcome.Settled → agenda.new.line ≡ []) }
-    ensures contradiction { IfOk result
-        (λ r. IfContradiction r.0 (λ n.
-        IsRuledOut (problem_of (stored_of R.value_of network.old.library) network.old.cells)
-        (users_of search.new) (choices_in search.new) search.new.listed (set_of n))) }
-    ensures named { IfOk result (λ r. IfContradiction r.0 (λ n. IsBlamed search.new (set_of n))) }
-    ensures passed { AllBeforeBlocked search.new }
-    ensures earlier { AllBeforeRefuted
-        (problem_of (stored_of R.value_of network.old.library) network.old.cells)
-        (users_of search.new) (choices_in search.new) search.new.list }
-    ensures spent { IfOk result (λ r. r.0 ≡ Outcome.Unsettled → r.1 ≡ budget) }
-    ensures steps { IfOk result (λ r. r.1 ≤ budget) }
-    ensures moves { IfOk result (λ r.
-        Moves (problem_of (stored_of R.value_of network.old.library) network.old.cells)
-        (choices_in search.new) search.old.list search.new.list r.1) }
-    ensures earned { IfOk result (λ r. r.0 ≡ Outcome.Unsettled
-        → budget + 1 < lists_count (choices_in search.new)
-        * (most_steps (problem_of (stored_of R.value_of network.old.library) network.old.cells)
-        + 1)) }
-    ensures left { IfOk result (λ r. r.0 ≡ Outcome.Unsettled →
-        MayGoOn (work search.new network.new.cells agenda.new.line order.new)) }
+) -> Result<Ended<Outcome>, AllocError>
+    requires means { AllMean R.value_of live.old.network.library.procedures.items }
+    requires alive { IsLiveIn R.value_of (set_of search.old.worldview) live.old }
+    requires search { IsSearch (problem_in R.value_of live.old) search.old }
+    ensures ran { OnlyRan live.old live.new }
+    ensures alive { IsLiveIn R.value_of (set_of search.new.worldview) live.new }
+    ensures learns { Learns (problem_in R.value_of live.old) search.old search.new }
+    ensures settled { IfOk result (λ r. r.end ≡ Outcome.Settled
+        → HasSettled (library_of R.value_of live.old) (problem_in R.value_of live.old) search.new
+        (cells_of live.new) (line_of live.new)) }
+    ensures contradiction { IfOk result (λ r. IfContradiction r.end (λ n.
+        IsRuledOut (problem_in R.value_of live.old) (users_of search.new) (choices_in search.new)
+        search.new.listed (set_of n))) }
+    ensures named { IfOk result (λ r.
+        IfContradiction r.end (λ n. IsBlamed search.new (set_of n))) }
+    ensures unsettled { IfOk result (λ r. r.end ≡ Outcome.Unsettled
+        → HasUsed (problem_in R.value_of live.old) budget r.steps
+        (work_on search.new live.new order.new)) }
+    ensures steps { IfOk result (λ r. r.steps ≤ budget) }
+    ensures moves { IfOk result (λ r. Moves (problem_in R.value_of live.old)
+        (choices_in search.new) search.old.list search.new.list r.steps) }
     ensures falls { IfOk result (λ r. search.new.list ≡ search.old.list
-        → potential (problem_of (stored_of R.value_of network.old.library) network.old.cells)
-        (beliefs (set_of search.new.worldview) network.new.cells.contents)
-        agenda.new.line + r.1 ≤ potential
-        (problem_of (stored_of R.value_of network.old.library) network.old.cells)
-        (beliefs (set_of search.old.worldview) network.old.cells.contents) agenda.old.line) }
-    ensures full { IfOk result (λ r. r.0 ≡ Outcome.Settled
-        → search.new.level ≡ length search.new.list) }
-    ensures at_rest { IfOk result
-        (λ r. search.old.level ≡ length search.old.list → agenda.old.line ≡ []
-        → IsFree (set_of search.old.worldview) network.old.cells
-        → has_part search.old.listed (set_of search.old.worldview) ≡ false
-        → (r.0 ≡ Outcome.Settled) × (r.1 ≡ 0)) }
-    ensures gone { IfOk result (λ r. Goes O.picks (stored_of R.value_of network.old.library)
-        (work search.old network.old.cells agenda.old.line order.old) r.1
-        (work search.new network.new.cells agenda.new.line order.new)) }
+        → potential_by (problem_in R.value_of live.old) (set_of search.new.worldview) live.new
+        + r.steps
+        ≤ potential_in R.value_of (set_of search.old.worldview) live.old) }
+    ensures at_rest { IfOk result (λ r.
+        IsResting search.old (cells_of live.old) (line_of live.old)
+        → (r.end ≡ Outcome.Settled) × (r.steps ≡ 0)) }
+    ensures gone { IfOk result (λ r. Goes O.picks (library_of R.value_of live.old)
+        (work_on search.old live.old order.old) r.steps
+        (work_on search.new live.new order.new)) }
 {
     let mut steps: u64 = 0;
     loop {
-        let (tried, calls) = try_list(alloc, search, network, agenda, order, budget - steps)?;
+        let Ended {
+            end: tried,
+            steps: calls,
+        } = try_list(live, search, order, budget - steps)?;
         steps += calls;
-        let (end, moves) = decide(search, network, agenda, tried, budget - steps)?;
+        let Ended { end, steps: moves } = decide(live, search, tried, budget - steps)?;
         match end {
-            Some(outcome) => return Ok((outcome, steps)),
+            Some(end) => return Ok(Ended { end, steps }),
             None => steps += moves,
         }
     }

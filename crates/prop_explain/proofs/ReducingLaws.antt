@@ -11,7 +11,8 @@ use Rattle.prop_cells.specs.Data.{Data, problem_of, beliefs}
 use Rattle.prop_scheduler.specs.Agendas.{Waiting}
 use Rattle.prop_scheduler.specs.Potential.{most_steps}
 use Rattle.prop_scheduler.specs.Turns.{IsSettled, Turns}
-use Rattle.prop_explain.specs.inner.Ready.{IsReady, StaysReady}
+use Rattle.prop_scheduler.specs.Live.{IsReady}
+use Rattle.prop_explain.specs.inner.Ready.{StaysReady}
 use Rattle.prop_explain.specs.Trying.{Tries, TriesOf}
 use Rattle.prop_explain.specs.Trying.TriesOf.{none, tried}
 use Rattle.prop_explain.proofs.TryingLaws.{AreHeld, few_more, held_next, lacks_itself, next_believed, next_held}
@@ -51,18 +52,15 @@ same_problem library library' start new same rest = λ i. problem_of (same i) (r
 
 -- a network in which nothing was tried is ready as it was
 pub as_ready : (library : List Stored) (d : Data) (agenda : Waiting) → IsReady library d agenda
-    → StaysReady library d d agenda agenda
-as_ready library d agenda ready = record { rest = refl; ready = ready; room = refl; cells = refl }
+    → StaysReady library d d agenda
+as_ready library d agenda ready = record { rest = refl; ready = ready }
 
 -- what a try leaves of what another left
-pub stays_then : (library : List Stored) (old middle new : Data) (before between after : Waiting)
-    → StaysReady library old middle before between → StaysReady library middle new between after
-    → StaysReady library old new before after
-stays_then library old middle new before between after first then = record {
+pub stays_then : (library : List Stored) (old middle new : Data) (between after : Waiting)
+    → StaysReady library old middle between → StaysReady library middle new after → StaysReady library old new after
+stays_then library old middle new between after first then = record {
   rest = then.rest ∙ (λ i. record (first.rest i) { contents = new.contents });
   ready = then.ready;
-  room = then.room ∙ first.room;
-  cells = then.cells ∙ first.cells;
 }
 
 -- the instances that were called in so many steps, each premise of the list having been tried and the rest not, and the
@@ -70,7 +68,7 @@ stays_then library old middle new before between after first then = record {
 pub record HasTried {O : Type 0} (picks : O → ℕ → ℕ → O → Type 0) (library : List Stored) (believed : Members)
     (start : Data) (before : Waiting) (first : O) (budget : ℕ) (ps rest : List ℕ) (s : Members) (steps : ℕ) (d : Data)
     (agenda : Waiting) (order : O) : Type 0 where
-  pub left : StaysReady library start d before agenda
+  pub left : StaysReady library start d agenda
   pub within : steps ≤ budget
   pub few : steps ≤ length ps * most_steps (problem_of library start)
   pub tries : Tries picks library believed start before.line first steps d agenda.line order
@@ -101,12 +99,12 @@ pub one_more : {O : Type 0} {picks : O → ℕ → ℕ → O
     (library : List Stored) (start d : Data) (ps rest : List ℕ) (p steps calls : ℕ) (less now : Members)
     → less ≡ without s p → HasTried picks library believed start before first budget ps (p ∷ rest) s steps d agenda
     order →
-    IsPart less believed → IsPart (set_of rest) now → StaysReady library d new agenda after → calls ≤ budget - steps
+    IsPart less believed → IsPart (set_of rest) now → StaysReady library d new after → calls ≤ budget - steps
     → calls ≤ most_steps (problem_of library d) → Called picks library less d order calls new after.line next →
     HasTried picks library believed start before first budget (ps ++ p ∷ []) rest now (steps + calls) new after next
 one_more {believed} library start d ps rest p steps calls less now is so_far part holds left within falls called =
     record {
-      left = stays_then library start d _ _ _ _ so_far.left left;
+      left = stays_then library start d _ _ _ so_far.left left;
       within = omega (arith, within, so_far.within);
       few = few_more ps p (most_steps (problem_of library start)) steps calls so_far.few
           (subst (λ (q : Problem). calls ≤ most_steps q) (same_problem library library start d refl so_far.left.rest)

@@ -1,27 +1,28 @@
 //! The reduction of an explanation: premises are left out, one after the other, as long as what is
 //! left entails the value.
-ghost use Rattle.std.specs.Prelude.{◌≡◌, ◌≢◌, ◌<◌, ◌≤◌, ◌*◌, ℕ, List, All, Contains, length, IfOk};
+ghost use Rattle.std.specs.Prelude.{◌≡◌, ◌≢◌, ◌<◌, ◌≤◌, ◌*◌, true, false, ℕ, List, Contains};
+ghost use Rattle.std.specs.Prelude.{length, IfOk};
 ghost use Rattle.prop_lattice.specs.Order.{Below};
 ghost use Rattle.std.specs.List.Sorted.{IsStrictlyIncreasing};
 ghost use Rattle.prop_numbers.specs.Sets.{set_of, IsPart};
-ghost use Rattle.prop_procedures.specs.Kept.{AllMean, stored_of};
+ghost use Rattle.prop_procedures.specs.Kept.{AllMean};
 ghost use Rattle.prop_cells.specs.Problems.{Entails, IsConsistent, Premises};
 ghost use Rattle.prop_cells.specs.Reach.{Explains};
 ghost use Rattle.prop_explain.specs.Irreducible.{IsIrreducible, IfLeast, IfNotReduced, OfCore};
-ghost use Rattle.prop_explain.specs.inner.Ready.{IsReady, StaysReady};
+ghost use Rattle.prop_explain.specs.inner.Ready.{StaysReady};
 ghost use Rattle.prop_explain.specs.Trying.{Tries};
-ghost use Rattle.prop_cells.specs.Data.{problem_of, beliefs, IsKept};
-ghost use Rattle.prop_scheduler.specs.Turns.{IsUnderWay, IsSettled, Turns};
+ghost use Rattle.prop_cells.specs.Data.{beliefs};
+ghost use Rattle.prop_scheduler.specs.Live.{cells_of, line_of, library_of, problem_in};
+ghost use Rattle.prop_scheduler.specs.Live.{IsLiveIn, IsReady, OnlyRan};
+ghost use Rattle.prop_scheduler.specs.Turns.{IsSettled, Turns};
 ghost use Rattle.prop_scheduler.specs.Potential.{most_steps};
-ghost use Rattle.prop_scheduler.specs.Watching.{IsWatched};
 
-use prop_cells::Network;
 use prop_lattice::{Info, Partial};
 use prop_premises::{PremiseSet, Worldview};
 use prop_procedures::Rule;
-use prop_scheduler::{Agenda, Order, Run, run, wake_all};
+use prop_scheduler::{Ended, Live, Order, Run, run, wake_all};
 use prop_tms::Supported;
-use std::alloc::{AllocError, Global};
+use std::alloc::AllocError;
 
 /// A value with premises that entail it.
 #[derive(Drop)]
@@ -32,13 +33,19 @@ pub enum Core {
     NotReduced(Supported<Info>),
 }
 
-/// How a reduction ended.
-#[derive(Clone, Copy, PartialEq, Eq)]
-enum End {
-    /// Each premise was tried.
-    AllTried,
-    /// The budget was used before that.
-    Spent,
+/// What is left of a support.
+#[derive(Drop)]
+struct Left {
+    support: PremiseSet,
+    /// Each premise was tried; else the budget was used before that.
+    is_least: bool,
+}
+
+/// That a cell holds so much.
+#[derive(Clone, Copy)]
+struct Claim {
+    cell: usize,
+    value: Info,
 }
 
 /// What came of a set of premises.
@@ -52,238 +59,197 @@ enum Tried {
     Spent,
 }
 
-/// What is believed of a cell of a network at rest, with premises of which none can be left out,
-/// and how many instances were called for that. The premises of the explanation are tried in order
-/// of number: one is left out where the others are enough.
+/// What is believed of a cell of a network at rest, with premises of which none can be left out.
+/// The premises of the explanation are tried in order of number: one is left out where the others
+/// are enough. Each call of an instance is a step.
 ///
 /// Afterwards every instance waits and every cell is watched, after want of memory too.
 pub fn reduce<R: Rule + Drop, O: Order>(
-    alloc: Global,
-    network: &mut Network<R>,
-    agenda: &mut Agenda,
+    live: &mut Live<R>,
     order: &mut O,
     worldview: &Worldview,
     cell: usize,
     budget: u64,
-) -> Result<(Core, u64), AllocError>
-    requires means { AllMean R.value_of network.old.library.procedures.items }
-    requires kept { IsKept (stored_of R.value_of network.old.library) network.old.cells }
-    requires line { All (λ j. j < length network.old.cells.instances) agenda.old.line }
-    requires watched { All (λ c. c < length network.old.cells.kinds) agenda.old.watched }
-    requires room { length network.old.cells.instances ≤ agenda.old.room }
-    requires cells { length network.old.cells.kinds ≤ agenda.old.cells }
-    requires cell { cell < length network.old.cells.kinds }
-    requires settled { IsSettled (stored_of R.value_of network.old.library) (set_of worldview.now)
-        network.old.cells }
-    ensures same { network.new.library ≡ network.old.library }
-    ensures rest { network.new.cells
-        ≡ record network.old.cells { contents = network.new.cells.contents } }
-    ensures under_way { (s : Premises)
-        → IsUnderWay (stored_of R.value_of network.new.library) s network.new.cells
-        agenda.new.line }
-    ensures all { (j : ℕ) → j < length network.new.cells.instances → Contains agenda.new.line j }
-    ensures watched { (s : Premises) → IsWatched s network.new.cells agenda.new.watched }
-    ensures room { agenda.new.room ≡ agenda.old.room }
-    ensures cells { agenda.new.cells ≡ agenda.old.cells }
-    ensures explains { IfOk result
-        (λ r. OfCore r.0 (λ v s. (v ≡ beliefs (set_of worldview.now) network.old.cells.contents
-        cell) × Explains (problem_of (stored_of R.value_of network.old.library) network.old.cells)
-        (set_of worldview.now) cell v (set_of s))) }
-    ensures least { IfOk result (λ r.
-        IfLeast r.0 (λ v s. IsIrreducible
-        (problem_of (stored_of R.value_of network.old.library) network.old.cells) (set_of s) cell
-        v)) }
-    ensures spent { IfOk result (λ r. IfNotReduced r.0 (λ v s. r.1 ≡ budget)) }
-    ensures steps { IfOk result (λ r. r.1 ≤ budget) }
+) -> Result<Ended<Core>, AllocError>
+    requires means { AllMean R.value_of live.old.network.library.procedures.items }
+    requires ready { IsReady (library_of R.value_of live.old) (cells_of live.old)
+        live.old.agenda }
+    requires cell { cell < length (cells_of live.old).kinds }
+    requires settled { IsSettled (library_of R.value_of live.old) (set_of worldview.now)
+        (cells_of live.old) }
+    ensures ran { OnlyRan live.old live.new }
+    ensures alive { (s : Premises) → IsLiveIn R.value_of s live.new }
+    ensures all { (j : ℕ) → j < length (cells_of live.new).instances
+        → Contains (line_of live.new) j }
+    ensures explains { IfOk result (λ r. OfCore r.end (λ v s.
+        (v ≡ beliefs (set_of worldview.now) (cells_of live.old).contents cell)
+        × Explains (problem_in R.value_of live.old) (set_of worldview.now) cell v (set_of s))) }
+    ensures least { IfOk result (λ r. IfLeast r.end (λ v s.
+        IsIrreducible (problem_in R.value_of live.old) (set_of s) cell v)) }
+    ensures spent { IfOk result (λ r. IfNotReduced r.end (λ v s. r.steps ≡ budget)) }
+    ensures steps { IfOk result (λ r. r.steps ≤ budget) }
 
     // The steps are those of the tries. The budget was used only where it is less than a try of
     // each premise of some explanation may take.
     ensures tries { IfOk result (λ r. (line : List ℕ)
-        × Tries O.picks (stored_of R.value_of network.old.library) (set_of worldview.now)
-        network.old.cells agenda.old.line order.old r.1 network.new.cells line order.new) }
+        × Tries O.picks (library_of R.value_of live.old) (set_of worldview.now) (cells_of live.old)
+        (line_of live.old) order.old r.steps (cells_of live.new) line order.new) }
     ensures earned { IfOk result (λ r.
-        IfNotReduced r.0 (λ v s. (ps : List ℕ) × IsStrictlyIncreasing ps
-        × Explains (problem_of (stored_of R.value_of network.old.library) network.old.cells)
-        (set_of worldview.now) cell v (set_of ps)
-        × (budget < length ps * most_steps
-        (problem_of (stored_of R.value_of network.old.library) network.old.cells)))) }
+        IfNotReduced r.end (λ v s. (ps : List ℕ) × IsStrictlyIncreasing ps
+        × Explains (problem_in R.value_of live.old) (set_of worldview.now) cell v (set_of ps)
+        × (budget < length ps * most_steps (problem_in R.value_of live.old)))) }
 {
-    let reduced = explained_least(alloc, network, agenda, order, worldview, cell, budget);
-    wake_all(network, agenda);
+    let reduced = explained_least(live, order, worldview, cell, budget);
+    wake_all(live);
     reduced
 }
 
 /// The reduction itself, after which some instances wait, in the worldview that was tried last.
 fn explained_least<R: Rule + Drop, O: Order>(
-    alloc: Global,
-    network: &mut Network<R>,
-    agenda: &mut Agenda,
+    live: &mut Live<R>,
     order: &mut O,
     worldview: &Worldview,
     cell: usize,
     budget: u64,
-) -> Result<(Core, u64), AllocError>
-    requires means { AllMean R.value_of network.old.library.procedures.items }
-    requires ready { IsReady (stored_of R.value_of network.old.library) network.old.cells
-        agenda.old }
-    requires cell { cell < length network.old.cells.kinds }
-    requires settled { IsSettled (stored_of R.value_of network.old.library) (set_of worldview.now)
-        network.old.cells }
-    ensures same { network.new.library ≡ network.old.library }
-    ensures left { StaysReady (stored_of R.value_of network.old.library) network.old.cells
-        network.new.cells agenda.old agenda.new }
-    ensures explains { IfOk result
-        (λ r. OfCore r.0 (λ v s. (v ≡ beliefs (set_of worldview.now) network.old.cells.contents
-        cell) × Explains (problem_of (stored_of R.value_of network.old.library) network.old.cells)
-        (set_of worldview.now) cell v (set_of s))) }
-    ensures least { IfOk result (λ r.
-        IfLeast r.0 (λ v s. IsIrreducible
-        (problem_of (stored_of R.value_of network.old.library) network.old.cells) (set_of s) cell
-        v)) }
-    ensures spent { IfOk result (λ r. IfNotReduced r.0 (λ v s. r.1 ≡ budget)) }
-    ensures steps { IfOk result (λ r. r.1 ≤ budget) }
+) -> Result<Ended<Core>, AllocError>
+    requires means { AllMean R.value_of live.old.network.library.procedures.items }
+    requires ready { IsReady (library_of R.value_of live.old) (cells_of live.old)
+        live.old.agenda }
+    requires cell { cell < length (cells_of live.old).kinds }
+    requires settled { IsSettled (library_of R.value_of live.old) (set_of worldview.now)
+        (cells_of live.old) }
+    ensures same { live.new.network.library ≡ live.old.network.library }
+    ensures left { StaysReady (library_of R.value_of live.old) (cells_of live.old)
+        (cells_of live.new) live.new.agenda }
+    ensures explains { IfOk result (λ r. OfCore r.end (λ v s.
+        (v ≡ beliefs (set_of worldview.now) (cells_of live.old).contents cell)
+        × Explains (problem_in R.value_of live.old) (set_of worldview.now) cell v (set_of s))) }
+    ensures least { IfOk result (λ r. IfLeast r.end (λ v s.
+        IsIrreducible (problem_in R.value_of live.old) (set_of s) cell v)) }
+    ensures spent { IfOk result (λ r. IfNotReduced r.end (λ v s. r.steps ≡ budget)) }
+    ensures steps { IfOk result (λ r. r.steps ≤ budget) }
     ensures tries { IfOk result (λ r.
-        Tries O.picks (stored_of R.value_of network.old.library) (set_of worldview.now)
-        network.old.cells agenda.old.line order.old r.1 network.new.cells agenda.new.line
-        order.new) }
+        Tries O.picks (library_of R.value_of live.old) (set_of worldview.now) (cells_of live.old)
+        (line_of live.old) order.old r.steps (cells_of live.new) (line_of live.new) order.new) }
     ensures earned { IfOk result (λ r.
-        IfNotReduced r.0 (λ v s. (ps : List ℕ) × IsStrictlyIncreasing ps
-        × Explains (problem_of (stored_of R.value_of network.old.library) network.old.cells)
-        (set_of worldview.now) cell v (set_of ps)
-        × (budget < length ps * most_steps
-        (problem_of (stored_of R.value_of network.old.library) network.old.cells)))) }
+        IfNotReduced r.end (λ v s. (ps : List ℕ) × IsStrictlyIncreasing ps
+        × Explains (problem_in R.value_of live.old) (set_of worldview.now) cell v (set_of ps)
+        × (budget < length ps * most_steps (problem_in R.value_of live.old)))) }
 {
-    let why = network.explanation(cell, worldview)?;
-    let (support, end, steps) = left_of(alloc, network, agenda, order, &why, cell, budget)?;
+    let why = live.network().explanation(cell, worldview)?;
+    let Ended { end: left, steps } = left_of(live, order, &why, cell, budget)?;
     let reduced = Supported {
         value: why.value,
-        support,
+        support: left.support,
     };
-    match end {
-        End::AllTried => Ok((Core::Least(reduced), steps)),
-        End::Spent => Ok((Core::NotReduced(reduced), steps)),
+    if left.is_least {
+        let end = Core::Least(reduced);
+        return Ok(Ended { end, steps });
     }
+    let end = Core::NotReduced(reduced);
+    Ok(Ended { end, steps })
 }
 
 /// What is left of the support of a value when each of its premises was tried, or the budget was
-/// used; which of them; and in how many steps.
+/// used.
 fn left_of<R: Rule + Drop, O: Order>(
-    alloc: Global,
-    network: &mut Network<R>,
-    agenda: &mut Agenda,
+    live: &mut Live<R>,
     order: &mut O,
     why: &Supported<Info>,
     cell: usize,
     budget: u64,
-) -> Result<(PremiseSet, End, u64), AllocError>
-    requires means { AllMean R.value_of network.old.library.procedures.items }
-    requires ready { IsReady (stored_of R.value_of network.old.library) network.old.cells
-        agenda.old }
-    requires cell { cell < length network.old.cells.kinds }
-    requires entails { Entails (problem_of (stored_of R.value_of network.old.library)
-        network.old.cells) (set_of why.now.support) cell why.now.value }
-    requires consistent { IsConsistent
-        (problem_of (stored_of R.value_of network.old.library) network.old.cells)
+) -> Result<Ended<Left>, AllocError>
+    requires means { AllMean R.value_of live.old.network.library.procedures.items }
+    requires ready { IsReady (library_of R.value_of live.old) (cells_of live.old)
+        live.old.agenda }
+    requires cell { cell < length (cells_of live.old).kinds }
+    requires entails { Entails (problem_in R.value_of live.old) (set_of why.now.support) cell
+        why.now.value }
+    requires consistent { IsConsistent (problem_in R.value_of live.old)
         (set_of why.now.support) }
-    ensures same { network.new.library ≡ network.old.library }
-    ensures left { StaysReady (stored_of R.value_of network.old.library) network.old.cells
-        network.new.cells agenda.old agenda.new }
-    ensures part { IfOk result (λ r. IsPart (set_of r.0) (set_of why.now.support)) }
-    ensures entails { IfOk result
-        (λ r. Entails (problem_of (stored_of R.value_of network.old.library) network.old.cells)
-        (set_of r.0) cell why.now.value) }
-    ensures least { IfOk result (λ r. r.1 ≡ End.AllTried
-        → IsIrreducible (problem_of (stored_of R.value_of network.old.library) network.old.cells)
-        (set_of r.0) cell why.now.value) }
-    ensures spent { IfOk result (λ r. r.1 ≡ End.Spent → r.2 ≡ budget) }
-    ensures steps { IfOk result (λ r. r.2 ≤ budget) }
-    ensures earned { IfOk result (λ r. r.1 ≡ End.Spent
-        → budget < length why.now.support * most_steps
-        (problem_of (stored_of R.value_of network.old.library) network.old.cells)) }
+    ensures same { live.new.network.library ≡ live.old.network.library }
+    ensures left { StaysReady (library_of R.value_of live.old) (cells_of live.old)
+        (cells_of live.new) live.new.agenda }
+    ensures part { IfOk result (λ r. IsPart (set_of r.end.support) (set_of why.now.support)) }
+    ensures entails { IfOk result (λ r. Entails (problem_in R.value_of live.old)
+        (set_of r.end.support) cell why.now.value) }
+    ensures least { IfOk result (λ r. r.end.is_least ≡ true
+        → IsIrreducible (problem_in R.value_of live.old) (set_of r.end.support) cell
+        why.now.value) }
+    ensures spent { IfOk result (λ r. r.end.is_least ≡ false → r.steps ≡ budget) }
+    ensures steps { IfOk result (λ r. r.steps ≤ budget) }
+    ensures earned { IfOk result (λ r. r.end.is_least ≡ false
+        → budget < length why.now.support * most_steps (problem_in R.value_of live.old)) }
     ensures in_order { IfOk result (λ r. IsStrictlyIncreasing why.now.support) }
     ensures tries { IfOk result (λ r.
-        Tries O.picks (stored_of R.value_of network.old.library) (set_of why.now.support)
-        network.old.cells agenda.old.line order.old r.2 network.new.cells agenda.new.line
-        order.new) }
+        Tries O.picks (library_of R.value_of live.old) (set_of why.now.support)
+        (cells_of live.old) (line_of live.old) order.old r.steps (cells_of live.new)
+        (line_of live.new) order.new) }
 {
     let mut support = why.support.copy()?;
     let mut steps: u64 = 0;
+    let value = why.value;
     for premise in why.support.iter() {
         let less = support.without(premise)?;
-        let (tried, calls) = attempt(
-            alloc,
-            network,
-            agenda,
-            order,
-            &less,
-            cell,
-            why.value,
-            budget - steps,
-        )?;
-        steps += calls;
-        match tried {
+        let tried = attempt(live, order, &less, Claim { cell, value }, budget - steps)?;
+        steps += tried.steps;
+        match tried.end {
             Tried::Enough => support = less,
             Tried::TooFew => drop(less),
             Tried::Spent => {
                 drop(less);
-                return Ok((support, End::Spent, steps));
+                let is_least = false;
+                let end = Left { support, is_least };
+                return Ok(Ended { end, steps });
             }
         }
     }
-    Ok((support, End::AllTried, steps))
+    let is_least = true;
+    let end = Left { support, is_least };
+    Ok(Ended { end, steps })
 }
 
-/// Runs the network in the worldview of the set alone, and tells whether the value is believed
-/// there, and how many instances were called.
+/// Runs the network in the worldview of the set alone, and tells whether the claim is believed
+/// there.
 fn attempt<R: Rule + Drop, O: Order>(
-    alloc: Global,
-    network: &mut Network<R>,
-    agenda: &mut Agenda,
+    live: &mut Live<R>,
     order: &mut O,
     set: &PremiseSet,
-    cell: usize,
-    value: Info,
+    claim: Claim,
     budget: u64,
-) -> Result<(Tried, u64), AllocError>
-    requires means { AllMean R.value_of network.old.library.procedures.items }
-    requires ready { IsReady (stored_of R.value_of network.old.library) network.old.cells
-        agenda.old }
-    requires cell { cell < length network.old.cells.kinds }
-    requires consistent { IsConsistent
-        (problem_of (stored_of R.value_of network.old.library) network.old.cells) (set_of set.now) }
-    ensures same { network.new.library ≡ network.old.library }
-    ensures left { StaysReady (stored_of R.value_of network.old.library) network.old.cells
-        network.new.cells agenda.old agenda.new }
-    ensures enough { IfOk result (λ r. r.0 ≡ Tried.Enough
-        → Entails (problem_of (stored_of R.value_of network.old.library) network.old.cells)
-        (set_of set.now) cell value) }
-    ensures too_few { IfOk result
-        (λ r. r.0 ≡ Tried.TooFew → ¬
-        (Entails (problem_of (stored_of R.value_of network.old.library) network.old.cells)
-        (set_of set.now) cell value)) }
-    ensures falls { IfOk result (λ r.
-        r.1 ≤ most_steps (problem_of (stored_of R.value_of network.old.library)
-        network.old.cells)) }
+) -> Result<Ended<Tried>, AllocError>
+    requires means { AllMean R.value_of live.old.network.library.procedures.items }
+    requires ready { IsReady (library_of R.value_of live.old) (cells_of live.old)
+        live.old.agenda }
+    requires cell { claim.cell < length (cells_of live.old).kinds }
+    requires consistent { IsConsistent (problem_in R.value_of live.old) (set_of set.now) }
+    ensures same { live.new.network.library ≡ live.old.network.library }
+    ensures left { StaysReady (library_of R.value_of live.old) (cells_of live.old)
+        (cells_of live.new) live.new.agenda }
+    ensures enough { IfOk result (λ r. r.end ≡ Tried.Enough
+        → Entails (problem_in R.value_of live.old) (set_of set.now) claim.cell claim.value) }
+    ensures too_few { IfOk result (λ r. r.end ≡ Tried.TooFew
+        → ¬ (Entails (problem_in R.value_of live.old) (set_of set.now) claim.cell claim.value)) }
+    ensures falls { IfOk result (λ r. r.steps ≤ most_steps (problem_in R.value_of live.old)) }
     ensures turns { IfOk result (λ r. (all : List ℕ)
-        × ((j : ℕ) → j < length network.old.cells.instances → Contains all j)
-        × Turns O.picks (stored_of R.value_of network.old.library) (set_of set.now)
-        network.old.cells all order.old r.1 network.new.cells agenda.new.line order.new) }
-    ensures spent { IfOk result (λ r. r.0 ≡ Tried.Spent → r.1 ≡ budget) }
-    ensures earned { IfOk result (λ r. r.0 ≡ Tried.Spent
-        → budget < most_steps (problem_of (stored_of R.value_of network.old.library)
-        network.old.cells)) }
-    ensures steps { IfOk result (λ r. r.1 ≤ budget) }
+        × ((j : ℕ) → j < length (cells_of live.old).instances → Contains all j)
+        × Turns O.picks (library_of R.value_of live.old) (set_of set.now) (cells_of live.old) all
+        order.old r.steps (cells_of live.new) (line_of live.new) order.new) }
+    ensures spent { IfOk result (λ r. r.end ≡ Tried.Spent → r.steps ≡ budget) }
+    ensures earned { IfOk result (λ r. r.end ≡ Tried.Spent
+        → budget < most_steps (problem_in R.value_of live.old)) }
+    ensures steps { IfOk result (λ r. r.steps ≤ budget) }
 {
-    let worldview = Worldview::of(alloc, set)?;
-    wake_all(network, agenda);
-    let (end, calls) = run(alloc, network, &worldview, agenda, order, budget)?;
+    let worldview = Worldview::of(live.alloc(), set)?;
+    wake_all(live);
+    let Ended { end, steps } = run(live, &worldview, order, budget)?;
     let tried = match end {
-        Run::Quiet => enough(network.belief(cell, &worldview), value),
+        Run::Quiet => enough(live.network().belief(claim.cell, &worldview), claim.value),
         Run::Clash(_) => Tried::TooFew,
         Run::Spent => Tried::Spent,
     };
     drop(worldview);
-    Ok((tried, calls))
+    Ok(Ended { end: tried, steps })
 }
 
 /// Whether what is believed says as much as the value.

@@ -100,10 +100,11 @@ pub watched_turn : (s : Premises) (d new : Data) (old watched : List ℕ) (cell 
     (beliefs s new.contents cell ≡ Contradiction → Contains watched cell)
     → ((k : ℕ) → Contains watched k → Contains old k ⊎ (k ≡ cell)) → IsWatched s d old → IsWatched s new watched
 watched_turn s d new old watched cell v grown kinds within free merges here only w = record {
-  below = All-from_contains (λ j. j < length new.kinds) watched (λ j k. elim (only j k) as (λ _. j < length new.kinds) [
-    | inl was ↦ rw kinds (All-contains (λ i. i < length d.kinds) old j w.below was)
-    | inr e ↦ rw (kinds, e) within
-  ]);
+  below = All-from_contains (λ j. j < length new.kinds) watched (λ j k. elim (only j k) as (λ _. j < length
+      new.kinds) [
+        | inl was ↦ rw kinds (All-contains (λ i. i < length d.kinds) old j w.below was)
+        | inr e ↦ rw (kinds, e) within
+      ]);
   holds = λ k clash. elim (eqb_tells k cell) as (λ _. Contains watched k) [
     | inl e ↦ rw e.1 (here (rw e.1 at clash))
     | inr e ↦ absurd (free k (sym (merges.at.others k e.1) ∙ clash))
@@ -166,7 +167,8 @@ watched_shifted s t d old new same h w = record {
 -- ---- more cells
 
 pub watched_cell : (s : Premises) (d new : Data) (watched : List ℕ) (k : Kinded)
-    → new ≡ record d { kinds = d.kinds ++ k ∷ []; contents = d.contents ++ [] ∷ [] } → length d.kinds ≤ length new.kinds
+    → new ≡ record d { kinds = d.kinds ++ k ∷ []; contents = d.contents ++ [] ∷ [] } → length d.kinds ≤ length
+    new.kinds
     → IsWatched s d watched → IsWatched s new watched
 watched_cell s d new watched k e more w =
     watched_same s d new watched more (λ cell. ap (λ (n : Data). beliefs s n.contents cell) e

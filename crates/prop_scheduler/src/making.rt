@@ -15,42 +15,32 @@ ghost use Rattle.prop_scheduler.specs.Making.{room_refusal, made_of, with_fresh_
 ghost use Rattle.prop_scheduler.specs.Making.{MayBeMade, MayMake};
 ghost use Rattle.prop_scheduler.specs.inner.Making.{param_number};
 ghost use Rattle.prop_scheduler.specs.Shifts.{IsBehind, AreStirred};
-ghost use Rattle.prop_scheduler.specs.Turns.{IsUnderWay};
-ghost use Rattle.prop_scheduler.specs.Watching.{IsWatched};
+ghost use Rattle.prop_scheduler.specs.Live.{cells_of, line_of, library_of, IsLiveIn};
 
 use crate::agenda::Agenda;
+use crate::live::Live;
 use prop_cells::Network;
 use prop_lattice::{Limit, Refusal};
 use prop_procedures::{Flat, Kinded, Param, Placed, Rule};
 use std::alloc::{AllocError, Global};
 
 /// Makes a cell of this kind. Refused as by `Network::new_cell`, it makes nothing.
-pub fn new_cell<R: Rule + Drop>(
-    network: &mut Network<R>,
-    agenda: &mut Agenda,
-    kind: Kinded,
-) -> Result<(), Refusal>
-    requires kept { IsKept (stored_of R.value_of network.old.library) network.old.cells }
-    ensures same { network.new.library ≡ network.old.library }
-    ensures line { agenda.new.line ≡ agenda.old.line }
-    ensures under_way { (s : Premises)
-        → IsUnderWay (stored_of R.value_of network.old.library) s network.old.cells agenda.old.line
-        → IsUnderWay (stored_of R.value_of network.new.library) s network.new.cells
-        agenda.new.line }
-    ensures watched { (s : Premises) → IsWatched s network.old.cells agenda.old.watched
-        → IsWatched s network.new.cells agenda.new.watched }
-    ensures room { agenda.new.room ≡ agenda.old.room }
-    ensures cells { length network.old.cells.kinds ≤ agenda.old.cells
-        → length network.new.cells.kinds ≤ agenda.new.cells }
-    ensures fits { OnOk result (cell_refusal network.old.cells ≡ None) }
-    ensures ok { OnOk result (network.new.cells ≡ with_fresh_cells network.old.cells (kind ∷ [])) }
-    ensures err { IfErr result (λ e. (cell_refusal network.old.cells ≡ Some e)
+pub fn new_cell<R: Rule + Drop>(live: &mut Live<R>, kind: Kinded) -> Result<(), Refusal>
+    requires kept { IsKept (library_of R.value_of live.old) (cells_of live.old) }
+    ensures same { live.new.network.library ≡ live.old.network.library }
+    ensures line { line_of live.new ≡ line_of live.old }
+    ensures alive { (s : Premises) → IsLiveIn R.value_of s live.old
+        → IsLiveIn R.value_of s live.new }
+    ensures fits { OnOk result (cell_refusal (cells_of live.old) ≡ None) }
+    ensures ok { OnOk result (cells_of live.new ≡ with_fresh_cells (cells_of live.old)
+        (kind ∷ [])) }
+    ensures err { IfErr result (λ e. (cell_refusal (cells_of live.old) ≡ Some e)
         ⊎ (e ≡ Refusal.Memory)) }
-    ensures err_same { OnErr result (network.new.cells ≡ network.old.cells) }
+    ensures err_same { OnErr result (cells_of live.new ≡ cells_of live.old) }
 {
-    room_for_cell(network, agenda)?;
+    room_for_cell(&live.network, &mut live.agenda)?;
     let Kinded { kind, size } = kind;
-    network.new_cell(kind, size)
+    live.network.new_cell(kind, size)
 }
 
 /// Makes room to watch one more cell, where there can be one more. Refused with 90, it changes
@@ -354,48 +344,33 @@ fn make_room<R: Rule + Drop>(
 
 /// Makes what a use on these cells stands for, and its instances wait. Refused, it makes nothing:
 /// with 16 for more cells or instances than there can be, with 90.
-pub fn make<R: Rule + Drop>(
-    alloc: Global,
-    network: &mut Network<R>,
-    agenda: &mut Agenda,
-    cells: &[usize],
-    flat: Flat,
-) -> Result<(), Refusal>
-    requires kept { IsKept (stored_of R.value_of network.old.library) network.old.cells }
-    requires may { length network.old.cells.kinds + length flat.fresh.items ≤ most Cells
-        → MayMake (stored_of R.value_of network.old.library) network.old.cells cells.now flat }
-    ensures same { network.new.library ≡ network.old.library }
-    ensures under_way { (s : Premises)
-        → IsUnderWay (stored_of R.value_of network.old.library) s network.old.cells agenda.old.line
-        → IsUnderWay (stored_of R.value_of network.new.library) s network.new.cells
-        agenda.new.line }
-    ensures watched { (s : Premises) → IsWatched s network.old.cells agenda.old.watched
-        → IsWatched s network.new.cells agenda.new.watched }
-    ensures room { length network.old.cells.instances ≤ agenda.old.room
-        → length network.new.cells.instances ≤ agenda.new.room }
-    ensures cells { length network.old.cells.kinds ≤ agenda.old.cells
-        → length network.new.cells.kinds ≤ agenda.new.cells }
+pub fn make<R: Rule + Drop>(live: &mut Live<R>, cells: &[usize], flat: Flat) -> Result<(), Refusal>
+    requires kept { IsKept (library_of R.value_of live.old) (cells_of live.old) }
+    requires may { length (cells_of live.old).kinds + length flat.fresh.items ≤ most Cells
+        → MayMake (library_of R.value_of live.old) (cells_of live.old) cells.now flat }
+    ensures same { live.new.network.library ≡ live.old.network.library }
+    ensures alive { (s : Premises) → IsLiveIn R.value_of s live.old
+        → IsLiveIn R.value_of s live.new }
     ensures fits { OnOk result (room_refusal
-        (length network.old.cells.kinds + length flat.fresh.items)
-        (length network.old.cells.instances + length flat.instances.items) ≡ None) }
-    ensures ok { OnOk result (network.new.cells ≡ with_flat
-        (stored_of R.value_of network.old.library) network.old.cells cells.now flat) }
+        (length (cells_of live.old).kinds + length flat.fresh.items)
+        (length (cells_of live.old).instances + length flat.instances.items) ≡ None) }
+    ensures ok { OnOk result (cells_of live.new ≡ with_flat (library_of R.value_of live.old)
+        (cells_of live.old) cells.now flat) }
     ensures err { IfErr result (λ e.
-        (room_refusal (length network.old.cells.kinds + length flat.fresh.items)
-        (length network.old.cells.instances + length flat.instances.items) ≡ Some e)
+        (room_refusal (length (cells_of live.old).kinds + length flat.fresh.items)
+        (length (cells_of live.old).instances + length flat.instances.items) ≡ Some e)
         ⊎ (e ≡ Refusal.Memory)) }
-    ensures err_same { OnErr result (network.new.cells ≡ network.old.cells) }
-    ensures stirred { OnOk result
-        ((s t : Premises) → AreStirred s t network.old.cells network.new.cells agenda.old.line
-        agenda.new.line) }
-    ensures err_line { OnErr result (agenda.new.line ≡ agenda.old.line) }
+    ensures err_same { OnErr result (cells_of live.new ≡ cells_of live.old) }
+    ensures stirred { OnOk result ((s t : Premises) → AreStirred s t (cells_of live.old)
+        (cells_of live.new) (line_of live.old) (line_of live.new)) }
+    ensures err_line { OnErr result (line_of live.new ≡ line_of live.old) }
 {
-    if let Err(refusal) = make_room(network, agenda, &flat) {
+    if let Err(refusal) = make_room(&live.network, &mut live.agenda, &flat) {
         drop(flat);
         return Err(refusal);
     }
-    let first = network.instances();
-    make_all(alloc, network, cells, flat)?;
-    alert_between(agenda, first, network.instances());
+    let first = live.network.instances();
+    make_all(live.alloc, &mut live.network, cells, flat)?;
+    alert_between(&mut live.agenda, first, live.network.instances());
     Ok(())
 }

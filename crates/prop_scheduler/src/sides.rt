@@ -3,15 +3,12 @@ ghost use Rattle.std.specs.Prelude.{◌≡◌, ◌<◌, ◌≤◌, ◌+◌, ◌^
 ghost use Rattle.std.specs.Prelude.{IfErr, IsTrue, All, length};
 ghost use Rattle.prop_numbers.specs.Sets.{set_of};
 ghost use Rattle.prop_procedures.specs.Fitting.{kind_at};
-ghost use Rattle.prop_procedures.specs.Kept.{stored_of};
 ghost use Rattle.prop_cells.specs.Refusing.{sides_refusal, may_be_stated};
 ghost use Rattle.prop_cells.specs.Sides.{sides_at, StatesAll, AreUnderBelow};
 ghost use Rattle.prop_scheduler.specs.Shifts.{AreStirred};
-ghost use Rattle.prop_scheduler.specs.Turns.{IsUnderWay};
-ghost use Rattle.prop_scheduler.specs.Watching.{IsWatched};
+ghost use Rattle.prop_scheduler.specs.Live.{cells_of, line_of, IsLiveIn};
 
-use crate::agenda::Agenda;
-use prop_cells::Network;
+use crate::live::Live;
 use prop_lattice::{Info, Partial, Refusal};
 use prop_premises::{Premise, Worldview};
 use prop_procedures::Rule;
@@ -21,54 +18,45 @@ use prop_procedures::Rule;
 /// watched, and its readers and writers wait. Refused as by `Network::state_sides`, it changes
 /// nothing.
 pub fn state_sides<R: Rule + Drop>(
-    network: &mut Network<R>,
-    agenda: &mut Agenda,
+    live: &mut Live<R>,
     worldview: &Worldview,
     first: Premise,
     cell: usize,
     infos: &[Info],
 ) -> Result<(), Refusal>
-    requires cell { cell < length network.old.cells.kinds }
-    requires under_way { IsUnderWay (stored_of R.value_of network.old.library)
-        (set_of worldview.now) network.old.cells agenda.old.line }
-    requires room { length network.old.cells.instances ≤ agenda.old.room }
-    requires watched { IsWatched (set_of worldview.now) network.old.cells agenda.old.watched }
-    requires cells { length network.old.cells.kinds ≤ agenda.old.cells }
+    requires cell { cell < length (cells_of live.old).kinds }
+    requires alive { IsLiveIn R.value_of (set_of worldview.now) live.old }
     requires may { All (λ info. IsTrue
-        (may_be_stated (kind_at network.old.cells.kinds cell).kind
-        (kind_at network.old.cells.kinds cell).size info)) infos.now }
-    requires unnamed { AreUnderBelow first network.old.cells.statements }
+        (may_be_stated (kind_at (cells_of live.old).kinds cell).kind
+        (kind_at (cells_of live.old).kinds cell).size info)) infos.now }
+    requires unnamed { AreUnderBelow first (cells_of live.old).statements }
     requires numbers { first + length infos.now ≤ 2 ^ 16 }
-    ensures same { network.new.library ≡ network.old.library }
-    ensures under_way { IsUnderWay (stored_of R.value_of network.new.library) (set_of worldview.now)
-        network.new.cells agenda.new.line }
-    ensures room { agenda.new.room ≡ agenda.old.room }
-    ensures watched { IsWatched (set_of worldview.now) network.new.cells agenda.new.watched }
-    ensures cells { agenda.new.cells ≡ agenda.old.cells }
-    ensures fits { OnOk result (sides_refusal network.old.cells (length infos.now) ≡ None) }
-    ensures ok { OnOk result (StatesAll network.old.cells network.new.cells
+    ensures same { live.new.network.library ≡ live.old.network.library }
+    ensures alive { IsLiveIn R.value_of (set_of worldview.now) live.new }
+    ensures fits { OnOk result (sides_refusal (cells_of live.old) (length infos.now) ≡ None) }
+    ensures ok { OnOk result (StatesAll (cells_of live.old) (cells_of live.new)
         (sides_at first cell infos.now)) }
-    ensures rest { OnOk result (network.new.cells
-        ≡ record network.old.cells {
-          statements = network.old.cells.statements ++ sides_at first
+    ensures rest { OnOk result (cells_of live.new
+        ≡ record (cells_of live.old) {
+          statements = (cells_of live.old).statements ++ sides_at first
               cell infos.now;
-          contents = network.new.cells.contents;
+          contents = (cells_of live.new).contents;
         }) }
-    ensures err { IfErr result (λ e. (sides_refusal network.old.cells (length infos.now) ≡ Some e)
+    ensures err { IfErr result (λ e. (sides_refusal (cells_of live.old) (length infos.now) ≡ Some e)
         ⊎ (e ≡ Refusal.Memory)) }
-    ensures err_same { OnErr result (network.new.cells ≡ network.old.cells) }
+    ensures err_same { OnErr result (cells_of live.new ≡ cells_of live.old) }
     ensures stirred { OnOk result
-        (AreStirred (set_of worldview.now) (set_of worldview.now) network.old.cells
-        network.new.cells agenda.old.line agenda.new.line) }
-    ensures err_line { OnErr result (agenda.new ≡ agenda.old) }
+        (AreStirred (set_of worldview.now) (set_of worldview.now) (cells_of live.old)
+        (cells_of live.new) (line_of live.old) (line_of live.new)) }
+    ensures err_line { OnErr result (live.new.agenda ≡ live.old.agenda) }
 {
-    let before = network.belief(cell, worldview);
-    network.state_sides(first, cell, infos)?;
-    let after = network.belief(cell, worldview);
+    let before = live.network.belief(cell, worldview);
+    live.network.state_sides(first, cell, infos)?;
+    let after = live.network.belief(cell, worldview);
     if !before.implies(after) {
-        agenda.alert_all(network.readers(cell));
-        agenda.alert_all(network.writers(cell));
-        agenda.watch(cell);
+        live.agenda.alert_all(live.network.readers(cell));
+        live.agenda.alert_all(live.network.writers(cell));
+        live.agenda.watch(cell);
     }
     Ok(())
 }

@@ -70,7 +70,7 @@ answered_carried a = record { keeps = stays a.keeps; step = a.step; rests = a.re
 pub done_carried : {R O : Type 0} {X : Type 0} {F : X → Type 0} {g : _} (picks : Picks O)
     (value : R → Param → List Info → Info) (old new : Session R O X F g) (command : Command) (r : Result ⊤ Refusal)
     → IsStill command →
-    IsLeanAnswer (worldview_at (state_of old) new.search.list) new.network.cells (state_of old) (Ok (Some command))
+    IsLeanAnswer (worldview_at (state_of old) new.search.list) new.live.network.cells (state_of old) (Ok (Some command))
     (answer_done r) → Earns picks (library_of value old) (state_of old) (work_of old) (work_of new)
     (Ok (Some command)) (answer_done r) 0 →
     Keeps value old new → IsDone value old command r new → HasLeft old command r new

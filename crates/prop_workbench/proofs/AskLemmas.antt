@@ -29,6 +29,7 @@ use Rattle.prop_procedures.specs.Fitting.{kind_at}
 use Rattle.prop_cells.proofs.Adding.{beliefs_of_kinds}
 use Rattle.prop_cells.proofs.Founding.{believed_entailed}
 use Rattle.prop_scheduler.specs.Turns.{IsSettled}
+use Rattle.prop_scheduler.specs.declared.outcome.Ended.{Ended}
 use Rattle.prop_language.specs.Commands as commands
 use Rattle.prop_language.specs.Commands.{Command}
 use Rattle.prop_vocabulary.specs.Vocabulary.{Vocabulary}
@@ -43,7 +44,7 @@ use Rattle.prop_workbench.specs.Running.{IsValueReply, IsSettledValue, IsUnsettl
 use Rattle.prop_workbench.specs.Running.{IsTooFewToReduce}
 use Rattle.prop_workbench.specs.inner.Running.{Explained}
 use Rattle.prop_workbench.specs.inner.Carrying.{IsAtRest}
-use Rattle.prop_workbench.specs.Sessions.{state_from, state_of, library_of, AreKnown, IsInOrder}
+use Rattle.prop_workbench.specs.Sessions.{state_from, state_of, library_of, work_of, AreKnown, IsInOrder}
 use Rattle.prop_workbench.specs.Steps.{Carries, Runs}
 use Rattle.prop_explain.specs.Irreducible.{IsIrreducible}
 use Rattle.prop_texts.specs.Texts.{equation, because, contradiction_text}
@@ -242,30 +243,30 @@ unsettled_value library names words definitions premises d limit list cell name 
 -- the cell with a name is there
 pub cell_there : {R O : Type 0} {X : Type 0} {F : X → Type 0} {g : _} {value : R → Param → List Info → Info}
     (s : Session R O X F g) (name : List ℕ) (cell : ℕ) → IsInOrder value s → cell_named s.names name ≡ Some cell
-    → cell < length s.network.cells.kinds
+    → cell < length s.live.network.cells.kinds
 cell_there s name cell sound named =
-    of_named (λ k. k < length s.network.cells.kinds) s.names name cell sound.named named
+    of_named (λ k. k < length s.live.network.cells.kinds) s.names name cell sound.named named
 
 -- what a session believes of a cell is its settled value where the network is at rest, and else what is known so far
 pub settled_in : {R O : Type 0} {X : Type 0} {F : X → Type 0} {g : _} (value : R → Param → List Info → Info)
     (s : Session R O X F g) (cell : ℕ) → IsInOrder value s → IsAtRest value s →
     IsSettledValue (library_of value s) (state_of s) s.search.list cell
-    (beliefs (set_of s.search.worldview) s.network.cells.contents cell)
+    (beliefs (set_of s.search.worldview) s.live.network.cells.contents cell)
 settled_in value s cell sound rest =
     let same = believes_whole s.search sound.at_work.well_made rest.full in
-    settled_value (library_of value s) s.names s.words s.definitions s.search.premises s.network.cells s.limit
+    settled_value (library_of value s) s.names s.words s.definitions s.search.premises s.live.network.cells s.limit
     s.search.list cell _ sound.at_work.under_way.kept
-    (subst (λ (b : Members). IsSettled (library_of value s) b s.network.cells) same rest.settled)
-    (ap (λ (b : Members). beliefs b s.network.cells.contents cell) same)
+    (subst (λ (b : Members). IsSettled (library_of value s) b s.live.network.cells) same rest.settled)
+    (ap (λ (b : Members). beliefs b s.live.network.cells.contents cell) same)
 
 pub unsettled_in : {R O : Type 0} {X : Type 0} {F : X → Type 0} {g : _} (value : R → Param → List Info → Info)
     (s : Session R O X F g) (whole : Members) (name : List ℕ) (cell : ℕ) → IsInOrder value s
     → cell_named s.names name ≡ Some cell → whole ≡ worldview_in s.search.premises s.search.list →
-    IsUnsettledValue (library_of value s) (state_of s) s.search.list cell (beliefs whole s.network.cells.contents cell)
+    IsUnsettledValue (library_of value s) (state_of s) s.search.list cell (beliefs whole s.live.network.cells.contents cell)
 unsettled_in value s whole name cell sound named same =
-    unsettled_value (library_of value s) s.names s.words s.definitions s.search.premises s.network.cells s.limit
+    unsettled_value (library_of value s) s.names s.words s.definitions s.search.premises s.live.network.cells s.limit
     s.search.list cell name _ named sound.named sound.at_work.under_way.kept
-    (ap (λ (b : Members). beliefs b s.network.cells.contents cell) same)
+    (ap (λ (b : Members). beliefs b s.live.network.cells.contents cell) same)
 
 -- and what explains it does so by what is believed with the choices as they stand
 pub explained_in : {R O : Type 0} {X : Type 0} {F : X → Type 0} {g : _} (value : R → Param → List Info → Info)
@@ -332,60 +333,56 @@ few_steps library s before d problem n same stand moves =
     in
     subst (λ (q : Problem). n < lists.lists_count (search.choices_in s) * (most_steps q + 1)) same few
 
-pub has_run : {R O : Type 0} {X : Type 0} {F : X → Type 0} {g : _} {E : Type 0} (value : R → Param → List Info → Info)
-    (s : Session R O X F g) (before : List ℕ) (problem : Problem) (r : Result (ends.Outcome × ℕ) E)
-    → problem ≡ problem_of (library_of value s) s.network.cells → IsKept (library_of value s) s.network.cells
-    → IsStand s.search →
+ended_so : {R O : Type 0} {X : Type 0} {F : X → Type 0} {g : _} (value : R → Param → List Info → Info)
+    (s : Session R O X F g) (before : List ℕ) (problem : Problem) (library : List Stored) (end : ends.Outcome) (n : ℕ)
+    → problem ≡ problem_of (library_of value s) s.live.network.cells → library ≡ library_of value s
+    → IsKept (library_of value s) s.live.network.cells → IsStand s.search →
     AllBeforeRefuted problem (search.users_of s.search) (search.choices_in s.search) s.search.list →
-    IfOk r (λ x. x.0 ≡ ended.Settled → s.search.level ≡ length s.search.list) →
-    IfOk r (λ x. x.0 ≡ ended.Settled → IsSettled (library_of value s) (set_of s.search.worldview) s.network.cells) →
-    IfOk r (λ x. x.0 ≡ ended.Settled → IsFirstConsistent problem (search.users_of s.search) (search.choices_in s.search)
-    s.search.list) →
-    IfOk r (λ x. settling.IfContradiction x.0
-    (λ n. IsRuledOut problem (search.users_of s.search) (search.choices_in s.search) s.search.listed (set_of n))) →
-    IfOk r (λ x. x.1 ≤ s.limit) → IfOk r
-    (λ x. search.Moves problem (search.choices_in s.search) before s.search.list x.1)
-    → IfOk r (λ x. x.0 ≡ ended.Unsettled → x.1 ≡ s.limit) →
-    IfOk r (λ x. x.0 ≡ ended.Unsettled → s.limit + 1 < lists.lists_count
-    (search.choices_in s.search) * (most_steps problem + 1)) → IfOk r (λ x. HasRun value s x.0 x.1)
-has_run value s before problem (Err e) same kept stand earlier full settled first contradiction within moves spent
-    earned = tt
-has_run value s before problem (Ok (ended.Settled, n)) same kept stand earlier full settled first contradiction within
-    moves spent earned =
-    let rest = subst (λ (b : Members). IsSettled (library_of value s) b s.network.cells)
-    (believes_whole s.search stand (full refl)) (settled refl) in
+    (end ≡ ended.Settled → settling.HasSettled library problem s.search s.live.network.cells s.live.agenda.line) →
+    settling.IfContradiction end
+    (λ n. IsRuledOut problem (search.users_of s.search) (search.choices_in s.search) s.search.listed (set_of n)) →
+    n ≤ s.limit → search.Moves problem (search.choices_in s.search) before s.search.list n →
+    (end ≡ ended.Unsettled → settling.HasUsed problem s.limit n (work_of s)) → HasRun value s end n
+ended_so value s before problem library ended.Settled n same library_is kept stand earlier settled contradiction within
+    moves used =
+    let here = settled refl in
+    let at_rest = subst (λ l. IsSettled l (set_of s.search.worldview) s.live.network.cells) library_is here.settled in
+    let rest = subst (λ (b : Members). IsSettled (library_of value s) b s.live.network.cells)
+    (believes_whole s.search stand here.full) at_rest in
     record {
       ends = record {
         first = subst (λ (q : Problem). IsFirstConsistent q (search.users_of s.search) (search.choices_in s.search)
-            s.search.list) same (first refl);
-        solution = beliefs (worldview_in s.search.premises s.search.list) s.network.cells.contents;
+            s.search.list) same here.first;
+        solution = beliefs (worldview_in s.search.premises s.search.list) s.live.network.cells.contents;
         rest = record { least = rest.least; free = rest.free };
       };
       covered = tt;
-      full = full;
-      settled = settled;
+      full = λ e. here.full;
+      settled = λ e. at_rest;
       within = within;
-      few = few_steps (library_of value s) s.search before s.network.cells problem n same stand moves;
-      spent = spent;
+      few = few_steps (library_of value s) s.search before s.live.network.cells problem n same stand moves;
+      spent = λ e. cc e;
     }
-has_run value s before problem (Ok (ended.Unsettled, n)) same kept stand earlier full settled first contradiction within
-    moves spent earned = record {
+ended_so value s before problem library ended.Unsettled n same library_is kept stand earlier settled contradiction
+    within moves used =
+    let here = used refl in
+    record {
       ends = record {
         is_list = stand.is_list;
         earlier = subst (λ (q : Problem). AllBeforeRefuted q (search.users_of s.search) (search.choices_in s.search)
             s.search.list) same earlier;
         few = subst (λ (q : Problem). s.limit + 1 < lists.lists_count (search.choices_in s.search) * (most_steps q + 1))
-            same (earned refl);
+            same here.earned;
       };
       covered = tt;
-      full = full;
-      settled = settled;
+      full = λ e. cc e;
+      settled = λ e. cc e;
       within = within;
-      few = few_steps (library_of value s) s.search before s.network.cells problem n same stand moves;
-      spent = spent;
+      few = few_steps (library_of value s) s.search before s.live.network.cells problem n same stand moves;
+      spent = λ e. here.spent;
     }
-has_run value s before problem (Ok (ended.Contradiction ps, n)) same kept stand earlier full settled first contradiction
-    within moves spent earned =
+ended_so value s before problem library (ended.Contradiction ps) n same library_is kept stand earlier settled
+    contradiction within moves used =
     let out = subst (λ (q : Problem). IsRuledOut q (search.users_of s.search) (search.choices_in s.search)
     s.search.listed (set_of ps)) same contradiction in
     record {
@@ -393,16 +390,37 @@ has_run value s before problem (Ok (ended.Contradiction ps, n)) same kept stand 
         believes = out.believes;
         refuted = out.refuted;
         grounded = out.grounded;
-        points = none_satisfy (library_of value s) (state_of s) ps (kept_fits (library_of value s) s.network.cells kept)
+        points = none_satisfy (library_of value s) (state_of s) ps (kept_fits (library_of value s) s.live.network.cells kept)
             stand.numbered out.believes out.refuted;
       };
       covered = out.covered;
-      full = full;
-      settled = settled;
+      full = λ e. cc e;
+      settled = λ e. cc e;
       within = within;
-      few = few_steps (library_of value s) s.search before s.network.cells problem n same stand moves;
-      spent = spent;
+      few = few_steps (library_of value s) s.search before s.live.network.cells problem n same stand moves;
+      spent = λ e. cc e;
     }
+
+pub has_run : {R O : Type 0} {X : Type 0} {F : X → Type 0} {g : _} {E : Type 0} (value : R → Param → List Info → Info)
+    (s : Session R O X F g) (before : List ℕ) (problem : Problem) (library : List Stored) (r : Result
+    (Ended ends.Outcome) E)
+    → problem ≡ problem_of (library_of value s) s.live.network.cells → library ≡ library_of value s
+    → IsKept (library_of value s) s.live.network.cells → IsStand s.search →
+    AllBeforeRefuted problem (search.users_of s.search) (search.choices_in s.search) s.search.list →
+    IfOk r (λ x. x.end ≡ ended.Settled
+    → settling.HasSettled library problem s.search s.live.network.cells s.live.agenda.line) →
+    IfOk r (λ x. settling.IfContradiction x.end
+    (λ n. IsRuledOut problem (search.users_of s.search) (search.choices_in s.search) s.search.listed (set_of n))) →
+    IfOk r (λ x. x.steps ≤ s.limit) → IfOk r
+    (λ x. search.Moves problem (search.choices_in s.search) before s.search.list x.steps)
+    → IfOk r (λ x. x.end ≡ ended.Unsettled → settling.HasUsed problem s.limit x.steps (work_of s))
+    → IfOk r (λ x. HasRun value s x.end x.steps)
+has_run value s before problem library (Err e) same library_is kept stand earlier settled contradiction within moves
+    used = tt
+has_run value s before problem library (Ok x) same library_is kept stand earlier settled contradiction within moves
+    used =
+    ended_so value s before problem library x.end x.steps same library_is kept stand earlier settled contradiction within
+    moves used
 
 -- ---- what ends before the value
 

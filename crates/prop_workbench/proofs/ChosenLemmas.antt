@@ -140,11 +140,10 @@ pub chosen_at_work : (library : List Stored) (old new : Stand) (name : List ℕ)
     new ≡ declared old name sides → choice.first ≡ length old.premises → length infos ≡ sides → IsStand new
     → ((problem : Problem) → IsFresh problem choice → IsSearch problem old → IsSearch problem new) →
     after ≡ record d { statements = d.statements ++ sides_at choice.first cell infos; contents = after.contents }
-    → IsUnderWay library (set_of new.worldview) after waiting.line → waiting.room ≡ before.room
-    → IsWatched (set_of new.worldview) after waiting.watched →
-    waiting.cells ≡ before.cells → IsAtWork library new after waiting
+    → IsUnderWay library (set_of new.worldview) after waiting.line
+    → IsWatched (set_of new.worldview) after waiting.watched → IsAtWork library new after waiting
 chosen_at_work library old new name sides cell choice infos d after before waiting work made first count stand search
-    rest under_way room watch space =
+    rest under_way watch =
     let number : length new.premises ≡ length old.premises + sides = ap (λ (s : Stand). length s.premises) made
     ∙ length-with_choice old.premises name sides in
     record {
@@ -156,9 +155,7 @@ chosen_at_work library old new name sides cell choice infos d after before waiti
       known = rw (ap (λ (x : Data). x.statements) rest)
           (known_sides (length old.premises) (length new.premises) choice.first cell d.statements infos
           (omega (arith, number)) (omega (arith, number, first, count)) work.known);
-      roomy = rw (room, ap (λ (x : Data). x.instances) rest) work.roomy;
       watched = watch;
-      cells = rw (space, ap (λ (x : Data). x.kinds) rest) work.cells;
     }
 
 -- one more choice takes nothing from what covers

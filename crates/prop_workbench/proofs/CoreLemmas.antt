@@ -16,8 +16,8 @@ use Rattle.prop_lattice.specs.declared.info.Info.{Info}
 use Rattle.prop_cells.specs.Problems.{Problem}
 use Rattle.prop_cells.specs.Reach.{Explains}
 use Rattle.prop_cells.specs.Data.{Data, IsKept, beliefs, problem_of}
-use Rattle.prop_scheduler.specs.Turns.{IsUnderWay, IsSettled}
-use Rattle.prop_scheduler.specs.Watching.{IsWatched}
+use Rattle.prop_scheduler.specs.Live.{IsLiveIn}
+use Rattle.prop_scheduler.specs.Turns.{IsSettled}
 use Rattle.prop_scheduler.specs.Potential.{most_steps}
 use Rattle.prop_explain.specs.declared.reducing.Core.{Core}
 use Rattle.prop_explain.specs.declared.reducing.Core.TheVariants.{Least, NotReduced}
@@ -70,24 +70,20 @@ settled_core library names words definitions premises d limit list believed cell
 -- a session keeps what it has to where only what its cells hold, what waits and what is watched has changed, and every
 -- instance waits
 pub rested_keeps : {R O : Type 0} {X : Type 0} {F : X → Type 0} {g : _} (value : R → Param → List Info → Info)
-    (s new : Session R O X F g) → IsInOrder value s → new.network.library ≡ s.network.library
-    → new.network.cells ≡ record s.network.cells { contents = new.network.cells.contents } →
-    ((believed : Members) → IsUnderWay (library_of value new) believed new.network.cells new.agenda.line)
-    → ((believed : Members) → IsWatched believed new.network.cells new.agenda.watched)
-    → new.agenda.room ≡ s.agenda.room → new.agenda.cells ≡ s.agenda.cells →
-    Keeps value s (record s { network = new.network; agenda = new.agenda; order = new.order })
-rested_keeps value s new sound same rest under_way watched room cells = record {
+    (s new : Session R O X F g) → IsInOrder value s → new.live.network.library ≡ s.live.network.library
+    → new.live.network.cells ≡ record s.live.network.cells { contents = new.live.network.cells.contents } →
+    ((believed : Members) → IsLiveIn value believed new.live)
+    → Keeps value s (record s { live = new.live; order = new.order })
+rested_keeps value s new sound same rest alive = record {
   library = same;
   sound = record {
     at_work = record {
-      under_way = under_way (set_of s.search.worldview);
+      under_way = (alive (set_of s.search.worldview)).under_way;
       well_made = sound.at_work.well_made;
-      search = rw (same_problem (stored_of value s.network.library) (stored_of value new.network.library)
-          s.network.cells new.network.cells (λ i. stored_of value (same i)) rest) sound.at_work.search;
+      search = rw (same_problem (stored_of value s.live.network.library) (stored_of value new.live.network.library)
+          s.live.network.cells new.live.network.cells (λ i. stored_of value (same i)) rest) sound.at_work.search;
       known = rw rest sound.at_work.known;
-      roomy = rw (room, rest) sound.at_work.roomy;
-      watched = watched (set_of s.search.worldview);
-      cells = rw (cells, rest) sound.at_work.cells;
+      watched = (alive (set_of s.search.worldview)).watched;
     };
     sized = rw rest sound.sized;
     locals = sound.locals;

@@ -18,6 +18,8 @@ use Rattle.prop_cells.specs.Data.{Data, problem_of}
 use Rattle.prop_cells.specs.Instances.{constraint_of}
 use Rattle.prop_cells.specs.Forgetting.{forgotten, is_under}
 use Rattle.prop_scheduler.specs.Agendas.{Waiting}
+use Rattle.prop_scheduler.specs.Live.{IsLiveIn}
+use Rattle.prop_scheduler.specs.declared.live.Live.{Live}
 use Rattle.prop_scheduler.specs.Turns.{IsUnderWay}
 use Rattle.prop_amb.specs.Refuted.{IsCovered}
 use Rattle.prop_amb.specs.Search.{Stand, IsStand, IsSearch, choices_in, users_of}
@@ -50,16 +52,14 @@ length-with_belief_at (o ∷ os) (suc p) b = ap suc (length-with_belief_at os p 
 believing_at_work : (library : List Stored) (old new : Stand) (p : ℕ) (b : Bool) (d : Data) (before after : Waiting)
     → IsAtWork library old d before → new.premises ≡ with_belief_at old.premises p b → IsStand new →
     (IsSearch (problem_of library d) old → IsSearch (problem_of library d) new)
-    → IsUnderWay library (set_of new.worldview) d after.line → after.room ≡ before.room
-    → IsWatched (set_of new.worldview) d after.watched → after.cells ≡ before.cells → IsAtWork library new d after
-believing_at_work library old new p b d before after work changed stand search under_way room watch space = record {
+    → IsUnderWay library (set_of new.worldview) d after.line
+    → IsWatched (set_of new.worldview) d after.watched → IsAtWork library new d after
+believing_at_work library old new p b d before after work changed stand search under_way watch = record {
   under_way = under_way;
   well_made = stand;
   search = search work.search;
   known = rw (changed, length-with_belief_at old.premises p b) work.known;
-  roomy = rw room work.roomy;
   watched = watch;
-  cells = rw space work.cells;
 }
 
 believing_covers : (old new : Stand) (p : ℕ) (b : Bool) → new.premises ≡ with_belief_at old.premises p b
@@ -69,23 +69,21 @@ believing_covers old new p b changed listed m h = rw (changed, listed, choices_o
 
 -- a session in whose search one premise is believed, or not, keeps what it has to, where it is under way again
 pub believing_keeps : {R O : Type 0} {X : Type 0} {F : X → Type 0} {g : _} (value : R → Param → List Info → Info)
-    (s : Session R O X F g) (new : Stand) (after : Waiting) (p : ℕ) (b : Bool) → IsInOrder value s
+    (s : Session R O X F g) (new : Stand) (live : Live R X F g) (p : ℕ) (b : Bool) → IsInOrder value s
     → new.premises ≡ with_belief_at s.search.premises p b → new.listed ≡ s.search.listed → IsStand new →
-    (IsSearch (problem_of (library_of value s) s.network.cells) s.search
-    → IsSearch (problem_of (library_of value s) s.network.cells) new)
-    → IsUnderWay (library_of value s) (set_of new.worldview) s.network.cells after.line → after.room ≡ s.agenda.room
-    →
-    IsWatched (set_of new.worldview) s.network.cells after.watched → after.cells ≡ s.agenda.cells
-    → Keeps value s (record s { search = new; agenda = after })
-believing_keeps value s new after p b sound changed listed stand search under_way room watch space = record {
-  library = refl;
+    (IsSearch (problem_of (library_of value s) s.live.network.cells) s.search
+    → IsSearch (problem_of (library_of value s) s.live.network.cells) new)
+    → live.network ≡ s.live.network → IsLiveIn value (set_of new.worldview) live
+    → Keeps value s (record s { search = new; live = live })
+believing_keeps value s new live p b sound changed listed stand search same alive = record {
+  library = ap (λ n. n.library) same;
   sound = record {
-    at_work = believing_at_work (library_of value s) s.search new p b s.network.cells s.agenda after sound.at_work
-        changed stand search under_way room watch space;
-    sized = sound.sized;
+    at_work = rw same (believing_at_work (library_of value s) s.search new p b s.live.network.cells s.live.agenda
+        live.agenda sound.at_work changed stand search (rw same at alive.under_way) (rw same at alive.watched));
+    sized = rw same sound.sized;
     locals = sound.locals;
-    named = sound.named;
-    defined = sound.defined;
+    named = rw same sound.named;
+    defined = rw same sound.defined;
   };
   steps = refl;
   covers = believing_covers s.search new p b changed listed;
@@ -96,8 +94,8 @@ believing_keeps value s new after p b sound changed listed stand search under_wa
 -- so is the session, where the network and what waits are so too
 pub back_keeps : {R O : Type 0} {X : Type 0} {F : X → Type 0} {g : _} (value : R → Param → List Info → Info)
     (s new : Session R O X F g) (stand : Stand) → IsInOrder value s → stand ≡ s.search
-    → new.network.library ≡ s.network.library → new.network.cells ≡ s.network.cells → new.agenda ≡ s.agenda →
-    Keeps value s (record s { search = stand; network = new.network; agenda = new.agenda })
+    → new.live.network.library ≡ s.live.network.library → new.live.network.cells ≡ s.live.network.cells → new.live.agenda ≡ s.live.agenda →
+    Keeps value s (record s { search = stand; live = new.live })
 back_keeps value s new stand sound same library cells agenda = record {
   library = library;
   sound = record {
@@ -126,8 +124,8 @@ same_done value s new b name p same found free user was =
     let changed : new.premises ≡ with_belief_at s.search.premises p b = ap (λ (t : Stand). t.premises) same
     ∙ sym (with_belief_same s.search.premises p b user was) in
     believed_or_not (library_of value s) (state_of s)
-    (state_from s.names s.words s.definitions new.premises s.network.cells s.limit) b name (Ok tt)
-    (p, found, free, λ i. state_from s.names s.words s.definitions (changed i) s.network.cells s.limit) tt tt
+    (state_from s.names s.words s.definitions new.premises s.live.network.cells s.limit) b name (Ok tt)
+    (p, found, free, λ i. state_from s.names s.words s.definitions (changed i) s.live.network.cells s.limit) tt tt
 
 -- ---- one more statement
 
@@ -152,9 +150,9 @@ pub stated_at_work : (library : List Stored) (stand : Stand) (d new : Data) (bef
     → IsAtWork library stand d before →
     new ≡ record d { statements = d.statements ++ x ∷ []; contents = new.contents }
     → ((p : ℕ) → x.premise ≡ Some p → p < length stand.premises)
-    → IsUnderWay library (set_of stand.worldview) new after.line → after.room ≡ before.room →
-    IsWatched (set_of stand.worldview) new after.watched → after.cells ≡ before.cells → IsAtWork library stand new after
-stated_at_work library stand d new before after x work e known under_way room watch space =
+    → IsUnderWay library (set_of stand.worldview) new after.line →
+    IsWatched (set_of stand.worldview) new after.watched → IsAtWork library stand new after
+stated_at_work library stand d new before after x work e known under_way watch =
     let n = length stand.premises in
     record {
       under_way = under_way;
@@ -162,9 +160,7 @@ stated_at_work library stand d new before after x work e known under_way room wa
       search = search_extends (problem_of library d) (problem_of library new) stand (extends_stated library d new x e)
           work.search;
       known = rw (ap (λ (y : Data). y.statements) e) (known_more n n d.statements x (omega arith) work.known known);
-      roomy = rw (room, ap (λ (y : Data). y.instances) e) work.roomy;
       watched = watch;
-      cells = rw (space, ap (λ (y : Data). y.kinds) e) work.cells;
     }
 
 -- ---- a new name
@@ -213,11 +209,9 @@ named_at_work library old new name d agenda work none made stand search =
       known = All-weaker (λ y. (p : ℕ) → y.premise ≡ Some p → p < n)
           (λ y. (p : ℕ) → y.premise ≡ Some p → p < length new.premises)
           (λ y h p e. let l = h p e in omega (arith, l, more)) d.statements work.known;
-      roomy = work.roomy;
       watched = rw (ap (λ (t : Stand). t.worldview) is)
           (watched_agree library d n agenda.watched (set_of old.worldview) (set_of (old.worldview ++ n ∷ []))
           work.under_way.kept work.known (λ p l. set_before old.worldview n p l) work.watched);
-      cells = work.cells;
     }
 
 pub named_covers : (old new : Stand) (name : List ℕ) → new ≡ interned old name → premise_number old.premises name ≡ None
@@ -230,16 +224,13 @@ named_covers old new name made none m h = rw (made, new_stand old name none, cho
 pub forgotten_at_work : (library : List Stored) (old new : Stand) (p : ℕ) (d : Data) (before after : Waiting)
     → IsAtWork library old d before → new.premises ≡ old.premises → IsStand new →
     (IsSearch (problem_of library d) old → IsSearch (problem_of library (forgotten p d)) new)
-    → IsUnderWay library (set_of new.worldview) (forgotten p d) after.line → after.room ≡ before.room
-    → IsWatched (set_of new.worldview) (forgotten p d) after.watched →
-    after.cells ≡ before.cells → IsAtWork library new (forgotten p d) after
-forgotten_at_work library old new p d before after work same stand search under_way room watch space = record {
+    → IsUnderWay library (set_of new.worldview) (forgotten p d) after.line
+    → IsWatched (set_of new.worldview) (forgotten p d) after.watched → IsAtWork library new (forgotten p d) after
+forgotten_at_work library old new p d before after work same stand search under_way watch = record {
   under_way = under_way;
   well_made = stand;
   search = search work.search;
   known = rw same (All-filter (λ x. not (is_under p x.premise))
       (λ x. (q : ℕ) → x.premise ≡ Some q → q < length old.premises) d.statements work.known);
-  roomy = rw room work.roomy;
   watched = watch;
-  cells = rw space work.cells;
 }

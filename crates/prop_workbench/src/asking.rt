@@ -8,7 +8,7 @@ use prop_explain::{Core, reduce};
 use prop_lattice::{Info, Refusal};
 use prop_premises::Worldview;
 use prop_procedures::Rule;
-use prop_scheduler::Order;
+use prop_scheduler::{Ended, Order};
 use prop_texts::{
     because, contradiction_reply, nogoods_reply, text_reply, value_reply, worldview_reply,
 };
@@ -55,7 +55,7 @@ impl<R: Rule + Drop, O: Order + Drop> Session<R, O> {
 
     /// Runs the network until it settles on the first consistent choices, and tells how that ended
     /// and in how many steps.
-    fn run_network(&mut self) -> Result<(Outcome, u64), AllocError>
+    fn run_network(&mut self) -> Result<Ended<Outcome>, AllocError>
         requires means { IsMeant R.value_of self.old }
         requires sound { IsInOrder R.value_of self.old }
         ensures keeps { Keeps R.value_of self.old self.new }
@@ -63,19 +63,17 @@ impl<R: Rule + Drop, O: Order + Drop> Session<R, O> {
         ensures words { self.new.words ≡ self.old.words }
         ensures definitions { self.new.definitions ≡ self.old.definitions }
         ensures state { state_of self.new ≡ state_of self.old }
-        ensures run { IfOk result (λ r. HasRun R.value_of self.new r.0 r.1) }
+        ensures run { IfOk result (λ r. HasRun R.value_of self.new r.end r.steps) }
         ensures gone { IfOk result (λ r.
-            Goes O.picks (library_of R.value_of self.old) (work_of self.old) r.1
+            Goes O.picks (library_of R.value_of self.old) (work_of self.old) r.steps
             (work_of self.new)) }
-        ensures left { IfOk result (λ r. r.0 ≡ Outcome.Unsettled → MayGoOn (work_of self.new)) }
+        ensures left { IfOk result (λ r. r.end ≡ Outcome.Unsettled → MayGoOn (work_of self.new)) }
         ensures blamed { IfOk result (λ r.
-            IfContradiction r.0 (λ ps. IsBlamed self.new.search (set_of ps))) }
+            IfContradiction r.end (λ ps. IsBlamed self.new.search (set_of ps))) }
     {
         settle(
-            self.alloc,
+            &mut self.live,
             &mut self.search,
-            &mut self.network,
-            &mut self.agenda,
             &mut self.order,
             self.limit,
         )
@@ -90,7 +88,7 @@ impl<R: Rule + Drop, O: Order + Drop> Session<R, O> {
             (answer_of result.0) result.1 self.new }
     {
         match self.run_network() {
-            Ok((end, steps)) => (self.reply_to(question, &end, steps), steps),
+            Ok(Ended { end, steps }) => (self.reply_to(question, &end, steps), steps),
             Err(AllocError) => (Reply::Refused(Refusal::Memory), 0),
         }
     }
@@ -130,7 +128,7 @@ impl<R: Rule + Drop, O: Order + Drop> Session<R, O> {
                 worldview_reply(self.alloc, self.search.premises(), self.search.worldview())
             },
             Question::Ask(cell, name) => {
-                let info = self.network.belief(cell, self.search.worldview());
+                let info = self.live.network().belief(cell, self.search.worldview());
                 self.value_of(cell, name, info, "")
             }
             Question::Why(cell, name) => self.explained(self.search.worldview(), cell, name, ""),
@@ -178,7 +176,7 @@ impl<R: Rule + Drop, O: Order + Drop> Session<R, O> {
         match question {
             Question::Settle | Question::Worldview => text_reply(self.alloc, "unsettled"),
             Question::Ask(cell, name) => {
-                self.value_of(cell, name, self.network.belief(cell, whole), mark)
+                self.value_of(cell, name, self.live.network().belief(cell, whole), mark)
             }
             Question::Why(cell, name) => self.explained(whole, cell, name, mark),
         }
@@ -232,7 +230,7 @@ impl<R: Rule + Drop, O: Order + Drop> Session<R, O> {
             (answer_of result.0) result.1 self.new }
     {
         match self.run_network() {
-            Ok((end, steps)) => self.core_reply(cell, name, &end, steps),
+            Ok(Ended { end, steps }) => self.core_reply(cell, name, &end, steps),
             Err(AllocError) => (Reply::Refused(Refusal::Memory), 0),
         }
     }
@@ -286,23 +284,26 @@ impl<R: Rule + Drop, O: Order + Drop> Session<R, O> {
             self.new }
     {
         let ended = reduce(
-            self.alloc,
-            &mut self.network,
-            &mut self.agenda,
+            &mut self.live,
             &mut self.order,
             self.search.worldview(),
             cell,
             self.limit - steps,
         );
         match ended {
-            Ok((core, tries)) => (self.core_text(cell, name, &core), steps + tries),
+            Ok(
+                Ended {
+                    end: core,
+                    steps: tries,
+                },
+            ) => { (self.core_text(cell, name, &core), steps + tries) }
             Err(AllocError) => (Reply::Refused(Refusal::Memory), 0),
         }
     }
 
     /// What a core says of a cell.
     fn core_text(&self, cell: usize, name: &str, core: &Core) -> Reply
-        requires cell { cell < length self.now.network.cells.kinds }
+        requires cell { cell < length self.now.live.network.cells.kinds }
         requires known { OfCore core.now (λ v s. All (λ p. p < length self.now.search.premises) s) }
         ensures least { IfLeast core.now
             (λ v s. SaysBecause (state_of self.now) cell name.now [] v s (answer_of result)) }
@@ -327,11 +328,11 @@ impl<R: Rule + Drop, O: Order + Drop> Session<R, O> {
 
     /// An information of a cell, with the mark behind it.
     fn value_of(&self, cell: usize, name: &str, info: Info, mark: &str) -> Reply
-        requires { cell < length self.now.network.cells.kinds }
+        requires { cell < length self.now.live.network.cells.kinds }
         ensures { Says (answer_of result)
             (equation name.now (text_at (state_of self.now) cell info) mark.now) }
     {
-        let kind = self.network.data().kind(cell).kind;
+        let kind = self.live.network().data().kind(cell).kind;
         match self.words.print_value(self.alloc, kind, info) {
             Ok(value) => value_reply(self.alloc, name, &value, mark),
             Err(AllocError) => Reply::Refused(Refusal::Memory),
@@ -341,16 +342,16 @@ impl<R: Rule + Drop, O: Order + Drop> Session<R, O> {
     /// What is believed of a cell in a worldview, the mark, and premises that are enough for it.
     fn explained(&self, worldview: &Worldview, cell: usize, name: &str, mark: &str) -> Reply
         requires sound { IsInOrder R.value_of self.now }
-        requires cell { cell < length self.now.network.cells.kinds }
+        requires cell { cell < length self.now.live.network.cells.kinds }
         ensures explained { Explained (library_of R.value_of self.now) (state_of self.now)
             (set_of worldview.now) cell
-            (beliefs (set_of worldview.now) self.now.network.cells.contents cell) name.now mark.now
-            (answer_of result) }
+            (beliefs (set_of worldview.now) self.now.live.network.cells.contents cell) name.now
+            mark.now (answer_of result) }
         ensures lean { (text : List ℕ) → answer_of result ≡ Text text
-            → IsLeanExplanation (set_of worldview.now) self.now.network.cells (state_of self.now)
-            cell name.now mark.now text }
+            → IsLeanExplanation (set_of worldview.now) self.now.live.network.cells
+            (state_of self.now) cell name.now mark.now text }
     {
-        let why = match self.network.explanation(cell, worldview) {
+        let why = match self.live.network().explanation(cell, worldview) {
             Ok(why) => why,
             Err(AllocError) => return Reply::Refused(Refusal::Memory),
         };
@@ -359,7 +360,7 @@ impl<R: Rule + Drop, O: Order + Drop> Session<R, O> {
 
     /// A value of a cell, the mark, and the premises that it rests on.
     fn said_because(&self, cell: usize, name: &str, mark: &str, why: &Supported<Info>) -> Reply
-        requires cell { cell < length self.now.network.cells.kinds }
+        requires cell { cell < length self.now.live.network.cells.kinds }
         requires known { All (λ p. p < length self.now.search.premises) why.now.support }
         ensures { SaysBecause (state_of self.now) cell name.now mark.now why.now.value
             why.now.support (answer_of result) }

@@ -88,7 +88,7 @@ impl<R: Rule + Drop, O: Order + Drop> Session<R, O> {
     /// at all.
     fn use_on(&mut self, name: &str, cells: &[usize], by: By) -> Result<(), Refusal>
         requires sound { IsInOrder R.value_of self.old }
-        requires cells { All (λ c. c < length self.old.network.cells.kinds) cells.now }
+        requires cells { All (λ c. c < length self.old.live.network.cells.kinds) cells.now }
         ensures keeps { Keeps R.value_of self.old self.new }
         ensures fits { OnOk result (use_refusal (library_of R.value_of self.old) (state_of self.old)
             name.now cells.now (by_of by.entry) ≡ None) }
@@ -103,7 +103,7 @@ impl<R: Rule + Drop, O: Order + Drop> Session<R, O> {
         ensures stirred { HasStirred self.old self.old.search.list result self.new }
     {
         match self.expanded(name, cells, by) {
-            Ok(flat) => make(self.alloc, &mut self.network, &mut self.agenda, cells, flat),
+            Ok(flat) => make(&mut self.live, cells, flat),
             Err(refusal) => Err(refusal),
         }
     }
@@ -111,22 +111,23 @@ impl<R: Rule + Drop, O: Order + Drop> Session<R, O> {
     /// What a use of the name on the cells of these numbers stands for.
     fn expanded(&self, name: &str, cells: &[usize], by: By) -> Result<Flat, Refusal>
         requires sound { IsInOrder R.value_of self.now }
-        requires cells { All (λ c. c < length self.now.network.cells.kinds) cells.now }
+        requires cells { All (λ c. c < length self.now.live.network.cells.kinds) cells.now }
         ensures fits { OnOk result (expand_refusal (library_of R.value_of self.now) self.now.words
-            self.now.definitions name.now (map (kind_at self.now.network.cells.kinds) cells.now)
+            self.now.definitions name.now
+            (map (kind_at self.now.live.network.cells.kinds) cells.now)
             (given_by self.now.words (by_of by.entry)) ≡ None) }
         ensures ok { IfOk result (λ flat.
-            expansion_of_flat (map (kind_at self.now.network.cells.kinds) cells.now) flat ≡ used
-            (library_of R.value_of self.now) (state_of self.now) name.now cells.now
+            expansion_of_flat (map (kind_at self.now.live.network.cells.kinds) cells.now) flat
+            ≡ used (library_of R.value_of self.now) (state_of self.now) name.now cells.now
             (by_of by.entry)) }
         ensures safe { IfOk result (λ flat.
             IsFlatOver (library_of R.value_of self.now) (length cells.now) flat) }
         ensures err { IfErr result (λ e.
             (expand_refusal (library_of R.value_of self.now) self.now.words self.now.definitions
-            name.now (map (kind_at self.now.network.cells.kinds) cells.now)
+            name.now (map (kind_at self.now.live.network.cells.kinds) cells.now)
             (given_by self.now.words (by_of by.entry)) ≡ Some e) ⊎ (e ≡ Memory)) }
     {
-        let Ok(kinds) = kinds_of(self.alloc, self.network.data(), cells) else {
+        let Ok(kinds) = kinds_of(self.alloc, self.live.network().data(), cells) else {
             return Err(Refusal::Memory);
         };
         let Ok(given) = given(self.alloc, &self.words, by) else {
@@ -135,7 +136,7 @@ impl<R: Rule + Drop, O: Order + Drop> Session<R, O> {
         };
         let expansion = self.definitions.expand(
             self.alloc,
-            self.network.library(),
+            self.live.network().library(),
             &self.words,
             name,
             &kinds,

@@ -172,7 +172,7 @@ impl<R: Rule + Drop, O: Order + Drop> Session<R, O> {
             None if is_taken => return Err(Refusal::NameTaken),
             None => return Err(Refusal::NoSuchCell),
         };
-        let kind = self.network.data().kind(cell).kind;
+        let kind = self.live.network().data().kind(cell).kind;
         match first_refusal(&self.words, kind, is_taken, values) {
             Some(refusal) => Err(refusal),
             None => self.choose_said(choice, cell, kind, values),
@@ -198,8 +198,8 @@ impl<R: Rule + Drop, O: Order + Drop> Session<R, O> {
         values: &[Value],
     ) -> Result<(), Refusal>
         requires sound { IsInOrder R.value_of self.old }
-        requires cell { cell < length self.old.network.cells.kinds }
-        requires kind { kind ≡ (kind_at self.old.network.cells.kinds cell).kind }
+        requires cell { cell < length self.old.live.network.cells.kinds }
+        requires kind { kind ≡ (kind_at self.old.live.network.cells.kinds cell).kind }
         requires mean { All (Means self.old.words kind) (map value_of values.now) }
         requires new { premise_number self.old.search.premises choice.now ≡ None }
         requires free { is_choice self.old.search.premises choice.now ≡ false }
@@ -247,7 +247,7 @@ impl<R: Rule + Drop, O: Order + Drop> Session<R, O> {
             Some(Refusal::LimitReached(Limit::Premises))
         } else if self.search.premises().choices().len() >= Limit::Choices.most() {
             Some(Refusal::LimitReached(Limit::Choices))
-        } else if self.network.data().statement_count() > Limit::Statements.most() - sides {
+        } else if self.live.network().data().statement_count() > Limit::Statements.most() - sides {
             Some(Refusal::LimitReached(Limit::Statements))
         } else {
             None
@@ -257,8 +257,8 @@ impl<R: Rule + Drop, O: Order + Drop> Session<R, O> {
     /// A choice with a new name between the informations at a cell.
     fn choose_between(&mut self, choice: &str, cell: usize, infos: &[Info]) -> Result<(), Refusal>
         requires sound { IsInOrder R.value_of self.old }
-        requires cell { cell < length self.old.network.cells.kinds }
-        requires may { All (λ info. MayMean (kind_at self.old.network.cells.kinds cell)
+        requires cell { cell < length self.old.live.network.cells.kinds }
+        requires may { All (λ info. MayMean (kind_at self.old.live.network.cells.kinds cell)
             (Known info)) infos.now }
         requires new { premise_number self.old.search.premises choice.now ≡ None }
         requires free { is_choice self.old.search.premises choice.now ≡ false }
@@ -272,7 +272,7 @@ impl<R: Rule + Drop, O: Order + Drop> Session<R, O> {
               premises = with_choice self.old.search.premises
                   choice.now (length infos.now);
               statements =
-                  self.old.network.cells.statements
+                  self.old.live.network.cells.statements
                   ++ sides_at (length self.old.search.premises) cell infos.now;
             }) }
         ensures err { IfErr result (λ e. e ≡ Memory) }
@@ -284,8 +284,7 @@ impl<R: Rule + Drop, O: Order + Drop> Session<R, O> {
             Err(refusal) => return Err(refusal),
         };
         match state_sides(
-            &mut self.network,
-            &mut self.agenda,
+            &mut self.live,
             self.search.worldview(),
             choice.first,
             cell,

@@ -67,7 +67,7 @@ impl<R: Rule + Drop, O: Order + Drop> Session<R, O> {
     {
         self.definitions.define(
             self.alloc,
-            self.network.library(),
+            self.live.network().library(),
             &self.words,
             name,
             params,
@@ -93,8 +93,9 @@ impl<R: Rule + Drop, O: Order + Drop> Session<R, O> {
             Some(kind) => kind,
             None => return Err(Refusal::NoSuchDomain),
         };
-        self.names.push(self.alloc, name, self.network.cells())?;
-        match new_cell(&mut self.network, &mut self.agenda, kind) {
+        self.names
+            .push(self.alloc, name, self.live.network().cells())?;
+        match new_cell(&mut self.live, kind) {
             Ok(()) => Ok(()),
             Err(refusal) => {
                 self.names.pop();

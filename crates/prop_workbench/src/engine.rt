@@ -29,7 +29,7 @@ impl<R: Rule + Drop, O: Order + Drop> Session<R, O> {
         requires sound { IsSound R.value_of self.old }
         requires reader { IsFresh (reader devices.old) }
         requires writer { IsPassedOn devices.old }
-        ensures same { self.new.network.library ≡ self.old.network.library }
+        ensures same { self.new.live.network.library ≡ self.old.live.network.library }
         ensures sound { IsSound R.value_of self.new }
 
         // What was written is a transcript of all that the reader had left.

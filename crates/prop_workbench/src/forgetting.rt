@@ -3,7 +3,7 @@
 use crate::session::Session;
 use prop_lattice::Refusal;
 use prop_procedures::Rule;
-use prop_scheduler::{Order, wake_all};
+use prop_scheduler::{Order, purge};
 
 impl<R: Rule + Drop, O: Order + Drop> Session<R, O> {
     ghost use Rattle.prop_language.specs.Commands as commands;
@@ -25,8 +25,7 @@ impl<R: Rule + Drop, O: Order + Drop> Session<R, O> {
     {
         let premise = self.search.premises().find(name)?;
         self.search.forget(premise);
-        self.network.purge(premise);
-        wake_all(&self.network, &mut self.agenda);
+        purge(&mut self.live, premise);
         Ok(())
     }
 }

@@ -24,12 +24,7 @@ impl<R: Rule + Drop, O: Order + Drop> Session<R, O> {
         let Some(before) = self.search.kick(premise)? else {
             return Ok(());
         };
-        alert_shifted(
-            &self.network,
-            &mut self.agenda,
-            &before,
-            self.search.worldview(),
-        );
+        alert_shifted(&mut self.live, &before, self.search.worldview());
         Ok(())
     }
 
@@ -46,12 +41,7 @@ impl<R: Rule + Drop, O: Order + Drop> Session<R, O> {
         let Some(before) = self.search.bring(premise)? else {
             return Ok(());
         };
-        alert_shifted(
-            &self.network,
-            &mut self.agenda,
-            &before,
-            self.search.worldview(),
-        );
+        alert_shifted(&mut self.live, &before, self.search.worldview());
         Ok(())
     }
 }

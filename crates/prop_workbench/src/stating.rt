@@ -75,7 +75,7 @@ impl<R: Rule + Drop, O: Order + Drop> Session<R, O> {
             Some(cell) => cell,
             None => return Err(Refusal::NoSuchCell),
         };
-        let kind = self.network.data().kind(cell).kind;
+        let kind = self.live.network().data().kind(cell).kind;
         let meant = match meaning(&self.words, kind, value) {
             Ok(meant) => meant,
             Err(refusal) => return Err(refusal),
@@ -105,8 +105,8 @@ impl<R: Rule + Drop, O: Order + Drop> Session<R, O> {
     ) -> Result<(), Refusal>
         requires sound { IsInOrder R.value_of self.old }
         requires told { is_choice_told (state_of self.old) (name_of premise) ≡ false }
-        requires cell { cell < length self.old.network.cells.kinds }
-        requires may { MayMean (kind_at self.old.network.cells.kinds cell) (meant_of meant) }
+        requires cell { cell < length self.old.live.network.cells.kinds }
+        requires may { MayMean (kind_at self.old.live.network.cells.kinds cell) (meant_of meant) }
         ensures keeps { Keeps R.value_of self.old self.new }
         ensures fits { OnOk result (stating_limit (state_of self.old) (name_of premise.entry)
             (meant_of meant.entry) ≡ None) }
@@ -134,8 +134,8 @@ impl<R: Rule + Drop, O: Order + Drop> Session<R, O> {
     ) -> Result<(), Refusal>
         requires sound { IsInOrder R.value_of self.old }
         requires told { is_choice_told (state_of self.old) (name_of premise) ≡ false }
-        requires cell { cell < length self.old.network.cells.kinds }
-        requires may { (kind_at self.old.network.cells.kinds cell).kind ≡ Kind.Symbol }
+        requires cell { cell < length self.old.live.network.cells.kinds }
+        requires may { (kind_at self.old.live.network.cells.kinds cell).kind ≡ Kind.Symbol }
         ensures keeps { Keeps R.value_of self.old self.new }
         ensures fits { OnOk result (stating_limit (state_of self.old) (name_of premise.entry)
             (Name symbol.now) ≡ None) }
@@ -178,7 +178,7 @@ impl<R: Rule + Drop, O: Order + Drop> Session<R, O> {
                     && self.search.premises().len() >= Limit::Premises.most() => {
                 Some(Refusal::LimitReached(Limit::Premises))
             }
-            _ if self.network.data().statement_count() >= Limit::Statements.most() => {
+            _ if self.live.network().data().statement_count() >= Limit::Statements.most() => {
                 Some(Refusal::LimitReached(Limit::Statements))
             }
             _ => None,
@@ -189,8 +189,8 @@ impl<R: Rule + Drop, O: Order + Drop> Session<R, O> {
     fn state_said(&mut self, premise: Option<&str>, cell: usize, info: Info) -> Result<(), Refusal>
         requires sound { IsInOrder R.value_of self.old }
         requires told { is_choice_told (state_of self.old) (name_of premise) ≡ false }
-        requires cell { cell < length self.old.network.cells.kinds }
-        requires may { MayMean (kind_at self.old.network.cells.kinds cell) (Known info) }
+        requires cell { cell < length self.old.live.network.cells.kinds }
+        requires may { MayMean (kind_at self.old.live.network.cells.kinds cell) (Known info) }
         ensures keeps { Keeps R.value_of self.old self.new }
         ensures words { self.new.words ≡ self.old.words }
         ensures fits { OnOk result (statement_limit (state_of self.old)
@@ -212,8 +212,8 @@ impl<R: Rule + Drop, O: Order + Drop> Session<R, O> {
     fn state_told(&mut self, premise: &str, cell: usize, info: Info) -> Result<(), Refusal>
         requires sound { IsInOrder R.value_of self.old }
         requires told { is_choice self.old.search.premises premise.now ≡ false }
-        requires cell { cell < length self.old.network.cells.kinds }
-        requires may { MayMean (kind_at self.old.network.cells.kinds cell) (Known info) }
+        requires cell { cell < length self.old.live.network.cells.kinds }
+        requires may { MayMean (kind_at self.old.live.network.cells.kinds cell) (Known info) }
         ensures keeps { Keeps R.value_of self.old self.new }
         ensures words { self.new.words ≡ self.old.words }
         ensures fits { OnOk result (telling_limit (state_of self.old) premise.now ≡ None) }
@@ -233,30 +233,23 @@ impl<R: Rule + Drop, O: Order + Drop> Session<R, O> {
     /// Makes a statement under a premise that there is, or under none.
     fn state(&mut self, premise: Option<Premise>, cell: usize, info: Info) -> Result<(), Refusal>
         requires sound { IsInOrder R.value_of self.old }
-        requires cell { cell < length self.old.network.cells.kinds }
+        requires cell { cell < length self.old.live.network.cells.kinds }
         requires known { (p : ℕ) → premise ≡ Some p → p < length self.old.search.premises }
         ensures keeps { Keeps R.value_of self.old self.new }
         ensures words { self.new.words ≡ self.old.words }
-        ensures fits { OnOk result (state_refusal self.old.network.cells cell info ≡ None) }
+        ensures fits { OnOk result (state_refusal self.old.live.network.cells cell info ≡ None) }
         ensures ok { OnOk result (state_of self.new
             ≡ record (state_of
             self.old) {
               statements = (state_of self.old).statements
                   ++ record { premise = premise; cell = cell; info = info } ∷ [];
             }) }
-        ensures err { IfErr result (λ e. (state_refusal self.old.network.cells cell info ≡ Some e)
-            ⊎ (e ≡ Memory)) }
+        ensures err { IfErr result (λ e.
+            (state_refusal self.old.live.network.cells cell info ≡ Some e) ⊎ (e ≡ Memory)) }
         ensures err_same { OnErr result (state_of self.new ≡ state_of self.old) }
         ensures stirred { HasStirred self.old self.old.search.list result self.new }
     {
-        state(
-            &mut self.network,
-            &mut self.agenda,
-            self.search.worldview(),
-            premise,
-            cell,
-            info,
-        )?;
+        state(&mut self.live, self.search.worldview(), premise, cell, info)?;
         Ok(())
     }
 
@@ -264,8 +257,8 @@ impl<R: Rule + Drop, O: Order + Drop> Session<R, O> {
     fn state_under_new(&mut self, name: &str, cell: usize, info: Info) -> Result<(), Refusal>
         requires sound { IsInOrder R.value_of self.old }
         requires told { is_choice self.old.search.premises name.now ≡ false }
-        requires cell { cell < length self.old.network.cells.kinds }
-        requires may { MayMean (kind_at self.old.network.cells.kinds cell) (Known info) }
+        requires cell { cell < length self.old.live.network.cells.kinds }
+        requires may { MayMean (kind_at self.old.live.network.cells.kinds cell) (Known info) }
         requires new { premise_number self.old.search.premises name.now ≡ None }
         ensures keeps { Keeps R.value_of self.old self.new }
         ensures words { self.new.words ≡ self.old.words }
@@ -291,8 +284,7 @@ impl<R: Rule + Drop, O: Order + Drop> Session<R, O> {
             Err(refusal) => return Err(refusal),
         };
         match state(
-            &mut self.network,
-            &mut self.agenda,
+            &mut self.live,
             self.search.worldview(),
             Some(premise),
             cell,

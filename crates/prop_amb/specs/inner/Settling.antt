@@ -1,17 +1,9 @@
--- How settling ends, and what is known of a list on the way.
+-- What is known of a list that is refuted.
 use Rattle.std.specs.Prelude.{ℕ, List, Contains}
 use Rattle.prop_numbers.specs.Sets.{set_of, IsPart}
 use Rattle.prop_cells.specs.Problems.{Problem}
 use Rattle.prop_amb.specs.Refuted.{IsNogood}
 use Rattle.prop_amb.specs.Search.{Stand, choices_in}
-use Rattle.prop_amb.specs.declared.settling.Tried.{Tried}
-use Rattle.prop_amb.specs.declared.settling.Tried.TheVariants as tried
-
--- where a list is refuted, the nogood
-abbrev pub IfRefuted : Tried → (List ℕ → Type 0) → Type 0
-IfRefuted (tried.Refuted n) P = P n
-IfRefuted tried.Quiet P = Unit {0}
-IfRefuted tried.Spent P = Unit {0}
 
 -- a noted nogood of which every premise is believed
 pub record IsMet (problem : Problem) (s : Stand) (n : List ℕ) : Type 0 where

@@ -2,26 +2,19 @@
 use Rattle.std.specs.Prelude.{◌≡◌, ℕ, ◌+◌, ◌<◌, ◌≤◌, IsTrue, false, List, [], length}
 use Rattle.prop_numbers.specs.Sets.{Members, set_of}
 use Rattle.prop_procedures.specs.Stored.{Stored}
-use Rattle.prop_cells.specs.Data.{Data, IsFree, beliefs, problem_of}
+use Rattle.prop_cells.specs.Data.{Data, beliefs, problem_of}
 use Rattle.prop_nogoods.specs.Stores.{has_part}
+use Rattle.prop_scheduler.specs.declared.outcome.Run.{Run}
+use Rattle.prop_scheduler.specs.declared.outcome.Run.TheVariants.{Quiet, Spent}
 use Rattle.prop_scheduler.specs.Turns.{IsUnderWay, IsSettled}
 use Rattle.prop_scheduler.specs.Potential.{potential, most_steps}
 use Rattle.prop_amb.specs.Search.{Stand, IsStand, IsSearch}
 use Rattle.prop_amb.specs.Going.{work, MayCall, Goes}
-use Rattle.prop_amb.specs.declared.settling.Tried.{Tried}
-use Rattle.prop_amb.specs.declared.settling.Tried.TheVariants.{Quiet, Spent}
-
--- nothing waits, no cell is believed to hold a contradiction, no noted nogood is believed, and the
--- side of each choice is
-pub record IsResting (old : Stand) (start : Data) (line : List ℕ) : Type 0 where
-  pub full : old.level ≡ length old.list
-  pub idle : line ≡ []
-  pub free : IsFree (set_of old.worldview) start
-  pub unblocked : has_part old.listed (set_of old.worldview) ≡ false
+use Rattle.prop_amb.specs.Settling.{IsResting}
 
 -- what came of one list
 pub record Attempted {O : Type 0} (picks : O → ℕ → ℕ → O → Type 0) (library : List Stored)
-    (s : Stand) (d : Data) (waiting : List ℕ) (order : O) (budget : ℕ) (tried : Tried) (calls : ℕ)
+    (s : Stand) (d : Data) (waiting : List ℕ) (order : O) (budget : ℕ) (tried : Run) (calls : ℕ)
     (new : Stand) (cells : Data) (after : List ℕ) (next : O) : Type 0 where
   pub only : new ≡ record s { level = new.level; listed = new.listed; worldview = new.worldview }
   pub kept : (m : Members) → IsTrue (has_part s.listed m) → IsTrue (has_part new.listed m)

@@ -69,7 +69,7 @@ pub record IsCarriedOut {R O : Type 0} {X : Type 0} {F : X → Type 0} {g : _} (
 pub record IsAtRest {R O : Type 0} {X : Type 0} {F : X → Type 0} {g : _}
     (value : R → Param → List Info → Info) (s : Session R O X F g) : Type 0 where
   pub full : s.search.level ≡ length s.search.list
-  pub settled : IsSettled (library_of value s) (set_of s.search.worldview) s.network.cells
+  pub settled : IsSettled (library_of value s) (set_of s.search.worldview) s.live.network.cells
 
 -- the answer may be given to the command where a run of so many steps ended so, and left the
 -- session
@@ -81,8 +81,9 @@ MayAnswer value s command end steps answer =
 -- no entry is used that is not needed where the command asks why
 abbrev pub IsLeanIn : {R O : Type 0} {X : Type 0} {F : X → Type 0} {g : _} → Session R O X F g
     → Command → Answer → Type 0
-IsLeanIn s command answer = IsLeanAnswer (worldview_at (state_of s) s.search.list) s.network.cells
-    (state_of s) (Ok (Some command)) answer
+IsLeanIn s command answer =
+    IsLeanAnswer (worldview_at (state_of s) s.search.list) s.live.network.cells (state_of s)
+    (Ok (Some command)) answer
 
 -- the premises are in order, and the answer says the information of the cell, the mark and the
 -- premises

@@ -55,7 +55,7 @@ pub record HasRun {R O : Type 0} {X : Type 0} {F : X → Type 0} {g : _}
       (λ ps. IsCovered (search.choices_in s.search) s.search.listed (set_of ps))
   pub full : end ≡ Settled → s.search.level ≡ length s.search.list
   pub settled : end ≡ Settled → IsSettled (library_of value s) (set_of s.search.worldview)
-      s.network.cells
+      s.live.network.cells
   pub within : steps ≤ (state_of s).limit
   pub few : steps < lists_count (choices_in (state_of s))
       * (most_steps (problem_in (library_of value s) (state_of s)) + 1)

@@ -12,14 +12,14 @@ use Rattle.prop_workbench.specs.Sessions.{IsInOrder, steps_of}
 -- a command leaves the library and the steps of the last line as they were and the session in order
 pub record Stays {R O : Type 0} {X : Type 0} {F : X → Type 0} {g : _}
     (value : R → Param → List Info → Info) (old new : Session R O X F g) : Type 0 where
-  pub library : new.network.library ≡ old.network.library
+  pub library : new.live.network.library ≡ old.live.network.library
   pub sound : IsInOrder value new
   pub steps : steps_of new ≡ steps_of old
 
 -- the same, and it covers what was covered
 pub record Keeps {R O : Type 0} {X : Type 0} {F : X → Type 0} {g : _}
     (value : R → Param → List Info → Info) (old new : Session R O X F g) : Type 0 where
-  pub library : new.network.library ≡ old.network.library
+  pub library : new.live.network.library ≡ old.live.network.library
   pub sound : IsInOrder value new
   pub steps : steps_of new ≡ steps_of old
   pub covers : (m : Members) → IsCovered (choices_in old.search) old.search.listed m

@@ -10,11 +10,8 @@ use Rattle.prop_explain.proofs.ReducingLaws.{no_conflict, same_problem, settled_
 use Rattle.prop_explain.proofs.reducing.attempt.Goals as goal
 use Rattle.prop_explain.proofs.reducing.attempt.Goals.{in-Quiet, in-Clash, in-Spent}
 
-pub run-requires-clause-under_way : goal.run-requires-clause-under_way
-run-requires-clause-under_way g c = c.wake_all.ensures.under_way (set_of c.in_ok-worldview.worldview)
-
-pub run-requires-clause-watched : goal.run-requires-clause-watched
-run-requires-clause-watched g c = c.wake_all.ensures.watched (set_of c.in_ok-worldview.worldview)
+pub run-requires-clause-alive : goal.run-requires-clause-alive
+run-requires-clause-alive g c = c.wake_all.ensures.alive (set_of c.in_ok-worldview.worldview)
 
 no_clash : (old new : Problem) (s n : Members) → new ≡ old → IsConsistent old s → IsConflict new s n → ⊥
 no_clash old new s n same consistent conflict =
@@ -22,20 +19,20 @@ no_clash old new s n same consistent conflict =
 
 pub returns-clause-too_few : goal.returns-clause-too_few
 returns-clause-too_few g c few entailed =
-    let library = stored_of g.R.Rule.value_of c.args.network.now.library in
-    let after = stored_of g.R.Rule.value_of c.run.new.network.library in
-    let d = c.args.network.now.cells in
-    let new = c.run.new.network.cells in
+    let library = stored_of g.R.Rule.value_of c.args.live.now.network.library in
+    let after = stored_of g.R.Rule.value_of c.run.new.live.network.library in
+    let d = c.args.live.now.network.cells in
+    let new = c.run.new.live.network.cells in
     let s = set_of c.args.set.now in
-    let problem = same_problem library after d new (λ i. stored_of g.R.Rule.value_of (c.in_ok-end.ensures.same i))
-    c.in_ok-end.ensures.rest in
+    let problem = same_problem library after d new (λ i. stored_of g.R.Rule.value_of (c.in_ok-end.ensures.ran.library i))
+    c.in_ok-end.ensures.ran.rest in
     elim c.match-end.branch [
       | in-Quiet w ↦ (
           let settled : IsSettled after s new =
           rw c.in_ok-worldview.ensures.of at (c.in_ok-end.ensures.quiet w.in-Quiet.is) in
-          let below : Below c.args.value (beliefs s new.contents c.args.cell) =
-          settled_below after s new c.args.cell c.args.value settled
-          (subst (λ p. Entails p s c.args.cell c.args.value) (sym problem) entailed) in
+          let below : Below c.args.claim.value (beliefs s new.contents c.args.claim.cell) =
+          settled_below after s new c.args.claim.cell c.args.claim.value settled
+          (subst (λ p. Entails p s c.args.claim.cell c.args.claim.value) (sym problem) entailed) in
           w.enough-tried.ensures.too_few (sym w.tried-is ∙ few)
           (rw (w.belief.ensures, c.in_ok-worldview.ensures.of) below))
       | in-Clash w ↦ no_clash _ _ _ _ problem c.requires.consistent

@@ -11,15 +11,15 @@ use Rattle.prop_explain.proofs.reducing.left_of.Goals as goal
 
 pub loop-premise-init : goal.loop-premise-init
 loop-premise-init g c =
-    let library = stored_of g.R.Rule.value_of c.args.network.now.library in
-    let start = c.args.network.now.cells in
+    let library = stored_of g.R.Rule.value_of c.args.live.now.network.library in
+    let start = c.args.live.now.network.cells in
     let copied = c.in_ok-support.ensures in
     let so_far = c.into_iter-premise-iterator.ensures.into_iter_gives ∙ c.iter-premise-items.ensures.all in
     record {
       so_far = so_far;
       same = refl;
       done = record {
-        left = as_ready library start c.args.agenda.now c.requires.ready;
+        left = as_ready library start c.args.live.now.agenda c.requires.ready;
         within = omega arith;
         few = omega arith;
         tries = ([], none);
@@ -42,11 +42,11 @@ attempt-requires-clause-ready g c = let kept = c.loop-premise.invariant in rw ke
 pub attempt-requires-clause-consistent : goal.attempt-requires-clause-consistent
 attempt-requires-clause-consistent g c =
     let kept = c.loop-premise.invariant in
-    let library = stored_of g.R.Rule.value_of c.args.network.now.library in
-    let start = c.args.network.now.cells in
+    let library = stored_of g.R.Rule.value_of c.args.live.now.network.library in
+    let start = c.args.live.now.network.cells in
     let less_is : set_of c.in_ok-less.less ≡ without (set_of c.loop-premise.support) c.in-Some.premise =
     λ i p. c.in_ok-less.ensures p i in
-    let problem = same_problem library library start c.loop-premise.network.cells refl kept.done.left.rest in
+    let problem = same_problem library library start c.loop-premise.live.network.cells refl kept.done.left.rest in
     rw (kept.same, problem)
     (consistent_fewer (problem_of library start) (set_of c.in_ok-less.less) (set_of c.args.why.now.support)
     (less_is_part (set_of c.loop-premise.support) (set_of c.args.why.now.support) (set_of c.in_ok-less.less)
@@ -56,13 +56,13 @@ pub loop-premise-preserved-in-Enough : goal.loop-premise-preserved-in-Enough
 loop-premise-preserved-in-Enough g c =
     let kept = c.loop-premise.invariant in
     let try = c.in_ok-tried.ensures in
-    let library = stored_of g.R.Rule.value_of c.args.network.now.library in
-    let start = c.args.network.now.cells in
+    let library = stored_of g.R.Rule.value_of c.args.live.now.network.library in
+    let start = c.args.live.now.network.cells in
     let less_is : set_of c.in_ok-less.less ≡ without (set_of c.loop-premise.support) c.in-Some.premise =
     λ i p. c.in_ok-less.ensures p i in
     let part = less_is_part (set_of c.loop-premise.support) (set_of c.args.why.now.support) (set_of c.in_ok-less.less)
     c.in-Some.premise less_is kept.part in
-    let problem = same_problem library library start c.loop-premise.network.cells refl kept.done.left.rest in
+    let problem = same_problem library library start c.loop-premise.live.network.cells refl kept.done.left.rest in
     let done = rw c.in-Some.ensures.steps at kept.done in
     let holds = subst (λ (t : Members). IsPart (set_of c.next.new.self) t) (sym less_is)
     (less_holds c.in-Some.premise c.next.new.self done.held) in
@@ -70,8 +70,8 @@ loop-premise-preserved-in-Enough g c =
       so_far = append_assoc c.loop-premise.yielded (c.in-Some.premise ∷ []) c.next.new.self
           ∙ (rw c.in-Some.ensures.steps at kept.so_far);
       same = try.same ∙ kept.same;
-      done = one_more library start c.loop-premise.network.cells c.loop-premise.yielded c.next.new.self
-          c.in-Some.premise c.loop-premise.steps c.in_ok-tried.calls (set_of c.in_ok-less.less)
+      done = one_more library start c.loop-premise.live.network.cells c.loop-premise.yielded c.next.new.self
+          c.in-Some.premise c.loop-premise.steps c.in_ok-tried.tried.steps (set_of c.in_ok-less.less)
           (set_of c.in_ok-less.less) less_is done part holds (rw kept.same at try.left) try.steps
           (rw kept.same at try.falls) (rw kept.same at try.turns);
       tried = rw less_is (left_out (problem_of library start) c.args.cell c.args.why.now.value c.loop-premise.yielded
@@ -84,20 +84,20 @@ pub loop-premise-preserved : goal.loop-premise-preserved
 loop-premise-preserved g c =
     let kept = c.loop-premise.invariant in
     let try = c.in_ok-tried.ensures in
-    let library = stored_of g.R.Rule.value_of c.args.network.now.library in
-    let start = c.args.network.now.cells in
+    let library = stored_of g.R.Rule.value_of c.args.live.now.network.library in
+    let start = c.args.live.now.network.cells in
     let less_is : set_of c.in_ok-less.less ≡ without (set_of c.loop-premise.support) c.in-Some.premise =
     λ i p. c.in_ok-less.ensures p i in
     let part = less_is_part (set_of c.loop-premise.support) (set_of c.args.why.now.support) (set_of c.in_ok-less.less)
     c.in-Some.premise less_is kept.part in
-    let problem = same_problem library library start c.loop-premise.network.cells refl kept.done.left.rest in
+    let problem = same_problem library library start c.loop-premise.live.network.cells refl kept.done.left.rest in
     let done = rw c.in-Some.ensures.steps at kept.done in
     record {
       so_far = append_assoc c.loop-premise.yielded (c.in-Some.premise ∷ []) c.next.new.self
           ∙ (rw c.in-Some.ensures.steps at kept.so_far);
       same = try.same ∙ kept.same;
-      done = one_more library start c.loop-premise.network.cells c.loop-premise.yielded c.next.new.self
-          c.in-Some.premise c.loop-premise.steps c.in_ok-tried.calls (set_of c.in_ok-less.less)
+      done = one_more library start c.loop-premise.live.network.cells c.loop-premise.yielded c.next.new.self
+          c.in-Some.premise c.loop-premise.steps c.in_ok-tried.tried.steps (set_of c.in_ok-less.less)
           (set_of c.loop-premise.support) less_is done part (still_left c.in-Some.premise c.next.new.self done.held)
           (rw kept.same at try.left) try.steps (rw kept.same at try.falls) (rw kept.same at try.turns);
       tried = stays (problem_of library start) c.args.cell c.args.why.now.value c.loop-premise.yielded
@@ -114,5 +114,5 @@ returns-in-Spent-clause-tries g c =
     let part = less_is_part (set_of c.loop-premise.support) (set_of c.args.why.now.support) (set_of c.in_ok-less.less)
     c.in-Some.premise less_is kept.part in
     let done = rw c.in-Some.ensures.steps at kept.done in
-    tried_on (stored_of g.R.Rule.value_of c.args.network.now.library) c.in-Some.premise (set_of c.in_ok-less.less) _ _
+    tried_on (stored_of g.R.Rule.value_of c.args.live.now.network.library) c.in-Some.premise (set_of c.in_ok-less.less) _ _
     less_is done.tries done.held part (rw kept.same at c.in_ok-tried.ensures.turns)

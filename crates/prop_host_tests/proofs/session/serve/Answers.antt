@@ -11,6 +11,6 @@ pub returns : goal.returns
 returns g c =
     let same = ap (λ l. l.procedures.items) (c.in_ok-session.ensures.library ∙ c.new-network.ensures.library)
     ∙ ap (λ p. p.items) c.new.ensures in
-    answered c.in_ok-session.session.network.library c.args.procedures.items _ _ _ (λ r. map answer_of r.items)
+    answered c.in_ok-session.session.live.network.library c.args.procedures.items _ _ _ (λ r. map answer_of r.items)
     c.carry_out-replies.result same c.requires.listed (ap (λ s. s.shown) c.in_ok-session.ensures.state)
     c.carry_out-replies.ensures

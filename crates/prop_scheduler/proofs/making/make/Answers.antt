@@ -9,43 +9,48 @@ use Rattle.prop_scheduler.proofs.UnderWay.{under_way_made}
 use Rattle.prop_scheduler.proofs.WatchLaws.{watched_fresh}
 use Rattle.prop_scheduler.proofs.making.make.Goals as goal
 
-pub returns-clause-under_way : goal.returns-clause-under_way
-returns-clause-under_way g c = λ s u.
-    let d = c.args.network.now.cells in
-    let new = c.make_all.new.network.cells in
-    let flat = c.args.flat in
-    let library = stored_of g.R.Rule.value_of c.args.network.now.library in
-    let made = map (made_of library flat.params.items c.args.cells.now (length d.kinds)) flat.instances.items in
-    let is = c.in_ok-make_all.ensures.ok in
-    let count = c.instances.ensures.count in
-    let first = c.instances-first.ensures.count in
-    let all : length new.instances ≡ length (d.instances ++ made) = ap (λ x. length x.instances) is in
-    let more = length-append d.instances made in
-    rw c.make_all.ensures.same (under_way_made library s d new c.args.agenda.now.line c.alert_between.new.agenda.line
-    flat.fresh.items flat.params.items made
-    u (rw c.make_all.ensures.same at c.make_all.ensures.kept) is
-    (λ i waits. c.alert_between.ensures.before i (rw c.in_default.ensures.line waits))
-    (λ i from below. c.alert_between.ensures.alerted i (omega (arith, from, first)) (omega (arith, below, count, all)))
-    (c.alert_between.ensures.below (length (d.instances ++ made)) (omega (arith, count, all))
-    (rw c.in_default.ensures.line (All-weaker (λ j. j < length d.instances) (λ j. j < length (d.instances ++ made))
-    (λ j l. omega (arith, l, more)) c.args.agenda.now.line u.line_below))))
-
-pub returns-clause-watched : goal.returns-clause-watched
-returns-clause-watched g c = λ s w.
-    let d = c.args.network.now.cells in
-    let new = c.make_all.new.network.cells in
-    let is = c.in_ok-make_all.ensures.ok in
-    let kinds : new.kinds ≡ d.kinds ++ c.args.flat.fresh.items = ap (λ x. x.kinds) is in
-    let more : length d.kinds ≤ length new.kinds =
-    rw kinds (let n = length-append d.kinds c.args.flat.fresh.items in omega (arith, n)) in
-    rw (c.alert_between.ensures.watched, c.in_default.ensures.watched)
-    (watched_fresh s d new c.args.agenda.now.watched c.args.flat.fresh.items (ap (λ x. x.contents) is) more w)
+pub returns-clause-alive : goal.returns-clause-alive
+returns-clause-alive g c = λ s was. record {
+  under_way = (let d = c.args.live.now.network.cells in
+      let new = c.make_all.new.network.cells in
+      let flat = c.args.flat in
+      let library = stored_of g.R.Rule.value_of c.args.live.now.network.library in
+      let made = map (made_of library flat.params.items c.args.cells.now (length d.kinds)) flat.instances.items in
+      let is = c.in_ok-make_all.ensures.ok in
+      let count = c.instances.ensures.count in
+      let first = c.instances-first.ensures.count in
+      let all : length new.instances ≡ length (d.instances ++ made) = ap (λ x. length x.instances) is in
+      let more = length-append d.instances made in
+      rw c.make_all.ensures.same (under_way_made library s d new c.args.live.now.agenda.line
+      c.alert_between.new.agenda.line
+      flat.fresh.items flat.params.items made
+      was.under_way (rw c.make_all.ensures.same at c.make_all.ensures.kept) is
+      (λ i waits. c.alert_between.ensures.before i (rw c.in_default.ensures.line waits))
+      (λ i from below. c.alert_between.ensures.alerted i (omega (arith, from, first)) (omega (
+        arith,
+        below,
+        count,
+        all,
+      )))
+      (c.alert_between.ensures.below (length (d.instances ++ made)) (omega (arith, count, all))
+      (rw c.in_default.ensures.line (All-weaker (λ j. j < length d.instances) (λ j. j < length (d.instances ++ made))
+      (λ j l. omega (arith, l, more)) c.args.live.now.agenda.line was.under_way.line_below)))));
+  watched = (let d = c.args.live.now.network.cells in
+      let new = c.make_all.new.network.cells in
+      let is = c.in_ok-make_all.ensures.ok in
+      let kinds : new.kinds ≡ d.kinds ++ c.args.flat.fresh.items = ap (λ x. x.kinds) is in
+      let more : length d.kinds ≤ length new.kinds =
+      rw kinds (let n = length-append d.kinds c.args.flat.fresh.items in omega (arith, n)) in
+      rw (c.alert_between.ensures.watched, c.in_default.ensures.watched)
+      (watched_fresh s d new c.args.live.now.agenda.watched c.args.flat.fresh.items (ap (λ x. x.contents) is) more
+      was.watched));
+}
 
 pub returns-clause-stirred : goal.returns-clause-stirred
 returns-clause-stirred g c = λ s t.
-    let old = c.args.network.now.cells in
+    let old = c.args.live.now.network.cells in
     let new = c.make_all.new.network.cells in
     let first = c.instances-first.ensures.count in
     behind_weaker (λ i. c.instances-first.result ≤ i) (λ j. (length old.instances ≤ j) ⊎ IsTouched s t old new j)
-    c.args.agenda.now.line c.alert_between.new.agenda.line (λ j l. inl (omega (arith, l, first)))
+    c.args.live.now.agenda.line c.alert_between.new.agenda.line (λ j l. inl (omega (arith, l, first)))
     (rw c.in_default.ensures.line at c.alert_between.ensures.behind)

@@ -37,21 +37,20 @@ most_same : (library library' : List Stored) (start new : Data) → library' ≡
     → most_steps (problem_of library' new) ≡ most_steps (problem_of library start)
 most_same library library' start new same rest = λ i. most_steps (problem_of (same i) (rest i))
 
-pub returns-in-Some-clause-same : goal.returns-in-Some-clause-same
-returns-in-Some-clause-same g c =
-    refl
+pub returns-in-Some-clause-ran : goal.returns-in-Some-clause-ran
+returns-in-Some-clause-ran g c =
+    record {
+      library = refl;
+      rest = (refl);
+    }
 
-pub returns-in-Some-clause-rest : goal.returns-in-Some-clause-rest
-returns-in-Some-clause-rest g c =
-    refl
-
-pub returns-in-Some-clause-under_way : goal.returns-in-Some-clause-under_way
-returns-in-Some-clause-under_way g c =
-    rw c.first_clash.ensures.line c.requires.under_way
-
-pub returns-in-Some-clause-room : goal.returns-in-Some-clause-room
-returns-in-Some-clause-room g c =
-    c.first_clash.ensures.room
+pub returns-in-Some-clause-alive : goal.returns-in-Some-clause-alive
+returns-in-Some-clause-alive g c =
+    record {
+      under_way = rw c.first_clash.ensures.line c.requires.alive.under_way;
+      watched =
+          c.first_clash.ensures.watched;
+    }
 
 pub returns-in-Some-clause-turns : goal.returns-in-Some-clause-turns
 returns-in-Some-clause-turns g c =
@@ -79,8 +78,8 @@ returns-in-Some-clause-clash g c =
 
 pub returns-in-Some-clause-conflict : goal.returns-in-Some-clause-conflict
 returns-in-Some-clause-conflict g c =
-    clash_conflicts (stored_of g.R.Rule.value_of c.args.network.now.library) c.args.network.now.cells
-    (set_of c.args.worldview.now) _ c.requires.under_way.kept
+    clash_conflicts (stored_of g.R.Rule.value_of c.args.live.now.network.library) c.args.live.now.network.cells
+    (set_of c.args.worldview.now) _ c.requires.alive.under_way.kept
     (record {
       cell = c.in-Some.cell;
       clash = rw c.in-Some.is at c.first_clash.ensures.seen;
@@ -119,48 +118,49 @@ pub returns-in-Some-clause-bounded : goal.returns-in-Some-clause-bounded
 returns-in-Some-clause-bounded g c =
     omega arith
 
-pub returns-in_err-why-in-Some-clause-same : goal.returns-in_err-why-in-Some-clause-same
-returns-in_err-why-in-Some-clause-same g c =
-    refl
+pub returns-in_err-why-in-Some-clause-ran : goal.returns-in_err-why-in-Some-clause-ran
+returns-in_err-why-in-Some-clause-ran g c =
+    record {
+      library = refl;
+      rest = (refl);
+    }
 
-pub returns-in_err-why-in-Some-clause-rest : goal.returns-in_err-why-in-Some-clause-rest
-returns-in_err-why-in-Some-clause-rest g c =
-    refl
-
-pub returns-in_err-why-in-Some-clause-under_way : goal.returns-in_err-why-in-Some-clause-under_way
-returns-in_err-why-in-Some-clause-under_way g c =
-    rw c.first_clash.ensures.line c.requires.under_way
-
-pub returns-in_err-why-in-Some-clause-room : goal.returns-in_err-why-in-Some-clause-room
-returns-in_err-why-in-Some-clause-room g c =
-    c.first_clash.ensures.room
+pub returns-in_err-why-in-Some-clause-alive : goal.returns-in_err-why-in-Some-clause-alive
+returns-in_err-why-in-Some-clause-alive g c =
+    record {
+      under_way = rw c.first_clash.ensures.line c.requires.alive.under_way;
+      watched =
+          c.first_clash.ensures.watched;
+    }
 
 pub returns-in_err-why-in-Some-clause-err : goal.returns-in_err-why-in-Some-clause-err
 returns-in_err-why-in-Some-clause-err g c =
-    let stopped : Interrupted g.O.Order.picks (stored_of g.R.Rule.value_of c.args.network.now.library)
-    (set_of c.args.worldview.now) c.args.network.now.cells c.args.agenda.now.line c.args.order.now
-    c.args.network.now.cells c.args.agenda.now.line c.args.order.now =
+    let stopped : Interrupted g.O.Order.picks (stored_of g.R.Rule.value_of c.args.live.now.network.library)
+    (set_of c.args.worldview.now) c.args.live.now.network.cells c.args.live.now.agenda.line c.args.order.now
+    c.args.live.now.network.cells c.args.live.now.agenda.line c.args.order.now =
     record { steps = 0; last = c.args.order.now; turns = none; picked = inl refl } in
     rw c.first_clash.ensures.line (on_err _ stopped)
 
 pub loop-steps-init : goal.loop-steps-init
-loop-steps-init g c = record {
-  same = refl;
-  rest = refl;
-  under_way = rw c.first_clash.ensures.line c.requires.under_way;
-  room = c.first_clash.ensures.room;
-  cells = c.first_clash.ensures.cells;
-  watched = c.first_clash.ensures.watched;
-  free = c.first_clash.ensures.free c.in-None.is;
-  turns = rw c.first_clash.ensures.line none;
-  waiting = c.waiting-waiting.ensures.waiting ∙ ap length (sym c.first_clash.ensures.line);
-  steps = omega arith;
-  falls = rw c.first_clash.ensures.line (omega arith);
-}
+loop-steps-init g c =
+    record {
+      same = refl;
+      rest = refl;
+      alive = record {
+        under_way = rw c.first_clash.ensures.line c.requires.alive.under_way;
+        watched =
+            c.first_clash.ensures.watched;
+      };
+      free = c.first_clash.ensures.free c.in-None.is;
+      turns = rw c.first_clash.ensures.line none;
+      waiting = c.waiting-waiting.ensures.waiting ∙ ap length (sym c.first_clash.ensures.line);
+      steps = omega arith;
+      falls = rw c.first_clash.ensures.line (omega arith);
+    }
 
-pub turn-requires-clause-under_way : goal.turn-requires-clause-under_way
-turn-requires-clause-under_way g c =
-    c.loop-steps.invariant.under_way
+pub turn-requires-clause-alive : goal.turn-requires-clause-alive
+turn-requires-clause-alive g c =
+    c.loop-steps.invariant.alive
 
 pub turn-requires-clause-means : goal.turn-requires-clause-means
 turn-requires-clause-means g c =
@@ -176,41 +176,46 @@ explanation-requires-in-Some-clash-clause-cell g c =
 
 pub explanation-requires-in-Some-clash-clause-kept : goal.explanation-requires-in-Some-clash-clause-kept
 explanation-requires-in-Some-clash-clause-kept g c =
-    c.turn.ensures.under_way.kept
+    c.turn.ensures.alive.under_way.kept
 
-pub returns-in-Some-clash-clause-same : goal.returns-in-Some-clash-clause-same
-returns-in-Some-clash-clause-same g c =
-    c.turn.ensures.same ∙ c.loop-steps.invariant.same
+pub returns-in-Some-clash-clause-ran : goal.returns-in-Some-clash-clause-ran
+returns-in-Some-clash-clause-ran g c =
+    record {
+      library = c.turn.ensures.same ∙ c.loop-steps.invariant.same;
+      rest = (let turn : Turn (stored_of g.R.Rule.value_of c.args.live.now.network.library) (set_of
+          c.args.worldview.now)
+          c.pick-place.result c.loop-steps.live.network.cells c.turn.new.live.network.cells
+          c.loop-steps.live.agenda.line
+          c.turn.new.live.agenda.line = turn_on (stored_of g.R.Rule.value_of) (set_of c.args.worldview.now)
+          c.pick-place.result
+          c.loop-steps.live.network.cells c.turn.new.live.network.cells c.loop-steps.live.agenda.line
+          c.turn.new.live.agenda.line
+          c.args.live.now.network.library c.loop-steps.live.network.library c.loop-steps.invariant.same
+          c.in_ok-clash.ensures.turn
+          in
+          turn_rest (stored_of g.R.Rule.value_of c.args.live.now.network.library) (set_of c.args.worldview.now)
+          c.pick-place.result
+          c.args.live.now.network.cells c.loop-steps.live.network.cells c.turn.new.live.network.cells
+          c.loop-steps.live.agenda.line
+          c.turn.new.live.agenda.line turn c.loop-steps.invariant.rest);
+    }
 
-pub returns-in-Some-clash-clause-rest : goal.returns-in-Some-clash-clause-rest
-returns-in-Some-clash-clause-rest g c =
-    let turn : Turn (stored_of g.R.Rule.value_of c.args.network.now.library) (set_of c.args.worldview.now)
-    c.pick-place.result c.loop-steps.network.cells c.turn.new.network.cells c.loop-steps.agenda.line
-    c.turn.new.agenda.line = turn_on (stored_of g.R.Rule.value_of) (set_of c.args.worldview.now) c.pick-place.result
-    c.loop-steps.network.cells c.turn.new.network.cells c.loop-steps.agenda.line c.turn.new.agenda.line
-    c.args.network.now.library c.loop-steps.network.library c.loop-steps.invariant.same c.in_ok-clash.ensures.turn
-    in
-    turn_rest (stored_of g.R.Rule.value_of c.args.network.now.library) (set_of c.args.worldview.now) c.pick-place.result
-    c.args.network.now.cells c.loop-steps.network.cells c.turn.new.network.cells c.loop-steps.agenda.line
-    c.turn.new.agenda.line turn c.loop-steps.invariant.rest
-
-pub returns-in-Some-clash-clause-under_way : goal.returns-in-Some-clash-clause-under_way
-returns-in-Some-clash-clause-under_way g c =
-    c.turn.ensures.under_way
-
-pub returns-in-Some-clash-clause-room : goal.returns-in-Some-clash-clause-room
-returns-in-Some-clash-clause-room g c =
-    c.turn.ensures.room ∙ c.loop-steps.invariant.room
+pub returns-in-Some-clash-clause-alive : goal.returns-in-Some-clash-clause-alive
+returns-in-Some-clash-clause-alive g c =
+    record { under_way = c.turn.ensures.alive.under_way; watched = c.turn.ensures.alive.watched }
 
 pub returns-in-Some-clash-clause-turns : goal.returns-in-Some-clash-clause-turns
 returns-in-Some-clash-clause-turns g c =
-    let turn : Turn (stored_of g.R.Rule.value_of c.args.network.now.library) (set_of c.args.worldview.now)
-    c.pick-place.result c.loop-steps.network.cells c.turn.new.network.cells c.loop-steps.agenda.line
-    c.turn.new.agenda.line = turn_on (stored_of g.R.Rule.value_of) (set_of c.args.worldview.now) c.pick-place.result
-    c.loop-steps.network.cells c.turn.new.network.cells c.loop-steps.agenda.line c.turn.new.agenda.line
-    c.args.network.now.library c.loop-steps.network.library c.loop-steps.invariant.same c.in_ok-clash.ensures.turn
+    let turn : Turn (stored_of g.R.Rule.value_of c.args.live.now.network.library) (set_of c.args.worldview.now)
+    c.pick-place.result c.loop-steps.live.network.cells c.turn.new.live.network.cells c.loop-steps.live.agenda.line
+    c.turn.new.live.agenda.line = turn_on (stored_of g.R.Rule.value_of) (set_of c.args.worldview.now)
+    c.pick-place.result
+    c.loop-steps.live.network.cells c.turn.new.live.network.cells c.loop-steps.live.agenda.line
+    c.turn.new.live.agenda.line
+    c.args.live.now.network.library c.loop-steps.live.network.library c.loop-steps.invariant.same
+    c.in_ok-clash.ensures.turn
     in
-    more c.loop-steps.steps c.pick-place.result c.loop-steps.network.cells _ c.loop-steps.agenda.line _
+    more c.loop-steps.steps c.pick-place.result c.loop-steps.live.network.cells _ c.loop-steps.live.agenda.line _
     c.loop-steps.order _ c.loop-steps.invariant.turns
     (rw c.loop-steps.invariant.waiting at c.pick-place.ensures.picks) turn
 
@@ -236,8 +241,8 @@ returns-in-Some-clash-clause-clash g c =
 
 pub returns-in-Some-clash-clause-conflict : goal.returns-in-Some-clash-clause-conflict
 returns-in-Some-clash-clause-conflict g c =
-    clash_conflicts (stored_of g.R.Rule.value_of c.turn.new.network.library) c.turn.new.network.cells
-    (set_of c.args.worldview.now) _ c.turn.ensures.under_way.kept
+    clash_conflicts (stored_of g.R.Rule.value_of c.turn.new.live.network.library) c.turn.new.live.network.cells
+    (set_of c.args.worldview.now) _ c.turn.ensures.alive.under_way.kept
     (record {
       cell = c.in-Some-clash.cell;
       clash = rw c.in-Some-clash.is at c.in_ok-clash.ensures.seen;
@@ -263,16 +268,19 @@ returns-in-Some-clash-clause-steps g c =
 pub returns-in-Some-clash-clause-at_rest : goal.returns-in-Some-clash-clause-at_rest
 returns-in-Some-clash-clause-at_rest g c =
     λ empty free.
-    let turn : Turn (stored_of g.R.Rule.value_of c.args.network.now.library) (set_of c.args.worldview.now)
-    c.pick-place.result c.loop-steps.network.cells c.turn.new.network.cells c.loop-steps.agenda.line
-    c.turn.new.agenda.line = turn_on (stored_of g.R.Rule.value_of) (set_of c.args.worldview.now) c.pick-place.result
-    c.loop-steps.network.cells c.turn.new.network.cells c.loop-steps.agenda.line c.turn.new.agenda.line
-    c.args.network.now.library c.loop-steps.network.library c.loop-steps.invariant.same c.in_ok-clash.ensures.turn
+    let turn : Turn (stored_of g.R.Rule.value_of c.args.live.now.network.library) (set_of c.args.worldview.now)
+    c.pick-place.result c.loop-steps.live.network.cells c.turn.new.live.network.cells c.loop-steps.live.agenda.line
+    c.turn.new.live.agenda.line = turn_on (stored_of g.R.Rule.value_of) (set_of c.args.worldview.now)
+    c.pick-place.result
+    c.loop-steps.live.network.cells c.turn.new.live.network.cells c.loop-steps.live.agenda.line
+    c.turn.new.live.agenda.line
+    c.args.live.now.network.library c.loop-steps.live.network.library c.loop-steps.invariant.same
+    c.in_ok-clash.ensures.turn
     in
-    let idle = no_turns g.O.Order.picks (stored_of g.R.Rule.value_of c.args.network.now.library)
-    (set_of c.args.worldview.now) c.args.network.now.cells c.args.agenda.now.line c.args.order.now
-    (c.loop-steps.steps + 1) c.turn.new.network.cells c.turn.new.agenda.line c.pick-place.new.self
-    (more c.loop-steps.steps c.pick-place.result c.loop-steps.network.cells _ c.loop-steps.agenda.line _
+    let idle = no_turns g.O.Order.picks (stored_of g.R.Rule.value_of c.args.live.now.network.library)
+    (set_of c.args.worldview.now) c.args.live.now.network.cells c.args.live.now.agenda.line c.args.order.now
+    (c.loop-steps.steps + 1) c.turn.new.live.network.cells c.turn.new.live.agenda.line c.pick-place.new.self
+    (more c.loop-steps.steps c.pick-place.result c.loop-steps.live.network.cells _ c.loop-steps.live.agenda.line _
     c.loop-steps.order _ c.loop-steps.invariant.turns
     (rw c.loop-steps.invariant.waiting at c.pick-place.ensures.picks) turn) (ap length empty) in
     absurd (omega (arith, idle.0))
@@ -285,45 +293,51 @@ pub returns-in-Some-clash-clause-earned : goal.returns-in-Some-clash-clause-earn
 returns-in-Some-clash-clause-earned g c =
     λ e. cc e
 
-pub returns-in_err-why-in-Some-clash-clause-same : goal.returns-in_err-why-in-Some-clash-clause-same
-returns-in_err-why-in-Some-clash-clause-same g c =
-    c.turn.ensures.same ∙ c.loop-steps.invariant.same
+pub returns-in_err-why-in-Some-clash-clause-ran : goal.returns-in_err-why-in-Some-clash-clause-ran
+returns-in_err-why-in-Some-clash-clause-ran g c =
+    record {
+      library = c.turn.ensures.same ∙ c.loop-steps.invariant.same;
+      rest = (let turn : Turn (stored_of g.R.Rule.value_of c.args.live.now.network.library) (set_of
+          c.args.worldview.now)
+          c.pick-place.result c.loop-steps.live.network.cells c.turn.new.live.network.cells
+          c.loop-steps.live.agenda.line
+          c.turn.new.live.agenda.line = turn_on (stored_of g.R.Rule.value_of) (set_of c.args.worldview.now)
+          c.pick-place.result
+          c.loop-steps.live.network.cells c.turn.new.live.network.cells c.loop-steps.live.agenda.line
+          c.turn.new.live.agenda.line
+          c.args.live.now.network.library c.loop-steps.live.network.library c.loop-steps.invariant.same
+          c.in_ok-clash.ensures.turn
+          in
+          turn_rest (stored_of g.R.Rule.value_of c.args.live.now.network.library) (set_of c.args.worldview.now)
+          c.pick-place.result
+          c.args.live.now.network.cells c.loop-steps.live.network.cells c.turn.new.live.network.cells
+          c.loop-steps.live.agenda.line
+          c.turn.new.live.agenda.line turn c.loop-steps.invariant.rest);
+    }
 
-pub returns-in_err-why-in-Some-clash-clause-rest : goal.returns-in_err-why-in-Some-clash-clause-rest
-returns-in_err-why-in-Some-clash-clause-rest g c =
-    let turn : Turn (stored_of g.R.Rule.value_of c.args.network.now.library) (set_of c.args.worldview.now)
-    c.pick-place.result c.loop-steps.network.cells c.turn.new.network.cells c.loop-steps.agenda.line
-    c.turn.new.agenda.line = turn_on (stored_of g.R.Rule.value_of) (set_of c.args.worldview.now) c.pick-place.result
-    c.loop-steps.network.cells c.turn.new.network.cells c.loop-steps.agenda.line c.turn.new.agenda.line
-    c.args.network.now.library c.loop-steps.network.library c.loop-steps.invariant.same c.in_ok-clash.ensures.turn
-    in
-    turn_rest (stored_of g.R.Rule.value_of c.args.network.now.library) (set_of c.args.worldview.now) c.pick-place.result
-    c.args.network.now.cells c.loop-steps.network.cells c.turn.new.network.cells c.loop-steps.agenda.line
-    c.turn.new.agenda.line turn c.loop-steps.invariant.rest
-
-pub returns-in_err-why-in-Some-clash-clause-under_way : goal.returns-in_err-why-in-Some-clash-clause-under_way
-returns-in_err-why-in-Some-clash-clause-under_way g c =
-    c.turn.ensures.under_way
-
-pub returns-in_err-why-in-Some-clash-clause-room : goal.returns-in_err-why-in-Some-clash-clause-room
-returns-in_err-why-in-Some-clash-clause-room g c =
-    c.turn.ensures.room ∙ c.loop-steps.invariant.room
+pub returns-in_err-why-in-Some-clash-clause-alive : goal.returns-in_err-why-in-Some-clash-clause-alive
+returns-in_err-why-in-Some-clash-clause-alive g c =
+    record { under_way = c.turn.ensures.alive.under_way; watched = c.turn.ensures.alive.watched }
 
 pub returns-in_err-why-in-Some-clash-clause-err : goal.returns-in_err-why-in-Some-clash-clause-err
 returns-in_err-why-in-Some-clash-clause-err g c =
-    let turn : Turn (stored_of g.R.Rule.value_of c.args.network.now.library) (set_of c.args.worldview.now)
-    c.pick-place.result c.loop-steps.network.cells c.turn.new.network.cells c.loop-steps.agenda.line
-    c.turn.new.agenda.line = turn_on (stored_of g.R.Rule.value_of) (set_of c.args.worldview.now) c.pick-place.result
-    c.loop-steps.network.cells c.turn.new.network.cells c.loop-steps.agenda.line c.turn.new.agenda.line
-    c.args.network.now.library c.loop-steps.network.library c.loop-steps.invariant.same c.in_ok-clash.ensures.turn
+    let turn : Turn (stored_of g.R.Rule.value_of c.args.live.now.network.library) (set_of c.args.worldview.now)
+    c.pick-place.result c.loop-steps.live.network.cells c.turn.new.live.network.cells c.loop-steps.live.agenda.line
+    c.turn.new.live.agenda.line = turn_on (stored_of g.R.Rule.value_of) (set_of c.args.worldview.now)
+    c.pick-place.result
+    c.loop-steps.live.network.cells c.turn.new.live.network.cells c.loop-steps.live.agenda.line
+    c.turn.new.live.agenda.line
+    c.args.live.now.network.library c.loop-steps.live.network.library c.loop-steps.invariant.same
+    c.in_ok-clash.ensures.turn
     in
-    let stopped : Interrupted g.O.Order.picks (stored_of g.R.Rule.value_of c.args.network.now.library)
-    (set_of c.args.worldview.now) c.args.network.now.cells c.args.agenda.now.line c.args.order.now
-    c.turn.new.network.cells c.turn.new.agenda.line c.pick-place.new.self =
+    let stopped : Interrupted g.O.Order.picks (stored_of g.R.Rule.value_of c.args.live.now.network.library)
+    (set_of c.args.worldview.now) c.args.live.now.network.cells c.args.live.now.agenda.line c.args.order.now
+    c.turn.new.live.network.cells c.turn.new.live.agenda.line c.pick-place.new.self =
     record {
       steps = c.loop-steps.steps + 1;
       last = c.pick-place.new.self;
-      turns = more c.loop-steps.steps c.pick-place.result c.loop-steps.network.cells _ c.loop-steps.agenda.line _
+      turns = more c.loop-steps.steps c.pick-place.result c.loop-steps.live.network.cells _
+          c.loop-steps.live.agenda.line _
           c.loop-steps.order _ c.loop-steps.invariant.turns
           (rw c.loop-steps.invariant.waiting at c.pick-place.ensures.picks) turn;
       picked = inl refl;
@@ -332,52 +346,49 @@ returns-in_err-why-in-Some-clash-clause-err g c =
 
 pub loop-steps-preserved : goal.loop-steps-preserved
 loop-steps-preserved g c =
-    let turn : Turn (stored_of g.R.Rule.value_of c.args.network.now.library) (set_of c.args.worldview.now)
-    c.pick-place.result c.loop-steps.network.cells c.turn.new.network.cells c.loop-steps.agenda.line
-    c.turn.new.agenda.line = turn_on (stored_of g.R.Rule.value_of) (set_of c.args.worldview.now) c.pick-place.result
-    c.loop-steps.network.cells c.turn.new.network.cells c.loop-steps.agenda.line c.turn.new.agenda.line
-    c.args.network.now.library c.loop-steps.network.library c.loop-steps.invariant.same c.in_ok-clash.ensures.turn
+    let turn : Turn (stored_of g.R.Rule.value_of c.args.live.now.network.library) (set_of c.args.worldview.now)
+    c.pick-place.result c.loop-steps.live.network.cells c.turn.new.live.network.cells c.loop-steps.live.agenda.line
+    c.turn.new.live.agenda.line = turn_on (stored_of g.R.Rule.value_of) (set_of c.args.worldview.now)
+    c.pick-place.result
+    c.loop-steps.live.network.cells c.turn.new.live.network.cells c.loop-steps.live.agenda.line
+    c.turn.new.live.agenda.line
+    c.args.live.now.network.library c.loop-steps.live.network.library c.loop-steps.invariant.same
+    c.in_ok-clash.ensures.turn
     in
-    let library = stored_of g.R.Rule.value_of c.args.network.now.library in
+    let library = stored_of g.R.Rule.value_of c.args.live.now.network.library in
     record {
       same = c.turn.ensures.same ∙ c.loop-steps.invariant.same;
-      rest = turn_rest library (set_of c.args.worldview.now) c.pick-place.result c.args.network.now.cells
-          c.loop-steps.network.cells c.turn.new.network.cells c.loop-steps.agenda.line c.turn.new.agenda.line turn
+      rest = turn_rest library (set_of c.args.worldview.now) c.pick-place.result c.args.live.now.network.cells
+          c.loop-steps.live.network.cells c.turn.new.live.network.cells c.loop-steps.live.agenda.line
+          c.turn.new.live.agenda.line turn
           c.loop-steps.invariant.rest;
-      under_way = c.turn.ensures.under_way;
-      room = c.turn.ensures.room ∙ c.loop-steps.invariant.room;
-      cells = c.turn.ensures.cells ∙ c.loop-steps.invariant.cells;
-      watched = c.turn.ensures.watched;
+      alive = record { under_way = c.turn.ensures.alive.under_way; watched = c.turn.ensures.alive.watched };
       free = c.in_ok-clash.ensures.free c.in-None-clash.is;
       waiting = c.waiting-waiting-in-loop-steps.ensures.waiting;
-      turns = more c.loop-steps.steps c.pick-place.result c.loop-steps.network.cells _ c.loop-steps.agenda.line _
+      turns = more c.loop-steps.steps c.pick-place.result c.loop-steps.live.network.cells _
+          c.loop-steps.live.agenda.line _
           c.loop-steps.order _ c.loop-steps.invariant.turns
           (rw c.loop-steps.invariant.waiting at c.pick-place.ensures.picks) turn;
       steps = omega arith;
       falls = omega (arith, c.in_ok-clash.ensures.falls, c.loop-steps.invariant.falls);
     }
 
-pub returns-in_err-clash-clause-same : goal.returns-in_err-clash-clause-same
-returns-in_err-clash-clause-same g c =
-    c.turn.ensures.same ∙ c.loop-steps.invariant.same
+pub returns-in_err-clash-clause-ran : goal.returns-in_err-clash-clause-ran
+returns-in_err-clash-clause-ran g c =
+    record {
+      library = c.turn.ensures.same ∙ c.loop-steps.invariant.same;
+      rest = (rw c.in_err-clash.ensures.err c.loop-steps.invariant.rest);
+    }
 
-pub returns-in_err-clash-clause-rest : goal.returns-in_err-clash-clause-rest
-returns-in_err-clash-clause-rest g c =
-    rw c.in_err-clash.ensures.err c.loop-steps.invariant.rest
-
-pub returns-in_err-clash-clause-under_way : goal.returns-in_err-clash-clause-under_way
-returns-in_err-clash-clause-under_way g c =
-    c.turn.ensures.under_way
-
-pub returns-in_err-clash-clause-room : goal.returns-in_err-clash-clause-room
-returns-in_err-clash-clause-room g c =
-    c.turn.ensures.room ∙ c.loop-steps.invariant.room
+pub returns-in_err-clash-clause-alive : goal.returns-in_err-clash-clause-alive
+returns-in_err-clash-clause-alive g c =
+    record { under_way = c.turn.ensures.alive.under_way; watched = c.turn.ensures.alive.watched }
 
 pub returns-in_err-clash-clause-err : goal.returns-in_err-clash-clause-err
 returns-in_err-clash-clause-err g c =
-    let stopped : Interrupted g.O.Order.picks (stored_of g.R.Rule.value_of c.args.network.now.library)
-    (set_of c.args.worldview.now) c.args.network.now.cells c.args.agenda.now.line c.args.order.now
-    c.turn.new.network.cells c.turn.new.agenda.line c.pick-place.new.self =
+    let stopped : Interrupted g.O.Order.picks (stored_of g.R.Rule.value_of c.args.live.now.network.library)
+    (set_of c.args.worldview.now) c.args.live.now.network.cells c.args.live.now.agenda.line c.args.order.now
+    c.turn.new.live.network.cells c.turn.new.live.agenda.line c.pick-place.new.self =
     record {
       steps = c.loop-steps.steps;
       last = c.loop-steps.order;
@@ -391,21 +402,16 @@ returns-in_err-clash-clause-err g c =
     } in
     on_err _ stopped
 
-pub returns-then-waiting-eq0-clause-same : goal.returns-then-waiting-eq0-clause-same
-returns-then-waiting-eq0-clause-same g c =
-    c.loop-steps.invariant.same
+pub returns-then-waiting-eq0-clause-ran : goal.returns-then-waiting-eq0-clause-ran
+returns-then-waiting-eq0-clause-ran g c =
+    record {
+      library = c.loop-steps.invariant.same;
+      rest = (c.loop-steps.invariant.rest);
+    }
 
-pub returns-then-waiting-eq0-clause-rest : goal.returns-then-waiting-eq0-clause-rest
-returns-then-waiting-eq0-clause-rest g c =
-    c.loop-steps.invariant.rest
-
-pub returns-then-waiting-eq0-clause-under_way : goal.returns-then-waiting-eq0-clause-under_way
-returns-then-waiting-eq0-clause-under_way g c =
-    c.loop-steps.invariant.under_way
-
-pub returns-then-waiting-eq0-clause-room : goal.returns-then-waiting-eq0-clause-room
-returns-then-waiting-eq0-clause-room g c =
-    c.loop-steps.invariant.room
+pub returns-then-waiting-eq0-clause-alive : goal.returns-then-waiting-eq0-clause-alive
+returns-then-waiting-eq0-clause-alive g c =
+    record { under_way = c.loop-steps.invariant.alive.under_way; watched = c.loop-steps.invariant.alive.watched }
 
 pub returns-then-waiting-eq0-clause-turns : goal.returns-then-waiting-eq0-clause-turns
 returns-then-waiting-eq0-clause-turns g c =
@@ -418,14 +424,18 @@ returns-then-waiting-eq0-clause-err g c =
 pub returns-then-waiting-eq0-clause-quiet : goal.returns-then-waiting-eq0-clause-quiet
 returns-then-waiting-eq0-clause-quiet g c =
     λ quiet.
-    settled (stored_of g.R.Rule.value_of c.loop-steps.network.library) (set_of c.args.worldview.now)
-    c.loop-steps.network.cells c.loop-steps.agenda.line c.loop-steps.invariant.under_way
-    (nil_from_length c.loop-steps.agenda.line (omega (arith, c.loop-steps.invariant.waiting, c.if-waiting-eq0.true)))
+    settled (stored_of g.R.Rule.value_of c.loop-steps.live.network.library) (set_of c.args.worldview.now)
+    c.loop-steps.live.network.cells c.loop-steps.live.agenda.line c.loop-steps.invariant.alive.under_way
+    (nil_from_length c.loop-steps.live.agenda.line (omega (
+      arith,
+      c.loop-steps.invariant.waiting,
+      c.if-waiting-eq0.true,
+    )))
     c.loop-steps.invariant.free
 
 pub returns-then-waiting-eq0-clause-rests : goal.returns-then-waiting-eq0-clause-rests
 returns-then-waiting-eq0-clause-rests g c =
-    λ quiet. nil_from_length c.loop-steps.agenda.line
+    λ quiet. nil_from_length c.loop-steps.live.agenda.line
     (omega (arith, c.loop-steps.invariant.waiting, c.if-waiting-eq0.true))
 
 pub returns-then-waiting-eq0-clause-clash : goal.returns-then-waiting-eq0-clause-clash
@@ -456,9 +466,9 @@ pub returns-then-waiting-eq0-clause-at_rest : goal.returns-then-waiting-eq0-clau
 returns-then-waiting-eq0-clause-at_rest g c =
     λ empty free. (
       refl,
-      (no_turns g.O.Order.picks (stored_of g.R.Rule.value_of c.args.network.now.library)
-          (set_of c.args.worldview.now) c.args.network.now.cells c.args.agenda.now.line c.args.order.now
-          c.loop-steps.steps c.loop-steps.network.cells c.loop-steps.agenda.line c.loop-steps.order
+      (no_turns g.O.Order.picks (stored_of g.R.Rule.value_of c.args.live.now.network.library)
+          (set_of c.args.worldview.now) c.args.live.now.network.cells c.args.live.now.agenda.line c.args.order.now
+          c.loop-steps.steps c.loop-steps.live.network.cells c.loop-steps.live.agenda.line c.loop-steps.order
           c.loop-steps.invariant.turns (ap length empty)).0,
     )
 
@@ -470,21 +480,16 @@ pub returns-then-waiting-eq0-clause-earned : goal.returns-then-waiting-eq0-claus
 returns-then-waiting-eq0-clause-earned g c =
     λ e. cc e
 
-pub returns-clause-same : goal.returns-clause-same
-returns-clause-same g c =
-    c.loop-steps.invariant.same
+pub returns-clause-ran : goal.returns-clause-ran
+returns-clause-ran g c =
+    record {
+      library = c.loop-steps.invariant.same;
+      rest = (c.loop-steps.invariant.rest);
+    }
 
-pub returns-clause-rest : goal.returns-clause-rest
-returns-clause-rest g c =
-    c.loop-steps.invariant.rest
-
-pub returns-clause-under_way : goal.returns-clause-under_way
-returns-clause-under_way g c =
-    c.loop-steps.invariant.under_way
-
-pub returns-clause-room : goal.returns-clause-room
-returns-clause-room g c =
-    c.loop-steps.invariant.room
+pub returns-clause-alive : goal.returns-clause-alive
+returns-clause-alive g c =
+    record { under_way = c.loop-steps.invariant.alive.under_way; watched = c.loop-steps.invariant.alive.watched }
 
 pub returns-clause-turns : goal.returns-clause-turns
 returns-clause-turns g c =
@@ -521,9 +526,9 @@ returns-clause-steps g c =
 pub returns-clause-at_rest : goal.returns-clause-at_rest
 returns-clause-at_rest g c =
     λ empty free.
-    let idle = no_turns g.O.Order.picks (stored_of g.R.Rule.value_of c.args.network.now.library)
-    (set_of c.args.worldview.now) c.args.network.now.cells c.args.agenda.now.line c.args.order.now
-    c.loop-steps.steps c.loop-steps.network.cells c.loop-steps.agenda.line c.loop-steps.order
+    let idle = no_turns g.O.Order.picks (stored_of g.R.Rule.value_of c.args.live.now.network.library)
+    (set_of c.args.worldview.now) c.args.live.now.network.cells c.args.live.now.agenda.line c.args.order.now
+    c.loop-steps.steps c.loop-steps.live.network.cells c.loop-steps.live.agenda.line c.loop-steps.order
     c.loop-steps.invariant.turns (ap length empty) in
     absurd (omega (arith, idle.1, c.loop-steps.invariant.waiting, c.if-waiting-eq0.false))
 
@@ -534,69 +539,81 @@ returns-clause-falls g c =
 pub returns-clause-earned : goal.returns-clause-earned
 returns-clause-earned g c =
     λ spent.
-    let library = stored_of g.R.Rule.value_of c.args.network.now.library in
-    let most = under_way_within library (set_of c.args.worldview.now) c.args.network.now.cells c.args.agenda.now
-    c.waiting-waiting.ensures.line c.requires.under_way in
-    let same = most_same library (stored_of g.R.Rule.value_of c.loop-steps.network.library) c.args.network.now.cells
-    c.loop-steps.network.cells (ap (stored_of g.R.Rule.value_of) c.loop-steps.invariant.same)
+    let library = stored_of g.R.Rule.value_of c.args.live.now.network.library in
+    let most = under_way_within library (set_of c.args.worldview.now) c.args.live.now.network.cells
+    c.args.live.now.agenda
+    c.waiting-waiting.ensures.line c.requires.alive.under_way in
+    let same = most_same library (stored_of g.R.Rule.value_of c.loop-steps.live.network.library)
+    c.args.live.now.network.cells
+    c.loop-steps.live.network.cells (ap (stored_of g.R.Rule.value_of) c.loop-steps.invariant.same)
     c.loop-steps.invariant.rest in
     omega (arith, most, c.loop-steps.invariant.falls, c.loop-steps.invariant.waiting, same)
 
 pub returns-clause-bounded : goal.returns-clause-bounded
 returns-clause-bounded g c =
-    let library = stored_of g.R.Rule.value_of c.args.network.now.library in
-    let most = under_way_within library (set_of c.args.worldview.now) c.args.network.now.cells c.args.agenda.now
-    c.waiting-waiting.ensures.line c.requires.under_way in
-    let same = most_same library (stored_of g.R.Rule.value_of c.loop-steps.network.library) c.args.network.now.cells
-    c.loop-steps.network.cells (ap (stored_of g.R.Rule.value_of) c.loop-steps.invariant.same)
+    let library = stored_of g.R.Rule.value_of c.args.live.now.network.library in
+    let most = under_way_within library (set_of c.args.worldview.now) c.args.live.now.network.cells
+    c.args.live.now.agenda
+    c.waiting-waiting.ensures.line c.requires.alive.under_way in
+    let same = most_same library (stored_of g.R.Rule.value_of c.loop-steps.live.network.library)
+    c.args.live.now.network.cells
+    c.loop-steps.live.network.cells (ap (stored_of g.R.Rule.value_of) c.loop-steps.invariant.same)
     c.loop-steps.invariant.rest in
     omega (arith, most, c.loop-steps.invariant.falls, same)
 
 pub returns-then-waiting-eq0-clause-bounded : goal.returns-then-waiting-eq0-clause-bounded
 returns-then-waiting-eq0-clause-bounded g c =
-    let library = stored_of g.R.Rule.value_of c.args.network.now.library in
-    let most = under_way_within library (set_of c.args.worldview.now) c.args.network.now.cells c.args.agenda.now
-    c.waiting-waiting.ensures.line c.requires.under_way in
-    let same = most_same library (stored_of g.R.Rule.value_of c.loop-steps.network.library) c.args.network.now.cells
-    c.loop-steps.network.cells (ap (stored_of g.R.Rule.value_of) c.loop-steps.invariant.same)
+    let library = stored_of g.R.Rule.value_of c.args.live.now.network.library in
+    let most = under_way_within library (set_of c.args.worldview.now) c.args.live.now.network.cells
+    c.args.live.now.agenda
+    c.waiting-waiting.ensures.line c.requires.alive.under_way in
+    let same = most_same library (stored_of g.R.Rule.value_of c.loop-steps.live.network.library)
+    c.args.live.now.network.cells
+    c.loop-steps.live.network.cells (ap (stored_of g.R.Rule.value_of) c.loop-steps.invariant.same)
     c.loop-steps.invariant.rest in
     omega (arith, most, c.loop-steps.invariant.falls, same)
 
 pub returns-in-Some-clash-clause-bounded : goal.returns-in-Some-clash-clause-bounded
 returns-in-Some-clash-clause-bounded g c =
-    let library = stored_of g.R.Rule.value_of c.args.network.now.library in
-    let most = under_way_within library (set_of c.args.worldview.now) c.args.network.now.cells c.args.agenda.now
-    c.waiting-waiting.ensures.line c.requires.under_way in
-    let turn : Turn library (set_of c.args.worldview.now) c.pick-place.result c.loop-steps.network.cells
-    c.turn.new.network.cells c.loop-steps.agenda.line c.turn.new.agenda.line =
+    let library = stored_of g.R.Rule.value_of c.args.live.now.network.library in
+    let most = under_way_within library (set_of c.args.worldview.now) c.args.live.now.network.cells
+    c.args.live.now.agenda
+    c.waiting-waiting.ensures.line c.requires.alive.under_way in
+    let turn : Turn library (set_of c.args.worldview.now) c.pick-place.result c.loop-steps.live.network.cells
+    c.turn.new.live.network.cells c.loop-steps.live.agenda.line c.turn.new.live.agenda.line =
     turn_on (stored_of g.R.Rule.value_of) (set_of c.args.worldview.now) c.pick-place.result
-    c.loop-steps.network.cells c.turn.new.network.cells c.loop-steps.agenda.line c.turn.new.agenda.line
-    c.args.network.now.library c.loop-steps.network.library c.loop-steps.invariant.same c.in_ok-clash.ensures.turn
+    c.loop-steps.live.network.cells c.turn.new.live.network.cells c.loop-steps.live.agenda.line
+    c.turn.new.live.agenda.line
+    c.args.live.now.network.library c.loop-steps.live.network.library c.loop-steps.invariant.same
+    c.in_ok-clash.ensures.turn
     in
-    let rest = turn_rest library (set_of c.args.worldview.now) c.pick-place.result c.args.network.now.cells
-    c.loop-steps.network.cells c.turn.new.network.cells c.loop-steps.agenda.line c.turn.new.agenda.line turn
+    let rest = turn_rest library (set_of c.args.worldview.now) c.pick-place.result c.args.live.now.network.cells
+    c.loop-steps.live.network.cells c.turn.new.live.network.cells c.loop-steps.live.agenda.line
+    c.turn.new.live.agenda.line turn
     c.loop-steps.invariant.rest in
-    let same = most_same library (stored_of g.R.Rule.value_of c.turn.new.network.library) c.args.network.now.cells
-    c.turn.new.network.cells (ap (stored_of g.R.Rule.value_of) (c.turn.ensures.same ∙ c.loop-steps.invariant.same))
+    let same = most_same library (stored_of g.R.Rule.value_of c.turn.new.live.network.library)
+    c.args.live.now.network.cells
+    c.turn.new.live.network.cells (ap (stored_of g.R.Rule.value_of) (c.turn.ensures.same ∙
+    c.loop-steps.invariant.same))
     rest in
     omega (arith, most, c.in_ok-clash.ensures.falls, c.loop-steps.invariant.falls, same)
 
 pub returns-in-Some-clause-most : goal.returns-in-Some-clause-most
 returns-in-Some-clause-most g c =
-    under_way_within (stored_of g.R.Rule.value_of c.args.network.now.library) (set_of c.args.worldview.now)
-    c.args.network.now.cells c.args.agenda.now c.waiting-waiting.ensures.line c.requires.under_way
+    under_way_within (stored_of g.R.Rule.value_of c.args.live.now.network.library) (set_of c.args.worldview.now)
+    c.args.live.now.network.cells c.args.live.now.agenda c.waiting-waiting.ensures.line c.requires.alive.under_way
 
 pub returns-in-Some-clash-clause-most : goal.returns-in-Some-clash-clause-most
 returns-in-Some-clash-clause-most g c =
-    under_way_within (stored_of g.R.Rule.value_of c.args.network.now.library) (set_of c.args.worldview.now)
-    c.args.network.now.cells c.args.agenda.now c.waiting-waiting.ensures.line c.requires.under_way
+    under_way_within (stored_of g.R.Rule.value_of c.args.live.now.network.library) (set_of c.args.worldview.now)
+    c.args.live.now.network.cells c.args.live.now.agenda c.waiting-waiting.ensures.line c.requires.alive.under_way
 
 pub returns-then-waiting-eq0-clause-most : goal.returns-then-waiting-eq0-clause-most
 returns-then-waiting-eq0-clause-most g c =
-    under_way_within (stored_of g.R.Rule.value_of c.args.network.now.library) (set_of c.args.worldview.now)
-    c.args.network.now.cells c.args.agenda.now c.waiting-waiting.ensures.line c.requires.under_way
+    under_way_within (stored_of g.R.Rule.value_of c.args.live.now.network.library) (set_of c.args.worldview.now)
+    c.args.live.now.network.cells c.args.live.now.agenda c.waiting-waiting.ensures.line c.requires.alive.under_way
 
 pub returns-clause-most : goal.returns-clause-most
 returns-clause-most g c =
-    under_way_within (stored_of g.R.Rule.value_of c.args.network.now.library) (set_of c.args.worldview.now)
-    c.args.network.now.cells c.args.agenda.now c.waiting-waiting.ensures.line c.requires.under_way
+    under_way_within (stored_of g.R.Rule.value_of c.args.live.now.network.library) (set_of c.args.worldview.now)
+    c.args.live.now.network.cells c.args.live.now.agenda c.waiting-waiting.ensures.line c.requires.alive.under_way

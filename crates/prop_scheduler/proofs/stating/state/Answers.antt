@@ -16,102 +16,107 @@ pub alert_all-requires : goal.alert_all-requires
 alert_all-requires g c =
     let new = c.state_under.new.self.cells in
     let same = ap (λ d. length d.instances) c.in_ok-state_under.ensures.ok.rest in
-    rw c.readers.ensures (All-weaker (λ j. j < length new.instances) (λ j. j < c.args.agenda.now.room)
-    (λ j h. let r = c.requires.room in omega (arith, h, same, r)) (readers_of new.instances c.args.cell)
+    rw c.readers.ensures (All-weaker (λ j. j < length new.instances) (λ j. j < c.args.live.now.agenda.room)
+    (λ j h. let r = c.args.live.now.room in omega (arith, h, same, r)) (readers_of new.instances c.args.cell)
     (readers_are new.instances c.args.cell).below)
 
-pub returns-then-is_contradiction-clause-under_way : goal.returns-then-is_contradiction-clause-under_way
-returns-then-is_contradiction-clause-under_way g c =
-    let library = stored_of g.R.Rule.value_of c.args.network.now.library in
-    let new = c.state_under.new.self.cells in
-    let kept : IsKept library new = rw c.state_under.ensures.same at c.state_under.ensures.kept in
-    rw (c.watch.ensures.line, c.state_under.ensures.same)
-    (under_way_grown library (set_of c.args.worldview.now) c.args.network.now.cells new c.args.agenda.now.line
-    c.alert_all.new.self.line c.readers.result.now _ c.requires.under_way kept c.in_ok-state_under.ensures.ok
-    c.alert_all.ensures.alerted c.readers.ensures)
+pub returns-then-is_contradiction-clause-alive : goal.returns-then-is_contradiction-clause-alive
+returns-then-is_contradiction-clause-alive g c =
+    record {
+      under_way = (let library = stored_of g.R.Rule.value_of c.args.live.now.network.library in
+          let new = c.state_under.new.self.cells in
+          let kept : IsKept library new = rw c.state_under.ensures.same at c.state_under.ensures.kept in
+          rw (c.watch.ensures.line, c.state_under.ensures.same)
+          (under_way_grown library (set_of c.args.worldview.now) c.args.live.now.network.cells new
+          c.args.live.now.agenda.line
+          c.alert_all.new.self.line c.readers.result.now _ c.requires.alive.under_way kept
+          c.in_ok-state_under.ensures.ok
+          c.alert_all.ensures.alerted c.readers.ensures));
+      watched = (let s = set_of c.args.worldview.now in
+          let old = c.args.live.now.network.cells in
+          let new = c.state_under.new.self.cells in
+          let merge = states_merge s old new _ c.in_ok-state_under.ensures.ok in
+          watched_at s old new c.args.live.now.agenda.watched c.watch.new.self.watched c.args.cell
+          (ap (λ d. length d.kinds) c.in_ok-state_under.ensures.ok.rest) c.requires.cell merge.1.others
+          (rw c.alert_all.ensures.watched at c.watch.ensures.watched) c.requires.alive.watched);
+    }
 
-pub returns-else-is_contradiction-clause-under_way : goal.returns-else-is_contradiction-clause-under_way
-returns-else-is_contradiction-clause-under_way g c =
-    let library = stored_of g.R.Rule.value_of c.args.network.now.library in
-    let new = c.state_under.new.self.cells in
-    let kept : IsKept library new = rw c.state_under.ensures.same at c.state_under.ensures.kept in
-    rw c.state_under.ensures.same (under_way_grown library (set_of c.args.worldview.now) c.args.network.now.cells new
-    c.args.agenda.now.line c.alert_all.new.self.line c.readers.result.now _ c.requires.under_way kept
-    c.in_ok-state_under.ensures.ok c.alert_all.ensures.alerted c.readers.ensures)
+pub returns-else-is_contradiction-clause-alive : goal.returns-else-is_contradiction-clause-alive
+returns-else-is_contradiction-clause-alive g c =
+    record {
+      under_way = (let library = stored_of g.R.Rule.value_of c.args.live.now.network.library in
+          let new = c.state_under.new.self.cells in
+          let kept : IsKept library new = rw c.state_under.ensures.same at c.state_under.ensures.kept in
+          rw c.state_under.ensures.same (under_way_grown library (set_of c.args.worldview.now)
+          c.args.live.now.network.cells new
+          c.args.live.now.agenda.line c.alert_all.new.self.line c.readers.result.now _ c.requires.alive.under_way kept
+          c.in_ok-state_under.ensures.ok c.alert_all.ensures.alerted c.readers.ensures));
+      watched = (let s = set_of c.args.worldview.now in
+          let old = c.args.live.now.network.cells in
+          let new = c.state_under.new.self.cells in
+          let states = c.in_ok-state_under.ensures.ok in
+          let both : c.merge.result ≡ merge_of (beliefs s old.contents c.args.cell) c.args.info =
+          rw c.belief-before.ensures at c.merge.ensures in
+          let clear = states_clear s old new _ states
+          (λ clash. cc (c.is_contradiction.ensures.1 (both ∙ clash), c.if-is_contradiction.false)) in
+          rw c.alert_all.ensures.watched (watched_clear s old new c.args.live.now.agenda.watched c.args.cell
+          (ap (λ d. length d.kinds) states.rest) (states_merge s old new _ states).1.others clear
+          c.requires.alive.watched));
+    }
 
-pub returns-else-says_more-clause-under_way : goal.returns-else-says_more-clause-under_way
-returns-else-says_more-clause-under_way g c =
-    let library = stored_of g.R.Rule.value_of c.args.network.now.library in
-    let s = set_of c.args.worldview.now in
-    let old = c.args.network.now.cells in
-    let new = c.state_under.new.self.cells in
-    let kept : IsKept library new = rw c.state_under.ensures.same at c.state_under.ensures.kept in
-    let same = states_same s old new _ c.in_ok-state_under.ensures.ok
-    (rw c.belief-before.ensures at (c.says_more.ensures.less c.if-says_more.false)) in
-    rw c.state_under.ensures.same (under_way_same library s old new c.args.agenda.now.line _ c.requires.under_way kept
-    c.in_ok-state_under.ensures.ok same)
-
-pub returns-then-is_contradiction-clause-watched : goal.returns-then-is_contradiction-clause-watched
-returns-then-is_contradiction-clause-watched g c =
-    let s = set_of c.args.worldview.now in
-    let old = c.args.network.now.cells in
-    let new = c.state_under.new.self.cells in
-    let merge = states_merge s old new _ c.in_ok-state_under.ensures.ok in
-    watched_at s old new c.args.agenda.now.watched c.watch.new.self.watched c.args.cell
-    (ap (λ d. length d.kinds) c.in_ok-state_under.ensures.ok.rest) c.requires.cell merge.1.others
-    (rw c.alert_all.ensures.watched at c.watch.ensures.watched) c.requires.watched
-
-pub returns-else-is_contradiction-clause-watched : goal.returns-else-is_contradiction-clause-watched
-returns-else-is_contradiction-clause-watched g c =
-    let s = set_of c.args.worldview.now in
-    let old = c.args.network.now.cells in
-    let new = c.state_under.new.self.cells in
-    let states = c.in_ok-state_under.ensures.ok in
-    let both : c.merge.result ≡ merge_of (beliefs s old.contents c.args.cell) c.args.info =
-    rw c.belief-before.ensures at c.merge.ensures in
-    let clear = states_clear s old new _ states
-    (λ clash. cc (c.is_contradiction.ensures.1 (both ∙ clash), c.if-is_contradiction.false)) in
-    rw c.alert_all.ensures.watched (watched_clear s old new c.args.agenda.now.watched c.args.cell
-    (ap (λ d. length d.kinds) states.rest) (states_merge s old new _ states).1.others clear c.requires.watched)
-
-pub returns-else-says_more-clause-watched : goal.returns-else-says_more-clause-watched
-returns-else-says_more-clause-watched g c =
-    let s = set_of c.args.worldview.now in
-    let old = c.args.network.now.cells in
-    let new = c.state_under.new.self.cells in
-    let kinds = ap (λ d. length d.kinds) c.in_ok-state_under.ensures.ok.rest in
-    let merge = states_merge s old new _ c.in_ok-state_under.ensures.ok in
-    let here = states_same s old new _ c.in_ok-state_under.ensures.ok
-    (rw c.belief-before.ensures at (c.says_more.ensures.less c.if-says_more.false)) in
-    watched_same s old new c.args.agenda.now.watched (omega (arith, kinds))
-    (same_but s old new c.args.cell here merge.1.others) c.requires.watched
+pub returns-else-says_more-clause-alive : goal.returns-else-says_more-clause-alive
+returns-else-says_more-clause-alive g c =
+    record {
+      under_way = (let library = stored_of g.R.Rule.value_of c.args.live.now.network.library in
+          let s = set_of c.args.worldview.now in
+          let old = c.args.live.now.network.cells in
+          let new = c.state_under.new.self.cells in
+          let kept : IsKept library new = rw c.state_under.ensures.same at c.state_under.ensures.kept in
+          let same = states_same s old new _ c.in_ok-state_under.ensures.ok
+          (rw c.belief-before.ensures at (c.says_more.ensures.less c.if-says_more.false)) in
+          rw c.state_under.ensures.same (under_way_same library s old new c.args.live.now.agenda.line _
+          c.requires.alive.under_way kept
+          c.in_ok-state_under.ensures.ok same));
+      watched = (let s = set_of c.args.worldview.now in
+          let old = c.args.live.now.network.cells in
+          let new = c.state_under.new.self.cells in
+          let kinds = ap (λ d. length d.kinds) c.in_ok-state_under.ensures.ok.rest in
+          let merge = states_merge s old new _ c.in_ok-state_under.ensures.ok in
+          let here = states_same s old new _ c.in_ok-state_under.ensures.ok
+          (rw c.belief-before.ensures at (c.says_more.ensures.less c.if-says_more.false)) in
+          watched_same s old new c.args.live.now.agenda.watched (omega (arith, kinds))
+          (same_but s old new c.args.cell here merge.1.others) c.requires.alive.watched);
+    }
 
 pub returns-then-is_contradiction-clause-stirred : goal.returns-then-is_contradiction-clause-stirred
 returns-then-is_contradiction-clause-stirred g c =
     let s = set_of c.args.worldview.now in
-    let old = c.args.network.now.cells in
+    let old = c.args.live.now.network.cells in
     let new = c.state_under.new.self.cells in
-    let line : c.alert_all.new.self.line ≡ all_alerted c.args.agenda.now.line (readers_of new.instances c.args.cell) =
+    let line : c.alert_all.new.self.line ≡ all_alerted c.args.live.now.agenda.line (readers_of new.instances
+    c.args.cell) =
     rw c.readers.ensures at c.alert_all.ensures.line in
     let said = c.says_more.ensures.more c.if-says_more.true in
     let more = states_more s old new (record { premise = c.args.premise; cell = c.args.cell; info = c.args.info })
     c.in_ok-state_under.ensures.ok said.0 (rw c.belief-before.ensures at said.1) in
-    touched_stirred s s old new c.args.agenda.now.line c.watch.new.self.line
-    (readers_behind s s old new c.args.cell c.args.agenda.now.line c.watch.new.self.line more
+    touched_stirred s s old new c.args.live.now.agenda.line c.watch.new.self.line
+    (readers_behind s s old new c.args.cell c.args.live.now.agenda.line c.watch.new.self.line more
     (c.watch.ensures.line ∙ line))
 
 pub returns-else-is_contradiction-clause-stirred : goal.returns-else-is_contradiction-clause-stirred
 returns-else-is_contradiction-clause-stirred g c =
     let s = set_of c.args.worldview.now in
-    let old = c.args.network.now.cells in
+    let old = c.args.live.now.network.cells in
     let new = c.state_under.new.self.cells in
-    let line : c.alert_all.new.self.line ≡ all_alerted c.args.agenda.now.line (readers_of new.instances c.args.cell) =
+    let line : c.alert_all.new.self.line ≡ all_alerted c.args.live.now.agenda.line (readers_of new.instances
+    c.args.cell) =
     rw c.readers.ensures at c.alert_all.ensures.line in
     let said = c.says_more.ensures.more c.if-says_more.true in
     let more = states_more s old new (record { premise = c.args.premise; cell = c.args.cell; info = c.args.info })
     c.in_ok-state_under.ensures.ok said.0 (rw c.belief-before.ensures at said.1) in
-    touched_stirred s s old new c.args.agenda.now.line c.alert_all.new.self.line
-    (readers_behind s s old new c.args.cell c.args.agenda.now.line c.alert_all.new.self.line more line)
+    touched_stirred s s old new c.args.live.now.agenda.line c.alert_all.new.self.line
+    (readers_behind s s old new c.args.cell c.args.live.now.agenda.line c.alert_all.new.self.line more line)
 
 pub returns-else-says_more-clause-stirred : goal.returns-else-says_more-clause-stirred
-returns-else-says_more-clause-stirred g c = behind_none _ c.args.agenda.now.line
+returns-else-says_more-clause-stirred g c =
+    behind_none _ c.args.live.now.agenda.line

@@ -18,27 +18,27 @@ pub loop-cell-init : goal.loop-cell-init
 loop-cell-init g c =
     let s = set_of c.args.before.now in
     let t = set_of c.args.after.now in
-    let d = c.args.network.now.cells in
+    let d = c.args.live.now.network.cells in
     record {
-      grown = grown_none s t d c.args.agenda.now.line;
-      falls = potential_at_first (stored_of g.R.Rule.value_of c.args.network.now.library) s t d
-          c.requires.under_way.kept.made c.requires.more c.args.agenda.now.line;
+      grown = grown_none s t d c.args.live.now.agenda.line;
+      falls = potential_at_first (stored_of g.R.Rule.value_of c.args.live.now.network.library) s t d
+          c.requires.alive.under_way.kept.made c.requires.more c.args.live.now.agenda.line;
       room = refl;
       cells = refl;
-      looked = looked_none s t d c.args.agenda.now.watched c.requires.watched.below;
+      looked = looked_none s t d c.args.live.now.agenda.watched c.requires.alive.watched.below;
     }
 
 pub alert_all-requires : goal.alert_all-requires
 alert_all-requires g c =
-    let xs = c.args.network.now.cells.instances in
-    let room = c.requires.room in
+    let xs = c.args.live.now.network.cells.instances in
+    let room = c.args.live.now.room in
     let same = c.loop-cell.invariant.room in
     rw c.readers.ensures (All-weaker (λ j. j < length xs) (λ j. j < c.loop-cell.agenda.room)
     (λ j h. omega (arith, h, room, same)) (readers_of xs c.loop-cell.cell) (readers_are xs c.loop-cell.cell).below)
 
 pub watch-requires : goal.watch-requires
 watch-requires g c =
-    let cells = c.requires.cells in
+    let cells = c.args.live.now.cells in
     let same = c.loop-cell.invariant.cells in
     let read = c.alert_all.ensures.cells in
     let count = c.cells-cell-end.ensures.count in
@@ -49,9 +49,9 @@ pub loop-cell-preserved : goal.loop-cell-preserved
 loop-cell-preserved g c =
     let s = set_of c.args.before.now in
     let t = set_of c.args.after.now in
-    let d = c.args.network.now.cells in
-    let library = stored_of g.R.Rule.value_of c.args.network.now.library in
-    let made = c.requires.under_way.kept.made in
+    let d = c.args.live.now.network.cells in
+    let library = stored_of g.R.Rule.value_of c.args.live.now.network.library in
+    let made = c.requires.alive.under_way.kept.made in
     let h = c.loop-cell.invariant in
     let within : c.loop-cell.cell < length d.kinds = let count = c.cells-cell-end.ensures.count in let below =
     c.loop-cell-test.true in omega (arith, count, below) in
@@ -63,13 +63,14 @@ loop-cell-preserved g c =
           w.alert_all.new.self.line within (c.shifted.ensures.shifted w.if-shifted.true) read in
           let so_far = h.falls in
           rw w.agenda-is record {
-            grown = rw w.watch.ensures.line (grown_more s t d c.loop-cell.cell c.args.agenda.now.line
-                c.loop-cell.agenda.line w.alert_all.new.self.line h.grown (c.shifted.ensures.shifted w.if-shifted.true)
+            grown = rw w.watch.ensures.line (grown_more s t d c.loop-cell.cell c.args.live.now.agenda.line
+                c.loop-cell.agenda.line w.alert_all.new.self.line h.grown (c.shifted.ensures.shifted
+                w.if-shifted.true)
                 read (rw w.readers.ensures at w.alert_all.ensures.line));
             falls = rw w.watch.ensures.line (omega (arith, less, so_far));
             room = w.watch.ensures.room ∙ w.alert_all.ensures.room ∙ h.room;
             cells = w.watch.ensures.cells ∙ w.alert_all.ensures.cells ∙ h.cells;
-            looked = looked_more s t d c.loop-cell.cell c.args.agenda.now.watched c.loop-cell.agenda.watched
+            looked = looked_more s t d c.loop-cell.cell c.args.live.now.agenda.watched c.loop-cell.agenda.watched
                 w.watch.new.self.watched h.looked within (rw w.alert_all.ensures.watched at w.watch.ensures.watched);
           }
       | else-shifted w ↦
@@ -77,12 +78,13 @@ loop-cell-preserved g c =
           (c.shifted.ensures.stays w.if-shifted.false) in
           let so_far = h.falls in
           rw w.agenda-is record {
-            grown = grown_same s t d c.loop-cell.cell c.args.agenda.now.line c.loop-cell.agenda.line h.grown
+            grown = grown_same s t d c.loop-cell.cell c.args.live.now.agenda.line c.loop-cell.agenda.line h.grown
                 (c.shifted.ensures.stays w.if-shifted.false);
             falls = omega (arith, less, so_far);
             room = h.room;
             cells = h.cells;
-            looked = looked_same s t d c.loop-cell.cell c.args.agenda.now.watched c.loop-cell.agenda.watched h.looked
+            looked = looked_same s t d c.loop-cell.cell c.args.live.now.agenda.watched c.loop-cell.agenda.watched
+                h.looked
                 (c.shifted.ensures.stays w.if-shifted.false);
           }
     ]
@@ -102,42 +104,42 @@ all_looked s t d end cell old new count least most h =
     subst (λ (n : ℕ). AreLooked s t d n old new) (at_end end cell (length d.kinds) count least most) h
 
 pub returns-clause-grown : goal.returns-clause-grown
-returns-clause-grown g c = all_grown _ _ _ c.cells-cell-end.result c.loop-cell.cell _ _ c.cells-cell-end.ensures.count
+returns-clause-grown g c =
+    all_grown _ _ _ c.cells-cell-end.result c.loop-cell.cell _ _ c.cells-cell-end.ensures.count
     c.loop-cell-test.false c.loop-cell.auto.cell-end c.loop-cell.invariant.grown
 
-pub returns-clause-under_way : goal.returns-clause-under_way
-returns-clause-under_way g c =
-    under_way_grown (stored_of g.R.Rule.value_of c.args.network.now.library) (set_of c.args.before.now)
-    (set_of c.args.after.now) c.args.network.now.cells c.args.agenda.now.line c.loop-cell.agenda.line
-    c.requires.more c.cells-cell-end.ensures.within c.requires.under_way
-    (all_grown _ _ _ c.cells-cell-end.result c.loop-cell.cell _ _ c.cells-cell-end.ensures.count c.loop-cell-test.false
-    c.loop-cell.auto.cell-end c.loop-cell.invariant.grown)
+pub returns-clause-alive : goal.returns-clause-alive
+returns-clause-alive g c =
+    record {
+      under_way = (under_way_grown (stored_of g.R.Rule.value_of c.args.live.now.network.library) (set_of
+          c.args.before.now)
+          (set_of c.args.after.now) c.args.live.now.network.cells c.args.live.now.agenda.line c.loop-cell.agenda.line
+          c.requires.more c.cells-cell-end.ensures.within c.requires.alive.under_way
+          (all_grown _ _ _ c.cells-cell-end.result c.loop-cell.cell _ _ c.cells-cell-end.ensures.count
+          c.loop-cell-test.false
+          c.loop-cell.auto.cell-end c.loop-cell.invariant.grown));
+      watched = (let s = set_of c.args.before.now in
+          let t = set_of c.args.after.now in
+          let d = c.args.live.now.network.cells in
+          watched_shifted s t d c.args.live.now.agenda.watched c.loop-cell.agenda.watched
+          c.cells-cell-end.ensures.contents
+          (all_looked s t d c.cells-cell-end.result c.loop-cell.cell c.args.live.now.agenda.watched
+          c.loop-cell.agenda.watched
+          c.cells-cell-end.ensures.count c.loop-cell-test.false c.loop-cell.auto.cell-end
+          c.loop-cell.invariant.looked)
+          c.requires.alive.watched);
+    }
 
 pub returns-clause-falls : goal.returns-clause-falls
 returns-clause-falls g c =
     let s = set_of c.args.before.now in
     let t = set_of c.args.after.now in
-    let d = c.args.network.now.cells in
-    let library = stored_of g.R.Rule.value_of c.args.network.now.library in
+    let d = c.args.live.now.network.cells in
+    let library = stored_of g.R.Rule.value_of c.args.live.now.network.library in
     let end = at_end c.cells-cell-end.result c.loop-cell.cell (length d.kinds) c.cells-cell-end.ensures.count
     c.loop-cell-test.false c.loop-cell.auto.cell-end in
     let so_far = rw end at c.loop-cell.invariant.falls in
-    let last = potential_at_last library s t d c.requires.under_way.kept.made c.requires.more c.loop-cell.agenda.line
+    let last = potential_at_last library s t d c.requires.alive.under_way.kept.made c.requires.more
+    c.loop-cell.agenda.line
     c.cells-cell-end.ensures.contents in
     omega (arith, so_far, last)
-
-pub returns-clause-room : goal.returns-clause-room
-returns-clause-room g c = c.loop-cell.invariant.room
-
-pub returns-clause-watched : goal.returns-clause-watched
-returns-clause-watched g c =
-    let s = set_of c.args.before.now in
-    let t = set_of c.args.after.now in
-    let d = c.args.network.now.cells in
-    watched_shifted s t d c.args.agenda.now.watched c.loop-cell.agenda.watched c.cells-cell-end.ensures.contents
-    (all_looked s t d c.cells-cell-end.result c.loop-cell.cell c.args.agenda.now.watched c.loop-cell.agenda.watched
-    c.cells-cell-end.ensures.count c.loop-cell-test.false c.loop-cell.auto.cell-end c.loop-cell.invariant.looked)
-    c.requires.watched
-
-pub returns-clause-cells : goal.returns-clause-cells
-returns-clause-cells g c = c.loop-cell.invariant.cells

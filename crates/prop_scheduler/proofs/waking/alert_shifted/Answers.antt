@@ -14,28 +14,30 @@ use Rattle.prop_scheduler.proofs.waking.alert_shifted.Goals as goal
 use Rattle.prop_scheduler.proofs.waking.alert_shifted.Goals.{then-shifted, else-shifted}
 
 pub loop-cell-init : goal.loop-cell-init
-loop-cell-init g c = record {
-  shifted = shifted_none (set_of c.args.before.now) (set_of c.args.after.now)
-      c.args.network.now.cells c.args.agenda.now.line;
-  room = refl;
-  cells = refl;
-  looked =
-      looked_none (set_of c.args.before.now) (set_of c.args.after.now) c.args.network.now.cells c.args.agenda.now.watched
-      c.requires.watched.below;
-}
+loop-cell-init g c =
+    record {
+      shifted = shifted_none (set_of c.args.before.now) (set_of c.args.after.now)
+          c.args.live.now.network.cells c.args.live.now.agenda.line;
+      room = refl;
+      cells = refl;
+      looked =
+          looked_none (set_of c.args.before.now) (set_of c.args.after.now) c.args.live.now.network.cells
+          c.args.live.now.agenda.watched
+          c.requires.alive.watched.below;
+    }
 
 pub alert_all-requires : goal.alert_all-requires
 alert_all-requires g c =
-    let xs = c.args.network.now.cells.instances in
-    let room = c.requires.room in
+    let xs = c.args.live.now.network.cells.instances in
+    let room = c.args.live.now.room in
     let same = c.loop-cell.invariant.room in
     rw c.readers.ensures (All-weaker (λ j. j < length xs) (λ j. j < c.loop-cell.agenda.room)
     (λ j h. omega (arith, h, room, same)) (readers_of xs c.loop-cell.cell) (readers_are xs c.loop-cell.cell).below)
 
 pub alert_all-requires-then-shifted : goal.alert_all-requires-then-shifted
 alert_all-requires-then-shifted g c =
-    let xs = c.args.network.now.cells.instances in
-    let room = c.requires.room in
+    let xs = c.args.live.now.network.cells.instances in
+    let room = c.args.live.now.room in
     let same = c.loop-cell.invariant.room in
     let then = c.alert_all.ensures.room in
     rw c.writers.ensures (All-weaker (λ j. j < length xs) (λ j. j < c.alert_all.new.self.room)
@@ -46,7 +48,7 @@ pub loop-cell-preserved : goal.loop-cell-preserved
 loop-cell-preserved g c =
     let s = set_of c.args.before.now in
     let t = set_of c.args.after.now in
-    let d = c.args.network.now.cells in
+    let d = c.args.live.now.network.cells in
     let h = c.loop-cell.invariant in
     elim c.if-shifted.branch [
       | then-shifted w ↦
@@ -57,7 +59,7 @@ loop-cell-preserved g c =
           rw w.writers.ensures at w.alert_all-then-shifted.ensures.alerted in
           rw w.agenda-is record {
             shifted = rw w.watch.ensures.line
-                (shifted_more s t d c.loop-cell.cell c.args.agenda.now.line c.loop-cell.agenda.line
+                (shifted_more s t d c.loop-cell.cell c.args.live.now.agenda.line c.loop-cell.agenda.line
                 w.alert_all.new.self.line w.alert_all-then-shifted.new.self.line h.shifted
                 (c.shifted.ensures.shifted w.if-shifted.true) read written
                 (rw w.readers.ensures at w.alert_all.ensures.line)
@@ -65,7 +67,7 @@ loop-cell-preserved g c =
             room = w.watch.ensures.room ∙ w.alert_all-then-shifted.ensures.room ∙ w.alert_all.ensures.room ∙ h.room;
             cells = w.watch.ensures.cells ∙ w.alert_all-then-shifted.ensures.cells ∙ w.alert_all.ensures.cells
                 ∙ h.cells;
-            looked = looked_more s t d c.loop-cell.cell c.args.agenda.now.watched c.loop-cell.agenda.watched
+            looked = looked_more s t d c.loop-cell.cell c.args.live.now.agenda.watched c.loop-cell.agenda.watched
                 w.watch.new.self.watched h.looked
                 (let count = c.cells-cell-end.ensures.count in let below = c.loop-cell-test.true in omega
                 (arith, count, below)) (rw (w.alert_all-then-shifted.ensures.watched, w.alert_all.ensures.watched)
@@ -73,11 +75,13 @@ loop-cell-preserved g c =
           }
       | else-shifted w ↦
           rw w.agenda-is record {
-            shifted = shifted_same s t d c.loop-cell.cell c.args.agenda.now.line c.loop-cell.agenda.line h.shifted
+            shifted = shifted_same s t d c.loop-cell.cell c.args.live.now.agenda.line c.loop-cell.agenda.line
+                h.shifted
                 (c.shifted.ensures.stays w.if-shifted.false);
             room = h.room;
             cells = h.cells;
-            looked = looked_same s t d c.loop-cell.cell c.args.agenda.now.watched c.loop-cell.agenda.watched h.looked
+            looked = looked_same s t d c.loop-cell.cell c.args.live.now.agenda.watched c.loop-cell.agenda.watched
+                h.looked
                 (c.shifted.ensures.stays w.if-shifted.false);
           }
     ]
@@ -96,40 +100,38 @@ all_looked : (s t : Premises) (d : Data) (end cell : ℕ) (old new : List ℕ) �
 all_looked s t d end cell old new count least most h =
     subst (λ (n : ℕ). AreLooked s t d n old new) (at_end end cell (length d.kinds) count least most) h
 
-pub returns-clause-under_way : goal.returns-clause-under_way
-returns-clause-under_way g c =
-    under_way_shifted (stored_of g.R.Rule.value_of c.args.network.now.library) (set_of c.args.before.now)
-    (set_of c.args.after.now) c.args.network.now.cells c.args.agenda.now.line c.loop-cell.agenda.line
-    c.cells-cell-end.ensures.within c.requires.under_way
-    (all_shifted _ _ _ c.cells-cell-end.result c.loop-cell.cell _ _ c.cells-cell-end.ensures.count
-    c.loop-cell-test.false c.loop-cell.auto.cell-end c.loop-cell.invariant.shifted)
+pub returns-clause-alive : goal.returns-clause-alive
+returns-clause-alive g c =
+    record {
+      under_way = (under_way_shifted (stored_of g.R.Rule.value_of c.args.live.now.network.library) (set_of
+          c.args.before.now)
+          (set_of c.args.after.now) c.args.live.now.network.cells c.args.live.now.agenda.line c.loop-cell.agenda.line
+          c.cells-cell-end.ensures.within c.requires.alive.under_way
+          (all_shifted _ _ _ c.cells-cell-end.result c.loop-cell.cell _ _ c.cells-cell-end.ensures.count
+          c.loop-cell-test.false c.loop-cell.auto.cell-end c.loop-cell.invariant.shifted));
+      watched = (let s = set_of c.args.before.now in
+          let t = set_of c.args.after.now in
+          let d = c.args.live.now.network.cells in
+          watched_shifted s t d c.args.live.now.agenda.watched c.loop-cell.agenda.watched
+          c.cells-cell-end.ensures.contents
+          (all_looked s t d c.cells-cell-end.result c.loop-cell.cell c.args.live.now.agenda.watched
+          c.loop-cell.agenda.watched
+          c.cells-cell-end.ensures.count c.loop-cell-test.false c.loop-cell.auto.cell-end
+          c.loop-cell.invariant.looked)
+          c.requires.alive.watched);
+    }
 
 pub returns-clause-shifted : goal.returns-clause-shifted
-returns-clause-shifted g c = all_shifted _ _ _ c.cells-cell-end.result c.loop-cell.cell _ _
+returns-clause-shifted g c =
+    all_shifted _ _ _ c.cells-cell-end.result c.loop-cell.cell _ _
     c.cells-cell-end.ensures.count c.loop-cell-test.false c.loop-cell.auto.cell-end c.loop-cell.invariant.shifted
-
-pub returns-clause-room : goal.returns-clause-room
-returns-clause-room g c = c.loop-cell.invariant.room
 
 pub watch-requires : goal.watch-requires
 watch-requires g c =
-    let cells = c.requires.cells in
+    let cells = c.args.live.now.cells in
     let same = c.loop-cell.invariant.cells in
     let read = c.alert_all.ensures.cells in
     let written = c.alert_all-then-shifted.ensures.cells in
     let count = c.cells-cell-end.ensures.count in
     let below = c.loop-cell-test.true in
     omega (arith, cells, same, read, written, count, below)
-
-pub returns-clause-watched : goal.returns-clause-watched
-returns-clause-watched g c =
-    let s = set_of c.args.before.now in
-    let t = set_of c.args.after.now in
-    let d = c.args.network.now.cells in
-    watched_shifted s t d c.args.agenda.now.watched c.loop-cell.agenda.watched c.cells-cell-end.ensures.contents
-    (all_looked s t d c.cells-cell-end.result c.loop-cell.cell c.args.agenda.now.watched c.loop-cell.agenda.watched
-    c.cells-cell-end.ensures.count c.loop-cell-test.false c.loop-cell.auto.cell-end c.loop-cell.invariant.looked)
-    c.requires.watched
-
-pub returns-clause-cells : goal.returns-clause-cells
-returns-clause-cells g c = c.loop-cell.invariant.cells

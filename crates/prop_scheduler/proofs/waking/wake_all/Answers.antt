@@ -6,29 +6,29 @@ use Rattle.prop_scheduler.proofs.UnderWay.{under_way_all}
 use Rattle.prop_scheduler.proofs.WatchLaws.{watched_all}
 use Rattle.prop_scheduler.proofs.waking.wake_all.Goals as goal
 
-pub returns-clause-under_way : goal.returns-clause-under_way
-returns-clause-under_way g c =
-    let d = c.args.network.now.cells in
+pub returns-clause-alive : goal.returns-clause-alive
+returns-clause-alive g c =
+    let d = c.args.live.now.network.cells in
     let n = length d.instances in
     let line = c.alert_first.new.self.line in
     let first = c.alert_first.ensures.alerted in
     let count = c.instances.ensures.count in
     let below : (j : ℕ) → Contains line j
     → j < n = λ j k. elim (first.only j k) as (λ _. j < n) [
-      | inl was ↦ All-contains (λ i. i < n) c.args.agenda.now.line j c.requires.line was
+      | inl was ↦ All-contains (λ i. i < n) c.args.live.now.agenda.line j c.requires.ready.line was
       | inr l ↦
           omega (arith, l, count)
     ] in
-    λ s. rw c.watch_first.ensures.line (under_way_all (stored_of g.R.Rule.value_of c.args.network.now.library) s d line
-    c.requires.kept (All-from_contains (λ j. j < n) line below) (λ j l. first.alerted j (omega (arith, l, count))))
+    λ s. record {
+      under_way = rw c.watch_first.ensures.line
+          (under_way_all (stored_of g.R.Rule.value_of c.args.live.now.network.library) s d line c.requires.ready.kept
+          (All-from_contains (λ j. j < n) line below) (λ j l. first.alerted j (omega (arith, l, count))));
+      watched = watched_all s d c.args.live.now.agenda.watched c.watch_first.new.self.watched c.cells.result
+          c.cells.ensures.contents c.cells.ensures.count c.requires.ready.watched
+          (rw c.alert_first.ensures.watched at c.watch_first.ensures.watched);
+    }
 
 pub returns-clause-all : goal.returns-clause-all
 returns-clause-all g c =
     let count = c.instances.ensures.count in
     λ j l. rw c.watch_first.ensures.line (c.alert_first.ensures.alerted.alerted j (omega (arith, l, count)))
-
-pub returns-clause-watched : goal.returns-clause-watched
-returns-clause-watched g c s =
-    watched_all s c.args.network.now.cells c.args.agenda.now.watched c.watch_first.new.self.watched c.cells.result
-    c.cells.ensures.contents c.cells.ensures.count c.requires.watched
-    (rw c.alert_first.ensures.watched at c.watch_first.ensures.watched)

@@ -10,5 +10,5 @@ returns-clause-step g c =
     let e = c.command.ensures in
     let fits = subst (λ library. WorkFits (stored_of g.R.Rule.value_of library) (standing_of c.command.new.self)) e.same
     (sound_fits g.R.Rule.value_of c.command.new.self e.sound) in
-    works_by g.O.Order.picks (stored_of g.R.Rule.value_of c.args.self.now.network.library) c.args.self.now
+    works_by g.O.Order.picks (stored_of g.R.Rule.value_of c.args.self.now.live.network.library) c.args.self.now
     c.command.new.self c.args.line.now (answer_of c.command.result) e.step fits e.lean e.earned e.wakes

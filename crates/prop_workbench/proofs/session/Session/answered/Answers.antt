@@ -28,7 +28,7 @@ returns-in-Ok g c =
     let s = c.args.self.now in
     let t = c.run_network.new.self in
     let said = c.in-Ok.ensures.run in
-    let library = stored_of g.R.Rule.value_of s.network.library in
+    let library = stored_of g.R.Rule.value_of s.live.network.library in
     let kept = c.run_network.ensures.keeps in
     let state = c.run_network.ensures.state in
     record {
@@ -40,7 +40,7 @@ returns-in-Ok g c =
           (rw (kept.library, state) at c.reply_to.ensures.says)
           (rw (ap (λ (u : State). u.limit) state) at said.within);
       rests = record {
-        lean = subst (λ (u : State). IsLeanAnswer (worldview_at u t.search.list) t.network.cells u
+        lean = subst (λ (u : State). IsLeanAnswer (worldview_at u t.search.list) t.live.network.cells u
             (Ok (Some (command_of c.args.question))) (answer_of c.reply_to.result)) state c.reply_to.ensures.lean;
         earned = earns _ library (state_of s) (work_of s) (work_of t) c.args.question c.in-Ok.end c.in-Ok.steps _
             c.in-Ok.ensures.gone c.in-Ok.ensures.left (rw state at c.reply_to.ensures.believed) c.in-Ok.ensures.blamed

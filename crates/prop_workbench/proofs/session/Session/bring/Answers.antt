@@ -26,11 +26,10 @@ returns-clause-keeps g c =
     not-true (users_of s.search p) (sym c.in_ok-before.ensures.was ∙ ap is_some c.in-Some.is) in
     let made : new ≡ record s.search { premises = with_belief_at s.search.premises p true; worldview = new.worldview } =
     c.in_ok-before.ensures.brought was in
-    believing_keeps g.R.Rule.value_of s new c.alert_shifted.new.agenda p true c.requires.sound
+    believing_keeps g.R.Rule.value_of s new c.alert_shifted.new.live p true c.requires.sound
     (ap (λ (t : Stand). t.premises) made) (ap (λ (t : Stand). t.listed) made) c.worldview.ensures.stand
-    (c.bring.ensures.search (problem_of (stored_of g.R.Rule.value_of s.network.library) s.network.cells))
-    (rw c.worldview.ensures.same at c.alert_shifted.ensures.under_way) c.alert_shifted.ensures.room
-    (rw c.worldview.ensures.same at c.alert_shifted.ensures.watched) c.alert_shifted.ensures.cells
+    (c.bring.ensures.search (problem_of (stored_of g.R.Rule.value_of s.live.network.library) s.live.network.cells))
+    c.alert_shifted.ensures.network (rw c.worldview.ensures.same at c.alert_shifted.ensures.alive)
 
 -- ---- it was
 
@@ -67,7 +66,7 @@ pub returns-clause-wakes : goal.returns-clause-wakes
 returns-clause-wakes g c =
     let s = c.args.self.now in
     let p = c.in_ok-premise.premise in
-    let d = s.network.cells in
+    let d = s.live.network.cells in
     let new = c.bring.new.self in
     let was : users_of s.search p ≡ false =
     not-true (users_of s.search p) (sym c.in_ok-before.ensures.was ∙ ap is_some c.in-Some.is) in
@@ -76,15 +75,15 @@ returns-clause-wakes g c =
     let found : premise_number s.search.premises c.args.name.now ≡ Some p =
     rw c.premises.ensures at c.in_ok-premise.ensures.found in
     let before : c.in-Some.before ≡ s.search.worldview = rw c.in-Some.is at c.in_ok-before.ensures.before in
-    let stirred = touched_stirred (set_of c.in-Some.before) (set_of c.worldview.result.now) d d s.agenda.line
-    c.alert_shifted.new.agenda.line c.alert_shifted.ensures.shifted.behind in
+    let stirred = touched_stirred (set_of c.in-Some.before) (set_of c.worldview.result.now) d d s.live.agenda.line
+    c.alert_shifted.new.live.agenda.line c.alert_shifted.ensures.shifted.behind in
     let line = rw (
       before,
       c.worldview.ensures.same,
       believes_same s.search c.requires.sound.at_work.well_made,
       believes_same new c.worldview.ensures.stand,
     ) at stirred in
-    record {
+    rw c.alert_shifted.ensures.network record {
       list_is = ap (λ (t : Stand). t.list) made;
       level_is = ap (λ (t : Stand). t.level) made;
       order = refl;

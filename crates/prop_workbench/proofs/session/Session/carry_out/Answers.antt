@@ -22,7 +22,7 @@ returns-in-Silent g c =
     let s = c.args.self.now in
     rw c.in-Silent.is (record {
       keeps = stays (unchanged c.requires.sound);
-      step = refused_followed (stored_of g.R.Rule.value_of s.network.library) (shown_of s) (shown_of s) (Ok None) Silent
+      step = refused_followed (stored_of g.R.Rule.value_of s.live.network.library) (shown_of s) (shown_of s) (Ok None) Silent
           0 (λ m covered. covered) (λ named. (refl, refl, refl));
       rests = record { lean = tt; earned = tt; wakes = refl };
     })
@@ -132,7 +132,7 @@ returns-in-Limit g c =
         };
         steps = refl;
       };
-      step = still_obeyed (stored_of g.R.Rule.value_of s.network.library) (shown_of s) limited
+      step = still_obeyed (stored_of g.R.Rule.value_of s.live.network.library) (shown_of s) limited
           (commands.Command.Limit (Some c.in-Limit.steps)) Done 0 tt (λ m covered. covered)
           (inl (record { answer_is = refl; new_is = refl; no_steps = refl }));
       rests = record { lean = tt; earned = tt; wakes = still_stirred (state_of s) limited.state (work_of s) };

@@ -13,7 +13,7 @@ use Rattle.prop_workbench.proofs.session.Session.choose.Goals as goal
 pub returns-in-None-clause-step : goal.returns-in-None-clause-step
 returns-in-None-clause-step g c =
     let s = c.args.self.now in
-    let library = stored_of g.R.Rule.value_of s.network.library in
+    let library = stored_of g.R.Rule.value_of s.live.network.library in
     let values = map value_of c.args.values.now in
     refuses library (state_of s) (state_of s) (commands.Command.Choose c.args.choice.now c.args.name.now values) _
     (choice_taken library (state_of s) c.args.choice.now c.args.name.now values (sym c.in-None.ensures.number)
@@ -22,7 +22,7 @@ returns-in-None-clause-step g c =
 pub returns-in-None-2-clause-step : goal.returns-in-None-2-clause-step
 returns-in-None-2-clause-step g c =
     let s = c.args.self.now in
-    let library = stored_of g.R.Rule.value_of s.network.library in
+    let library = stored_of g.R.Rule.value_of s.live.network.library in
     let values = map value_of c.args.values.now in
     refuses library (state_of s) (state_of s) (commands.Command.Choose c.args.choice.now c.args.name.now values) _
     (choice_nowhere library (state_of s) c.args.choice.now c.args.name.now values (sym c.in-None-2.ensures.number)
@@ -37,9 +37,9 @@ choose_said-requires-clause-mean g c =
 pub returns-in-Some-first_refusal-clause-step : goal.returns-in-Some-first_refusal-clause-step
 returns-in-Some-first_refusal-clause-step g c =
     let s = c.args.self.now in
-    let library = stored_of g.R.Rule.value_of s.network.library in
+    let library = stored_of g.R.Rule.value_of s.live.network.library in
     let values = map value_of c.args.values.now in
-    let kind : c.kind-kind.result ≡ kind_at s.network.cells.kinds c.in-Some.cell = c.kind-kind.ensures
+    let kind : c.kind-kind.result ≡ kind_at s.live.network.cells.kinds c.in-Some.cell = c.kind-kind.ensures
     ∙ ap (λ d. kind_at d.kinds c.in-Some.cell) c.data.ensures in
     refuses library (state_of s) (state_of s) (commands.Command.Choose c.args.choice.now c.args.name.now values)
     c.in-Some-first_refusal.refusal
@@ -51,8 +51,8 @@ returns-in-Some-first_refusal-clause-step g c =
 pub returns-in-None-first_refusal-clause-step : goal.returns-in-None-first_refusal-clause-step
 returns-in-None-first_refusal-clause-step g c =
     let s = c.args.self.now in
-    let library = stored_of g.R.Rule.value_of s.network.library in
-    let kind : c.kind-kind.result ≡ kind_at s.network.cells.kinds c.in-Some.cell = c.kind-kind.ensures
+    let library = stored_of g.R.Rule.value_of s.live.network.library in
+    let kind : c.kind-kind.result ≡ kind_at s.live.network.cells.kinds c.in-Some.cell = c.kind-kind.ensures
     ∙ ap (λ d. kind_at d.kinds c.in-Some.cell) c.data.ensures in
     chosen_or_not library (state_of s) (state_of c.choose_said.new.self) c.args.choice.now c.args.name.now
     (map value_of c.args.values.now) c.in-Some.cell c.kind-kind.result.kind c.is_taken-is_taken.result

@@ -27,38 +27,34 @@ returns-in-Err-clause-err g c =
 
 -- ---- the choice is made
 
-pub state_sides-requires-clause-under_way : goal.state_sides-requires-clause-under_way
-state_sides-requires-clause-under_way g c =
+pub state_sides-requires-clause-alive : goal.state_sides-requires-clause-alive
+state_sides-requires-clause-alive g c =
     let s = c.args.self.now in
-    let library = stored_of g.R.Rule.value_of s.network.library in
-    rw c.worldview.ensures.same (declared_under_way library s.search c.declare.new.self c.args.choice.now
-    (length c.args.infos.now) s.network.cells s.agenda c.requires.sound.at_work c.in-Ok.ensures.ok)
-
-pub state_sides-requires-clause-watched : goal.state_sides-requires-clause-watched
-state_sides-requires-clause-watched g c =
-    let s = c.args.self.now in
-    let library = stored_of g.R.Rule.value_of s.network.library in
-    rw c.worldview.ensures.same (declared_watched library s.search c.declare.new.self c.args.choice.now
-    (length c.args.infos.now) s.network.cells s.agenda c.requires.sound.at_work c.in-Ok.ensures.ok)
+    let library = stored_of g.R.Rule.value_of s.live.network.library in
+    rw c.worldview.ensures.same (record {
+      under_way = declared_under_way library s.search c.declare.new.self c.args.choice.now (length c.args.infos.now)
+          s.live.network.cells s.live.agenda c.requires.sound.at_work c.in-Ok.ensures.ok;
+      watched = declared_watched library s.search c.declare.new.self c.args.choice.now (length c.args.infos.now)
+          s.live.network.cells s.live.agenda c.requires.sound.at_work c.in-Ok.ensures.ok;
+    })
 
 pub returns-in-Ok-state_sides-clause-keeps : goal.returns-in-Ok-state_sides-clause-keeps
 returns-in-Ok-state_sides-clause-keeps g c =
     let s = c.args.self.now in
-    let library = stored_of g.R.Rule.value_of s.network.library in
+    let library = stored_of g.R.Rule.value_of s.live.network.library in
     let sound = c.requires.sound in
     let rest = c.in-Ok-state_sides.ensures.rest in
-    let kinds : c.state_sides.new.network.cells.kinds ≡ s.network.cells.kinds = ap (λ d. d.kinds) rest in
+    let kinds : c.state_sides.new.live.network.cells.kinds ≡ s.live.network.cells.kinds = ap (λ d. d.kinds) rest in
     record {
       library = c.state_sides.ensures.same;
       sound = record {
         at_work = rw c.state_sides.ensures.same
             (chosen_at_work library s.search c.declare.new.self c.args.choice.now (length c.args.infos.now) c.args.cell
-            c.in-Ok.choice c.args.infos.now s.network.cells c.state_sides.new.network.cells s.agenda
-            c.state_sides.new.agenda sound.at_work
+            c.in-Ok.choice c.args.infos.now s.live.network.cells c.state_sides.new.live.network.cells s.live.agenda
+            c.state_sides.new.live.agenda sound.at_work
             c.in-Ok.ensures.ok c.in-Ok.ensures.choice.0 refl c.worldview.ensures.stand c.in-Ok.ensures.search rest
-            (rw (c.state_sides.ensures.same, c.worldview.ensures.same) at c.state_sides.ensures.under_way)
-            c.state_sides.ensures.room (rw c.worldview.ensures.same at c.state_sides.ensures.watched)
-            c.state_sides.ensures.cells);
+            (rw (c.state_sides.ensures.same, c.worldview.ensures.same) at c.state_sides.ensures.alive.under_way)
+            (rw c.worldview.ensures.same at c.state_sides.ensures.alive.watched));
         sized = rw kinds sound.sized;
         locals = sound.locals;
         named = rw kinds sound.named;
@@ -74,7 +70,7 @@ returns-in-Ok-state_sides-clause-keeps g c =
 pub returns-in-Err-state_sides-clause-keeps : goal.returns-in-Err-state_sides-clause-keeps
 returns-in-Err-state_sides-clause-keeps g c =
     let s = c.args.self.now in
-    back_keeps g.R.Rule.value_of s (record s { network = c.state_sides.new.network; agenda = c.state_sides.new.agenda })
+    back_keeps g.R.Rule.value_of s (record s { live = c.state_sides.new.live })
     c.undeclare.new.self c.requires.sound
     (c.undeclare.ensures.undoes s.search c.args.choice.now c.requires.sound.at_work.well_made
     (c.in-Ok.ensures.ok ∙ (λ i. declared s.search c.args.choice.now (sym c.in-Ok.ensures.choice.1 i))))
@@ -89,13 +85,13 @@ pub returns-in-Ok-state_sides-clause-stirred : goal.returns-in-Ok-state_sides-cl
 returns-in-Ok-state_sides-clause-stirred g c =
     let s = c.args.self.now in
     let new = c.declare.new.self in
-    let d = s.network.cells in
+    let d = s.live.network.cells in
     let work = c.requires.sound.at_work in
     let made : new ≡ declared s.search c.args.choice.now (length c.args.infos.now) = c.in-Ok.ensures.ok in
-    let same = declared_beliefs (stored_of g.R.Rule.value_of s.network.library) s.search new c.args.choice.now
+    let same = declared_beliefs (stored_of g.R.Rule.value_of s.live.network.library) s.search new c.args.choice.now
     (length c.args.infos.now) d work.under_way.kept work.known made in
     let line = stirred_from (set_of s.search.worldview) (set_of new.worldview) (set_of new.worldview) d
-    c.state_sides.new.network.cells s.agenda.line c.state_sides.new.agenda.line same
+    c.state_sides.new.live.network.cells s.live.agenda.line c.state_sides.new.live.agenda.line same
     (rw c.worldview.ensures.same at c.in-Ok-state_sides.ensures.stirred) in
     record {
       list_is = ap (λ (t : Stand). t.list) made;

@@ -13,9 +13,9 @@ choose_between-requires-clause-may g c =
     let sized = c.requires.sound.sized c.args.cell span_kind c.requires.cell in
     let mean = rw c.requires.kind at c.requires.mean in
     let infos = c.deref.ensures.value ∙ c.in-Ok.ensures.infos in
-    rw (infos, c.requires.kind) (infos_may_be s.words s.words (kind_at s.network.cells.kinds c.args.cell)
+    rw (infos, c.requires.kind) (infos_may_be s.words s.words (kind_at s.live.network.cells.kinds c.args.cell)
     (map value_of c.args.values.now) sized.1
-    (few_elements s.words (kind_at s.network.cells.kinds c.args.cell).kind c.symbol_count-count.ensures.whole
+    (few_elements s.words (kind_at s.live.network.cells.kinds c.args.cell).kind c.symbol_count-count.ensures.whole
     sized.0) mean)
 
 pub choose_between-requires-clause-fits : goal.choose_between-requires-clause-fits
@@ -40,8 +40,8 @@ pub returns-in-Ok-choose_between-clause-ok : goal.returns-in-Ok-choose_between-c
 returns-in-Ok-choose_between-clause-ok g c =
     let s = c.args.self.now in
     let infos = c.deref.ensures.value ∙ c.in-Ok.ensures.infos in
-    chosen_state (state_of s) (state_from s.names c.infos_of.new.words s.definitions s.search.premises s.network.cells
+    chosen_state (state_of s) (state_from s.names c.infos_of.new.words s.definitions s.search.premises s.live.network.cells
     s.limit) _ c.args.choice.now c.args.cell (meanings_of s.words c.args.kind (map value_of c.args.values.now))
     c.deref.result.now
-    (λ i. state_from s.names (c.in-Ok.ensures.words i) s.definitions s.search.premises s.network.cells s.limit) infos
+    (λ i. state_from s.names (c.in-Ok.ensures.words i) s.definitions s.search.premises s.live.network.cells s.limit) infos
     c.in-Ok-choose_between.ensures.ok

@@ -12,7 +12,7 @@ use Rattle.prop_workbench.proofs.session.Session.command.Goals as goal
 pub returns-then-is_memory-clause-step : goal.returns-then-is_memory-clause-step
 returns-then-is_memory-clause-step g c =
     let s = c.args.self.now in
-    let library = stored_of g.R.Rule.value_of s.network.library in
+    let library = stored_of g.R.Rule.value_of s.live.network.library in
     let new = shown_of c.follow-reply.new.self in
     let read = c.follow-reply.ensures.read in
     step_of_read library (shown_of s) new c.args.line.now read.0 (answer_of c.follow-reply.result.0) _ read.1
@@ -23,7 +23,7 @@ pub returns-clause-step : goal.returns-clause-step
 returns-clause-step g c =
     let s = c.args.self.now in
     let read = c.follow-reply.ensures.read in
-    step_of_read (stored_of g.R.Rule.value_of s.network.library) (shown_of s) (shown_of c.follow-reply.new.self)
+    step_of_read (stored_of g.R.Rule.value_of s.live.network.library) (shown_of s) (shown_of c.follow-reply.new.self)
     c.args.line.now read.0 (answer_of c.follow-reply.result.0) c.follow-reply.result.1 read.1 read.2.step
 
 pub returns-then-is_memory-clause-sound : goal.returns-then-is_memory-clause-sound
@@ -32,7 +32,7 @@ returns-then-is_memory-clause-sound g c =
     let read = c.follow-reply.ensures.read in
     let on = read.2.step [] (covers_none (shown_of s)) in
     let same : naming (state_of c.follow-reply.new.self) on.now ≡ state_of s =
-    lacking_same (stored_of g.R.Rule.value_of s.network.library) (state_of s)
+    lacking_same (stored_of g.R.Rule.value_of s.live.network.library) (state_of s)
     (naming (state_of c.follow-reply.new.self) on.now) read.0 _ _ (c.is_memory.ensures.0 c.if-is_memory.true)
     on.step in
     let within : steps_of s ≤ (state_of s).limit = c.requires.sound.within in
@@ -56,7 +56,7 @@ returns-clause-sound g c =
             named = sound.named;
             defined = sound.defined;
           };
-      within = steps_within (stored_of g.R.Rule.value_of s.network.library) (state_of s)
+      within = steps_within (stored_of g.R.Rule.value_of s.live.network.library) (state_of s)
           (naming (state_of c.follow-reply.new.self) on.now) read.0 _ _
           (λ e. false≢true (sym c.if-is_memory.false ∙ c.is_memory.ensures.1 e)) on.step;
     }
@@ -66,7 +66,7 @@ returns-then-is_memory-clause-earned g c =
     let read = c.follow-reply.ensures.read in (
       read.0,
       read.1,
-      earns_none _ (stored_of g.R.Rule.value_of c.args.self.now.network.library)
+      earns_none _ (stored_of g.R.Rule.value_of c.args.self.now.live.network.library)
           (state_of c.args.self.now) (work_of c.args.self.now) _ read.0 _ _ (c.is_memory.ensures.0 c.if-is_memory.true),
     )
 

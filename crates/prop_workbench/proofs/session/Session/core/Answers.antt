@@ -15,7 +15,7 @@ returns-in-None g c =
     let s = c.args.self.now in
     refused_answered g.O.Order.picks g.R.Rule.value_of s (commands.Command.Core c.args.name.now) NoSuchCell
     c.requires.sound
-    (nowhere_core (stored_of g.R.Rule.value_of s.network.library) (state_of s) c.args.name.now
+    (nowhere_core (stored_of g.R.Rule.value_of s.live.network.library) (state_of s) c.args.name.now
     (sym c.in-None.ensures.number))
 
 pub returns-in-Some : goal.returns-in-Some

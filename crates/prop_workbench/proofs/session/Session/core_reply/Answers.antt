@@ -32,7 +32,7 @@ unsettled-requires-clause-named g c = c.requires.named
 pub contradiction_reply-reply-requires : goal.contradiction_reply-reply-requires
 contradiction_reply-reply-requires g c =
     let s = c.args.self.now in
-    let library = stored_of g.R.Rule.value_of s.network.library in
+    let library = stored_of g.R.Rule.value_of s.live.network.library in
     let ends : MayEnd library (state_of s) (Contradiction c.in-Contradiction.premises) =
     rw c.in-Contradiction.is at c.requires.run.ends in
     rw c.premises.ensures (believed_known s.search.premises c.in-Contradiction.premises ends.believes)
@@ -55,7 +55,7 @@ returns-in-Contradiction-clause-keeps g c = unchanged c.requires.sound
 pub returns-in-Contradiction-clause-says : goal.returns-in-Contradiction-clause-says
 returns-in-Contradiction-clause-says g c =
     let s = c.args.self.now in
-    rw c.in-Contradiction.is (may_contradict (stored_of g.R.Rule.value_of s.network.library) (state_of s)
+    rw c.in-Contradiction.is (may_contradict (stored_of g.R.Rule.value_of s.live.network.library) (state_of s)
     (commands.Command.Core c.args.name.now) c.in-Contradiction.premises _ c.args.steps
     c.contradiction_reply-reply.ensures.in_order
     (rw c.premises.ensures at c.contradiction_reply-reply.ensures.says))
@@ -77,7 +77,7 @@ pub returns-in-Unsettled-clause-says : goal.returns-in-Unsettled-clause-says
 returns-in-Unsettled-clause-says g c =
     let s = c.args.self.now in
     rw (c.requires.run.spent c.in-Unsettled.is, c.in-Unsettled.is)
-    (why_so_far (stored_of g.R.Rule.value_of s.network.library) (state_of s) s.search.list c.args.name.now _ s.limit
+    (why_so_far (stored_of g.R.Rule.value_of s.live.network.library) (state_of s) s.search.list c.args.name.now _ s.limit
     c.unsettled.ensures.says)
 
 pub returns-in-Unsettled-clause-within : goal.returns-in-Unsettled-clause-within

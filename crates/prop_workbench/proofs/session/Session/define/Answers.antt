@@ -27,7 +27,7 @@ returns-clause-keeps g c =
 pub returns-clause-step : goal.returns-clause-step
 returns-clause-step g c =
     let s = c.args.self.now in
-    obeys_done (stored_of g.R.Rule.value_of s.network.library) (state_of s) _
+    obeys_done (stored_of g.R.Rule.value_of s.live.network.library) (state_of s) _
     (commands.Command.Define c.args.name.now (words c.args.params.now) (map step_of c.args.steps.now))
     c.define.result (rw c.library.ensures at c.define.ensures.fits)
     (on_ok_weaker c.define.result (λ e.

@@ -21,9 +21,9 @@ returns-clause-keeps g c =
       library = refl;
       sound = record {
         at_work = c.requires.sound.at_work;
-        sized = made_or_not (λ (w : Vocabulary). All (IsSized w) s.network.cells.kinds) s.words
+        sized = made_or_not (λ (w : Vocabulary). All (IsSized w) s.live.network.cells.kinds) s.words
             c.declare_domain.new.self made r c.declare_domain.ensures.ok c.declare_domain.ensures.err
-            c.requires.sound.sized (sized_more s.words c.args.name.now (words c.args.elements.now) s.network.cells.kinds
+            c.requires.sound.sized (sized_more s.words c.args.name.now (words c.args.elements.now) s.live.network.cells.kinds
             c.requires.sound.sized);
         locals = made_or_not (λ (w : Vocabulary). AreLocalsOf (IsSized w) s.definitions) s.words
             c.declare_domain.new.self made r c.declare_domain.ensures.ok c.declare_domain.ensures.err
@@ -39,7 +39,7 @@ returns-clause-keeps g c =
 pub returns-clause-step : goal.returns-clause-step
 returns-clause-step g c =
     let s = c.args.self.now in
-    obeys_done (stored_of g.R.Rule.value_of s.network.library) (state_of s) _
+    obeys_done (stored_of g.R.Rule.value_of s.live.network.library) (state_of s) _
     (commands.Command.Domain c.args.name.now (words c.args.elements.now)) c.declare_domain.result
     c.declare_domain.ensures.allowed
     (on_ok_weaker c.declare_domain.result

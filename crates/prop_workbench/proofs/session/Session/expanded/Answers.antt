@@ -43,10 +43,10 @@ pub returns-clause-fits : goal.returns-clause-fits
 returns-clause-fits g c =
     let s = c.args.self.now in
     let cells = c.args.cells.now in
-    let kinds : c.deref.result.now ≡ map (kind_at s.network.cells.kinds) cells = c.deref.ensures.value ∙ c.in-Ok.ensures
+    let kinds : c.deref.result.now ≡ map (kind_at s.live.network.cells.kinds) cells = c.deref.ensures.value ∙ c.in-Ok.ensures
     ∙ ap (λ (d : Data). map (kind_at d.kinds) cells) c.data.ensures in
     still_fits s.words s.definitions c.args.name.now (stored_of g.R.Rule.value_of c.library.result.now)
-    (stored_of g.R.Rule.value_of s.network.library) c.deref.result.now (map (kind_at s.network.cells.kinds) cells)
+    (stored_of g.R.Rule.value_of s.live.network.library) c.deref.result.now (map (kind_at s.live.network.cells.kinds) cells)
     c.in-Ok-given.given (given_by s.words (by_of c.args.by)) (λ i. stored_of g.R.Rule.value_of (c.library.ensures i))
     kinds c.in-Ok-given.ensures c.expand-expansion.result c.expand-expansion.ensures.fits
 
@@ -54,10 +54,10 @@ pub returns-clause-ok : goal.returns-clause-ok
 returns-clause-ok g c =
     let s = c.args.self.now in
     let cells = c.args.cells.now in
-    let kinds : c.deref.result.now ≡ map (kind_at s.network.cells.kinds) cells = c.deref.ensures.value ∙ c.in-Ok.ensures
+    let kinds : c.deref.result.now ≡ map (kind_at s.live.network.cells.kinds) cells = c.deref.ensures.value ∙ c.in-Ok.ensures
     ∙ ap (λ (d : Data). map (kind_at d.kinds) cells) c.data.ensures in
     still_expanded s.words s.definitions c.args.name.now (stored_of g.R.Rule.value_of c.library.result.now)
-    (stored_of g.R.Rule.value_of s.network.library) c.deref.result.now (map (kind_at s.network.cells.kinds) cells)
+    (stored_of g.R.Rule.value_of s.live.network.library) c.deref.result.now (map (kind_at s.live.network.cells.kinds) cells)
     c.in-Ok-given.given (given_by s.words (by_of c.args.by)) (λ i. stored_of g.R.Rule.value_of (c.library.ensures i))
     kinds c.in-Ok-given.ensures c.expand-expansion.result c.expand-expansion.ensures.ok
 
@@ -65,20 +65,20 @@ pub returns-clause-safe : goal.returns-clause-safe
 returns-clause-safe g c =
     let s = c.args.self.now in
     let cells = c.args.cells.now in
-    let kinds : c.deref.result.now ≡ map (kind_at s.network.cells.kinds) cells = c.deref.ensures.value ∙ c.in-Ok.ensures
+    let kinds : c.deref.result.now ≡ map (kind_at s.live.network.cells.kinds) cells = c.deref.ensures.value ∙ c.in-Ok.ensures
     ∙ ap (λ (d : Data). map (kind_at d.kinds) cells) c.data.ensures in
-    still_over (stored_of g.R.Rule.value_of c.library.result.now) (stored_of g.R.Rule.value_of s.network.library)
+    still_over (stored_of g.R.Rule.value_of c.library.result.now) (stored_of g.R.Rule.value_of s.live.network.library)
     (length c.deref.result.now) (length cells) c.expand-expansion.result
     (λ i. stored_of g.R.Rule.value_of (c.library.ensures i))
-    (ap length kinds ∙ length-map cells (kind_at s.network.cells.kinds)) c.expand-expansion.ensures.safe
+    (ap length kinds ∙ length-map cells (kind_at s.live.network.cells.kinds)) c.expand-expansion.ensures.safe
 
 pub returns-clause-err : goal.returns-clause-err
 returns-clause-err g c =
     let s = c.args.self.now in
     let cells = c.args.cells.now in
-    let kinds : c.deref.result.now ≡ map (kind_at s.network.cells.kinds) cells = c.deref.ensures.value ∙ c.in-Ok.ensures
+    let kinds : c.deref.result.now ≡ map (kind_at s.live.network.cells.kinds) cells = c.deref.ensures.value ∙ c.in-Ok.ensures
     ∙ ap (λ (d : Data). map (kind_at d.kinds) cells) c.data.ensures in
     still_refused s.words s.definitions c.args.name.now (stored_of g.R.Rule.value_of c.library.result.now)
-    (stored_of g.R.Rule.value_of s.network.library) c.deref.result.now (map (kind_at s.network.cells.kinds) cells)
+    (stored_of g.R.Rule.value_of s.live.network.library) c.deref.result.now (map (kind_at s.live.network.cells.kinds) cells)
     c.in-Ok-given.given (given_by s.words (by_of c.args.by)) (λ i. stored_of g.R.Rule.value_of (c.library.ensures i))
     kinds c.in-Ok-given.ensures c.expand-expansion.result c.expand-expansion.ensures.err

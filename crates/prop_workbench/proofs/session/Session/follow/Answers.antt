@@ -14,7 +14,7 @@ use Rattle.prop_workbench.proofs.session.Session.follow.Goals as goal
 pub returns-in-Err-clause-read : goal.returns-in-Err-clause-read
 returns-in-Err-clause-read g c =
     let s = c.args.self.now in
-    let library = stored_of g.R.Rule.value_of s.network.library in
+    let library = stored_of g.R.Rule.value_of s.live.network.library in
     let refused = follows_refused c.args.line.now c.in-Err.refusal c.in-Err.ensures.read
     (λ m. c.in-Err.ensures.memory (ap Err m)) in (
       refused.0,

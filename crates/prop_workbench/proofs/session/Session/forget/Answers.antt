@@ -18,12 +18,21 @@ use Rattle.prop_workbench.proofs.session.Session.forget.Goals as goal
 
 -- ---- it is forgotten
 
+pub purge-requires : goal.purge-requires
+purge-requires g c = record {
+  ready = record {
+    kept = c.requires.sound.at_work.under_way.kept;
+    line = c.requires.sound.at_work.under_way.line_below;
+    watched = c.requires.sound.at_work.watched.below;
+  };
+}
+
 pub returns-clause-stays : goal.returns-clause-stays
 returns-clause-stays g c =
     let s = c.args.self.now in
     let p = c.in_ok-premise.premise in
-    let library = stored_of g.R.Rule.value_of s.network.library in
-    let d = s.network.cells in
+    let library = stored_of g.R.Rule.value_of s.live.network.library in
+    let d = s.live.network.cells in
     let new = c.forget.new.self in
     let made : new ≡ record (restarted s.search) { listed = lacking s.search.listed p; worldview = new.worldview } =
     c.forget.ensures.only in
@@ -32,14 +41,12 @@ returns-clause-stays g c =
       library = c.purge.ensures.same;
       sound = record {
         at_work = rw (c.purge.ensures.same, c.purge.ensures.forgotten)
-            (forgotten_at_work library s.search new p d s.agenda c.wake_all.new.agenda sound.at_work
+            (forgotten_at_work library s.search new p d s.live.agenda c.purge.new.live.agenda sound.at_work
             (ap (λ (t : Stand). t.premises) made) c.forget.ensures.stand
             (c.forget.ensures.search (problem_of library d) (problem_of library (forgotten p d))
             (forgets_data library p d))
-            (rw (c.purge.ensures.same, c.purge.ensures.forgotten)
-            at (c.wake_all.ensures.under_way (set_of new.worldview))) c.wake_all.ensures.room
-            (rw c.purge.ensures.forgotten at (c.wake_all.ensures.watched (set_of new.worldview)))
-            c.wake_all.ensures.cells);
+            (rw (c.purge.ensures.same, c.purge.ensures.forgotten) at (c.purge.ensures.alive (set_of new.worldview)).under_way)
+            (rw c.purge.ensures.forgotten at (c.purge.ensures.alive (set_of new.worldview)).watched));
         sized = rw c.purge.ensures.forgotten sound.sized;
         locals = sound.locals;
         named = rw c.purge.ensures.forgotten sound.named;
@@ -62,8 +69,8 @@ returns-clause-step g c =
     found_free (is_choice premises c.args.name.now) _ p refl
     (rw c.premises.ensures at c.in_ok-premise.ensures.choice) in
     let same : new.premises ≡ premises = ap (λ (t : Stand). t.premises) made in
-    let cells : c.purge.new.self.cells ≡ forgotten p s.network.cells = c.purge.ensures.forgotten in
-    forget_obeyed (stored_of g.R.Rule.value_of s.network.library) (shown_of s) _ c.args.name.now (Ok tt) (
+    let cells : c.purge.new.live.network.cells ≡ forgotten p s.live.network.cells = c.purge.ensures.forgotten in
+    forget_obeyed (stored_of g.R.Rule.value_of s.live.network.library) (shown_of s) _ c.args.name.now (Ok tt) (
       p,
       found,
       free,
@@ -80,7 +87,7 @@ pub returns-in_err-premise-clause-step : goal.returns-in_err-premise-clause-step
 returns-in_err-premise-clause-step g c =
     let s = c.args.self.now in
     let told = err_from_is_err_and c.from_residual.result c.from_residual.ensures.1 in
-    forget_refused (stored_of g.R.Rule.value_of s.network.library) (shown_of s) c.args.name.now c.from_residual.result
+    forget_refused (stored_of g.R.Rule.value_of s.live.network.library) (shown_of s) c.args.name.now c.from_residual.result
     c.in_err-premise.field-0.0 (told.1 ∙ ap Err told.2)
     (inl (missing_from (state_of s) c.args.name.now c.find.result c.in_err-premise.field-0.0 c.in_err-premise.was
     c.find.ensures.why (rw c.premises.ensures at c.in_err-premise.ensures.found)

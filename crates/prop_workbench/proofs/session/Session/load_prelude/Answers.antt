@@ -16,7 +16,7 @@ returns-in-Refused-clause-err g c =
     let l = c.loop-line-test.true in
     let line = c.as_bytes.ensures.value ∙ sym (get_or-map (λ (w : Bor (List ℕ)). w.now) c.args.lines.now i _ [] l) in
     let s = c.args.self.now in
-    let library = stored_of g.R.Rule.value_of s.network.library in
+    let library = stored_of g.R.Rule.value_of s.live.network.library in
     let e = c.command.ensures in
     let fits = subst (λ it. WorkFits (stored_of g.R.Rule.value_of it) (standing_of c.command.new.self))
     (e.same ∙ c.loop-line.invariant.same) (sound_fits g.R.Rule.value_of c.command.new.self e.sound) in
@@ -35,7 +35,7 @@ loop-line-preserved g c =
     let l = c.loop-line-test.true in
     let line = c.as_bytes.ensures.value ∙ sym (get_or-map (λ (w : Bor (List ℕ)). w.now) c.args.lines.now i _ [] l) in
     let s = c.args.self.now in
-    let library = stored_of g.R.Rule.value_of s.network.library in
+    let library = stored_of g.R.Rule.value_of s.live.network.library in
     let e = c.command.ensures in
     let fits = subst (λ it. WorkFits (stored_of g.R.Rule.value_of it) (standing_of c.command.new.self))
     (e.same ∙ c.loop-line.invariant.same) (sound_fits g.R.Rule.value_of c.command.new.self e.sound) in

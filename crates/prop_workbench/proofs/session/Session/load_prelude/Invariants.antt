@@ -7,7 +7,7 @@ use Rattle.prop_workbench.proofs.session.Session.load_prelude.Given as goal
 
 abbrev pub invariant-loop-line : goal.invariant-loop-line
 invariant-loop-line g l = record {
-  same : l.self.network.library ≡ l.initial.self.network.library;
+  same : l.self.live.network.library ≡ l.initial.self.live.network.library;
   sound : IsSound g.R.Rule.value_of l.self;
   loaded : Loads (working_of g.O.Order.picks g.R.Rule.value_of l.initial.self) (standing_of l.initial.self)
       (take l.line-index (words l.lines)) (standing_of l.self);

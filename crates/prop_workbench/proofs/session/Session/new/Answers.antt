@@ -8,19 +8,17 @@ returns-clause-sound g c = record {
   in_order = record {
     at_work = record {
       under_way = record {
-        kept = c.requires.kept;
-        line_below = rw c.new-2.ensures (λ k d l. absurd (omega (arith, l)));
-        met = rw c.requires.empty (record { met = λ j x at idle. absurd (none-some _ at) });
+        kept = rw c.new-2.ensures.network c.requires.kept;
+        line_below = rw c.new-2.ensures.agenda (λ k d l. absurd (omega (arith, l)));
+        met = rw (c.new-2.ensures.network, c.requires.empty) (record { met = λ j x at idle. absurd (none-some _ at) });
       };
       well_made = rw c.new-5.ensures no_stand_made;
       search = rw c.new-5.ensures (no_stand_search _);
-      known = rw c.requires.empty (λ k d l. absurd (omega (arith, l)));
-      roomy = rw c.requires.empty (omega arith);
-      watched = rw (c.new-2.ensures, c.requires.empty)
+      known = rw (c.new-2.ensures.network, c.requires.empty) (λ k d l. absurd (omega (arith, l)));
+      watched = rw (c.new-2.ensures.agenda, c.new-2.ensures.network, c.requires.empty)
           (record { below = λ k d l. absurd (omega (arith, l)); holds = λ cell clash. cc });
-      cells = rw c.requires.empty (omega arith);
     };
-    sized = rw c.requires.empty (λ k d l. absurd (omega (arith, l)));
+    sized = rw (c.new-2.ensures.network, c.requires.empty) (λ k d l. absurd (omega (arith, l)));
     named = rw c.new-3.ensures (λ k d l. absurd (omega (arith, l)));
     locals = rw c.new-4.ensures.none (λ k d l. absurd (omega (arith, l)));
     defined = c.new-4.ensures.over _;

@@ -15,7 +15,7 @@ use Rattle.prop_workbench.proofs.session.Session.nogoods.Goals as goal
 pub nogoods_reply-requires : goal.nogoods_reply-requires
 nogoods_reply-requires g c =
     let s = c.args.self.now in
-    let problem = problem_of (stored_of g.R.Rule.value_of s.network.library) s.network.cells in
+    let problem = problem_of (stored_of g.R.Rule.value_of s.live.network.library) s.live.network.cells in
     let choices = choices_of s.search.premises in
     let n = length s.search.premises in
     rw (c.nogoods.ensures, c.premises.ensures)
@@ -29,7 +29,7 @@ returns g c =
     let s = c.args.self.now in
     record {
       keeps = unchanged c.requires.sound;
-      step = nogoods_obeyed (stored_of g.R.Rule.value_of s.network.library) (shown_of s) _
+      step = nogoods_obeyed (stored_of g.R.Rule.value_of s.live.network.library) (shown_of s) _
           (rw c.nogoods.ensures at c.nogoods_reply.ensures.in_order) c.requires.sound.at_work.search.nogoods
           c.requires.sound.at_work.well_made.minimal
           (rw (c.nogoods.ensures, c.premises.ensures) at c.nogoods_reply.ensures.says);

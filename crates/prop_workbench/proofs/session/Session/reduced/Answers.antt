@@ -12,20 +12,12 @@ use Rattle.prop_workbench.proofs.AskLemmas.{believes_whole, cell_there}
 use Rattle.prop_workbench.proofs.CoreLemmas.{core_known, rested_keeps, may_core, settled_core, too_few, used_up}
 use Rattle.prop_workbench.proofs.session.Session.reduced.Goals as goal
 
-pub reduce-ended-requires-clause-kept : goal.reduce-ended-requires-clause-kept
-reduce-ended-requires-clause-kept g c = c.requires.sound.at_work.under_way.kept
-
-pub reduce-ended-requires-clause-line : goal.reduce-ended-requires-clause-line
-reduce-ended-requires-clause-line g c = c.requires.sound.at_work.under_way.line_below
-
-pub reduce-ended-requires-clause-room : goal.reduce-ended-requires-clause-room
-reduce-ended-requires-clause-room g c = c.requires.sound.at_work.roomy
-
-pub reduce-ended-requires-clause-watched : goal.reduce-ended-requires-clause-watched
-reduce-ended-requires-clause-watched g c = c.requires.sound.at_work.watched.below
-
-pub reduce-ended-requires-clause-cells : goal.reduce-ended-requires-clause-cells
-reduce-ended-requires-clause-cells g c = c.requires.sound.at_work.cells
+pub reduce-ended-requires-clause-ready : goal.reduce-ended-requires-clause-ready
+reduce-ended-requires-clause-ready g c = record {
+  kept = c.requires.sound.at_work.under_way.kept;
+  line = c.requires.sound.at_work.under_way.line_below;
+  watched = c.requires.sound.at_work.watched.below;
+}
 
 pub reduce-ended-requires-clause-cell : goal.reduce-ended-requires-clause-cell
 reduce-ended-requires-clause-cell g c =
@@ -36,13 +28,13 @@ reduce-ended-requires-clause-settled g c = rw c.worldview.ensures.same c.require
 
 pub core_text-requires-clause-cell : goal.core_text-requires-clause-cell
 core_text-requires-clause-cell g c =
-    rw c.reduce-ended.ensures.rest (cell_there c.args.self.now c.args.name.now c.args.cell c.requires.sound
+    rw c.reduce-ended.ensures.ran.rest (cell_there c.args.self.now c.args.name.now c.args.cell c.requires.sound
     c.requires.named)
 
 pub core_text-requires-clause-known : goal.core_text-requires-clause-known
 core_text-requires-clause-known g c =
     let s = c.args.self.now in
-    core_known (problem_of (stored_of g.R.Rule.value_of s.network.library) s.network.cells) (length s.search.premises) _
+    core_known (problem_of (stored_of g.R.Rule.value_of s.live.network.library) s.live.network.cells) (length s.search.premises) _
     c.args.cell _ c.in-Ok.core c.requires.sound.at_work.known c.in-Ok.ensures.explains
 
 pub returns-in-Ok-clause-keeps : goal.returns-in-Ok-clause-keeps
@@ -50,30 +42,30 @@ returns-in-Ok-clause-keeps g c =
     let s = c.args.self.now in
     let e = c.reduce-ended.ensures in
     let t = c.reduce-ended.new in
-    rested_keeps g.R.Rule.value_of s (record s { network = t.network; agenda = t.agenda; order = t.order })
-    c.requires.sound e.same e.rest e.under_way e.watched e.room e.cells
+    rested_keeps g.R.Rule.value_of s (record s { live = t.live; order = t.order })
+    c.requires.sound e.ran.library e.ran.rest e.alive
 
 pub returns-in-Ok-clause-state : goal.returns-in-Ok-clause-state
 returns-in-Ok-clause-state g c =
     let s = c.args.self.now in
-    ap (λ (d : Data). state_from s.names s.words s.definitions s.search.premises d s.limit) c.reduce-ended.ensures.rest
+    ap (λ (d : Data). state_from s.names s.words s.definitions s.search.premises d s.limit) c.reduce-ended.ensures.ran.rest
 
 pub returns-in-Ok-clause-says : goal.returns-in-Ok-clause-says
 returns-in-Ok-clause-says g c =
     let s = c.args.self.now in
-    let library = stored_of g.R.Rule.value_of s.network.library in
+    let library = stored_of g.R.Rule.value_of s.live.network.library in
     let core = c.in-Ok.core in
     let name = c.args.name.now in
     let answer = answer_of c.core_text.result in
     let same = c.worldview.ensures.same ∙ refl in
     let believed = believes_whole s.search c.requires.sound.at_work.well_made c.requires.rest.full in
-    let rest = subst (λ (b : Members). IsSettled library b s.network.cells) believed c.requires.rest.settled in
-    let state : state_of (record s { network = c.reduce-ended.new.network }) ≡ state_of s =
+    let rest = subst (λ (b : Members). IsSettled library b s.live.network.cells) believed c.requires.rest.settled in
+    let state : state_of (record s { live = c.reduce-ended.new.live }) ≡ state_of s =
     ap (λ (d : Data). state_from s.names s.words s.definitions s.search.premises d s.limit)
-    c.reduce-ended.ensures.rest in
+    c.reduce-ended.ensures.ran.rest in
     may_core library (state_of s) s.search.list name c.args.cell core answer (c.args.steps + c.in-Ok.tries)
     c.requires.named
-    (settled_core library s.names s.words s.definitions s.search.premises s.network.cells s.limit s.search.list
+    (settled_core library s.names s.words s.definitions s.search.premises s.live.network.cells s.limit s.search.list
     (set_of s.search.worldview) c.args.cell core c.requires.sound.at_work.under_way.kept believed rest
     (rw c.worldview.ensures.same at c.in-Ok.ensures.explains))
     c.in-Ok.ensures.least (used_up core c.args.steps c.in-Ok.tries s.limit c.requires.within c.in-Ok.ensures.spent)
@@ -110,13 +102,13 @@ returns-in-Err-clause-keeps g c =
     let s = c.args.self.now in
     let e = c.reduce-ended.ensures in
     let t = c.reduce-ended.new in
-    rested_keeps g.R.Rule.value_of s (record s { network = t.network; agenda = t.agenda; order = t.order })
-    c.requires.sound e.same e.rest e.under_way e.watched e.room e.cells
+    rested_keeps g.R.Rule.value_of s (record s { live = t.live; order = t.order })
+    c.requires.sound e.ran.library e.ran.rest e.alive
 
 pub returns-in-Err-clause-state : goal.returns-in-Err-clause-state
 returns-in-Err-clause-state g c =
     let s = c.args.self.now in
-    ap (λ (d : Data). state_from s.names s.words s.definitions s.search.premises d s.limit) c.reduce-ended.ensures.rest
+    ap (λ (d : Data). state_from s.names s.words s.definitions s.search.premises d s.limit) c.reduce-ended.ensures.ran.rest
 
 pub returns-in-Err-clause-says : goal.returns-in-Err-clause-says
 returns-in-Err-clause-says g c = inr refl

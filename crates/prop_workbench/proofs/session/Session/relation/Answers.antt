@@ -21,11 +21,11 @@ returns-clause-keeps g c =
       library = refl;
       sound = record {
         at_work = c.requires.sound.at_work;
-        sized = made_or_not (λ (w : Vocabulary). All (IsSized w) s.network.cells.kinds) s.words
+        sized = made_or_not (λ (w : Vocabulary). All (IsSized w) s.live.network.cells.kinds) s.words
             c.declare_relation.new.self made r c.declare_relation.ensures.ok c.declare_relation.ensures.err
             c.requires.sound.sized (sized_same s.words
             (with_relation s.words c.args.name.now c.args.from.now c.args.to.now (pairs_of c.args.pairs.now))
-            s.network.cells.kinds refl c.requires.sound.sized);
+            s.live.network.cells.kinds refl c.requires.sound.sized);
         locals = made_or_not (λ (w : Vocabulary). AreLocalsOf (IsSized w) s.definitions) s.words
             c.declare_relation.new.self made r c.declare_relation.ensures.ok c.declare_relation.ensures.err
             c.requires.sound.locals (locals_same s.words
@@ -41,7 +41,7 @@ returns-clause-keeps g c =
 pub returns-clause-step : goal.returns-clause-step
 returns-clause-step g c =
     let s = c.args.self.now in
-    obeys_done (stored_of g.R.Rule.value_of s.network.library) (state_of s) _
+    obeys_done (stored_of g.R.Rule.value_of s.live.network.library) (state_of s) _
     (commands.Command.Relation c.args.name.now c.args.from.now c.args.to.now (pairs_of c.args.pairs.now))
     c.declare_relation.result c.declare_relation.ensures.allowed
     (on_ok_weaker c.declare_relation.result

@@ -24,7 +24,7 @@ unsettled-requires-clause-sound g c = c.requires.sound
 pub contradiction_reply-requires : goal.contradiction_reply-requires
 contradiction_reply-requires g c =
     let s = c.args.self.now in
-    let library = stored_of g.R.Rule.value_of s.network.library in
+    let library = stored_of g.R.Rule.value_of s.live.network.library in
     let ends : MayEnd library (state_of s) (Contradiction c.in-Contradiction.premises) =
     rw c.in-Contradiction.is at c.requires.run.ends in
     rw c.premises.ensures (believed_known s.search.premises c.in-Contradiction.premises ends.believes)
@@ -38,14 +38,14 @@ returns-in-Settled-clause-lean g c = c.settled.ensures.lean
 pub returns-in-Contradiction-clause-says : goal.returns-in-Contradiction-clause-says
 returns-in-Contradiction-clause-says g c =
     let s = c.args.self.now in
-    rw c.in-Contradiction.is (may_contradict (stored_of g.R.Rule.value_of s.network.library) (state_of s)
+    rw c.in-Contradiction.is (may_contradict (stored_of g.R.Rule.value_of s.live.network.library) (state_of s)
     (command_of c.args.question) c.in-Contradiction.premises _ c.args.steps c.contradiction_reply.ensures.in_order
     (rw c.premises.ensures at c.contradiction_reply.ensures.says))
 
 pub returns-in-Contradiction-clause-lean : goal.returns-in-Contradiction-clause-lean
 returns-in-Contradiction-clause-lean g c =
     let s = c.args.self.now in
-    lean_contradicted (worldview_at (state_of s) s.search.list) s.network.cells (state_of s) c.args.question _
+    lean_contradicted (worldview_at (state_of s) s.search.list) s.live.network.cells (state_of s) c.args.question _
     (contradiction_said (state_of s) c.in-Contradiction.premises _
     (rw c.premises.ensures at c.contradiction_reply.ensures.says))
 

@@ -18,10 +18,10 @@ use Rattle.prop_workbench.proofs.session.Session.say.Goals as goal
 pub returns-in-Err-clause-step : goal.returns-in-Err-clause-step
 returns-in-Err-clause-step g c =
     let s = c.args.self.now in
-    let library = stored_of g.R.Rule.value_of s.network.library in
-    let kind : kind_at s.network.cells.kinds c.in-Some.cell ≡ c.kind-kind.result =
+    let library = stored_of g.R.Rule.value_of s.live.network.library in
+    let kind : kind_at s.live.network.cells.kinds c.in-Some.cell ≡ c.kind-kind.result =
     sym (rw c.data.ensures at c.kind-kind.ensures) in
-    let said : meaning_at s.words (kind_at s.network.cells.kinds c.in-Some.cell).kind (value_of c.args.value.now) ≡ Err
+    let said : meaning_at s.words (kind_at s.live.network.cells.kinds c.in-Some.cell).kind (value_of c.args.value.now) ≡ Err
     c.in-Err.refusal = rw (← kind) at c.in-Err.ensures.err in
     refuses library (state_of s) (state_of s)
     (stating (name_of c.args.premise) c.args.name.now (value_of c.args.value.now)) c.in-Err.refusal
@@ -31,16 +31,16 @@ returns-in-Err-clause-step g c =
 pub state_meant-requires-clause-may : goal.state_meant-requires-clause-may
 state_meant-requires-clause-may g c =
     let s = c.args.self.now in
-    let below : c.in-Some.cell < length s.network.cells.kinds =
-    of_named (λ k. k < length s.network.cells.kinds) s.names c.args.name.now c.in-Some.cell c.requires.sound.named
+    let below : c.in-Some.cell < length s.live.network.cells.kinds =
+    of_named (λ k. k < length s.live.network.cells.kinds) s.names c.args.name.now c.in-Some.cell c.requires.sound.named
     (sym c.in-Some.ensures.number) in
-    let kind : kind_at s.network.cells.kinds c.in-Some.cell ≡ c.kind-kind.result =
+    let kind : kind_at s.live.network.cells.kinds c.in-Some.cell ≡ c.kind-kind.result =
     sym (rw c.data.ensures at c.kind-kind.ensures) in
-    let said : meaning_at s.words (kind_at s.network.cells.kinds c.in-Some.cell).kind (value_of c.args.value.now) ≡ Ok
+    let said : meaning_at s.words (kind_at s.live.network.cells.kinds c.in-Some.cell).kind (value_of c.args.value.now) ≡ Ok
     (meant_of c.in-Ok.meant) = rw (← kind) at c.in-Ok.ensures.ok in
     let few = rw (← kind) at c.in-Ok.ensures.few in
-    value_may_be (kind_at s.network.cells.kinds c.in-Some.cell)
-    (elements_of_kind s.words (kind_at s.network.cells.kinds c.in-Some.cell).kind) (value_of c.args.value.now)
+    value_may_be (kind_at s.live.network.cells.kinds c.in-Some.cell)
+    (elements_of_kind s.words (kind_at s.live.network.cells.kinds c.in-Some.cell).kind) (value_of c.args.value.now)
     (meant_of c.in-Ok.meant)
     (c.requires.sound.sized c.in-Some.cell span_kind below).1 few said
 

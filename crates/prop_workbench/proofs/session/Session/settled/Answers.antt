@@ -30,14 +30,14 @@ explained-requires-clause-sound g c = c.requires.sound
 pub returns-in-Settle-clause-says : goal.returns-in-Settle-clause-says
 returns-in-Settle-clause-says g c =
     let s = c.args.self.now in
-    let library = stored_of g.R.Rule.value_of s.network.library in
+    let library = stored_of g.R.Rule.value_of s.live.network.library in
     λ steps. rw c.in-Settle.is (may_say library (state_of s) commands.Command.Settle (Settled s.search.list)
     (codes "settled") _ steps refl c.text_reply.ensures)
 
 pub returns-in-Worldview-clause-says : goal.returns-in-Worldview-clause-says
 returns-in-Worldview-clause-says g c =
     let s = c.args.self.now in
-    let library = stored_of g.R.Rule.value_of s.network.library in
+    let library = stored_of g.R.Rule.value_of s.live.network.library in
     let same = believes_whole s.search c.requires.sound.at_work.well_made c.requires.rest.full in
     λ steps. rw c.in-Worldview.is (may_say library (state_of s) commands.Command.Worldview (Settled s.search.list)
     (worldview_text s.search.premises (set_of s.search.worldview)) _ steps
@@ -50,9 +50,9 @@ returns-in-Ask-clause-says g c =
     let value = g.R.Rule.value_of in
     let cell = c.in-Ask.cell in
     let name = c.in-Ask.name.now in
-    let v = beliefs (set_of s.search.worldview) s.network.cells.contents cell in
+    let v = beliefs (set_of s.search.worldview) s.live.network.cells.contents cell in
     let named : cell_named s.names name ≡ Some cell = rw c.in-Ask.is at c.requires.named in
-    λ steps. rw c.in-Ask.is (may_say_value (stored_of value s.network.library) (state_of s) (commands.Command.Ask name)
+    λ steps. rw c.in-Ask.is (may_say_value (stored_of value s.live.network.library) (state_of s) (commands.Command.Ask name)
     (Settled s.search.list) name cell v [] _ steps named
     (settled_in value s cell c.requires.sound c.requires.rest) (λ text r. r)
     (rw (c.belief-info.ensures, c.worldview-in-Ask.ensures.same) at c.value_of.ensures))
@@ -63,9 +63,9 @@ returns-in-Why-clause-says g c =
     let value = g.R.Rule.value_of in
     let cell = c.in-Why.cell in
     let name = c.in-Why.name.now in
-    let v = beliefs (set_of s.search.worldview) s.network.cells.contents cell in
+    let v = beliefs (set_of s.search.worldview) s.live.network.cells.contents cell in
     let named : cell_named s.names name ≡ Some cell = rw c.in-Why.is at c.requires.named in
-    λ steps. rw c.in-Why.is (may_explain (stored_of value s.network.library) (state_of s) (commands.Command.Why name)
+    λ steps. rw c.in-Why.is (may_explain (stored_of value s.live.network.library) (state_of s) (commands.Command.Why name)
     (Settled s.search.list) name cell v [] _ steps named
     (settled_in value s cell c.requires.sound c.requires.rest) (λ text r. r)
     (explained_in value s (set_of s.search.worldview) cell v name [] _

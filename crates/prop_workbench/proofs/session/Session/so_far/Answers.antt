@@ -33,7 +33,7 @@ explained-requires-clause-sound g c = c.requires.sound
 pub returns-in-Settle-clause-says : goal.returns-in-Settle-clause-says
 returns-in-Settle-clause-says g c =
     let s = c.args.self.now in
-    may_say_unsettled (stored_of g.R.Rule.value_of s.network.library) (state_of s) s.search.list c.args.question _
+    may_say_unsettled (stored_of g.R.Rule.value_of s.live.network.library) (state_of s) s.search.list c.args.question _
     s.limit c.in-Settle.is refl c.text_reply.ensures
 
 pub returns-in-Ask-clause-says : goal.returns-in-Ask-clause-says
@@ -44,9 +44,9 @@ returns-in-Ask-clause-says g c =
     let name = c.in-Ask.name.now in
     let whole = set_of c.args.whole.now in
     let same = same_set whole (worldview_at (state_of s) s.search.list) c.requires.whole in
-    let v = beliefs whole s.network.cells.contents cell in
+    let v = beliefs whole s.live.network.cells.contents cell in
     let named : cell_named s.names name ≡ Some cell = rw c.in-Ask.is at c.requires.named in
-    rw c.in-Ask.is (may_say_value (stored_of value s.network.library) (state_of s) (commands.Command.Ask name)
+    rw c.in-Ask.is (may_say_value (stored_of value s.live.network.library) (state_of s) (commands.Command.Ask name)
     (Unsettled s.search.list) name cell v (codes " unsettled") _ s.limit named
     (unsettled_in value s whole name cell c.requires.sound named same) (λ text r. (r, refl))
     (rw c.belief.ensures at c.value_of.ensures))
@@ -59,16 +59,16 @@ returns-in-Why-clause-says g c =
     let name = c.in-Why.name.now in
     let whole = set_of c.args.whole.now in
     let same = same_set whole (worldview_at (state_of s) s.search.list) c.requires.whole in
-    let v = beliefs whole s.network.cells.contents cell in
+    let v = beliefs whole s.live.network.cells.contents cell in
     let named : cell_named s.names name ≡ Some cell = rw c.in-Why.is at c.requires.named in
-    rw c.in-Why.is (may_explain (stored_of value s.network.library) (state_of s) (commands.Command.Why name)
+    rw c.in-Why.is (may_explain (stored_of value s.live.network.library) (state_of s) (commands.Command.Why name)
     (Unsettled s.search.list) name cell v (codes " unsettled") _ s.limit named
     (unsettled_in value s whole name cell c.requires.sound named same) (λ text r. (r, refl))
     (explained_in value s whole cell v name (codes " unsettled") _ same c.explained.ensures.explained))
 
 pub returns-in-Settle-clause-lean : goal.returns-in-Settle-clause-lean
 returns-in-Settle-clause-lean g c = lean_bare (worldview_at (state_of c.args.self.now) c.args.self.now.search.list)
-    c.args.self.now.network.cells (state_of c.args.self.now) c.args.question _ c.in-Settle.is
+    c.args.self.now.live.network.cells (state_of c.args.self.now) c.args.question _ c.in-Settle.is
 
 pub returns-in-Ask-clause-lean : goal.returns-in-Ask-clause-lean
 returns-in-Ask-clause-lean g c = rw c.in-Ask.is tt
@@ -92,7 +92,7 @@ returns-in-Ask-clause-believed g c =
     let cell = c.in-Ask.cell in
     let name = c.in-Ask.name.now in
     let named : cell_named s.names name ≡ Some cell = rw c.in-Ask.is at c.requires.named in
-    let says = λ (b : Members). equation name (text_at (state_of s) cell (beliefs b s.network.cells.contents cell))
+    let says = λ (b : Members). equation name (text_at (state_of s) cell (beliefs b s.live.network.cells.contents cell))
     (codes " unsettled") in
     rw c.in-Ask.is (λ (text : List ℕ) is. (
       cell,
@@ -109,7 +109,7 @@ returns-in-Why-clause-believed g c =
     let named : cell_named s.names name ≡ Some cell = rw c.in-Why.is at c.requires.named in
     rw c.in-Why.is (λ (text : List ℕ) is.
     let lean = c.explained.ensures.lean text is in
-    let says = λ (b : Members). equation name (text_at (state_of s) cell (beliefs b s.network.cells.contents cell))
+    let says = λ (b : Members). equation name (text_at (state_of s) cell (beliefs b s.live.network.cells.contents cell))
     (because s.search.premises (codes " unsettled") lean.premises) in (
       lean.premises,
       (

@@ -7,29 +7,28 @@ use Rattle.prop_workbench.proofs.AskLemmas.{believes_same}
 use Rattle.prop_workbench.specs.Sessions.{work_of}
 use Rattle.prop_workbench.proofs.session.Session.state.Goals as goal
 
-pub state-requires-clause-under_way : goal.state-requires-clause-under_way
-state-requires-clause-under_way g c =
-    rw c.worldview.ensures.same c.requires.sound.at_work.under_way
-
-pub state-requires-clause-watched : goal.state-requires-clause-watched
-state-requires-clause-watched g c = rw c.worldview.ensures.same c.requires.sound.at_work.watched
+pub state-requires-clause-alive : goal.state-requires-clause-alive
+state-requires-clause-alive g c = rw c.worldview.ensures.same (record {
+  under_way = c.requires.sound.at_work.under_way;
+  watched = c.requires.sound.at_work.watched;
+})
 
 pub returns-clause-keeps : goal.returns-clause-keeps
 returns-clause-keeps g c =
     let s = c.args.self.now in
     let sound = c.requires.sound in
-    let library = stored_of g.R.Rule.value_of s.network.library in
+    let library = stored_of g.R.Rule.value_of s.live.network.library in
     let statement : Statement = record { premise = c.args.premise; cell = c.args.cell; info = c.args.info } in
     let rest = c.in_ok-state.ensures.ok.rest in
-    let kinds : c.state.new.network.cells.kinds ≡ s.network.cells.kinds =
-    stated_kinds s.network.cells c.state.new.network.cells statement rest in
+    let kinds : c.state.new.live.network.cells.kinds ≡ s.live.network.cells.kinds =
+    stated_kinds s.live.network.cells c.state.new.live.network.cells statement rest in
     record {
       library = c.state.ensures.same;
       sound = record {
-        at_work = rw c.state.ensures.same (stated_at_work library s.search s.network.cells c.state.new.network.cells
-            s.agenda c.state.new.agenda statement sound.at_work rest c.requires.known
-            (rw (c.worldview.ensures.same, c.state.ensures.same) at c.state.ensures.under_way) c.state.ensures.room
-            (rw c.worldview.ensures.same at c.state.ensures.watched) c.state.ensures.cells);
+        at_work = rw c.state.ensures.same (stated_at_work library s.search s.live.network.cells c.state.new.live.network.cells
+            s.live.agenda c.state.new.live.agenda statement sound.at_work rest c.requires.known
+            (rw (c.worldview.ensures.same, c.state.ensures.same) at c.state.ensures.alive.under_way)
+            (rw c.worldview.ensures.same at c.state.ensures.alive.watched));
         sized = rw kinds sound.sized;
         locals = sound.locals;
         named = rw kinds sound.named;

@@ -20,44 +20,37 @@ returns-in-Err-clause-keeps g c = same_keeps g.R.Rule.value_of c.args.self.now c
 
 -- ---- the statement is made
 
-pub state-requires-clause-under_way : goal.state-requires-clause-under_way
-state-requires-clause-under_way g c =
+pub state-requires-clause-alive : goal.state-requires-clause-alive
+state-requires-clause-alive g c =
     let s = c.args.self.now in
-    let library = stored_of g.R.Rule.value_of s.network.library in
-    rw c.worldview.ensures.same (named_at_work library s.search c.intern.new.self c.args.name.now s.network.cells
-    s.agenda c.requires.sound.at_work c.requires.new c.in-Ok.ensures.ok c.worldview.ensures.stand
-    (c.intern.ensures.search (problem_of library s.network.cells))).under_way
-
-pub state-requires-clause-watched : goal.state-requires-clause-watched
-state-requires-clause-watched g c =
-    let s = c.args.self.now in
-    let library = stored_of g.R.Rule.value_of s.network.library in
-    rw c.worldview.ensures.same (named_at_work library s.search c.intern.new.self c.args.name.now s.network.cells
-    s.agenda c.requires.sound.at_work c.requires.new c.in-Ok.ensures.ok c.worldview.ensures.stand
-    (c.intern.ensures.search (problem_of library s.network.cells))).watched
+    let library = stored_of g.R.Rule.value_of s.live.network.library in
+    let named = named_at_work library s.search c.intern.new.self c.args.name.now s.live.network.cells
+    s.live.agenda c.requires.sound.at_work c.requires.new c.in-Ok.ensures.ok c.worldview.ensures.stand
+    (c.intern.ensures.search (problem_of library s.live.network.cells)) in
+    rw c.worldview.ensures.same (record { under_way = named.under_way; watched = named.watched })
 
 pub returns-in-Ok-state-clause-keeps : goal.returns-in-Ok-state-clause-keeps
 returns-in-Ok-state-clause-keeps g c =
     let s = c.args.self.now in
     let name = c.args.name.now in
     let new = c.intern.new.self in
-    let library = stored_of g.R.Rule.value_of s.network.library in
+    let library = stored_of g.R.Rule.value_of s.live.network.library in
     let sound = c.requires.sound in
     let made : new ≡ interned s.search name = c.in-Ok.ensures.ok in
-    let named = named_at_work library s.search new name s.network.cells s.agenda sound.at_work c.requires.new made
-    c.worldview.ensures.stand (c.intern.ensures.search (problem_of library s.network.cells)) in
+    let named = named_at_work library s.search new name s.live.network.cells s.live.agenda sound.at_work c.requires.new made
+    c.worldview.ensures.stand (c.intern.ensures.search (problem_of library s.live.network.cells)) in
     let statement : Statement = record { premise = Some c.in-Ok.premise; cell = c.args.cell; info = c.args.info } in
     let rest = c.in-Ok-state.ensures.ok.rest in
-    let kinds : c.state.new.network.cells.kinds ≡ s.network.cells.kinds =
-    stated_kinds s.network.cells c.state.new.network.cells statement rest in
-    let under_way = rw (c.worldview.ensures.same, c.state.ensures.same) at c.state.ensures.under_way in
+    let kinds : c.state.new.live.network.cells.kinds ≡ s.live.network.cells.kinds =
+    stated_kinds s.live.network.cells c.state.new.live.network.cells statement rest in
+    let under_way = rw (c.worldview.ensures.same, c.state.ensures.same) at c.state.ensures.alive.under_way in
     record {
       library = c.state.ensures.same;
       sound = record {
-        at_work = rw c.state.ensures.same (stated_at_work library new s.network.cells c.state.new.network.cells s.agenda
-            c.state.new.agenda statement named rest
+        at_work = rw c.state.ensures.same (stated_at_work library new s.live.network.cells c.state.new.live.network.cells s.live.agenda
+            c.state.new.live.agenda statement named rest
             (new_number s.search new name c.in-Ok.premise c.requires.new made c.in-Ok.ensures.number) under_way
-            c.state.ensures.room (rw c.worldview.ensures.same at c.state.ensures.watched) c.state.ensures.cells);
+            (rw c.worldview.ensures.same at c.state.ensures.alive.watched));
         sized = rw kinds sound.sized;
         locals = sound.locals;
         named = rw kinds sound.named;
@@ -72,7 +65,7 @@ returns-in-Ok-state-clause-keeps g c =
 pub returns-in-Err-state-clause-keeps : goal.returns-in-Err-state-clause-keeps
 returns-in-Err-state-clause-keeps g c =
     let s = c.args.self.now in
-    back_keeps g.R.Rule.value_of s (record s { network = c.state.new.network; agenda = c.state.new.agenda })
+    back_keeps g.R.Rule.value_of s (record s { live = c.state.new.live })
     c.take_back.new.self c.requires.sound
     (c.take_back.ensures.undoes s.search c.args.name.now c.requires.sound.at_work.well_made c.requires.new
     c.in-Ok.ensures.ok) c.state.ensures.same c.in-Err-state.ensures.err_same c.in-Err-state.ensures.err_line
@@ -86,13 +79,13 @@ pub returns-in-Ok-state-clause-stirred : goal.returns-in-Ok-state-clause-stirred
 returns-in-Ok-state-clause-stirred g c =
     let s = c.args.self.now in
     let new = c.intern.new.self in
-    let d = s.network.cells in
+    let d = s.live.network.cells in
     let work = c.requires.sound.at_work in
     let made : new ≡ interned s.search c.args.name.now = c.in-Ok.ensures.ok in
-    let same = named_beliefs (stored_of g.R.Rule.value_of s.network.library) s.search new c.args.name.now d
+    let same = named_beliefs (stored_of g.R.Rule.value_of s.live.network.library) s.search new c.args.name.now d
     work.under_way.kept work.known c.requires.new made in
     let line = stirred_from (set_of s.search.worldview) (set_of new.worldview) (set_of new.worldview) d
-    c.state.new.network.cells s.agenda.line c.state.new.agenda.line same
+    c.state.new.live.network.cells s.live.agenda.line c.state.new.live.agenda.line same
     (rw c.worldview.ensures.same at c.in-Ok-state.ensures.stirred) in
     record {
       list_is = ap (λ (t : Stand). t.list) (made ∙ new_stand s.search c.args.name.now c.requires.new);

@@ -11,12 +11,12 @@ use Rattle.prop_workbench.proofs.session.Session.unsettled.Goals as goal
 pub returns-in-Settle-clause-says : goal.returns-in-Settle-clause-says
 returns-in-Settle-clause-says g c =
     let s = c.args.self.now in
-    may_say_unsettled (stored_of g.R.Rule.value_of s.network.library) (state_of s) s.search.list c.args.question _
+    may_say_unsettled (stored_of g.R.Rule.value_of s.live.network.library) (state_of s) s.search.list c.args.question _
     s.limit c.in-Settle.is refl c.text_reply.ensures
 
 pub returns-in-Settle-clause-lean : goal.returns-in-Settle-clause-lean
 returns-in-Settle-clause-lean g c = lean_bare (worldview_at (state_of c.args.self.now) c.args.self.now.search.list)
-    c.args.self.now.network.cells (state_of c.args.self.now) c.args.question _ c.in-Settle.is
+    c.args.self.now.live.network.cells (state_of c.args.self.now) c.args.question _ c.in-Settle.is
 
 pub returns-in-Settle-clause-believed : goal.returns-in-Settle-clause-believed
 returns-in-Settle-clause-believed g c =

@@ -28,7 +28,7 @@ make-requires-clause-kept g c = c.requires.sound.at_work.under_way.kept
 pub make-requires-clause-may : goal.make-requires-clause-may
 make-requires-clause-may g c =
     let s = c.args.self.now in
-    may_make (stored_of g.R.Rule.value_of s.network.library) s.words s.definitions s.network.cells c.args.name.now
+    may_make (stored_of g.R.Rule.value_of s.live.network.library) s.words s.definitions s.live.network.cells c.args.name.now
     c.args.cells.now (given_by s.words (by_of c.args.by)) c.in-Ok.flat c.requires.cells c.in-Ok.ensures.fits
     c.in-Ok.ensures.ok c.in-Ok.ensures.safe
 
@@ -37,15 +37,17 @@ returns-in-Ok-clause-keeps g c = record {
   library = c.make.ensures.same;
   sound =
       let s = c.args.self.now in
-      let d = s.network.cells in
-      let new = c.make.new.network.cells in
+      let d = s.live.network.cells in
+      let new = c.make.new.live.network.cells in
       let cells = c.args.cells.now in
-      let library = stored_of g.R.Rule.value_of s.network.library in
+      let library = stored_of g.R.Rule.value_of s.live.network.library in
       let made = with_flat library d cells c.in-Ok.flat in
       let was = c.requires.sound in
+      let alive = c.make.ensures.alive (set_of s.search.worldview)
+      (record { under_way = was.at_work.under_way; watched = was.at_work.watched }) in
       record {
         at_work = record {
-          under_way = c.make.ensures.under_way (set_of s.search.worldview) was.at_work.under_way;
+          under_way = alive.under_way;
           well_made = was.at_work.well_made;
           search = rw c.make.ensures.same (made_or_not (λ (x : Data). IsSearch (problem_of library x) s.search) d new
               made c.make.result c.make.ensures.ok c.make.ensures.err_same was.at_work.search
@@ -59,9 +61,7 @@ returns-in-Ok-clause-keeps g c = record {
               }) was.at_work.search));
           known = made_or_not (λ (x : Data). AreKnown (length s.search.premises) x.statements) d new made c.make.result
               c.make.ensures.ok c.make.ensures.err_same was.at_work.known was.at_work.known;
-          roomy = c.make.ensures.room was.at_work.roomy;
-          watched = c.make.ensures.watched (set_of s.search.worldview) was.at_work.watched;
-          cells = c.make.ensures.cells was.at_work.cells;
+          watched = alive.watched;
         };
         sized = made_or_not (λ (x : Data). All (IsSized s.words) x.kinds) d new made c.make.result c.make.ensures.ok
             c.make.ensures.err_same was.sized
@@ -80,24 +80,24 @@ returns-in-Ok-clause-keeps g c = record {
 pub returns-in-Ok-clause-fits : goal.returns-in-Ok-clause-fits
 returns-in-Ok-clause-fits g c =
     let s = c.args.self.now in
-    on_ok_weaker c.make.result (with_room (stored_of g.R.Rule.value_of s.network.library) s.names s.words s.definitions
-    s.search.premises s.network.cells s.limit c.args.name.now c.args.cells.now (by_of c.args.by) c.in-Ok.flat
+    on_ok_weaker c.make.result (with_room (stored_of g.R.Rule.value_of s.live.network.library) s.names s.words s.definitions
+    s.search.premises s.live.network.cells s.limit c.args.name.now c.args.cells.now (by_of c.args.by) c.in-Ok.flat
     c.in-Ok.ensures.ok c.in-Ok.ensures.fits)
     c.make.ensures.fits
 
 pub returns-in-Ok-clause-ok : goal.returns-in-Ok-clause-ok
 returns-in-Ok-clause-ok g c =
     let s = c.args.self.now in
-    on_ok_weaker c.make.result (state_made (stored_of g.R.Rule.value_of s.network.library) s.names s.words s.definitions
-    s.search.premises s.network.cells s.limit c.args.name.now c.args.cells.now (by_of c.args.by) c.in-Ok.flat
-    c.in-Ok.ensures.ok c.make.new.network.cells)
+    on_ok_weaker c.make.result (state_made (stored_of g.R.Rule.value_of s.live.network.library) s.names s.words s.definitions
+    s.search.premises s.live.network.cells s.limit c.args.name.now c.args.cells.now (by_of c.args.by) c.in-Ok.flat
+    c.in-Ok.ensures.ok c.make.new.live.network.cells)
     c.make.ensures.ok
 
 pub returns-in-Ok-clause-err : goal.returns-in-Ok-clause-err
 returns-in-Ok-clause-err g c =
     let s = c.args.self.now in
-    IfErr-weaker c.make.result _ _ (no_room (stored_of g.R.Rule.value_of s.network.library) s.names s.words
-    s.definitions s.search.premises s.network.cells s.limit c.args.name.now c.args.cells.now (by_of c.args.by)
+    IfErr-weaker c.make.result _ _ (no_room (stored_of g.R.Rule.value_of s.live.network.library) s.names s.words
+    s.definitions s.search.premises s.live.network.cells s.limit c.args.name.now c.args.cells.now (by_of c.args.by)
     c.in-Ok.flat c.in-Ok.ensures.ok c.in-Ok.ensures.fits)
     c.make.ensures.err
 
@@ -121,7 +121,7 @@ returns-in-Err-clause-keeps g c = unchanged c.requires.sound
 pub returns-in-Err-clause-err : goal.returns-in-Err-clause-err
 returns-in-Err-clause-err g c =
     let s = c.args.self.now in
-    unexpanded (stored_of g.R.Rule.value_of s.network.library) (state_of s) c.args.name.now c.args.cells.now
+    unexpanded (stored_of g.R.Rule.value_of s.live.network.library) (state_of s) c.args.name.now c.args.cells.now
     (by_of c.args.by) c.in-Err.refusal c.in-Err.ensures.err
 
 -- ---- what waits then
@@ -129,8 +129,8 @@ returns-in-Err-clause-err g c =
 pub returns-in-Ok-clause-stirred : goal.returns-in-Ok-clause-stirred
 returns-in-Ok-clause-stirred g c =
     let s = c.args.self.now in
-    let new = record s { network = c.make.new.network; agenda = c.make.new.agenda } in
-    let stirs : ((a b : Premises) → AreStirred a b s.network.cells new.network.cells s.agenda.line new.agenda.line)
+    let new = record s { live = c.make.new.live } in
+    let stirs : ((a b : Premises) → AreStirred a b s.live.network.cells new.live.network.cells s.live.agenda.line new.live.agenda.line)
     → IsStirred (state_of s) (state_of new) s.search.list s.search.level (work_of s) (work_of new) =
     λ h. record {
       list_is = refl;
@@ -138,7 +138,7 @@ returns-in-Ok-clause-stirred g c =
       order = refl;
       line = h (believed_at (state_of s) s.search) (believed_at (state_of new) s.search);
     } in
-    let same : new.network.cells ≡ s.network.cells → new.agenda.line ≡ s.agenda.line
+    let same : new.live.network.cells ≡ s.live.network.cells → new.live.agenda.line ≡ s.live.agenda.line
     → work_of new ≡ work_of s = λ cells line i. record (work_of s) { cells = cells i; line = line i } in
     stirred_or_not s new s.search.list c.make.result (on_ok_weaker c.make.result stirs c.make.ensures.stirred)
     (on_err_both c.make.result same c.make.ensures.err_same c.make.ensures.err_line)
