@@ -43,14 +43,6 @@ part_no_larger a b up w =
     (λ i j d l m e. let below = AllPairs-from_increasing a up i j d l m in absurd (omega (arith, below, e))))
     (λ q m. within_has (set_of b) a q w m)
 
--- no part of a set is larger than it
-pub larger_no_part : (a b : List ℕ) → IsStrictlyIncreasing a → length b < length a → is_within (set_of b) a ≡ false
-larger_no_part a b up l = by (is_within (set_of b) a) refl
-  where
-    by : (t : Bool) → is_within (set_of b) a ≡ t → t ≡ false
-    by true w = let most = part_no_larger a b up w in absurd (omega (arith, l, most))
-    by false w = refl
-
 -- a set that is part of one no larger than it has all of that one
 pub part_is_whole : (a b : List ℕ) → IsStrictlyIncreasing a → is_within (set_of b) a ≡ true → length b ≤ length a
     → is_within (set_of a) b ≡ true

@@ -4,6 +4,7 @@ ghost use Rattle.std.specs.Prelude.{nat_lt, vec_capacity, false, All, None, Cont
 ghost use Rattle.std.specs.Prelude.{IfSome, OnOk, OnErr};
 ghost use Rattle.std.specs.List.Sorted.{IsPartitionPoint, IsStrictlyIncreasing};
 ghost use Rattle.prop_numbers.specs.Sets.{set_of, is_within};
+ghost use Rattle.prop_numbers.specs.Signatures.{remainders, AreRemainders};
 ghost use Rattle.prop_nogoods.specs.Stores.{has_part, staying, AreBySize, PartsEndBelow};
 ghost use Rattle.prop_nogoods.specs.inner.Endings.{Group, EndsSo, AreInOrder, end_of, sets_of};
 ghost use Rattle.prop_nogoods.specs.inner.Endings.{HasOneMore, HasRoom, NoPartEnds, left_of};
@@ -11,7 +12,7 @@ ghost use Rattle.prop_nogoods.specs.inner.Endings.{lacking_of};
 ghost use Rattle.prop_nogoods.specs.inner.Stores.{IsPartOfNone};
 
 use crate::listed::{Listed, drop_holding, drop_larger, first_believed, has_larger, place_of};
-use prop_premises::{Premise, PremiseSet, Worldview};
+use prop_premises::{Premise, PremiseSet, Signature, Worldview};
 use std::alloc::{AllocError, Global};
 use std::marker::Model;
 
@@ -114,10 +115,17 @@ impl Ending {
         has_larger(&self.nogoods, nogood)
     }
 
-    /// The first nogood of which every premise is believed. Where the last premise isn't, or has a
-    /// number below this one, it looks at no nogood.
+    /// The first nogood of which every premise is believed in the worldview, which has this
+    /// signature. Where the last premise isn't, or has a number below this one, it looks at no
+    /// nogood.
     #[inline]
-    fn first_believed(&self, worldview: &Worldview, from: Premise) -> Option<&Listed>
+    fn first_believed(
+        &self,
+        worldview: &Worldview,
+        signature: Signature,
+        from: Premise,
+    ) -> Option<&Listed>
+        requires { AreRemainders (set_of worldview.now) (remainders signature) }
         ensures listed { IfSome result (λ s. Contains self.now.sets s.now) }
         ensures believed { IfSome result (λ s. IsTrue (is_within (set_of worldview.now) s.now)) }
         ensures none { result ≡ None → PartsEndBelow self.now.sets (set_of worldview.now) from }
@@ -126,7 +134,7 @@ impl Ending {
         if last < from || !worldview.has(last) {
             return None;
         }
-        first_believed(&self.nogoods, worldview)
+        first_believed(&self.nogoods, worldview, signature)
     }
 }
 
@@ -269,10 +277,11 @@ pub(crate) fn earliest_believed<'a>(
     ensures believed { IfSome result (λ s. IsTrue (is_within (set_of worldview.now) s.now)) }
     ensures none { result ≡ None → PartsEndBelow (sets_of endings.now) (set_of worldview.now) from }
 {
+    let signature = worldview.signature();
     let place = place_for(endings, Some(from));
     let behind = &endings[place..];
     for ending in behind {
-        if let Some(nogood) = ending.first_believed(worldview, from) {
+        if let Some(nogood) = ending.first_believed(worldview, signature, from) {
             return Some(nogood);
         }
     }

@@ -3,24 +3,24 @@ ghost use Rattle.std.specs.Prelude.{◌≡◌, ◌<◌, ◌≤◌, List, ℕ, le
 ghost use Rattle.std.specs.Prelude.{IsTrue, IfOk, IfSome, vec_capacity, vec_len};
 ghost use Rattle.std.specs.List.Sorted.{IsPartitionPoint, IsStrictlyIncreasing};
 ghost use Rattle.prop_numbers.specs.Sets.{set_of, is_within};
+ghost use Rattle.prop_numbers.specs.Signatures.{remainders, AreRemainders};
 ghost use Rattle.prop_nogoods.specs.Stores.{has_part, staying, lacking, AreBySize};
 ghost use Rattle.prop_nogoods.specs.inner.Endings.{EndsSo};
 ghost use Rattle.prop_nogoods.specs.inner.Stores.{IsPartOfNone};
 
-use prop_premises::{Premise, PremiseSet, Worldview};
+use prop_premises::{Premise, PremiseSet, Signature, Worldview};
 use std::alloc::{AllocError, Global};
 use std::marker::Model;
 use std::rc::Rc;
 
-/// A set of premises that can't all be believed, with how many they are and the last three of them.
-/// Of most sets that aren't believed these tell it, so that the set itself isn't looked at. It
-/// stands in memory once, in however many lists it is.
+/// A set of premises that can't all be believed, with how many they are, the last of them and a
+/// signature. Of most sets that aren't believed the signature tells it, and the set itself isn't
+/// looked at. It stands in memory once, in however many lists it is.
 #[derive(Drop)]
 pub(crate) struct Listed {
-    size: usize,
+    size: u32,
     last: Option<Premise>,
-    second_last: Option<Premise>,
-    third_last: Option<Premise>,
+    signature: Signature,
     premises: Rc<PremiseSet, Global>,
 }
 
@@ -32,8 +32,7 @@ impl Model for Listed {
     ghost invariant = { λ l. (l.size ≡ length l.premises.value)
         × IsStrictlyIncreasing l.premises.value
         × EndsSo l.last l.premises.value
-        × IfSome l.second_last (λ p. IsTrue (set_of l.premises.value p))
-        × IfSome l.third_last (λ p. IsTrue (set_of l.premises.value p)) };
+        × AreRemainders (set_of l.premises.value) (remainders l.signature) };
 }
 
 impl Listed {
@@ -43,20 +42,16 @@ impl Listed {
     {
         let mut size = 0;
         let mut last = None;
-        let mut second_last = None;
-        let mut third_last = None;
         for premise in premises.iter() {
             size += 1;
-            third_last = second_last;
-            second_last = last;
             last = Some(premise);
         }
+        let signature = premises.signature();
         let premises = Rc::new(alloc, premises)?;
         Ok(Listed {
             size,
             last,
-            second_last,
-            third_last,
+            signature,
             premises,
         })
     }
@@ -66,7 +61,7 @@ impl Listed {
     pub(crate) fn size(&self) -> usize
         ensures { result ≡ length self.now }
     {
-        self.size
+        self.size as usize
     }
 
     /// Its last premise, none where it has no premise.
@@ -85,8 +80,7 @@ impl Listed {
         Ok(Listed {
             size: self.size,
             last: self.last,
-            second_last: self.second_last,
-            third_last: self.third_last,
+            signature: self.signature,
             premises,
         })
     }
@@ -99,22 +93,14 @@ impl Listed {
         &self.premises
     }
 
-    /// Whether each premise of the set is believed. It looks at the last three first, and takes no
-    /// memory.
+    /// Whether each premise of the set is believed in the worldview, which has this signature. It
+    /// looks at the signatures first, and takes no memory.
     #[inline]
-    pub(crate) fn is_believed(&self, worldview: &Worldview) -> bool
+    pub(crate) fn is_believed(&self, worldview: &Worldview, signature: Signature) -> bool
+        requires { AreRemainders (set_of worldview.now) (remainders signature) }
         ensures { result ≡ is_within (set_of worldview.now) self.now }
     {
-        if lacks(worldview, self.second_last) {
-            return false;
-        }
-        if lacks(worldview, self.third_last) {
-            return false;
-        }
-        if lacks(worldview, self.last) {
-            return false;
-        }
-        worldview.believes(&self.premises)
+        self.signature.is_part_of(signature) && worldview.believes(&self.premises)
     }
 
     /// Whether the premise is in the set. It takes no memory.
@@ -133,31 +119,13 @@ impl Listed {
         self.premises.is_subset(other)
     }
 
-    /// Whether each premise of this set is in the other. Of a larger set it is known by the sizes
-    /// alone, and of most others by the last premise. It takes no memory.
+    /// Whether each premise of this set is in the other. Of most sets that aren't part of it the
+    /// signatures tell it. It takes no memory.
     #[inline(always)]
     pub(crate) fn is_part_of(&self, other: &Listed) -> bool
         ensures { result ≡ is_within (set_of other.now) self.now }
     {
-        if self.size > other.size {
-            return false;
-        }
-        match self.last {
-            Some(last) => other.holds(last) && self.premises.is_subset(&other.premises),
-            None => self.premises.is_subset(&other.premises),
-        }
-    }
-}
-
-/// Whether there is a premise and it isn't believed. Then no set that has it is.
-#[inline]
-fn lacks(worldview: &Worldview, premise: Option<Premise>) -> bool
-    ensures { IsTrue result → (s : List ℕ) → IfSome premise (λ p. IsTrue (set_of s p))
-        → is_within (set_of worldview.now) s ≡ false }
-{
-    match premise {
-        Some(premise) => !worldview.has(premise),
-        None => false,
+        self.signature.is_part_of(other.signature) && self.premises.is_subset(&other.premises)
     }
 }
 
@@ -213,9 +181,15 @@ pub(crate) fn drop_holding(listed: &mut Vec<Listed>, premise: Premise)
     listed.retain(|nogood| !nogood.holds(premise));
 }
 
-/// The first listed set of which every premise is believed.
+/// The first listed set of which every premise is believed in the worldview, which has this
+/// signature.
 #[inline]
-pub(crate) fn first_believed<'a>(listed: &'a [Listed], worldview: &Worldview) -> Option<&'a Listed>
+pub(crate) fn first_believed<'a>(
+    listed: &'a [Listed],
+    worldview: &Worldview,
+    signature: Signature,
+) -> Option<&'a Listed>
+    requires { AreRemainders (set_of worldview.now) (remainders signature) }
     ensures listed { IfSome result (λ s. Contains listed.now s.now) }
     ensures believed { IfSome result (λ s. IsTrue (is_within (set_of worldview.now) s.now)) }
     ensures smallest { AreBySize listed.now
@@ -223,5 +197,10 @@ pub(crate) fn first_believed<'a>(listed: &'a [Listed], worldview: &Worldview) ->
         → length s.now ≤ length line) listed.now) }
     ensures none { result ≡ None → has_part listed.now (set_of worldview.now) ≡ false }
 {
-    listed.iter().find(|nogood| nogood.is_believed(worldview))
+    listed.iter().find(
+        |nogood| -> bool
+            requires { AreRemainders (set_of worldview.now) (remainders signature) }
+            ensures { result ≡ is_within (set_of worldview.entry.now) nogood.now.now }
+        { nogood.is_believed(worldview, signature) },
+    )
 }

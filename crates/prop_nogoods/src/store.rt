@@ -141,7 +141,7 @@ impl Store {
             → length s.now ≤ length line) self.now) }
         ensures none { result ≡ None → has_part self.now (set_of worldview.now) ≡ false }
     {
-        let nogood = first_believed(&self.nogoods, worldview)?;
+        let nogood = first_believed(&self.nogoods, worldview, worldview.signature())?;
         Some(nogood.premises())
     }
 

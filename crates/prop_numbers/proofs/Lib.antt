@@ -6,3 +6,4 @@ pub mod WordLemmas
 pub mod PlaceLemmas
 pub mod OneLemmas
 pub mod WithinLemmas
+pub mod SignatureLemmas

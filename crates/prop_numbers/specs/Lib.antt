@@ -1,3 +1,4 @@
 pub mod Sets
+pub mod Signatures
 pub mod Words
 pub mod inner

@@ -5,8 +5,10 @@ pub mod bits;
 pub mod number_set;
 pub mod numbers;
 pub mod one_word;
+pub mod signature;
 pub mod words;
 
 pub use number_set::NumberSet;
 pub use numbers::Numbers;
+pub use signature::Signature;
 pub use words::Words;

@@ -4,12 +4,14 @@ ghost use Rattle.std.specs.Prelude.{filter, IsTrue, IsOk, IfOk, OnOk, OnErr};
 ghost use Rattle.std.specs.List.Sorted.{IsStrictlyIncreasing};
 ghost use Rattle.prop_numbers.specs.Sets.{set_of, union, without, is_within, is_below};
 ghost use Rattle.prop_numbers.specs.Sets.{is_at_most_one_of, IsSame, IsBelow};
+ghost use Rattle.prop_numbers.specs.Signatures.{remainders, AreRemainders};
 ghost use Rattle.prop_numbers.specs.Words.{is_set};
 ghost use Rattle.prop_numbers.specs.inner.NumberSets.{numbers_in};
 
 use crate::bits::{bit_of, place_of};
 use crate::numbers::Numbers;
 use crate::one_word::OneWord;
+use crate::signature::Signature;
 use crate::words::Words;
 use std::alloc::{AllocError, Global};
 use std::marker::Model;
@@ -156,6 +158,17 @@ impl NumberSet {
         match &self.form {
             Form::One(one) => words.is_part_of(&Words::of_one(self.alloc, *one)),
             Form::Many(own) => words.is_part_of(own),
+        }
+    }
+
+    /// Which remainders the numbers leave. It takes no memory.
+    #[inline]
+    pub fn signature(&self) -> Signature
+        ensures { AreRemainders (set_of self.now) (remainders result) }
+    {
+        match &self.form {
+            Form::One(one) => Signature::none().with_word(one.place, one.word),
+            Form::Many(words) => words.signature(),
         }
     }
 

@@ -5,6 +5,7 @@ ghost use Rattle.std.specs.Prelude.{IfOk, IfSome, OnOk, OnErr};
 ghost use Rattle.std.specs.List.Sorted.{IsStrictlyIncreasing};
 ghost use Rattle.prop_numbers.specs.Sets.{set_of, union, without, is_within, is_below};
 ghost use Rattle.prop_numbers.specs.Sets.{is_at_most_one_of, IsSame, IsBelow};
+ghost use Rattle.prop_numbers.specs.Signatures.{remainders, AreRemainders};
 ghost use Rattle.prop_numbers.specs.Words.{is_set, has_bit, numbers_from};
 ghost use Rattle.prop_numbers.specs.inner.NumberSets.{numbers_in};
 ghost use Rattle.prop_numbers.specs.inner.Words.{IsTrimmed, IsForm};
@@ -15,6 +16,7 @@ use crate::bits::{
 };
 use crate::numbers::Numbers;
 use crate::one_word::OneWord;
+use crate::signature::{Signature, signature_of};
 use smallvec::SmallVec;
 use std::alloc::{AllocError, Global};
 use std::marker::Model;
@@ -268,6 +270,13 @@ impl Words {
         ensures { (i : ℕ) → i < 64 → is_set result i ≡ set_of self.now (64 * place + i) }
     {
         word_from(self.first, &self.words, place)
+    }
+
+    /// Which remainders the numbers leave. It takes no memory.
+    pub fn signature(&self) -> Signature
+        ensures { AreRemainders (set_of self.now) (remainders result) }
+    {
+        signature_of(self.first, &self.words)
     }
 
     /// Whether each number of the set is below the bound. It takes no memory.

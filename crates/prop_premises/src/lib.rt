@@ -21,5 +21,5 @@ pub mod worldview;
 pub use choice::Choice;
 pub use premise_set::{Premise, PremiseSet};
 pub use premises::Premises;
-pub use prop_numbers::Numbers;
+pub use prop_numbers::{Numbers, Signature};
 pub use worldview::Worldview;

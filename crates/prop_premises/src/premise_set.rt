@@ -4,8 +4,9 @@ ghost use Rattle.std.specs.Prelude.{OnErr};
 ghost use Rattle.std.specs.List.Sorted.{IsStrictlyIncreasing};
 ghost use Rattle.prop_numbers.specs.Sets.{set_of, union, without, is_below, is_within, is_alike};
 ghost use Rattle.prop_numbers.specs.Sets.{is_at_most_one_of, IsSame};
+ghost use Rattle.prop_numbers.specs.Signatures.{remainders, AreRemainders};
 
-use prop_numbers::{NumberSet, Numbers};
+use prop_numbers::{NumberSet, Numbers, Signature};
 use std::alloc::{AllocError, Global};
 use std::default::MadeWith;
 use std::marker::Model;
@@ -100,6 +101,14 @@ impl PremiseSet {
         ensures { result ≡ is_within (set_of other.now) self.now }
     {
         self.numbers.is_part_of(&other.numbers)
+    }
+
+    /// What is looked at first of the set, to tell that it is no part of another. It takes no
+    /// memory.
+    pub fn signature(&self) -> Signature
+        ensures { AreRemainders (set_of self.now) (remainders result) }
+    {
+        self.numbers.signature()
     }
 
     /// Whether the same premises are in both sets. It takes no memory.

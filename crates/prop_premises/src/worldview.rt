@@ -2,9 +2,10 @@
 ghost use Rattle.std.specs.Prelude.{◌≡◌, List, [], ◌∷◌, ◌++◌, ℕ, nat_lt, filter, IsOk, IfOk, OnOk};
 ghost use Rattle.std.specs.Prelude.{OnErr};
 ghost use Rattle.prop_numbers.specs.Sets.{set_of, union, without, is_within, IsSame, IsBelow};
+ghost use Rattle.prop_numbers.specs.Signatures.{remainders, AreRemainders};
 
 use crate::premise_set::{Premise, PremiseSet};
-use prop_numbers::NumberSet;
+use prop_numbers::{NumberSet, Signature};
 use std::alloc::{AllocError, Global};
 use std::marker::Model;
 
@@ -86,6 +87,14 @@ impl Worldview {
         ensures { result ≡ set_of self.now premise }
     {
         self.beliefs.has(premise)
+    }
+
+    /// What is looked at first, to tell that a set of premises isn't believed. It takes no memory.
+    #[inline]
+    pub fn signature(&self) -> Signature
+        ensures { AreRemainders (set_of self.now) (remainders result) }
+    {
+        self.beliefs.signature()
     }
 
     /// Whether each premise of the set is believed. It takes no memory.

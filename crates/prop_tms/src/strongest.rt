@@ -1,6 +1,6 @@
 //! What the believed entries say together, and few premises that are enough for it.
-ghost use Rattle.std.specs.Prelude.{◌≡◌, ◌↔◌, ◌≤◌, ◌+◌, ℕ, [], length, map, take, option_to_list};
-ghost use Rattle.std.specs.Prelude.{All};
+ghost use Rattle.std.specs.Prelude.{◌≡◌, ◌↔◌, ◌≤◌, ◌+◌, ◌⊎◌, ℕ, [], length, map, take, false};
+ghost use Rattle.std.specs.Prelude.{All, option_to_list};
 ghost use Rattle.std.specs.Prelude.{Contains, IsTrue, IsOk, IfOk, IfSome, IsSomeAnd};
 ghost use Rattle.std.specs.List.{list_any};
 ghost use Rattle.prop_numbers.specs.Sets.{Members, set_of, is_within};
@@ -25,15 +25,30 @@ pub(crate) fn believes_any(worldview: &Worldview, supports: &[PremiseSet]) -> bo
     supports.iter().any(|support| worldview.believes(support))
 }
 
-/// What the believed entries say together with a value. A value that says nothing new is passed by,
-/// and its supports are not looked at.
+/// Whether the value is believed, and says more than what was merged of others. Of one support it
+/// is quick to tell whether it is believed, so that comes first.
+#[inline(always)]
+fn adds<V: Partial>(valued: &Valued<V>, worldview: &Worldview, merged: V) -> bool
+    ensures more { IsTrue result
+        → IsTrue (list_any (λ s. is_within (set_of worldview.now) s) valued.now.supports.items) }
+    ensures none { result ≡ false
+        → (list_any (λ s. is_within (set_of worldview.now) s) valued.now.supports.items ≡ false)
+        ⊎ V.below valued.now.value merged }
+{
+    match valued.supports.as_slice() {
+        [only] => worldview.believes(only) && !merged.implies(valued.value),
+        supports => !merged.implies(valued.value) && believes_any(worldview, supports),
+    }
+}
+
+/// What the believed entries say together with a value. A value that says nothing new is passed by.
 fn said_with<V: Partial>(values: &[Valued<V>], worldview: &Worldview, first: V) -> V
     ensures { result ≡ V.join first
         (belief_of V.bottom V.join (set_of worldview.now) (entries_of values.now)) }
 {
     let mut merged = first;
     for valued in values {
-        if !merged.implies(valued.value) && believes_any(worldview, &valued.supports) {
+        if adds(valued, worldview, merged) {
             merged = merged.merge(valued.value);
         }
     }
@@ -67,7 +82,7 @@ pub(crate) fn says<V: Partial>(values: &[Valued<V>], worldview: &Worldview, valu
         if merged.implies(value) {
             return true;
         }
-        if !merged.implies(valued.value) && believes_any(worldview, &valued.supports) {
+        if adds(valued, worldview, merged) {
             merged = merged.merge(valued.value);
         }
     }

@@ -1,12 +1,10 @@
-use Rattle.std.proofs.Common.{◌≡◌, ◌∙◌, Bool, ℕ, List, true, false, sym, refl}
+use Rattle.std.proofs.Common.{◌≡◌, ◌∙◌, Bool, ℕ, List, true, false, sym, refl, inl, inr}
 use Rattle.std.specs.List.{list_any}
 use Rattle.prop_numbers.specs.Sets.{set_of, is_within}
 use Rattle.prop_tms.proofs.MergedLemmas.{join-assoc}
 use Rattle.prop_tms.proofs.ValueLemmas.{said_more, said_passed}
 use Rattle.prop_tms.proofs.strongest.said_with.Goals as goal
-use Rattle.prop_tms.proofs.strongest.said_with.Goals.{then-not-implies+then-believes_any, else-not-implies}
-use Rattle.prop_tms.proofs.strongest.said_with.Goals.{else-not-implies-via-then-not-implies+else-believes_any}
-use Rattle.prop_tms.proofs.strongest.said_with.Goals.{else-not-implies-via-else-not-implies}
+use Rattle.prop_tms.proofs.strongest.said_with.Goals.{then-adds, else-adds}
 
 pub loop-valued-preserved : goal.loop-valued-preserved
 loop-valued-preserved g c =
@@ -16,10 +14,9 @@ loop-valued-preserved g c =
     let x = c.valued-item.result in
     let u : List ℕ → Bool = λ s. is_within (set_of c.args.worldview.now) s in
     let l = c.loop-valued-test.true in
-    elim c.if-not-implies.branch [
-      | then-not-implies+then-believes_any t ↦
-          (let some = rw t.deref.ensures at t.believes_any.ensures in
-          let on : list_any u x.supports.items ≡ true = sym some ∙ t.if-believes_any.true in
+    elim c.if-adds.branch [
+      | then-adds t ↦
+          (let on : list_any u x.supports.items ≡ true = c.adds.ensures.more t.if-adds.true in
           rw (
             t.merged-is,
             t.merge-merged.ensures,
@@ -27,14 +24,10 @@ loop-valued-preserved g c =
             join-assoc laws,
             ← c.loop-valued.invariant,
           ) refl)
-      | else-not-implies t ↦ elim t.else-not-implies.branch [
-        | else-not-implies-via-then-not-implies+else-believes_any w ↦
-            (let some = rw w.deref.ensures at w.believes_any.ensures in
-            let off : list_any u x.supports.items ≡ false = sym some ∙ w.if-believes_any.false in
-            rw (t.merged-is, said_more laws u xs i x false l c.valued-item.is off, ← c.loop-valued.invariant) refl)
-        | else-not-implies-via-else-not-implies w ↦
-            rw t.merged-is (c.loop-valued.invariant
-            ∙ said_passed laws u xs i x c.args.first l c.valued-item.is
-            (rw c.loop-valued.invariant at (c.implies.ensures.0 w.if-not-implies.false)))
+      | else-adds t ↦ elim (c.adds.ensures.none t.if-adds.false) [
+        | inl off ↦ rw (t.merged-is, said_more laws u xs i x false l c.valued-item.is off, ← c.loop-valued.invariant)
+            refl
+        | inr below ↦ rw t.merged-is (c.loop-valued.invariant
+            ∙ said_passed laws u xs i x c.args.first l c.valued-item.is (rw c.loop-valued.invariant at below))
       ]
     ]

@@ -1,16 +1,15 @@
+use Rattle.std.proofs.Common.{◌∙◌, ap, sym}
+use Rattle.prop_numbers.specs.Sets.{set_of, is_within, IsPart}
+use Rattle.prop_numbers.specs.Signatures.{remainders}
+use Rattle.prop_numbers.proofs.SignatureLemmas.{no_part}
 use Rattle.prop_nogoods.proofs.listed.Listed.is_believed.Goals as goal
 
-pub returns-then-lacks : goal.returns-then-lacks
-returns-then-lacks c =
-    let missing = c.lacks.ensures c.if-lacks.true c.self.inside.premises.value c.self.invariant.3 in
-    cc (missing, c.self.view_is)
-
-pub returns-then-lacks-2 : goal.returns-then-lacks-2
-returns-then-lacks-2 c =
-    let missing = c.lacks-2.ensures c.if-lacks-2.true c.self.inside.premises.value c.self.invariant.4 in
-    cc (missing, c.self.view_is)
-
-pub returns-then-lacks-3 : goal.returns-then-lacks-3
-returns-then-lacks-3 c =
-    let missing = c.lacks-3.ensures c.if-lacks-3.true c.self.inside.premises.value c.self.invariant.2.0 in
-    cc (missing, c.self.view_is)
+pub returns-else-is_part_of : goal.returns-else-is_part_of
+returns-else-is_part_of c =
+    let w = set_of c.args.worldview.now in
+    let apart : ¬ (IsPart (remainders c.self.inside.signature) (remainders c.args.signature)) =
+    (λ part. cc (c.is_part_of.ensures.1 part, c.if-is_part_of.false)) in
+    c.if-is_part_of.false
+    ∙ sym (no_part w c.self.inside.premises.value (remainders c.self.inside.signature) (remainders c.args.signature)
+    c.self.invariant.3 c.requires apart)
+    ∙ ap (is_within w) c.self.view_is

@@ -16,8 +16,6 @@ loop-premise-preserved c =
       so_far = so_far;
       size = omega (arith, one_more, kept.size);
       last = rw (← whole) (has_middle done c.next.new.self c.in-Some.premise);
-      second = kept.last;
-      third = kept.second;
       below = passed_below c.args.premises done c.next.new.self c.in-Some.premise c.iter-premise-items.ensures.ordered
           so_far;
     }

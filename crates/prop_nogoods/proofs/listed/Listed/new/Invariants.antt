@@ -8,7 +8,5 @@ invariant-loop-premise l = record {
   so_far : l.yielded ++ l.premise-iterator ≡ l.fn.premises;
   size : l.size ≡ length l.yielded;
   last : IfSome l.last (λ p. IsTrue (set_of l.fn.premises p));
-  second : IfSome l.second_last (λ p. IsTrue (set_of l.fn.premises p));
-  third : IfSome l.third_last (λ p. IsTrue (set_of l.fn.premises p));
   below : IsTrue (is_below (end_of l.last) l.yielded);
 }
