@@ -62,8 +62,8 @@ pub fn run<R: Rule + Drop, Rd: Read, W: Write>(
         Pick::Fifo => serve(Session::new(alloc, network, Fifo, limit)?, prelude, devices),
         Pick::Lifo => serve(Session::new(alloc, network, Lifo, limit)?, prelude, devices),
         Pick::Mixed => {
-            let order = Mixed::new(seed);
-            serve(Session::new(alloc, network, order, limit)?, prelude, devices)
+            let session = Session::new(alloc, network, Mixed::new(seed), limit)?;
+            serve(session, prelude, devices)
         }
     }
 }
