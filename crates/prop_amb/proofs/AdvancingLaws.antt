@@ -50,8 +50,7 @@ reason_was (each ∷ reasons) zero n zero i r e =
 reason_was (each ∷ reasons) zero n (suc k) i r e = absurd (nothing_kept reasons k i r e)
 reason_was (each ∷ reasons) (suc j) n zero i r e = inl (omega arith, e)
 reason_was (each ∷ reasons) (suc j) n (suc k) i r e =
-    elim (reason_was reasons j n k i r e) [ inl f ↦ inl (omega (arith, f.0), f.1) | inr f ↦ inr (ap suc f.0, f.1,
-    f.2) ]
+    elim (reason_was reasons j n k i r e) [ inl f ↦ inl (omega (arith, f.0), f.1) | inr f ↦ inr (ap suc f.0, f.1, f.2) ]
 
 -- a choice left its side for a reason
 pub search_advanced : (problem : Problem) (s : Stand) (j : ℕ) (choice : Choice) (side : ℕ) (n : List ℕ) (w : List ℕ)
@@ -219,12 +218,10 @@ moved_to s j list reasons count w = record s {
 }
 
 module _ (s : Stand) (j : ℕ) (n w list : List ℕ) (reasons : List (List (List ℕ))) (count : ℕ) (stand : IsStand s)
-    (may : MayAdvance s j) (list_is : list ≡ advanced s.list j) (reasons_are : reasons ≡ reasons_advanced s.reasons
-    j n)
+    (may : MayAdvance s j) (list_is : list ≡ advanced s.list j) (reasons_are : reasons ≡ reasons_advanced s.reasons j n)
     (counted : length reasons ≡ count) where
   moved_is : moved_to s j list reasons count
-      w ≡ record s { list = advanced s.list j; level = j + 1; reasons = reasons_advanced s.reasons j n; worldview =
-      w }
+      w ≡ record s { list = advanced s.list j; level = j + 1; reasons = reasons_advanced s.reasons j n; worldview = w }
   moved_is = rw (written s.reasons reasons count counted, list_is, reasons_are) refl
 
   pub stand_moved : IsSame (set_of w) (worldview (users_of s) (choices_in s) (take (j + 1) list))

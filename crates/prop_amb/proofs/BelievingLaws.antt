@@ -100,8 +100,7 @@ first_reasoned (s ∷ l) (r ∷ rs) h = (refl, first_reasoned l rs h.1)
 
 pub stand_restarted : (s : Stand) (origins : List Origin) (w : List ℕ) → IsStand s → IsNumbered origins
     → length origins ≤ most Premises → choices_of origins ≡ choices_in s →
-    IsSame (set_of w) (worldview (believed_in origins) (choices_of origins) (take (level_first s.level s.list)
-    s.list))
+    IsSame (set_of w) (worldview (believed_in origins) (choices_of origins) (take (level_first s.level s.list) s.list))
     → IsStand (record (restarted s) { premises = origins; worldview = w })
 stand_restarted s origins w stand numbered few same believes = record {
   numbered = numbered;
@@ -128,8 +127,7 @@ reasons_forgotten reasons now n e is =
 -- ---- one choice more
 
 -- the side of one choice more is believed
-pub stand_deeper : (s : Stand) (cs : List Choice) (c : Choice) (side q : ℕ) (w : List ℕ) → IsStand s → cs ≡
-    choices_in s
+pub stand_deeper : (s : Stand) (cs : List Choice) (c : Choice) (side q : ℕ) (w : List ℕ) → IsStand s → cs ≡ choices_in s
     → s.level < length s.list → TakenAt cs s.list s.level c side → q ≡ hypothetical c side →
     IsSame (set_of w) (union (set_of s.worldview) (set_of (q ∷ [])))
     → IsStand (record s { level = s.level + 1; worldview = w })

@@ -17,8 +17,7 @@ kept_block problem s stand are earlier is_earlier lt =
     has_reason s stand d.j d.side d.stands d.stands_at d.from_one d.before in
     let k : IsKept problem s d.j d.choice d.side (set_of r.0) =
     are.kept d.j d.choice d.side r.0 d.choice_at d.from_one r.1 in
-    has_part-more s.listed (union (set_of r.0) (hypotheticals_of choices earlier)) (worldview believed choices
-    earlier)
+    has_part-more s.listed (union (set_of r.0) (hypotheticals_of choices earlier)) (worldview believed choices earlier)
     (λ p t. absorb (set_of r.0 p) (hypotheticals_of choices earlier p) (believed p)
     (λ in_reason. within d (set_of r.0) k p in_reason (cases_eq p (hypothetical d.choice d.side))) t)
     (k.covered earlier is_earlier)

@@ -15,8 +15,7 @@ use Rattle.prop_amb.proofs.LookingLaws.{StandsAt, is_its_side}
 use Rattle.prop_amb.proofs.ResolvingLaws.{others_from}
 
 -- culprits, joined with the reasons that are kept of a choice whose last side is one of them, are culprits
-pub joined_culprits : (s : Stand) (n : List ℕ) (j : ℕ) (c : Choice) (side : ℕ) (set m : Members) (kept : List (List
-    ℕ))
+pub joined_culprits : (s : Stand) (n : List ℕ) (j : ℕ) (c : Choice) (side : ℕ) (set m : Members) (kept : List (List ℕ))
     → StandsAt s j c side → c.sides ≤ side → slice_get s.reasons j ≡ Some kept → IsTrue (set (hypothetical c side)) →
     IsSame m (union (without set (hypothetical c side)) (others_of c.first kept))
     → ((p : ℕ) → IsTrue (set p) → IsCulprit s n p) → (p : ℕ) → IsTrue (m p) → IsCulprit s n p
@@ -32,8 +31,7 @@ joined_culprits s n j c side set m kept here last kept_at holds m_is known p in_
     blamed : IsCulprit s n (hypothetical c c.sides)
     blamed = rw same at (known (hypothetical c side) holds)
 
-    of_kept : (k : ℕ) × (k < length kept) × IsTrue (set_of (slice_index_or kept k []) p) × ((c.first + k == p) ≡
-    false)
+    of_kept : (k : ℕ) × (k < length kept) × IsTrue (set_of (slice_index_or kept k []) p) × ((c.first + k == p) ≡ false)
         → IsCulprit s n p
     of_kept x =
         let listed : Contains (slice_index_or s.reasons j []) (slice_index_or kept x.0 []) =

@@ -24,8 +24,7 @@ before_last d c [] h = h.0
 before_last d c (e ∷ cs) h = before_last d c cs h.1
 
 -- sides of earlier choices are none of the last one's
-pub earlier_apart : (cs : List Choice) (c : Choice) (p : ℕ) → AreInOrder (cs ++ c ∷ []) → IsTrue (is_hypothetical
-    cs p)
+pub earlier_apart : (cs : List Choice) (c : Choice) (p : ℕ) → AreInOrder (cs ++ c ∷ []) → IsTrue (is_hypothetical cs p)
     → is_side_of c p ≡ false
 earlier_apart [] c p order h = absurd (both h refl)
 earlier_apart (d ∷ cs) c p order h = elim (or_cases (is_side_of d p) (is_hypothetical cs p) h) [
@@ -77,8 +76,7 @@ search_declared problem s origins c w stand now same order users some fresh h = 
         → 1 ≤ side → reason_at s j side ≡ Some reason → IsKept problem t j choice side (set_of reason)
     old j choice side reason at one r =
         let reasons_j = listed_at s.reasons j (side - 1) reason r in
-        let stands = zip_back (λ side reasons. length reasons + 1 ≡ side) s.list s.reasons j _ stand.reasoned
-        reasons_j
+        let stands = zip_back (λ side reasons. length reasons + 1 ≡ side) s.list s.reasons j _ stand.reasoned reasons_j
         in
         let its = zip_back IsSide (choices_in s) s.list j stands.0 stand.is_list stands.1 in
         let same_choice : its.0 ≡ choice = some_same (sym (get_front (choices_in s) (c ∷ []) j its.0 its.1) ∙ at) in

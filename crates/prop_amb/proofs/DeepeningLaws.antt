@@ -28,8 +28,7 @@ pub grown_believed : (d : Data) (s new : Stand) (waiting line : List ℕ) → Is
     AreGrown (believed_with s) (believed_with new) d (length d.kinds) waiting line
 grown_believed d s new waiting line stand stand' grown =
     subst (λ u. AreGrown u (believed_with new) d (length d.kinds) waiting line) (believes_worldview s stand)
-    (subst (λ v. AreGrown (set_of s.worldview) v d (length d.kinds) waiting line) (believes_worldview new stand')
-    grown)
+    (subst (λ v. AreGrown (set_of s.worldview) v d (length d.kinds) waiting line) (believes_worldview new stand') grown)
 
 -- of the same library in other words
 pub at_level : {V O : Type 0} (mean : V → List Stored) (was now : V) (picks : O → ℕ → ℕ → O → Type 0) (s : Stand)
@@ -40,8 +39,7 @@ pub at_level : {V O : Type 0} (mean : V → List Stored) (was now : V) (picks : 
 at_level mean was now picks s d waiting order budget tried calls new cells after next same a =
     subst (λ v. AtLevel picks (mean v) s d waiting order budget tried calls new cells after next) same a
 
-module _ {O : Type 0} (picks : O → ℕ → ℕ → O → Type 0) (library : List Stored) (s : Stand) (d : Data) (waiting :
-    List ℕ)
+module _ {O : Type 0} (picks : O → ℕ → ℕ → O → Type 0) (library : List Stored) (s : Stand) (d : Data) (waiting : List ℕ)
     (order : O) where
   pub at_first : IsSearch (problem_of library d) s → IsUnderWay library (set_of s.worldview) d waiting
       → Deepening picks library s d waiting order s d waiting order 0
@@ -100,8 +98,7 @@ module _ {O : Type 0} (picks : O → ℕ → ℕ → O → Type 0) (library : Li
 
     most_now : (calls ≡ 0) ⊎ (potential (problem_of library d) (beliefs (set_of t.worldview) mid.contents)
         line ≤ most_steps (problem_of library d))
-    most_now = subst (λ p. (calls ≡ 0) ⊎ (potential p (beliefs (set_of t.worldview) mid.contents) line ≤ most_steps
-        p))
+    most_now = subst (λ p. (calls ≡ 0) ⊎ (potential p (beliefs (set_of t.worldview) mid.contents) line ≤ most_steps p))
         same a.most
 
     in_all : (steps + calls ≡ 0) ⊎ (potential (problem_of library d) (beliefs (set_of new.worldview) cells.contents)
@@ -182,8 +179,7 @@ module _ {O : Type 0} (picks : O → ℕ → ℕ → O → Type 0) (library : Li
       search = learns (problem_of library d) (subst (λ p. IsSearch p new) same a.search);
       rest = rest;
       under_way = under_way;
-      gone = deeper (steps + calls) (work new cells after next) later later_line (goes_then w.gone a.gone) may is
-          grown;
+      gone = deeper (steps + calls) (work new cells after next) later later_line (goes_then w.gone a.gone) may is grown;
       falls = (let before = w.falls in omega (arith, before, fell, less));
       most = elim in_all as (λ _. (steps + calls ≡ 0)
           ⊎ (potential (problem_of library d) (beliefs (set_of later.worldview) cells.contents)
@@ -209,8 +205,7 @@ module _ {O : Type 0} (picks : O → ℕ → ℕ → O → Type 0) (library : Li
         listed : later.listed ≡ new.listed
         listed = ap (λ (x : Stand). x.listed) is
 
-        less : potential (problem_of library d) (beliefs (set_of later.worldview) cells.contents) later_line ≤
-        potential
+        less : potential (problem_of library d) (beliefs (set_of later.worldview) cells.contents) later_line ≤ potential
             (problem_of library d) (beliefs (set_of new.worldview) cells.contents) after
         less = subst (λ p. potential p (beliefs (set_of later.worldview) cells.contents) later_line ≤ potential p
             (beliefs (set_of new.worldview) cells.contents) after) (same_in library d cells rest) falls

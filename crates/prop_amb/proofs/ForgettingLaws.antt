@@ -34,8 +34,7 @@ refuted_forgets old new p choices n less out user r = record {
         by true e = cc (hypotheticals_are choices list p is_list e, user)
         by false e = refl
 
-pub nogood_forgets : (old new : Problem) (p : ℕ) (choices : List Choice) (n : Members) → Forgets old new p → n p ≡
-    false
+pub nogood_forgets : (old new : Problem) (p : ℕ) (choices : List Choice) (n : Members) → Forgets old new p → n p ≡ false
     → is_hypothetical choices p ≡ false → IsNogood old choices n → IsNogood new choices n
 nogood_forgets old new p choices n less out user x = record {
   refuted = refuted_forgets old new p choices n less out user x.refuted;

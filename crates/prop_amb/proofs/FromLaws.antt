@@ -46,8 +46,7 @@ none_below_fewer listed w v n part none = λ k d l within below.
 pub none_below_lacking : (listed : List (List ℕ)) (w : Members) (n p : ℕ) → NoneEndsBelow listed w n
     → NoneEndsBelow (lacking listed p) w n
 none_below_lacking listed w n p none =
-    All-filter (λ line. not (set_of line p)) (λ line. IsTrue (is_within w line) → IsTrue (is_below n line) → line ≡
-    [])
+    All-filter (λ line. not (set_of line p)) (λ line. IsTrue (is_within w line) → IsTrue (is_below n line) → line ≡ [])
     listed none
 
 -- one premise more is believed
@@ -95,13 +94,11 @@ none_below_moved listed users cs list before left after j level p n m less was i
     part : IsPart (set_of left) (set_of before)
     part q t = was q ∙ elim (or_cases (users q) (hypotheticals_of cs (take j list) q) (sym (is q) ∙ t)) [
       | inl h ↦ or_true_left (users q) (hypotheticals_of cs (take level list) q) h
-      | inr h ↦ or_true_right (users q) (hypotheticals_of cs (take level list) q) (taken_more cs list j level q
-          less h)
+      | inr h ↦ or_true_right (users q) (hypotheticals_of cs (take level list) q) (taken_more cs list j level q less h)
     ]
 
 -- a nogood is noted
-pub none_below_noted : (old new : List (List ℕ)) (w : Members) (nogood : List ℕ) (last n m : ℕ) → AddsSet old new
-    nogood
+pub none_below_noted : (old new : List (List ℕ)) (w : Members) (nogood : List ℕ) (last n m : ℕ) → AddsSet old new nogood
     → m ≤ n → m ≤ last
     → IsTrue (set_of nogood last) ⊎ (nogood ≡ []) → NoneEndsBelow old w n → NoneEndsBelow new w m
 none_below_noted old new w nogood last n m adds few low ends none = λ k d l within below.

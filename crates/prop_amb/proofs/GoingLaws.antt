@@ -13,8 +13,7 @@ use Rattle.prop_amb.specs.Going.Goes.{none, called, noted, moved, deeper}
 use Rattle.prop_amb.proofs.MetLaws.{believes_worldview}
 
 -- a turn may be called where no noted nogood is believed
-turn_may : {O : Type 0} (library : List Stored) (s : Stand) (place : ℕ) (d new : Data) (line after : List ℕ) (order
-    : O)
+turn_may : {O : Type 0} (library : List Stored) (s : Stand) (place : ℕ) (d new : Data) (line after : List ℕ) (order : O)
     → has_part s.listed (believed_with s) ≡ false →
     Turn library (believed_with s) place d new line after → MayCall (work s d line order)
 turn_may library s place d new line after order unblocked turn = record {
@@ -24,8 +23,7 @@ turn_may library s place d new line after order unblocked turn = record {
 }
 
 -- a run goes on where no noted nogood is believed
-pub runs : {O : Type 0} (picks : O → ℕ → ℕ → O → Type 0) (library : List Stored) (s : Stand) (d : Data) (line :
-    List ℕ)
+pub runs : {O : Type 0} (picks : O → ℕ → ℕ → O → Type 0) (library : List Stored) (s : Stand) (d : Data) (line : List ℕ)
     (order : O) (k : ℕ) (new : Data) (after : List ℕ) (next : O) → has_part s.listed (believed_with s) ≡ false →
     Turns picks library (believed_with s) d line order k new after next
     → Goes picks library (work s d line order) k (work s new after next)
@@ -45,10 +43,8 @@ module _ (s : Stand) (w : List ℕ) (stand : IsStand s) (same : w ≡ s.worldvie
   none_believed : has_part s.listed (believed_with s) ≡ false
   none_believed = subst (λ (u : Members). has_part s.listed u ≡ false) (believes_worldview s stand) unblocked
 
-  pub ran : {O : Type 0} (picks : O → ℕ → ℕ → O → Type 0) (library : List Stored) (d : Data) (line : List ℕ) (order
-      : O)
-      (k : ℕ) (new : Data) (after : List ℕ) (next : O) → Turns picks library (set_of w) d line order k new after
-      next →
+  pub ran : {O : Type 0} (picks : O → ℕ → ℕ → O → Type 0) (library : List Stored) (d : Data) (line : List ℕ) (order : O)
+      (k : ℕ) (new : Data) (after : List ℕ) (next : O) → Turns picks library (set_of w) d line order k new after next →
       Goes picks library (work s d line order) k (work s new after next)
   ran picks library d line order k new after next run =
       runs picks library s d line order k new after next none_believed

@@ -73,8 +73,7 @@ joined_refuted problem choices j choice reasons n order choice_at joined refuted
     takes_reason : (list : List ℕ) (s : ℕ) → IsChoiceList choices list → TakesSidesIn n choices list
         → slice_get list j ≡ Some s → IsSide choice s → TakesSidesIn (reasons s) choices list
     takes_reason list s is_list takes s_at is_s =
-        zip_from IsSide (λ c side. (i : ℕ) → IsSide c i → IsTrue (reasons s (hypothetical c i)) → i ≡ side) choices
-        list
+        zip_from IsSide (λ c side. (i : ℕ) → IsSide c i → IsTrue (reasons s (hypothetical c i)) → i ≡ side) choices list
         is_list
         (λ k d y d_at y_at i is_i in_reason. elim (cases_eq k j) [
           | inl e ↦ here k d y e d_at y_at i is_i in_reason
@@ -83,8 +82,7 @@ joined_refuted problem choices j choice reasons n order choice_at joined refuted
               (apart_at choices j k choice d i order choice_at d_at f is_i))
         ])
       where
-        here : (k : ℕ) (d : Choice) (y : ℕ) → k ≡ j → slice_get choices k ≡ Some d → slice_get list k ≡ Some y → (i
-        : ℕ)
+        here : (k : ℕ) (d : Choice) (y : ℕ) → k ≡ j → slice_get choices k ≡ Some d → slice_get list k ≡ Some y → (i : ℕ)
             → IsSide d i → IsTrue (reasons s (hypothetical d i)) → i ≡ y
         here k d y e d_at y_at i is_i in_reason =
             let same_choice : d ≡ choice = some_same (at_j d_at choice_at) in

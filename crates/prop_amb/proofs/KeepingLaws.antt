@@ -55,8 +55,7 @@ search_noted problem s listed n adds nogood h = record {
   };
 }
   where
-    kept_noted : (j : ℕ) (choice : Choice) (side : ℕ) (reason : List ℕ) → IsKept problem s j choice side (set_of
-    reason)
+    kept_noted : (j : ℕ) (choice : Choice) (side : ℕ) (reason : List ℕ) → IsKept problem s j choice side (set_of reason)
         → IsKept problem (record s { listed = listed }) j choice side (set_of reason)
     kept_noted j choice side reason k = record {
       refuted = k.refuted;

@@ -51,8 +51,7 @@ below_choice s c stand order e p h =
           (taken_is_side (choices_in s) s.list p stand.is_list (fewer_taken (choices_in s) s.list s.level p t))
     ]
 
-all_front : {A : Type 0} (P : A → Type 0) (xs : List A) (x : A) → AllByRecursion P (xs ++ x ∷ []) → AllByRecursion
-    P xs
+all_front : {A : Type 0} (P : A → Type 0) (xs : List A) (x : A) → AllByRecursion P (xs ++ x ∷ []) → AllByRecursion P xs
 all_front P [] x h = tt
 all_front P (y ∷ xs) x h = (h.0, all_front P xs x h.1)
 
@@ -115,8 +114,7 @@ search_stays problem s name sides c stand low high is fresh h =
     same = choices_of-with_choice s.premises name sides some
 
     apart : (p : ℕ) → IsTrue (users_of s p) → is_side_of own p ≡ false
-    apart p b = and_left _ _ (lt-leb (length s.premises) p (in_range s.premises p (is_user_at-believed s.premises p
-    b)))
+    apart p b = and_left _ _ (lt-leb (length s.premises) p (in_range s.premises p (is_user_at-believed s.premises p b)))
 
 -- ---- the last choice goes
 
@@ -133,8 +131,7 @@ none_last (y ∷ xs) x e = absurd (cc)
 later : (n m : ℕ) (o : Origin) (os : List Origin) (c : Choice) → m ≡ n + 1 → Starts m os c → Starts n (o ∷ os) c
 later n m o os c e s = record { k = suc s.k; at = omega (arith, s.at, e); starts = s.starts }
 
-choice_starts : (n : ℕ) (os : List Origin) (earlier : List Choice) (c : Choice) → choices_from n os ≡ earlier ++ c
-    ∷ []
+choice_starts : (n : ℕ) (os : List Origin) (earlier : List Choice) (c : Choice) → choices_from n os ≡ earlier ++ c ∷ []
     → Starts n os c
 choice_starts n [] earlier c e = absurd (none_last earlier c e)
 choice_starts n (User name believed ∷ os) earlier c e =
@@ -221,8 +218,7 @@ abbrev pub IsLevelLeft : Stand → List ℕ → ℕ → Type 0
 IsLevelLeft s list level = ((s.level ≤ length list) × (level ≡ s.level))
     ⊎ ((length list < s.level) × (level ≡ length list))
 
-pub level_left : (s : Stand) (list : List ℕ) (level : ℕ) → level ≡ min s.level (length list) → IsLevelLeft s list
-    level
+pub level_left : (s : Stand) (list : List ℕ) (level : ℕ) → level ≡ min s.level (length list) → IsLevelLeft s list level
 level_left s list level is = elim (leb_tells s.level (length list)) as (λ _. IsLevelLeft s list level) [
   | inl h ↦ inl (
     h.1,
@@ -233,8 +229,7 @@ level_left s list level is = elim (leb_tells s.level (length list)) as (λ _. Is
   | inr h ↦ inr (
     (let past = h.1 in omega (arith, past)),
     (let few = min-le_right s.level (length list) in let past = h.1
-        in let all = le-min {k = length list} {a = s.level} {b = length list} (omega (arith, past)) (omega arith)
-        in omega
+        in let all = le-min {k = length list} {a = s.level} {b = length list} (omega (arith, past)) (omega arith) in omega
         (arith, is, few, all)),
   )
 ]
@@ -265,8 +260,7 @@ stand_undeclared s c es list level reasons n m stand left same first l ln r rm =
   reasoned = rw (list_is, reasons_is) b.zip;
   level = elim left [ inl h ↦ omega (arith, h.0, h.1) | inr h ↦ omega (arith, h.1) ];
   believes = rw (now, list_is) (believes_below s.premises c.first s.worldview
-      (hypotheticals_of (choices_in s) (take s.level s.list)) (hypotheticals_of es (take level a.front))
-      stand.believes
+      (hypotheticals_of (choices_in s) (take s.level s.list)) (hypotheticals_of es (take level a.front)) stand.believes
       (cut_at left));
   minimal = stand.minimal;
 }
@@ -387,8 +381,7 @@ undeclared_undoes s c es list level reasons n m before name now_is left same end
 
     choices : choices_in s ≡ choices_in before ++ c ∷ []
     choices =
-        ap (λ x. choices_of x.premises) e ∙ choices_of-with_choice before.premises name c.sides (omega (arith,
-        sides.0))
+        ap (λ x. choices_of x.premises) e ∙ choices_of-with_choice before.premises name c.sides (omega (arith, sides.0))
         ∙ ap (λ k. choices_in before ++ record { first = k; sides = c.sides } ∷ []) (sym count)
 
     order : AreInOrder (choices_in before ++ c ∷ [])

@@ -33,6 +33,5 @@ pub left_one : (now new users : Members) (cs : List Choice) (l : List ℕ) (k j 
     ((q : ℕ) → IsTrue (users q) → is_hypothetical cs q ≡ false) → IsSame new (without now (hypothetical c side))
     → IsSame now (worldview users cs (take k l)) → IsSame new (worldview users cs (take j l))
 left_one now new users cs l k j c side one order is_list t apart new_is now_is p =
-    new_is p ∙ ap (λ b. b && not (hypothetical c side == p)) (now_is p ∙ ap (λ n. worldview users cs (take n l) p)
-    one)
+    new_is p ∙ ap (λ b. b && not (hypothetical c side == p)) (now_is p ∙ ap (λ n. worldview users cs (take n l) p) one)
     ∙ higher_believes users cs l j c side p order is_list apart t.its t.choice_at t.side_at

@@ -68,8 +68,7 @@ taken_firsts (c ∷ cs) [] (suc n) p t = absurd (both t refl)
 taken_firsts (c ∷ cs) (s ∷ l) (suc n) p t =
     elim (or_cases (hypothetical c s == p) (hypotheticals_of cs (take n l) p) t) [
       | inl e ↦ or_true_left (hypothetical c s == p) (hypotheticals_of (take n cs) (take n l) p) e
-      | inr e ↦ or_true_right (hypothetical c s == p) (hypotheticals_of (take n cs) (take n l) p) (taken_firsts cs
-          l n p e)
+      | inr e ↦ or_true_right (hypothetical c s == p) (hypotheticals_of (take n cs) (take n l) p) (taken_firsts cs l n p e)
     ]
 
 -- one choice more takes its side
@@ -95,8 +94,7 @@ more_choices (c ∷ cs) ds (a ∷ l) p few =
 
 -- the side of a choice is none that the choices before it take
 pub taken_apart : (cs : List Choice) (l : List ℕ) (j : ℕ) (c : Choice) (side : ℕ) → AreInOrder cs → IsChoiceList cs l
-    → slice_get cs j ≡ Some c → slice_get l j ≡ Some side → hypotheticals_of cs (take j l) (hypothetical c side) ≡
-    false
+    → slice_get cs j ≡ Some c → slice_get l j ≡ Some side → hypotheticals_of cs (take j l) (hypothetical c side) ≡ false
 taken_apart [] l j c side order h e f = absurd (none_some e)
 taken_apart (x ∷ cs) [] j c side order h e f = absurd h
 taken_apart (x ∷ cs) (a ∷ l) zero c side order h e f = refl
@@ -215,8 +213,7 @@ first_up_to (suc n) (a ∷ l) few firsts = elim (eqb_tells a 1) as (λ _. level_
 ]
 
 -- and where they are up to another
-pub first_to_there : (n : ℕ) (l : List ℕ) (k : ℕ) → k < n → n ≤ length l → ((i : ℕ) → i < k → slice_index_or l i 0
-    ≡ 1)
+pub first_to_there : (n : ℕ) (l : List ℕ) (k : ℕ) → k < n → n ≤ length l → ((i : ℕ) → i < k → slice_index_or l i 0 ≡ 1)
     → (slice_index_or l k 0 ≡ 1 → ⊥) → level_first n l ≡ k
 first_to_there zero l k within few firsts other = absurd (omega (arith, within))
 first_to_there (suc n) [] k within few firsts other = absurd (omega (arith, few))

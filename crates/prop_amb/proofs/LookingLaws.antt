@@ -106,16 +106,14 @@ module _ (problem : Problem) (s : Stand) (j : ℕ) (c : Choice) (side : ℕ) (n 
   -- joined with the reasons it holds sides of earlier choices alone, where the side that it holds is the last
   pub looked_joined : (m : Members) (kept : List (List ℕ)) → c.sides ≤ side → slice_get s.reasons j ≡ Some kept
       → IsTrue (n (hypothetical c side)) →
-      IsSame m (union (without n (hypothetical c side)) (others_of c.first kept)) → IsWithin s j m × IsShown
-      problem s m
+      IsSame m (union (without n (hypothetical c side)) (others_of c.first kept)) → IsWithin s j m × IsShown problem s m
   looked_joined m kept last kept_at holds m_is =
       let is_side : IsSide c side = is_its_side s j c side here in
       let e : side ≡ c.sides = omega (arith, last, is_side.1) in
       let side_at : slice_get s.list j ≡ Some c.sides = rw e at here.side_at in
       let holds_last : IsTrue (n (hypothetical c c.sides)) = rw e at holds in
       let m_last : IsSame m (union (without n (hypothetical c c.sides)) (others_of c.first kept)) = rw e at m_is in (
-        within_earlier problem s j c n m kept here.stand here.choice_at side_at kept_at within_more holds_last
-        m_last h
+        within_earlier problem s j c n m kept here.stand here.choice_at side_at kept_at within_more holds_last m_last h
             shown,
         still_shown problem s j c n m kept here.stand here.choice_at side_at kept_at within_more holds_last m_last h
             shown,

@@ -41,8 +41,7 @@ met_listed problem s n search listed within = record {
 }
 
 -- it is listed
-pub met_part : (problem : Problem) (s : Stand) (n : List ℕ) → IsMet problem s n → IsTrue (has_part s.listed (set_of
-    n))
+pub met_part : (problem : Problem) (s : Stand) (n : List ℕ) → IsMet problem s n → IsTrue (has_part s.listed (set_of n))
 met_part problem s n met = has_part-from s.listed (set_of n) n met.noted (λ p t. t)
 
 -- an advanced list stands later

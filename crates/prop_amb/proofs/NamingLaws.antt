@@ -250,8 +250,7 @@ user_taken [] (suc m) q h = absurd (both h refl)
 user_taken (o ∷ os) (suc m) zero h = h
 user_taken (o ∷ os) (suc m) (suc q) h = user_taken os m q h
 
-pub stand_taken_back : (s : Stand) (p : ℕ) → IsStand s → IsTrue (is_user_at s.premises p) → length s.premises ≡ p +
-    1 →
+pub stand_taken_back : (s : Stand) (p : ℕ) → IsStand s → IsTrue (is_user_at s.premises p) → length s.premises ≡ p + 1 →
     IsStand (record s { premises = take p s.premises; worldview = filter (λ q. nat_lt q p) s.worldview })
 stand_taken_back s p stand user len =
     let same = choices_of-last s.premises p user len in

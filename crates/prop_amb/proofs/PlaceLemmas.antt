@@ -34,8 +34,7 @@ get_front [] ys k x e = absurd (none_some e)
 get_front (z ∷ xs) ys zero x e = e
 get_front (z ∷ xs) ys (suc k) x e = get_front xs ys k x e
 
-pub take_front : {A : Type 0} (xs ys : List A) (k : ℕ) (x : A) → slice_get xs k ≡ Some x → take k (xs ++ ys) ≡ take
-    k xs
+pub take_front : {A : Type 0} (xs ys : List A) (k : ℕ) (x : A) → slice_get xs k ≡ Some x → take k (xs ++ ys) ≡ take k xs
 take_front [] ys k x e = absurd (none_some e)
 take_front (z ∷ xs) ys zero x e = refl
 take_front (z ∷ xs) ys (suc k) x e = ap (λ l. z ∷ l) (take_front xs ys k x e)

@@ -72,20 +72,17 @@ cleared_more n [] l = absurd (omega (arith, l))
 cleared_more zero (each ∷ reasons) l = refl
 cleared_more (suc n) (each ∷ reasons) l = ap (λ x. [] ∷ x) (cleared_more n reasons (omega (arith, l)))
 
-pub cleared_all : (n : ℕ) (reasons : List (List (List ℕ))) → length reasons ≤ n → cleared n reasons ≡ no_reasons
-    reasons
+pub cleared_all : (n : ℕ) (reasons : List (List (List ℕ))) → length reasons ≤ n → cleared n reasons ≡ no_reasons reasons
 cleared_all zero [] l = refl
 cleared_all zero (each ∷ reasons) l = absurd (omega (arith, l))
 cleared_all (suc n) [] l = refl
 cleared_all (suc n) (each ∷ reasons) l = ap (λ x. [] ∷ x) (cleared_all n reasons (omega (arith, l)))
 
 -- where one more reason is kept of a choice, and none of the later ones
-pub advanced_reasons : (reasons : List (List (List ℕ))) (j : ℕ) (n : List ℕ) (d : List (List ℕ)) → j < length
-    reasons →
+pub advanced_reasons : (reasons : List (List (List ℕ))) (j : ℕ) (n : List ℕ) (d : List (List ℕ)) → j < length reasons →
     reasons_advanced reasons j n ≡ take (suc j)
     (slice_set reasons j (slice_index_or reasons j d ++ n ∷ [])) ++ no_reasons
     (drop (suc j) (slice_set reasons j (slice_index_or reasons j d ++ n ∷ [])))
 advanced_reasons [] j n d l = absurd (omega (arith, l))
 advanced_reasons (each ∷ reasons) zero n d l = refl
-advanced_reasons (each ∷ reasons) (suc j) n d l = ap (λ x. each ∷ x) (advanced_reasons reasons j n d (omega (arith,
-    l)))
+advanced_reasons (each ∷ reasons) (suc j) n d l = ap (λ x. each ∷ x) (advanced_reasons reasons j n d (omega (arith, l)))

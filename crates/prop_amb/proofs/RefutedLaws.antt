@@ -127,8 +127,7 @@ union_left n t s part p h = either (n p) (t p) (s p) (part p) h
 
 -- a refuted set of believed user's premises refutes every choice list
 pub believed_refutes : (problem : Problem) (choices : List Choice) (believed n : Members) →
-    IsOfUsers choices n → IsPart n believed → IsRefuted problem choices n → (list : List ℕ) → IsChoiceList choices
-    list
+    IsOfUsers choices n → IsPart n believed → IsRefuted problem choices n → (list : List ℕ) → IsChoiceList choices list
     → IsListRefuted problem believed choices list
 believed_refutes problem choices believed n users part r list is_list =
     contradictory_more problem (union n (hypotheticals_of choices list)) (worldview believed choices list)

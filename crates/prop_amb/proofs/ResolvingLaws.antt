@@ -187,8 +187,7 @@ apart_of problem s j c side r p stand choice_at k in_r other = elim (k.beside p 
 
 -- A shown set that holds the last side of a choice, on which the choice stands: with the kept reasons, without the
 -- sides.
-module _ (problem : Problem) (s : Stand) (j : ℕ) (c : Choice) (n m : Members) (kept : List (List ℕ)) (stand :
-    IsStand s)
+module _ (problem : Problem) (s : Stand) (j : ℕ) (c : Choice) (n m : Members) (kept : List (List ℕ)) (stand : IsStand s)
     (choice_at : slice_get (choices_in s) j ≡ Some c)
     (side_at : slice_get s.list j ≡ Some c.sides) (kept_at : slice_get s.reasons j ≡ Some kept)
     (within : IsWithin s (suc j) n) (holds : IsTrue (n (hypothetical c c.sides)))
@@ -210,8 +209,7 @@ module _ (problem : Problem) (s : Stand) (j : ℕ) (c : Choice) (n m : Members) 
   each : (side : ℕ) → IsSide c side → IsKept problem s j c side (r side)
   each = all_kept problem s j c n kept h choice_at kept_at count last
 
-  apart : (side p : ℕ) → IsSide c side → IsTrue (r side p) → (hypothetical c side == p) ≡ false → is_side_of c p ≡
-      false
+  apart : (side p : ℕ) → IsSide c side → IsTrue (r side p) → (hypothetical c side == p) ≡ false → is_side_of c p ≡ false
   apart side p is_side in_r other = apart_of problem s j c side (r side) p stand choice_at (each side is_side) in_r
       (λ e. both (eq-eqb (hypothetical c side) p (sym e)) other)
 
@@ -277,8 +275,7 @@ module _ (problem : Problem) (s : Stand) (j : ℕ) (c : Choice) (n m : Members) 
   pub within_earlier : IsWithin s j m
   within_earlier p in_m =
       let x = sources p in_m in
-      elim ((each x.0 x.1).beside p x.2 (λ e. both (eq-eqb (hypothetical c x.0) p (sym e)) (not_own c x.0 p x.1
-      x.3))) [
+      elim ((each x.0 x.1).beside p x.2 (λ e. both (eq-eqb (hypothetical c x.0) p (sym e)) (not_own c x.0 p x.1 x.3))) [
         | inl u ↦ or_true_left (users_of s p) (hypotheticals_of (take j (choices_in s)) (take j s.list) p) u
         | inr t ↦ or_true_right (users_of s p) (hypotheticals_of (take j (choices_in s)) (take j s.list) p) t
       ]

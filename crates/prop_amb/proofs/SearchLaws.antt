@@ -33,8 +33,7 @@ or_none : (x y : Bool) → (x || y) ≡ false → (x ≡ false) × (y ≡ false)
 or_none true y h = absurd (both {b = true} refl h)
 or_none false y h = (refl, h)
 
-pub side_is_of : (choice : Choice) (side : ℕ) → IsSide choice side → is_side_of choice (hypothetical choice side) ≡
-    true
+pub side_is_of : (choice : Choice) (side : ℕ) → IsSide choice side → is_side_of choice (hypothetical choice side) ≡ true
 side_is_of choice side h =
     and_from _ _ (le-leb choice.first (choice.first + (side - 1)) (omega arith))
     (lt-ltb (choice.first + (side - 1)) (choice.first + choice.sides) (omega (arith, h.0, h.1)))

@@ -96,8 +96,7 @@ pub rest_on : (start d new : Data) → d ≡ record start { contents = d.content
     → new ≡ record d { contents = new.contents } → new ≡ record start { contents = new.contents }
 rest_on start d new first then = then ∙ (λ i. record (first i) { contents = new.contents })
 
-pub premises_in : (s new : Stand) → new ≡ record s { level = new.level; listed = new.listed; worldview =
-    new.worldview }
+pub premises_in : (s new : Stand) → new ≡ record s { level = new.level; listed = new.listed; worldview = new.worldview }
     → new.premises ≡ s.premises
 premises_in s new only = λ i. (only i).premises
 
@@ -124,8 +123,7 @@ attempted_in stored a b picks s d waiting order budget tried calls new cells aft
 
 pub contradiction_in : {L : Type 0} (stored : L → List Stored) (a b : L) (start d : Data) (s new : Stand)
     (outcome : Outcome) → b ≡ a → d ≡ record start { contents = d.contents } → new ≡ s →
-    IfContradiction outcome (λ n. IsRuledOut (problem_of (stored b) d) (users_of s) (choices_in s) s.listed (set_of
-    n))
+    IfContradiction outcome (λ n. IsRuledOut (problem_of (stored b) d) (users_of s) (choices_in s) s.listed (set_of n))
     → IfContradiction outcome (λ n. IsRuledOut (problem_of (stored a) start) (users_of new) (choices_in new)
     new.listed (set_of n))
 contradiction_in stored a b start d s new outcome same rest as_was h =
@@ -167,8 +165,7 @@ module _ {O : Type 0} (picks : O → ℕ → ℕ → O → Type 0) (library : Li
   -- ---- an attempt
 
   -- no list further on is the first one
-  not_further : (s : Stand) (further : ℕ) → place_of choices s.list ≡ place_of choices old.list + further → 1 ≤
-      further
+  not_further : (s : Stand) (further : ℕ) → place_of choices s.list ≡ place_of choices old.list + further → 1 ≤ further
       → s.list ≡ old.list → ⊥
   not_further s further place one same =
       let e : place_of choices s.list ≡ place_of choices old.list = ap (place_of choices) same in
@@ -218,8 +215,7 @@ module _ {O : Type 0} (picks : O → ℕ → ℕ → O → Type 0) (library : Li
 
       fall : problem_of library d ≡ problem → s.list ≡ old.list
           → IsStart old s start d line waiting steps ⊎ ((1 ≤ way.further) × (IsResting old start line → ⊥)) →
-          potential problem (beliefs (set_of new.worldview) cells.contents) after + (steps + calls) ≤ potential
-          problem
+          potential problem (beliefs (set_of new.worldview) cells.contents) after + (steps + calls) ≤ potential problem
           (beliefs (set_of old.worldview) start.contents) line
       fall e same (inl x) =
           let h : potential problem (beliefs (set_of new.worldview) cells.contents) after + calls ≤ potential problem
@@ -238,11 +234,9 @@ module _ {O : Type 0} (picks : O → ℕ → ℕ → O → Type 0) (library : Li
       → OnTry picks library old start line first s d waiting order steps budget tried →
       (tried ≡ Quiet → ⊥) → new.premises ≡ s.premises → new.listed ≡ s.listed → IsSearch (problem_of library d) new
       → IsUnderWay library (set_of new.worldview) d after →
-      1 ≤ moves → Passes s moves new → AreShifted (believed_with s) (believed_with new) d (length d.kinds) waiting
-      after
+      1 ≤ moves → Passes s moves new → AreShifted (believed_with s) (believed_with new) d (length d.kinds) waiting after
       → OnWay picks library old start line first new d after order (steps + moves)
-  after_move s d waiting order steps budget tried new after moves t restless same_premises same_listed learned
-      under_way
+  after_move s d waiting order steps budget tried new after moves t restless same_premises same_listed learned under_way
       some passes shifted =
       let less : place_of choices s.list + moves ≤ place_of choices new.list =
       rw (ap (λ (o : List Origin). choices_of o) t.premises) at (passed_place s new moves t.stand.is_list passes).2
@@ -296,8 +290,7 @@ module _ {O : Type 0} (picks : O → ℕ → ℕ → O → Type 0) (library : Li
 
     pub spent_earned : tried ≡ Spent → budget + 1 < lists_count
         (choices_in s) * (most_steps (problem_of library start) + 1)
-    spent_earned q = in_all (few_in_all t.further (place_of choices old.list) (lists_count choices) (most_steps
-    problem)
+    spent_earned q = in_all (few_in_all t.further (place_of choices old.list) (lists_count choices) (most_steps problem)
         (budget + 1) (t.earned q) (omega (arith, below_all, t.place)))
 
     -- the same where a choice may go on to a list that could be tried

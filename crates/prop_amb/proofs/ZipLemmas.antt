@@ -29,8 +29,7 @@ zip_from Q R [] (y ∷ ys) h f = absurd h
 zip_from Q R (x ∷ xs) [] h f = absurd h
 zip_from Q R (x ∷ xs) (y ∷ ys) h f = (f 0 x y refl refl, zip_from Q R xs ys h.1 (λ k a b p q. f (suc k) a b p q))
 
-pub zip_both : {A B : Type 0} (R : A → B → Type 0) (xs : List A) (ys : List B) (k : ℕ) (x : A) (y : B) → AllZip R
-    xs ys
+pub zip_both : {A B : Type 0} (R : A → B → Type 0) (xs : List A) (ys : List B) (k : ℕ) (x : A) (y : B) → AllZip R xs ys
     → slice_get xs k ≡ Some x → slice_get ys k ≡ Some y → R x y
 zip_both R [] ys k x y h e f = absurd (none_some e)
 zip_both R (a ∷ xs) [] k x y h e f = absurd h

@@ -56,8 +56,6 @@ loop-place-preserved c =
 
 pub returns : goal.returns
 returns c users apart same =
-    let end : c.loop-place.place ≡ c.args.from = omega (arith, c.loop-place.invariant.least,
-    c.loop-place-test.false) in
-    subst (λ n. IsSame (set_of c.loop-place.believed) (worldview users c.args.choices.now (take n
-    c.args.list.now))) end
+    let end : c.loop-place.place ≡ c.args.from = omega (arith, c.loop-place.invariant.least, c.loop-place-test.false) in
+    subst (λ n. IsSame (set_of c.loop-place.believed) (worldview users c.args.choices.now (take n c.args.list.now))) end
     (c.loop-place.invariant.kept users apart same)

@@ -20,6 +20,5 @@ loop-place-preserved c = record {
 
 pub returns : goal.returns
 returns c =
-    let end : c.loop-place.place ≡ c.args.level = omega (arith, c.loop-place-test.false,
-    c.loop-place.auto.place-end) in
+    let end : c.loop-place.place ≡ c.args.level = omega (arith, c.loop-place-test.false, c.loop-place.auto.place-end) in
     sym (first_up_to c.args.level c.args.list.now c.requires (rw end at c.loop-place.invariant.firsts))

@@ -11,8 +11,7 @@ returns c =
     let place = c.args.place in
     let next = slice_index_or list place 0 + 1 in
     let set = slice_set list place next in
-    let all = take_all (length set - (place + 1)) (drop (place + 1) set) (omega (arith, length-drop (place + 1)
-    set)) in
+    let all = take_all (length set - (place + 1)) (drop (place + 1) set) (omega (arith, length-drop (place + 1) set)) in
     let rest : length (take (length set - (place + 1)) (drop (place + 1) set)) ≡ length list - (place + 1) =
     omega (arith, ap length all, length-drop (place + 1) set, length-set list place next) in
     sides_advanced list c.fill.new.self place next c.requires.place refl

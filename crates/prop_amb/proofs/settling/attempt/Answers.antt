@@ -14,15 +14,13 @@ returns-in-Some-clause-gone g c = none
 pub returns-in-Quiet-clause-gone : goal.returns-in-Quiet-clause-gone
 returns-in-Quiet-clause-gone g c =
     ran c.args.search.now c.worldview.result.now c.worldview.ensures.stand c.worldview.ensures.same
-    (c.in_default.ensures.none refl) g.O.Order.picks (stored_of g.R.Rule.value_of c.args.live.now.network.library)
-    _ _ _
+    (c.in_default.ensures.none refl) g.O.Order.picks (stored_of g.R.Rule.value_of c.args.live.now.network.library) _ _ _
     _ _ _ _ c.in_ok-end.ensures.turns
 
 pub returns-in-Spent-clause-gone : goal.returns-in-Spent-clause-gone
 returns-in-Spent-clause-gone g c =
     ran c.args.search.now c.worldview.result.now c.worldview.ensures.stand c.worldview.ensures.same
-    (c.in_default.ensures.none refl) g.O.Order.picks (stored_of g.R.Rule.value_of c.args.live.now.network.library)
-    _ _ _
+    (c.in_default.ensures.none refl) g.O.Order.picks (stored_of g.R.Rule.value_of c.args.live.now.network.library) _ _ _
     _ _ _ _ c.in_ok-end.ensures.turns
 
 pub returns-in-Spent-clause-left : goal.returns-in-Spent-clause-left
@@ -35,8 +33,7 @@ pub returns-in_ok-note-in-Clash-clause-gone : goal.returns-in_ok-note-in-Clash-c
 returns-in_ok-note-in-Clash-clause-gone g c =
     let clash = rw c.in-Clash.is at c.in_ok-end.ensures.clash in
     ran_noting c.args.search.now c.worldview.result.now c.worldview.ensures.stand c.worldview.ensures.same
-    (c.in_default.ensures.none refl) g.O.Order.picks (stored_of g.R.Rule.value_of c.args.live.now.network.library)
-    _ _ _
+    (c.in_default.ensures.none refl) g.O.Order.picks (stored_of g.R.Rule.value_of c.args.live.now.network.library) _ _ _
     _ _ _ _ _ _ _ c.in_ok-end.ensures.turns clash c.in_ok-copy-in-Clash.ensures
     c.in_ok-note-in-Clash.ensures.adds c.in_ok-note-in-Clash.ensures.only
 
@@ -44,7 +41,7 @@ pub returns-in-Some-clause-refuted : goal.returns-in-Some-clause-refuted
 returns-in-Some-clause-refuted g c =
     let same : c.in_ok-copy.field-0 ≡ c.in-Some.nogood.now = c.in_ok-copy.ensures in
     rw same (met_listed (problem_of (stored_of g.R.Rule.value_of c.args.live.now.network.library)
-    c.args.live.now.network.cells)
+        c.args.live.now.network.cells)
     c.args.search.now c.in-Some.nogood.now c.requires.search c.in-Some.ensures.listed c.in-Some.ensures.believed)
 
 pub returns-in-Quiet-clause-falls : goal.returns-in-Quiet-clause-falls
@@ -57,15 +54,14 @@ returns-in-Quiet-clause-falls g c =
 pub returns-in-Quiet-clause-few : goal.returns-in-Quiet-clause-few
 returns-in-Quiet-clause-few g c =
     bounded_in _ _ _ (same_problem (stored_of g.R.Rule.value_of) c.args.live.now.network.library
-    c.run.new.live.network.library
+        c.run.new.live.network.library
     c.args.live.now.network.cells c.run.new.live.network.cells c.in_ok-end.ensures.ran.library
     c.in_ok-end.ensures.ran.rest)
     c.in_ok-end.ensures.bounded
 
 pub note-requires : goal.note-requires
 note-requires g c =
-    let same = same_problem (stored_of g.R.Rule.value_of) c.args.live.now.network.library
-    c.run.new.live.network.library
+    let same = same_problem (stored_of g.R.Rule.value_of) c.args.live.now.network.library c.run.new.live.network.library
     c.args.live.now.network.cells c.run.new.live.network.cells c.in_ok-end.ensures.ran.library
     c.in_ok-end.ensures.ran.rest in
     let h = rw c.in-Clash.is at c.in_ok-end.ensures.conflict in
@@ -77,8 +73,7 @@ note-requires g c =
 
 pub returns-in_ok-note-in-Clash-clause-search : goal.returns-in_ok-note-in-Clash-clause-search
 returns-in_ok-note-in-Clash-clause-search g c =
-    let same = same_problem (stored_of g.R.Rule.value_of) c.args.live.now.network.library
-    c.run.new.live.network.library
+    let same = same_problem (stored_of g.R.Rule.value_of) c.args.live.now.network.library c.run.new.live.network.library
     c.args.live.now.network.cells c.run.new.live.network.cells c.in_ok-end.ensures.ran.library
     c.in_ok-end.ensures.ran.rest in
     let h = rw c.in-Clash.is at c.in_ok-end.ensures.conflict in
@@ -108,15 +103,14 @@ returns-in_ok-note-in-Clash-clause-falls g c =
 pub returns-in_ok-note-in-Clash-clause-few : goal.returns-in_ok-note-in-Clash-clause-few
 returns-in_ok-note-in-Clash-clause-few g c =
     bounded_in _ _ _ (same_problem (stored_of g.R.Rule.value_of) c.args.live.now.network.library
-    c.run.new.live.network.library
+        c.run.new.live.network.library
     c.args.live.now.network.cells c.run.new.live.network.cells c.in_ok-end.ensures.ran.library
     c.in_ok-end.ensures.ran.rest)
     c.in_ok-end.ensures.bounded
 
 pub returns-in_ok-note-in-Clash-clause-refuted : goal.returns-in_ok-note-in-Clash-clause-refuted
 returns-in_ok-note-in-Clash-clause-refuted g c =
-    let same = same_problem (stored_of g.R.Rule.value_of) c.args.live.now.network.library
-    c.run.new.live.network.library
+    let same = same_problem (stored_of g.R.Rule.value_of) c.args.live.now.network.library c.run.new.live.network.library
     c.args.live.now.network.cells c.run.new.live.network.cells c.in_ok-end.ensures.ran.library
     c.in_ok-end.ensures.ran.rest in
     let h = rw c.in-Clash.is at c.in_ok-end.ensures.conflict in

@@ -12,8 +12,7 @@ use Rattle.prop_amb.proofs.settling.go_on.Goals as goal
 
 pub resolve-requires : goal.resolve-requires
 resolve-requires c = record {
-  believed = λ p t. within_has (set_of c.args.search.now.worldview) c.in-Some.blocking.now p
-      c.in-Some.ensures.believed
+  believed = λ p t. within_has (set_of c.args.search.now.worldview) c.in-Some.blocking.now p c.in-Some.ensures.believed
       (rw c.in_ok-believed.ensures at t);
 }
 

@@ -70,8 +70,7 @@ returns-in_err-tried-clause-alive g c = c.try_list.ensures.alive
 
 pub returns-in_err-tried-clause-learns : goal.returns-in_err-tried-clause-learns
 returns-in_err-tried-clause-learns g c =
-    let problem = problem_of (stored_of g.R.Rule.value_of c.args.live.now.network.library)
-    c.args.live.now.network.cells
+    let problem = problem_of (stored_of g.R.Rule.value_of c.args.live.now.network.library) c.args.live.now.network.cells
     in
     let learned : IsSearch problem c.try_list.new.search = search_in (stored_of g.R.Rule.value_of)
     c.args.live.now.network.library c.loop-tried.live.network.library c.args.live.now.network.cells
@@ -113,8 +112,7 @@ returns-in_err-end-clause-alive g c = c.decide.ensures.alive
 
 pub returns-in_err-end-clause-learns : goal.returns-in_err-end-clause-learns
 returns-in_err-end-clause-learns g c =
-    let problem = problem_of (stored_of g.R.Rule.value_of c.args.live.now.network.library)
-    c.args.live.now.network.cells
+    let problem = problem_of (stored_of g.R.Rule.value_of c.args.live.now.network.library) c.args.live.now.network.cells
     in
     let both = c.try_list.ensures.ran.library ∙ c.loop-tried.invariant.same in
     let rest : c.try_list.new.live.network.cells
@@ -128,8 +126,7 @@ returns-in_err-end-clause-learns g c =
       premises = c.decide.ensures.premises
           ∙ premises_in c.loop-tried.search c.try_list.new.search c.try_list.ensures.only
           ∙ c.loop-tried.invariant.way.premises;
-      listed = λ m t. rw c.decide.ensures.listed (c.try_list.ensures.listed m (c.loop-tried.invariant.way.listed m
-          t));
+      listed = λ m t. rw c.decide.ensures.listed (c.try_list.ensures.listed m (c.loop-tried.invariant.way.listed m t));
       search = learned;
       stand = c.decide.ensures.stand;
       passed = kept_block problem c.decide.new.search c.decide.ensures.stand learned.reasons;
@@ -142,7 +139,7 @@ returns-in-Some g c =
     let same = c.loop-tried.invariant.same in
     let way = c.loop-tried.invariant.way in
     let a : Attempted g.O.Order.picks (stored_of g.R.Rule.value_of c.loop-tried.live.network.library)
-    c.loop-tried.search
+        c.loop-tried.search
     c.loop-tried.live.network.cells c.loop-tried.live.agenda.line c.loop-tried.order
     (c.args.budget - c.loop-tried.steps) c.in_ok-tried.field-0.end c.in_ok-tried.field-0.steps c.try_list.new.search
     c.try_list.new.live.network.cells c.try_list.new.live.agenda.line c.try_list.new.order =
@@ -155,16 +152,15 @@ returns-in-Some g c =
     c.args.live.now.network.cells c.args.live.now.agenda.line c.args.order.now c.loop-tried.search
     c.loop-tried.live.network.cells
     c.loop-tried.live.agenda.line c.loop-tried.order c.loop-tried.steps c.args.budget c.in_ok-tried.field-0.end
-    c.in_ok-tried.field-0.steps c.try_list.new.search c.try_list.new.live.network.cells
-    c.try_list.new.live.agenda.line
+    c.in_ok-tried.field-0.steps c.try_list.new.search c.try_list.new.live.network.cells c.try_list.new.live.agenda.line
     c.try_list.new.order way c.loop-tried.invariant.within
     (attempted_in (stored_of g.R.Rule.value_of) c.args.live.now.network.library c.loop-tried.live.network.library
     g.O.Order.picks
     c.loop-tried.search c.loop-tried.live.network.cells c.loop-tried.live.agenda.line c.loop-tried.order
     (c.args.budget - c.loop-tried.steps) c.in_ok-tried.field-0.end c.in_ok-tried.field-0.steps c.try_list.new.search
     c.try_list.new.live.network.cells c.try_list.new.live.agenda.line c.try_list.new.order same a) in
-    let both : c.try_list.new.live.network.library ≡ c.args.live.now.network.library =
-    c.try_list.ensures.ran.library ∙ same in
+    let both : c.try_list.new.live.network.library ≡ c.args.live.now.network.library = c.try_list.ensures.ran.library
+        ∙ same in
     let as_was : c.decide.new.search ≡ c.try_list.new.search = rw some at c.in_ok-end.ensures.same in
     let line_as_was : c.decide.new.live.agenda.line ≡ c.try_list.new.live.agenda.line =
     rw some at c.in_ok-end.ensures.same_line in
@@ -173,7 +169,7 @@ returns-in-Some g c =
     c.decide.new.live.network.cells c.decide.new.live.agenda.line c.try_list.new.order
     (c.loop-tried.steps + c.in_ok-tried.field-0.steps) c.args.budget c.in_ok-tried.field-0.end =
     rw (ap (λ n. n.cells) c.decide.ensures.network) (ended g.O.Order.picks (stored_of g.R.Rule.value_of
-    c.args.live.now.network.library) c.args.search.now
+        c.args.live.now.network.library) c.args.search.now
     c.args.live.now.network.cells c.args.live.now.agenda.line c.args.order.now c.try_list.new.search
     c.try_list.new.live.network.cells c.try_list.new.live.agenda.line c.try_list.new.order
     (c.loop-tried.steps + c.in_ok-tried.field-0.steps) c.args.budget c.in_ok-tried.field-0.end c.decide.new.search
@@ -235,8 +231,7 @@ returns-in-Some g c =
         left = elim (unsettled e) [ inl q ↦ inl (t.leaves q) | inr h ↦ inr h.1 ];
       };
       steps = t.within;
-      moves = all_moves g.O.Order.picks (stored_of g.R.Rule.value_of c.args.live.now.network.library)
-          c.args.search.now
+      moves = all_moves g.O.Order.picks (stored_of g.R.Rule.value_of c.args.live.now.network.library) c.args.search.now
           c.args.live.now.network.cells c.args.live.now.agenda.line c.args.order.now c.decide.new.search
           c.decide.new.live.network.cells c.decide.new.live.agenda.line c.try_list.new.order
           (c.loop-tried.steps + c.in_ok-tried.field-0.steps) c.args.budget c.in_ok-tried.field-0.end t;
@@ -260,7 +255,7 @@ loop-tried-preserved g c =
     let same = c.loop-tried.invariant.same in
     let way = c.loop-tried.invariant.way in
     let a : Attempted g.O.Order.picks (stored_of g.R.Rule.value_of c.loop-tried.live.network.library)
-    c.loop-tried.search
+        c.loop-tried.search
     c.loop-tried.live.network.cells c.loop-tried.live.agenda.line c.loop-tried.order
     (c.args.budget - c.loop-tried.steps) c.in_ok-tried.field-0.end c.in_ok-tried.field-0.steps c.try_list.new.search
     c.try_list.new.live.network.cells c.try_list.new.live.agenda.line c.try_list.new.order =
@@ -273,27 +268,25 @@ loop-tried-preserved g c =
     c.args.live.now.network.cells c.args.live.now.agenda.line c.args.order.now c.loop-tried.search
     c.loop-tried.live.network.cells
     c.loop-tried.live.agenda.line c.loop-tried.order c.loop-tried.steps c.args.budget c.in_ok-tried.field-0.end
-    c.in_ok-tried.field-0.steps c.try_list.new.search c.try_list.new.live.network.cells
-    c.try_list.new.live.agenda.line
+    c.in_ok-tried.field-0.steps c.try_list.new.search c.try_list.new.live.network.cells c.try_list.new.live.agenda.line
     c.try_list.new.order way c.loop-tried.invariant.within
     (attempted_in (stored_of g.R.Rule.value_of) c.args.live.now.network.library c.loop-tried.live.network.library
     g.O.Order.picks
     c.loop-tried.search c.loop-tried.live.network.cells c.loop-tried.live.agenda.line c.loop-tried.order
     (c.args.budget - c.loop-tried.steps) c.in_ok-tried.field-0.end c.in_ok-tried.field-0.steps c.try_list.new.search
     c.try_list.new.live.network.cells c.try_list.new.live.agenda.line c.try_list.new.order same a) in
-    let both : c.try_list.new.live.network.library ≡ c.args.live.now.network.library =
-    c.try_list.ensures.ran.library ∙ same in
+    let both : c.try_list.new.live.network.library ≡ c.args.live.now.network.library = c.try_list.ensures.ran.library
+        ∙ same in
     let some = c.in_ok-end.ensures.some none in
     record {
       same = ap (λ n. n.library) c.decide.ensures.network ∙ both;
       alive = c.decide.ensures.alive;
       within = omega (arith, some, c.in_ok-end.ensures.few, x.within);
-      way = rw (ap (λ n. n.cells) c.decide.ensures.network) (after_move g.O.Order.picks (stored_of
-          g.R.Rule.value_of c.args.live.now.network.library) c.args.search.now
+      way = rw (ap (λ n. n.cells) c.decide.ensures.network) (after_move g.O.Order.picks (stored_of g.R.Rule.value_of
+          c.args.live.now.network.library) c.args.search.now
           c.args.live.now.network.cells c.args.live.now.agenda.line c.args.order.now c.try_list.new.search
           c.try_list.new.live.network.cells c.try_list.new.live.agenda.line c.try_list.new.order
-          (c.loop-tried.steps + c.in_ok-tried.field-0.steps) c.args.budget c.in_ok-tried.field-0.end
-          c.decide.new.search
+          (c.loop-tried.steps + c.in_ok-tried.field-0.steps) c.args.budget c.in_ok-tried.field-0.end c.decide.new.search
           c.decide.new.live.agenda.line c.in_ok-end.field-0.steps x
           (λ q. no_end (c.decide.ensures.quiet q) c.in_ok-end.was none)
           c.decide.ensures.premises c.decide.ensures.listed (rw both at c.decide.ensures.search)

@@ -37,7 +37,7 @@ returns-clause-too_few g c few entailed =
           settled_below after s new c.args.claim.cell c.args.claim.value settled
           (subst (λ p. Entails p s c.args.claim.cell c.args.claim.value) (sym problem) entailed) in
           w.enough-tried.ensures.too_few (sym w.tried-is ∙ few)
-          (rw (w.belief.ensures, c.in_ok-worldview.ensures.of) below))
+          (rw (w.belief.ensures, w.network.ensures, c.in_ok-worldview.ensures.of) below))
       | in-Clash w ↦ no_clash _ _ _ _ problem c.requires.consistent
           (rw (w.in-Clash.is, c.in_ok-worldview.ensures.of) at c.in_ok-end.ensures.conflict)
       | in-Spent w ↦ (let e = sym w.tried-is ∙ few in cc)

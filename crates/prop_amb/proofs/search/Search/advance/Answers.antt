@@ -39,8 +39,7 @@ advance_reasons-requires c =
 pub move_on-requires-clause-more : goal.move_on-requires-clause-more
 move_on-requires-clause-more c =
     let may : MayAdvance (the_view c.self.inside) c.args.place = rw (← c.self.view_is) at c.requires.may in
-    let few = few_sides (choices_of c.self.inside.premises) c.args.place may.choice
-    c.self.invariant.0.numbered.of_sides
+    let few = few_sides (choices_of c.self.inside.premises) c.args.place may.choice c.self.invariant.0.numbered.of_sides
     may.choice_at in
     let side_is = index_at c.self.inside.list.items c.args.place may.side 0 may.side_at in
     rw c.deref_mut-2.ensures.value (omega (arith, few, may.more, side_is))

@@ -33,6 +33,5 @@ returns-clause-search c old new less h =
     let numbered : IsNumbered c.args.self.now.premises =
     subst IsNumbered (ap (λ (t : Stand). t.premises) restarted_is) c.self.invariant.0.numbered in
     rw c.purge.ensures
-    (subst (IsSearch new) (sym (ap (λ (t : Stand). record t { listed = lacking t.listed c.args.premise })
-    restarted_is))
+    (subst (IsSearch new) (sym (ap (λ (t : Stand). record t { listed = lacking t.listed c.args.premise }) restarted_is))
     (search_forgotten old new c.args.premise c.args.self.now c.restart.new.self.worldview numbered c.requires less h))

@@ -36,8 +36,7 @@ pub returns-in-Ok-clause-ok : goal.returns-in-Ok-clause-ok
 returns-in-Ok-clause-ok c =
     let known = c.in_ok-premise.ensures in
     rw (believed_last c)
-    (interned_new_is (the_view c.self.inside) c.args.self.now c.args.name.now c.intern.new.self
-    c.in_ok-premise.premise
+    (interned_new_is (the_view c.self.inside) c.args.self.now c.args.name.now c.intern.new.self c.in_ok-premise.premise
     c.self.view_is known.ok known.number
     (λ e. c.if-len-count.false (c.len.ensures.len ∙ e ∙ sym c.len-count.ensures.len)))
 

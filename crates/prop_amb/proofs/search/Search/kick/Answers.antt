@@ -33,6 +33,5 @@ returns-clause-search c problem h =
     let same = ap choices_of c.kick.ensures.only
     ∙ choices_of-with_belief_at c.self-2.inside.premises c.args.premise false
     ∙ ap (λ (s : Stand). choices_of s.premises) is in
-    subst (λ (s : Stand). IsSearch problem (record s { premises = c.kick.new.self; worldview =
-    c.disbelieve.new.self }))
+    subst (λ (s : Stand). IsSearch problem (record s { premises = c.kick.new.self; worldview = c.disbelieve.new.self }))
     (sym is) (search_restarted problem _ c.kick.new.self c.disbelieve.new.self same h)

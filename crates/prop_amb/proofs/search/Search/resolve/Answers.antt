@@ -152,8 +152,7 @@ loop-place-preserved c =
       shown = λ problem h nogood listed.
           let known = c.loop-place.invariant.shown problem h nogood listed in
           let within = subst (λ (k : ℕ). IsWithin c.args.self.now k (set_of c.loop-place.set)) place known.0 in
-          looked_free problem c.args.self.now (c.loop-place.place - 1) _ c.index-side.result.now _ here h within
-          known.1
+          looked_free problem c.args.self.now (c.loop-place.place - 1) _ c.index-side.result.now _ here h within known.1
           (sym (rw c.from.ensures at c.if-contains.ensures));
       culprits = c.loop-place.invariant.culprits;
     }
