@@ -13,8 +13,8 @@ use Rattle.prop_workbench.proofs.ReasonLemmas.{lean_answer}
 use Rattle.prop_workbench.proofs.session.Session.settled.Goals as goal
 
 pub belief-info-requires : goal.belief-info-requires
-belief-info-requires g c = cell_there c.args.self.now c.in-Ask.name.now c.in-Ask.cell c.requires.sound
-    (rw c.in-Ask.is at c.requires.named)
+belief-info-requires g c = rw c.network.ensures (cell_there c.args.self.now c.in-Ask.name.now c.in-Ask.cell
+    c.requires.sound (rw c.in-Ask.is at c.requires.named))
 
 pub value_of-requires : goal.value_of-requires
 value_of-requires g c = cell_there c.args.self.now c.in-Ask.name.now c.in-Ask.cell c.requires.sound
@@ -55,7 +55,7 @@ returns-in-Ask-clause-says g c =
     λ steps. rw c.in-Ask.is (may_say_value (stored_of value s.live.network.library) (state_of s) (commands.Command.Ask name)
     (Settled s.search.list) name cell v [] _ steps named
     (settled_in value s cell c.requires.sound c.requires.rest) (λ text r. r)
-    (rw (c.belief-info.ensures, c.worldview-in-Ask.ensures.same) at c.value_of.ensures))
+    (rw (c.belief-info.ensures, c.network.ensures, c.worldview-in-Ask.ensures.same) at c.value_of.ensures))
 
 pub returns-in-Why-clause-says : goal.returns-in-Why-clause-says
 returns-in-Why-clause-says g c =
