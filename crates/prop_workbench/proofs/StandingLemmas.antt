@@ -77,7 +77,7 @@ pub believing_keeps : {R O : Type 0} {X : Type 0} {F : X → Type 0} {g : _} (va
     → IsSearch (problem_of (library_of value s) s.live.network.cells) new)
     → live.network ≡ s.live.network → IsLiveIn value (set_of new.worldview) live
     → Keeps value s (record s { search = new; live = live })
-believing_keeps value s new live p b sound changed listed stand search same alive = record {
+believing_keeps {R = R} {X = X} {F = F} {g = g} value s new live p b sound changed listed stand search same alive = record {
   library = ap (λ n. n.library) same;
   sound = record {
     at_work = rw same (believing_at_work (library_of value s) s.search new p b s.live.network.cells s.live.agenda
