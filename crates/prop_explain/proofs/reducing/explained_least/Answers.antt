@@ -47,7 +47,8 @@ returns-then-left-clause-tries g c =
       tries.0,
       tries_of_more g.O.Order.picks (stored_of value c.args.live.now.network.library) (set_of c.in_ok-why.why.support)
           (set_of c.args.worldview.now) c.args.live.now.network.cells c.args.live.now.agenda.line c.args.order.now
-          tries.0 c.in_ok-left.field-0.steps new.live.network.cells new.live.agenda.line new.order explains.part tries.1,
+          tries.0 c.in_ok-left.field-0.steps new.live.network.cells new.live.agenda.line new.order explains.part
+          tries.1,
     )
 
 pub returns-clause-tries : goal.returns-clause-tries
@@ -59,5 +60,6 @@ returns-clause-tries g c =
       tries.0,
       tries_of_more g.O.Order.picks (stored_of value c.args.live.now.network.library) (set_of c.in_ok-why.why.support)
           (set_of c.args.worldview.now) c.args.live.now.network.cells c.args.live.now.agenda.line c.args.order.now
-          tries.0 c.in_ok-left.field-0.steps new.live.network.cells new.live.agenda.line new.order explains.part tries.1,
+          tries.0 c.in_ok-left.field-0.steps new.live.network.cells new.live.agenda.line new.order explains.part
+          tries.1,
     )

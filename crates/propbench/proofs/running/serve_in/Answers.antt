@@ -17,14 +17,16 @@ pub returns-clause-earned : goal.returns-clause-earned
 returns-clause-earned g c =
     let same = ap (λ l. l.procedures.items) (c.in_ok-session.ensures.library ∙ c.new-network.ensures.library)
     ∙ ap (λ p. p.items) c.new.ensures in
-    worked_by_kit g.O.Order.picks c.args.order c.in_ok-session.session.live.network.library c.args.procedures.items _ _ _ _ _
+    worked_by_kit g.O.Order.picks c.args.order c.in_ok-session.session.live.network.library c.args.procedures.items _
+    _ _ _ _
     c.answer-counts.result same c.requires.listed c.in_ok-session.ensures.state c.answer-counts.ensures.ok
 
 pub returns-clause-earned_in_part : goal.returns-clause-earned_in_part
 returns-clause-earned_in_part g c =
     let same = ap (λ l. l.procedures.items) (c.in_ok-session.ensures.library ∙ c.new-network.ensures.library)
     ∙ ap (λ p. p.items) c.new.ensures in
-    worked_in_part_by_kit g.O.Order.picks c.args.order c.in_ok-session.session.live.network.library c.args.procedures.items _
+    worked_in_part_by_kit g.O.Order.picks c.args.order c.in_ok-session.session.live.network.library
+    c.args.procedures.items _
     _ _ _ _ c.answer-counts.result same c.requires.listed c.in_ok-session.ensures.state c.answer-counts.ensures.err
 
 pub returns-in_err-session-clause-devices : goal.returns-in_err-session-clause-devices

@@ -46,13 +46,15 @@ returns-in-Ok g c =
           (free_core library (state_of s) name c.args.cell c.requires.named) (c.core_reply.ensures.state ∙ state)
           (λ m covered. then.covers m (kept.covers m covered))
           (covered_still (shown_of t) (shown_of u) outcome then.covers
-          (covered_end (shown_of t) t.search.list c.in-Ok.field-0.end said.covered)) (rw (kept.library, state) at said.ends)
+          (covered_end (shown_of t) t.search.list c.in-Ok.field-0.end said.covered)) (rw (kept.library, state) at
+          said.ends)
           (rw (kept.library, state) at c.core_reply.ensures.says)
           (rw (ap (λ (v : State). v.limit) state) at c.core_reply.ensures.within);
       rests = record {
         lean = tt;
         wakes = tt;
-        earned = earns_core g.O.Order.picks library (state_of s) (work_of s) (work_of t) (work_of u) name c.in-Ok.field-0.end
+        earned = earns_core g.O.Order.picks library (state_of s) (work_of s) (work_of t) (work_of u) name
+            c.in-Ok.field-0.end
             c.in-Ok.field-0.steps c.core_reply.result.1 _ c.in-Ok.ensures.gone c.in-Ok.ensures.left
             (believed c.core_reply.ensures.believed) c.in-Ok.ensures.blamed
             (rw (kept.library, state) at c.core_reply.ensures.tried) c.core_reply.ensures.untried

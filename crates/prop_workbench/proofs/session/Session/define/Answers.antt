@@ -32,7 +32,8 @@ returns-clause-step g c =
     c.define.result (rw (c.library.ensures, c.network.ensures) at c.define.ensures.fits)
     (on_ok_weaker c.define.result (λ e.
     record { answer_is = refl; new_is = λ i. record (state_of s) { definitions = e i }; no_steps = refl })
-    (rw (c.library.ensures, c.network.ensures) at c.define.ensures.ok)) (rw (c.library.ensures, c.network.ensures) at c.define.ensures.err)
+    (rw (c.library.ensures, c.network.ensures) at c.define.ensures.ok)) (rw (c.library.ensures, c.network.ensures) at
+    c.define.ensures.err)
     (on_err_weaker c.define.result (λ e i. record (state_of s) { definitions = e i }) c.define.ensures.err_same)
 
 pub returns-clause-wakes : goal.returns-clause-wakes

@@ -29,7 +29,8 @@ returns-clause-explained g c =
 pub returns-clause-lean : goal.returns-clause-lean
 returns-clause-lean g c =
     let s = c.args.self.now in
-    lean_explained (set_of c.args.worldview.now) s.names s.words s.definitions s.search.premises s.live.network.cells s.limit
+    lean_explained (set_of c.args.worldview.now) s.names s.words s.definitions s.search.premises s.live.network.cells
+    s.limit
     c.args.cell c.in-Ok.why.value c.args.name.now c.args.mark.now c.in-Ok.why.support
     (because s.search.premises c.args.mark.now c.in-Ok.why.support) _
     (rw c.network.ensures at c.in-Ok.ensures.value) (rw c.network.ensures at c.in-Ok.ensures.lean) refl

@@ -34,7 +34,8 @@ core_text-requires-clause-cell g c =
 pub core_text-requires-clause-known : goal.core_text-requires-clause-known
 core_text-requires-clause-known g c =
     let s = c.args.self.now in
-    core_known (problem_of (stored_of g.R.Rule.value_of s.live.network.library) s.live.network.cells) (length s.search.premises) _
+    core_known (problem_of (stored_of g.R.Rule.value_of s.live.network.library) s.live.network.cells) (length
+    s.search.premises) _
     c.args.cell _ c.in-Ok.core.end c.requires.sound.at_work.known c.in-Ok.ensures.explains
 
 pub returns-in-Ok-clause-keeps : goal.returns-in-Ok-clause-keeps
@@ -48,7 +49,8 @@ returns-in-Ok-clause-keeps g c =
 pub returns-in-Ok-clause-state : goal.returns-in-Ok-clause-state
 returns-in-Ok-clause-state g c =
     let s = c.args.self.now in
-    ap (λ (d : Data). state_from s.names s.words s.definitions s.search.premises d s.limit) c.reduce-ended.ensures.ran.rest
+    ap (λ (d : Data). state_from s.names s.words s.definitions s.search.premises d s.limit)
+    c.reduce-ended.ensures.ran.rest
 
 pub returns-in-Ok-clause-says : goal.returns-in-Ok-clause-says
 returns-in-Ok-clause-says g c =
@@ -108,7 +110,8 @@ returns-in-Err-clause-keeps g c =
 pub returns-in-Err-clause-state : goal.returns-in-Err-clause-state
 returns-in-Err-clause-state g c =
     let s = c.args.self.now in
-    ap (λ (d : Data). state_from s.names s.words s.definitions s.search.premises d s.limit) c.reduce-ended.ensures.ran.rest
+    ap (λ (d : Data). state_from s.names s.words s.definitions s.search.premises d s.limit)
+    c.reduce-ended.ensures.ran.rest
 
 pub returns-in-Err-clause-says : goal.returns-in-Err-clause-says
 returns-in-Err-clause-says g c = inr refl

@@ -52,7 +52,8 @@ returns-in-Ask-clause-says g c =
     let name = c.in-Ask.name.now in
     let v = beliefs (set_of s.search.worldview) s.live.network.cells.contents cell in
     let named : cell_named s.names name ≡ Some cell = rw c.in-Ask.is at c.requires.named in
-    λ steps. rw c.in-Ask.is (may_say_value (stored_of value s.live.network.library) (state_of s) (commands.Command.Ask name)
+    λ steps. rw c.in-Ask.is (may_say_value (stored_of value s.live.network.library) (state_of s) (commands.Command.Ask
+    name)
     (Settled s.search.list) name cell v [] _ steps named
     (settled_in value s cell c.requires.sound c.requires.rest) (λ text r. r)
     (rw (c.belief-info.ensures, c.network.ensures, c.worldview-in-Ask.ensures.same) at c.value_of.ensures))
@@ -65,7 +66,8 @@ returns-in-Why-clause-says g c =
     let name = c.in-Why.name.now in
     let v = beliefs (set_of s.search.worldview) s.live.network.cells.contents cell in
     let named : cell_named s.names name ≡ Some cell = rw c.in-Why.is at c.requires.named in
-    λ steps. rw c.in-Why.is (may_explain (stored_of value s.live.network.library) (state_of s) (commands.Command.Why name)
+    λ steps. rw c.in-Why.is (may_explain (stored_of value s.live.network.library) (state_of s) (commands.Command.Why
+    name)
     (Settled s.search.list) name cell v [] _ steps named
     (settled_in value s cell c.requires.sound c.requires.rest) (λ text r. r)
     (explained_in value s (set_of s.search.worldview) cell v name [] _

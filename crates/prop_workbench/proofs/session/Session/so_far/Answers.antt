@@ -97,7 +97,8 @@ returns-in-Ask-clause-believed g c =
     rw c.in-Ask.is (λ (text : List ℕ) is. (
       cell,
       named,
-      the_text _ (says (set_of c.args.whole.now)) text (rw (c.belief.ensures, c.network.ensures) at c.value_of.ensures) is
+      the_text _ (says (set_of c.args.whole.now)) text (rw (c.belief.ensures, c.network.ensures) at
+          c.value_of.ensures) is
           ∙ ap says (same_set (set_of c.args.whole.now) (worldview_at (state_of s) s.search.list) c.requires.whole),
     ))
 
