@@ -93,11 +93,6 @@ pub states_more : (s : Premises) (d new : Data) (x : Statement) → States d new
     → beliefs s d.contents x.cell ≢ beliefs s new.contents x.cell
 states_more s d new x states on more same =
     let known = beliefs s d.contents x.cell in
-    let merged = (adds_merges d.contents new.contents x.cell (record {
-      value = x.info;
-      support = support_of
-          x.premise;
-    })
+    let merged = (adds_merges d.contents new.contents x.cell (record { value = x.info; support = support_of x.premise })
     states.adds s on).merged in
-    more (subst (λ (v : Info). Below x.info v) (sym (same ∙ merged)) (info_laws.least_above known
-    x.info).above_second)
+    more (subst (λ (v : Info). Below x.info v) (sym (same ∙ merged)) (info_laws.least_above known x.info).above_second)

@@ -48,8 +48,7 @@ distinct (x ∷ xs) once =
     (arith, all, most)))
 
 -- numbers below n, each once at most, are at most n
-pub few_below : (xs : List ℕ) (n : ℕ) → ((j : ℕ) → count_by (λ k. k == j) xs ≤ 1) → All (λ j. j < n) xs → length xs
-    ≤ n
+pub few_below : (xs : List ℕ) (n : ℕ) → ((j : ℕ) → count_by (λ k. k == j) xs ≤ 1) → All (λ j. j < n) xs → length xs ≤ n
 few_below xs n once below =
     length-le_from_distinct_below xs n (distinct xs once)
     (λ q h. All-contains (λ j. j < n) xs q below (Contains-from_any eqb-true q xs h))

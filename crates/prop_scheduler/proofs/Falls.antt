@@ -21,34 +21,33 @@ abbrev rank_at : List Kinded → Assignment → ℕ → ℕ
 rank_at kinds a cell = rank_in (slice_get kinds cell) (a cell)
 
 module _ (kinds : List Kinded) (a b : Assignment) (cell : ℕ) (v : Info) (m : MergesAt a b cell v)
-    (within : cell < length kinds) (ha : AreOfKinds kinds a) (hb : AreOfKinds kinds b) (changed : b cell ≢ a cell)
-  where
-    falls_here : rank_at kinds b cell + 1 ≤ rank_at kinds a cell
-    falls_here =
-        let k = kind_at kinds cell in
-        let at : slice_get kinds cell ≡ Some k = slice_get-get_or kinds cell span_kind within in
-        let less = rank_falls k.kind k.size (a cell) (b cell) (ha.of_kind cell k at) (hb.of_kind cell k at)
-        (merges_grow a b cell v m cell) (λ e. changed (sym e)) in
-        rw at (omega (arith, less))
+    (within : cell < length kinds) (ha : AreOfKinds kinds a) (hb : AreOfKinds kinds b) (changed : b cell ≢ a cell) where
+  falls_here : rank_at kinds b cell + 1 ≤ rank_at kinds a cell
+  falls_here =
+      let k = kind_at kinds cell in
+      let at : slice_get kinds cell ≡ Some k = slice_get-get_or kinds cell span_kind within in
+      let less = rank_falls k.kind k.size (a cell) (b cell) (ha.of_kind cell k at) (hb.of_kind cell k at)
+      (merges_grow a b cell v m cell) (λ e. changed (sym e)) in
+      rw at (omega (arith, less))
 
-    falls_at : (k : ℕ) → rank_at kinds b k + cond (k == cell) 1 0 ≤ rank_at kinds a k
-    falls_at k =
-        elim (eqb_tells k cell) as (λ _. rank_at kinds b k + cond (k == cell) 1 0 ≤ rank_at kinds a k) [
-          | inl same ↦ rw (same.0, same.1) falls_here
-          | inr other ↦ rw (other.0, m.others k other.1) (omega arith)
-        ]
+  falls_at : (k : ℕ) → rank_at kinds b k + cond (k == cell) 1 0 ≤ rank_at kinds a k
+  falls_at k =
+      elim (eqb_tells k cell) as (λ _. rank_at kinds b k + cond (k == cell) 1 0 ≤ rank_at kinds a k) [
+        | inl same ↦ rw (same.0, same.1) falls_here
+        | inr other ↦ rw (other.0, m.others k other.1) (omega arith)
+      ]
 
-    pub ranks_fall : (places : List ℕ) → sum_by (rank_at kinds b) places + count_by (λ k. k == cell) places ≤ sum_by
-        (rank_at kinds a) places
-    ranks_fall [] = omega arith
-    ranks_fall (k ∷ ks) =
-        let h = falls_at k in
-        let ih = ranks_fall ks in
-        rw (
-          sum_by-cons (rank_at kinds b) k ks,
-          sum_by-cons (rank_at kinds a) k ks,
-          sum_by-cons (λ x. cond (x == cell) 1 0) k ks,
-        ) (omega (arith, h, ih))
+  pub ranks_fall : (places : List ℕ) → sum_by (rank_at kinds b) places + count_by (λ k. k == cell) places ≤ sum_by
+      (rank_at kinds a) places
+  ranks_fall [] = omega arith
+  ranks_fall (k ∷ ks) =
+      let h = falls_at k in
+      let ih = ranks_fall ks in
+      rw (
+        sum_by-cons (rank_at kinds b) k ks,
+        sum_by-cons (rank_at kinds a) k ks,
+        sum_by-cons (λ x. cond (x == cell) 1 0) k ks,
+      ) (omega (arith, h, ih))
 
 -- what is believed alike ranks alike
 pub ranks_same : (kinds : List Kinded) (a b : Assignment) → ((k : ℕ) → b k ≡ a k) → (places : List ℕ)
@@ -74,8 +73,7 @@ pub turn_falls : (library : List Stored) (s : Premises) (d : Data) (contents : L
     (problem_of library d) (beliefs s d.contents) line
 turn_falls library s d contents x v true line rest after ha hb within m one quiet few =
     let f = few refl in
-    let r = ranks_fall d.kinds (beliefs s d.contents) (beliefs s contents) x.output v m.at within ha hb (m.changed
-    refl)
+    let r = ranks_fall d.kinds (beliefs s d.contents) (beliefs s contents) x.output v m.at within ha hb (m.changed refl)
     (input_places (problem_of library d)) in
     let n = few_readers library x.output 0 d.instances in
     omega (arith, f, r, n, one)

@@ -101,8 +101,7 @@ module _ (line : List ℕ) (flags : List Bool) (capacity place j : ℕ) (a : IsF
 
 -- ---- one more that waits
 
-module _ (line : List ℕ) (flags : List Bool) (capacity j : ℕ) (a : IsFlagged line flags capacity) (l : j < length
-    flags)
+module _ (line : List ℕ) (flags : List Bool) (capacity j : ℕ) (a : IsFlagged line flags capacity) (l : j < length flags)
     (off : get_or flags j false ≡ false) where
   set_count : count_by (λ flag. flag) (set flags j true) ≡ count_by (λ flag. flag) flags + 1
   set_count =
@@ -132,8 +131,7 @@ module _ (line : List ℕ) (flags : List Bool) (capacity j : ℕ) (a : IsFlagged
             (let was : times line k ≡ 0 = flag_is line flags capacity k false a (rw (← same.1) off) in
             let one : one_for (j == k) ≡ 1 = ap (λ b. cond b 1 0) same.0 in
             let now : times (line ++ j ∷ []) k ≡ 1 = omega (arith, was, one, push) in
-            let on : get_or (set flags j true) k false ≡ true = rw (← same.1) (get_or-set_same flags j true false
-            l) in
+            let on : get_or (set flags j true) k false ≡ true = rw (← same.1) (get_or-set_same flags j true false l) in
             now ∙ sym (ap (λ b. cond b 1 0) on))
         | inr other ↦
             (let none : one_for (j == k) ≡ 0 = ap (λ b. cond b 1 0) other.0 in
@@ -171,8 +169,7 @@ filled_flag : (flags : List Bool) (m k : ℕ) → get_or (flags ++ replicate m f
 filled_flag flags m k =
     elim (cases_lt k (length flags)) [
       | inl h ↦ get_or_append_left flags (replicate m false) false k h
-      | inr h ↦ get_or-append_right flags (replicate m false) (length flags) k false refl h ∙ none m (k - length
-          flags)
+      | inr h ↦ get_or-append_right flags (replicate m false) (length flags) k false refl h ∙ none m (k - length flags)
           ∙ sym (get_or_past flags k false h)
     ]
   where

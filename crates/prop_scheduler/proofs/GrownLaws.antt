@@ -66,8 +66,7 @@ grown_more s t d n old new after h shifted read read_line =
                 (beliefs s d.contents cell ≡ beliefs t d.contents cell)
                 ⊎ All (Contains after) (readers_of d.instances cell)) [
                   | inl same ↦ inl same
-                  | inr all ↦ inr (All-weaker (Contains new) (Contains after) read.kept (readers_of d.instances
-                      cell) all)
+                  | inr all ↦ inr (All-weaker (Contains new) (Contains after) read.kept (readers_of d.instances cell) all)
                 ]
           ];
     }
@@ -107,8 +106,7 @@ module _ (library : List Stored) (s t : Premises) (d : Data) (old new : List ℕ
 
   -- and what it writes may only be known better
   met_still : (j : ℕ) (x : Instance) → slice_get d.instances j ≡ Some x → (Contains new j → ⊥)
-      → Meets (beliefs s d.contents) (constraint_of library x) → Meets (beliefs t d.contents) (constraint_of
-      library x)
+      → Meets (beliefs s d.contents) (constraint_of library x) → Meets (beliefs t d.contents) (constraint_of library x)
   met_still j x at idle met =
       let a = beliefs s d.contents in
       let b = beliefs t d.contents in
@@ -177,8 +175,7 @@ module _ (library : List Stored) (s t : Premises) (d : Data) (made : IsWellMade 
   }
 
   pub potential_at_first : (line : List ℕ)
-      → potential (problem_of library d) (partly s t d 0) line ≤ potential (problem_of library d) (beliefs s
-      d.contents)
+      → potential (problem_of library d) (partly s t d 0) line ≤ potential (problem_of library d) (beliefs s d.contents)
       line
   potential_at_first line =
       let same = ranks_same d.kinds (beliefs s d.contents) (partly s t d 0) (λ k. from_there s t d 0 k (omega arith))
@@ -186,8 +183,7 @@ module _ (library : List Stored) (s t : Premises) (d : Data) (made : IsWellMade 
       omega (arith, same)
 
   pub potential_same : (n : ℕ) (line : List ℕ) → beliefs s d.contents n ≡ beliefs t d.contents n
-      → potential (problem_of library d) (partly s t d (n + 1)) line ≤ potential (problem_of library d) (partly s t
-      d n)
+      → potential (problem_of library d) (partly s t d (n + 1)) line ≤ potential (problem_of library d) (partly s t d n)
       line
   potential_same n line alike =
       let here : partly s t d (n + 1) n ≡ partly s t d n n = before_it s t d (n + 1) n (omega arith) ∙ sym alike
@@ -204,8 +200,7 @@ module _ (library : List Stored) (s t : Premises) (d : Data) (made : IsWellMade 
   -- each reader that now waits is paid for by its places
   pub potential_falls : (n : ℕ) (line after : List ℕ) → n < length d.kinds
       → beliefs s d.contents n ≢ beliefs t d.contents n → AllAlerted line after (readers_of d.instances n) →
-      potential (problem_of library d) (partly s t d (n + 1)) after ≤ potential (problem_of library d) (partly s t
-      d n)
+      potential (problem_of library d) (partly s t d (n + 1)) after ≤ potential (problem_of library d) (partly s t d n)
       line
   potential_falls n line after within shifted read =
       let a = partly s t d n in

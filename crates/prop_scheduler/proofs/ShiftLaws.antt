@@ -114,8 +114,7 @@ module _ (library : List Stored) (s t : Premises) (d : Data) (old new : List ℕ
       ]
 
   met_still : (j : ℕ) (x : Instance) → slice_get d.instances j ≡ Some x → (Contains new j → ⊥)
-      → Meets (beliefs s d.contents) (constraint_of library x) → Meets (beliefs t d.contents) (constraint_of
-      library x)
+      → Meets (beliefs s d.contents) (constraint_of library x) → Meets (beliefs t d.contents) (constraint_of library x)
   met_still j x at idle met =
       let a = beliefs s d.contents in
       let b = beliefs t d.contents in

@@ -32,8 +32,7 @@ module _ (library library' : List Stored) (d one two : Data) (cells : List ℕ) 
 
   pub first_there : first ≤ length two.params
   first_there =
-      let all : length two.params ≡ length (d.params ++ flat.params.items) = ap (λ (x : Data). length x.params)
-      both in
+      let all : length two.params ≡ length (d.params ++ flat.params.items) = ap (λ (x : Data). length x.params) both in
       let more = length-append d.params flat.params.items in
       omega (arith, all, more, first_is)
 

@@ -71,10 +71,7 @@ front_get xs ys i x at l =
 others_met : (old new : List Constraint) (line line' : List ℕ) (a : ℕ → Info) → OthersMeet old line a
     → ((i : ℕ) → Contains line i → Contains line' i) →
     ((i : ℕ) → length old ≤ i → i < length (old ++ new) → Contains line' i) → OthersMeet (old ++ new) line' a
-others_met old new line line' a o kept waits = record {
-  met = λ j c at idle. by j c at idle (cases_lt j (length
-      old));
-}
+others_met old new line line' a o kept waits = record { met = λ j c at idle. by j c at idle (cases_lt j (length old)) }
   where
     by : (j : ℕ) (c : Constraint) → slice_get (old ++ new) j ≡ Some c → (Contains line' j → ⊥)
         → (j < length old) ⊎ (length old ≤ j) → Meets a c
@@ -298,9 +295,4 @@ under_way_all library s d line kept below all = record {
 -- where another worldview believes the same of every cell, it is as far
 pub under_way_believed : (library : List Stored) (s t : Premises) (d : Data) (line : List ℕ)
     → beliefs t d.contents ≡ beliefs s d.contents → IsUnderWay library s d line → IsUnderWay library t d line
-under_way_believed library s t d line same u = record {
-  kept = u.kept;
-  line_below = u.line_below;
-  met = rw same
-      u.met;
-}
+under_way_believed library s t d line same u = record { kept = u.kept; line_below = u.line_below; met = rw same u.met }

@@ -1,14 +1,10 @@
 -- Which cells have to be looked at, as cells, statements and worldviews change.
 use Rattle.std.proofs.Common.{◌≡◌, ◌≢◌, ◌∙◌, ◌<◌, ◌≤◌, ◌⊎◌, ℕ, ◌+◌, Bool, true, false, List, [], ◌∷◌, ◌++◌, All}
 use Rattle.std.proofs.Common.{Contains, map, length, refl, sym, ap, arith, inl, inr}
-use Rattle.std.specs.Prelude.{⊤, Result, Ok, Err, OnOk, OnErr, None}
-use Rattle.prop_refusals.specs.Refusals.{most, when}
+use Rattle.std.specs.Prelude.{⊤, Result, Ok, Err, OnOk, OnErr}
 use Rattle.prop_refusals.specs.declared.refusal.Refusal.{Refusal}
-use Rattle.prop_refusals.specs.declared.refusal.Limit.TheVariants.{Cells}
 use Rattle.std.proofs.lemmas.Bool.Decides.{eqb_tells}
-use Rattle.std.proofs.lemmas.Bool.{cases_lt, leb-false}
-use Rattle.std.specs.Prelude.{nat_le}
-use Rattle.prop_refusals.specs.declared.refusal.Refusal.TheVariants.{LimitReached}
+use Rattle.std.proofs.lemmas.Bool.{cases_lt}
 use Rattle.std.proofs.lemmas.List.{get_or_past, length-append}
 use Rattle.std.proofs.lemmas.List.Elements.{All-contains, All-weaker}
 use Rattle.prop_lattice.specs.declared.info.Info.{Info}
@@ -18,7 +14,6 @@ use Rattle.prop_tms.specs.Beliefs.{belief_of}
 use Rattle.prop_procedures.specs.declared.shape.Kinded.{Kinded}
 use Rattle.prop_cells.specs.Problems.{Premises}
 use Rattle.prop_cells.specs.Data.{Data, Entry, Merges, IsFree, beliefs}
-use Rattle.prop_cells.specs.Refusing.{cell_refusal}
 use Rattle.prop_cells.proofs.Fixpoint.{All-from_contains}
 use Rattle.prop_cells.proofs.Making.{beliefs-push}
 use Rattle.prop_scheduler.specs.Agendas.{Alerted, FirstAlerted}
@@ -100,11 +95,10 @@ pub watched_turn : (s : Premises) (d new : Data) (old watched : List ℕ) (cell 
     (beliefs s new.contents cell ≡ Contradiction → Contains watched cell)
     → ((k : ℕ) → Contains watched k → Contains old k ⊎ (k ≡ cell)) → IsWatched s d old → IsWatched s new watched
 watched_turn s d new old watched cell v grown kinds within free merges here only w = record {
-  below = All-from_contains (λ j. j < length new.kinds) watched (λ j k. elim (only j k) as (λ _. j < length
-      new.kinds) [
-        | inl was ↦ rw kinds (All-contains (λ i. i < length d.kinds) old j w.below was)
-        | inr e ↦ rw (kinds, e) within
-      ]);
+  below = All-from_contains (λ j. j < length new.kinds) watched (λ j k. elim (only j k) as (λ _. j < length new.kinds) [
+    | inl was ↦ rw kinds (All-contains (λ i. i < length d.kinds) old j w.below was)
+    | inr e ↦ rw (kinds, e) within
+  ]);
   holds = λ k clash. elim (eqb_tells k cell) as (λ _. Contains watched k) [
     | inl e ↦ rw e.1 (here (rw e.1 at clash))
     | inr e ↦ absurd (free k (sym (merges.at.others k e.1) ∙ clash))
@@ -167,8 +161,7 @@ watched_shifted s t d old new same h w = record {
 -- ---- more cells
 
 pub watched_cell : (s : Premises) (d new : Data) (watched : List ℕ) (k : Kinded)
-    → new ≡ record d { kinds = d.kinds ++ k ∷ []; contents = d.contents ++ [] ∷ [] } → length d.kinds ≤ length
-    new.kinds
+    → new ≡ record d { kinds = d.kinds ++ k ∷ []; contents = d.contents ++ [] ∷ [] } → length d.kinds ≤ length new.kinds
     → IsWatched s d watched → IsWatched s new watched
 watched_cell s d new watched k e more w =
     watched_same s d new watched more (λ cell. ap (λ (n : Data). beliefs s n.contents cell) e
@@ -189,22 +182,3 @@ watched_one_cell s d new watched k (Ok t) e f w =
     watched_cell s d new watched k e (let n = ap (λ (x : Data). length x.kinds) e in let m = length-append d.kinds
     (k ∷ []) in omega (arith, n, m)) w
 watched_one_cell s d new watched k (Err refusal) e f w = rw f w
-
-may_be_made : (d : Data) → cell_refusal d ≡ None → length d.kinds < most Cells
-may_be_made d fits = by (nat_le (most Cells) (length d.kinds)) refl fits
-  where
-    by : (b : Bool) → nat_le (most Cells) (length d.kinds) ≡ b → when (LimitReached Cells) b ≡ None
-        → length d.kinds < most Cells
-    by true e f = absurd (cc)
-    by false e f = leb-false (most Cells) (length d.kinds) e
-
-pub room_one_cell : (d new : Data) (room : ℕ) (k : Kinded) (r : Result ⊤ Refusal)
-    → OnOk r (new ≡ record d { kinds = d.kinds ++ k ∷ []; contents = d.contents ++ [] ∷ [] })
-    → OnOk r (cell_refusal d ≡ None) → OnErr r (new ≡ d) → length d.kinds ≤ room →
-    (length d.kinds < most Cells → length d.kinds + 1 ≤ room) → length new.kinds ≤ room
-room_one_cell d new room k (Ok t) e fits f has more =
-    let n = ap (λ (x : Data). length x.kinds) e in
-    let m = length-append d.kinds (k ∷ []) in
-    let l = more (may_be_made d fits) in
-    omega (arith, n, m, l)
-room_one_cell d new room k (Err refusal) e fits f has more = rw f has

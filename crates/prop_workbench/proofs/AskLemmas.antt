@@ -262,7 +262,8 @@ settled_in value s cell sound rest =
 pub unsettled_in : {R O : Type 0} {X : Type 0} {F : X → Type 0} {g : _} (value : R → Param → List Info → Info)
     (s : Session R O X F g) (whole : Members) (name : List ℕ) (cell : ℕ) → IsInOrder value s
     → cell_named s.names name ≡ Some cell → whole ≡ worldview_in s.search.premises s.search.list →
-    IsUnsettledValue (library_of value s) (state_of s) s.search.list cell (beliefs whole s.live.network.cells.contents cell)
+    IsUnsettledValue (library_of value s) (state_of s) s.search.list cell (beliefs whole s.live.network.cells.contents
+    cell)
 unsettled_in value s whole name cell sound named same =
     unsettled_value (library_of value s) s.names s.words s.definitions s.search.premises s.live.network.cells s.limit
     s.search.list cell name _ named sound.named sound.at_work.under_way.kept
@@ -390,7 +391,8 @@ ended_so value s before problem library (ended.Contradiction ps) n same library_
         believes = out.believes;
         refuted = out.refuted;
         grounded = out.grounded;
-        points = none_satisfy (library_of value s) (state_of s) ps (kept_fits (library_of value s) s.live.network.cells kept)
+        points = none_satisfy (library_of value s) (state_of s) ps (kept_fits (library_of value s)
+            s.live.network.cells kept)
             stand.numbered out.believes out.refuted;
       };
       covered = out.covered;
@@ -419,7 +421,8 @@ has_run value s before problem library (Err e) same library_is kept stand earlie
     used = tt
 has_run value s before problem library (Ok x) same library_is kept stand earlier settled contradiction within moves
     used =
-    ended_so value s before problem library x.end x.steps same library_is kept stand earlier settled contradiction within
+    ended_so value s before problem library x.end x.steps same library_is kept stand earlier settled contradiction
+    within
     moves used
 
 -- ---- what ends before the value

@@ -1,7 +1,7 @@
 -- What a search keeps where a belief changes, a statement is made, or a name is taken up.
 use Rattle.std.proofs.Common.{◌≡◌, ◌∙◌, ℕ, zero, suc, Bool, true, false, not, IsTrue, List, [], ◌∷◌, ◌++◌, Contains}
 use Rattle.std.proofs.Common.{All, Ok, Some, None, ◌+◌, ◌<◌, ◌==◌, ◌||◌, map, unwrap_or, length, get_or, arith, refl}
-use Rattle.std.proofs.Common.{sym, ap}
+use Rattle.std.proofs.Common.{sym, ap, subst}
 use Rattle.std.proofs.lemmas.Bool.Decides.{nat_tests}
 use Rattle.std.proofs.lemmas.List.{length-append}
 use Rattle.std.proofs.lemmas.List.Elements.{All-filter, All-weaker, Contains-get_or, Contains-append_left}
@@ -16,6 +16,8 @@ use Rattle.prop_cells.specs.declared.instance.Statement.{Statement}
 use Rattle.prop_cells.specs.Problems.{Extends}
 use Rattle.prop_cells.specs.Data.{Data, problem_of}
 use Rattle.prop_cells.specs.Instances.{constraint_of}
+use Rattle.prop_cells.specs.declared.network.Network.{Network}
+use Rattle.prop_procedures.specs.Kept.{stored_of}
 use Rattle.prop_cells.specs.Forgetting.{forgotten, is_under}
 use Rattle.prop_scheduler.specs.Agendas.{Waiting}
 use Rattle.prop_scheduler.specs.Live.{IsLiveIn}
@@ -75,26 +77,32 @@ pub believing_keeps : {R O : Type 0} {X : Type 0} {F : X → Type 0} {g : _} (va
     → IsSearch (problem_of (library_of value s) s.live.network.cells) new)
     → live.network ≡ s.live.network → IsLiveIn value (set_of new.worldview) live
     → Keeps value s (record s { search = new; live = live })
-believing_keeps value s new live p b sound changed listed stand search same alive = record {
-  library = ap (λ n. n.library) same;
-  sound = record {
-    at_work = rw same (believing_at_work (library_of value s) s.search new p b s.live.network.cells s.live.agenda
-        live.agenda sound.at_work changed stand search (rw same at alive.under_way) (rw same at alive.watched));
-    sized = rw same sound.sized;
-    locals = sound.locals;
-    named = rw same sound.named;
-    defined = rw same sound.defined;
-  };
-  steps = refl;
-  covers = believing_covers s.search new p b changed listed;
-}
+believing_keeps {R = R} {X = X} {F = F} {g = g} value s new live p b sound changed listed stand search same alive =
+    record {
+      library = ap (λ n. n.library) same;
+      sound = record {
+        at_work = rw same (believing_at_work (library_of value s) s.search new p b s.live.network.cells s.live.agenda
+            live.agenda sound.at_work changed stand search
+            (subst (λ (n : Network R X F g). IsUnderWay (stored_of value n.library) (set_of new.worldview) n.cells
+            live.agenda.line) same alive.under_way)
+            (subst (λ (n : Network R X F g). IsWatched (set_of new.worldview) n.cells live.agenda.watched) same
+            alive.watched));
+        sized = rw same sound.sized;
+        locals = sound.locals;
+        named = rw same sound.named;
+        defined = rw same sound.defined;
+      };
+      steps = refl;
+      covers = believing_covers s.search new p b changed listed;
+    }
 
 -- ---- a search that is as it was
 
 -- so is the session, where the network and what waits are so too
 pub back_keeps : {R O : Type 0} {X : Type 0} {F : X → Type 0} {g : _} (value : R → Param → List Info → Info)
     (s new : Session R O X F g) (stand : Stand) → IsInOrder value s → stand ≡ s.search
-    → new.live.network.library ≡ s.live.network.library → new.live.network.cells ≡ s.live.network.cells → new.live.agenda ≡ s.live.agenda →
+    → new.live.network.library ≡ s.live.network.library → new.live.network.cells ≡ s.live.network.cells →
+    new.live.agenda ≡ s.live.agenda →
     Keeps value s (record s { search = stand; live = new.live })
 back_keeps value s new stand sound same library cells agenda = record {
   library = library;

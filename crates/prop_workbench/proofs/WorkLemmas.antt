@@ -36,7 +36,8 @@ sound_fits value s sound =
 pub works_by : {R O : Type 0} {X : Type 0} {F : X → Type 0} {g : _} (picks : Picks O) (library : List Stored)
     (old new : Session R O X F g) (line : List ℕ) (answer : Answer)
     → IsStepOf library (shown_of old) line answer (shown_of new) (steps_of new) → WorkFits library (standing_of new) →
-    AsRead line (λ read. IsLeanAnswer (worldview_at (state_of old) new.search.list) new.live.network.cells (state_of old)
+    AsRead line (λ read. IsLeanAnswer (worldview_at (state_of old) new.search.list) new.live.network.cells (state_of
+    old)
     read answer) →
     AsRead line (λ read. Earns picks library (state_of old) (work_of old) (work_of new) read answer (steps_of new))
     → AsRead line (λ read. Wakes (state_of old) (state_of new) (work_of old) (work_of new) read answer) →

@@ -291,12 +291,7 @@ impl<R: Rule + Drop, O: Order + Drop> Session<R, O> {
             self.limit - steps,
         );
         match ended {
-            Ok(
-                Ended {
-                    end: core,
-                    steps: tries,
-                },
-            ) => { (self.core_text(cell, name, &core), steps + tries) }
+            Ok(core) => (self.core_text(cell, name, &core.end), steps + core.steps),
             Err(AllocError) => (Reply::Refused(Refusal::Memory), 0),
         }
     }

@@ -14,7 +14,7 @@ impl<R: Rule + Drop, O: Order + Drop> Interpreter for Session<R, O> {
 
     ghost State = { Standing O };
 
-    ghost setting = { λ s. s.network.library };
+    ghost setting = { λ s. s.live.network.library };
 
     ghost state = { standing_of };
 

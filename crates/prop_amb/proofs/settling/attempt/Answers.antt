@@ -40,27 +40,33 @@ returns-in_ok-note-in-Clash-clause-gone g c =
 pub returns-in-Some-clause-refuted : goal.returns-in-Some-clause-refuted
 returns-in-Some-clause-refuted g c =
     let same : c.in_ok-copy.field-0 ≡ c.in-Some.nogood.now = c.in_ok-copy.ensures in
-    rw same (met_listed (problem_of (stored_of g.R.Rule.value_of c.args.live.now.network.library) c.args.live.now.network.cells)
+    rw same (met_listed (problem_of (stored_of g.R.Rule.value_of c.args.live.now.network.library)
+        c.args.live.now.network.cells)
     c.args.search.now c.in-Some.nogood.now c.requires.search c.in-Some.ensures.listed c.in-Some.ensures.believed)
 
 pub returns-in-Quiet-clause-falls : goal.returns-in-Quiet-clause-falls
 returns-in-Quiet-clause-falls g c =
     falls_in _ _ _ _ _ _ _ (same_problem (stored_of g.R.Rule.value_of) c.args.live.now.network.library
-    c.run.new.live.network.library c.args.live.now.network.cells c.run.new.live.network.cells c.in_ok-end.ensures.ran.library
+    c.run.new.live.network.library c.args.live.now.network.cells c.run.new.live.network.cells
+    c.in_ok-end.ensures.ran.library
     c.in_ok-end.ensures.ran.rest) (rw c.worldview.ensures.same at c.in_ok-end.ensures.falls)
 
 pub returns-in-Quiet-clause-few : goal.returns-in-Quiet-clause-few
 returns-in-Quiet-clause-few g c =
-    bounded_in _ _ _ (same_problem (stored_of g.R.Rule.value_of) c.args.live.now.network.library c.run.new.live.network.library
-    c.args.live.now.network.cells c.run.new.live.network.cells c.in_ok-end.ensures.ran.library c.in_ok-end.ensures.ran.rest)
+    bounded_in _ _ _ (same_problem (stored_of g.R.Rule.value_of) c.args.live.now.network.library
+        c.run.new.live.network.library
+    c.args.live.now.network.cells c.run.new.live.network.cells c.in_ok-end.ensures.ran.library
+    c.in_ok-end.ensures.ran.rest)
     c.in_ok-end.ensures.bounded
 
 pub note-requires : goal.note-requires
 note-requires g c =
     let same = same_problem (stored_of g.R.Rule.value_of) c.args.live.now.network.library c.run.new.live.network.library
-    c.args.live.now.network.cells c.run.new.live.network.cells c.in_ok-end.ensures.ran.library c.in_ok-end.ensures.ran.rest in
+    c.args.live.now.network.cells c.run.new.live.network.cells c.in_ok-end.ensures.ran.library
+    c.in_ok-end.ensures.ran.rest in
     let h = rw c.in-Clash.is at c.in_ok-end.ensures.conflict in
-    clash_is_new (problem_of (stored_of g.R.Rule.value_of c.args.live.now.network.library) c.args.live.now.network.cells)
+    clash_is_new (problem_of (stored_of g.R.Rule.value_of c.args.live.now.network.library)
+    c.args.live.now.network.cells)
     c.args.search.now c.in_ok-copy-in-Clash.field-0 c.in-Clash.support
     (conflict_in _ _ _ _ _ _ same (ap set_of c.worldview.ensures.same) refl h) c.in_ok-copy-in-Clash.ensures
     (c.in_default.ensures.none refl)
@@ -68,11 +74,14 @@ note-requires g c =
 pub returns-in_ok-note-in-Clash-clause-search : goal.returns-in_ok-note-in-Clash-clause-search
 returns-in_ok-note-in-Clash-clause-search g c =
     let same = same_problem (stored_of g.R.Rule.value_of) c.args.live.now.network.library c.run.new.live.network.library
-    c.args.live.now.network.cells c.run.new.live.network.cells c.in_ok-end.ensures.ran.library c.in_ok-end.ensures.ran.rest in
+    c.args.live.now.network.cells c.run.new.live.network.cells c.in_ok-end.ensures.ran.library
+    c.in_ok-end.ensures.ran.rest in
     let h = rw c.in-Clash.is at c.in_ok-end.ensures.conflict in
-    c.note.ensures.search (problem_of (stored_of g.R.Rule.value_of c.args.live.now.network.library) c.args.live.now.network.cells)
+    c.note.ensures.search (problem_of (stored_of g.R.Rule.value_of c.args.live.now.network.library)
+    c.args.live.now.network.cells)
     (rw c.in_ok-copy-in-Clash.ensures (clash_nogood
-    (problem_of (stored_of g.R.Rule.value_of c.args.live.now.network.library) c.args.live.now.network.cells) c.args.search.now
+    (problem_of (stored_of g.R.Rule.value_of c.args.live.now.network.library) c.args.live.now.network.cells)
+    c.args.search.now
     c.in-Clash.support c.worldview.ensures.stand
     (conflict_in _ _ _ _ _ _ same (ap set_of c.worldview.ensures.same) refl h)))
     c.requires.search
@@ -80,25 +89,30 @@ returns-in_ok-note-in-Clash-clause-search g c =
 pub returns-in-Spent-clause-falls : goal.returns-in-Spent-clause-falls
 returns-in-Spent-clause-falls g c =
     falls_in _ _ _ _ _ _ _ (same_problem (stored_of g.R.Rule.value_of) c.args.live.now.network.library
-    c.run.new.live.network.library c.args.live.now.network.cells c.run.new.live.network.cells c.in_ok-end.ensures.ran.library
+    c.run.new.live.network.library c.args.live.now.network.cells c.run.new.live.network.cells
+    c.in_ok-end.ensures.ran.library
     c.in_ok-end.ensures.ran.rest) (rw c.worldview.ensures.same at c.in_ok-end.ensures.falls)
 
 pub returns-in_ok-note-in-Clash-clause-falls : goal.returns-in_ok-note-in-Clash-clause-falls
 returns-in_ok-note-in-Clash-clause-falls g c =
     falls_in _ _ _ _ _ _ _ (same_problem (stored_of g.R.Rule.value_of) c.args.live.now.network.library
-    c.run.new.live.network.library c.args.live.now.network.cells c.run.new.live.network.cells c.in_ok-end.ensures.ran.library
+    c.run.new.live.network.library c.args.live.now.network.cells c.run.new.live.network.cells
+    c.in_ok-end.ensures.ran.library
     c.in_ok-end.ensures.ran.rest) (rw c.worldview.ensures.same at c.in_ok-end.ensures.falls)
 
 pub returns-in_ok-note-in-Clash-clause-few : goal.returns-in_ok-note-in-Clash-clause-few
 returns-in_ok-note-in-Clash-clause-few g c =
-    bounded_in _ _ _ (same_problem (stored_of g.R.Rule.value_of) c.args.live.now.network.library c.run.new.live.network.library
-    c.args.live.now.network.cells c.run.new.live.network.cells c.in_ok-end.ensures.ran.library c.in_ok-end.ensures.ran.rest)
+    bounded_in _ _ _ (same_problem (stored_of g.R.Rule.value_of) c.args.live.now.network.library
+        c.run.new.live.network.library
+    c.args.live.now.network.cells c.run.new.live.network.cells c.in_ok-end.ensures.ran.library
+    c.in_ok-end.ensures.ran.rest)
     c.in_ok-end.ensures.bounded
 
 pub returns-in_ok-note-in-Clash-clause-refuted : goal.returns-in_ok-note-in-Clash-clause-refuted
 returns-in_ok-note-in-Clash-clause-refuted g c =
     let same = same_problem (stored_of g.R.Rule.value_of) c.args.live.now.network.library c.run.new.live.network.library
-    c.args.live.now.network.cells c.run.new.live.network.cells c.in_ok-end.ensures.ran.library c.in_ok-end.ensures.ran.rest in
+    c.args.live.now.network.cells c.run.new.live.network.cells c.in_ok-end.ensures.ran.library
+    c.in_ok-end.ensures.ran.rest in
     let h = rw c.in-Clash.is at c.in_ok-end.ensures.conflict in
     met_noted (problem_of (stored_of g.R.Rule.value_of c.args.live.now.network.library) c.args.live.now.network.cells)
     c.args.search.now c.note.new.self.listed c.in_ok-copy-in-Clash.field-0 c.in-Clash.support c.note.new.self

@@ -138,7 +138,8 @@ returns-in-Some g c =
     let some : c.in_ok-end.field-0.end ≡ Some c.in-Some.end = c.in-Some.is in
     let same = c.loop-tried.invariant.same in
     let way = c.loop-tried.invariant.way in
-    let a : Attempted g.O.Order.picks (stored_of g.R.Rule.value_of c.loop-tried.live.network.library) c.loop-tried.search
+    let a : Attempted g.O.Order.picks (stored_of g.R.Rule.value_of c.loop-tried.live.network.library)
+        c.loop-tried.search
     c.loop-tried.live.network.cells c.loop-tried.live.agenda.line c.loop-tried.order
     (c.args.budget - c.loop-tried.steps) c.in_ok-tried.field-0.end c.in_ok-tried.field-0.steps c.try_list.new.search
     c.try_list.new.live.network.cells c.try_list.new.live.agenda.line c.try_list.new.order =
@@ -148,15 +149,18 @@ returns-in-Some g c =
     c.try_list.new.live.network.cells c.try_list.new.live.agenda.line c.try_list.new.order
     (c.loop-tried.steps + c.in_ok-tried.field-0.steps) c.args.budget c.in_ok-tried.field-0.end =
     after_try g.O.Order.picks (stored_of g.R.Rule.value_of c.args.live.now.network.library) c.args.search.now
-    c.args.live.now.network.cells c.args.live.now.agenda.line c.args.order.now c.loop-tried.search c.loop-tried.live.network.cells
+    c.args.live.now.network.cells c.args.live.now.agenda.line c.args.order.now c.loop-tried.search
+    c.loop-tried.live.network.cells
     c.loop-tried.live.agenda.line c.loop-tried.order c.loop-tried.steps c.args.budget c.in_ok-tried.field-0.end
     c.in_ok-tried.field-0.steps c.try_list.new.search c.try_list.new.live.network.cells c.try_list.new.live.agenda.line
     c.try_list.new.order way c.loop-tried.invariant.within
-    (attempted_in (stored_of g.R.Rule.value_of) c.args.live.now.network.library c.loop-tried.live.network.library g.O.Order.picks
+    (attempted_in (stored_of g.R.Rule.value_of) c.args.live.now.network.library c.loop-tried.live.network.library
+    g.O.Order.picks
     c.loop-tried.search c.loop-tried.live.network.cells c.loop-tried.live.agenda.line c.loop-tried.order
     (c.args.budget - c.loop-tried.steps) c.in_ok-tried.field-0.end c.in_ok-tried.field-0.steps c.try_list.new.search
     c.try_list.new.live.network.cells c.try_list.new.live.agenda.line c.try_list.new.order same a) in
-    let both : c.try_list.new.live.network.library ≡ c.args.live.now.network.library = c.try_list.ensures.ran.library ∙ same in
+    let both : c.try_list.new.live.network.library ≡ c.args.live.now.network.library = c.try_list.ensures.ran.library
+        ∙ same in
     let as_was : c.decide.new.search ≡ c.try_list.new.search = rw some at c.in_ok-end.ensures.same in
     let line_as_was : c.decide.new.live.agenda.line ≡ c.try_list.new.live.agenda.line =
     rw some at c.in_ok-end.ensures.same_line in
@@ -164,7 +168,8 @@ returns-in-Some g c =
     c.args.live.now.network.cells c.args.live.now.agenda.line c.args.order.now c.decide.new.search
     c.decide.new.live.network.cells c.decide.new.live.agenda.line c.try_list.new.order
     (c.loop-tried.steps + c.in_ok-tried.field-0.steps) c.args.budget c.in_ok-tried.field-0.end =
-    rw (ap (λ n. n.cells) c.decide.ensures.network) (ended g.O.Order.picks (stored_of g.R.Rule.value_of c.args.live.now.network.library) c.args.search.now
+    rw (ap (λ n. n.cells) c.decide.ensures.network) (ended g.O.Order.picks (stored_of g.R.Rule.value_of
+        c.args.live.now.network.library) c.args.search.now
     c.args.live.now.network.cells c.args.live.now.agenda.line c.args.order.now c.try_list.new.search
     c.try_list.new.live.network.cells c.try_list.new.live.agenda.line c.try_list.new.order
     (c.loop-tried.steps + c.in_ok-tried.field-0.steps) c.args.budget c.in_ok-tried.field-0.end c.decide.new.search
@@ -184,14 +189,16 @@ returns-in-Some g c =
         listed = t.listed;
         search = t.search;
         stand = t.stand;
-        passed = kept_block (problem_of (stored_of g.R.Rule.value_of c.args.live.now.network.library) c.args.live.now.network.cells)
+        passed = kept_block (problem_of (stored_of g.R.Rule.value_of c.args.live.now.network.library)
+            c.args.live.now.network.cells)
             c.decide.new.search t.stand t.search.reasons;
         earlier = kept_refute (problem_of (stored_of g.R.Rule.value_of c.args.live.now.network.library)
             c.args.live.now.network.cells) c.decide.new.search t.stand t.search.reasons;
       };
       settled = λ e. record {
         first = first_consistent g.O.Order.picks (stored_of g.R.Rule.value_of c.args.live.now.network.library)
-            c.args.search.now c.args.live.now.network.cells c.args.live.now.agenda.line c.args.order.now c.decide.new.search
+            c.args.search.now c.args.live.now.network.cells c.args.live.now.agenda.line c.args.order.now
+            c.decide.new.search
             c.decide.new.live.network.cells c.decide.new.live.agenda.line c.try_list.new.order
             (c.loop-tried.steps + c.in_ok-tried.field-0.steps) c.args.budget c.in_ok-tried.field-0.end t (quiet e);
         full = t.full (quiet e);
@@ -199,7 +206,8 @@ returns-in-Some g c =
         rests = t.rests (quiet e);
       };
       contradiction = contradiction_in (stored_of g.R.Rule.value_of) c.args.live.now.network.library
-          c.try_list.new.live.network.library c.args.live.now.network.cells c.try_list.new.live.network.cells c.try_list.new.search
+          c.try_list.new.live.network.library c.args.live.now.network.cells c.try_list.new.live.network.cells
+          c.try_list.new.search
           c.decide.new.search c.in-Some.end both x.rest as_was
           (rw some at c.in_ok-end.ensures.contradiction);
       named = blamed_in c.try_list.new.search c.decide.new.search c.in-Some.end as_was
@@ -208,13 +216,16 @@ returns-in-Some g c =
         spent = elim (unsettled e) [ inl q ↦ t.spent q | inr h ↦ omega (arith, h.0, t.within) ];
         earned = elim (unsettled e) [
           | inl q ↦ spent_earned g.O.Order.picks (stored_of g.R.Rule.value_of c.args.live.now.network.library)
-              c.args.search.now c.args.live.now.network.cells c.args.live.now.agenda.line c.args.order.now c.decide.new.search
+              c.args.search.now c.args.live.now.network.cells c.args.live.now.agenda.line c.args.order.now
+              c.decide.new.search
               c.decide.new.live.network.cells c.decide.new.live.agenda.line c.try_list.new.order
               (c.loop-tried.steps + c.in_ok-tried.field-0.steps) c.args.budget c.in_ok-tried.field-0.end t q
-          | inr h ↦ held_earned g.O.Order.picks (stored_of g.R.Rule.value_of c.args.live.now.network.library) c.args.search.now
+          | inr h ↦ held_earned g.O.Order.picks (stored_of g.R.Rule.value_of c.args.live.now.network.library)
+              c.args.search.now
               c.args.live.now.network.cells c.args.live.now.agenda.line c.args.order.now c.decide.new.search
               c.decide.new.live.network.cells c.decide.new.live.agenda.line c.try_list.new.order
-              (c.loop-tried.steps + c.in_ok-tried.field-0.steps) c.args.budget c.in_ok-tried.field-0.end t (omega (arith, h.0)) h.1.0
+              (c.loop-tried.steps + c.in_ok-tried.field-0.steps) c.args.budget c.in_ok-tried.field-0.end t (omega
+              (arith, h.0)) h.1.0
               h.1.1
         ];
         left = elim (unsettled e) [ inl q ↦ inl (t.leaves q) | inr h ↦ inr h.1 ];
@@ -243,7 +254,8 @@ loop-tried-preserved g c =
     let none : c.in_ok-end.field-0.end ≡ None = c.in-None.is in
     let same = c.loop-tried.invariant.same in
     let way = c.loop-tried.invariant.way in
-    let a : Attempted g.O.Order.picks (stored_of g.R.Rule.value_of c.loop-tried.live.network.library) c.loop-tried.search
+    let a : Attempted g.O.Order.picks (stored_of g.R.Rule.value_of c.loop-tried.live.network.library)
+        c.loop-tried.search
     c.loop-tried.live.network.cells c.loop-tried.live.agenda.line c.loop-tried.order
     (c.args.budget - c.loop-tried.steps) c.in_ok-tried.field-0.end c.in_ok-tried.field-0.steps c.try_list.new.search
     c.try_list.new.live.network.cells c.try_list.new.live.agenda.line c.try_list.new.order =
@@ -253,27 +265,32 @@ loop-tried-preserved g c =
     c.try_list.new.live.network.cells c.try_list.new.live.agenda.line c.try_list.new.order
     (c.loop-tried.steps + c.in_ok-tried.field-0.steps) c.args.budget c.in_ok-tried.field-0.end =
     after_try g.O.Order.picks (stored_of g.R.Rule.value_of c.args.live.now.network.library) c.args.search.now
-    c.args.live.now.network.cells c.args.live.now.agenda.line c.args.order.now c.loop-tried.search c.loop-tried.live.network.cells
+    c.args.live.now.network.cells c.args.live.now.agenda.line c.args.order.now c.loop-tried.search
+    c.loop-tried.live.network.cells
     c.loop-tried.live.agenda.line c.loop-tried.order c.loop-tried.steps c.args.budget c.in_ok-tried.field-0.end
     c.in_ok-tried.field-0.steps c.try_list.new.search c.try_list.new.live.network.cells c.try_list.new.live.agenda.line
     c.try_list.new.order way c.loop-tried.invariant.within
-    (attempted_in (stored_of g.R.Rule.value_of) c.args.live.now.network.library c.loop-tried.live.network.library g.O.Order.picks
+    (attempted_in (stored_of g.R.Rule.value_of) c.args.live.now.network.library c.loop-tried.live.network.library
+    g.O.Order.picks
     c.loop-tried.search c.loop-tried.live.network.cells c.loop-tried.live.agenda.line c.loop-tried.order
     (c.args.budget - c.loop-tried.steps) c.in_ok-tried.field-0.end c.in_ok-tried.field-0.steps c.try_list.new.search
     c.try_list.new.live.network.cells c.try_list.new.live.agenda.line c.try_list.new.order same a) in
-    let both : c.try_list.new.live.network.library ≡ c.args.live.now.network.library = c.try_list.ensures.ran.library ∙ same in
+    let both : c.try_list.new.live.network.library ≡ c.args.live.now.network.library = c.try_list.ensures.ran.library
+        ∙ same in
     let some = c.in_ok-end.ensures.some none in
     record {
       same = ap (λ n. n.library) c.decide.ensures.network ∙ both;
       alive = c.decide.ensures.alive;
       within = omega (arith, some, c.in_ok-end.ensures.few, x.within);
-      way = rw (ap (λ n. n.cells) c.decide.ensures.network) (after_move g.O.Order.picks (stored_of g.R.Rule.value_of c.args.live.now.network.library) c.args.search.now
+      way = rw (ap (λ n. n.cells) c.decide.ensures.network) (after_move g.O.Order.picks (stored_of g.R.Rule.value_of
+          c.args.live.now.network.library) c.args.search.now
           c.args.live.now.network.cells c.args.live.now.agenda.line c.args.order.now c.try_list.new.search
           c.try_list.new.live.network.cells c.try_list.new.live.agenda.line c.try_list.new.order
           (c.loop-tried.steps + c.in_ok-tried.field-0.steps) c.args.budget c.in_ok-tried.field-0.end c.decide.new.search
           c.decide.new.live.agenda.line c.in_ok-end.field-0.steps x
           (λ q. no_end (c.decide.ensures.quiet q) c.in_ok-end.was none)
           c.decide.ensures.premises c.decide.ensures.listed (rw both at c.decide.ensures.search)
-          (rw (c.decide.ensures.network, both) at c.decide.ensures.alive.under_way) some (c.in_ok-end.ensures.moves none)
+          (rw (c.decide.ensures.network, both) at c.decide.ensures.alive.under_way) some (c.in_ok-end.ensures.moves
+          none)
           (c.in_ok-end.ensures.shifted none));
     }

@@ -10,7 +10,8 @@ invariant-loop-tried g l = record {
   same : l.live.network.library ≡ l.fn.live.network.library;
   alive : IsLiveIn g.R.Rule.value_of (set_of l.search.worldview) l.live;
   within : l.steps ≤ l.budget;
-  way : OnWay g.O.Order.picks (stored_of g.R.Rule.value_of l.fn.live.network.library) l.fn.search l.fn.live.network.cells
+  way : OnWay g.O.Order.picks (stored_of g.R.Rule.value_of l.fn.live.network.library) l.fn.search
+      l.fn.live.network.cells
       l.fn.live.agenda.line l.fn.order l.search l.live.network.cells l.live.agenda.line l.order l.steps;
 }
 

@@ -14,7 +14,8 @@ loop-tried-init g c = record {
   alive = c.requires.alive;
   within = omega arith;
   way = at_first g.O.Order.picks (stored_of g.R.Rule.value_of c.args.live.now.network.library) c.args.search.now
-      c.args.live.now.network.cells c.args.live.now.agenda.line c.args.order.now c.requires.search c.requires.alive.under_way;
+      c.args.live.now.network.cells c.args.live.now.agenda.line c.args.order.now c.requires.search
+      c.requires.alive.under_way;
 }
 
 pub attempt-requires-clause-search : goal.attempt-requires-clause-search
@@ -31,10 +32,12 @@ believe_more-requires-clause-unblocked g c =
 pub loop-tried-preserved : goal.loop-tried-preserved
 loop-tried-preserved g c =
     let a : AtLevel g.O.Order.picks (stored_of g.R.Rule.value_of c.args.live.now.network.library) c.loop-tried.search
-    c.loop-tried.live.network.cells c.loop-tried.live.agenda.line c.loop-tried.order (c.args.budget - c.loop-tried.steps)
+    c.loop-tried.live.network.cells c.loop-tried.live.agenda.line c.loop-tried.order (c.args.budget -
+    c.loop-tried.steps)
     c.in_ok-tried.tried.end c.in_ok-tried.tried.steps c.attempt.new.search c.attempt.new.live.network.cells
     c.attempt.new.live.agenda.line c.attempt.new.order =
-    at_level (stored_of g.R.Rule.value_of) c.args.live.now.network.library c.loop-tried.live.network.library g.O.Order.picks
+    at_level (stored_of g.R.Rule.value_of) c.args.live.now.network.library c.loop-tried.live.network.library
+        g.O.Order.picks
     c.loop-tried.search c.loop-tried.live.network.cells c.loop-tried.live.agenda.line c.loop-tried.order
     (c.args.budget - c.loop-tried.steps) c.in_ok-tried.tried.end c.in_ok-tried.tried.steps
     c.attempt.new.search c.attempt.new.live.network.cells c.attempt.new.live.agenda.line c.attempt.new.order
@@ -69,9 +72,11 @@ loop-tried-preserved g c =
       same = ap (λ n. n.library) more.network ∙ both;
       alive = more.alive;
       within = (let few = a.steps in omega (arith, few, c.loop-tried.invariant.within));
-      way = rw (ap (λ n. n.cells) more.network) (deepened_on g.O.Order.picks (stored_of g.R.Rule.value_of c.args.live.now.network.library) c.args.search.now
+      way = rw (ap (λ n. n.cells) more.network) (deepened_on g.O.Order.picks (stored_of g.R.Rule.value_of
+          c.args.live.now.network.library) c.args.search.now
           c.args.live.now.network.cells c.args.live.now.agenda.line c.args.order.now c.loop-tried.search
-          c.loop-tried.live.network.cells c.loop-tried.live.agenda.line c.loop-tried.order c.loop-tried.steps c.args.budget
+          c.loop-tried.live.network.cells c.loop-tried.live.agenda.line c.loop-tried.order c.loop-tried.steps
+          c.args.budget
           c.loop-tried.invariant.way c.loop-tried.invariant.within c.in_ok-tried.tried.end c.in_ok-tried.tried.steps
           c.attempt.new.search c.attempt.new.live.network.cells c.attempt.new.live.agenda.line c.attempt.new.order a
           c.believe_more.new.search c.believe_more.new.live.agenda.line c.in-Quiet.is left more.ok more.search
@@ -81,10 +86,12 @@ loop-tried-preserved g c =
 pub returns-in_default-clause-tried : goal.returns-in_default-clause-tried
 returns-in_default-clause-tried g c =
     let a : AtLevel g.O.Order.picks (stored_of g.R.Rule.value_of c.args.live.now.network.library) c.loop-tried.search
-    c.loop-tried.live.network.cells c.loop-tried.live.agenda.line c.loop-tried.order (c.args.budget - c.loop-tried.steps)
+    c.loop-tried.live.network.cells c.loop-tried.live.agenda.line c.loop-tried.order (c.args.budget -
+    c.loop-tried.steps)
     c.in_ok-tried.tried.end c.in_ok-tried.tried.steps c.attempt.new.search c.attempt.new.live.network.cells
     c.attempt.new.live.agenda.line c.attempt.new.order =
-    at_level (stored_of g.R.Rule.value_of) c.args.live.now.network.library c.loop-tried.live.network.library g.O.Order.picks
+    at_level (stored_of g.R.Rule.value_of) c.args.live.now.network.library c.loop-tried.live.network.library
+        g.O.Order.picks
     c.loop-tried.search c.loop-tried.live.network.cells c.loop-tried.live.agenda.line c.loop-tried.order
     (c.args.budget - c.loop-tried.steps) c.in_ok-tried.tried.end c.in_ok-tried.tried.steps
     c.attempt.new.search c.attempt.new.live.network.cells c.attempt.new.live.agenda.line c.attempt.new.order
@@ -110,7 +117,8 @@ returns-in_default-clause-tried g c =
       most = c.in_ok-tried.ensures.most;
     }) in
     list_tried g.O.Order.picks (stored_of g.R.Rule.value_of c.args.live.now.network.library) c.args.search.now
-    c.args.live.now.network.cells c.args.live.now.agenda.line c.args.order.now c.loop-tried.search c.loop-tried.live.network.cells
+    c.args.live.now.network.cells c.args.live.now.agenda.line c.args.order.now c.loop-tried.search
+    c.loop-tried.live.network.cells
     c.loop-tried.live.agenda.line c.loop-tried.order c.loop-tried.steps c.args.budget c.loop-tried.invariant.way
     c.loop-tried.invariant.within c.in_ok-tried.tried.end c.in_ok-tried.tried.steps c.attempt.new.search
     c.attempt.new.live.network.cells c.attempt.new.live.agenda.line c.attempt.new.order a
@@ -119,10 +127,12 @@ returns-in_default-clause-tried g c =
 pub returns-then-is_whole-clause-tried : goal.returns-then-is_whole-clause-tried
 returns-then-is_whole-clause-tried g c =
     let a : AtLevel g.O.Order.picks (stored_of g.R.Rule.value_of c.args.live.now.network.library) c.loop-tried.search
-    c.loop-tried.live.network.cells c.loop-tried.live.agenda.line c.loop-tried.order (c.args.budget - c.loop-tried.steps)
+    c.loop-tried.live.network.cells c.loop-tried.live.agenda.line c.loop-tried.order (c.args.budget -
+    c.loop-tried.steps)
     c.in_ok-tried.tried.end c.in_ok-tried.tried.steps c.attempt.new.search c.attempt.new.live.network.cells
     c.attempt.new.live.agenda.line c.attempt.new.order =
-    at_level (stored_of g.R.Rule.value_of) c.args.live.now.network.library c.loop-tried.live.network.library g.O.Order.picks
+    at_level (stored_of g.R.Rule.value_of) c.args.live.now.network.library c.loop-tried.live.network.library
+        g.O.Order.picks
     c.loop-tried.search c.loop-tried.live.network.cells c.loop-tried.live.agenda.line c.loop-tried.order
     (c.args.budget - c.loop-tried.steps) c.in_ok-tried.tried.end c.in_ok-tried.tried.steps
     c.attempt.new.search c.attempt.new.live.network.cells c.attempt.new.live.agenda.line c.attempt.new.order
@@ -147,12 +157,14 @@ returns-then-is_whole-clause-tried g c =
       few = c.in_ok-tried.ensures.few;
       most = c.in_ok-tried.ensures.most;
     }) in
-    subst (λ tried. Attempted g.O.Order.picks (stored_of g.R.Rule.value_of c.args.live.now.network.library) c.args.search.now
+    subst (λ tried. Attempted g.O.Order.picks (stored_of g.R.Rule.value_of c.args.live.now.network.library)
+        c.args.search.now
     c.args.live.now.network.cells c.args.live.now.agenda.line c.args.order.now c.args.budget tried
     (c.loop-tried.steps + c.in_ok-tried.tried.steps) c.attempt.new.search c.attempt.new.live.network.cells
     c.attempt.new.live.agenda.line c.attempt.new.order) c.in-Quiet.is
     (list_tried g.O.Order.picks (stored_of g.R.Rule.value_of c.args.live.now.network.library) c.args.search.now
-    c.args.live.now.network.cells c.args.live.now.agenda.line c.args.order.now c.loop-tried.search c.loop-tried.live.network.cells
+    c.args.live.now.network.cells c.args.live.now.agenda.line c.args.order.now c.loop-tried.search
+    c.loop-tried.live.network.cells
     c.loop-tried.live.agenda.line c.loop-tried.order c.loop-tried.steps c.args.budget c.loop-tried.invariant.way
     c.loop-tried.invariant.within c.in_ok-tried.tried.end c.in_ok-tried.tried.steps c.attempt.new.search
     c.attempt.new.live.network.cells c.attempt.new.live.agenda.line c.attempt.new.order a

@@ -1,4 +1,4 @@
-use Rattle.std.proofs.Common.{◌≡◌, ◌∙◌, sym, subst}
+use Rattle.std.proofs.Common.{◌≡◌, ◌∙◌, ap, sym, subst}
 use Rattle.prop_lattice.specs.Order.{Below}
 use Rattle.prop_numbers.specs.Sets.{Members, set_of}
 use Rattle.prop_procedures.specs.Kept.{stored_of}
@@ -24,8 +24,11 @@ returns-clause-too_few g c few entailed =
     let d = c.args.live.now.network.cells in
     let new = c.run.new.live.network.cells in
     let s = set_of c.args.set.now in
-    let problem = same_problem library after d new (λ i. stored_of g.R.Rule.value_of (c.in_ok-end.ensures.ran.library i))
-    c.in_ok-end.ensures.ran.rest in
+    let network = c.wake_all.ensures.network in
+    let same : c.run.new.live.network.library ≡ c.args.live.now.network.library = c.in_ok-end.ensures.ran.library
+    ∙ ap (λ n. n.library) network in
+    let rest : new ≡ record d { contents = new.contents } = rw network at c.in_ok-end.ensures.ran.rest in
+    let problem = same_problem library after d new (λ i. stored_of g.R.Rule.value_of (same i)) rest in
     elim c.match-end.branch [
       | in-Quiet w ↦ (
           let settled : IsSettled after s new =
@@ -34,7 +37,7 @@ returns-clause-too_few g c few entailed =
           settled_below after s new c.args.claim.cell c.args.claim.value settled
           (subst (λ p. Entails p s c.args.claim.cell c.args.claim.value) (sym problem) entailed) in
           w.enough-tried.ensures.too_few (sym w.tried-is ∙ few)
-          (rw (w.belief.ensures, c.in_ok-worldview.ensures.of) below))
+          (rw (w.belief.ensures, w.network.ensures, c.in_ok-worldview.ensures.of) below))
       | in-Clash w ↦ no_clash _ _ _ _ problem c.requires.consistent
           (rw (w.in-Clash.is, c.in_ok-worldview.ensures.of) at c.in_ok-end.ensures.conflict)
       | in-Spent w ↦ (let e = sym w.tried-is ∙ few in cc)

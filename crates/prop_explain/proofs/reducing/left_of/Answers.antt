@@ -114,5 +114,6 @@ returns-in-Spent-clause-tries g c =
     let part = less_is_part (set_of c.loop-premise.support) (set_of c.args.why.now.support) (set_of c.in_ok-less.less)
     c.in-Some.premise less_is kept.part in
     let done = rw c.in-Some.ensures.steps at kept.done in
-    tried_on (stored_of g.R.Rule.value_of c.args.live.now.network.library) c.in-Some.premise (set_of c.in_ok-less.less) _ _
+    tried_on (stored_of g.R.Rule.value_of c.args.live.now.network.library) c.in-Some.premise (set_of
+    c.in_ok-less.less) _ _
     less_is done.tries done.held part (rw kept.same at c.in_ok-tried.ensures.turns)

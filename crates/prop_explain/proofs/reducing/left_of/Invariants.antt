@@ -11,9 +11,11 @@ invariant-loop-premise g l = record {
   so_far : l.yielded ++ l.premise-iterator ≡ l.why.support;
   same : l.live.network.library ≡ l.fn.live.network.library;
   done : HasTried g.O.Order.picks (stored_of g.R.Rule.value_of l.fn.live.network.library) (set_of l.why.support)
-      l.fn.live.network.cells l.fn.live.agenda l.fn.order l.budget l.yielded l.premise-iterator (set_of l.support) l.steps
+      l.fn.live.network.cells l.fn.live.agenda l.fn.order l.budget l.yielded l.premise-iterator (set_of l.support)
+      l.steps
       l.live.network.cells l.live.agenda l.order;
-  tried : AreTried (problem_of (stored_of g.R.Rule.value_of l.fn.live.network.library) l.fn.live.network.cells) l.cell l.why.value
+  tried : AreTried (problem_of (stored_of g.R.Rule.value_of l.fn.live.network.library) l.fn.live.network.cells) l.cell
+      l.why.value
       l.yielded (set_of l.support);
   part : IsPart (set_of l.support) (set_of l.why.support);
 }

@@ -9,12 +9,7 @@ pub invariant_of-self-2 : goal.invariant_of-self-2
 invariant_of-self-2 c =
     let n = c.self.inside in
     let more = c.args.count - n.flags.len in
-    let below : length n.flags.items ≤ c.args.count = omega (
-      arith,
-      c.len.ensures,
-      c.if-count-len.false,
-      n.flags.ok,
-    ) in
+    let below : length n.flags.items ≤ c.args.count = omega (arith, c.len.ensures, c.if-count-len.false, n.flags.ok) in
     let flags : c.resize.new.self.items ≡ n.flags.items ++ replicate more false = c.in_ok-resize.ensures.items
     ∙ ap (λ xs. xs ++ replicate more false) (take_all c.args.count n.flags.items below) in
     let short = short_line n.line.items n.flags.items (deque_capacity n.line) c.self.invariant in

@@ -34,15 +34,18 @@ returns-in-Ok g c =
     record {
       keeps = kept;
       step = run_obeyed library (shown_of s) (shown_of t) (command_of c.args.question)
-          (outcome_of t.search.list c.in-Ok.end) _ c.in-Ok.steps (λ lib u v. carries lib u v c.args.question)
+          (outcome_of t.search.list c.in-Ok.field-0.end) _ c.in-Ok.field-0.steps (λ lib u v. carries lib u v
+          c.args.question)
           (free library (state_of s) c.args.question c.requires.named) state kept.covers
-          (covered_end (shown_of t) t.search.list c.in-Ok.end said.covered) (rw (kept.library, state) at said.ends)
+          (covered_end (shown_of t) t.search.list c.in-Ok.field-0.end said.covered) (rw (kept.library, state) at
+          said.ends)
           (rw (kept.library, state) at c.reply_to.ensures.says)
           (rw (ap (λ (u : State). u.limit) state) at said.within);
       rests = record {
         lean = subst (λ (u : State). IsLeanAnswer (worldview_at u t.search.list) t.live.network.cells u
             (Ok (Some (command_of c.args.question))) (answer_of c.reply_to.result)) state c.reply_to.ensures.lean;
-        earned = earns _ library (state_of s) (work_of s) (work_of t) c.args.question c.in-Ok.end c.in-Ok.steps _
+        earned = earns _ library (state_of s) (work_of s) (work_of t) c.args.question c.in-Ok.field-0.end
+            c.in-Ok.field-0.steps _
             c.in-Ok.ensures.gone c.in-Ok.ensures.left (rw state at c.reply_to.ensures.believed) c.in-Ok.ensures.blamed
             (rw (kept.library, state) at c.reply_to.ensures.says);
         wakes = wakes_asked (state_of s) (state_of t) (work_of s) (work_of t) c.args.question

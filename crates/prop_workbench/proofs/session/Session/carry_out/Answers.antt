@@ -22,7 +22,8 @@ returns-in-Silent g c =
     let s = c.args.self.now in
     rw c.in-Silent.is (record {
       keeps = stays (unchanged c.requires.sound);
-      step = refused_followed (stored_of g.R.Rule.value_of s.live.network.library) (shown_of s) (shown_of s) (Ok None) Silent
+      step = refused_followed (stored_of g.R.Rule.value_of s.live.network.library) (shown_of s) (shown_of s) (Ok None)
+          Silent
           0 (λ m covered. covered) (λ named. (refl, refl, refl));
       rests = record { lean = tt; earned = tt; wakes = refl };
     })

@@ -40,7 +40,7 @@ returns-in-Some-first_refusal-clause-step g c =
     let library = stored_of g.R.Rule.value_of s.live.network.library in
     let values = map value_of c.args.values.now in
     let kind : c.kind-kind.result ≡ kind_at s.live.network.cells.kinds c.in-Some.cell = c.kind-kind.ensures
-    ∙ ap (λ d. kind_at d.kinds c.in-Some.cell) c.data.ensures in
+    ∙ ap (λ d. kind_at d.kinds c.in-Some.cell) (c.data.ensures ∙ ap (λ n. n.cells) c.network.ensures) in
     refuses library (state_of s) (state_of s) (commands.Command.Choose c.args.choice.now c.args.name.now values)
     c.in-Some-first_refusal.refusal
     (choice_refused library (state_of s) c.args.choice.now c.args.name.now values c.in-Some.cell c.kind-kind.result.kind
@@ -53,7 +53,7 @@ returns-in-None-first_refusal-clause-step g c =
     let s = c.args.self.now in
     let library = stored_of g.R.Rule.value_of s.live.network.library in
     let kind : c.kind-kind.result ≡ kind_at s.live.network.cells.kinds c.in-Some.cell = c.kind-kind.ensures
-    ∙ ap (λ d. kind_at d.kinds c.in-Some.cell) c.data.ensures in
+    ∙ ap (λ d. kind_at d.kinds c.in-Some.cell) (c.data.ensures ∙ ap (λ n. n.cells) c.network.ensures) in
     chosen_or_not library (state_of s) (state_of c.choose_said.new.self) c.args.choice.now c.args.name.now
     (map value_of c.args.values.now) c.in-Some.cell c.kind-kind.result.kind c.is_taken-is_taken.result
     (sym c.in-Some.ensures.number) (ap (λ k. k.kind) kind)

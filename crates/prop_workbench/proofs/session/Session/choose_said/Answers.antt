@@ -40,8 +40,10 @@ pub returns-in-Ok-choose_between-clause-ok : goal.returns-in-Ok-choose_between-c
 returns-in-Ok-choose_between-clause-ok g c =
     let s = c.args.self.now in
     let infos = c.deref.ensures.value ∙ c.in-Ok.ensures.infos in
-    chosen_state (state_of s) (state_from s.names c.infos_of.new.words s.definitions s.search.premises s.live.network.cells
+    chosen_state (state_of s) (state_from s.names c.infos_of.new.words s.definitions s.search.premises
+    s.live.network.cells
     s.limit) _ c.args.choice.now c.args.cell (meanings_of s.words c.args.kind (map value_of c.args.values.now))
     c.deref.result.now
-    (λ i. state_from s.names (c.in-Ok.ensures.words i) s.definitions s.search.premises s.live.network.cells s.limit) infos
+    (λ i. state_from s.names (c.in-Ok.ensures.words i) s.definitions s.search.premises s.live.network.cells s.limit)
+    infos
     c.in-Ok-choose_between.ensures.ok

@@ -36,8 +36,8 @@ returns-in-Ok g c =
     let kept = c.run_network.ensures.keeps in
     let then = c.core_reply.ensures.keeps in
     let state = c.run_network.ensures.state in
-    let outcome = outcome_of t.search.list c.in-Ok.end in
-    let believed = subst (λ (v : State). c.in-Ok.end ≡ Unsettled
+    let outcome = outcome_of t.search.list c.in-Ok.field-0.end in
+    let believed = subst (λ (v : State). c.in-Ok.field-0.end ≡ Unsettled
     → SaysSoFar v (work_of t) (commands.Command.Core name) (answer_of c.core_reply.result.0)) state in
     record {
       keeps = keeps_then g.R.Rule.value_of s t u kept then;
@@ -46,14 +46,16 @@ returns-in-Ok g c =
           (free_core library (state_of s) name c.args.cell c.requires.named) (c.core_reply.ensures.state ∙ state)
           (λ m covered. then.covers m (kept.covers m covered))
           (covered_still (shown_of t) (shown_of u) outcome then.covers
-          (covered_end (shown_of t) t.search.list c.in-Ok.end said.covered)) (rw (kept.library, state) at said.ends)
+          (covered_end (shown_of t) t.search.list c.in-Ok.field-0.end said.covered)) (rw (kept.library, state) at
+          said.ends)
           (rw (kept.library, state) at c.core_reply.ensures.says)
           (rw (ap (λ (v : State). v.limit) state) at c.core_reply.ensures.within);
       rests = record {
         lean = tt;
         wakes = tt;
-        earned = earns_core g.O.Order.picks library (state_of s) (work_of s) (work_of t) (work_of u) name c.in-Ok.end
-            c.in-Ok.steps c.core_reply.result.1 _ c.in-Ok.ensures.gone c.in-Ok.ensures.left
+        earned = earns_core g.O.Order.picks library (state_of s) (work_of s) (work_of t) (work_of u) name
+            c.in-Ok.field-0.end
+            c.in-Ok.field-0.steps c.core_reply.result.1 _ c.in-Ok.ensures.gone c.in-Ok.ensures.left
             (believed c.core_reply.ensures.believed) c.in-Ok.ensures.blamed
             (rw (kept.library, state) at c.core_reply.ensures.tried) c.core_reply.ensures.untried
             (rw (kept.library, state) at c.core_reply.ensures.says);

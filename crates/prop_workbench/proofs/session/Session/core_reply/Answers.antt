@@ -77,7 +77,8 @@ pub returns-in-Unsettled-clause-says : goal.returns-in-Unsettled-clause-says
 returns-in-Unsettled-clause-says g c =
     let s = c.args.self.now in
     rw (c.requires.run.spent c.in-Unsettled.is, c.in-Unsettled.is)
-    (why_so_far (stored_of g.R.Rule.value_of s.live.network.library) (state_of s) s.search.list c.args.name.now _ s.limit
+    (why_so_far (stored_of g.R.Rule.value_of s.live.network.library) (state_of s) s.search.list c.args.name.now _
+    s.limit
     c.unsettled.ensures.says)
 
 pub returns-in-Unsettled-clause-within : goal.returns-in-Unsettled-clause-within

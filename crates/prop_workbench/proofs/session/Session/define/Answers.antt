@@ -18,7 +18,7 @@ returns-clause-keeps g c =
         sized = c.requires.sound.sized;
         locals = c.define.ensures.locals c.requires.sound.locals;
         named = c.requires.sound.named;
-        defined = rw c.library.ensures at c.define.ensures.over;
+        defined = rw (c.library.ensures, c.network.ensures) at c.define.ensures.over;
       };
       steps = refl;
       covers = λ m covered. covered;
@@ -29,10 +29,11 @@ returns-clause-step g c =
     let s = c.args.self.now in
     obeys_done (stored_of g.R.Rule.value_of s.live.network.library) (state_of s) _
     (commands.Command.Define c.args.name.now (words c.args.params.now) (map step_of c.args.steps.now))
-    c.define.result (rw c.library.ensures at c.define.ensures.fits)
+    c.define.result (rw (c.library.ensures, c.network.ensures) at c.define.ensures.fits)
     (on_ok_weaker c.define.result (λ e.
     record { answer_is = refl; new_is = λ i. record (state_of s) { definitions = e i }; no_steps = refl })
-    (rw c.library.ensures at c.define.ensures.ok)) (rw c.library.ensures at c.define.ensures.err)
+    (rw (c.library.ensures, c.network.ensures) at c.define.ensures.ok)) (rw (c.library.ensures, c.network.ensures) at
+    c.define.ensures.err)
     (on_err_weaker c.define.result (λ e i. record (state_of s) { definitions = e i }) c.define.ensures.err_same)
 
 pub returns-clause-wakes : goal.returns-clause-wakes

@@ -23,7 +23,8 @@ returns-clause-keeps g c =
         at_work = c.requires.sound.at_work;
         sized = made_or_not (λ (w : Vocabulary). All (IsSized w) s.live.network.cells.kinds) s.words
             c.declare_domain.new.self made r c.declare_domain.ensures.ok c.declare_domain.ensures.err
-            c.requires.sound.sized (sized_more s.words c.args.name.now (words c.args.elements.now) s.live.network.cells.kinds
+            c.requires.sound.sized (sized_more s.words c.args.name.now (words c.args.elements.now)
+            s.live.network.cells.kinds
             c.requires.sound.sized);
         locals = made_or_not (λ (w : Vocabulary). AreLocalsOf (IsSized w) s.definitions) s.words
             c.declare_domain.new.self made r c.declare_domain.ensures.ok c.declare_domain.ensures.err

@@ -45,7 +45,8 @@ returns-clause-stays g c =
             (ap (λ (t : Stand). t.premises) made) c.forget.ensures.stand
             (c.forget.ensures.search (problem_of library d) (problem_of library (forgotten p d))
             (forgets_data library p d))
-            (rw (c.purge.ensures.same, c.purge.ensures.forgotten) at (c.purge.ensures.alive (set_of new.worldview)).under_way)
+            (rw (c.purge.ensures.same, c.purge.ensures.forgotten) at (c.purge.ensures.alive (set_of
+            new.worldview)).under_way)
             (rw c.purge.ensures.forgotten at (c.purge.ensures.alive (set_of new.worldview)).watched));
         sized = rw c.purge.ensures.forgotten sound.sized;
         locals = sound.locals;
@@ -87,7 +88,8 @@ pub returns-in_err-premise-clause-step : goal.returns-in_err-premise-clause-step
 returns-in_err-premise-clause-step g c =
     let s = c.args.self.now in
     let told = err_from_is_err_and c.from_residual.result c.from_residual.ensures.1 in
-    forget_refused (stored_of g.R.Rule.value_of s.live.network.library) (shown_of s) c.args.name.now c.from_residual.result
+    forget_refused (stored_of g.R.Rule.value_of s.live.network.library) (shown_of s) c.args.name.now
+    c.from_residual.result
     c.in_err-premise.field-0.0 (told.1 ∙ ap Err told.2)
     (inl (missing_from (state_of s) c.args.name.now c.find.result c.in_err-premise.field-0.0 c.in_err-premise.was
     c.find.ensures.why (rw c.premises.ensures at c.in_err-premise.ensures.found)

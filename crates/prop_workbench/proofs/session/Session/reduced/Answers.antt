@@ -34,8 +34,9 @@ core_text-requires-clause-cell g c =
 pub core_text-requires-clause-known : goal.core_text-requires-clause-known
 core_text-requires-clause-known g c =
     let s = c.args.self.now in
-    core_known (problem_of (stored_of g.R.Rule.value_of s.live.network.library) s.live.network.cells) (length s.search.premises) _
-    c.args.cell _ c.in-Ok.core c.requires.sound.at_work.known c.in-Ok.ensures.explains
+    core_known (problem_of (stored_of g.R.Rule.value_of s.live.network.library) s.live.network.cells) (length
+    s.search.premises) _
+    c.args.cell _ c.in-Ok.core.end c.requires.sound.at_work.known c.in-Ok.ensures.explains
 
 pub returns-in-Ok-clause-keeps : goal.returns-in-Ok-clause-keeps
 returns-in-Ok-clause-keeps g c =
@@ -48,13 +49,14 @@ returns-in-Ok-clause-keeps g c =
 pub returns-in-Ok-clause-state : goal.returns-in-Ok-clause-state
 returns-in-Ok-clause-state g c =
     let s = c.args.self.now in
-    ap (λ (d : Data). state_from s.names s.words s.definitions s.search.premises d s.limit) c.reduce-ended.ensures.ran.rest
+    ap (λ (d : Data). state_from s.names s.words s.definitions s.search.premises d s.limit)
+    c.reduce-ended.ensures.ran.rest
 
 pub returns-in-Ok-clause-says : goal.returns-in-Ok-clause-says
 returns-in-Ok-clause-says g c =
     let s = c.args.self.now in
     let library = stored_of g.R.Rule.value_of s.live.network.library in
-    let core = c.in-Ok.core in
+    let core = c.in-Ok.core.end in
     let name = c.args.name.now in
     let answer = answer_of c.core_text.result in
     let same = c.worldview.ensures.same ∙ refl in
@@ -63,12 +65,12 @@ returns-in-Ok-clause-says g c =
     let state : state_of (record s { live = c.reduce-ended.new.live }) ≡ state_of s =
     ap (λ (d : Data). state_from s.names s.words s.definitions s.search.premises d s.limit)
     c.reduce-ended.ensures.ran.rest in
-    may_core library (state_of s) s.search.list name c.args.cell core answer (c.args.steps + c.in-Ok.tries)
+    may_core library (state_of s) s.search.list name c.args.cell core answer (c.args.steps + c.in-Ok.core.steps)
     c.requires.named
     (settled_core library s.names s.words s.definitions s.search.premises s.live.network.cells s.limit s.search.list
     (set_of s.search.worldview) c.args.cell core c.requires.sound.at_work.under_way.kept believed rest
     (rw c.worldview.ensures.same at c.in-Ok.ensures.explains))
-    c.in-Ok.ensures.least (used_up core c.args.steps c.in-Ok.tries s.limit c.requires.within c.in-Ok.ensures.spent)
+    c.in-Ok.ensures.least (used_up core c.args.steps c.in-Ok.core.steps s.limit c.requires.within c.in-Ok.ensures.spent)
     (too_few library (state_of s) (set_of c.worldview.result.now) c.args.cell core c.args.steps
     c.requires.sound.at_work.known c.requires.within c.requires.few c.in-Ok.ensures.earned)
     (subst (λ (t : State). IfLeast core (λ v ps. SaysBecause t c.args.cell name [] v ps answer)) state
@@ -87,7 +89,7 @@ returns-in-Ok-clause-tried g c =
     let believed = believes_whole s.search c.requires.sound.at_work.well_made c.requires.rest.full in
     let tries = rw (c.worldview.ensures.same, believed) at e.tries.1 in
     λ text is. (
-      c.in-Ok.tries,
+      c.in-Ok.core.steps,
       refl,
       record {
         search = refl;
@@ -108,7 +110,8 @@ returns-in-Err-clause-keeps g c =
 pub returns-in-Err-clause-state : goal.returns-in-Err-clause-state
 returns-in-Err-clause-state g c =
     let s = c.args.self.now in
-    ap (λ (d : Data). state_from s.names s.words s.definitions s.search.premises d s.limit) c.reduce-ended.ensures.ran.rest
+    ap (λ (d : Data). state_from s.names s.words s.definitions s.search.premises d s.limit)
+    c.reduce-ended.ensures.ran.rest
 
 pub returns-in-Err-clause-says : goal.returns-in-Err-clause-says
 returns-in-Err-clause-says g c = inr refl

@@ -20,8 +20,9 @@ returns-in-Err-clause-step g c =
     let s = c.args.self.now in
     let library = stored_of g.R.Rule.value_of s.live.network.library in
     let kind : kind_at s.live.network.cells.kinds c.in-Some.cell ≡ c.kind-kind.result =
-    sym (rw c.data.ensures at c.kind-kind.ensures) in
-    let said : meaning_at s.words (kind_at s.live.network.cells.kinds c.in-Some.cell).kind (value_of c.args.value.now) ≡ Err
+    sym (rw (c.data.ensures, c.network.ensures) at c.kind-kind.ensures) in
+    let said : meaning_at s.words (kind_at s.live.network.cells.kinds c.in-Some.cell).kind (value_of c.args.value.now)
+    ≡ Err
     c.in-Err.refusal = rw (← kind) at c.in-Err.ensures.err in
     refuses library (state_of s) (state_of s)
     (stating (name_of c.args.premise) c.args.name.now (value_of c.args.value.now)) c.in-Err.refusal
@@ -35,8 +36,9 @@ state_meant-requires-clause-may g c =
     of_named (λ k. k < length s.live.network.cells.kinds) s.names c.args.name.now c.in-Some.cell c.requires.sound.named
     (sym c.in-Some.ensures.number) in
     let kind : kind_at s.live.network.cells.kinds c.in-Some.cell ≡ c.kind-kind.result =
-    sym (rw c.data.ensures at c.kind-kind.ensures) in
-    let said : meaning_at s.words (kind_at s.live.network.cells.kinds c.in-Some.cell).kind (value_of c.args.value.now) ≡ Ok
+    sym (rw (c.data.ensures, c.network.ensures) at c.kind-kind.ensures) in
+    let said : meaning_at s.words (kind_at s.live.network.cells.kinds c.in-Some.cell).kind (value_of c.args.value.now)
+    ≡ Ok
     (meant_of c.in-Ok.meant) = rw (← kind) at c.in-Ok.ensures.ok in
     let few = rw (← kind) at c.in-Ok.ensures.few in
     value_may_be (kind_at s.live.network.cells.kinds c.in-Some.cell)

@@ -13,8 +13,8 @@ use Rattle.prop_workbench.proofs.ReasonLemmas.{lean_answer}
 use Rattle.prop_workbench.proofs.session.Session.settled.Goals as goal
 
 pub belief-info-requires : goal.belief-info-requires
-belief-info-requires g c = cell_there c.args.self.now c.in-Ask.name.now c.in-Ask.cell c.requires.sound
-    (rw c.in-Ask.is at c.requires.named)
+belief-info-requires g c = rw c.network.ensures (cell_there c.args.self.now c.in-Ask.name.now c.in-Ask.cell
+    c.requires.sound (rw c.in-Ask.is at c.requires.named))
 
 pub value_of-requires : goal.value_of-requires
 value_of-requires g c = cell_there c.args.self.now c.in-Ask.name.now c.in-Ask.cell c.requires.sound
@@ -52,10 +52,11 @@ returns-in-Ask-clause-says g c =
     let name = c.in-Ask.name.now in
     let v = beliefs (set_of s.search.worldview) s.live.network.cells.contents cell in
     let named : cell_named s.names name ≡ Some cell = rw c.in-Ask.is at c.requires.named in
-    λ steps. rw c.in-Ask.is (may_say_value (stored_of value s.live.network.library) (state_of s) (commands.Command.Ask name)
+    λ steps. rw c.in-Ask.is (may_say_value (stored_of value s.live.network.library) (state_of s) (commands.Command.Ask
+    name)
     (Settled s.search.list) name cell v [] _ steps named
     (settled_in value s cell c.requires.sound c.requires.rest) (λ text r. r)
-    (rw (c.belief-info.ensures, c.worldview-in-Ask.ensures.same) at c.value_of.ensures))
+    (rw (c.belief-info.ensures, c.network.ensures, c.worldview-in-Ask.ensures.same) at c.value_of.ensures))
 
 pub returns-in-Why-clause-says : goal.returns-in-Why-clause-says
 returns-in-Why-clause-says g c =
@@ -65,7 +66,8 @@ returns-in-Why-clause-says g c =
     let name = c.in-Why.name.now in
     let v = beliefs (set_of s.search.worldview) s.live.network.cells.contents cell in
     let named : cell_named s.names name ≡ Some cell = rw c.in-Why.is at c.requires.named in
-    λ steps. rw c.in-Why.is (may_explain (stored_of value s.live.network.library) (state_of s) (commands.Command.Why name)
+    λ steps. rw c.in-Why.is (may_explain (stored_of value s.live.network.library) (state_of s) (commands.Command.Why
+    name)
     (Settled s.search.list) name cell v [] _ steps named
     (settled_in value s cell c.requires.sound c.requires.rest) (λ text r. r)
     (explained_in value s (set_of s.search.worldview) cell v name [] _

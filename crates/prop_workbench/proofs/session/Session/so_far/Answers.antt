@@ -16,8 +16,8 @@ use Rattle.prop_workbench.proofs.ReasonLemmas.{the_text, lean_answer, lean_bare,
 use Rattle.prop_workbench.proofs.session.Session.so_far.Goals as goal
 
 pub belief-requires : goal.belief-requires
-belief-requires g c = cell_there c.args.self.now c.in-Ask.name.now c.in-Ask.cell c.requires.sound
-    (rw c.in-Ask.is at c.requires.named)
+belief-requires g c = rw c.network.ensures (cell_there c.args.self.now c.in-Ask.name.now c.in-Ask.cell
+    c.requires.sound (rw c.in-Ask.is at c.requires.named))
 
 pub value_of-requires : goal.value_of-requires
 value_of-requires g c = cell_there c.args.self.now c.in-Ask.name.now c.in-Ask.cell c.requires.sound
@@ -49,7 +49,7 @@ returns-in-Ask-clause-says g c =
     rw c.in-Ask.is (may_say_value (stored_of value s.live.network.library) (state_of s) (commands.Command.Ask name)
     (Unsettled s.search.list) name cell v (codes " unsettled") _ s.limit named
     (unsettled_in value s whole name cell c.requires.sound named same) (λ text r. (r, refl))
-    (rw c.belief.ensures at c.value_of.ensures))
+    (rw (c.belief.ensures, c.network.ensures) at c.value_of.ensures))
 
 pub returns-in-Why-clause-says : goal.returns-in-Why-clause-says
 returns-in-Why-clause-says g c =
@@ -97,7 +97,8 @@ returns-in-Ask-clause-believed g c =
     rw c.in-Ask.is (λ (text : List ℕ) is. (
       cell,
       named,
-      the_text _ (says (set_of c.args.whole.now)) text (rw c.belief.ensures at c.value_of.ensures) is
+      the_text _ (says (set_of c.args.whole.now)) text (rw (c.belief.ensures, c.network.ensures) at
+          c.value_of.ensures) is
           ∙ ap says (same_set (set_of c.args.whole.now) (worldview_at (state_of s) s.search.list) c.requires.whole),
     ))
 

@@ -25,7 +25,8 @@ returns-clause-keeps g c =
     record {
       library = c.state.ensures.same;
       sound = record {
-        at_work = rw c.state.ensures.same (stated_at_work library s.search s.live.network.cells c.state.new.live.network.cells
+        at_work = rw c.state.ensures.same (stated_at_work library s.search s.live.network.cells
+            c.state.new.live.network.cells
             s.live.agenda c.state.new.live.agenda statement sound.at_work rest c.requires.known
             (rw (c.worldview.ensures.same, c.state.ensures.same) at c.state.ensures.alive.under_way)
             (rw c.worldview.ensures.same at c.state.ensures.alive.watched));

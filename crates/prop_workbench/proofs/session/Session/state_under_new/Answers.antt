@@ -37,7 +37,8 @@ returns-in-Ok-state-clause-keeps g c =
     let library = stored_of g.R.Rule.value_of s.live.network.library in
     let sound = c.requires.sound in
     let made : new ≡ interned s.search name = c.in-Ok.ensures.ok in
-    let named = named_at_work library s.search new name s.live.network.cells s.live.agenda sound.at_work c.requires.new made
+    let named = named_at_work library s.search new name s.live.network.cells s.live.agenda sound.at_work
+    c.requires.new made
     c.worldview.ensures.stand (c.intern.ensures.search (problem_of library s.live.network.cells)) in
     let statement : Statement = record { premise = Some c.in-Ok.premise; cell = c.args.cell; info = c.args.info } in
     let rest = c.in-Ok-state.ensures.ok.rest in
@@ -47,7 +48,8 @@ returns-in-Ok-state-clause-keeps g c =
     record {
       library = c.state.ensures.same;
       sound = record {
-        at_work = rw c.state.ensures.same (stated_at_work library new s.live.network.cells c.state.new.live.network.cells s.live.agenda
+        at_work = rw c.state.ensures.same (stated_at_work library new s.live.network.cells
+            c.state.new.live.network.cells s.live.agenda
             c.state.new.live.agenda statement named rest
             (new_number s.search new name c.in-Ok.premise c.requires.new made c.in-Ok.ensures.number) under_way
             (rw c.worldview.ensures.same at c.state.ensures.alive.watched));

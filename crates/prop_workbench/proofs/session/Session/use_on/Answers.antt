@@ -28,7 +28,8 @@ make-requires-clause-kept g c = c.requires.sound.at_work.under_way.kept
 pub make-requires-clause-may : goal.make-requires-clause-may
 make-requires-clause-may g c =
     let s = c.args.self.now in
-    may_make (stored_of g.R.Rule.value_of s.live.network.library) s.words s.definitions s.live.network.cells c.args.name.now
+    may_make (stored_of g.R.Rule.value_of s.live.network.library) s.words s.definitions s.live.network.cells
+    c.args.name.now
     c.args.cells.now (given_by s.words (by_of c.args.by)) c.in-Ok.flat c.requires.cells c.in-Ok.ensures.fits
     c.in-Ok.ensures.ok c.in-Ok.ensures.safe
 
@@ -80,7 +81,8 @@ returns-in-Ok-clause-keeps g c = record {
 pub returns-in-Ok-clause-fits : goal.returns-in-Ok-clause-fits
 returns-in-Ok-clause-fits g c =
     let s = c.args.self.now in
-    on_ok_weaker c.make.result (with_room (stored_of g.R.Rule.value_of s.live.network.library) s.names s.words s.definitions
+    on_ok_weaker c.make.result (with_room (stored_of g.R.Rule.value_of s.live.network.library) s.names s.words
+    s.definitions
     s.search.premises s.live.network.cells s.limit c.args.name.now c.args.cells.now (by_of c.args.by) c.in-Ok.flat
     c.in-Ok.ensures.ok c.in-Ok.ensures.fits)
     c.make.ensures.fits
@@ -88,7 +90,8 @@ returns-in-Ok-clause-fits g c =
 pub returns-in-Ok-clause-ok : goal.returns-in-Ok-clause-ok
 returns-in-Ok-clause-ok g c =
     let s = c.args.self.now in
-    on_ok_weaker c.make.result (state_made (stored_of g.R.Rule.value_of s.live.network.library) s.names s.words s.definitions
+    on_ok_weaker c.make.result (state_made (stored_of g.R.Rule.value_of s.live.network.library) s.names s.words
+    s.definitions
     s.search.premises s.live.network.cells s.limit c.args.name.now c.args.cells.now (by_of c.args.by) c.in-Ok.flat
     c.in-Ok.ensures.ok c.make.new.live.network.cells)
     c.make.ensures.ok
@@ -130,7 +133,8 @@ pub returns-in-Ok-clause-stirred : goal.returns-in-Ok-clause-stirred
 returns-in-Ok-clause-stirred g c =
     let s = c.args.self.now in
     let new = record s { live = c.make.new.live } in
-    let stirs : ((a b : Premises) → AreStirred a b s.live.network.cells new.live.network.cells s.live.agenda.line new.live.agenda.line)
+    let stirs : ((a b : Premises) → AreStirred a b s.live.network.cells new.live.network.cells s.live.agenda.line
+    new.live.agenda.line)
     → IsStirred (state_of s) (state_of new) s.search.list s.search.level (work_of s) (work_of new) =
     λ h. record {
       list_is = refl;
