@@ -21,4 +21,6 @@ pub use counts::{count_back, counter};
 pub use distances::{abs_back, absoluter};
 pub use extremes::{max_back, maximizer, min_back, minimizer};
 pub use hulls::hull;
+pub use quotients::{divisor_back, quotienter, remainderer};
+pub use squares::{rooter, squarer};
 pub use wide::Wide;
