@@ -10,4 +10,5 @@ pub mod Counts
 pub mod Wide
 pub mod Values
 pub mod Points
+pub mod Procedures
 pub mod laws
