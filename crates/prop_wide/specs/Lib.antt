@@ -11,4 +11,5 @@ pub mod Wide
 pub mod Values
 pub mod Points
 pub mod Procedures
+pub mod Prelude
 pub mod laws
