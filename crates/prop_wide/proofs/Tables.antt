@@ -1,6 +1,6 @@
 -- Tables of procedures.
-use Rattle.std.proofs.Common.{ℕ, zero, suc, List, [], ◌∷◌, length, ◌<◌, arith}
-use Rattle.std.specs.Prelude.{All, slice_index_or}
+use Rattle.std.proofs.Common.{zero, suc, List, [], ◌∷◌, arith}
+use Rattle.std.specs.Prelude.{All}
 use Rattle.std.specs.List.{AllByRecursion}
 
 -- what is so of each by recursion is so at each place

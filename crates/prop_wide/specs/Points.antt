@@ -58,7 +58,8 @@ Related Choose param points point = RelatesChoice points point
 Related Decide param points point = RelatesDecision points point
 Related Count param points point = RelatesCount points point
 Related CountBack param points point = RelatesLast points point
-Related Square param points point = RelatesAtScale (λ k. RelatesOne (IsSquareBy k)) param points point
+Related Square param points point =
+    RelatesAtScale (λ k. RelatesOne (IsSquareBy k)) param points point
 Related Root param points point =
     RelatesAtScale (λ k. RelatesTwo (λ y x v. (v ≡ x) × IsSquareBy k x y)) param points point
 Related Quotient param points point = RelatesTwo IsQuotient points point

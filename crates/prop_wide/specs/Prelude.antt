@@ -46,6 +46,20 @@ prelude_lines =
     codes
     "define gate t x y = passer t x y ; passer t y x" ∷
     codes
+    "define table2 i n e1 v1 e2 v2 = local t1 truth ; alike i e1 t1 ; if t1 v1 v2 n" ∷
+    codes
+    "define table3 i n e1 v1 e2 v2 e3 v3 = local t1 truth ; local t2 truth ; local m2 like n ; alike i e1 t1 ; alike i e2 t2 ; if t1 v1 m2 n ; if t2 v2 v3 m2" ∷
+    codes
+    "define table4 i n e1 v1 e2 v2 e3 v3 e4 v4 = local t1 truth ; local t2 truth ; local t3 truth ; local m2 like n ; local m3 like n ; alike i e1 t1 ; alike i e2 t2 ; alike i e3 t3 ; if t1 v1 m2 n ; if t2 v2 m3 m2 ; if t3 v3 v4 m3" ∷
+    codes
+    "define table5 i n e1 v1 e2 v2 e3 v3 e4 v4 e5 v5 = local t1 truth ; local t2 truth ; local t3 truth ; local t4 truth ; local m2 like n ; local m3 like n ; local m4 like n ; alike i e1 t1 ; alike i e2 t2 ; alike i e3 t3 ; alike i e4 t4 ; if t1 v1 m2 n ; if t2 v2 m3 m2 ; if t3 v3 m4 m3 ; if t4 v4 v5 m4" ∷
+    codes
+    "define table6 i n e1 v1 e2 v2 e3 v3 e4 v4 e5 v5 e6 v6 = local t1 truth ; local t2 truth ; local t3 truth ; local t4 truth ; local t5 truth ; local m2 like n ; local m3 like n ; local m4 like n ; local m5 like n ; alike i e1 t1 ; alike i e2 t2 ; alike i e3 t3 ; alike i e4 t4 ; alike i e5 t5 ; if t1 v1 m2 n ; if t2 v2 m3 m2 ; if t3 v3 m4 m3 ; if t4 v4 m5 m4 ; if t5 v5 v6 m5" ∷
+    codes
+    "define table7 i n e1 v1 e2 v2 e3 v3 e4 v4 e5 v5 e6 v6 e7 v7 = local t1 truth ; local t2 truth ; local t3 truth ; local t4 truth ; local t5 truth ; local t6 truth ; local m2 like n ; local m3 like n ; local m4 like n ; local m5 like n ; local m6 like n ; alike i e1 t1 ; alike i e2 t2 ; alike i e3 t3 ; alike i e4 t4 ; alike i e5 t5 ; alike i e6 t6 ; if t1 v1 m2 n ; if t2 v2 m3 m2 ; if t3 v3 m4 m3 ; if t4 v4 m5 m4 ; if t5 v5 m6 m5 ; if t6 v6 v7 m6" ∷
+    codes
+    "define table8 i n e1 v1 e2 v2 e3 v3 e4 v4 e5 v5 e6 v6 e7 v7 e8 v8 = local t1 truth ; local t2 truth ; local t3 truth ; local t4 truth ; local t5 truth ; local t6 truth ; local t7 truth ; local m2 like n ; local m3 like n ; local m4 like n ; local m5 like n ; local m6 like n ; local m7 like n ; alike i e1 t1 ; alike i e2 t2 ; alike i e3 t3 ; alike i e4 t4 ; alike i e5 t5 ; alike i e6 t6 ; alike i e7 t7 ; if t1 v1 m2 n ; if t2 v2 m3 m2 ; if t3 v3 m4 m3 ; if t4 v4 m5 m4 ; if t5 v5 m6 m5 ; if t6 v6 m7 m6 ; if t7 v7 v8 m7" ∷
+    codes
     "define apart s l u m = local e span ; local f span ; local p truth ; local q truth ; local v truth ; local w truth ; sum s l e ; sum u m f ; less u e p ; less s f q ; not p v ; not q w ; passer p v q ; passer q w p" ∷
     codes
     "define soft_sum t x y z = local x1 span ; local y1 span ; local z1 span ; gate t x x1 ; gate t y y1 ; gate t z z1 ; sum x1 y1 z1" ∷

@@ -1,5 +1,5 @@
 -- The procedures.
-use Rattle.std.specs.Prelude.{◌≡◌, ◌≤◌, ℕ, List, [], ◌∷◌, codes, map, length, All}
+use Rattle.std.specs.Prelude.{◌≡◌, ◌≤◌, ℕ, List, [], ◌∷◌, codes, map, length, All, replicate}
 use Rattle.prop_procedures.specs.declared.shape.Shape.{Shape}
 use Rattle.prop_procedures.specs.declared.shape.Shape.TheVariants.{Span, Truth, Any}
 use Rattle.prop_wide.specs.Wide.{HasInputs}
@@ -27,22 +27,22 @@ in_order =
     record { name = codes "abs_back"; rule = AbsBack; ins = Span ∷ Span ∷ [] } ∷
     record { name = codes "chooser"; rule = Choose; ins = Truth ∷ Any 0 ∷ Any 0 ∷ [] } ∷
     record { name = codes "decider"; rule = Decide; ins = Any 0 ∷ Any 0 ∷ Any 0 ∷ [] } ∷
-    record { name = codes "counter1"; rule = Count; ins = Truth ∷ [] } ∷
-    record { name = codes "counter2"; rule = Count; ins = Truth ∷ Truth ∷ [] } ∷
-    record { name = codes "counter3"; rule = Count; ins = Truth ∷ Truth ∷ Truth ∷ [] } ∷
-    record { name = codes "counter4"; rule = Count; ins = Truth ∷ Truth ∷ Truth ∷ Truth ∷ [] } ∷
-    record { name = codes "counter5"; rule = Count; ins = Truth ∷ Truth ∷ Truth ∷ Truth ∷ Truth ∷ [] } ∷
-    record { name = codes "counter6"; rule = Count; ins = Truth ∷ Truth ∷ Truth ∷ Truth ∷ Truth ∷ Truth ∷ [] } ∷
-    record { name = codes "counter7"; rule = Count; ins = Truth ∷ Truth ∷ Truth ∷ Truth ∷ Truth ∷ Truth ∷ Truth ∷ [] } ∷
-    record { name = codes "counter8"; rule = Count; ins = Truth ∷ Truth ∷ Truth ∷ Truth ∷ Truth ∷ Truth ∷ Truth ∷ Truth ∷ [] } ∷
-    record { name = codes "count_back1"; rule = CountBack; ins = Span ∷ [] } ∷
-    record { name = codes "count_back2"; rule = CountBack; ins = Span ∷ Truth ∷ [] } ∷
-    record { name = codes "count_back3"; rule = CountBack; ins = Span ∷ Truth ∷ Truth ∷ [] } ∷
-    record { name = codes "count_back4"; rule = CountBack; ins = Span ∷ Truth ∷ Truth ∷ Truth ∷ [] } ∷
-    record { name = codes "count_back5"; rule = CountBack; ins = Span ∷ Truth ∷ Truth ∷ Truth ∷ Truth ∷ [] } ∷
-    record { name = codes "count_back6"; rule = CountBack; ins = Span ∷ Truth ∷ Truth ∷ Truth ∷ Truth ∷ Truth ∷ [] } ∷
-    record { name = codes "count_back7"; rule = CountBack; ins = Span ∷ Truth ∷ Truth ∷ Truth ∷ Truth ∷ Truth ∷ Truth ∷ [] } ∷
-    record { name = codes "count_back8"; rule = CountBack; ins = Span ∷ Truth ∷ Truth ∷ Truth ∷ Truth ∷ Truth ∷ Truth ∷ Truth ∷ [] } ∷
+    record { name = codes "counter1"; rule = Count; ins = replicate 1 Truth } ∷
+    record { name = codes "counter2"; rule = Count; ins = replicate 2 Truth } ∷
+    record { name = codes "counter3"; rule = Count; ins = replicate 3 Truth } ∷
+    record { name = codes "counter4"; rule = Count; ins = replicate 4 Truth } ∷
+    record { name = codes "counter5"; rule = Count; ins = replicate 5 Truth } ∷
+    record { name = codes "counter6"; rule = Count; ins = replicate 6 Truth } ∷
+    record { name = codes "counter7"; rule = Count; ins = replicate 7 Truth } ∷
+    record { name = codes "counter8"; rule = Count; ins = replicate 8 Truth } ∷
+    record { name = codes "count_back1"; rule = CountBack; ins = Span ∷ replicate 0 Truth } ∷
+    record { name = codes "count_back2"; rule = CountBack; ins = Span ∷ replicate 1 Truth } ∷
+    record { name = codes "count_back3"; rule = CountBack; ins = Span ∷ replicate 2 Truth } ∷
+    record { name = codes "count_back4"; rule = CountBack; ins = Span ∷ replicate 3 Truth } ∷
+    record { name = codes "count_back5"; rule = CountBack; ins = Span ∷ replicate 4 Truth } ∷
+    record { name = codes "count_back6"; rule = CountBack; ins = Span ∷ replicate 5 Truth } ∷
+    record { name = codes "count_back7"; rule = CountBack; ins = Span ∷ replicate 6 Truth } ∷
+    record { name = codes "count_back8"; rule = CountBack; ins = Span ∷ replicate 7 Truth } ∷
     record { name = codes "scaled_squarer"; rule = Square; ins = Span ∷ [] } ∷
     record { name = codes "scaled_rooter"; rule = Root; ins = Span ∷ Span ∷ [] } ∷
     record { name = codes "quotienter"; rule = Quotient; ins = Span ∷ Span ∷ [] } ∷

@@ -3,7 +3,7 @@ ghost use Rattle.prop_wide.specs.Prelude.{PreludeIsStated, DifferentIsStated};
 
 /// The definitions over the kit's procedures, its prelude and these, a line of the workbench's
 /// language each, in order.
-pub const PRELUDE: [&'static str; 41] = [
+pub const PRELUDE: [&'static str; 48] = [
     "define max x y z = maximizer x y z ; max_back z y x ; max_back z x y",
     "define min x y z = minimizer x y z ; min_back z y x ; min_back z x y",
     "define abs x y = absoluter x y ; abs_back y x x",
@@ -24,6 +24,13 @@ pub const PRELUDE: [&'static str; 41] = [
     "define between x a b = atmost a x ; atmost x b",
     "define before s l u = local e span ; sum s l e ; atmost e u",
     "define gate t x y = passer t x y ; passer t y x",
+    "define table2 i n e1 v1 e2 v2 = local t1 truth ; alike i e1 t1 ; if t1 v1 v2 n",
+    "define table3 i n e1 v1 e2 v2 e3 v3 = local t1 truth ; local t2 truth ; local m2 like n ; alike i e1 t1 ; alike i e2 t2 ; if t1 v1 m2 n ; if t2 v2 v3 m2",
+    "define table4 i n e1 v1 e2 v2 e3 v3 e4 v4 = local t1 truth ; local t2 truth ; local t3 truth ; local m2 like n ; local m3 like n ; alike i e1 t1 ; alike i e2 t2 ; alike i e3 t3 ; if t1 v1 m2 n ; if t2 v2 m3 m2 ; if t3 v3 v4 m3",
+    "define table5 i n e1 v1 e2 v2 e3 v3 e4 v4 e5 v5 = local t1 truth ; local t2 truth ; local t3 truth ; local t4 truth ; local m2 like n ; local m3 like n ; local m4 like n ; alike i e1 t1 ; alike i e2 t2 ; alike i e3 t3 ; alike i e4 t4 ; if t1 v1 m2 n ; if t2 v2 m3 m2 ; if t3 v3 m4 m3 ; if t4 v4 v5 m4",
+    "define table6 i n e1 v1 e2 v2 e3 v3 e4 v4 e5 v5 e6 v6 = local t1 truth ; local t2 truth ; local t3 truth ; local t4 truth ; local t5 truth ; local m2 like n ; local m3 like n ; local m4 like n ; local m5 like n ; alike i e1 t1 ; alike i e2 t2 ; alike i e3 t3 ; alike i e4 t4 ; alike i e5 t5 ; if t1 v1 m2 n ; if t2 v2 m3 m2 ; if t3 v3 m4 m3 ; if t4 v4 m5 m4 ; if t5 v5 v6 m5",
+    "define table7 i n e1 v1 e2 v2 e3 v3 e4 v4 e5 v5 e6 v6 e7 v7 = local t1 truth ; local t2 truth ; local t3 truth ; local t4 truth ; local t5 truth ; local t6 truth ; local m2 like n ; local m3 like n ; local m4 like n ; local m5 like n ; local m6 like n ; alike i e1 t1 ; alike i e2 t2 ; alike i e3 t3 ; alike i e4 t4 ; alike i e5 t5 ; alike i e6 t6 ; if t1 v1 m2 n ; if t2 v2 m3 m2 ; if t3 v3 m4 m3 ; if t4 v4 m5 m4 ; if t5 v5 m6 m5 ; if t6 v6 v7 m6",
+    "define table8 i n e1 v1 e2 v2 e3 v3 e4 v4 e5 v5 e6 v6 e7 v7 e8 v8 = local t1 truth ; local t2 truth ; local t3 truth ; local t4 truth ; local t5 truth ; local t6 truth ; local t7 truth ; local m2 like n ; local m3 like n ; local m4 like n ; local m5 like n ; local m6 like n ; local m7 like n ; alike i e1 t1 ; alike i e2 t2 ; alike i e3 t3 ; alike i e4 t4 ; alike i e5 t5 ; alike i e6 t6 ; alike i e7 t7 ; if t1 v1 m2 n ; if t2 v2 m3 m2 ; if t3 v3 m4 m3 ; if t4 v4 m5 m4 ; if t5 v5 m6 m5 ; if t6 v6 m7 m6 ; if t7 v7 v8 m7",
     "define apart s l u m = local e span ; local f span ; local p truth ; local q truth ; local v truth ; local w truth ; sum s l e ; sum u m f ; less u e p ; less s f q ; not p v ; not q w ; passer p v q ; passer q w p",
     "define soft_sum t x y z = local x1 span ; local y1 span ; local z1 span ; gate t x x1 ; gate t y y1 ; gate t z z1 ; sum x1 y1 z1",
     "define soft_product t x y z = local x1 span ; local y1 span ; local z1 span ; gate t x x1 ; gate t y y1 ; gate t z z1 ; product x1 y1 z1 by *",
@@ -47,8 +54,8 @@ pub const PRELUDE: [&'static str; 41] = [
     "define soft_link t x y = local x1 like x ; local y1 like y ; gate t x x1 ; gate t y y1 ; link x1 y1 by *",
 ];
 
-/// The definitions over those and the procedures `excluder1` to `excluder7`, which tell what is left
-/// of a value that differs from others.
+/// The definitions over those and the procedures `excluder1` to `excluder7`, which tell what is
+/// left of a value that differs from others.
 pub const DIFFERENT: [&'static str; 14] = [
     "define different2 a b = excluder1 a b a ; excluder1 b a b",
     "define different3 a b c = excluder2 a b c a ; excluder2 b a c b ; excluder2 c a b c",

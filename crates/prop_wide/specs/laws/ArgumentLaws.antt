@@ -44,7 +44,8 @@ two_sound f related h any args points point ps k e r = search rules
 pub at_a_scale_below : (f : ℤ → List Info → Info)
     → ((k : ℤ) → is_scale k ≡ true → (olds news : List Info) → EachBelow olds news
     → AreClear news → Below (f k olds) (f k news)) → (param : Param) (olds news : List Info)
-    → EachBelow olds news → AreClear news → Below (at_a_scale f param olds) (at_a_scale f param news)
+    → EachBelow olds news → AreClear news → Below (at_a_scale f param olds)
+    (at_a_scale f param news)
 at_a_scale_below f h Plain olds news p n = tt
 at_a_scale_below f h (Rows m) olds news p n = tt
 at_a_scale_below f h (Scale k) olds news p n = by (is_scale k) refl

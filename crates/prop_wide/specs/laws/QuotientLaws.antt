@@ -1,6 +1,6 @@
 -- The laws of quotients that are rounded down, and of what they leave.
-use Rattle.std.specs.Prelude.{◌≡◌, ◌≢◌, ℤ, pos, neg_ℤ, ◌+ℤ◌, ◌-ℤ◌, ◌*ℤ◌, ◌≤ℤ◌, ◌<ℤ◌, ◌⊎◌, Bool, true}
-use Rattle.std.specs.Prelude.{false, ◌&&◌, int_le, int_lt, if◌then◌else◌}
+use Rattle.std.specs.Prelude.{◌≡◌, ◌≢◌, ℤ, pos, neg_ℤ, ◌+ℤ◌, ◌-ℤ◌, ◌*ℤ◌, ◌≤ℤ◌, ◌<ℤ◌, Bool, true}
+use Rattle.std.specs.Prelude.{false, int_le, int_lt, if◌then◌else◌}
 use Rattle.std.specs.Int.{int_max, int_min}
 use Rattle.std.proofs.Common.{arith, refl, inl, inr, ap, sym, ◌∙◌}
 use Rattle.std.proofs.lemmas.Int.{ints, clamps, by_lt_z}
@@ -25,7 +25,7 @@ use Rattle.prop_wide.specs.Quotients.{IsQuotient, IsRemainder, least_quotient, g
 use Rattle.prop_wide.specs.Quotients.{quotients_of, quotient_of, is_zero, remainder_of}
 use Rattle.prop_wide.specs.Quotients.{divisors_above}
 use Rattle.prop_wide.specs.Quotients.{divisors_below, divisor_of}
-use Rattle.prop_wide.specs.laws.EndLaws.{AreOrdered, AreWithin, IsBetween, ends_ordered}
+use Rattle.prop_wide.specs.laws.EndLaws.{AreWithin, IsBetween}
 use Rattle.prop_wide.specs.laws.EndLaws.{ends_within, held_between, known_below, known_kind}
 use Rattle.prop_wide.specs.laws.EndLaws.{known_holds, part_below, part_holds, both_from}
 use Rattle.prop_wide.specs.laws.EndLaws.{both_to, part_kind}
@@ -71,7 +71,8 @@ least_under lo c d u v p q r h = by (int_le (pos 0) lo) refl
     by : (t : Bool) → int_le (pos 0) lo ≡ t
         → ((if t then int_div_floor lo d else int_div_floor lo c) *ℤ v) ≤ℤ u
     by true e = through _ (int_div_floor lo d *ℤ d) u
-        (grows_by (int_div_floor lo d) v d (floor_not_below lo d (omega (arith, ints)) (omega (arith, ints))) r)
+        (grows_by (int_div_floor lo d) v d (floor_not_below lo d (omega (arith, ints)) (omega
+        (arith, ints))) r)
         (through _ lo u (floor-parts lo d (omega (arith, ints))).0 h)
     by false e = through _ (int_div_floor lo c *ℤ c) u
         (falls_by (int_div_floor lo c) c v (floor_not_above lo c p (omega (arith, ints))) q)
@@ -203,7 +204,8 @@ quotient_sound x y u v w h k r s t e = narrowed_holds _ (Number w) (by e)
     above = quotients_of (low_of x) (high_of x) (int_max (low_of y) (pos 1)) (high_of y)
 
     below : Info
-    below = quotients_of (neg_ℤ (high_of x)) (neg_ℤ (low_of x)) (int_max (neg_ℤ (high_of y)) (pos 1))
+    below = quotients_of (neg_ℤ (high_of x)) (neg_ℤ (low_of x)) (int_max (neg_ℤ (high_of y))
+        (pos 1))
         (neg_ℤ (low_of y))
 
     from_one : (l v : ℤ) → l ≤ℤ v → pos 0 <ℤ v → int_max l (pos 1) ≤ℤ v

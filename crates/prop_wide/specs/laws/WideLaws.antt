@@ -3,7 +3,7 @@ use Rattle.std.specs.Prelude.{◌≡◌, List, [], ◌∷◌}
 use Rattle.std.specs.Int.{int_max, int_min}
 use Rattle.std.proofs.Common.{rules}
 use Rattle.prop_lattice.specs.Order.{Below}
-use Rattle.prop_lattice.specs.Points.{Point, Number, Element, Symbol, Holds, IsPointOf}
+use Rattle.prop_lattice.specs.Points.{Point, Number, Element, Holds, IsPointOf}
 use Rattle.prop_lattice.specs.Rank.{IsOf}
 use Rattle.prop_lattice.specs.declared.info.Info.{Info}
 use Rattle.prop_lattice.specs.declared.info.Kind.TheVariants as kinds
@@ -139,7 +139,8 @@ count_back_sound : (any : Shape → Kinded) (ins : List Shape) (param : Param) (
 count_back_sound any (s ∷ ins) param (n ∷ others) (Number v ∷ points) (Element t) f ps k e r =
     by (rw f.0 at ps.0)
   where
-    by : IsPointOf kinds.Span 0 (Number v) → Holds (value_of CountBack param (n ∷ others)) (Element t)
+    by : IsPointOf kinds.Span 0 (Number v) → Holds (value_of CountBack param (n ∷ others))
+        (Element t)
     by i = count_back_holds any ins n others v points t f.1 ps.1 i k e.0 e.1 r
 count_back_sound any ins param args points point f ps k e r = search rules
 

@@ -49,19 +49,44 @@ returns-clause-formed c = all_from IsFormed in_order (
                                           (
                                             record { has_inputs = (refl, refl); some = omega arith; few = omega arith },
                                             (
-                                              record { has_inputs = (refl, refl); some = omega arith; few = omega arith },
+                                              record {
+                                                has_inputs = (refl, refl);
+                                                some = omega arith;
+                                                few =
+                                                    omega arith;
+                                              },
                                               (
-                                                record { has_inputs = (refl, refl); some = omega arith; few = omega arith },
+                                                record {
+                                                  has_inputs = (refl, refl);
+                                                  some = omega arith;
+                                                  few =
+                                                      omega arith;
+                                                },
                                                 (
                                                   record { has_inputs = refl; some = omega arith; few = omega arith },
                                                   (
                                                     record { has_inputs = refl; some = omega arith; few = omega arith },
                                                     (
-                                                      record { has_inputs = refl; some = omega arith; few = omega arith },
+                                                      record {
+                                                        has_inputs = refl;
+                                                        some = omega arith;
+                                                        few =
+                                                            omega arith;
+                                                      },
                                                       (
-                                                        record { has_inputs = refl; some = omega arith; few = omega arith },
+                                                        record {
+                                                          has_inputs = refl;
+                                                          some = omega arith;
+                                                          few =
+                                                              omega arith;
+                                                        },
                                                         (
-                                                          record { has_inputs = refl; some = omega arith; few = omega arith },
+                                                          record {
+                                                            has_inputs = refl;
+                                                            some = omega arith;
+                                                            few =
+                                                                omega arith;
+                                                          },
                                                           (
                                                               tt),
                                                         ),
