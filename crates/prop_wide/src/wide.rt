@@ -5,6 +5,8 @@ ghost use Rattle.prop_procedures.specs.declared.shape.Shape.TheVariants.{Span};
 ghost use Rattle.prop_wide.specs.Wide.{FormOf, HasInputs, is_truth, need_of, out_of};
 ghost use Rattle.prop_wide.specs.Points.{Related};
 ghost use Rattle.prop_wide.specs.Values.{value_of};
+ghost use Rattle.prop_wide.specs.Narrowest.{MaxIsNarrowest, MaxBackIsNarrowest};
+ghost use Rattle.prop_wide.specs.Narrowest.{MinIsNarrowest, MinBackIsNarrowest, AbsIsNarrowest};
 ghost use Rattle.prop_wide.specs.laws.WideLaws.{wide_monotone, wide_keeps_kind, wide_sound};
 
 use crate::choices::{chooser, decider};
@@ -113,6 +115,16 @@ impl Wide {
             _ => Need::Nothing,
         }
     }
+
+    /// Of whatever is known of their inputs, these rules answer the narrowest information that holds
+    /// each number that belongs to numbers of those.
+    pub fn narrowest()
+        ensures max { MaxIsNarrowest }
+        ensures max_back { MaxBackIsNarrowest }
+        ensures min { MinIsNarrowest }
+        ensures min_back { MinBackIsNarrowest }
+        ensures abs { AbsIsNarrowest }
+    {}
 
     /// What the rule answers, `Info::Nothing` where the parameter is none that it needs or the
     /// arguments are not as many as its inputs.
