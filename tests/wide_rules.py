@@ -15,10 +15,10 @@ import re
 import sys
 from dataclasses import dataclass
 from itertools import product
-from typing import Callable, Iterable, Iterator, Optional, Union
+from typing import Any, Callable, Iterable, Iterator, Optional, Union
 
+import rules
 from case import Case
-from rules import Ends, Sheet, spans, subsets, text_of
 
 TOP = os.path.dirname(os.path.dirname(os.path.realpath(__file__)))
 BOUND = 10**18
@@ -26,10 +26,24 @@ BOUND = 10**18
 Point = Union[int, str]
 Info = Optional[frozenset[Point]]
 Points = Iterable[Point]
+# An information that is answered: a span by its two ends.
+Answer = Union[Info, tuple[int, int]]
+
+# (rules.py has no types)
+Sheet: Any = rules.Sheet
+Ends: Any = rules.Ends
+text_of: Callable[[Answer], str] = rules.text_of
+spans: Callable[[int], list[Info]] = rules.spans
+subsets: Callable[[list[str]], list[frozenset[Point]]] = rules.subsets
 
 NUMBERS = [-BOUND, 1 - BOUND, *range(-30, 31), BOUND - 1, BOUND]
 TRUTHS, ELEMENTS, SYMBOLS = ["yes", "no"], ["e", "f", "g"], ["red", "blue"]
-ALL: dict[str, list[Point]] = {"span": [*NUMBERS], "truth": [*TRUTHS], "d": [*ELEMENTS], "symbol": [*SYMBOLS]}
+ALL: dict[str, list[Point]] = {
+    "span": [*NUMBERS],
+    "truth": [*TRUTHS],
+    "d": [*ELEMENTS],
+    "symbol": [*SYMBOLS],
+}
 CLASH: frozenset[Point] = frozenset()
 
 
@@ -45,7 +59,7 @@ class Rule:
     outputs: Callable[..., Points]
     parameter: str = ""
 
-    def answer(self, inputs: tuple[Info, ...]) -> Info:
+    def answer(self, inputs: tuple[Info, ...]) -> Answer:
         """The narrowest information that holds each output, None where that is nothing."""
         *ins, out = self.kinds.split()
         left = [ALL[kind] if info is None else info for kind, info in zip(ins, inputs)]
@@ -71,12 +85,14 @@ class Rule:
         yield sheet.case(title)
 
 
-def narrowest(kind: str, found: frozenset[Point]) -> Info:
+def narrowest(kind: str, found: frozenset[Point]) -> Answer:
     """The information that a cell of the kind can have, where it may be any of these points."""
     if kind == "span" and found:
         numbers = [it for it in found if isinstance(it, int)]
         ends = (min(numbers), max(numbers))
-        return None if ends == (-BOUND, BOUND) else frozenset(numbers) if ends[0] == ends[1] else Ends(ends)
+        if ends == (-BOUND, BOUND):
+            return None
+        return found if len(numbers) == 1 else Ends(ends)
     if kind == "truth" and len(found) == 2:
         return None
     return None if kind == "symbol" and len(found) > 1 else found
@@ -148,7 +164,14 @@ OPEN: list[Info] = [frozenset(["yes"]), None]
 
 
 def counts(most: int) -> list[Info]:
-    return [None, *[frozenset(range(low, high + 1)) for low in range(-1, most + 2) for high in range(low, most + 2)]]
+    return [
+        None,
+        *[
+            frozenset(range(low, high + 1))
+            for low in range(-1, most + 2)
+            for high in range(low, most + 2)
+        ],
+    ]
 
 
 RULES = [
@@ -166,10 +189,27 @@ RULES = [
     Rule("decider", "symbol symbol symbol truth", (SYMBOL, SYMBOL, SYMBOL), decided),
     *[Rule(f"counter{n}", "truth " * n + "span", (TRUTH,) * n, counted) for n in (1, 2, 3)],
     *[Rule(f"counter{n}", "truth " * n + "span", (OPEN,) * n, counted) for n in (4, 5, 6, 7, 8)],
-    *[Rule(f"count_back{n}", "span " + "truth " * n, (counts(n), *(TRUTH,) * (n - 1)), last_of) for n in (1, 2, 3)],
-    *[Rule(f"count_back{n}", "span " + "truth " * n, ([frozenset([1]), frozenset([n]), None], *(OPEN,) * (n - 1)), last_of) for n in range(4, 9)],
-    *[Rule("scaled_squarer", "span span", (spans(8),), squares(k), f" by {k}") for k in (1, 2, 3, 10)],
-    *[Rule("scaled_rooter", "span span span", (spans(5), some(4)), roots(k), f" by {k}") for k in (1, 2, 3, 10)],
+    *[
+        Rule(f"count_back{n}", "span " + "truth " * n, (counts(n), *(TRUTH,) * (n - 1)), last_of)
+        for n in (1, 2, 3)
+    ],
+    *[
+        Rule(
+            f"count_back{n}",
+            "span " + "truth " * n,
+            ([frozenset([1]), frozenset([n]), None], *(OPEN,) * (n - 1)),
+            last_of,
+        )
+        for n in range(4, 9)
+    ],
+    *[
+        Rule("scaled_squarer", "span span", (spans(8),), squares(k), f" by {k}")
+        for k in (1, 2, 3, 10)
+    ],
+    *[
+        Rule("scaled_rooter", "span span span", (spans(5), some(4)), roots(k), f" by {k}")
+        for k in (1, 2, 3, 10)
+    ],
     Rule("quotienter", "span span span", (some(4), some(3)), quotients),
     Rule("remainderer", "span span", (some(5),), remainders),
     Rule("divisor_back", "span span span", (some(3), some(3)), divisors),
@@ -194,11 +234,17 @@ def example(name: str, cells: str, stated: str, answer: str) -> Case:
     word = name.strip("`").split(" ")[0]
     kinds = [it.rsplit(" ", 1) for it in cells.split(", ")]
     names = " ".join(cell for cell, _ in kinds)
-    lines = ["domain d p q r s", "relation r d d = p q ; p r", *(f"cell {cell} {KINDS[kind]}" for cell, kind in kinds)]
+    lines = [
+        "domain d p q r s",
+        "relation r d d = p q ; p r",
+        *(f"cell {cell} {KINDS[kind]}" for cell, kind in kinds),
+    ]
     lines.append(f"attach {word} {names}{by[0].strip('`') if by else ''}")
     lines += [f"fix {it.replace(' = ', ' ')}" for it in stated.split(", ") if it]
     lines.append(f"ask {answer.split(' = ')[0]}" if " = " in answer else "settle")
-    wanted = ["ok"] * (len(lines) - 1) + [answer if " = " in answer else "contradiction: no premise"]
+    wanted = ["ok"] * (len(lines) - 1) + [
+        answer if " = " in answer else "contradiction: no premise"
+    ]
     sent, replies = ("".join(line + "\n" for line in it).encode() for it in (lines, wanted))
     return Case(f"wide rules: {word}: {stated}: {answer}", sent, replies)
 
@@ -220,7 +266,8 @@ def main(words: list[str]) -> int:
         return 0 if words == ["--help"] else 2
     passed = failed = 0
     for case in cases():
-        wrong = case.wrong(os.path.abspath(words[0]))
+        look: Callable[[str], Optional[str]] = case.wrong
+        wrong = look(os.path.abspath(words[0]))
         if wrong:
             failed += 1
             print(f"{case.name}: {wrong}")
