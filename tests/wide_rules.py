@@ -1,6 +1,6 @@
 #!/usr/bin/python3
-"""Each rule beside the kit's on small informations, against plain enumeration of points, and the
-examples of docs/WIDE.md.
+"""Each rule beside the kit's on small informations, and compounds of the prelude on drawn ones,
+against plain enumeration of points, and the examples of docs/WIDE.md.
 
 usage: tests/wide_rules.py PROGRAM
 
@@ -15,6 +15,7 @@ import re
 import sys
 from dataclasses import dataclass
 from itertools import product
+from random import Random
 from typing import Any, Callable, Iterable, Iterator, Optional, Union
 
 import rules
@@ -215,6 +216,123 @@ RULES = [
     Rule("divisor_back", "span span span", (some(3), some(3)), divisors),
 ]
 
+# ---- compounds
+
+
+@dataclass(frozen=True)
+class Compound:
+    """A compound of the prelude with the kinds of its cells, and whether points belong together."""
+
+    name: str
+    kinds: str
+    belong: Callable[..., Any]
+    parameter: str = ""
+
+    def drawn(self, chance: Random, single: bool) -> list[frozenset[Point]]:
+        """An information for each cell, which leaves one point where it has to be single."""
+        drawn: list[frozenset[Point]] = []
+        for kind in self.kinds.split():
+            low = chance.randint(-4, 6)
+            wide = 0 if single else chance.choice([0, 1, 3])
+            number: frozenset[Point] = frozenset(range(low, low + wide + 1))
+            some = 1 if single else chance.choice([1, 2])
+            truth: frozenset[Point] = frozenset(chance.sample(TRUTHS, some))
+            drawn.append(number if kind == "span" else truth)
+        return drawn
+
+    def case(self, title: str, infos: list[frozenset[Point]]) -> Case:
+        """A session that asks for each cell. No point that belongs there may be left out; and where
+        each cell is one point, it is a contradiction just where these don't belong together.
+        """
+        cells = [f"c{at}" for at in range(len(infos))]
+        lines = [f"cell {cell} {kind}" for cell, kind in zip(cells, self.kinds.split())]
+        lines.append(f"attach {self.name} {' '.join(cells)}{self.parameter}")
+        lines += [f"fix {cell} {text_of(info)}" for cell, info in zip(cells, infos)]
+        lines += [f"ask {cell}" for cell in cells]
+        found = [points for points in product(*infos) if self.belong(*points)]
+        single = all(len(info) == 1 for info in infos)
+
+        def wrong(output: bytes) -> Optional[str]:
+            told = output.decode().splitlines()[-len(cells) :]
+            if any(it.startswith("contradiction") for it in told):
+                return f"it tells a contradiction where {found[0]} fits" if found else None
+            if single and not found:
+                return f"it tells no contradiction: {told}"
+            for at, answer in enumerate(told):
+                for points in found:
+                    if not is_in(points[at], answer.removeprefix(f"c{at} = ")):
+                        return f"{answer}, where {points} fits"
+            return None
+
+        return Case(f"{title}: {'; '.join(lines)}", as_bytes(lines), wrong)
+
+    def cases(self) -> Iterator[Case]:
+        chance = Random(self.name)
+        for at in range(DRAWN):
+            yield self.case(f"wide rules: {self.name} {at}", self.drawn(chance, at % 2 == 0))
+
+
+def as_bytes(lines: list[str]) -> bytes:
+    return "".join(line + "\n" for line in lines).encode()
+
+
+def is_in(point: Point, answer: str) -> bool:
+    """Whether an answer leaves a point."""
+    if isinstance(point, str) or answer == "nothing":
+        return answer == "nothing" or point in answer.strip("{}").split(" ")
+    low, _, high = answer.partition("..")
+    return int(low) <= point <= int(high or low)
+
+
+def apart(s: int, l: int, u: int, m: int) -> bool:
+    return not (u < s + l and s < u + m)
+
+
+def divided(x: int, y: int, q: int, r: int) -> bool:
+    return y != 0 and (q, r) == divmod(x, y)
+
+
+def soft(belong: Callable[..., Any]) -> Callable[..., Any]:
+    return lambda t, *points: t == "no" or belong(*points)
+
+
+def softened(compound: Compound) -> Compound:
+    kinds = f"truth {compound.kinds}"
+    return Compound(f"soft_{compound.name}", kinds, soft(compound.belong), compound.parameter)
+
+
+S2, S3, S4 = "span span", "span span span", "span span span span"
+HARD = [
+    Compound("max", S3, lambda x, y, z: z == max(x, y)),
+    Compound("min", S3, lambda x, y, z: z == min(x, y)),
+    Compound("abs", S2, lambda x, y: y == abs(x)),
+    Compound("if", f"truth {S3}", lambda t, a, b, o: o == (a if t == "yes" else b)),
+    Compound("scaled_square", S2, lambda x, y: 3 * (y - 1) < x * x < 3 * (y + 1), " by 3"),
+    Compound("quotient", S3, lambda x, y, q: y != 0 and q == x // y),
+    Compound("remainder", S3, lambda x, y, r: y != 0 and r == x % y),
+    Compound("atmost", S2, lambda x, y: x <= y),
+    Compound("between", S3, lambda x, a, b: a <= x <= b),
+    Compound("before", S3, lambda s, l, u: s + l <= u),
+    Compound("apart", S4, apart),
+]
+COMPOUNDS = [
+    *HARD,
+    *map(softened, HARD),
+    softened(Compound("sum", S3, lambda x, y, z: z == x + y)),
+    softened(Compound("product", S3, lambda x, y, z: z == x * y)),
+    softened(Compound("square", S2, lambda x, y: y == x * x)),
+    softened(Compound("less", f"{S2} truth", lambda x, y, u: (u == "yes") == (x < y))),
+    softened(Compound("alike", f"{S2} truth", lambda x, y, u: (u == "yes") == (x == y))),
+    softened(Compound("not", "truth truth", lambda x, y: x != y)),
+    Compound("divide", S4, divided),
+    Compound("gate", f"truth {S2}", lambda t, x, y: t == "no" or x == y),
+    *[
+        Compound(f"count{n}", "truth " * n + "span", lambda *it: it[:-1].count("yes") == it[-1])
+        for n in range(1, 9)
+    ],
+]
+DRAWN = 100
+
 # ---- the examples of the page
 
 KINDS = {"S": "span", "T": "truth", "A": "d"}
@@ -257,6 +375,8 @@ def examples() -> Iterator[Case]:
 def cases() -> Iterator[Case]:
     for rule in RULES:
         yield from rule.cases()
+    for compound in COMPOUNDS:
+        yield from compound.cases()
     yield from examples()
 
 

@@ -8,8 +8,9 @@ use Rattle.prop_lattice.specs.declared.info.Info.{Info}
 use Rattle.prop_lattice.specs.declared.info.Info.TheVariants.{Span, Contradiction}
 use Rattle.prop_lattice.specs.declared.info.Kind.TheVariants as kinds
 use Rattle.prop_lattice.specs.declared.span.Span as spans
-use Rattle.prop_wide.specs.Distances.{IsDistance, abs_of}
+use Rattle.prop_wide.specs.Distances.{IsDistance, abs_of, abs_back_of}
 use Rattle.prop_wide.specs.Extremes.{max_of, max_back_of, min_of, min_back_of}
+use Rattle.prop_wide.specs.Quotients.{IsQuotient, quotient_of}
 
 -- r leaves each number in range of which P is true, and no number that is left out by a span which
 -- has all of those
@@ -59,3 +60,9 @@ MinBackIsNarrowest = TwoIsNarrowest min_back_of (λ z y x. z ≡ int_min x y)
 
 abbrev pub AbsIsNarrowest : Type 0
 AbsIsNarrowest = OneIsNarrowest abs_of IsDistance
+
+abbrev pub AbsBackIsNarrowest : Type 0
+AbsBackIsNarrowest = TwoIsNarrowest abs_back_of (λ y x v. (v ≡ x) × IsDistance x y)
+
+abbrev pub QuotientIsNarrowest : Type 0
+QuotientIsNarrowest = TwoIsNarrowest quotient_of IsQuotient

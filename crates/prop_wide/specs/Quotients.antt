@@ -34,7 +34,8 @@ abbrev pub greatest_quotient : ℤ → ℤ → ℤ → ℤ
 greatest_quotient hi first last =
     if int_le (pos 0) hi then int_div_floor hi first else int_div_floor hi last
 
--- the quotients of the numbers from lo to hi by those from first to last, where these are above zero
+-- the quotients of the numbers from lo to hi by those from first to last, where these are above
+-- zero
 unfoldable pub quotients_of : ℤ → ℤ → ℤ → ℤ → Info
 quotients_of lo hi first last =
     if int_lt last first then Contradiction

@@ -7,6 +7,7 @@ ghost use Rattle.prop_wide.specs.Points.{Related};
 ghost use Rattle.prop_wide.specs.Values.{value_of};
 ghost use Rattle.prop_wide.specs.Narrowest.{MaxIsNarrowest, MaxBackIsNarrowest};
 ghost use Rattle.prop_wide.specs.Narrowest.{MinIsNarrowest, MinBackIsNarrowest, AbsIsNarrowest};
+ghost use Rattle.prop_wide.specs.Narrowest.{AbsBackIsNarrowest, QuotientIsNarrowest};
 ghost use Rattle.prop_wide.specs.laws.WideLaws.{wide_monotone, wide_keeps_kind, wide_sound};
 
 use crate::choices::{chooser, decider};
@@ -116,14 +117,16 @@ impl Wide {
         }
     }
 
-    /// Of whatever is known of their inputs, these rules answer the narrowest information that holds
-    /// each number that belongs to numbers of those.
+    /// Of whatever is known of their inputs, these rules answer the narrowest information that
+    /// holds each number that belongs to numbers of those.
     pub fn narrowest()
         ensures max { MaxIsNarrowest }
         ensures max_back { MaxBackIsNarrowest }
         ensures min { MinIsNarrowest }
         ensures min_back { MinBackIsNarrowest }
         ensures abs { AbsIsNarrowest }
+        ensures abs_back { AbsBackIsNarrowest }
+        ensures quotient { QuotientIsNarrowest }
     {}
 
     /// What the rule answers, `Info::Nothing` where the parameter is none that it needs or the

@@ -136,7 +136,7 @@ quotients_below lo hi c d lo' hi' c' d' z p q r s = by (int_lt d c) refl (int_lt
         high false = greatest_over hi c d hi' d' (int_div_floor hi' d') z (omega (arith, ints)) s q
             (floor-parts hi' d' (omega (arith, ints))).0
 
-quotients_kind : (lo hi c d : ℤ) → IsOf kinds.Span 0 (quotients_of lo hi c d)
+pub quotients_kind : (lo hi c d : ℤ) → IsOf kinds.Span 0 (quotients_of lo hi c d)
 unfolding quotients_of
 quotients_kind lo hi c d = by (int_lt d c)
   where
@@ -145,7 +145,7 @@ quotients_kind lo hi c d = by (int_lt d c)
     by true = tt
     by false = clip_of_span 0 _ _
 
-quotients_hold : (lo hi c d u v w : ℤ) → pos 0 <ℤ c → lo ≤ℤ u → u ≤ℤ hi → c ≤ℤ v → v ≤ℤ d
+pub quotients_hold : (lo hi c d u v w : ℤ) → pos 0 <ℤ c → lo ≤ℤ u → u ≤ℤ hi → c ≤ℤ v → v ≤ℤ d
     → IsInRange w → (w *ℤ v) ≤ℤ u → u <ℤ ((w *ℤ v) +ℤ v)
     → Holds (quotients_of lo hi c d) (Number w)
 unfolding quotients_of
@@ -163,7 +163,7 @@ quotients_hold lo hi c d u v w z p q r s i h k = by (int_lt d c) refl
 at_least_one : (a b : ℤ) → a ≤ℤ b → int_max a (pos 1) ≤ℤ int_max b (pos 1)
 at_least_one a b p = omega (arith, ints, clamps)
 
-one_above : (a : ℤ) → pos 0 <ℤ int_max a (pos 1)
+pub one_above : (a : ℤ) → pos 0 <ℤ int_max a (pos 1)
 one_above a = omega (arith, ints, clamps)
 
 turned : (a b : ℤ) → a ≤ℤ b → neg_ℤ b ≤ℤ neg_ℤ a
