@@ -44,7 +44,7 @@ def first_lines() -> Optional[str]:
 
 
 TYPED_TESTS = ["documents", "driver", "first_start", "gate", "lines", "package", "pages", "peers"]
-TYPED_TESTS += ["pipe", "puzzles", "scripts", "searches"]
+TYPED_TESTS += ["pipe", "puzzles", "scripts", "searches", "wide_rules"]
 # Scripts and modules that are typed and laid out by black, by the folder that they are looked at in.
 TYPED = {
     "tools/start": ["*.py", "../../propbench"],

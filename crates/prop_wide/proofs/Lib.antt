@@ -1,1 +1,2 @@
 pub mod SameEnds
+pub mod Tables

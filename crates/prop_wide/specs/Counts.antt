@@ -2,7 +2,7 @@
 use Rattle.std.specs.Prelude.{Bool, ℕ, ◌+◌, ℤ, pos, List, [], ◌∷◌, length, filter, not, cond}
 use Rattle.std.specs.Prelude.{◌==◌, ◌&&◌, int_le}
 use Rattle.prop_intervals.specs.Clip.{clip}
-use Rattle.prop_lattice.specs.Points.{Point, Number, Element, Symbol}
+use Rattle.prop_lattice.specs.Points.{Point, Element}
 use Rattle.prop_lattice.specs.declared.info.Info.{Info}
 use Rattle.prop_sets.specs.Truth.{leaves}
 use Rattle.prop_wide.specs.Ends.{low_of, high_of}

@@ -1,5 +1,5 @@
 -- The larger and the smaller of two numbers.
-use Rattle.std.specs.Prelude.{ℤ, neg_ℤ, int_lt, if◌then◌else◌}
+use Rattle.std.specs.Prelude.{neg_ℤ, int_lt, if◌then◌else◌}
 use Rattle.std.specs.Int.{int_max, int_min}
 use Rattle.prop_lattice.specs.declared.span.TheConstants.{B}
 use Rattle.prop_lattice.specs.declared.info.Info.{Info}

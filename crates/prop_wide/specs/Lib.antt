@@ -10,4 +10,7 @@ pub mod Counts
 pub mod Wide
 pub mod Values
 pub mod Points
+pub mod Narrowest
+pub mod Procedures
+pub mod Prelude
 pub mod laws

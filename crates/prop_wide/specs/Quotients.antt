@@ -1,6 +1,6 @@
 -- Quotients that are rounded down, and what they leave.
-use Rattle.std.specs.Prelude.{Bool, ℤ, pos, neg_ℤ, ◌+ℤ◌, ◌-ℤ◌, ◌*ℤ◌, ◌≤ℤ◌, ◌<ℤ◌, ◌⊎◌, ◌&&◌, int_le, int_lt}
-use Rattle.std.specs.Prelude.{if◌then◌else◌}
+use Rattle.std.specs.Prelude.{Bool, ℤ, pos, neg_ℤ, ◌+ℤ◌, ◌-ℤ◌, ◌*ℤ◌, ◌≤ℤ◌, ◌<ℤ◌, ◌⊎◌, ◌&&◌, int_le}
+use Rattle.std.specs.Prelude.{int_lt, if◌then◌else◌}
 use Rattle.std.specs.Int.{int_max, int_min}
 use Rattle.prop_intervals.specs.Clip.{clip}
 use Rattle.prop_intervals.specs.Quotients.{int_div_floor}
@@ -34,7 +34,8 @@ abbrev pub greatest_quotient : ℤ → ℤ → ℤ → ℤ
 greatest_quotient hi first last =
     if int_le (pos 0) hi then int_div_floor hi first else int_div_floor hi last
 
--- the quotients of the numbers from lo to hi by those from first to last, where these are above zero
+-- the quotients of the numbers from lo to hi by those from first to last, where these are above
+-- zero
 unfoldable pub quotients_of : ℤ → ℤ → ℤ → ℤ → Info
 quotients_of lo hi first last =
     if int_lt last first then Contradiction

@@ -32,4 +32,5 @@ greatest_square k y = ((high_of y +ℤ pos 1) *ℤ k) -ℤ pos 1
 abbrev pub root_of : ℤ → Info → Info → Info
 root_of k y x =
     if int_lt (greatest_square k y) (pos 0) then Contradiction
-    else at_distance x (pos (least_root (least_square k y))) (pos (greatest_root (greatest_square k y)))
+    else at_distance x (pos (least_root (least_square k y)))
+    (pos (greatest_root (greatest_square k y)))

@@ -4,11 +4,12 @@ use Rattle.std.specs.List.{list_all}
 use Rattle.prop_procedures.specs.declared.shape.Shape.{Shape}
 use Rattle.prop_procedures.specs.declared.shape.Shape.TheVariants.{Span, Truth, Any}
 use Rattle.prop_procedures.specs.declared.shape.Need.{Need}
-use Rattle.prop_procedures.specs.declared.shape.Need.TheVariants.{Nothing}
+use Rattle.prop_procedures.specs.declared.shape.Need.TheVariants.{Nothing, Scale}
 use Rattle.prop_wide.specs.declared.wide.Wide as wides
 use Rattle.prop_wide.specs.declared.wide.Wide.TheVariants.{Max, MaxBack, Min, MinBack, Abs}
 use Rattle.prop_wide.specs.declared.wide.Wide.TheVariants.{AbsBack, Choose, Decide, Count}
-use Rattle.prop_wide.specs.declared.wide.Wide.TheVariants.{CountBack}
+use Rattle.prop_wide.specs.declared.wide.Wide.TheVariants.{CountBack, Square, Root, Quotient}
+use Rattle.prop_wide.specs.declared.wide.Wide.TheVariants.{Remainder, Divisor}
 
 -- the shape is that of truths
 abbrev pub is_truth : Shape → Bool
@@ -36,6 +37,11 @@ HasInputs Choose ins = ins ≡ Truth ∷ Any 0 ∷ Any 0 ∷ []
 HasInputs Decide ins = ins ≡ Any 0 ∷ Any 0 ∷ Any 0 ∷ []
 HasInputs Count ins = AreTruths ins
 HasInputs CountBack ins = AreNumberAndTruths ins
+HasInputs Square ins = ins ≡ Span ∷ []
+HasInputs Root ins = ins ≡ Span ∷ Span ∷ []
+HasInputs Quotient ins = ins ≡ Span ∷ Span ∷ []
+HasInputs Remainder ins = ins ≡ Span ∷ []
+HasInputs Divisor ins = ins ≡ Span ∷ Span ∷ []
 
 -- the shape of its output
 abbrev pub out_of : wides.Wide → Shape
@@ -44,6 +50,12 @@ out_of Decide = Truth
 out_of CountBack = Truth
 out_of rule = Span
 
+-- the parameter that it needs
+abbrev pub need_of : wides.Wide → Need
+need_of Square = Scale
+need_of Root = Scale
+need_of rule = Nothing
+
 -- the forms of a rule
 abbrev pub FormOf : wides.Wide → List Shape → Shape → Need → Type 0
-FormOf rule ins out need = HasInputs rule ins × (out ≡ out_of rule) × (need ≡ Nothing)
+FormOf rule ins out need = HasInputs rule ins × (out ≡ out_of rule) × (need ≡ need_of rule)

@@ -9,3 +9,4 @@ pub mod QuotientLaws
 pub mod ChoiceLaws
 pub mod CountLaws
 pub mod WideLaws
+pub mod NarrowestLaws

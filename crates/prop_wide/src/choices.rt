@@ -14,7 +14,11 @@ use prop_lattice::Info;
 pub fn chooser(t: Info, a: Info, b: Info) -> Info
     ensures { result ≡ choose_of t a b }
 {
-    let first = if may_be_yes(t) { a } else { Info::Contradiction };
+    let first = if may_be_yes(t) {
+        a
+    } else {
+        Info::Contradiction
+    };
     let second = if may_be_no(t) { b } else { Info::Contradiction };
     hull(first, second)
 }

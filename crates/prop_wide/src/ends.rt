@@ -49,5 +49,8 @@ pub fn known(lo: i128, hi: i128) -> Info
 pub(crate) fn part_of(x: Info, lo: i128, hi: i128) -> Info
     ensures { result ≡ part_of x lo hi }
 {
-    clipped(i128::from(low_of(x)).max(lo), i128::from(high_of(x)).min(hi))
+    clipped(
+        i128::from(low_of(x)).max(lo),
+        i128::from(high_of(x)).min(hi),
+    )
 }

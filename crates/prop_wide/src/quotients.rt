@@ -87,10 +87,7 @@ pub fn remainderer(y: Info) -> Info
     if is_zero(low, high) {
         return Info::Contradiction;
     }
-    known(
-        i128::from((low + 1).min(0)),
-        i128::from((high - 1).max(0)),
-    )
+    known(i128::from((low + 1).min(0)), i128::from((high - 1).max(0)))
 }
 
 /// The numbers of `y` above zero that may leave `r`.

@@ -71,8 +71,8 @@ fn greatest_square(y: Info, k: i64) -> i128
     scaled(high_of(y) + 1, k) - 1
 }
 
-/// What is known of `x` where `y` is `x * x` in units of `1 / k`, rounded up or down, beside what is
-/// known of it already.
+/// What is known of `x` where `y` is `x * x` in units of `1 / k`, rounded up or down, beside what
+/// is known of it already.
 pub fn rooter(y: Info, x: Info, k: i64) -> Info
     requires { (pos 1 ≤ℤ k) × (k ≤ℤ pos 1_000_000_000) }
     ensures { result ≡ root_of k y x }

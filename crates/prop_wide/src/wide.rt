@@ -1,16 +1,23 @@
 //! The rules: their forms and what they answer.
 ghost use Rattle.std.specs.Prelude.{◌≡◌, ◌↔◌, IsTrue, ◌∷◌, []};
 ghost use Rattle.std.specs.List.{list_all};
-ghost use Rattle.prop_wide.specs.Wide.{FormOf, HasInputs, is_truth, out_of};
+ghost use Rattle.prop_procedures.specs.declared.shape.Shape.TheVariants.{Span};
+ghost use Rattle.prop_wide.specs.Wide.{FormOf, HasInputs, is_truth, need_of, out_of};
 ghost use Rattle.prop_wide.specs.Points.{Related};
 ghost use Rattle.prop_wide.specs.Values.{value_of};
+ghost use Rattle.prop_wide.specs.Narrowest.{MaxIsNarrowest, MaxBackIsNarrowest};
+ghost use Rattle.prop_wide.specs.Narrowest.{MinIsNarrowest, MinBackIsNarrowest, AbsIsNarrowest};
+ghost use Rattle.prop_wide.specs.Narrowest.{AbsBackIsNarrowest, QuotientIsNarrowest};
 ghost use Rattle.prop_wide.specs.laws.WideLaws.{wide_monotone, wide_keeps_kind, wide_sound};
 
 use crate::choices::{chooser, decider};
 use crate::counts::{count_back, counter};
 use crate::distances::{abs_back, absoluter};
 use crate::extremes::{max_back, maximizer, min_back, minimizer};
+use crate::quotients::{divisor_back, quotienter, remainderer};
+use crate::squares::{rooter, squarer};
 use prop_lattice::Info;
+use prop_procedures::fitting::is_scale;
 use prop_procedures::{Need, Param, Rule, Shape};
 
 /// The rules beside the kit's. A rule works in one direction: from its inputs to its output.
@@ -36,6 +43,17 @@ pub enum Wide {
     Count,
     /// From n and other truths to t, where n is how many of all these are `yes`.
     CountBack,
+    /// From x to y, where y is x * x in units of one over the scale, rounded up or down.
+    Square,
+    /// From y, and what is known of x already, to x, where y is x * x in units of one over the
+    /// scale, rounded up or down.
+    Root,
+    /// From x and y to q, where q is x / y rounded down.
+    Quotient,
+    /// From y to r, which a division by y may leave.
+    Remainder,
+    /// From r, and what is known of y already, to y, where a division by y may leave r.
+    Divisor,
 }
 
 /// Whether a shape is that of truths.
@@ -52,16 +70,22 @@ fn are_truths(shapes: &[Shape]) -> bool
     shapes.iter().all(|shape| is_truth(*shape))
 }
 
+/// Whether the shapes are those of two numbers.
+fn is_pair(shapes: &[Shape]) -> bool
+    ensures { IsTrue result ↔ (shapes.now ≡ Span ∷ Span ∷ []) }
+{
+    matches!(shapes, [Shape::Span, Shape::Span])
+}
+
 impl Wide {
     /// Whether the rule may have inputs of these shapes.
     fn takes(self, ins: &[Shape]) -> bool
         ensures { IsTrue result ↔ HasInputs self ins.now }
     {
         match self {
-            Wide::Max | Wide::MaxBack | Wide::Min | Wide::MinBack | Wide::AbsBack => {
-                matches!(ins, [Shape::Span, Shape::Span])
-            }
-            Wide::Abs => matches!(ins, [Shape::Span]),
+            Wide::Max | Wide::MaxBack | Wide::Min | Wide::MinBack => is_pair(ins),
+            Wide::AbsBack | Wide::Root | Wide::Quotient | Wide::Divisor => is_pair(ins),
+            Wide::Abs | Wide::Square | Wide::Remainder => matches!(ins, [Shape::Span]),
             Wide::Choose => matches!(ins, [Shape::Truth, Shape::Any(0), Shape::Any(0)]),
             Wide::Decide => matches!(ins, [Shape::Any(0), Shape::Any(0), Shape::Any(0)]),
             Wide::Count => are_truths(ins),
@@ -82,6 +106,28 @@ impl Wide {
             _ => Shape::Span,
         }
     }
+
+    /// The parameter that it needs.
+    pub fn need(self) -> Need
+        ensures { result ≡ need_of self }
+    {
+        match self {
+            Wide::Square | Wide::Root => Need::Scale,
+            _ => Need::Nothing,
+        }
+    }
+
+    /// Of whatever is known of their inputs, these rules answer the narrowest information that
+    /// holds each number that belongs to numbers of those.
+    pub fn narrowest()
+        ensures max { MaxIsNarrowest }
+        ensures max_back { MaxBackIsNarrowest }
+        ensures min { MinIsNarrowest }
+        ensures min_back { MinBackIsNarrowest }
+        ensures abs { AbsIsNarrowest }
+        ensures abs_back { AbsBackIsNarrowest }
+        ensures quotient { QuotientIsNarrowest }
+    {}
 
     /// What the rule answers, `Info::Nothing` where the parameter is none that it needs or the
     /// arguments are not as many as its inputs.
@@ -126,6 +172,26 @@ impl Wide {
                 [n, others @ ..] => count_back(*n, others),
                 [] => Info::Nothing,
             },
+            Wide::Square => match (param, args) {
+                (Param::Scale(k), [x]) if is_scale(*k) => squarer(*x, *k),
+                _ => Info::Nothing,
+            },
+            Wide::Root => match (param, args) {
+                (Param::Scale(k), [y, x]) if is_scale(*k) => rooter(*y, *x, *k),
+                _ => Info::Nothing,
+            },
+            Wide::Quotient => match args {
+                [x, y] => quotienter(*x, *y),
+                _ => Info::Nothing,
+            },
+            Wide::Remainder => match args {
+                [y] => remainderer(*y),
+                _ => Info::Nothing,
+            },
+            Wide::Divisor => match args {
+                [r, y] => divisor_back(*r, *y),
+                _ => Info::Nothing,
+            },
         }
     }
 }
@@ -138,7 +204,7 @@ impl Rule for Wide {
     ghost related = { Related };
 
     fn has_form(&self, ins: &[Shape], out: Shape, need: Need) -> bool {
-        self.takes(ins) && out == self.out() && need == Need::Nothing
+        self.takes(ins) && out == self.out() && need == self.need()
     }
 
     ghost monotone = { wide_monotone };

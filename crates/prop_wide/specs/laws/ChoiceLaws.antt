@@ -3,7 +3,7 @@ use Rattle.std.specs.Prelude.{◌≡◌, ◌≢◌, ℕ, suc, zero, ◌<◌, ◌
 use Rattle.std.specs.Prelude.{List, [], ◌∷◌}
 use Rattle.std.specs.Int.{bit_at}
 use Rattle.std.specs.Prelude.{if◌then◌else◌}
-use Rattle.std.proofs.Common.{arith, refl, rules, sym, subst, ◌∙◌}
+use Rattle.std.proofs.Common.{arith, refl, rules, sym, subst}
 use Rattle.prop_arith.specs.Comparing.{comparer_of, is_just, is_single}
 use Rattle.prop_arith.specs.laws.Combined.{at_three, told_alike}
 use Rattle.prop_arith.specs.laws.ComparingLaws.{comparer_below, comparer_sound}
@@ -25,7 +25,7 @@ use Rattle.prop_procedures.specs.Rules.{AreOf, ArePointsOf, EachHolds}
 use Rattle.prop_sets.specs.Truth.{leaves}
 use Rattle.prop_sets.specs.laws.NarrowestLaws.{elements_hold}
 use Rattle.prop_wide.specs.Choices.{choose_of, decide_of, agree}
-use Rattle.prop_wide.specs.Points.{IsChosen, RelatesChoice, RelatesDecision}
+use Rattle.prop_wide.specs.Points.{RelatesChoice, RelatesDecision}
 use Rattle.prop_wide.specs.laws.HullLaws.{hull_below, hull_kind, hull_holds_first}
 use Rattle.prop_wide.specs.laws.HullLaws.{hull_holds_second}
 use Rattle.prop_wide.specs.laws.TruthLaws.{leaves_less, held_is_left, told_below, told_kind}

@@ -1,7 +1,8 @@
 -- The laws of counting truths.
-use Rattle.std.specs.Prelude.{◌≡◌, ◌≢◌, ℕ, zero, suc, ◌+◌, ◌≤◌, ◌<◌, ℤ, pos, ◌≤ℤ◌, Bool, true, false}
-use Rattle.std.specs.Prelude.{not, cond, ◌&&◌, ◌==◌, int_le, List, [], ◌∷◌, length, filter}
-use Rattle.std.proofs.Common.{arith, refl, rules, sym}
+use Rattle.std.specs.Prelude.{◌≡◌, ◌≢◌, ℕ, zero, suc, ◌+◌, ◌≤◌, ◌<◌, ℤ, pos, ◌≤ℤ◌, Bool, true}
+use Rattle.std.specs.Prelude.{false}
+use Rattle.std.specs.Prelude.{not, cond, ◌==◌, List, [], ◌∷◌, length, filter}
+use Rattle.std.proofs.Common.{arith, refl, rules}
 use Rattle.std.proofs.lemmas.Int.{ints}
 use Rattle.prop_intervals.specs.laws.ClipLaws.{clip_below, clip_of_span, clip_holds}
 use Rattle.prop_intervals.specs.laws.Relations.{IsInRange}
@@ -15,15 +16,15 @@ use Rattle.prop_procedures.specs.declared.shape.Kinded.{Kinded}
 use Rattle.prop_procedures.specs.declared.shape.Shape.{Shape}
 use Rattle.prop_procedures.specs.declared.shape.Shape.TheVariants.{Truth, Span as SpanShape, Any}
 use Rattle.prop_procedures.specs.declared.shape.Shape.TheVariants.{From, To}
-use Rattle.prop_procedures.specs.Rules.{AreClear, ArePointsOf, EachBelow, EachHolds}
+use Rattle.prop_procedures.specs.Rules.{ArePointsOf, EachBelow, EachHolds}
 use Rattle.prop_sets.specs.Truth.{leaves}
 use Rattle.prop_wide.specs.Counts.{yes_among, sure_of, possible_of, count_of, count_back_of}
 use Rattle.prop_wide.specs.Ends.{low_of, high_of}
-use Rattle.prop_wide.specs.Points.{RelatesCount, RelatesLast}
+use Rattle.prop_wide.specs.Points.{RelatesCount}
 use Rattle.prop_wide.specs.Wide.{AreTruths, is_truth}
 use Rattle.std.specs.List.{list_all}
 use Rattle.std.proofs.lemmas.Bool.{and_parts}
-use Rattle.prop_wide.specs.laws.EndLaws.{AreWithin, IsBetween, ends_within, held_between, both_le}
+use Rattle.prop_wide.specs.laws.EndLaws.{ends_within, held_between, both_le}
 use Rattle.prop_wide.specs.laws.EndLaws.{both_from, both_to}
 use Rattle.prop_wide.specs.laws.TruthLaws.{leaves_less, held_is_left, told_below, told_kind, never}
 use Rattle.prop_wide.specs.laws.TruthLaws.{told_holds_yes, told_holds_no}
@@ -172,7 +173,8 @@ count_back_below n n' olds news p m q =
     (both_less _ _ _ _ _ _ _ _ a.low (as_next _ _ less) (as_next _ _ more) a.high)
     (both_less _ _ _ _ _ _ _ _ a.low (as_numbers _ _ less) (as_numbers _ _ more) a.high)
 
-pub count_back_kind : (n : Info) (others : List Info) → IsOf (kinds.Set 0) 2 (count_back_of n others)
+pub count_back_kind : (n : Info) (others : List Info)
+    → IsOf (kinds.Set 0) 2 (count_back_of n others)
 count_back_kind n others = told_kind _ _
 
 pub count_back_holds : (any : Shape → Kinded) (ins : List Shape) (n : Info) (others : List Info)

@@ -1,10 +1,8 @@
 -- The laws of distances from zero.
 use Rattle.std.specs.Prelude.{◌≡◌, ◌≢◌, ℤ, pos, neg_ℤ, ◌≤ℤ◌, unsigned_abs}
-use Rattle.std.specs.Int.{int_max, int_min}
+use Rattle.std.specs.Int.{int_max}
 use Rattle.std.proofs.Common.{arith}
 use Rattle.std.proofs.lemmas.Int.{ints, clamps, by_lt_z}
-use Rattle.prop_intervals.specs.Clip.{clip}
-use Rattle.prop_intervals.specs.laws.ClipLaws.{clip_below, clip_holds, clip_of_span}
 use Rattle.prop_intervals.specs.laws.ClipLaws.{span_from_below, span_from_holds, span_from_of_span}
 use Rattle.prop_intervals.specs.laws.Relations.{IsInRange}
 use Rattle.prop_lattice.specs.Ends.{span_from}
@@ -17,8 +15,7 @@ use Rattle.prop_lattice.specs.declared.info.Info.TheVariants.{Contradiction}
 use Rattle.prop_lattice.specs.declared.info.Kind.TheVariants as kinds
 use Rattle.prop_wide.specs.Distances.{IsDistance, abs_of, abs_back_of, at_distance}
 use Rattle.prop_wide.specs.Ends.{low_of, high_of, part_of}
-use Rattle.prop_wide.specs.Hulls.{hull_of}
-use Rattle.prop_wide.specs.laws.EndLaws.{AreOrdered, AreWithin, IsBetween}
+use Rattle.prop_wide.specs.laws.EndLaws.{AreWithin, IsBetween}
 use Rattle.prop_wide.specs.laws.EndLaws.{part_below, part_holds, part_kind}
 use Rattle.prop_wide.specs.laws.EndLaws.{ends_ordered, ends_within, held_between}
 use Rattle.prop_wide.specs.laws.HullLaws.{hull_below, hull_kind, hull_holds_first}

@@ -28,13 +28,33 @@ pub record AreOrdered (lo hi : ℤ) : Type 0 where
 pub ends_ordered : (x : Info) → AreOrdered (low_of x) (high_of x)
 ends_ordered (Span a) = record { above = a.above; ordered = a.ordered; below = a.below }
 ends_ordered Nothing =
-    record { above = omega (arith, ints); ordered = omega (arith, ints); below = omega (arith, ints) }
+    record {
+      above = omega (arith, ints);
+      ordered = omega (arith, ints);
+      below =
+          omega (arith, ints);
+    }
 ends_ordered (Set a) =
-    record { above = omega (arith, ints); ordered = omega (arith, ints); below = omega (arith, ints) }
+    record {
+      above = omega (arith, ints);
+      ordered = omega (arith, ints);
+      below =
+          omega (arith, ints);
+    }
 ends_ordered (Sym a) =
-    record { above = omega (arith, ints); ordered = omega (arith, ints); below = omega (arith, ints) }
+    record {
+      above = omega (arith, ints);
+      ordered = omega (arith, ints);
+      below =
+          omega (arith, ints);
+    }
 ends_ordered Contradiction =
-    record { above = omega (arith, ints); ordered = omega (arith, ints); below = omega (arith, ints) }
+    record {
+      above = omega (arith, ints);
+      ordered = omega (arith, ints);
+      below =
+          omega (arith, ints);
+    }
 
 -- the ends of the second lie between those of the first
 pub record AreWithin (x x' : Info) : Type 0 where

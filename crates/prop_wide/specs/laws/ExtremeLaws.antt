@@ -41,7 +41,8 @@ pub max_sound : (x y : Info) (u v w : ℤ) → Holds x (Number u) → Holds y (N
 max_sound x y u v w h k r s t e =
     let a = held_between x u h r in
     let b = held_between y v k s in
-    known_holds _ _ w (rw e (max_grows _ _ _ _ a.from b.from)) (rw e (max_grows _ _ _ _ a.to b.to)) t
+    known_holds _ _ w (rw e (max_grows _ _ _ _ a.from b.from)) (rw e
+    (max_grows _ _ _ _ a.to b.to)) t
 
 pub max_back_below : (z y z' y' : Info) → Below z z' → Below y y' → z' ≢ Contradiction
     → y' ≢ Contradiction → Below (max_back_of z y) (max_back_of z' y')
@@ -117,7 +118,8 @@ pub min_sound : (x y : Info) (u v w : ℤ) → Holds x (Number u) → Holds y (N
 min_sound x y u v w h k r s t e =
     let a = held_between x u h r in
     let b = held_between y v k s in
-    known_holds _ _ w (rw e (min_grows _ _ _ _ a.from b.from)) (rw e (min_grows _ _ _ _ a.to b.to)) t
+    known_holds _ _ w (rw e (min_grows _ _ _ _ a.from b.from)) (rw e
+    (min_grows _ _ _ _ a.to b.to)) t
 
 pub min_back_below : (z y z' y' : Info) → Below z z' → Below y y' → z' ≢ Contradiction
     → y' ≢ Contradiction → Below (min_back_of z y) (min_back_of z' y')

@@ -1,7 +1,8 @@
 -- What is known of hulls.
-use Rattle.std.specs.Prelude.{◌≡◌, ℕ, zero, suc, ◌<◌, ◌≤◌, ◌^◌, max, ℤ, neg_ℤ, ◌≤ℤ◌, ◌⊎◌, Bool, true, false, ◌==◌}
+use Rattle.std.specs.Prelude.{◌≡◌, ℕ, zero, suc, ◌<◌, ◌≤◌, ◌^◌, max, ℤ, neg_ℤ, ◌≤ℤ◌, ◌⊎◌, Bool}
+use Rattle.std.specs.Prelude.{true, false, ◌==◌}
 use Rattle.std.specs.Prelude.{if◌then◌else◌, bit_or}
-use Rattle.std.specs.Int.{bit_at, int_max, int_min}
+use Rattle.std.specs.Int.{bit_at}
 use Rattle.std.proofs.Common.{arith, refl, rules, sym, subst, ◌∙◌, inl, inr, eqb-true, eq-eqb}
 use Rattle.std.proofs.lemmas.Int.{ints, clamps}
 use Rattle.std.proofs.lemmas.Nat.{or_lt}
@@ -24,9 +25,8 @@ use Rattle.prop_lattice.specs.declared.info.Info.TheVariants.{Contradiction}
 use Rattle.prop_lattice.specs.declared.info.Kind.{Kind}
 use Rattle.prop_lattice.specs.declared.info.Kind.TheVariants as kinds
 use Rattle.prop_lattice.specs.declared.span.Span as spans
-use Rattle.prop_intervals.specs.laws.ClipLaws.{span_from_holds, span_from_of_span}
-use Rattle.prop_sets.specs.laws.NarrowestLaws.{elements_hold, elements_of_kind}
-use Rattle.prop_wide.specs.Ends.{known}
+use Rattle.prop_intervals.specs.laws.ClipLaws.{span_from_of_span}
+use Rattle.prop_sets.specs.laws.NarrowestLaws.{elements_of_kind}
 use Rattle.prop_wide.specs.Hulls.{hull_of, narrowed}
 use Rattle.prop_wide.specs.laws.EndLaws.{known_below, known_kind, known_holds}
 
@@ -140,7 +140,8 @@ hull_most (Set a) Contradiction c p q = p
 hull_most (Sym a) Contradiction c p q = p
 hull_most (Span a) (Span b) Nothing p q = tt
 hull_most (Span a) (Span b) (Span c) p q =
-    span_from_over _ _ c (omega (arith, ints, clamps, p.0, q.0)) (omega (arith, ints, clamps, p.1, q.1))
+    span_from_over _ _ c (omega (arith, ints, clamps, p.0, q.0)) (omega
+    (arith, ints, clamps, p.1, q.1))
 hull_most (Set a) (Set b) Nothing p q = tt
 hull_most (Set a) (Set b) (Set c) p q = elements_over _ c (or_least a.bits b.bits c.bits p q)
 hull_most (Sym a) (Sym b) Nothing p q = tt

@@ -1,6 +1,6 @@
 -- The laws of quotients that are rounded down, and of what they leave.
-use Rattle.std.specs.Prelude.{◌≡◌, ◌≢◌, ℤ, pos, neg_ℤ, ◌+ℤ◌, ◌-ℤ◌, ◌*ℤ◌, ◌≤ℤ◌, ◌<ℤ◌, ◌⊎◌, Bool, true}
-use Rattle.std.specs.Prelude.{false, ◌&&◌, int_le, int_lt, if◌then◌else◌}
+use Rattle.std.specs.Prelude.{◌≡◌, ◌≢◌, ℤ, pos, neg_ℤ, ◌+ℤ◌, ◌-ℤ◌, ◌*ℤ◌, ◌≤ℤ◌, ◌<ℤ◌, Bool, true}
+use Rattle.std.specs.Prelude.{false, int_le, int_lt, if◌then◌else◌}
 use Rattle.std.specs.Int.{int_max, int_min}
 use Rattle.std.proofs.Common.{arith, refl, inl, inr, ap, sym, ◌∙◌}
 use Rattle.std.proofs.lemmas.Int.{ints, clamps, by_lt_z}
@@ -25,7 +25,7 @@ use Rattle.prop_wide.specs.Quotients.{IsQuotient, IsRemainder, least_quotient, g
 use Rattle.prop_wide.specs.Quotients.{quotients_of, quotient_of, is_zero, remainder_of}
 use Rattle.prop_wide.specs.Quotients.{divisors_above}
 use Rattle.prop_wide.specs.Quotients.{divisors_below, divisor_of}
-use Rattle.prop_wide.specs.laws.EndLaws.{AreOrdered, AreWithin, IsBetween, ends_ordered}
+use Rattle.prop_wide.specs.laws.EndLaws.{AreWithin, IsBetween}
 use Rattle.prop_wide.specs.laws.EndLaws.{ends_within, held_between, known_below, known_kind}
 use Rattle.prop_wide.specs.laws.EndLaws.{known_holds, part_below, part_holds, both_from}
 use Rattle.prop_wide.specs.laws.EndLaws.{both_to, part_kind}
@@ -71,7 +71,8 @@ least_under lo c d u v p q r h = by (int_le (pos 0) lo) refl
     by : (t : Bool) → int_le (pos 0) lo ≡ t
         → ((if t then int_div_floor lo d else int_div_floor lo c) *ℤ v) ≤ℤ u
     by true e = through _ (int_div_floor lo d *ℤ d) u
-        (grows_by (int_div_floor lo d) v d (floor_not_below lo d (omega (arith, ints)) (omega (arith, ints))) r)
+        (grows_by (int_div_floor lo d) v d (floor_not_below lo d (omega (arith, ints)) (omega
+        (arith, ints))) r)
         (through _ lo u (floor-parts lo d (omega (arith, ints))).0 h)
     by false e = through _ (int_div_floor lo c *ℤ c) u
         (falls_by (int_div_floor lo c) c v (floor_not_above lo c p (omega (arith, ints))) q)
@@ -135,7 +136,7 @@ quotients_below lo hi c d lo' hi' c' d' z p q r s = by (int_lt d c) refl (int_lt
         high false = greatest_over hi c d hi' d' (int_div_floor hi' d') z (omega (arith, ints)) s q
             (floor-parts hi' d' (omega (arith, ints))).0
 
-quotients_kind : (lo hi c d : ℤ) → IsOf kinds.Span 0 (quotients_of lo hi c d)
+pub quotients_kind : (lo hi c d : ℤ) → IsOf kinds.Span 0 (quotients_of lo hi c d)
 unfolding quotients_of
 quotients_kind lo hi c d = by (int_lt d c)
   where
@@ -144,7 +145,7 @@ quotients_kind lo hi c d = by (int_lt d c)
     by true = tt
     by false = clip_of_span 0 _ _
 
-quotients_hold : (lo hi c d u v w : ℤ) → pos 0 <ℤ c → lo ≤ℤ u → u ≤ℤ hi → c ≤ℤ v → v ≤ℤ d
+pub quotients_hold : (lo hi c d u v w : ℤ) → pos 0 <ℤ c → lo ≤ℤ u → u ≤ℤ hi → c ≤ℤ v → v ≤ℤ d
     → IsInRange w → (w *ℤ v) ≤ℤ u → u <ℤ ((w *ℤ v) +ℤ v)
     → Holds (quotients_of lo hi c d) (Number w)
 unfolding quotients_of
@@ -162,7 +163,7 @@ quotients_hold lo hi c d u v w z p q r s i h k = by (int_lt d c) refl
 at_least_one : (a b : ℤ) → a ≤ℤ b → int_max a (pos 1) ≤ℤ int_max b (pos 1)
 at_least_one a b p = omega (arith, ints, clamps)
 
-one_above : (a : ℤ) → pos 0 <ℤ int_max a (pos 1)
+pub one_above : (a : ℤ) → pos 0 <ℤ int_max a (pos 1)
 one_above a = omega (arith, ints, clamps)
 
 turned : (a b : ℤ) → a ≤ℤ b → neg_ℤ b ≤ℤ neg_ℤ a
@@ -203,7 +204,8 @@ quotient_sound x y u v w h k r s t e = narrowed_holds _ (Number w) (by e)
     above = quotients_of (low_of x) (high_of x) (int_max (low_of y) (pos 1)) (high_of y)
 
     below : Info
-    below = quotients_of (neg_ℤ (high_of x)) (neg_ℤ (low_of x)) (int_max (neg_ℤ (high_of y)) (pos 1))
+    below = quotients_of (neg_ℤ (high_of x)) (neg_ℤ (low_of x)) (int_max (neg_ℤ (high_of y))
+        (pos 1))
         (neg_ℤ (low_of y))
 
     from_one : (l v : ℤ) → l ≤ℤ v → pos 0 <ℤ v → int_max l (pos 1) ≤ℤ v

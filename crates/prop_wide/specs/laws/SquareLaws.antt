@@ -2,7 +2,7 @@
 use Rattle.std.specs.Prelude.{◌≡◌, ◌≢◌, ℕ, ◌≤◌, ℤ, pos, neg_ℤ, ◌+ℤ◌, ◌-ℤ◌, ◌*ℤ◌, ◌≤ℤ◌, ◌<ℤ◌, Bool}
 use Rattle.std.specs.Prelude.{◌*◌, true, false, int_lt, unsigned_abs, if◌then◌else◌}
 use Rattle.std.specs.Int.{int_max}
-use Rattle.std.proofs.Common.{arith, refl, rules, sym, ap, ◌∙◌}
+use Rattle.std.proofs.Common.{arith, refl, rules, ap, ◌∙◌}
 use Rattle.std.proofs.lemmas.Int.{ints, clamps, by_lt_z}
 use lib.IntN.{*ℤ_comm}
 use Rattle.prop_intervals.specs.laws.ProductLaws.{product_monotone, product_kind, product_sound}
@@ -26,7 +26,7 @@ use Rattle.prop_wide.specs.Squares.{IsSquareBy, times_itself, square_of, least_s
 use Rattle.prop_wide.specs.Squares.{greatest_square, root_of}
 use Rattle.prop_wide.specs.laws.DistanceLaws.{abs_below, abs_kind, abs_sound, at_distance_below}
 use Rattle.prop_wide.specs.laws.DistanceLaws.{at_distance_kind, at_distance_holds}
-use Rattle.prop_wide.specs.laws.EndLaws.{IsBetween, ends_ordered, ends_within, held_between}
+use Rattle.prop_wide.specs.laws.EndLaws.{ends_within, held_between}
 
 -- ---- squares
 

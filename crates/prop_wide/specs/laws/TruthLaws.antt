@@ -1,8 +1,7 @@
 -- What is known of truths that may be `yes` or `no`.
-use Rattle.std.specs.Prelude.{◌≡◌, ◌≢◌, ℕ, ◌<◌, Bool, true, false, ◌==◌}
+use Rattle.std.specs.Prelude.{◌≡◌, ℕ, Bool, true, false}
 use Rattle.std.specs.Int.{bit_at}
-use Rattle.std.proofs.Common.{arith, refl, rules, sym, ◌∙◌, inl, inr, eqb-true, eq-eqb}
-use Rattle.std.proofs.lemmas.Bool.{cases_eq}
+use Rattle.std.proofs.Common.{arith, refl, rules, eqb-true, eq-eqb}
 use Rattle.prop_intervals.specs.Comparisons.{yes_bits, no_bits}
 use Rattle.prop_lattice.proofs.PartLemmas.{below_from_shr}
 use Rattle.prop_lattice.specs.Ends.{elements_from}
@@ -26,7 +25,8 @@ never e = cc
 -- what knows more leaves less
 pub leaves_less : (t t' : Info) (i : ℕ) → Below t t' → leaves t' i ≡ true → leaves t i ≡ true
 leaves_less Nothing t' i p e = refl
-leaves_less (Set a) (Set b) i p e = eq-eqb (bit_at a.bits i) 1 (p i (eqb-true (bit_at b.bits i) 1 e))
+leaves_less (Set a) (Set b) i p e = eq-eqb (bit_at a.bits i) 1 (p i (eqb-true
+    (bit_at b.bits i) 1 e))
 leaves_less (Set a) Contradiction i p e = absurd (never e)
 leaves_less (Span a) (Span b) i p e = absurd (never e)
 leaves_less (Span a) Contradiction i p e = absurd (never e)
