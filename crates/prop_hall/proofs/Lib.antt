@@ -5,3 +5,5 @@ pub mod WideLemmas
 pub mod CountLemmas
 pub mod HallLemmas
 pub mod NarrowestLemmas
+pub mod RunLemmas
+pub mod SpanLemmas

@@ -2,7 +2,7 @@
 ghost use Rattle.std.specs.Prelude.{◌≡◌, ◌<◌, length};
 ghost use Rattle.prop_hall.specs.Excluding.{told, excluded_of};
 ghost use Rattle.prop_hall.specs.Hulls.{hull_of};
-ghost use Rattle.prop_hall.specs.Narrowest.{ExcludedIsNarrowest};
+ghost use Rattle.prop_hall.specs.Narrowest.{ExcludedIsNarrowest, ExcludedSpanIsNarrowest};
 ghost use Rattle.prop_hall.specs.inner.Idle.{AreIdle};
 ghost use Rattle.prop_hall.specs.inner.Selected.{selected};
 
@@ -83,8 +83,10 @@ pub fn exclude(y: Info, others: &[Info]) -> Info
     known
 }
 
-/// Of sets it is the narrowest information that holds each element of `y` for which elements of the
-/// others, one of each, can be found that all differ from it and from each other.
+/// A law, of sets and of spans: what `exclude` answers is the narrowest information that holds each
+/// point of `y` for which points of the others, one of each, can be found that all differ from it
+/// and from each other.
 pub fn exclude_is_narrowest()
-    ensures { ExcludedIsNarrowest }
+    ensures sets { ExcludedIsNarrowest }
+    ensures spans { ExcludedSpanIsNarrowest }
 {}
