@@ -1,5 +1,6 @@
 -- Words of consecutive bits: where no run of bits holds too many of them, no selection has too few bits.
-use Rattle.std.proofs.Common.{◌≡◌, ◌⊎◌, ℕ, zero, suc, ◌+◌, ◌-◌, ◌/◌, ◌%◌, ◌^◌, ◌<◌, ◌≤◌, Bool, true, false, ◌&&◌, cond, List, [], ◌∷◌, map}
+use Rattle.std.proofs.Common.{◌≡◌, ◌⊎◌, ℕ, zero, suc, ◌+◌, ◌-◌, ◌/◌, ◌%◌, ◌^◌, ◌<◌, ◌≤◌, Bool, true, false, ◌&&◌, cond}
+use Rattle.std.proofs.Common.{List, [], ◌∷◌, map}
 use Rattle.std.proofs.Common.{bit_or, arith, ap, sym, subst, refl, ◌∙◌, inl, inr, pow-suc}
 use Rattle.std.specs.Prelude.{count_ones, nat_lt, nat_le}
 use Rattle.std.specs.Int.{bit_at}
@@ -9,7 +10,7 @@ use Rattle.std.proofs.Math.Pow.{pow-lt}
 use Rattle.std.proofs.lemmas.Bool.{cases_eq, cases_lt}
 use Rattle.std.proofs.lemmas.Bool.Decides.{nat_tests}
 use Rattle.std.proofs.lemmas.Nat.{or_lt, ones_le_self, pow_pos}
-use Rattle.std.proofs.lemmas.Nat.Bits.{bit_at-lt, bit_at-suc, bit_at_lowest, bit_at-pow_same, bit_at_mask_inside}
+use Rattle.std.proofs.lemmas.Nat.Bits.{bit_at-suc, bit_at_lowest, bit_at-pow_same, bit_at_mask_inside}
 use Rattle.prop_lattice.specs.laws.Parts.{HasBitsOf}
 use Rattle.prop_hall.proofs.CountLemmas.{in_left, in_right}
 use Rattle.prop_hall.proofs.HallLemmas.{members_of, union_of, union_fits}
@@ -188,7 +189,12 @@ below_run w g (suc k) le run =
         omega (arith, ih (omega (arith, le, other)), run k (omega (arith, le, other)) (omega arith))
 
 run_of : (u k : ℕ) → bit_at u k ≡ 1 → (g : ℕ) × (g ≤ k) × IsRun u g (suc k) × Starts u g
-run_of u zero h = (0, omega arith, (λ x l m. (let is : x ≡ 0 = omega (arith, m) in ap (bit_at u) is ∙ h)), λ x e. absurd (omega (arith, e)))
+run_of u zero h = (
+  0,
+  omega arith,
+  (λ x l m. (let is : x ≡ 0 = omega (arith, m) in ap (bit_at u) is ∙ h)),
+  λ x e. absurd (omega (arith, e)),
+)
 run_of u (suc k) h = by (cases_eq (bit_at u k) 1) (run_of u k)
   where
     more : (g : ℕ) → IsRun u g (suc k) → IsRun u g (suc (suc k))
@@ -201,8 +207,13 @@ run_of u (suc k) h = by (cases_eq (bit_at u k) 1) (run_of u k)
         → (g : ℕ) × (g ≤ suc k) × IsRun u g (suc (suc k)) × Starts u g
     by (inl here) rest =
         let r = rest here in (r.0, omega (arith, r.1), more r.0 r.2, r.3)
-    by (inr gap) rest = (suc k, omega arith, single, λ x e i. gap (let same : x ≡ k = omega (arith, e) in
-        ap (bit_at u) (sym same) ∙ i))
+    by (inr gap) rest = (
+      suc k,
+      omega arith,
+      single,
+      λ x e i. gap (let same : x ≡ k = omega (arith, e) in
+          ap (bit_at u) (sym same) ∙ i),
+    )
       where
         single : IsRun u (suc k) (suc (suc k))
         single x l m = let same : x ≡ suc k = omega (arith, l, m) in ap (bit_at u) same ∙ h
@@ -234,10 +245,10 @@ after_gap es v f k ordered gap fit =
     let fewer = ending_gap u k gap es f ordered (λ i h. h) in
     elim (cases_eq v k) [
       | inl same ↦ (
-        let here : bit_at (bit_or (2 ^ v) u) k ≡ 1 =
-        in_left (2 ^ v) u k (subst (λ n. bit_at (2 ^ v) n ≡ 1) same (bit_at-pow_same v)) in
-        omega (arith, fit, fewer, here, at_yes v (suc k) (omega (arith, same)), at_no v k (omega (arith, same)))
-        )
+          let here : bit_at (bit_or (2 ^ v) u) k ≡ 1 =
+          in_left (2 ^ v) u k (subst (λ n. bit_at (2 ^ v) n ≡ 1) same (bit_at-pow_same v)) in
+          omega (arith, fit, fewer, here, at_yes v (suc k) (omega (arith, same)), at_no v k (omega (arith, same)))
+          )
       | inr other ↦ elim (cases_lt v k) [
         | inl l ↦ omega (arith, fit, fewer, at_yes v (suc k) (omega (arith, l)), at_yes v k l)
         | inr h ↦ omega (arith, fit, fewer, at_no v (suc k) (omega (arith, h, other)))
@@ -256,12 +267,26 @@ after_run es v size f k room l here fit =
     let ends = ending_run u g k r.3 es f (λ i h. h) in
     let before = fit g r.1 in
     elim (cases_lt v g) [
-      | inl early ↦ omega (arith, longer, ends, before, room.free g k r.1 l, at_yes v g early,
-          at_yes v (suc k) (omega (arith, early, r.1)))
+      | inl early ↦ omega (
+        arith,
+        longer,
+        ends,
+        before,
+        room.free g k r.1 l,
+        at_yes v g early,
+        at_yes v (suc k) (omega (arith, early, r.1)),
+      )
       | inr from ↦ elim (cases_lt k v) [
         | inl late ↦ omega (arith, longer, ends, before, room.free g k r.1 l, at_no v (suc k) late)
-        | inr to ↦ omega (arith, longer, ends, before, room.beside g k from to l, at_no v g from,
-            at_yes v (suc k) (omega (arith, to)))
+        | inr to ↦ omega (
+          arith,
+          longer,
+          ends,
+          before,
+          room.beside g k from to l,
+          at_no v g from,
+          at_yes v (suc k) (omega (arith, to)),
+        )
       ]
     ]
 
@@ -275,7 +300,8 @@ fit_up_to es v size f ordered room (suc k) le j l =
   where
     by : (j ≡ suc k) ⊎ (¬ (j ≡ suc k)) → ((i : ℕ) → i ≤ k → FitBefore es v f i) → FitBefore es v f j
     by (inr other) fit = fit j (omega (arith, l, other))
-    by (inl same) fit = subst (FitBefore es v f) (sym same) (elim (cases_eq (bit_at (union_of (map word_of es) f) k) 1) [
+    by (inl same) fit =
+        subst (FitBefore es v f) (sym same) (elim (cases_eq (bit_at (union_of (map word_of es) f) k) 1) [
       | inl here ↦ after_run es v size f k room (omega (arith, le)) here fit
       | inr gap ↦ after_gap es v f k ordered gap (fit k (omega arith))
     ])
@@ -300,5 +326,10 @@ roomy_runs es v size low ordered within room f =
     let power : 2 ^ v < 2 ^ size = pow-lt low in
     let fits : bit_or (2 ^ v) u < 2 ^ size =
     or_lt size (2 ^ v) u power (union_fits size (map word_of es) f (words_fit size es within)) in
-    omega (arith, fit_up_to es v size f ordered room size (omega arith) size (omega arith), at_yes v size low,
-    ending_all size es f within, below_all size (bit_or (2 ^ v) u) fits)
+    omega (
+      arith,
+      fit_up_to es v size f ordered room size (omega arith) size (omega arith),
+      at_yes v size low,
+      ending_all size es f within,
+      below_all size (bit_or (2 ^ v) u) fits,
+    )

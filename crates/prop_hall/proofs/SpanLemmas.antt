@@ -1,15 +1,14 @@
 -- What selections leave of a span, by Hall's theorem.
-use Rattle.std.proofs.Common.{◌≡◌, ◌⊎◌, ℕ, zero, suc, ◌+◌, ◌-◌, ◌^◌, ◌<◌, ◌≤◌, ℤ, pos, neg_ℤ, ◌+ℤ◌, ◌-ℤ◌, ◌≤ℤ◌, ◌<ℤ◌, Bool, true, false}
+use Rattle.std.proofs.Common.{◌≡◌, ◌⊎◌, ℕ, suc, ◌+◌, ◌^◌, ◌<◌, ◌≤◌, ℤ, pos, neg_ℤ, ◌+ℤ◌, ◌-ℤ◌, ◌≤ℤ◌, ◌<ℤ◌}
 use Rattle.std.proofs.Common.{List, [], ◌∷◌, map, length, arith, rules, ap, sym, subst, refl, ◌∙◌, inl, inr}
-use Rattle.std.specs.Prelude.{unsigned_abs, count_ones, ⊤}
+use Rattle.std.specs.Prelude.{unsigned_abs, ⊤}
 use Rattle.std.specs.Int.{bit_at}
 use Rattle.std.specs.List.{AllByRecursion as Each, AllZip}
 use Rattle.std.proofs.Math.Pow.{pow-lt}
-use Rattle.std.proofs.lemmas.Bool.{cases_eq, cases_lt}
-use Rattle.std.proofs.lemmas.Int.{ints, by_lt_z}
+use Rattle.std.proofs.lemmas.Bool.{cases_lt}
+use Rattle.std.proofs.lemmas.Int.{ints}
 use Rattle.std.proofs.lemmas.List.{length-map}
 use Rattle.std.proofs.lemmas.Nat.Bits.{bit_at_mask_below, bit_at_mask_above, bit_at-pow_same}
-use Rattle.prop_intervals.specs.Narrowest as numbers
 use Rattle.prop_lattice.specs.Ends.{AreEnds, ends_or_not, span_if, span_from, numbers_in}
 use Rattle.prop_lattice.specs.Order.{Below}
 use Rattle.prop_lattice.specs.Points.{Point, Number, Holds}
@@ -19,7 +18,7 @@ use Rattle.prop_lattice.specs.declared.span.Span as spans
 use Rattle.prop_lattice.specs.declared.span.TheConstants.{B}
 use Rattle.prop_lattice.specs.laws.OrderLaws.{info_laws, to_top}
 use Rattle.prop_procedures.specs.Rules.{EachHolds}
-use Rattle.prop_hall.specs.Excluding.{told, told_by, merge_all, excluded_of}
+use Rattle.prop_hall.specs.Excluding.{told_by, excluded_of}
 use Rattle.prop_hall.specs.Hulls.{hull_of, hull_of_two, points_in, without_of, first_without, last_without}
 use Rattle.prop_hall.specs.Narrowest.{IsLeftNumber, ExcludedSpanIsNarrowest}
 use Rattle.prop_hall.specs.Points.{AreDifferent, IsNoneOf}
@@ -31,8 +30,9 @@ use Rattle.prop_hall.specs.laws.MergeLaws.{all_above_first, all_above_each, all_
 use Rattle.prop_hall.specs.laws.PigeonLaws.{placed_different}
 use Rattle.prop_hall.specs.laws.SelectionLaws.{each_append, each_map, each_both, each_split, each_unmap, each_weaker}
 use Rattle.prop_hall.proofs.CountLemmas.{ones_one}
-use Rattle.prop_hall.proofs.HallLemmas.{IsRoomy, IsChoice, hall}
-use Rattle.prop_hall.proofs.RunLemmas.{Ends, word_of, counted, inside, counted_in, counted_out, HasRoom, words_fit, roomy_runs}
+use Rattle.prop_hall.proofs.HallLemmas.{IsRoomy, hall}
+use Rattle.prop_hall.proofs.RunLemmas.{Ends, word_of, counted, inside, counted_in, counted_out, HasRoom, words_fit}
+use Rattle.prop_hall.proofs.RunLemmas.{roomy_runs}
 
 -- ---- numbers by their places
 
@@ -97,23 +97,31 @@ place_of n = omega (arith, ints, place_is (number n) (omega (arith, ints)))
 
 -- ---- selections of the spans in a span
 
+-- the selection has no more members than there are spans in a span that has its hull
+abbrev IsFew : List spans.Span → List Info → Type 0
+IsFew ss t = (w : spans.Span) → Below (Span w) (hull_of t) → length t ≤ inside_span w ss
+
+-- a selection of all that lie in a span
+abbrev HasAll : spans.Span → List spans.Span → (List Info → Type 0) → Type 0
+HasAll w ss P = (t : List Info) × P t × (length t ≡ inside_span w ss) × Below (Span w) (hull_of t)
+
 -- a selection with its hull in a span has no more members than there are spans in it
 few_in : (ss : List spans.Span)
-    → Each (λ t. (w : spans.Span) → Below (Span w) (hull_of t) → length t ≤ inside_span w ss) (selections (map Span ss))
+    → Each (IsFew ss) (selections (map Span ss))
 few_in [] = ((λ w b. omega arith), tt)
 few_in (s ∷ ss) =
-    each_append (λ t. (w : spans.Span) → Below (Span w) (hull_of t) → length t ≤ inside_span w (s ∷ ss))
+    each_append (IsFew (s ∷ ss))
     (selections (map Span ss)) (map (λ t. Span s ∷ t) (selections (map Span ss)))
-    (each_weaker (λ t. (w : spans.Span) → Below (Span w) (hull_of t) → length t ≤ inside_span w ss)
-    (λ t. (w : spans.Span) → Below (Span w) (hull_of t) → length t ≤ inside_span w (s ∷ ss))
+    (each_weaker (IsFew ss)
+    (IsFew (s ∷ ss))
     (λ t h w b. omega (arith, h w b)) (selections (map Span ss)) (few_in ss))
-    (each_map (λ t. (w : spans.Span) → Below (Span w) (hull_of t) → length t ≤ inside_span w (s ∷ ss))
+    (each_map (IsFew (s ∷ ss))
     (λ t. Span s ∷ t) (selections (map Span ss))
-    (each_weaker (λ t. (w : spans.Span) → Below (Span w) (hull_of t) → length t ≤ inside_span w ss)
+    (each_weaker (IsFew ss)
     (λ t. (w : spans.Span) → Below (Span w) (hull_of (Span s ∷ t)) → length (Span s ∷ t) ≤ inside_span w (s ∷ ss))
     more (selections (map Span ss)) (few_in ss)))
   where
-    more : (t : List Info) → ((w : spans.Span) → Below (Span w) (hull_of t) → length t ≤ inside_span w ss)
+    more : (t : List Info) → IsFew ss t
         → (w : spans.Span) → Below (Span w) (hull_of (Span s ∷ t)) → length (Span s ∷ t) ≤ inside_span w (s ∷ ss)
     more t h w b =
         let rest = hull_of t in
@@ -121,13 +129,17 @@ few_in (s ∷ ss) =
         info_laws.transitive (Span w) (hull_of_two (Span s) rest) (Span s) b (hull_first (Span s) rest) in
         let second : Below (Span w) rest =
         info_laws.transitive (Span w) (hull_of_two (Span s) rest) rest b (hull_second (Span s) rest) in
-        omega (arith, h w second, counted_in (place w.lo) (place w.hi) (ends_of s)
-        (omega (arith, ints, first.0, first_place w, first_place s))
-        (omega (arith, ints, first.1, last_place w, last_place s)))
+        omega (
+          arith,
+          h w second,
+          counted_in (place w.lo) (place w.hi) (ends_of s)
+              (omega (arith, ints, first.0, first_place w, first_place s))
+              (omega (arith, ints, first.1, last_place w, last_place s)),
+        )
 
 -- and one has all of these
 all_in : (w : spans.Span) (ss : List spans.Span) (P : List Info → Type 0) → Each P (selections (map Span ss))
-    → (t : List Info) × P t × (length t ≡ inside_span w ss) × Below (Span w) (hull_of t)
+    → HasAll w ss P
 all_in w [] P h = ([], h.0, refl, tt)
 all_in w (s ∷ ss) P h =
     let parts = each_split P (selections (map Span ss)) (map (λ t. Span s ∷ t) (selections (map Span ss))) h in
@@ -135,28 +147,38 @@ all_in w (s ∷ ss) P h =
     (all_in w ss (λ t. P (Span s ∷ t)) (each_unmap P (λ t. Span s ∷ t) (selections (map Span ss)) parts.1))
   where
     by : (w.lo ≤ℤ s.lo) ⊎ (s.lo <ℤ w.lo) → (s.hi ≤ℤ w.hi) ⊎ (w.hi <ℤ s.hi)
-        → (t : List Info) × P t × (length t ≡ inside_span w ss) × Below (Span w) (hull_of t)
-        → (t : List Info) × P (Span s ∷ t) × (length t ≡ inside_span w ss) × Below (Span w) (hull_of t)
-        → (t : List Info) × P t × (length t ≡ inside_span w (s ∷ ss)) × Below (Span w) (hull_of t)
+        → HasAll w ss P → HasAll w ss (λ t. P (Span s ∷ t)) → HasAll w (s ∷ ss) P
     by (inl l) (inl k) without with_it = (
       Span s ∷ with_it.0,
       with_it.1,
-      omega (arith, with_it.2, counted_in (place w.lo) (place w.hi) (ends_of s)
-      (omega (arith, ints, l, first_place w, first_place s)) (omega (arith, ints, k, last_place w, last_place s))),
+      omega (
+        arith,
+        with_it.2,
+        counted_in (place w.lo) (place w.hi) (ends_of s)
+            (omega (arith, ints, l, first_place w, first_place s)) (omega (arith, ints, k, last_place w, last_place s)),
+      ),
       hull_greatest (Span s) (hull_of with_it.0) (Span w) (l, k) with_it.3,
     )
     by (inl l) (inr k) without with_it = (
       without.0,
       without.1,
-      omega (arith, without.2, counted_out (place w.lo) (place w.hi) (ends_of s)
-      (λ both. omega (arith, ints, k, both.1, last_place w, last_place s))),
+      omega (
+        arith,
+        without.2,
+        counted_out (place w.lo) (place w.hi) (ends_of s)
+            (λ both. omega (arith, ints, k, both.1, last_place w, last_place s)),
+      ),
       without.3,
     )
     by (inr l) r without with_it = (
       without.0,
       without.1,
-      omega (arith, without.2, counted_out (place w.lo) (place w.hi) (ends_of s)
-      (λ both. omega (arith, ints, l, both.0, first_place w, first_place s))),
+      omega (
+        arith,
+        without.2,
+        counted_out (place w.lo) (place w.hi) (ends_of s)
+            (λ both. omega (arith, ints, l, both.0, first_place w, first_place s)),
+      ),
       without.3,
     )
 
@@ -173,8 +195,9 @@ no_more y ss m tell w =
     let all = all_in w ss (λ t. Below (told_by (Span y) t) (Span m)) tell in
     by all (cases_lt (numbers_in w) (inside_span w ss)) (fewer_points (Span w) (hull_of all.0) all.3).0
   where
-    by : (all : (t : List Info) × Below (told_by (Span y) t) (Span m) × (length t ≡ inside_span w ss) × Below (Span w) (hull_of t))
-        → (numbers_in w < inside_span w ss) ⊎ (inside_span w ss ≤ numbers_in w) → points_in (hull_of all.0) ≤ numbers_in w
+    by : (all : HasAll w ss (λ t. Below (told_by (Span y) t) (Span m)))
+        → (numbers_in w < inside_span w ss) ⊎ (inside_span w ss ≤ numbers_in w)
+        → points_in (hull_of all.0) ≤ numbers_in w
         → inside_span w ss ≤ numbers_in w
     by all (inr le) few = le
     by all (inl l) few = absurd (subst (λ a. Below a (Span m))
@@ -187,11 +210,13 @@ outside y ss m tell w tight =
     let all = all_in w ss (λ t. Below (told_by (Span y) t) (Span m)) tell in
     by all (room (points_in (hull_of all.0)) (length all.0)) (fewer_points (Span w) (hull_of all.0) all.3)
   where
-    by : (all : (t : List Info) × Below (told_by (Span y) t) (Span m) × (length t ≡ inside_span w ss) × Below (Span w) (hull_of t))
+    by : (all : HasAll w ss (λ t. Below (told_by (Span y) t) (Span m)))
         → Room (points_in (hull_of all.0)) (length all.0)
-        → (points_in (hull_of all.0) ≤ numbers_in w) × (points_in (hull_of all.0) ≡ numbers_in w → Span w ≡ hull_of all.0)
+        → (points_in (hull_of all.0) ≤ numbers_in w)
+        × (points_in (hull_of all.0) ≡ numbers_in w → Span w ≡ hull_of all.0)
         → Below (without_of (Span y) (Span w)) (Span m)
-    by all (Over l) few = absurd (subst (λ a. Below a (Span m)) (told_over (length all.0) (hull_of all.0) (Span y) l) all.1)
+    by all (Over l) few =
+        absurd (subst (λ a. Below a (Span m)) (told_over (length all.0) (hull_of all.0) (Span y) l) all.1)
     by all (Tight e) few =
         let same : Span w ≡ hull_of all.0 = few.1 (omega (arith, e, all.2, tight)) in
         subst (λ a. Below (without_of (Span y) a) (Span m)) (sym same)
@@ -230,26 +255,49 @@ crossed g k h n le me e = by (cases_lt e.0 g) (cases_lt n e.1) (cases_lt e.0 h) 
   where
     by : (e.0 < g) ⊎ (g ≤ e.0) → (n < e.1) ⊎ (e.1 ≤ n) → (e.0 < h) ⊎ (h ≤ e.0) → (k < e.1) ⊎ (e.1 ≤ k)
         → counted g k e + counted h n e ≤ counted g n e + counted h k e
-    by (inl a) b c d = omega (arith, counted_out g k e (λ both. omega (arith, a, both.0)),
-        counted_out h n e (λ both. omega (arith, a, le, both.0)))
-    by (inr a) (inl b) c d = omega (arith, counted_out g k e (λ both. omega (arith, b, me, both.1)),
-        counted_out h n e (λ both. omega (arith, b, both.1)))
-    by (inr a) (inr b) (inl c) d = omega (arith, counted_in g n e a b, counted_few g k e,
-        counted_out h n e (λ both. omega (arith, c, both.0)))
-    by (inr a) (inr b) (inr c) (inl d) = omega (arith, counted_in g n e a b, counted_few h n e,
-        counted_out g k e (λ both. omega (arith, d, both.1)))
-    by (inr a) (inr b) (inr c) (inr d) = omega (arith, counted_in g n e a b, counted_in h k e c d, counted_few g k e,
-        counted_few h n e)
+    by (inl a) b c d = omega (
+      arith,
+      counted_out g k e (λ both. omega (arith, a, both.0)),
+      counted_out h n e (λ both. omega (arith, a, le, both.0)),
+    )
+    by (inr a) (inl b) c d = omega (
+      arith,
+      counted_out g k e (λ both. omega (arith, b, me, both.1)),
+      counted_out h n e (λ both. omega (arith, b, both.1)),
+    )
+    by (inr a) (inr b) (inl c) d = omega (
+      arith,
+      counted_in g n e a b,
+      counted_few g k e,
+      counted_out h n e (λ both. omega (arith, c, both.0)),
+    )
+    by (inr a) (inr b) (inr c) (inl d) = omega (
+      arith,
+      counted_in g n e a b,
+      counted_few h n e,
+      counted_out g k e (λ both. omega (arith, d, both.1)),
+    )
+    by (inr a) (inr b) (inr c) (inr d) = omega (
+      arith,
+      counted_in g n e a b,
+      counted_in h k e c d,
+      counted_few g k e,
+      counted_few h n e,
+    )
 
 -- what two runs hold, their hull and what they share hold too
-crossing : (g k h n : ℕ) → g ≤ h → k ≤ n → (es : List Ends) → inside g k es + inside h n es ≤ inside g n es + inside h k es
+crossing : (g k h n : ℕ) → g ≤ h → k ≤ n → (es : List Ends)
+    → inside g k es + inside h n es ≤ inside g n es + inside h k es
 crossing g k h n le me [] = omega arith
 crossing g k h n le me (e ∷ es) = omega (arith, crossed g k h n le me e, crossing g k h n le me es)
 
 none_inside : (g k : ℕ) → k < g → (es : List Ends) → Each (λ e. e.0 ≤ e.1) es → inside g k es ≡ 0
 none_inside g k l [] o = refl
-none_inside g k l (e ∷ es) o = omega (arith, none_inside g k l es o.1,
-    counted_out g k e (λ both. omega (arith, l, o.0, both.0, both.1)))
+none_inside g k l (e ∷ es) o = omega (
+  arith,
+  none_inside g k l es o.1,
+  counted_out g k e (λ both. omega (arith, l, o.0, both.0, both.1)),
+)
 
 -- ---- what is left beside the ends
 
@@ -265,8 +313,8 @@ free_runs : (y : spans.Span) (ss : List spans.Span) (m : spans.Span) → TellBel
 free_runs y ss m tell g k l h =
     omega (arith, no_more y ss m tell (span_at g k l h), inside_at g k l h ss, numbers_at g k l h)
 
-full_run : (y : spans.Span) (ss : List spans.Span) (m : spans.Span) → TellBelow y ss m → (g k : ℕ) (l : g ≤ k) (h : k < range)
-    → inside g k (map ends_of ss) + g ≡ suc k → Below (without_of (Span y) (Span (span_at g k l h))) (Span m)
+full_run : (y : spans.Span) (ss : List spans.Span) (m : spans.Span) → TellBelow y ss m → (g k : ℕ)
+    (l : g ≤ k) (h : k < range) → inside g k (map ends_of ss) + g ≡ suc k → Below (without_of (Span y) (Span (span_at g k l h))) (Span m)
 full_run y ss m tell g k l h full =
     outside y ss m tell (span_at g k l h) (omega (arith, inside_at g k l h ss, numbers_at g k l h, full))
 
@@ -280,11 +328,18 @@ joined_run y ss m tell g k h n le me near l within first second =
       | inl past ↦ omega (arith, none_inside h k past es (ends_ordered ss), near)
       | inr low ↦ free_runs y ss m tell h k low (omega (arith, me, within))
     ] in
-    omega (arith, first, second, shared, crossing g k h n le me es,
-    free_runs y ss m tell g n (omega (arith, l, me)) within)
+    omega (
+      arith,
+      first,
+      second,
+      shared,
+      crossing g k h n le me es,
+      free_runs y ss m tell g n (omega (arith, l, me)) within,
+    )
 
 -- an information that says less than m, and no less than any selection
-pub told_below : (y : spans.Span) (ss : List spans.Span) (m n : spans.Span) → excluded_of (Span y) (map Span ss) ≡ Span m
+pub told_below : (y : spans.Span) (ss : List spans.Span) (m n : spans.Span)
+    → excluded_of (Span y) (map Span ss) ≡ Span m
     → TellBelow y ss m → Below (Span y) (Span n)
     → ((x : spans.Span) → numbers_in x ≤ inside_span x ss → Below (without_of (Span y) (Span x)) (Span m)
     → Below (without_of (Span y) (Span x)) (Span n)) → Below (Span m) (Span n)
@@ -292,15 +347,16 @@ told_below y ss m n is tell least step =
     subst (λ a. Below a (Span n)) is
     (all_least (Span y) (map (told_by (Span y)) (selections (map Span ss))) (Span n) least
     (each_map (λ a. Below a (Span n)) (told_by (Span y)) (selections (map Span ss))
-    (each_weaker (λ t. Below (told_by (Span y) t) (Span m) × ((w : spans.Span) → Below (Span w) (hull_of t) → length t ≤ inside_span w ss))
+    (each_weaker (λ t. Below (told_by (Span y) t) (Span m) × IsFew ss t)
     (λ t. Below (told_by (Span y) t) (Span n)) (λ t p. by t p.0 p.1 (room (points_in (hull_of t)) (length t)))
     (selections (map Span ss))
     (each_both (λ t. Below (told_by (Span y) t) (Span m))
-    (λ t. (w : spans.Span) → Below (Span w) (hull_of t) → length t ≤ inside_span w ss)
+    (IsFew ss)
     (selections (map Span ss)) tell (few_in ss)))))
   where
     tight : (h : Info) → Below (without_of (Span y) h) (Span m)
-        → ((w : spans.Span) → Below (Span w) h → points_in h ≤ inside_span w ss) → Below (without_of (Span y) h) (Span n)
+        → ((w : spans.Span) → Below (Span w) h → points_in h ≤ inside_span w ss)
+        → Below (without_of (Span y) h) (Span n)
     tight (Span x) b few = step x (few x (info_laws.reflexive (Span x))) b
     tight Nothing b few = least
     tight (Set a) b few = least
@@ -308,7 +364,7 @@ told_below y ss m n is tell least step =
     tight Contradiction b few = least
 
     by : (t : List Info) → Below (told_by (Span y) t) (Span m)
-        → ((w : spans.Span) → Below (Span w) (hull_of t) → length t ≤ inside_span w ss)
+        → IsFew ss t
         → Room (points_in (hull_of t)) (length t) → Below (told_by (Span y) t) (Span n)
     by t b few (Over l) =
         absurd (subst (λ a. Below a (Span m)) (told_over (length t) (hull_of t) (Span y) l) b)
@@ -353,7 +409,8 @@ first_free y ss m is tell in_y g k from to within = by (cases_lt k (inside g k e
         out = ends_from (first_without y w) (last_without y w) m (full_run y ss m tell g k l within full)
 
         too_low : y.lo <ℤ w.lo → ⊥
-        too_low gt = omega (arith, ints, (told_below y ss m n is tell (omega (arith, ints, gt), in_y.1) step).0, has_first.0)
+        too_low gt =
+            omega (arith, ints, (told_below y ss m n is tell (omega (arith, ints, gt), in_y.1) step).0, has_first.0)
           where
             n : spans.Span
             n = record {
@@ -386,7 +443,8 @@ first_free y ss m is tell in_y g k from to within = by (cases_lt k (inside g k e
                     let before : place x.lo ≤ g = omega (arith, ints, p, gt, first_place x) in
                     let long : place x.lo ≤ k = omega (arith, before, l) in
                     let joined = joined_run y ss m tell (place x.lo) (place x.hi) g k before past
-                    (omega (arith, ints, near, last_place x)) (omega (arith, ints, x.ordered, first_place x, last_place x))
+                    (omega (arith, ints, near, last_place x))
+                    (omega (arith, ints, x.ordered, first_place x, last_place x))
                     within (omega (arith, few, numbers_place x)) (omega (arith, full)) in
                     let z = span_at (place x.lo) k long within in
                     let far = ends_from (first_without y z) (last_without y z) m
@@ -431,7 +489,8 @@ last_free y ss m is tell in_y g k from to within = by (cases_lt k (inside g k es
         out = ends_from (first_without y w) (last_without y w) m (full_run y ss m tell g k l within full)
 
         too_high : w.hi <ℤ y.hi → ⊥
-        too_high gt = omega (arith, ints, (told_below y ss m n is tell (in_y.0, omega (arith, ints, gt)) step).1, has_last.1)
+        too_high gt =
+            omega (arith, ints, (told_below y ss m n is tell (in_y.0, omega (arith, ints, gt)) step).1, has_last.1)
           where
             n : spans.Span
             n = record {
@@ -472,7 +531,8 @@ last_free y ss m is tell in_y g k from to within = by (cases_lt k (inside g k es
                     (full_run y ss m tell g (place x.hi) long low joined) in
                     elim (last_is y z) [
                       | inl i ↦ omega (arith, ints, i.2, far.1, has_last.0)
-                      | inr o ↦ o.0 (omega (arith, ints, p, before, first_place x), omega (arith, ints, q, last_place x))
+                      | inr o ↦ o.0 (omega (arith, ints, p, before, first_place x),
+                          omega (arith, ints, q, last_place x))
                     ]
 
 -- ---- different numbers
@@ -486,7 +546,8 @@ in_spans (s ∷ ss) (i ∷ bits) h = (held, in_spans ss bits h.1)
     held = elim (cases_lt i (place s.lo)) [
       | inl low ↦ absurd (omega (arith, h.0, bit_at_mask_below (place s.lo) (place s.hi + 1) i low))
       | inr from ↦ elim (cases_lt (place s.hi) i) [
-        | inl high ↦ absurd (omega (arith, h.0, bit_at_mask_above (place s.lo) (place s.hi + 1) i (omega (arith, high))))
+        | inl high ↦ absurd (omega (arith, h.0,
+            bit_at_mask_above (place s.lo) (place s.hi + 1) i (omega (arith, high))))
         | inr to ↦ (omega (arith, ints, from, first_place s), omega (arith, ints, to, last_place s))
       ]
     ]
@@ -512,15 +573,22 @@ left_beside y ss m tell v h beside =
     let choice = hall range (map word_of es) (2 ^ j) (pow-lt low) (words_fit range es (ends_within ss)) (roomy low) in
     let different : AreDifferent (number j ∷ map number choice.0) =
     placed_different number (λ i. ⊤) (λ p q a b. same_number p q) (j ∷ choice.0) (each_place (j ∷ choice.0))
-    (not_among j choice.0 choice.1.free, choice.1.different) in
-    (h, map number choice.0, in_spans ss choice.0 choice.1.each,
-    subst (λ x. AreDifferent (x ∷ map number choice.0)) (number_of v above) different)
+    (not_among j choice.0 choice.1.free, choice.1.different) in (
+      h,
+      map number choice.0,
+      in_spans ss choice.0 choice.1.each,
+      subst (λ x. AreDifferent (x ∷ map number choice.0)) (number_of v above) different,
+    )
   where
     roomy : place v < range → IsRoomy (2 ^ place v) (map word_of (map ends_of ss))
     roomy low f =
-        let room : HasRoom (map ends_of ss) (place v) range = record { free = free_runs y ss m tell; beside = beside } in
-        omega (arith, ones_one (place v),
-        roomy_runs (map ends_of ss) (place v) range low (ends_ordered ss) (ends_within ss) room f)
+        let room : HasRoom (map ends_of ss) (place v) range =
+        record { free = free_runs y ss m tell; beside = beside } in
+        omega (
+          arith,
+          ones_one (place v),
+          roomy_runs (map ends_of ss) (place v) range low (ends_ordered ss) (ends_within ss) room f,
+        )
 
 -- ---- the narrowest
 
