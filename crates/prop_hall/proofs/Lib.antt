@@ -7,3 +7,4 @@ pub mod HallLemmas
 pub mod NarrowestLemmas
 pub mod RunLemmas
 pub mod SpanLemmas
+pub mod UnknownLemmas

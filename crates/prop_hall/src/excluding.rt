@@ -3,6 +3,7 @@ ghost use Rattle.std.specs.Prelude.{◌≡◌, ◌<◌, length};
 ghost use Rattle.prop_hall.specs.Excluding.{told, excluded_of};
 ghost use Rattle.prop_hall.specs.Hulls.{hull_of};
 ghost use Rattle.prop_hall.specs.Narrowest.{ExcludedIsNarrowest, ExcludedSpanIsNarrowest};
+ghost use Rattle.prop_hall.specs.Unknown.{UnknownSaysNothing};
 ghost use Rattle.prop_hall.specs.inner.Idle.{AreIdle};
 ghost use Rattle.prop_hall.specs.inner.Selected.{selected};
 
@@ -89,4 +90,9 @@ pub fn exclude(y: Info, others: &[Info]) -> Info
 pub fn exclude_is_narrowest()
     ensures sets { ExcludedIsNarrowest }
     ensures spans { ExcludedSpanIsNarrowest }
+{}
+
+/// A law: without the others of which nothing is known the answer is the same.
+pub fn unknown_says_nothing()
+    ensures { UnknownSaysNothing }
 {}

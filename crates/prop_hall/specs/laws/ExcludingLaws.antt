@@ -375,7 +375,7 @@ told_each y q (s ∷ ss) (t ∷ ts) k h d =
     )
 told_each y q (s ∷ ss) [] k h d = absurd h
 
-few_selected : {X : Type 0} (xs : List X) → Each (λ s. length s ≤ length xs) (selections xs)
+pub few_selected : {X : Type 0} (xs : List X) → Each (λ s. length s ≤ length xs) (selections xs)
 few_selected [] = (omega arith, tt)
 few_selected (x ∷ xs) =
     let rest = few_selected xs in
