@@ -69,7 +69,7 @@ fn wide_among(others: &[Info]) -> u64
 }
 
 /// What is known of `y`, which differs from each of the others, where these all differ from each
-/// other too: what all selections of the others say of it. At most seven others are looked at.
+/// other too: what all selections of the others say of it. There are at most seven others.
 pub fn exclude(y: Info, others: &[Info]) -> Info
     requires { length others.now < 8 }
     ensures { result ≡ excluded_of y others.now }
