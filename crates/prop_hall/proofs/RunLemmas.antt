@@ -302,9 +302,9 @@ fit_up_to es v size f ordered room (suc k) le j l =
     by (inr other) fit = fit j (omega (arith, l, other))
     by (inl same) fit =
         subst (FitBefore es v f) (sym same) (elim (cases_eq (bit_at (union_of (map word_of es) f) k) 1) [
-      | inl here ↦ after_run es v size f k room (omega (arith, le)) here fit
-      | inr gap ↦ after_gap es v f k ordered gap (fit k (omega arith))
-    ])
+          | inl here ↦ after_run es v size f k room (omega (arith, le)) here fit
+          | inr gap ↦ after_gap es v f k ordered gap (fit k (omega arith))
+        ])
 
 pub words_fit : (size : ℕ) (es : List Ends) → Each (λ e. e.1 < size) es → Each (λ w. w < 2 ^ size) (map word_of es)
 words_fit size [] l = tt

@@ -1,11 +1,11 @@
 -- Selections with others of which nothing is known.
-use Rattle.std.proofs.Common.{◌≡◌, ℕ, suc, ◌+◌, ◌<◌, ◌≤◌, List, [], ◌∷◌, map, length, arith, ap, sym, subst, refl, ◌∙◌}
+use Rattle.std.proofs.Common.{◌≡◌, ◌≤◌, List, [], ◌∷◌, map, length, arith, ap, sym, subst, refl, ◌∙◌}
 use Rattle.std.specs.List.{AllByRecursion as Each, filter}
 use Rattle.prop_lattice.specs.Order.{Below}
 use Rattle.prop_lattice.specs.declared.info.Info.{Info}
 use Rattle.prop_lattice.specs.declared.info.Info.TheVariants.{Nothing, Span, Set, Sym, Contradiction}
 use Rattle.prop_lattice.specs.laws.OrderLaws.{info_laws}
-use Rattle.prop_hall.specs.Excluding.{told, told_by, merge_all, excluded_of}
+use Rattle.prop_hall.specs.Excluding.{told_by, excluded_of}
 use Rattle.prop_hall.specs.Hulls.{hull_of, hull_of_two, points_in}
 use Rattle.prop_hall.specs.Selections.{selections}
 use Rattle.prop_hall.specs.Unknown.{is_known, UnknownSaysNothing}

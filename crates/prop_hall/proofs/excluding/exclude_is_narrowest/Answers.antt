@@ -1,4 +1,4 @@
-use Rattle.prop_hall.proofs.NarrowestLemmas.{excluded_is_narrowest}
+use Rattle.prop_hall.proofs.SetLemmas.{excluded_is_narrowest}
 use Rattle.prop_hall.proofs.SpanLemmas.{excluded_span_is_narrowest}
 use Rattle.prop_hall.proofs.excluding.exclude_is_narrowest.Goals as goal
 
