@@ -4,4 +4,11 @@ pub mod PlaceLemmas
 pub mod WideLemmas
 pub mod CountLemmas
 pub mod HallLemmas
-pub mod NarrowestLemmas
+pub mod SetLemmas
+pub mod RunLemmas
+pub mod SpanPlaces
+pub mod SpanSelections
+pub mod SpanRuns
+pub mod SpanEnds
+pub mod SpanLemmas
+pub mod UnknownLemmas

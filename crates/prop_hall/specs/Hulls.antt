@@ -10,7 +10,8 @@ use Rattle.prop_lattice.specs.declared.info.Info.TheVariants.{Contradiction}
 use Rattle.prop_lattice.specs.declared.info.Kind.TheVariants as kinds
 use Rattle.prop_lattice.specs.declared.span.Span as spans
 
--- what both say: the smallest information that holds the points of both
+-- what both say: the highest information that says no more than either, and so holds the points of
+-- both
 abbrev pub hull_of_two : Info → Info → Info
 hull_of_two Contradiction b = b
 hull_of_two a Contradiction = a
@@ -19,7 +20,7 @@ hull_of_two (Set a) (Set b) = elements_from (bit_or a.bits b.bits)
 hull_of_two (Sym a) (Sym b) = if a == b then Sym a else Nothing
 hull_of_two a b = Nothing
 
--- what all say: the smallest information that holds the points of each
+-- what all say: the highest information that holds the points of each, none where there are none
 abbrev pub hull_of : List Info → Info
 hull_of [] = Contradiction
 hull_of (a ∷ rest) = hull_of_two a (hull_of rest)

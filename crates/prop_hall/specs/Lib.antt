@@ -4,5 +4,6 @@ pub mod Excluding
 pub mod Excluder
 pub mod Points
 pub mod Narrowest
+pub mod Unknown
 pub mod inner
 pub mod laws

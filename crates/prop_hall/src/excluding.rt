@@ -2,7 +2,8 @@
 ghost use Rattle.std.specs.Prelude.{◌≡◌, ◌<◌, length};
 ghost use Rattle.prop_hall.specs.Excluding.{told, excluded_of};
 ghost use Rattle.prop_hall.specs.Hulls.{hull_of};
-ghost use Rattle.prop_hall.specs.Narrowest.{ExcludedIsNarrowest};
+ghost use Rattle.prop_hall.specs.Narrowest.{ExcludedIsNarrowest, ExcludedSpanIsNarrowest};
+ghost use Rattle.prop_hall.specs.Unknown.{UnknownSaysNothing};
 ghost use Rattle.prop_hall.specs.inner.Idle.{AreIdle};
 ghost use Rattle.prop_hall.specs.inner.Selected.{selected};
 
@@ -68,7 +69,7 @@ fn wide_among(others: &[Info]) -> u64
 }
 
 /// What is known of `y`, which differs from each of the others, where these all differ from each
-/// other too: what all selections of the others say of it. At most seven others are looked at.
+/// other too: what all selections of the others say of it. There are at most seven others.
 pub fn exclude(y: Info, others: &[Info]) -> Info
     requires { length others.now < 8 }
     ensures { result ≡ excluded_of y others.now }
@@ -83,8 +84,15 @@ pub fn exclude(y: Info, others: &[Info]) -> Info
     known
 }
 
-/// Of sets it is the narrowest information that holds each element of `y` for which elements of the
-/// others, one of each, can be found that all differ from it and from each other.
+/// A law, of sets and of spans: what `exclude` answers is the narrowest information that holds each
+/// point of `y` for which points of the others, one of each, can be found that all differ from it
+/// and from each other.
 pub fn exclude_is_narrowest()
-    ensures { ExcludedIsNarrowest }
+    ensures sets { ExcludedIsNarrowest }
+    ensures spans { ExcludedSpanIsNarrowest }
+{}
+
+/// A law: without the others of which nothing is known the answer is the same.
+pub fn unknown_says_nothing()
+    ensures { UnknownSaysNothing }
 {}

@@ -47,11 +47,11 @@ use Rattle.prop_hall.specs.laws.SelectionLaws.{none_selected, different_selected
 between-Decides : (s : spans.Span) (v : ℤ) → Decides (is_between s v) ((s.lo ≤ℤ v) × (v ≤ℤ s.hi))
 between-Decides s v = (λ e. grind (arith, ints), λ h. grind (arith, ints))
 
-cases_le : (a b : ℤ) → (a ≤ℤ b) ⊎ (b <ℤ a)
+pub cases_le : (a b : ℤ) → (a ≤ℤ b) ⊎ (b <ℤ a)
 cases_le a b = by_lt_z b a (λ l. inr l) (λ le. inl le)
 
 -- an end that lies in the span goes to beside it, another stays
-first_is : (y h : spans.Span)
+pub first_is : (y h : spans.Span)
     → ((h.lo ≤ℤ y.lo) × (y.lo ≤ℤ h.hi) × (first_without y h ≡ h.hi +ℤ pos 1))
     ⊎ (((h.lo ≤ℤ y.lo) × (y.lo ≤ℤ h.hi) → ⊥) × (first_without y h ≡ y.lo))
 first_is y h = by (is_between h y.lo) (between-Decides h y.lo)
@@ -64,7 +64,7 @@ first_is y h = by (is_between h y.lo) (between-Decides h y.lo)
     by true d = inl ((d.0 refl).0, (d.0 refl).1, refl)
     by false d = inr (λ i. never (d.1 i), refl)
 
-last_is : (y h : spans.Span)
+pub last_is : (y h : spans.Span)
     → ((h.lo ≤ℤ y.hi) × (y.hi ≤ℤ h.hi) × (last_without y h ≡ h.lo -ℤ pos 1))
     ⊎ (((h.lo ≤ℤ y.hi) × (y.hi ≤ℤ h.hi) → ⊥) × (last_without y h ≡ y.hi))
 last_is y h = by (is_between h y.hi) (between-Decides h y.hi)
@@ -375,7 +375,7 @@ told_each y q (s ∷ ss) (t ∷ ts) k h d =
     )
 told_each y q (s ∷ ss) [] k h d = absurd h
 
-few_selected : {X : Type 0} (xs : List X) → Each (λ s. length s ≤ length xs) (selections xs)
+pub few_selected : {X : Type 0} (xs : List X) → Each (λ s. length s ≤ length xs) (selections xs)
 few_selected [] = (omega arith, tt)
 few_selected (x ∷ xs) =
     let rest = few_selected xs in

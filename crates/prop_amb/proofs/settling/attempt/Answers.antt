@@ -41,7 +41,7 @@ pub returns-in-Some-clause-refuted : goal.returns-in-Some-clause-refuted
 returns-in-Some-clause-refuted g c =
     let same : c.in_ok-copy.field-0 ≡ c.in-Some.nogood.now = c.in_ok-copy.ensures in
     rw same (met_listed (problem_of (stored_of g.R.Rule.value_of c.args.live.now.network.library)
-        c.args.live.now.network.cells)
+    c.args.live.now.network.cells)
     c.args.search.now c.in-Some.nogood.now c.requires.search c.in-Some.ensures.listed c.in-Some.ensures.believed)
 
 pub returns-in-Quiet-clause-falls : goal.returns-in-Quiet-clause-falls
@@ -54,7 +54,7 @@ returns-in-Quiet-clause-falls g c =
 pub returns-in-Quiet-clause-few : goal.returns-in-Quiet-clause-few
 returns-in-Quiet-clause-few g c =
     bounded_in _ _ _ (same_problem (stored_of g.R.Rule.value_of) c.args.live.now.network.library
-        c.run.new.live.network.library
+    c.run.new.live.network.library
     c.args.live.now.network.cells c.run.new.live.network.cells c.in_ok-end.ensures.ran.library
     c.in_ok-end.ensures.ran.rest)
     c.in_ok-end.ensures.bounded
@@ -103,7 +103,7 @@ returns-in_ok-note-in-Clash-clause-falls g c =
 pub returns-in_ok-note-in-Clash-clause-few : goal.returns-in_ok-note-in-Clash-clause-few
 returns-in_ok-note-in-Clash-clause-few g c =
     bounded_in _ _ _ (same_problem (stored_of g.R.Rule.value_of) c.args.live.now.network.library
-        c.run.new.live.network.library
+    c.run.new.live.network.library
     c.args.live.now.network.cells c.run.new.live.network.cells c.in_ok-end.ensures.ran.library
     c.in_ok-end.ensures.ran.rest)
     c.in_ok-end.ensures.bounded

@@ -23,7 +23,7 @@ returns-then-most-eq0-clause-unsettled g c =
 pub returns-in-RuledOut-clause-contradiction : goal.returns-in-RuledOut-clause-contradiction
 returns-in-RuledOut-clause-contradiction g c =
     let problem = problem_of (stored_of g.R.Rule.value_of c.args.live.now.network.library)
-        c.args.live.now.network.cells in
+    c.args.live.now.network.cells in
     let met : IsMet problem c.args.search.now c.in-Clash.nogood = rw c.in-Clash.is at c.requires.met in
     rw c.in-RuledOut.is at (c.in_ok-premises.ensures.resolved problem c.requires.search met.nogood
     (met_part problem c.args.search.now c.in-Clash.nogood met))
@@ -31,7 +31,7 @@ returns-in-RuledOut-clause-contradiction g c =
 pub returns-in_err-steps-in-Against-clause-search : goal.returns-in_err-steps-in-Against-clause-search
 returns-in_err-steps-in-Against-clause-search g c =
     let problem = problem_of (stored_of g.R.Rule.value_of c.args.live.now.network.library)
-        c.args.live.now.network.cells in
+    c.args.live.now.network.cells in
     let met : IsMet problem c.args.search.now c.in-Clash.nogood = rw c.in-Clash.is at c.requires.met in
     let reason : IsReason problem c.args.search.now c.in-Against.place (set_of c.in-Against.reason) =
     rw c.in-Against.is at (c.in_ok-premises.ensures.resolved problem c.requires.search met.nogood
@@ -41,7 +41,7 @@ returns-in_err-steps-in-Against-clause-search g c =
 pub returns-in_ok-steps-in-Against-clause-search : goal.returns-in_ok-steps-in-Against-clause-search
 returns-in_ok-steps-in-Against-clause-search g c =
     let problem = problem_of (stored_of g.R.Rule.value_of c.args.live.now.network.library)
-        c.args.live.now.network.cells in
+    c.args.live.now.network.cells in
     let met : IsMet problem c.args.search.now c.in-Clash.nogood = rw c.in-Clash.is at c.requires.met in
     let reason : IsReason problem c.args.search.now c.in-Against.place (set_of c.in-Against.reason) =
     rw c.in-Against.is at (c.in_ok-premises.ensures.resolved problem c.requires.search met.nogood
@@ -71,7 +71,7 @@ returns-in_ok-steps-in-Against-clause-shifted g c = λ _.
 pub returns-in-RuledOut-clause-named : goal.returns-in-RuledOut-clause-named
 returns-in-RuledOut-clause-named g c =
     let met : IsMet (problem_of (stored_of g.R.Rule.value_of c.args.live.now.network.library)
-        c.args.live.now.network.cells)
+    c.args.live.now.network.cells)
     c.args.search.now c.in-Clash.nogood = rw c.in-Clash.is at c.requires.met in
     met_blames c.args.search.now c.in-Clash.nogood (set_of c.in-RuledOut.premises) c.requires.stand met
     (rw c.in-RuledOut.is at c.in_ok-premises.ensures.culprits)

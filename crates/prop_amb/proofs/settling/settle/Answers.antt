@@ -139,7 +139,7 @@ returns-in-Some g c =
     let same = c.loop-tried.invariant.same in
     let way = c.loop-tried.invariant.way in
     let a : Attempted g.O.Order.picks (stored_of g.R.Rule.value_of c.loop-tried.live.network.library)
-        c.loop-tried.search
+    c.loop-tried.search
     c.loop-tried.live.network.cells c.loop-tried.live.agenda.line c.loop-tried.order
     (c.args.budget - c.loop-tried.steps) c.in_ok-tried.field-0.end c.in_ok-tried.field-0.steps c.try_list.new.search
     c.try_list.new.live.network.cells c.try_list.new.live.agenda.line c.try_list.new.order =
@@ -160,7 +160,7 @@ returns-in-Some g c =
     (c.args.budget - c.loop-tried.steps) c.in_ok-tried.field-0.end c.in_ok-tried.field-0.steps c.try_list.new.search
     c.try_list.new.live.network.cells c.try_list.new.live.agenda.line c.try_list.new.order same a) in
     let both : c.try_list.new.live.network.library ≡ c.args.live.now.network.library = c.try_list.ensures.ran.library
-        ∙ same in
+    ∙ same in
     let as_was : c.decide.new.search ≡ c.try_list.new.search = rw some at c.in_ok-end.ensures.same in
     let line_as_was : c.decide.new.live.agenda.line ≡ c.try_list.new.live.agenda.line =
     rw some at c.in_ok-end.ensures.same_line in
@@ -169,7 +169,7 @@ returns-in-Some g c =
     c.decide.new.live.network.cells c.decide.new.live.agenda.line c.try_list.new.order
     (c.loop-tried.steps + c.in_ok-tried.field-0.steps) c.args.budget c.in_ok-tried.field-0.end =
     rw (ap (λ n. n.cells) c.decide.ensures.network) (ended g.O.Order.picks (stored_of g.R.Rule.value_of
-        c.args.live.now.network.library) c.args.search.now
+    c.args.live.now.network.library) c.args.search.now
     c.args.live.now.network.cells c.args.live.now.agenda.line c.args.order.now c.try_list.new.search
     c.try_list.new.live.network.cells c.try_list.new.live.agenda.line c.try_list.new.order
     (c.loop-tried.steps + c.in_ok-tried.field-0.steps) c.args.budget c.in_ok-tried.field-0.end c.decide.new.search
@@ -255,7 +255,7 @@ loop-tried-preserved g c =
     let same = c.loop-tried.invariant.same in
     let way = c.loop-tried.invariant.way in
     let a : Attempted g.O.Order.picks (stored_of g.R.Rule.value_of c.loop-tried.live.network.library)
-        c.loop-tried.search
+    c.loop-tried.search
     c.loop-tried.live.network.cells c.loop-tried.live.agenda.line c.loop-tried.order
     (c.args.budget - c.loop-tried.steps) c.in_ok-tried.field-0.end c.in_ok-tried.field-0.steps c.try_list.new.search
     c.try_list.new.live.network.cells c.try_list.new.live.agenda.line c.try_list.new.order =
@@ -276,7 +276,7 @@ loop-tried-preserved g c =
     (c.args.budget - c.loop-tried.steps) c.in_ok-tried.field-0.end c.in_ok-tried.field-0.steps c.try_list.new.search
     c.try_list.new.live.network.cells c.try_list.new.live.agenda.line c.try_list.new.order same a) in
     let both : c.try_list.new.live.network.library ≡ c.args.live.now.network.library = c.try_list.ensures.ran.library
-        ∙ same in
+    ∙ same in
     let some = c.in_ok-end.ensures.some none in
     record {
       same = ap (λ n. n.library) c.decide.ensures.network ∙ both;

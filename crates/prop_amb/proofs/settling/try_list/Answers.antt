@@ -37,7 +37,7 @@ loop-tried-preserved g c =
     c.in_ok-tried.tried.end c.in_ok-tried.tried.steps c.attempt.new.search c.attempt.new.live.network.cells
     c.attempt.new.live.agenda.line c.attempt.new.order =
     at_level (stored_of g.R.Rule.value_of) c.args.live.now.network.library c.loop-tried.live.network.library
-        g.O.Order.picks
+    g.O.Order.picks
     c.loop-tried.search c.loop-tried.live.network.cells c.loop-tried.live.agenda.line c.loop-tried.order
     (c.args.budget - c.loop-tried.steps) c.in_ok-tried.tried.end c.in_ok-tried.tried.steps
     c.attempt.new.search c.attempt.new.live.network.cells c.attempt.new.live.agenda.line c.attempt.new.order
@@ -91,7 +91,7 @@ returns-in_default-clause-tried g c =
     c.in_ok-tried.tried.end c.in_ok-tried.tried.steps c.attempt.new.search c.attempt.new.live.network.cells
     c.attempt.new.live.agenda.line c.attempt.new.order =
     at_level (stored_of g.R.Rule.value_of) c.args.live.now.network.library c.loop-tried.live.network.library
-        g.O.Order.picks
+    g.O.Order.picks
     c.loop-tried.search c.loop-tried.live.network.cells c.loop-tried.live.agenda.line c.loop-tried.order
     (c.args.budget - c.loop-tried.steps) c.in_ok-tried.tried.end c.in_ok-tried.tried.steps
     c.attempt.new.search c.attempt.new.live.network.cells c.attempt.new.live.agenda.line c.attempt.new.order
@@ -132,7 +132,7 @@ returns-then-is_whole-clause-tried g c =
     c.in_ok-tried.tried.end c.in_ok-tried.tried.steps c.attempt.new.search c.attempt.new.live.network.cells
     c.attempt.new.live.agenda.line c.attempt.new.order =
     at_level (stored_of g.R.Rule.value_of) c.args.live.now.network.library c.loop-tried.live.network.library
-        g.O.Order.picks
+    g.O.Order.picks
     c.loop-tried.search c.loop-tried.live.network.cells c.loop-tried.live.agenda.line c.loop-tried.order
     (c.args.budget - c.loop-tried.steps) c.in_ok-tried.tried.end c.in_ok-tried.tried.steps
     c.attempt.new.search c.attempt.new.live.network.cells c.attempt.new.live.agenda.line c.attempt.new.order
@@ -158,7 +158,7 @@ returns-then-is_whole-clause-tried g c =
       most = c.in_ok-tried.ensures.most;
     }) in
     subst (λ tried. Attempted g.O.Order.picks (stored_of g.R.Rule.value_of c.args.live.now.network.library)
-        c.args.search.now
+    c.args.search.now
     c.args.live.now.network.cells c.args.live.now.agenda.line c.args.order.now c.args.budget tried
     (c.loop-tried.steps + c.in_ok-tried.tried.steps) c.attempt.new.search c.attempt.new.live.network.cells
     c.attempt.new.live.agenda.line c.attempt.new.order) c.in-Quiet.is
