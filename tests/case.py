@@ -141,7 +141,7 @@ class Unheard(Case):
         return self.wrong_with(ran.returncode, b"", ran.stderr)
 
 
-def in_each_order(cases: Iterable["Case"]) -> Iterator["Case"]:
+def in_each_order(cases: Iterable[Case]) -> Iterator[Case]:
     """Each case in each order, but for one that chooses its order itself."""
     for case in cases:
         for order in [[]] if "--order" in case.options else ORDERS:
