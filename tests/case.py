@@ -2,17 +2,26 @@
 import os
 import resource
 import subprocess
-import sys
 import tempfile
 import time
 from dataclasses import dataclass, field, replace
-from typing import Callable, Optional
+from typing import Callable, Iterable, Iterator, Optional
 
 SECONDS = 60
 NO_END = f"no end in {SECONDS} seconds"
 
 # The orders in which waiting procedures may be called, as options of the program; the first is the one where none is chosen.
 ORDERS = [[], ["--order", "lifo"], ["--order", "mixed", "--seed", "7"]]
+
+
+def as_bytes(*lines: str) -> bytes:
+    """These lines as they are sent, or written, each with its end."""
+    return "".join(line + "\n" for line in lines).encode()
+
+
+def answered(count: int, *last: str) -> bytes:
+    """What is written where so many lines are answered `ok`, and those behind them so."""
+    return as_bytes(*["ok"] * count, *last)
 
 
 def first_difference(got, wanted):
@@ -132,12 +141,8 @@ class Unheard(Case):
         return self.wrong_with(ran.returncode, b"", ran.stderr)
 
 
-def in_each_order(cases):
+def in_each_order(cases: Iterable[Case]) -> Iterator[Case]:
     """Each case in each order, but for one that chooses its order itself."""
     for case in cases:
         for order in [[]] if "--order" in case.options else ORDERS:
             yield replace(case, name=" ".join([case.name, *order]), options=[*case.options, *order])
-
-
-if __name__ == "__main__":
-    sys.exit("tests/run runs the cases")

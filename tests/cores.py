@@ -11,7 +11,7 @@ import sys
 import time
 from dataclasses import dataclass
 
-from case import Case, in_each_order
+from case import Case, answered, as_bytes, in_each_order
 
 SUMS = 20
 
@@ -26,11 +26,10 @@ class Core:
     answer: str
 
     def sent(self, *last):
-        return "".join(f"{line}\n" for line in [*self.lines, *last]).encode()
+        return as_bytes(*self.lines, *last)
 
     def case(self):
-        wanted = "ok\n" * len(self.lines) + f"{self.answer}\n"
-        return Case(f"cores: {self.name}", self.sent(f"core {self.cell}"), wanted.encode())
+        return Case(f"cores: {self.name}", self.sent(f"core {self.cell}"), answered(len(self.lines), self.answer))
 
 
 def sums():
@@ -77,9 +76,9 @@ def either(output):
 
 def few():
     lines = ["limit 1", "cell x span", "cell y span", "attach copier x y", "tell a x 0..10", "tell b x 0..10", "core y", "limit 100", "core y"]
-    yield Case("cores: the limit ends a reduction", "".join(f"{line}\n" for line in lines).encode(), not_reduced)
+    yield Case("cores: the limit ends a reduction", as_bytes(*lines), not_reduced)
     lines = ["cell x span", "tell a x 0..10", "tell b x 5..20", "tell c x 0..20", "tell d x 5..10", "core x"]
-    yield Case("cores: one of two", "".join(f"{line}\n" for line in lines).encode(), either)
+    yield Case("cores: one of two", as_bytes(*lines), either)
 
 
 def cases():

@@ -9,7 +9,7 @@ import os
 import re
 from typing import Iterable, Iterator, Optional
 
-from case import Case
+from case import Case, as_bytes
 
 TOP = os.path.dirname(os.path.dirname(os.path.realpath(__file__)))
 # Documents whose indented blocks are code, with the crate in which it stands.
@@ -46,10 +46,6 @@ def session(text: str) -> tuple[list[str], list[str]]:
     return sent, wanted
 
 
-def as_bytes(lines: list[str]) -> bytes:
-    return "".join(line + "\n" for line in lines).encode()
-
-
 def stripped(lines: Iterable[str]) -> list[str]:
     return [line.strip() for line in lines if line.strip()]
 
@@ -77,4 +73,4 @@ def cases() -> Iterator[Case]:
     for document in ["README.md", *documents]:
         sent, wanted = session(read(document))
         if sent:
-            yield Case(f"documents: {document}", as_bytes(sent), as_bytes(wanted))
+            yield Case(f"documents: {document}", as_bytes(*sent), as_bytes(*wanted))

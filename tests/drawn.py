@@ -9,7 +9,7 @@ import subprocess
 from dataclasses import dataclass
 from typing import Callable, Optional
 
-from case import NO_END, SECONDS, Case
+from case import NO_END, SECONDS, Case, as_bytes
 
 
 class Unending(Exception):
@@ -70,7 +70,7 @@ class Told:
         self.say(line)
 
     def sent(self):
-        return "".join(line + "\n" for line in self.lines).encode()
+        return as_bytes(*self.lines)
 
     def wrong_in(self, output) -> Optional[Wrong]:
         """The first line that is answered wrongly."""
@@ -174,7 +174,7 @@ class Drawn(Case):
             return None
         return told
 
-    def smallest(self, program):
+    def smallest(self, program: str) -> Optional[str]:
         """The smallest session found that the program answers wrongly too, with what is wrong, or None where it is right the next time."""
 
         def is_wrong(acts):

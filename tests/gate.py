@@ -15,7 +15,7 @@ TOP = os.path.dirname(os.path.dirname(os.path.realpath(__file__)))
 # What the stand-ins are called, and what they do: WRONG, LACKING and APT come from the case.
 STAND_INS = {
     "tools/timed": 'echo proofs; [ "$WRONG" != proofs ]',
-    "tests/run": 'echo sessions; [ "$WRONG" != sessions ]',
+    "bin/pytest-3": 'echo sessions; [ "$WRONG" != sessions ]',
     "tools/python_gate": 'echo python; [ "$WRONG" != python ]',
     "bin/dpkg-query": """\
 for it; do :; done
@@ -93,7 +93,7 @@ GATES = [
         "without it nothing of Python's is installed",
         ALL[:2],
         0,
-        lacking="python3-pytest",
+        lacking="python3-hypothesis",
         has_python=False,
     ),
     Gate("proofs fail", ALL, 1, wrong_part="proofs"),

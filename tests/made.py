@@ -3,21 +3,12 @@ import os
 import re
 from functools import partial
 
-from case import FILE_LIMIT, ORDERS, ByteByByte, Case, OnAFullFile, OnDevices, Unheard
+from case import FILE_LIMIT, ORDERS, ByteByByte, Case, OnAFullFile, OnDevices, Unheard, answered, as_bytes
 
 # (a session that says something)
 FIRST = os.path.join(os.path.dirname(os.path.realpath(__file__)), "..", "examples", "first.prop")
 
 PRELUDE = ["sum", "product", "square", "less", "same", "alike", "switch", "conditional", "not", "and", "or", "link"]
-
-
-def answered(count, *last):
-    """So many lines `ok`, and then these."""
-    return b"ok\n" * count + "".join(line + "\n" for line in last).encode()
-
-
-def sent(*lines):
-    return "".join(line + "\n" for line in lines).encode()
 
 
 def doubled(first):
@@ -32,13 +23,13 @@ def large_uses():
     uses = ["attach d199 a b", "attach d18 a b", "attach d17 a b", "attach d17 a b", "fix a 7", "ask b"]
     yield Case(
         "large uses: more instances than there may be are refused at once",
-        sent(*doubled("copier x y"), *uses),
+        as_bytes(*doubled("copier x y"), *uses),
         answered(202, limit + "instances", limit + "instances", "ok", limit + "instances", "ok", "b = 7"),
     )
     uses = ["attach d199 a b", "attach d17 a b", "attach d16 a b", "attach d16 a b", "attach d15 a b", "attach d15 a b", "ask b"]
     yield Case(
         "large uses: more fresh cells than there may be are refused at once",
-        sent(*doubled("local m span ; copier x m"), *uses),
+        as_bytes(*doubled("local m span ; copier x m"), *uses),
         answered(202, limit + "cells", limit + "cells", "ok", limit + "cells", "ok", limit + "cells", "b = nothing"),
     )
 
@@ -59,19 +50,19 @@ def long_ways():
     lines += [f"cell {cell} span" for cell in cells] + [f"attach w17 {' '.join(cells)}", "fix c0 7"]
     yield Case(
         "long ways: 131,072 instances, each down through 1,000 definitions",
-        sent(*lines, "ask c59", "ask c58"),
+        as_bytes(*lines, "ask c59", "ask c58"),
         answered(len(lines), "c59 = 7", "c58 = nothing"),
     )
     lines = linked("d", ["x", "y", "z"], "adder x y z", 999) + [f"cell {cell} span" for cell in "abce"]
     lines += ["attach d999 a b c", "attach d998 c c e", "fix b 2", "fix c 3"]
-    yield Case("long ways: which cell is which", sent(*lines, "ask a", "ask e"), answered(len(lines), "a = 5", "e = 6"))
+    yield Case("long ways: which cell is which", as_bytes(*lines, "ask a", "ask e"), answered(len(lines), "a = 5", "e = 6"))
     lines = linked("m", ["x", "y", "z"], "multiplier x y z by *", 500, " by *") + linked("n", ["x", "y", "z"], "m500 x y z", 50)
     lines += linked("k", ["x", "y"], "copier x y", 1, " by 2") + linked("l", ["x", "y"], "k1 x y", 400)
     lines += [f"cell {cell} span" for cell in "abc"] + ["attach m500 a b c by 10", "fix a 60", "fix b 7"]
     wrong = "error 14: wrong parameter"
     yield Case(
         "long ways: what is passed, and where nobody takes it",
-        sent(*lines, "attach n50 a b c by 10", "attach l400 a b", "attach n50 a b c by 0", "ask c", "attach k0 a b", "attach k0 a b by 2"),
+        as_bytes(*lines, "attach n50 a b c by 10", "attach l400 a b", "attach n50 a b c by 0", "ask c", "attach k0 a b", "attach k0 a b by 2"),
         answered(len(lines), wrong, wrong, "error 6: not a number in range", "c = 42", "ok", wrong),
     )
 
@@ -96,7 +87,7 @@ def limits():
 
 def up_to(most, before, line):
     """What stands before, so many lines and one too many, twice, a cell, and the first line again."""
-    return sent(*before, *map(line, range(most + 1)), line(most), "cell last span", line(0))
+    return as_bytes(*before, *map(line, range(most + 1)), line(most), "cell last span", line(0))
 
 
 def wrong_at_limit(word, taken, output):
@@ -116,7 +107,7 @@ def sides_among_premises():
     lines = ["cell a span", *(f"choose k{n} a {eight}" for n in range(62)), *(f"tell p{n} a 1" for n in range(3_598))]
     yield Case(
         "limits: premises, of which the sides of choices are some",
-        sent(*lines, "choose c a 1 or 2 or 3", "choose c a 1 or 2", "tell q a 1", "choose d a 1 or 2", "choose c a 1 or 2", "tell p0 a 1"),
+        as_bytes(*lines, "choose c a 1 or 2 or 3", "choose c a 1 or 2", "tell q a 1", "choose d a 1 or 2", "choose c a 1 or 2", "tell p0 a 1"),
         answered(len(lines), limit, "ok", limit, limit, "error 7: name taken", "ok"),
     )
 
@@ -133,27 +124,27 @@ def sizes():
     uses = [f"attach link x y by r{n + 1}" for n in range(len(lines))]
     yield Case(
         "sizes: pairs of a relation",
-        sent(f"domain d {' '.join(letters)}", "cell x d", "cell y d", *lines, *uses, "fix x a", "ask y"),
+        as_bytes(f"domain d {' '.join(letters)}", "cell x d", "cell y d", *lines, *uses, "fix x a", "ask y"),
         answered(4 + 2 * len(lines), "y = a"),
     )
     cells = [f"c{n}" for n in range(64)]
     lines = [f"cell {cell} span" for cell in cells]
     lines += [f"define f{n} {' '.join(cells[:n])} = copier c0 {cells[n - 1]}" for n in range(2, 65)]
     lines += [f"attach f{n} {' '.join(cells[:n])}" for n in range(2, 65)]
-    yield Case("sizes: parameters of a definition", sent(*lines, "fix c0 7", *(f"ask {cell}" for cell in cells)), answered(len(lines) + 1, *(f"{cell} = 7" for cell in cells)))
+    yield Case("sizes: parameters of a definition", as_bytes(*lines, "fix c0 7", *(f"ask {cell}" for cell in cells)), answered(len(lines) + 1, *(f"{cell} = 7" for cell in cells)))
     lines = [f"define g{n} x y = {' ; '.join(['copier x y'] * n)}" for n in range(1, 400)]
     lines = [line for line in lines if len(line) <= LINE]
     lines += [f"attach g{n + 1} a b" for n in range(len(lines))]
-    yield Case("sizes: steps of a definition", sent("cell a span", "cell b span", *lines, "fix a 7", "ask b"), answered(len(lines) + 3, "b = 7"))
+    yield Case("sizes: steps of a definition", as_bytes("cell a span", "cell b span", *lines, "fix a 7", "ask b"), answered(len(lines) + 3, "b = 7"))
     lines = [f"domain d{n} {' '.join(f'e{m}' for m in range(n))}" for n in range(1, 65)] + [f"cell x{n} d{n}" for n in range(1, 65)]
     lines += [f"fix x{n} {{{' '.join(f'e{m}' for m in range(n))}}}" for n in range(2, 65)]
     lines += [f"choose k{n} x64 {' or '.join(f'e{m}' for m in range(n))}" for n in range(2, 9)]
-    yield Case("sizes: elements, and sides of a choice", sent(*lines, "ask x64"), answered(len(lines), "x64 = e0"))
+    yield Case("sizes: elements, and sides of a choice", as_bytes(*lines, "ask x64"), answered(len(lines), "x64 = e0"))
     count = 200
     lines = [f"cell {name}{n} span" for n in range(count) for name in "xs"] + ["attach same x0 s0", *(f"attach sum s{n - 1} x{n} s{n}" for n in range(1, count))]
     lines += [f"tell p{n} x{n} {n}" for n in range(count)]
     because = [f"s{n} = {n * (n + 1) // 2} because {' '.join(f'p{m}' for m in range(n + 1))}" for n in range(count)]
-    yield Case("sizes: premises of an explanation", sent(*lines, *(f"why s{n}" for n in range(count))), answered(len(lines), *because))
+    yield Case("sizes: premises of an explanation", as_bytes(*lines, *(f"why s{n}" for n in range(count))), answered(len(lines), *because))
 
 
 def line_lengths():
@@ -168,7 +159,7 @@ def line_lengths():
 
 
 def command_lines():
-    stepping = sent("cell x span", "cell one span", "attach adder x one x", "fix one 1", "fix x 0..10", "ask x")
+    stepping = as_bytes("cell x span", "cell one span", "attach adder x one x", "fix one 1", "fix x 0..10", "ask x")
     for options, answer in [
         ([], "contradiction: no premise"),
         (["--limit", "3"], "x = 3..10 unsettled"),
@@ -203,7 +194,7 @@ def steps():
     """A sum that feeds itself, cut short in each order: whatever was called, the ends have moved by no more than one a step."""
     looping = ["cell x span", "cell one span", "cell y span", "attach sum x one y", "attach same x y", "fix one 1", "tell p x 0..1000000", "limit 100", "ask x"]
     for order in ORDERS:
-        yield Case(" ".join(["limits: a sum that feeds itself", *order]), sent(*looping), wrong_in_loop, order)
+        yield Case(" ".join(["limits: a sum that feeds itself", *order]), as_bytes(*looping), wrong_in_loop, order)
 
 
 def wrong_in_loop(output):
@@ -226,7 +217,7 @@ def devices():
 def prelude():
     """Each compound of the prelude stands before the first line."""
     for name in PRELUDE:
-        yield Case(f"prelude: {name} is taken", sent(f"define {name} x y = copier x y"), b"error 7: name taken\n")
+        yield Case(f"prelude: {name} is taken", as_bytes(f"define {name} x y = copier x y"), b"error 7: name taken\n")
 
 
 def cases():

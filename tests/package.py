@@ -17,7 +17,7 @@ from functools import cache
 from typing import Callable, Iterator, Optional
 
 import documents
-from case import SECONDS, Check
+from case import SECONDS, Check, as_bytes
 
 TOP = os.path.dirname(os.path.dirname(os.path.realpath(__file__)))
 # What the names of its cases begin with.
@@ -202,7 +202,7 @@ def first_session(program: str) -> Optional[str]:
     with open(f"{TOP}/README.md", encoding="utf-8") as it:
         block = next(documents.blocks(it.read()))
     sent, wanted = documents.session("".join(f"    {line}\n" for line in block))
-    done = inside(installed(program), "propbench", sent=documents.as_bytes(sent))
+    done = inside(installed(program), "propbench", sent=as_bytes(*sent))
     if (done.returncode, done.stderr) != (0, b"") or not wanted:
         return f"status {done.returncode}: {done.stderr!r}"
     got = done.stdout.decode().splitlines()
@@ -446,7 +446,7 @@ HOLDS: dict[str, Callable[[str], Optional[str]]] = {
 
 def prepare(program: str) -> None:
     """Makes the package and the root that all cases share. Where that fails, the cases tell why."""
-    with contextlib.suppress(OSError):
+    with contextlib.suppress(OSError, subprocess.TimeoutExpired):
         unpacked(os.path.abspath(program))
         installed(os.path.abspath(program))
 

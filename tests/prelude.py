@@ -3,7 +3,9 @@
 The compounds stand here as the language's page tells them, and not as the program has them. Each example is asked of the program's own compound;
 and of the compound as it stands here without that one use, where the answer has to be another: so no use can be lost unseen.
 """
-from case import Case
+from typing import Iterator
+
+from case import Case, answered, as_bytes
 
 DECLARED = ["domain d a b c", "relation r d d = a b ; a c"]
 KINDS = {"t": "truth", "n": "truth"}
@@ -72,10 +74,6 @@ def session(compound, attached, behind, stated, asked, first=()):
     return [*lines, *(f"fix {it}" for it in stated.split(", ")), f"ask {asked}"]
 
 
-def as_bytes(lines):
-    return "".join(line + "\n" for line in lines).encode()
-
-
 def lacks(lines, answer):
     """Says what is wrong where the output is not `ok` to each line but the last, and something else than the answer to it."""
 
@@ -93,7 +91,7 @@ def without(steps, use):
     return [it for it in steps if it != use] or ["local nothing_said span"]
 
 
-def cases():
+def cases() -> Iterator[Case]:
     seen = {(compound.split()[0], use) for compound, use, _, _ in EXAMPLES}
     missing = [(name, use) for name, (_, _, steps) in COMPOUNDS.items() for use in steps if (name, use) not in seen and not use.startswith("local")]
     assert not missing, missing
@@ -102,6 +100,6 @@ def cases():
         behind = " " + behind if behind else ""
         cells, _, steps = COMPOUNDS[name]
         lines = session(name, name, behind, stated, answer.split()[0])
-        yield Case(f"prelude: {compound} needs {use}", as_bytes(lines), b"ok\n" * (len(lines) - 1) + f"{answer}\n".encode())
+        yield Case(f"prelude: {compound} needs {use}", as_bytes(*lines), answered(len(lines) - 1, answer))
         less = session(name, "other", behind, stated, answer.split()[0], [f"define other {cells} = {' ; '.join(without(steps, use))}"])
-        yield Case(f"prelude: {compound} without {use}", as_bytes(less), lacks(less, answer))
+        yield Case(f"prelude: {compound} without {use}", as_bytes(*less), lacks(less, answer))

@@ -5,6 +5,8 @@ from itertools import combinations, product
 from math import prod
 from typing import Iterable, Iterator, Optional
 
+from case import as_bytes
+
 
 @dataclass
 class Choice:
@@ -37,7 +39,7 @@ class Puzzle:
         return prod(len(choice.values) for choice in self.choices)
 
     def sent(self, *last: str) -> bytes:
-        return "".join(f"{line}\n" for line in [*self.lines, *last]).encode()
+        return as_bytes(*self.lines, *last)
 
 
 def pairs(of: Iterable[tuple[str, str]]) -> str:

@@ -3,7 +3,7 @@
 
 usage: tests/refusals.py PROGRAM SESSION
 
-refuses each request for memory of the lines of the file SESSION in turn, once each. tests/run runs worked sessions so.
+refuses each request for memory of the lines of the file SESSION in turn, once each. The gate runs worked sessions so.
 """
 import atexit
 import os
@@ -13,6 +13,7 @@ import sys
 import tempfile
 from dataclasses import dataclass
 from functools import cache
+from typing import Iterator
 
 from case import SECONDS, first_difference
 from transcripts import Transcript
@@ -271,7 +272,7 @@ HUNGRY = [
 CHOOSING = HUNGRY[1]
 
 
-def cases(transcripts):
+def cases(transcripts: list[Transcript]) -> Iterator[Refusals]:
     by_name = {each.name: each for each in transcripts}
     yield from (EachAllocation(f"refusals: memory, {name}", by_name[name]) for name in HUNGRY)
     for kind in [EachRead, EachReadThatWouldWait, EachWrite, EachWriteThatWouldWait, EachWriteOfNothing, HalfWrites, Interrupted, EachCut]:

@@ -7,7 +7,7 @@ without end, and `divider` is not always narrowest; their formulas are in tests/
 from itertools import combinations, product
 
 import formulas
-from case import Case
+from case import Case, as_bytes
 
 TRUTHS = ["yes", "no"]
 ELEMENTS = ["e", "f", "g"]
@@ -188,8 +188,7 @@ class Sheet:
         self.say(f"ask {output}", "contradiction: no premise" if answer == CLASH else f"{output} = {text_of(answer)}")
 
     def case(self, name):
-        sent, wanted = ("".join(line + "\n" for line in lines).encode() for lines in (self.lines, self.wanted))
-        return Case(f"rules: {name}", sent, wanted)
+        return Case(f"rules: {name}", as_bytes(*self.lines), as_bytes(*self.wanted))
 
 
 DOMAIN = "domain d " + " ".join(ELEMENTS)

@@ -43,8 +43,9 @@ def first_lines() -> Optional[str]:
     return f"{odd}" if odd else None
 
 
-TYPED_TESTS = ["documents", "driver", "first_start", "gate", "lines", "package", "pages", "peers"]
-TYPED_TESTS += ["pipe", "puzzles", "scripts", "searches", "wide_rules"]
+TYPED_TESTS = ["conftest", "documents", "driver", "first_start", "gate", "lines", "package"]
+TYPED_TESTS += ["pages", "peers", "pipe", "puzzles", "scripts", "searches", "test_sessions"]
+TYPED_TESTS += ["wide_rules"]
 # Scripts and modules that are typed and laid out by black, by the folder that they are looked at in.
 TYPED = {
     "tools/start": ["*.py", "../../propbench"],

@@ -5,7 +5,7 @@ usage: tests/searches.py PROGRAM [NAME ..]
 
 prints of each puzzle, or of those named, how many choice lists there are, how many steps the
 program takes from the first line to the answer, how many nogoods it lists then, and the seconds of
-the whole session. The steps are the least limit with which the answer is settled. tests/run solves
+the whole session. The steps are the least limit with which the answer is settled. The gate solves
 those that take no second, and solves some in slices: who asks again and again with a small limit
 has to come to the answer by hardly more steps than who asks once.
 """
@@ -16,10 +16,10 @@ from bisect import bisect_left
 from dataclasses import dataclass, field
 from typing import Iterator, Optional
 
-from case import Case
+from case import Case, answered
 from puzzles import Puzzle, pigeons, queens, small_colouring, tenants, tenants_by_floors
 
-# The puzzles that tests/run solves.
+# The puzzles that the gate solves.
 SOLVED = ["6 pigeons", "tenants", "tenants told apart by one floor at a time"]
 SOLVED += ["6 queens", "8 queens"]
 
@@ -109,9 +109,9 @@ class Sliced:
 
 def cases() -> Iterator[Case | Sliced]:
     for puzzle in solved():
-        wanted = "ok\n" * len(puzzle.lines) + f"{puzzle.answer}\n"
+        wanted = answered(len(puzzle.lines), puzzle.answer)
         sent = puzzle.sent(f"ask {puzzle.cell}")
-        yield Case(f"searches: {puzzle.name}", sent, wanted.encode())
+        yield Case(f"searches: {puzzle.name}", sent, wanted)
     for puzzle in [*solved(), *colourings()]:
         yield Sliced(f"searches: {puzzle.name}, in slices", puzzle)
 

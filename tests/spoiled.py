@@ -15,6 +15,7 @@ from typing import Callable
 
 import plain
 import steps
+from case import as_bytes
 from drawn import Drawn, replies_of
 from formulas import NOTHING, info_of, merged, text_of
 
@@ -44,7 +45,7 @@ def alone(run, sent):
     for at, (line, reply) in enumerate(zip(lines, replies)):
         if line.startswith("ask ") and reply.endswith(" unsettled"):
             replies[at] = f"{line.split()[1]} = {text_of(by_itself(run, lines[: at + 1]))} unsettled"
-    return "".join(reply + "\n" for reply in replies).encode()
+    return as_bytes(*replies)
 
 
 def by_itself(run, lines):
@@ -52,7 +53,7 @@ def by_itself(run, lines):
     found = NOTHING
     for premise in {line.split()[1] for line in lines if line.startswith("tell ")}:
         kept = [line for line in lines if not line.startswith("tell ") or line.split()[1] == premise]
-        answer = run("".join(line + "\n" for line in kept).encode()).decode().splitlines()[-1]
+        answer = run(as_bytes(*kept)).decode().splitlines()[-1]
         # (a premise that clashes by itself says nothing here)
         value = answer.partition(" = ")[2].removesuffix(" unsettled") or NOTHING
         found = merged(found, info_of(value))

@@ -1,9 +1,10 @@
 """Sessions over a stack of 64 kB: none of them takes more, however large or deep what it holds is."""
 import subprocess
 from dataclasses import dataclass
+from typing import Iterable, Iterator
 
 import made
-from case import SECONDS, Case
+from case import SECONDS, Case, answered, as_bytes
 
 LEVELS = 1_000
 CELLS = 6_000
@@ -39,11 +40,11 @@ def nested():
 def deep():
     lines = [*nested(), f"attach d{LEVELS - 1} a b"]
     name = "stack of 64 kB: 1,000 definitions in one another"
-    yield OnSmallStack(name, made.sent(*lines, "fix a 7", "ask b"), made.answered(len(lines) + 1, "b = 7"))
+    yield OnSmallStack(name, as_bytes(*lines, "fix a 7", "ask b"), answered(len(lines) + 1, "b = 7"))
     # (cells take what memory is left)
     lines[-1:-1] = [f"cell c{n} span" for n in range(CELLS)]
     for kilobytes in range(4_000, 5_000, 100):
-        yield OnSmallStack(f"{name}, and {kilobytes} kB in all", made.sent(*lines), lambda output: wrong_where_refused(output, len(lines)), memory=kilobytes)
+        yield OnSmallStack(f"{name}, and {kilobytes} kB in all", as_bytes(*lines), lambda output: wrong_where_refused(output, len(lines)), memory=kilobytes)
 
 
 MEMORY = "error 90: out of memory"
@@ -60,7 +61,7 @@ def wrong_where_refused(output, count):
     return f"{len(replies)} replies, wanted {count}, and among them {other[:1]}" if other or len(replies) != count else None
 
 
-def cases(worked):
+def cases(worked: Iterable[Case]) -> Iterator[Case]:
     yield from map(on_small_stack, worked)
     for large in (made.large_uses, made.long_ways, made.limits, made.sides_among_premises, made.sizes, made.steps):
         yield from map(on_small_stack, large())

@@ -2,6 +2,7 @@
 import os
 import re
 from dataclasses import dataclass
+from typing import Iterator
 
 from case import Case
 
@@ -20,7 +21,7 @@ class Transcript:
     def replies(self):
         return [reply for _, reply in self.exchanges]
 
-    def case(self):
+    def case(self) -> Case:
         return Case(self.name, b"".join(self.lines()), b"".join(self.replies()), self.options)
 
 
@@ -48,7 +49,7 @@ def exchanges(lines):
     return found
 
 
-def transcripts(path):
+def transcripts(path: str) -> Iterator[Transcript]:
     """The sessions of one file."""
     with open(path, encoding="utf-8", newline="\n") as lines:
         text = lines.read()
