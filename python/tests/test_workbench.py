@@ -402,3 +402,32 @@ def test_over_all_plans(w: Workbench) -> None:
     with pytest.raises(Conflict) as caught:
         y.ask(over="all plans")
     assert set(caught.value.premises) == {"much", "square", "none"}
+
+
+def test_long_lists(w: Workbench) -> None:
+    xs = [w.number(f"x{i}", 0, i) for i in range(400)]
+    top, low, some = w.number("top"), w.number("low"), w.number("some")
+    w.require(top == maximum(xs))
+    w.require(low == minimum(xs))
+    w.require(some == count(x > 3 for x in xs))
+    w.require(sum(xs[1:], xs[0]) == 0, under="nothing")
+    answers = [cell.ask() for cell in (top, low, some, xs[399])]
+    assert [answer.value for answer in answers] == [0, 0, 0, 0]
+    w.kick("nothing")
+    w.fix(xs[399], 399)
+    assert (top.ask().value, low.ask().value) == (399, 0)
+    assert (some.ask().low, some.ask().high) == (1, 396)
+
+
+def test_what_no_line_holds(w: Workbench) -> None:
+    """What can't be said is refused in the user's words, and leaves nothing behind."""
+    x = w.number("x", 0, 9)
+    with pytest.raises(ValueError, match="no room for so many and so long names"):
+        w.domain("long", [f"{'long' * 15}__{i:02}" for i in range(64)])
+    deep = x
+    for _ in range(3000):
+        deep = abs(deep - 1)
+    with pytest.raises(ValueError, match="nested too deeply"):
+        w.require(deep == 3)
+    w.require(x <= 3)
+    assert x.ask().value == Span(0, 3) and len(w.model.base()) == 5

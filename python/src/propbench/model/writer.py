@@ -37,6 +37,11 @@ class Writer:
         """How many lines were written so far."""
         return len(self._log)
 
+    @property
+    def lines(self) -> list[str]:
+        """All lines that were written."""
+        return list(self._log)
+
     def taken(self) -> list[str]:
         """The lines that were written since the last call."""
         lines, self._taken = self._log[self._taken :], len(self._log)
