@@ -356,6 +356,11 @@ class Workbench(Questions):
     def _reader(self) -> Reader:
         return Reader(self._network.vocabulary, self._network.premises)
 
+    def _read(self, cell: str, reply: Value, inside: Iterable[str]) -> Answer:
+        """A reply about a cell of a session that has this one's lines, with these sides."""
+        read = self._reader()
+        return read.answer(self._network.cells[cell], reply, read.plan(inside))
+
     def _plan(self) -> dict[str, object]:
         """For each choice what it stands on, where a run has found that."""
         if not self._network.premises.choices:

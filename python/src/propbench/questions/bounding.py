@@ -3,7 +3,7 @@
 from collections.abc import Sequence
 from dataclasses import dataclass
 
-from propbench.questions.asking import CellLike, answered, cell_named
+from propbench.questions.asking import CellLike, cell_named, tried
 from propbench.questions.certificate import Certificate, Evidence
 from propbench.questions.checker import MOST
 from propbench.questions.clock import Clock, Progress
@@ -83,6 +83,13 @@ class Bounding:
         """A number beyond which nothing fits, None where none is known."""
         return None if self._low == -MOST else self._sign * self._low
 
+    @property
+    def beyond_value(self) -> Numbers | None:
+        """The values that are better than the best that was found, None where there are none."""
+        if self._best is None or self._best == -MOST:
+            return None
+        return self.beyond(self._best - 1)
+
     def beyond(self, most: int) -> Numbers:
         """The values up to one, seen from this end."""
         return Numbers(-MOST, most) if self._sign == 1 else Numbers(-most, MOST)
@@ -149,4 +156,4 @@ def find_optimum(
     name, clock = cell_named(model, cell), Clock(seconds, progress)
     trial = Trial(model, model.believed(), clock)
     bounding = Bounding(trial, model.believed(), name, sort)
-    return answered(clock, trial, bounding.run, bounding.result)
+    return tried(trial, bounding.run, bounding.result)

@@ -30,6 +30,10 @@ class Clock:
         """Whether the time is used up."""
         return self._until is not None and time.monotonic() >= self._until
 
+    def seconds_left(self) -> float | None:
+        """How many seconds are left, None where there is no end."""
+        return None if self._until is None else max(0.0, self._until - time.monotonic())
+
     def tell(self, text: str) -> None:
         """Tells of how far a question is, now and then."""
         now = time.monotonic()

@@ -2,7 +2,7 @@
 
 from collections.abc import Iterable, Iterator, Mapping, Sequence
 
-from propbench.questions.asking import answered, premises_named
+from propbench.questions.asking import premises_named, tried
 from propbench.questions.certificate import Certificate, Evidence
 from propbench.questions.clock import Clock, Progress
 from propbench.questions.exploring import Exploring
@@ -126,7 +126,7 @@ def find_conflicts(
         certificate = _certificate(explored, [], True)
         return Conflicts(found, explored.complete, _texts(model), certificate)
 
-    return answered(explored.trial.clock, explored.trial, run, result)
+    return tried(explored.trial, run, result)
 
 
 def find_repairs(
@@ -155,7 +155,7 @@ def find_repairs(
         certificate = _certificate(explored, explored.repairs, False)
         return Repairs(found, explored.complete, bool(explored.conflicts), certificate)
 
-    return answered(explored.trial.clock, explored.trial, run, result)
+    return tried(explored.trial, run, result)
 
 
 def _explore(

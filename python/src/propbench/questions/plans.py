@@ -2,7 +2,7 @@
 
 from collections.abc import Iterable, Sequence
 
-from propbench.questions.asking import CellLike, answered, cell_named
+from propbench.questions.asking import CellLike, cell_named, tried
 from propbench.questions.certificate import Certificate, Evidence, Tree, as_json, on_lines
 from propbench.questions.clock import Clock, Progress
 from propbench.questions.model import Model, Plan
@@ -132,4 +132,4 @@ def find_plans(
     if names is None:
         names = [cell for cell in trial.cells if trial.rooms[cell] is not None]
     listing = Listing(trial, list(dict.fromkeys(names)), most)
-    return answered(clock, trial, listing.run, listing.result)
+    return tried(trial, listing.run, listing.result)
