@@ -123,7 +123,7 @@ def find_conflicts(
         for refuted in explored.conflicts:
             found.append(Conflict(explored.names(refuted.mask)))
             found[-1].least = refuted.least
-        certificate = _certificate(explored, [], True)
+        certificate = _certificate(explored, [])
         return Conflicts(found, explored.complete, _texts(model), certificate)
 
     return tried(explored.trial, run, result)
@@ -152,7 +152,7 @@ def find_repairs(
         for mask in explored.repairs:
             found.append(Repair(explored.names(mask)))
             found[-1].cost = explored.cost(mask)
-        certificate = _certificate(explored, explored.repairs, False)
+        certificate = _certificate(explored, explored.repairs)
         return Repairs(found, explored.complete, bool(explored.conflicts), certificate)
 
     return tried(explored.trial, run, result)
@@ -174,32 +174,34 @@ def _texts(model: Model) -> dict[str, str]:
     return {premise: model.text(premise) for premise in model.premises()}
 
 
-def _certificate(explored: Exploring, outs: Sequence[int], are_conflicts: bool) -> Certificate:
-    """What shows the conflicts, and that each is least where these were asked for; or the repairs,
-    and that none of a repair can come back; and that there are no more where all were found."""
+def _certificate(explored: Exploring, outs: Sequence[int]) -> Certificate:
+    """What shows that the conflicts are least, and that these repairs are; and that there are no
+    more where all were found. Conflicts that may not be least are shown as what can't hold."""
     evidence = Evidence.of(explored.trial)
     for refuted in explored.conflicts:
         evidence.add_tree(explored.names(refuted.mask), [], refuted.tree)
-    least = [refuted.mask for refuted in explored.conflicts if refuted.least and are_conflicts]
-    others = [refuted.mask for refuted in explored.conflicts if refuted.mask not in least]
+    least = [refuted.mask for refuted in explored.conflicts if refuted.least]
     needed = [mask & ~bit for mask in least for bit in bits_of(mask)]
-    needed += [explored.all & ~hit for hit in (explored.repairs if explored.complete else outs)]
+    needed += [explored.all & ~hit for hit in explored.repairs]
     for mask in needed:
         kept = next(kept for kept in explored.plans if kept.mask & mask == mask)
         evidence.add_plan(explored.names(kept.mask), kept.fits)
+    is_sure = len(least) == len(explored.conflicts)
 
-    def claim(sets: Sequence[int], is_all: bool) -> tuple[str, dict[str, object]]:
-        said: dict[str, object] = {
-            "given": evidence.lines_of(explored.premises),
-            "told": [],
-            "sets": [evidence.lines_of(explored.names(mask)) for mask in sets],
-            "outs": [evidence.lines_of(explored.names(hit)) for hit in outs],
-            "least": are_conflicts and sets is least,
-            "complete": is_all and explored.complete,
-        }
-        return "conflicts", said
+    def lines(mask: int) -> list[str]:
+        return evidence.lines_of(explored.names(mask))
 
-    if not are_conflicts:
-        return evidence.certificate([claim(others, True)])
-    claims = [claim(least, True), *([claim(others, False)] if others else [])]
+    claim: dict[str, object] = {
+        "given": lines(explored.all),
+        "told": [],
+        "sets": [lines(mask) for mask in least],
+        "outs": [lines(hit) for hit in outs] if is_sure else [],
+        "complete": explored.complete,
+    }
+    claims: list[tuple[str, dict[str, object]]] = [("conflicts", claim)]
+    for refuted in explored.conflicts:
+        if not refuted.least:
+            claims.append(("fails", {"given": lines(refuted.mask), "told": []}))
+    if not is_sure:
+        claims += [("fits", {"given": lines(explored.all & ~hit), "told": []}) for hit in outs]
     return evidence.certificate(claims)

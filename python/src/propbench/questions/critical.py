@@ -172,9 +172,8 @@ def _certificate(bounding: Bounding, explored: Exploring, refuted: Refuted) -> C
         "told": told,
         "sets": [names],
         "outs": [],
-        "least": refuted.least,
         "complete": False,
     }
-    claims = [("conflicts", claim)]
+    least = ("conflicts", claim) if refuted.least else ("fails", {"given": names, "told": told})
     best = bounding.show(evidence)
-    return evidence.certificate([*claims, *([best] if best else [])])
+    return evidence.certificate([least, *([best] if best else [])])

@@ -39,10 +39,10 @@ Case = tuple[str, Room]
 
 
 def mark_for(base: Iterable[str]) -> str:
-    """What no word of the lines begins with, so that names which do are not taken."""
-    words, mark = {word for line in base for word in line.split()}, "_"
-    while any(word.startswith(mark) for word in words):
-        mark += "_"
+    """What does not stand in the lines, so that names which begin with it are not taken."""
+    text, number = " ".join(base), 0
+    while (mark := f"_q{number}_") in text:
+        number += 1
     return mark
 
 
@@ -60,8 +60,8 @@ class Trial:
         self.user = {line: premise for premise, line in self.line.items()}
         self.cell_line = {cell: model.cell_name(cell) for cell in self.cells}
         self.basis = [premise for premise in self.premises if premise in set(basis)]
-        # The choices that were made, each a cell of a line and the sides, None for digits.
-        self.choices: list[tuple[str, list[str] | None]] = []
+        # The choices that were made, each a cell of a line and its sides, "" for digits.
+        self.choices: list[tuple[str, str]] = []
         self._covered: set[str] = set()
         self._cases: OrderedDict[tuple[str, str], str] = OrderedDict()
         self._inside: set[str] = set()
@@ -232,12 +232,12 @@ class Trial:
             assert isinstance(room, Numbers)
             name = f"{self.mark}c{len(self.choices)}"
             self._new += digits(line, [room.low, room.high], name)
-            self.choices.append((line, None))
+            self.choices.append((line, ""))
         else:
             for sides in parts:
                 name = f"{self.mark}c{len(self.choices)}"
-                self._new.append(f"choose {name} {line} {' or '.join(sides)}")
-                self.choices.append((line, sides))
+                self.choices.append((line, " or ".join(sides)))
+                self._new.append(f"choose {name} {line} {self.choices[-1][1]}")
 
     def known(self, told: Iterable[Case]) -> dict[str, Room]:
         """What is left for cells by what is supposed; symbols are left out."""
