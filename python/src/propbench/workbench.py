@@ -15,7 +15,7 @@ from collections.abc import Mapping, Iterable, Sequence
 from types import TracebackType
 from typing import TypeVar, overload
 
-from propbench.model.answers import Answer, Conflict, NotSettled
+from propbench.model.answers import Answer, Conflict, NotSettled, ends_of
 from propbench.model.blaming import always, beyond
 from propbench.model.cells import Cell, ElementCell, NumberCell, SymbolCell, TruthCell, words_of
 from propbench.model.events import (
@@ -32,6 +32,7 @@ from propbench.model.given import Given, alternative_of, values_of
 from propbench.model.kinds import Domain, Kind, Plain, kind_text
 from propbench.model.network import Network
 from propbench.model.nodes import Declared, Node, cells_in
+from propbench.model.overall import over_all_plans
 from propbench.model.reading import Reader
 from propbench.model.saving import read, saved
 from propbench.model.seam import BenchModel
@@ -231,9 +232,7 @@ class Workbench(Questions):
         given = cell if isinstance(cell, Mapping) else alternatives
         if given is None or not 2 <= len(given) <= MOST_ALTERNATIVES:
             count = 0 if given is None else len(given)
-            raise ValueError(
-                f"a choice has two to {MOST_ALTERNATIVES} alternatives, and {name!r} {count}"
-            )
+            raise ValueError(f"a choice has two to eight alternatives, and {name!r} has {count}")
         event: Choice
         if isinstance(cell, Mapping):
             named = [(side, self._constraints(stated)) for side, stated in cell.items()]
@@ -259,6 +258,10 @@ class Workbench(Questions):
         self, command: str, cell: Declared, seconds: float | None, over: str | None
     ) -> Answer:
         """What follows for a cell: by `why`, or by `core`."""
+        if over is not None:
+            if over != "all plans":
+                raise ValueError(f'an answer may be over="all plans", and not over={over!r}')
+            return self._over_all_plans(cell, seconds)
         line = f"{command} {self._network.vocabulary.cells.line(cell.name)}"
         reply = self.session.send(line, seconds=seconds)
         if isinstance(reply, Contradiction):
@@ -300,10 +303,12 @@ class Workbench(Questions):
             return f"CONFLICT: {conflict}"
 
     def lines(self, constraint: Truth) -> list[str]:
-        """The lines of the language that state a constraint, with those that make the cells in
-        them which have no name of yours. Raises ValueError for one that was not required.
+        """The lines of the language that state a constraint, where it was required.
 
-        A line may rest on what stands elsewhere: where `z == x + y` holds, `z` is that sum.
+        With them stand those that make the cells in them which have no name of yours. Raises
+        ValueError for one that was not required.
+
+        Lines may rest on other constraints: where `z == x + y` holds, `z` stands for that sum.
         """
         found = self._network.lines_of(node_of(constraint, Plain.TRUTH))
         if not found:
@@ -313,8 +318,9 @@ class Workbench(Questions):
     # --- files ---
 
     def save(self, path: str | os.PathLike[str]) -> None:
-        """Writes the workbench to a file: a session of the language, whose comments tell what its
-        lines are for."""
+        """Writes the workbench to a file.
+
+        It is a session of the language, whose comments tell what its lines are for."""
         with open(path, "w", encoding="utf-8") as file:
             file.writelines(f"{line}\n" for line in saved(self._network))
 
@@ -328,8 +334,10 @@ class Workbench(Questions):
         """
         with open(path, encoding="utf-8") as file:
             lines = file.read().split("\n")
+        owner = object()
+        events, kicked = read(lines, owner)
         made = cls(program)
-        events, kicked = read([line for line in lines if line], made._owner)
+        made._owner = owner
         for event in events:
             if isinstance(event, CellMade):
                 made._added(_cell_of(event.cell, made))
@@ -360,6 +368,17 @@ class Workbench(Questions):
         """A reply about a cell of a session that has this one's lines, with these sides."""
         read = self._reader()
         return read.answer(self._network.cells[cell], reply, read.plan(inside))
+
+    def _over_all_plans(self, cell: Declared, seconds: float | None) -> Answer:
+        """What the cell may be in some plan, whatever the choices take."""
+        found = over_all_plans(self, cell, seconds)
+        if found is None:
+            [conflict] = self.conflicts(most=1)
+            says = {name: self._network.premises.text(name) for name in conflict}
+            raise Conflict(tuple(says), says)
+        value, is_settled = found
+        low, high = ends_of(value)
+        return Answer(cell.name, value, low, high, is_settled, self.believed)
 
     def _plan(self) -> dict[str, object]:
         """For each choice what it stands on, where a run has found that."""

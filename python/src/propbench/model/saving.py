@@ -60,7 +60,7 @@ def _check(
     for event in events:
         wanted += script.lines_of(event)
     wanted += [f"kick {vocabulary.premises.line(name)}" for name in kicked]
-    there = [(number, line) for number, line in enumerate(lines, 1) if not line.startswith("#")]
+    there = [(place, line) for place, line in enumerate(lines, 1) if line and line[0] != "#"]
     for (number, line), meant in zip(there, wanted):
         if line != meant:
             raise NotAWorkbench(f"line {number} was changed: {line!r} stands for {meant!r}")

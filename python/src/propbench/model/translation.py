@@ -111,22 +111,30 @@ class Translation:
 
     def join(self, each: Node, cell: str, context: Context) -> None:
         """Has the cells of one expression in several contexts hold the same while they hold."""
+        since = self.writer.position
+        self._join(each, cell, context)
+        self.writer.shared(since)
+
+    def _join(self, each: Node, cell: str, context: Context) -> None:
+        """Joins a cell to the others of its expression: those within gates are joined by one that
+        is in none."""
         gated = self._gated.setdefault(each, [])
         joint = self._joints.get(each)
         if not context.is_gated:
+            self._joints[each] = cell
             if joint:
                 self.writer.link(joint, cell, context)
-            for other, inside in [] if joint else gated:
+                return
+            for other, inside in gated:
                 self.writer.link(cell, inside, other)
-            self._joints[each] = cell
             return
-        if joint is None and gated:
+        gated.append((context, cell))
+        if joint:
+            self.writer.link(joint, cell, context)
+        elif len(gated) > 1:
             joint = self._joints[each] = self.writer.new_cell(each.kind)
             for other, inside in gated:
                 self.writer.link(joint, inside, other)
-        if joint:
-            self.writer.link(joint, cell, context)
-        gated.append((context, cell))
 
     def define_as(self, meaning: Node, context: Context, cell: str) -> None:
         """Has a cell, one of the context's own, hold what another expression does."""

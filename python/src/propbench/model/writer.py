@@ -26,6 +26,8 @@ class Writer:
         self._taken = 0
         # For each cell that a user never sees the lines by which it is made: from one to another.
         self._made: dict[str, tuple[int, int]] = {YES: (0, 2)}
+        # The lines by which constraints share what they find out, each of which does without.
+        self._shared: set[int] = set()
         self._count = 0
         self._constants: dict[tuple[str, str], str] = {}
         self._relations: dict[object, str] = {}
@@ -50,13 +52,18 @@ class Writer:
             self._made[cell] = (since, len(self._log))
         return cell
 
+    def shared(self, since: int) -> None:
+        """Takes in that the lines from a position on only hand on what others have found out."""
+        self._shared.update(range(since, len(self._log)))
+
     def with_what_they_need(self, first: int, last: int) -> list[str]:
         """The lines from one position to another, and all that make the cells in them which a user
         never sees."""
-        wanted, waiting = set(range(first, last)), list(range(first, last))
+        wanted = set(range(first, last)) - self._shared
+        waiting = list(wanted)
         while waiting:
             for word in self._log[waiting.pop()].split():
-                fresh = set(range(*self._made.get(word, (0, 0)))) - wanted
+                fresh = set(range(*self._made.get(word, (0, 0)))) - self._shared - wanted
                 wanted |= fresh
                 waiting += fresh
         return [self._log[place] for place in sorted(wanted)]
