@@ -11,7 +11,8 @@
 """
 
 import os
-from collections.abc import Mapping, Iterable, Sequence
+from collections.abc import Iterable, Mapping, Sequence
+from datetime import date
 from types import TracebackType
 from typing import TypeVar, overload
 
@@ -40,6 +41,7 @@ from propbench.model.shrinking import shrunk
 from propbench.model.tabling import Table
 from propbench.nearby import near_names
 from propbench.overview import UNPROVED
+from propbench.planning import Calendar, Project
 from propbench.questions import Questions
 from propbench.replies import Contradiction, Settled, Value, Worldview
 from propbench.session import Session
@@ -314,6 +316,25 @@ class Workbench(Questions):
         if not found:
             raise ValueError(f"`{constraint!r}` was not required")
         return found
+
+    # --- plans ---
+
+    def plan(
+        self,
+        *,
+        days: int,
+        people: str | Sequence[str] = (),
+        start: date | None = None,
+        off: str | Iterable[str | date] = (),
+    ) -> Project:
+        """A project over so many days, with people who do one thing at a time: its tasks, their
+        order and what is wished for are stated by its own methods.
+
+        Day 0 is the date `start`, where one is given, and weekdays (`off="sat sun"`) and dates that
+        are off are no days of it.
+        """
+        calendar = None if start is None else Calendar.of(start, off)
+        return Project(self, days, people, calendar)
 
     # --- files ---
 

@@ -50,30 +50,33 @@ class Questions:
     def conflicts(
         self,
         *,
+        keep: Iterable[str] = (),
         most: int = 100,
         seconds: float | None = None,
         progress: Progress | None = None,
     ) -> Conflicts:
         """All least sets of believed premises that can't all hold, `most` of them at the most.
 
-        The list is empty where everything fits. A conflict without any premise says that what
-        always holds can't hold.
+        Those that are to `keep` are taken as given, and stand in no conflict. The list is empty
+        where everything fits. A conflict without any premise says that what always holds can't.
         """
-        return find_conflicts(self.model, most, seconds, progress)
+        return find_conflicts(self.model, keep, most, seconds, progress)
 
     def repairs(
         self,
         weight: Mapping[str, float] | None = None,
         *,
+        keep: Iterable[str] = (),
         most: int = 100,
         seconds: float | None = None,
         progress: Progress | None = None,
     ) -> Repairs:
         """All least sets of believed premises to give up so that the others fit, cheapest first.
 
-        `weight` says what it costs to give up a premise, 1 where it says nothing of it.
+        `weight` says what it costs to give up a premise, 1 where it says nothing of it. Those that
+        are to `keep` are not given up.
         """
-        return find_repairs(self.model, weight or {}, most, seconds, progress)
+        return find_repairs(self.model, weight or {}, keep, most, seconds, progress)
 
     def least(
         self,

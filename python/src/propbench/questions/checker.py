@@ -143,14 +143,14 @@ class Checker:
         beyond = f"{-MOST}..{bound - 1}" if sort == "least" else f"{bound + 1}..{MOST}"
         self.fails(given, [[cell, beyond]])
 
-    def conflicts(self, given: Any, told: Any, sets: Any, outs: Any, complete: bool) -> None:
-        """Each set fails, and fits without any name of it. Without each of the outs all fits, and
-        not with a name of it back. Where that is complete, there are no others."""
-        for names in map(set[str], sets):
-            self.fails(names, told)
+    def conflicts(self, given: Any, keep: Any, told: Any, sets: Any, outs: Any, full: bool) -> None:
+        """Each set fails beside what is kept, and fits without any name of it. All fits without
+        each of the outs, and not with a name of it back. `full`: there are no others."""
+        for names in sets:
+            self.fails({*names, *keep}, told)
             for name in names:
-                self.fits(names - {name}, told)
-        for out in [*outs, *(hitting(sets) if complete else ())]:
+                self.fits({*names, *keep} - {name}, told)
+        for out in [*outs, *(hitting(sets) if full else ())]:
             self.fits({*given}.difference(out), told)
             demand(not outs or any({*each} <= {*out} for each in outs), "a repair is left out")
             for back in ({*given}.difference(out) | {name} for name in out if out in outs):

@@ -13,7 +13,7 @@ from propbench.questions.hitting import bits_of
 from propbench.questions.model import Model, Point
 from propbench.questions.plans import Listing
 from propbench.questions.rooms import Numbers
-from propbench.questions.shown import NOT_REFUTED, Shown
+from propbench.questions.shown import NOT_REFUTED, Shown, shortened
 from propbench.questions.trial import Trial
 
 
@@ -73,7 +73,7 @@ class Critical(Shown, Premises):
         return ("premise", "says")
 
     def rows(self) -> Sequence[Sequence[object]]:
-        return [(premise, self.texts[premise]) for premise in self]
+        return [(premise, shortened(self.texts[premise])) for premise in self]
 
     def __str__(self) -> str:
         return Shown.__str__(self)
@@ -169,10 +169,11 @@ def _certificate(bounding: Bounding, explored: Exploring, refuted: Refuted) -> C
     names = evidence.lines_of(explored.names(refuted.mask))
     claim: dict[str, object] = {
         "given": evidence.lines_of(explored.premises),
+        "keep": [],
         "told": told,
         "sets": [names],
         "outs": [],
-        "complete": False,
+        "full": False,
     }
     least = ("conflicts", claim) if refuted.least else ("fails", {"given": names, "told": told})
     best = bounding.show(evidence)

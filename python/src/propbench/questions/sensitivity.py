@@ -14,7 +14,7 @@ from propbench.questions.checker import MOST
 from propbench.questions.clock import Clock, Progress
 from propbench.questions.model import Model
 from propbench.questions.scenarios import Asking, Row
-from propbench.questions.shown import Shown
+from propbench.questions.shown import Shown, shortened
 from propbench.questions.trial import Trial
 from propbench.values import Span, value_of
 
@@ -56,7 +56,7 @@ class Sensitivity(Shown, list[Worth]):
         return ("premise", "says", _OUT, _HALF)
 
     def rows(self) -> Sequence[Sequence[object]]:
-        return [(each.premise, each.says, each.left_out, each.halved) for each in self]
+        return [(each.premise, shortened(each.says), each.left_out, each.halved) for each in self]
 
 
 def of_answers(
