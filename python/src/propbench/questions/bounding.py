@@ -11,6 +11,7 @@ from propbench.questions.model import Model, Plan
 from propbench.questions.outcomes import Cannot, Fits, Fork
 from propbench.questions.rooms import Numbers
 from propbench.questions.shown import NOT_REFUTED, Shown
+from propbench.questions.searching import decided
 from propbench.questions.trial import Trial
 
 LEAST, GREATEST = "least", "greatest"
@@ -96,7 +97,7 @@ class Bounding:
 
     def run(self) -> None:
         """Closes in on the optimum, until it is found or the time is over."""
-        first = self.trial.decide(self.premises)
+        first = decided(self.trial, self.premises)
         if isinstance(first, Cannot):
             self.proved, self.tree = True, first.tree
         if isinstance(first, Fits):
@@ -114,7 +115,7 @@ class Bounding:
     def _close_in(self, best: int) -> bool:
         """Tries whether there is a plan in the better half; whether that was found out in time."""
         most = best - 1 if best <= self._low else (self._low + best - 1) // 2
-        outcome = self.trial.decide(self.premises, [(self.cell, self.beyond(most))])
+        outcome = decided(self.trial, self.premises, [(self.cell, self.beyond(most))])
         if isinstance(outcome, Fits):
             self._find(outcome)
         elif isinstance(outcome, Cannot):

@@ -10,6 +10,7 @@ from dataclasses import dataclass
 
 from propbench.questions.hitting import Hitting, bits_of
 from propbench.questions.outcomes import Cannot, Fits, Fork, Open
+from propbench.questions.searching import decided
 from propbench.questions.trial import Case, Trial
 
 
@@ -92,15 +93,20 @@ class Exploring:
         for kept in self.plans:
             if kept.mask & mask == mask:
                 return kept
-        outcome = self.trial.decide((*self.kept, *self.names(mask)), self._told)
+        outcome = decided(self.trial, (*self.kept, *self.names(mask)), self._told)
         if isinstance(outcome, Cannot):
-            return Refuted(self.mask(self.trial.named(outcome)), outcome.tree, False)
+            return Refuted(self._named(outcome), outcome.tree, False)
         if isinstance(outcome, Fits):
             held = set(self.trial.model.held(outcome.plan))
             holding = self.mask([premise for premise in self.premises if premise in held])
             self.plans.append(Kept(mask | holding, outcome))
             return self.plans[-1]
         return outcome
+
+    def _named(self, outcome: Cannot) -> int:
+        """The premises that can't all hold, of those that may be given up."""
+        line = self.trial.line
+        return self.mask([premise for premise in self.premises if line[premise] in outcome.names])
 
     def shrunk(self, refuted: Refuted) -> Refuted:
         """A least conflict among these premises."""
