@@ -42,7 +42,11 @@ class Optimum(Shown):
     def headline(self) -> str:
         best = "The least" if self.sort == LEAST else "The greatest"
         if self.value is None:
-            says = "nothing fits" if self.proved else f"no plan was found, and {NOT_REFUTED} is one"
+            says = (
+                "nothing fits"
+                if self.proved
+                else f"no plan was found; that there is one is {NOT_REFUTED}"
+            )
             return f"{best} {self.cell}: {says}."
         if self.proved:
             return f"{best} {self.cell} is {self.value}:"

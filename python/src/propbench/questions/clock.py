@@ -25,6 +25,7 @@ class Clock:
         self._is_asked_for = progress is not None
         self._next = self._began + _FIRST
         self._told = False
+        self._text = "searching"
 
     def is_over(self) -> bool:
         """Whether the time is used up."""
@@ -36,11 +37,16 @@ class Clock:
 
     def tell(self, text: str) -> None:
         """Tells of how far a question is, now and then."""
+        self._text = text
+        self.tick()
+
+    def tick(self) -> None:
+        """Tells now and then that it goes on."""
         now = time.monotonic()
         if self._is_asked_for or now >= self._next:
             self._next = now + _AGAIN
             self._told = True
-            self._progress(text)
+            self._progress(f"{self._text} ({now - self._began:.0f} s)")
 
     def end(self) -> None:
         """Tells that the question has come to its end."""

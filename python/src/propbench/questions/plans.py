@@ -53,12 +53,12 @@ class Listing:
         self.trial, self.show, self.most = trial, list(show), most
         self.found: list[Fits] = []
         self.tree: Tree = _OPEN
-        self.complete = False
+        self.complete = self._has_open = False
 
     def run(self) -> None:
         """Goes through all cases, as long as there is time."""
-        self.complete = True
         self.tree = self._tree((), self._within(()))
+        self.complete = not self._has_open
 
     def _within(self, told: Sequence[Case]) -> Outcome:
         """What comes of a search within these cases."""
@@ -71,7 +71,7 @@ class Listing:
         if isinstance(outcome, Cannot):
             return as_json(outcome.tree)
         if isinstance(outcome, Open) or len(self.found) >= self.most:
-            self.complete = False
+            self._has_open = True
             return _OPEN
         rooms = self.trial.known(told)
         cell = next((cell for cell in self.show if len(rooms[cell]) > 1), None)
@@ -111,18 +111,24 @@ class Listing:
 
     def result(self) -> Plans:
         """The plans that were found, in order."""
-        evidence = Evidence.of(self.trial)
-        claim: dict[str, object] = {
-            "given": evidence.lines_of(self.trial.basis),
-            "show": [self.trial.cell_line[cell] for cell in self.show],
-            "plans": [[fits.values[cell] for cell in self.show] for fits in self.found],
-            "tree": self.tree,
-            "complete": self.complete,
-        }
-        certificate = evidence.certificate([("plans_are", claim)])
         found = sorted(self.found, key=self._place)
         shown = ({cell: fits.plan[cell] for cell in self.show} for fits in found)
-        return Plans(self.show, shown, self.complete, certificate)
+        return Plans(self.show, shown, self.complete, self._certificate())
+
+    def _certificate(self) -> Certificate:
+        """What shows that these are plans; and that there are no others, or where there may be."""
+        evidence = Evidence.of(self.trial)
+        given = evidence.lines_of(self.trial.basis)
+        show = [self.trial.cell_line[cell] for cell in self.show]
+        plans = [[fits.values[cell] for cell in self.show] for fits in self.found]
+        if self.tree != _OPEN:
+            claim = {"given": given, "show": show, "plans": plans, "tree": self.tree}
+            return evidence.certificate([("plans_are", {**claim, "complete": self.complete})])
+        # (Ctrl-C has ended the search before there was a tree.)
+        for fits in self.found:
+            evidence.add_plan(self.trial.basis, fits)
+        told = [[list(each) for each in zip(show, plan)] for plan in plans]
+        return evidence.certificate([("fits", {"given": given, "told": each}) for each in told])
 
     def _place(self, fits: Fits) -> list[int]:
         """What plans are ordered by: each number, or the place of each name in its domain."""

@@ -30,7 +30,7 @@ from propbench.words import is_silent
 
 # A run takes so many steps before the clock is looked at, and the trial has so many choices and
 # premises of its own at most.
-_STEPS, _CHOICES, _CASES = 100_000, 64, 2000
+_STEPS, _CHOICES, _CASES = 20_000, 64, 2000
 # No more cases lie within one another.
 _DEEPEST = 300
 
@@ -131,7 +131,7 @@ class Trial:
         """What is seen with these premises alone and what is supposed, after more lines."""
         (seen,) = self._looks([(self._lines(premises, told, more), self._expects_values)])
         while isinstance(seen, Unsettled) and not self.clock.is_over():
-            self.clock.tell("")
+            self.clock.tick()
             (seen,) = self._looks([(["settle"], False)])
         if isinstance(seen, Settled):
             seen = self._values(self.session.send_all(self._asks))
