@@ -7,7 +7,7 @@
     price = w.number("price", 0, 9000)
     w.require(price >= 400 * days)
     w.require(price <= 2000, under="cheap")
-    print(days.ask())                          days = 0..5 because of cheap
+    print(days.ask())  # days = 0..5 because of cheap
 """
 
 import os

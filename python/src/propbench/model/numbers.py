@@ -8,7 +8,7 @@ from collections.abc import Callable
 from typing import TYPE_CHECKING
 
 from propbench.model.context import Context
-from propbench.model.core import among, raw
+from propbench.model.core import among, in_core, raw
 from propbench.model.definedness import nonzero
 from propbench.model.kinds import Domain, Plain, domain_of
 from propbench.model.nodes import (
@@ -206,9 +206,10 @@ class Numbers:
     def _where_nonzero(self, args: tuple[Node, ...], context: Context) -> Context:
         """The context where the divisor is not zero: the same, where that is stated there."""
         truth = nonzero(args[1])
+        needed = truth if truth is TRUE else negated(in_core(truth.args[0]))
         around: Context | None = context
         while around:
-            if truth is TRUE or truth in around.stated:
+            if needed is TRUE or needed in around.stated:
                 return context
             around = around.outer
         within = Context(self._all.cell_of(truth, context), None, context)

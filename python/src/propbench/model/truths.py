@@ -42,14 +42,13 @@ class Truths:
         """Has a cell tell whether one of these holds."""
         self._chain("or", each, cell, context)
 
-    def all_different(self, each: Node, context: Context) -> None:
-        """States that all differ: any two, and where the program can tell more from all at once,
-        that."""
+    def different_at_once(self, each: Node, context: Context) -> None:
+        """States that all differ, where the program can tell more from all at once than from any
+        two."""
         count = len(each.args)
         if 2 < count <= _MOST_DIFFERENT and self._writer.offers(f"different{count}"):
             cells = [self._all.cell_of(arg, context) for arg in each.args]
             self._writer.attach(f"different{count}", *cells)
-        self._all.state(different(each), context)
 
     def link(self, pair: Node, holds: bool, context: Context) -> None:
         """States that two are a pair of a relation, or none."""
