@@ -11,7 +11,8 @@
 """
 
 import os
-from collections.abc import Mapping, Iterable, Sequence
+from collections.abc import Iterable, Mapping, Sequence
+from datetime import date
 from types import TracebackType
 from typing import TypeVar, overload
 
@@ -40,6 +41,7 @@ from propbench.model.shrinking import shrunk
 from propbench.model.tabling import Table
 from propbench.nearby import near_names
 from propbench.overview import UNPROVED
+from propbench.planning import Calendar, Project
 from propbench.questions import Questions
 from propbench.replies import Contradiction, Settled, Value, Worldview
 from propbench.session import Session
@@ -315,6 +317,25 @@ class Workbench(Questions):
             raise ValueError(f"`{constraint!r}` was not required")
         return found
 
+    # --- plans ---
+
+    def plan(
+        self,
+        *,
+        days: int,
+        people: str | Sequence[str] = (),
+        start: date | None = None,
+        off: str | Iterable[str | date] = (),
+    ) -> Project:
+        """A project over so many days, with people who do one thing at a time: its tasks, their
+        order and what is wished for are stated by its own methods.
+
+        Day 0 is the date `start`, where one is given, and weekdays (`off="sat sun"`) and dates that
+        are off are no days of it.
+        """
+        calendar = None if start is None else Calendar.of(start, off)
+        return Project(self, days, people, calendar)
+
     # --- files ---
 
     def save(self, path: str | os.PathLike[str]) -> None:
@@ -363,6 +384,11 @@ class Workbench(Questions):
 
     def _reader(self) -> Reader:
         return Reader(self._network.vocabulary, self._network.premises)
+
+    def _read(self, cell: str, reply: Value, inside: Iterable[str]) -> Answer:
+        """A reply about a cell of a session that has this one's lines, with these sides."""
+        read = self._reader()
+        return read.answer(self._network.cells[cell], reply, read.plan(inside))
 
     def _over_all_plans(self, cell: Declared, seconds: float | None) -> Answer:
         """What the cell may be in some plan, whatever the choices take."""
