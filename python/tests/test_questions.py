@@ -3,7 +3,6 @@
 from collections.abc import Iterable
 from itertools import chain, combinations
 
-import pytest
 from drawn_models import model_lines
 from hypothesis import given
 from hypothesis import strategies as st

@@ -2,7 +2,6 @@
 
 from collections.abc import Iterable, Mapping, Sequence
 from datetime import date
-from itertools import combinations
 from typing import TYPE_CHECKING
 
 from propbench.model.cells import NumberCell

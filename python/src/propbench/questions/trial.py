@@ -11,14 +11,11 @@ from types import TracebackType
 from propbench.questions.checker import digits
 from propbench.questions.clock import Clock
 from propbench.questions.model import Model
-from propbench.questions.outcomes import Cannot, Fits, Fork, Open, Outcome
 from propbench.questions.rooms import (
     Numbers,
     Room,
-    around,
     choices_in,
     digits_of,
-    halves,
     room_left,
     single,
     whole_room,
