@@ -7,7 +7,8 @@ from itertools import product
 from xml.etree import ElementTree
 
 import pytest
-from hypothesis import given
+from conftest import TIMES
+from hypothesis import given, settings
 from hypothesis import strategies as st
 
 from propbench import Workbench
@@ -77,6 +78,7 @@ def fits(
     return True
 
 
+@settings(max_examples=15 * TIMES)
 @given(drawn_tasks(), st.sampled_from([(0, 2), (1, 3), (2, 5), (4, 6)]))
 def test_best_plans_are_those_of_all(drawn: list[Drawn], away: tuple[int, int]) -> None:
     with Workbench() as w:
