@@ -112,9 +112,9 @@ class Numbers:
             self._one_of(each, raw(less(inner, ZERO)), (opposite, inner), context)
 
     def _extreme(self, each: Node, cell: str, context: Context) -> None:
-        """The greatest or least: of the last two, where there are more."""
-        *front, last = each.args
-        first = front[0] if len(front) == 1 else node(each.op, front)
+        """The greatest or least: of the halves, where there are more than two."""
+        half = len(each.args) // 2
+        first, last = (_of(each.op, part) for part in (each.args[:half], each.args[half:]))
         pair = node(each.op, (first, last))
         if pair is not each:
             self._all.define_as(pair, context, cell)
@@ -237,6 +237,10 @@ class Numbers:
         if right.op is not Op.CONSTANT:
             for truth in _remainder_fits(remainder, right):
                 self._all.state(truth, context)
+
+
+def _of(op: Op, numbers: tuple[Node, ...]) -> Node:
+    return numbers[0] if len(numbers) == 1 else node(op, numbers)
 
 
 def _bit_of(truth: Node) -> Node:

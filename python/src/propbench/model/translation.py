@@ -108,11 +108,13 @@ class Translation:
         else:
             self.writer.attach("same", self.cell_of(meaning, context), cell)
 
-    def _is_known(self, truth: Node, cell: str, context: Context) -> None:
-        """Takes in that a truth stands in a cell, where it has none there yet."""
-        if truth not in context.cells:
-            context.cells[truth] = cell
-            self.join(truth, cell, context)
+    def _is_known(self, truth: Node, holds: bool, context: Context) -> None:
+        """Takes in that a truth was stated or denied, which may have got a cell by then."""
+        if truth in context.cells:
+            self.writer.narrow(context.cells[truth], _word(holds), Plain.TRUTH, context)
+            return
+        cell = context.cells[truth] = self._known(holds, context)
+        self.join(truth, cell, context)
 
     def _make(self, each: Node, context: Context) -> None:
         core = in_core(each)
@@ -151,7 +153,7 @@ class Translation:
         elif where is context:
             cell = self._known(holds, context)
             (self._truths.any_into if holds else self._truths.all_into)(core, cell, context)
-            self._is_known(core, cell, context)
+            self._is_known(core, holds, context)
         else:
             self._narrow(core, _word(holds), context)
 
@@ -186,12 +188,12 @@ class Translation:
                 self._narrow(core, _word(holds), context)
             elif each.op is Op.EQUAL and holds:
                 self._unite(each.args[0], each.args[1], context)
-                self._is_known(core, self._known(holds, context), context)
+                self._is_known(core, holds, context)
             else:
                 cells = [self.cell_of(arg, context) for arg in each.args]
                 truth = self._known(holds, context)
                 self.writer.attach("less" if each.op is Op.LESS else "alike", *cells, truth)
-                self._is_known(core, truth, context)
+                self._is_known(core, holds, context)
 
     def _compared_with_constant(self, each: Node, holds: bool, context: Context) -> bool:
         """States or denies `==` or `<` where one side is a constant, as a value of the other;

@@ -6,6 +6,7 @@ from propbench.model.context import Context
 from propbench.model.core import different, rows_of
 from propbench.model.kinds import Plain, domain_of
 from propbench.model.nodes import Node, Op, constant, node
+from propbench.model.relations import Relations
 from propbench.model.vocabulary import SIDES
 from propbench.model.writer import TRUTHS
 
@@ -21,6 +22,7 @@ class Truths:
     def __init__(self, translation: "Translation") -> None:
         self._all = translation
         self._writer = translation.writer
+        self._relations = Relations(translation.writer)
 
     def define(self, each: Node, cell: str, context: Context) -> None:
         """Has a cell hold a truth, which is in core operations."""
@@ -59,9 +61,8 @@ class Truths:
             for right in second.elements
             if ((left, right) in pair.entries) is holds
         ]
-        relation = self._writer.relation(first, second, pairs)
-        cells = [self._all.cell_of(arg, context) for arg in pair.args]
-        self._writer.attach("link", *cells, by=relation)
+        left, right = (self._all.cell_of(arg, context) for arg in pair.args)
+        self._relations.link((first, second), pairs, (left, right))
 
     def _chain(self, procedure: str, each: Node, cell: str, context: Context) -> None:
         """A chain of truths, each joined to those before it, which have a cell too."""
