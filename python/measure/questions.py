@@ -148,9 +148,9 @@ def measure_conflicts(counts: list[int], seconds: float) -> Iterator[str]:
                 told += f"; MARCO: {len(conflicts)} and {len(repairs)} in {theirs:.2f} s"
                 told += "" if is_all else " (not all)"
                 if is_all and found.complete:
-                    assert set(map(frozenset, found)) == conflicts
+                    assert {frozenset(each) for each in found} == conflicts
                 if is_all and mended.complete:
-                    assert set(map(frozenset, mended)) == repairs
+                    assert {frozenset(each) for each in mended} == repairs
             yield told
 
 

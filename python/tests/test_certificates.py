@@ -182,9 +182,9 @@ def test_plans_spoilt(found: dict[str, Certificate]) -> None:
     changed = copy.deepcopy(claims)
     changed[0][1]["tree"][1][0][1] = "open"
     refused(spoilt(found["plans"], changed))
-    changed = copy.deepcopy(evidence)
-    changed["rooms"]["day"] = "0..1"
-    refused(spoilt(found["plans"], evidence=changed))
+    narrower = copy.deepcopy(evidence)
+    narrower["rooms"]["day"] = "0..1"
+    refused(spoilt(found["plans"], evidence=narrower))
 
 
 def test_plans_of_the_evidence_spoilt(found: dict[str, Certificate]) -> None:

@@ -4,7 +4,7 @@ import os
 import pickle
 import signal
 import threading
-from collections.abc import Iterator
+from collections.abc import Callable, Iterator
 from concurrent.futures import Executor, Future, ProcessPoolExecutor
 from typing import Any
 
@@ -90,8 +90,8 @@ def test_scenarios_are_what_ifs(w: Workbench) -> None:
                 wanted = {cell: w.cell(cell).why() for cell in ("x", "the end", "review")}
                 assert table[name] == wanted and table[name].conflict is None
             except Conflict as conflict:
-                assert table[name] == {} and table[name].conflict == set(conflict.premises)
-    assert table["late"].conflict == {"short", "late"}
+                assert table[name] == {} and table[name].conflict == frozenset(conflict.premises)
+    assert table["late"].conflict == frozenset({"short", "late"})
     assert table["guess"]["review"].value == "tue"
     assert set(table["guess"]["review"].because) == {"not monday", "ben"}
     assert table.certificate.check()
@@ -159,8 +159,8 @@ def test_room_and_what_is_critical(w: Workbench) -> None:
     assert (slack.low, slack.high, slack.room, slack.complete) == (8, 10, 2, True)
     assert w.slack("review").values == ("tue", "wed")
     found = w.critical("the end")
-    assert found == {"steep", "ana"} and found.value == 8 and found.complete
-    assert w.critical("the end", "greatest") == {"short"}
+    assert found == frozenset({"steep", "ana"}) and found.value == 8 and found.complete
+    assert set(w.critical("the end", "greatest")) == {"short"}
     assert slack.certificate.check() and found.certificate.check()
     w.bring("late")
     with pytest.raises(NothingFits):
@@ -190,7 +190,8 @@ def test_ctrl_c_leaves_all_as_it_was() -> None:
             for other in holes[:i]:
                 w.require(one != other)
         w.tell("a", holes[0], 1, 5)
-        for ask in (w.conflicts, w.repairs, w.plans, lambda: w.least(holes[0])):
+        questions: list[Callable[[], object]] = [w.conflicts, w.repairs, w.plans]
+        for ask in [*questions, lambda: w.least(holes[0])]:
             threading.Timer(0.5, os.kill, (os.getpid(), signal.SIGINT)).start()
             with pytest.raises(Interrupted) as caught:
                 ask()

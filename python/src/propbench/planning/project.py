@@ -2,14 +2,13 @@
 
 from collections.abc import Iterable, Mapping, Sequence
 from datetime import date
-from itertools import combinations
 from typing import TYPE_CHECKING
 
 from propbench.model.cells import NumberCell
-from propbench.model.expressions import maximum, total
+from propbench.model.expressions import Truth, maximum, total
 from propbench.nearby import near_names
 from propbench.planning.calendar import Calendar
-from propbench.planning.tasks import Option, Task, checked_options, names_in
+from propbench.planning.tasks import Option, Task, Way, checked_ways, names_in
 from propbench.questions.model import Plan
 
 if TYPE_CHECKING:
@@ -71,16 +70,13 @@ class Project:
         there is such a task, no such person, or `end` or `total_cost` was asked for before.
         """
         people = self._checked(name, who)
-        if (days is None) == (options is None):
-            raise ValueError(f"{name}: say how many days it takes, or what options there are")
-        has_cost = cost != 0 or options is not None
-        task = self._made(name, people, has_cost)
+        ways = checked_ways(name, days, cost, options)
+        task = self._made(name, people, any(way.cost for way in ways.values()))
         self.tasks[name] = task
         if options is not None:
-            self._choose(task, checked_options(name, options))
+            self._choose(task, ways)
         else:
-            assert days is not None
-            self._tell(under or f"{name} takes {days}", task.days, days)
+            self._tell(under or f"{name} takes {days}", task.days, ways[""].days)
             if task.cost is not None:
                 self._tell(under or f"{name} costs {cost}", task.cost, cost)
         for other in after:
@@ -102,6 +98,9 @@ class Project:
             raise ValueError(f"{person} can't be away from day {begin} to day {end}")
         premise = under or f"{person} away {begin} to {end}"
         self._away.append((person, begin, end, premise))
+        if not any(person in task.people for task in self.tasks.values()):
+            # (A premise under which nothing is stated yet would not be known.)
+            self.workbench.require(True, under=premise)
         for task in self.tasks.values():
             if person in task.people:
                 self._keep_off(task, begin, end, premise)
@@ -185,11 +184,12 @@ class Project:
         self.workbench.tell(premise, cell, value)
         self._facts[premise] = None
 
-    def _choose(self, task: Task, options: dict[str, tuple[int, int]]) -> None:
-        assert task.cost is not None
-        cost = task.cost
-        ways = {name: [task.days == days, cost == price] for name, (days, price) in options.items()}
-        self.workbench.choose(task.name, ways)
+    def _choose(self, task: Task, ways: Mapping[str, Way]) -> None:
+        def stated(way: Way) -> list[Truth]:
+            takes = task.days == way.days
+            return [takes] if task.cost is None else [takes, task.cost == way.cost]
+
+        self.workbench.choose(task.name, {name: stated(way) for name, way in ways.items()})
 
     def _keep_apart(self, task: Task) -> None:
         """Its people do one thing at a time, and nothing while they are away."""

@@ -10,6 +10,14 @@ from propbench.model.expressions import Number
 Option = Mapping[str, int]
 
 
+@dataclass(frozen=True)
+class Way:
+    """How many days a task takes, and what it costs then."""
+
+    days: int
+    cost: int
+
+
 @dataclass(frozen=True, eq=False)
 class Task:
     """A task. Its cells can be asked, and may stand in constraints as any others: it is done from
@@ -31,20 +39,29 @@ class Task:
         return f"task {self.name}{who}"
 
 
-def checked_options(name: str, options: Mapping[str, Option]) -> dict[str, tuple[int, int]]:
-    """The days and the cost of each alternative of a task. Raises ValueError where it has none, or
-    another key."""
-    found = {}
-    for option, said in options.items():
-        strange = set(said) - {"days", "cost"}
-        if strange or "days" not in said:
-            raise ValueError(
-                f"{name}: {option} is told by its days and its cost, as in dict(days=2, cost=400)"
-            )
-        found[option] = (said["days"], said.get("cost", 0))
-    if len(found) < 2:
-        raise ValueError(f"{name}: one alternative is no choice; give its days and its cost")
-    return found
+def checked_ways(
+    name: str, days: int | None, cost: int, options: Mapping[str, Option] | None
+) -> dict[str, Way]:
+    """The ways in which a task may be done, by name; the only one without. Raises ValueError where
+    there are none, or what is said of one is something else than its days and its cost."""
+    if (days is None) == (options is None):
+        raise ValueError(f"{name}: say how many days it takes, or what options there are")
+    if options is None:
+        return {"": _checked(name, {"days": days or 0, "cost": cost})}
+    if len(options) < 2:
+        raise ValueError(f"{name}: one option is no choice; say its days and its cost instead")
+    return {option: _checked(f"{name}, {option}", said) for option, said in options.items()}
+
+
+def _checked(name: str, said: Option) -> Way:
+    if not {"days"} <= set(said) <= {"days", "cost"}:
+        raise ValueError(
+            f"{name}: an option is told by its days and its cost: dict(days=2, cost=9)"
+        )
+    way = Way(said["days"], said.get("cost", 0))
+    if min(way.days, way.cost) < 0:
+        raise ValueError(f"{name}: neither days nor costs can be less than none")
+    return way
 
 
 def names_in(given: str | Sequence[str]) -> tuple[str, ...]:

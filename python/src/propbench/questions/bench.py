@@ -1,6 +1,5 @@
 """What questions use of a workbench beside its model: what a user does with it."""
 
-from collections.abc import Mapping
 from typing import Any, Protocol
 
 from propbench.questions.model import Model

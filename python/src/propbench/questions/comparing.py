@@ -7,7 +7,7 @@ from typing import Any
 from propbench.questions.bench import Bench
 from propbench.questions.scenarios import Asking, Row
 from propbench.questions.clock import Clock
-from propbench.questions.shown import Shown, listed, said
+from propbench.questions.shown import Shown, listed, said, shortened
 
 
 @dataclass(frozen=True)
@@ -48,7 +48,7 @@ class Differences(Shown, list[Difference]):
         return ("what", "before", "now", "because of")
 
     def rows(self) -> Sequence[Sequence[object]]:
-        return [(each.what, each.before, each.now, each.why) for each in self]
+        return [(each.what, each.before, each.now, shortened(said(each.why))) for each in self]
 
 
 def snapshot_of(bench: Bench) -> Snapshot:
@@ -63,7 +63,7 @@ def snapshot_of(bench: Bench) -> Snapshot:
 
 
 def differences(before: Snapshot, now: Snapshot) -> Differences:
-    """In what the second differs from the first."""
+    """In what the second differs from the first; in no answers, where one of them is a conflict."""
     found = [
         Difference(f"premise {premise}", *states)
         for premise in {**before.says, **now.says}
@@ -71,7 +71,9 @@ def differences(before: Snapshot, now: Snapshot) -> Differences:
     ]
     if (before.conflict is None) != (now.conflict is None):
         found.append(Difference("what is believed", _fit(before), _fit(now), now.conflict or ()))
-    for cell in {**before.answers, **now.answers}:
+    # (At a conflict there are no answers that could differ.)
+    is_fit = before.conflict is None and now.conflict is None
+    for cell in {**before.answers, **now.answers} if is_fit else ():
         old, new = before.answers.get(cell), now.answers.get(cell)
         values = _value(old), _value(new)
         if values[0] != values[1]:

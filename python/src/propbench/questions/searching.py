@@ -59,7 +59,7 @@ def _searched(trial: Trial, premises: tuple[str, ...], told: tuple[Case, ...]) -
         if not loose:
             fits = _plan_in(trial, premises, seen)
             return fits or _forked(trial, premises, told, _beside(trial, seen, told))
-        if not trial.cover_one(loose):
+        if not trial.cover_some(loose):
             corner = _plan_in(trial, premises, trial.look_at_corner(premises, told, seen))
             return corner or _forked(trial, premises, told, _halved(trial, loose, seen, told))
 

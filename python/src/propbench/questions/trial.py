@@ -11,14 +11,11 @@ from types import TracebackType
 from propbench.questions.checker import digits
 from propbench.questions.clock import Clock
 from propbench.questions.model import Model
-from propbench.questions.outcomes import Cannot, Fits, Fork, Open, Outcome
 from propbench.questions.rooms import (
     Numbers,
     Room,
-    around,
     choices_in,
     digits_of,
-    halves,
     room_left,
     single,
     whole_room,
@@ -38,6 +35,8 @@ _DEEPEST = 300
 Case = tuple[str, Room]
 
 
+# Of the cells that have more than one value, this part is covered before the next look.
+_PART = 3
 # What is seen of the network: what is left for each of the user's cells, or no values.
 Seen = dict[str, Held] | Settled | Unsettled | Contradiction
 
@@ -213,21 +212,33 @@ class Trial:
         self._inside.add(self._corners)
         return seen
 
-    def cover_one(self, loose: Sequence[str]) -> bool:
-        """Makes choices that cover one more of these cells, the smallest; whether that was done."""
+    def cover_some(self, loose: Sequence[str]) -> bool:
+        """Makes choices that cover a few more of these cells, the smallest; whether that was done.
+
+        (What they have, others may follow from: so not all are covered at once.)
+        """
         small = [(len(room), cell) for cell in loose if (room := self.rooms[cell])]
+        most = max(1, len(loose) // _PART)
+        covered = 0
         for _, cell in sorted(small, key=lambda each: each[0]):
-            room = self.rooms[cell]
-            if room is None or cell in self._covered:
-                continue
-            parts = choices_in(room)
-            needed = digits_of(room) if parts is None else len(parts)
-            if 0 < needed <= self._choices_left:
-                self._covered.add(cell)
-                self._choices_left -= needed
-                self._cover(self.cell_line[cell], room, parts)
-                return True
-        return False
+            covered += self._cover_one(cell)
+            if covered == most:
+                break
+        return covered > 0
+
+    def _cover_one(self, cell: str) -> bool:
+        """Makes choices that cover a cell, where that was not done, and there is room for them."""
+        room = self.rooms[cell]
+        if room is None or cell in self._covered:
+            return False
+        parts = choices_in(room)
+        needed = digits_of(room) if parts is None else len(parts)
+        if not 0 < needed <= self._choices_left:
+            return False
+        self._covered.add(cell)
+        self._choices_left -= needed
+        self._cover(self.cell_line[cell], room, parts)
+        return True
 
     def _cover(self, line: str, room: Room, parts: list[list[str]] | None) -> None:
         if parts is None:
