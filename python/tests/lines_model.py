@@ -19,7 +19,7 @@ def _scaled(x: int, y: int, z: int, scale: int) -> bool:
 
 
 # What each procedure wants of its cells' points, by its meaning in the language's description.
-RULES: dict[str, Callable[..., bool]] = {
+RULES: dict[str, Callable[..., object]] = {
     "sum": lambda x, y, z: z == x + y,
     "product": lambda x, y, z: z == x * y,
     "square": lambda x, y: y == x * x,
@@ -119,10 +119,11 @@ class LineModel(Questions):
         if "by" in words:
             name, cells, given = words[0], words[1:-2], words[-1]
             if name == "product":
-                return _scaled(*(plan[cell] for cell in cells), int(given))  # type: ignore[arg-type]
+                x, y, z = (int(plan[cell]) for cell in cells)
+                return _scaled(x, y, z, int(given))
             pairs = next(w for w in map(str.split, self.lines) if w[:2] == ["relation", given])[5:]
             return f"{plan[cells[0]]} {plan[cells[1]]}" in " ".join(pairs).split(" ; ")
-        return RULES[words[0]](*(plan[cell] for cell in words[1:]))
+        return bool(RULES[words[0]](*(plan[cell] for cell in words[1:])))
 
     def text(self, premise: str) -> str:
         return ", ".join(map(str, self.told.premises[premise]))

@@ -3,9 +3,9 @@
 from collections.abc import Iterable
 from itertools import chain, combinations
 
-import pytest
 from drawn_models import model_lines
-from hypothesis import given
+from conftest import TIMES
+from hypothesis import given, settings
 from hypothesis import strategies as st
 from lines_model import LineModel
 
@@ -30,6 +30,7 @@ def fitting(model: LineModel) -> dict[frozenset[str], bool]:
     return {some: any(some <= held for held in holding) for some in subsets(model.believed())}
 
 
+@settings(max_examples=40 * TIMES)
 @given(model_lines(conflicting=True))
 def test_conflicts_and_repairs_are_all_there_are(lines: list[str]) -> None:
     with Session() as session:
@@ -55,6 +56,7 @@ def test_conflicts_and_repairs_are_all_there_are(lines: list[str]) -> None:
         assert found.certificate.check() and mended.certificate.check()
 
 
+@settings(max_examples=40 * TIMES)
 @given(model_lines(), st.data())
 def test_bounds_are_those_of_all_plans(lines: list[str], data: st.DataObject) -> None:
     with Session() as session:
@@ -72,6 +74,7 @@ def test_bounds_are_those_of_all_plans(lines: list[str], data: st.DataObject) ->
                 assert found.certificate.check()
 
 
+@settings(max_examples=40 * TIMES)
 @given(model_lines(), st.data())
 def test_plans_are_all_there_are(lines: list[str], data: st.DataObject) -> None:
     with Session() as session:

@@ -1,14 +1,18 @@
-"""`propdesk check`: a report of `propdesk run --json`, held against a fresh session.
+"""`propdesk check`: a report of `propdesk run --json`, or a certificate, held against a fresh session.
 
 Every answer of a report is a reply of the program. Whoever gets one from elsewhere has the lines
-carried out again, by a program that he trusts, and each answer compared.
+carried out again, by a program that he trusts, and each answer compared. A certificate says what
+was found by many questions, and the program is asked what shows that.
 """
 
 import json
 from collections.abc import Iterator, Mapping
 from dataclasses import dataclass
 
+from propbench.finding import find_program
 from propbench.overview import UNPROVED
+from propbench.questions.certificate import check_lines
+from propbench.questions.checker import HEAD, CertificateError
 from propbench.running import Way, report
 from propbench.showing import printable, quoted
 
@@ -55,10 +59,13 @@ def _listed(value: object) -> list[dict[str, object]]:
 
 
 def check_file(path: str, program: str | None) -> int:
-    """Whether a fresh session tells what the report tells: 0, or 1 where it doesn't, with what
-    differs. Raises OSError, NoReport where the file is none, and as `Session` does."""
+    """Whether a fresh session tells what the report tells, or what the certificate claims: 0, or 1
+    where it doesn't, with what differs. Raises OSError, NoReport where the file is neither, and as
+    `Session` does."""
     with open(path, encoding="utf-8") as file:
         text = file.read()
+    if text.startswith(HEAD):
+        return _check_certificate(text, program)
     try:
         said = _named(json.loads(text))
         told, name, lines, way = told_in(said), str(said["file"]), said["lines"], said["way"]
@@ -70,7 +77,9 @@ def check_file(path: str, program: str | None) -> int:
         if not isinstance(begun.seconds, int | float):
             raise TypeError("no seconds")
     except (ValueError, KeyError, TypeError) as error:
-        raise NoReport(f"{printable(path)}: no report of `propdesk run --json`") from error
+        raise NoReport(
+            f"{printable(path)}: no report of `propdesk run --json`, and no certificate"
+        ) from error
     with begun.session(program) as session:
         again = told_in(report(session, name, lines, begun))
         proved = session.proved
@@ -82,6 +91,20 @@ def check_file(path: str, program: str | None) -> int:
     if not proved:
         print(UNPROVED)
     return 1 if found else 0
+
+
+def _check_certificate(text: str, program: str | None) -> int:
+    """The same for a certificate."""
+    found = find_program(program)
+    try:
+        check_lines(text.removesuffix("\n").split("\n"), found.path)
+    except CertificateError as error:
+        print(printable(f"The certificate doesn't hold: {error}"))
+        return 1
+    print("The certificate holds: the program answers so that its claims are true.")
+    if not found.proved:
+        print(UNPROVED)
+    return 0
 
 
 def differences(told: Told, again: Told) -> Iterator[str]:

@@ -58,11 +58,14 @@ def parser() -> argparse.ArgumentParser:
     shell.add_argument("file", metavar="FILE", nargs="?", help="a file whose lines come first")
     check = commands.add_parser(
         "check",
-        help="hold a report of run --json against the program",
+        help="hold a report of run --json, or a certificate, against the program",
         description="Carries out the lines of a report in a fresh session, and compares each answer"
-        " with that of the report. Says what differs, and ends with status 1 then.",
+        " with that of the report; or asks what shows the claims of a certificate. Says what"
+        " differs, and ends with status 1 then.",
     )
-    check.add_argument("file", metavar="REPORT", help="what `propdesk run --json` wrote")
+    check.add_argument(
+        "file", metavar="FILE", help="what `propdesk run --json` wrote, or a saved certificate"
+    )
     for each in (run, shell, check):
         each.add_argument("--program", metavar="PATH", help="the program that answers")
     for each in (run, shell):

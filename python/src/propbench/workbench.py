@@ -7,17 +7,19 @@
     price = w.number("price", 0, 9000)
     w.require(price >= 400 * days)
     w.require(price <= 2000, under="cheap")
-    print(days.ask())                          days = 0..5 because of cheap
+    print(days.ask())  # days = 0..5 because of cheap
 """
 
 import os
-from collections.abc import Mapping, Iterable, Sequence
+from collections.abc import Iterable, Mapping, Sequence
+from datetime import date
 from types import TracebackType
 from typing import TypeVar, overload
 
 from propbench.model.answers import Answer, Conflict, NotSettled, ends_of
 from propbench.model.blaming import always, beyond
 from propbench.model.cells import Cell, ElementCell, NumberCell, SymbolCell, TruthCell, words_of
+from propbench.model.choosing import MOST_ALTERNATIVES
 from propbench.model.events import (
     CellMade,
     Choice,
@@ -40,13 +42,13 @@ from propbench.model.shrinking import shrunk
 from propbench.model.tabling import Table
 from propbench.nearby import near_names
 from propbench.overview import UNPROVED
+from propbench.planning import Calendar, Project
 from propbench.questions import Questions
 from propbench.replies import Contradiction, Settled, Value, Worldview
 from propbench.session import Session
 
 # What each alternative of a choice states: one constraint or several.
 Stated = Truth | bool | Sequence[Truth | bool]
-MOST_ALTERNATIVES = 8
 SomeCell = TypeVar("SomeCell", bound=Cell)
 
 
@@ -219,8 +221,9 @@ class Workbench(Questions):
         cell: Cell | Mapping[str, Stated],
         alternatives: Sequence[object] | None = None,
     ) -> None:
-        """Makes a choice between two to eight alternatives, the one to be tried first in front:
-        values of a cell, or, by name, constraints that hold together.
+        """Makes a choice between two to 64 alternatives, the one to be tried first in front.
+
+        They are values of a cell, or, by name, constraints that hold together:
 
             w.choose("plan", price, [1400, 2000])
             w.choose("venue", {"hotel": [days == 2, price == 4000], "uni": [days == 5]})
@@ -232,7 +235,9 @@ class Workbench(Questions):
         given = cell if isinstance(cell, Mapping) else alternatives
         if given is None or not 2 <= len(given) <= MOST_ALTERNATIVES:
             count = 0 if given is None else len(given)
-            raise ValueError(f"a choice has two to eight alternatives, and {name!r} has {count}")
+            raise ValueError(
+                f"a choice has two to {MOST_ALTERNATIVES} alternatives, and {name!r} has {count}"
+            )
         event: Choice
         if isinstance(cell, Mapping):
             named = [(side, self._constraints(stated)) for side, stated in cell.items()]
@@ -267,6 +272,9 @@ class Workbench(Questions):
         if isinstance(reply, Contradiction):
             raise self._conflict(reply)
         assert isinstance(reply, Value)
+        if command == "core" and reply.settled and self._network.premises.choices:
+            # (after a core every procedure is called once more, before the plan is known)
+            self.session.send("worldview", seconds=seconds)
         return self._reader().answer(cell, reply, self._plan())
 
     def table(self, *cells: Cell, seconds: float | None = None) -> Table:
@@ -280,13 +288,13 @@ class Workbench(Questions):
             raise self._conflict(reply)
         names = self._network.vocabulary.cells
         replies = self.session.look([f"why {names.line(cell.name)}" for cell in declared])
-        choices, read = self._plan(), self._reader()
+        plan, read = self._plan(), self._reader()
         answers = tuple(
-            read.answer(cell, reply, choices)
+            read.answer(cell, reply, plan)
             for cell, reply in zip(declared, replies)
             if isinstance(reply, Value)
         )
-        return Table(answers, choices, () if self.proved else (UNPROVED,))
+        return Table(answers, read.choices(plan), () if self.proved else (UNPROVED,))
 
     def show(self, *cells: Cell) -> None:
         """Prints what follows for these cells, or for all; at a conflict, what can't all hold."""
@@ -314,6 +322,25 @@ class Workbench(Questions):
         if not found:
             raise ValueError(f"`{constraint!r}` was not required")
         return found
+
+    # --- plans ---
+
+    def plan(
+        self,
+        *,
+        days: int,
+        people: str | Sequence[str] = (),
+        start: date | None = None,
+        off: str | Iterable[str | date] = (),
+    ) -> Project:
+        """A project over so many days, with people who do one thing at a time: its tasks, their
+        order and what is wished for are stated by its own methods.
+
+        Day 0 is the date `start`, where one is given, and weekdays (`off="sat sun"`) and dates that
+        are off are no days of it.
+        """
+        calendar = None if start is None else Calendar.of(start, off)
+        return Project(self, days, people, calendar)
 
     # --- files ---
 
@@ -364,6 +391,11 @@ class Workbench(Questions):
     def _reader(self) -> Reader:
         return Reader(self._network.vocabulary, self._network.premises)
 
+    def _read(self, cell: str, reply: Value, inside: Iterable[str]) -> Answer:
+        """A reply about a cell of a session that has this one's lines, with these sides."""
+        read = self._reader()
+        return read.answer(self._network.cells[cell], reply, read.plan(inside))
+
     def _over_all_plans(self, cell: Declared, seconds: float | None) -> Answer:
         """What the cell may be in some plan, whatever the choices take."""
         found = over_all_plans(self, cell, seconds)
@@ -375,8 +407,9 @@ class Workbench(Questions):
         low, high = ends_of(value)
         return Answer(cell.name, value, low, high, is_settled, self.believed)
 
-    def _plan(self) -> dict[str, object]:
-        """For each choice what it stands on, where a run has found that."""
+    def _plan(self) -> dict[str, int]:
+        """For each choice the place of the alternative that it stands on, where a run has found
+        that."""
         if not self._network.premises.choices:
             return {}
         [reply] = self.session.look(["worldview"])

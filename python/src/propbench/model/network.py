@@ -21,7 +21,7 @@ from propbench.model.premises import Premises
 from propbench.model.script import Script
 from propbench.model.vocabulary import Vocabulary
 from propbench.model.writer import YES
-from propbench.refusals import LimitReached, NotAName, Refused
+from propbench.refusals import LimitReached, LineTooLong, NotAName, Refused
 from propbench.session import Session
 
 
@@ -37,7 +37,8 @@ class Network:
         self.cells: dict[str, Declared] = {}
         self.domains: dict[str, Domain] = {}
         self.offered: frozenset[str] = frozenset()
-        self._base: list[str] | None = None
+        # What makes the network from nothing, while that is known.
+        self._base: Script | None = None
         self._script = self.new_script()
         self.session.send_all(self._script.writer.taken())
         self.offered = offered(self.session, YES)
@@ -56,7 +57,7 @@ class Network:
     def do(self, event: Event) -> list[str]:
         """Carries out an event, and gives its lines. Where one is refused, nothing of it is kept.
 
-        Raises ValueError where the program has no room for it.
+        Raises ValueError where the program has no room for it, or it can't be said on lines.
         """
         lines: list[str] = []
         try:
@@ -64,8 +65,8 @@ class Network:
             self.session.send_all(lines)
         except BaseException as error:
             self.begin_anew()
-            if isinstance(error, LimitReached):
-                raise _no_room(error) from None
+            if isinstance(error, (LimitReached, LineTooLong, RecursionError)):
+                raise ValueError(f"{_why_not(error)}; nothing of this was stated") from None
             raise
         self._base = None
         self.events.append(event)
@@ -101,19 +102,19 @@ class Network:
         """The lines that make the network as it is: a fresh session that is sent these is in the
         state of this one."""
         if self._base is None:
-            script = self.new_script()
-            lines = script.writer.taken()
+            self._base = self.new_script()
             for event in self.events:
-                lines += script.lines_of(event)
-            self._base = [*lines, *self.kicks()]
-        return list(self._base)
+                self._base.lines_of(event)
+        return [*self._base.writer.lines, *self.kicks()]
 
     def lines_of(self, constraint: Node) -> list[str]:
-        """The lines that state a constraint, wherever it was required; none where it wasn't."""
+        """The lines of the base that state a constraint, wherever it was required."""
         lines: dict[str, None] = {}
+        self.base()
+        assert self._base
         for event in self.events:
             if isinstance(event, Required) and event.constraint is constraint:
-                lines.update(dict.fromkeys(self._script.explained(event)))
+                lines.update(dict.fromkeys(self._base.explained(event)))
         return list(lines)
 
     def begin_anew(self) -> None:
@@ -159,6 +160,10 @@ def premise_of(event: Event) -> str | None:
     return event.premise if isinstance(event, (Required, Told)) else None
 
 
-def _no_room(refused: LimitReached) -> ValueError:
-    what = refused.text.rpartition(": ")[2]
-    return ValueError(f"the program has no room for more {what}; nothing of this was stated")
+def _why_not(error: LimitReached | LineTooLong | RecursionError) -> str:
+    """Why an event can't be carried out, in the user's words."""
+    if isinstance(error, LimitReached):
+        return f"the program has no room for more {error.text.rpartition(': ')[2]}"
+    if isinstance(error, LineTooLong):
+        return "a line of the program has no room for so many and so long names"
+    return "an expression is nested too deeply: name parts of it by cells of their own"

@@ -8,7 +8,7 @@ from collections.abc import Callable
 from typing import TYPE_CHECKING
 
 from propbench.model.context import Context
-from propbench.model.core import among, raw
+from propbench.model.core import among, in_core, raw
 from propbench.model.definedness import nonzero
 from propbench.model.kinds import Domain, Plain, domain_of
 from propbench.model.nodes import (
@@ -112,9 +112,9 @@ class Numbers:
             self._one_of(each, raw(less(inner, ZERO)), (opposite, inner), context)
 
     def _extreme(self, each: Node, cell: str, context: Context) -> None:
-        """The greatest or least: of the last two, where there are more."""
-        *front, last = each.args
-        first = front[0] if len(front) == 1 else node(each.op, front)
+        """The greatest or least: of the halves, where there are more than two."""
+        half = len(each.args) // 2
+        first, last = (_of(each.op, part) for part in (each.args[:half], each.args[half:]))
         pair = node(each.op, (first, last))
         if pair is not each:
             self._all.define_as(pair, context, cell)
@@ -185,30 +185,31 @@ class Numbers:
                 self._writer.attach("less", cell, edge, truth)
 
     def _division(self, each: Node, cell: str, context: Context) -> None:
-        """A quotient rounded down, or a remainder, within a gate that is open where the divisor is
-        not zero."""
-        is_quotient = each.op is Op.QUOTIENT
-        name = "quotient" if is_quotient else "remainder"
+        """A quotient rounded down, or what it leaves, and the other with it: within a gate that is
+        open where the divisor is not zero."""
         within = self._where_nonzero(each.args, context)
-        if self._writer.offers(name):
-            self._enter(each, cell, within, context)
-            self._writer.attach(name, *self._cells(each, within), within.cells[each])
-            return
-        other = node(Op.REMAINDER if is_quotient else Op.QUOTIENT, each.args)
-        if other not in context.cells:
-            context.cells[other] = self._writer.new_cell(Plain.NUMBER)
-            self._all.join(other, context.cells[other], context)
-        for one in (each, other):
+        quotient, remainder = (node(op, each.args) for op in (Op.QUOTIENT, Op.REMAINDER))
+        for one in (quotient, remainder):
+            if one not in context.cells:
+                context.cells[one] = self._writer.new_cell(Plain.NUMBER)
+                self._all.join(one, context.cells[one], context)
             self._enter(one, context.cells[one], within, context)
-        quotient, remainder = (each, other) if is_quotient else (other, each)
-        self._divide(quotient, remainder, within)
+        held, divisor = self._cells(each, within)
+        for one in (quotient, remainder):
+            self._writer.between(within.cells[one], *range_of(one), within)
+        if self._writer.offers("divide"):
+            found = within.cells[quotient], within.cells[remainder]
+            self._writer.attach("divide", held, divisor, *found)
+        else:
+            self._divide(quotient, remainder, within)
 
     def _where_nonzero(self, args: tuple[Node, ...], context: Context) -> Context:
         """The context where the divisor is not zero: the same, where that is stated there."""
         truth = nonzero(args[1])
+        needed = truth if truth is TRUE else negated(in_core(truth.args[0]))
         around: Context | None = context
         while around:
-            if truth is TRUE or truth in around.stated:
+            if needed is TRUE or needed in around.stated:
                 return context
             around = around.outer
         within = Context(self._all.cell_of(truth, context), None, context)
@@ -230,12 +231,14 @@ class Numbers:
         held, divisor = self._all.cell_of(left, context), self._all.cell_of(right, context)
         self._writer.attach("product", context.cells[quotient], divisor, part)
         self._writer.attach("sum", part, context.cells[remainder], held)
-        for each in (quotient, remainder):
-            self._writer.between(context.cells[each], *range_of(each), context)
         # (of a constant divisor that says it all)
         if right.op is not Op.CONSTANT:
             for truth in _remainder_fits(remainder, right):
                 self._all.state(truth, context)
+
+
+def _of(op: Op, numbers: tuple[Node, ...]) -> Node:
+    return numbers[0] if len(numbers) == 1 else node(op, numbers)
 
 
 def _bit_of(truth: Node) -> Node:

@@ -61,6 +61,11 @@ def range_of(node: Node) -> Range:
     return _ALWAYS.of(node)
 
 
+def uncut_range_of(node: Node) -> Range:
+    """The same of one operation, as if numbers had no end."""
+    return _ALWAYS.uncut(node)
+
+
 def _cut(number: int) -> int:
     return min(max(number, -MOST), MOST)
 

@@ -3,6 +3,7 @@
 from collections.abc import Iterable, Mapping
 
 from propbench.model.answers import Answer, Left, ends_of
+from propbench.model.choosing import alternative_of, alternatives_at, first_name
 from propbench.model.kinds import Domain
 from propbench.model.nodes import Declared
 from propbench.model.premises import Premises
@@ -19,30 +20,42 @@ class Reader:
         self._vocabulary = vocabulary
         self._premises = premises
 
-    def answer(self, cell: Declared, reply: Value, choices: Mapping[str, object]) -> Answer:
+    def answer(self, cell: Declared, reply: Value, plan: Mapping[str, int]) -> Answer:
         """A reply about a cell, under the plan on which the choices stand."""
         value = self._value(cell, reply.value)
         low, high = ends_of(value)
-        because = tuple(map(self.premise, reply.because or ()))
+        # (two sides may stand for one alternative)
+        because = tuple(dict.fromkeys(self.premise(each, plan) for each in reply.because or ()))
+        choices = self.choices(plan)
         return Answer(cell.name, value, low, high, reply.settled, because, choices, reply.reduced)
 
-    def premise(self, line_name: str) -> str:
-        """What the user calls a premise, or an alternative of a choice (`venue: uni`)."""
+    def premise(self, line_name: str, plan: Mapping[str, int]) -> str:
+        """What the user calls a premise, or the alternative of a choice (`venue: uni`) on which a
+        plan stands."""
         choice, mark, number = line_name.partition("=")
-        name = self._vocabulary.premises.text(choice)
+        name = self._vocabulary.premises.text(first_name(choice))
         if not mark:
             return name
-        return f"{printable(name)}: {self._premises.choices[name].sides[int(number) - 1]}"
+        sides = self._premises.choices[name].sides
+        left = alternatives_at(choice, int(number) - 1, len(sides))
+        if plan.get(name) in left:
+            left = [plan[name]]
+        return f"{printable(name)}: {' or '.join(sides[each] for each in left)}"
 
-    def plan(self, inside: Iterable[str]) -> dict[str, object]:
-        """For each choice what it stands on, by the sides that are believed."""
-        chosen: dict[str, object] = {}
+    def plan(self, inside: Iterable[str]) -> dict[str, int]:
+        """For each choice the place of the alternative that it stands on, by the sides that are
+        believed."""
+        sides: dict[str, list[int]] = {}
         for line_name in inside:
             choice, mark, number = line_name.partition("=")
             if mark:
-                name = self._vocabulary.premises.text(choice)
-                chosen[name] = self._premises.choices[name].stands_on(int(number) - 1)
-        return chosen
+                name = self._vocabulary.premises.text(first_name(choice))
+                sides.setdefault(name, []).append(int(number) - 1)
+        return {name: alternative_of(found) for name, found in sides.items()}
+
+    def choices(self, plan: Mapping[str, int]) -> dict[str, object]:
+        """For each choice what it stands on, as it was written."""
+        return {name: self._premises.choices[name].stands_on(at) for name, at in plan.items()}
 
     def _value(self, cell: Declared, held: Held) -> Left:
         if isinstance(held, Span):

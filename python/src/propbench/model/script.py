@@ -1,7 +1,8 @@
 """The lines of events, in order: what makes the network on the program's side."""
 
-from collections.abc import Callable
+from collections.abc import Callable, Sequence
 
+from propbench.model.choosing import is_large, second_name, sides_of
 from propbench.model.context import Context
 from propbench.model.events import (
     CellMade,
@@ -28,7 +29,6 @@ class Script:
         self.writer = Writer(vocabulary, offers)
         self.translation = Translation(self.writer)
         self._premises: dict[str, Context] = {}
-        self._alternatives: dict[int, Domain] = {}
         self._places: dict[Event, tuple[int, int]] = {}
 
     def lines_of(self, event: Event) -> list[str]:
@@ -92,30 +92,41 @@ class Script:
             self.writer.line(f"tell {self.vocabulary.premises.line(event.premise)} {cell} {value}")
 
     def _choose_value(self, event: ValueChoice) -> None:
+        values = [self._written(event.cell, each) for each in event.alternatives]
         cell = self.vocabulary.cells.line(event.cell.name)
-        values = " or ".join(self._written(event.cell, each) for each in event.alternatives)
-        self.writer.line(f"choose {self.vocabulary.premises.line(event.name)} {cell} {values}")
+        if is_large(len(values)):
+            for within, value in zip(self._choose(event.name, len(values)), values):
+                self.writer.narrow(cell, value, event.cell.kind, within)
+        else:
+            self._write_choice(self.vocabulary.premises.line(event.name), cell, values)
 
     def _choose_constraints(self, event: ConstraintChoice) -> None:
-        """A cell of the choice's own stands on one of its alternatives, and opens that one's gate."""
-        domain = self._domain_of_alternatives(len(event.alternatives))
-        chosen = self.writer.new_cell(domain)
-        for element, (_, constraints) in zip(domain.elements, event.alternatives):
-            gate = self.writer.new_cell(Plain.TRUTH)
-            self.writer.attach("comparer", chosen, self.writer.fixed(domain, element), gate)
-            within = Context(gate, None, self.writer.root)
+        withins = self._choose(event.name, len(event.alternatives))
+        for within, (_, constraints) in zip(withins, event.alternatives):
             for constraint in constraints:
                 self.translation.state(constraint, within)
-        name = self.vocabulary.premises.line(event.name)
-        self.writer.line(f"choose {name} {chosen} {' or '.join(domain.elements)}")
 
-    def _domain_of_alternatives(self, count: int) -> Domain:
-        """The workbench's own domain of so many alternatives."""
-        if count not in self._alternatives:
-            elements = tuple(f"a{number}" for number in range(1, count + 1))
-            made = self._alternatives[count] = self.vocabulary.own_domain(f"_of{count}", elements)
-            self.writer.own_domain(made)
-        return self._alternatives[count]
+    def _choose(self, name: str, count: int) -> list[Context]:
+        """Where each of so many alternatives holds: a cell of the choice's own stands on one of
+        them, and opens its gate."""
+        domain = self.writer.alternatives(count)
+        chosen = self.writer.new_cell(domain)
+        withins = []
+        for element in domain.elements:
+            gate = self.writer.new_cell(Plain.TRUTH)
+            self.writer.attach("comparer", chosen, self.writer.fixed(domain, element), gate)
+            withins.append(Context(gate, None, self.writer.root))
+        line = self.vocabulary.premises.line(name)
+        if is_large(count):
+            groups, places = sides_of(domain.elements)
+            self._write_choice(line, chosen, groups)
+            self._write_choice(second_name(line), chosen, places)
+        else:
+            self._write_choice(line, chosen, domain.elements)
+        return withins
+
+    def _write_choice(self, name: str, cell: str, values: Sequence[str]) -> None:
+        self.writer.line(f"choose {name} {cell} {' or '.join(values)}")
 
     def _written(self, cell: Declared, values: Values) -> str:
         """What is stated of a cell, as a line has it."""

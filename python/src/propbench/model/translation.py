@@ -6,8 +6,9 @@ contexts hold the same while these hold, so what one constraint finds out all ot
 
 from propbench.model.context import Context
 from propbench.model.core import different, in_core
-from propbench.model.kinds import MOST, Plain, domain_of
-from propbench.model.nodes import FALSE, TRUE, Node, Op
+from propbench.model.harmless import is_harmless
+from propbench.model.kinds import MOST, Domain, Plain, domain_of
+from propbench.model.nodes import FALSE, TRUE, Node, Op, negated
 from propbench.model.numbers import Numbers
 from propbench.model.truths import Truths
 from propbench.model.vocabulary import Vocabulary
@@ -33,47 +34,11 @@ class Translation:
 
     def state(self, truth: Node, context: Context) -> None:
         """Writes the lines by which a truth holds while the context does."""
-        core = in_core(truth)
-        if core in context.stated:
-            return
-        context.stated.add(core)
-        if core is FALSE:
-            self.writer.narrow(YES, "no", Plain.TRUTH, context)
-        elif core.op is Op.AND:
-            for each in core.args:
-                self.state(each, context)
-        elif core.op is Op.NOT:
-            self.deny(core.args[0], context)
-        elif core.op is Op.CELL or core in context.cells:
-            self._narrow(core, "yes", context)
-        elif core.op is Op.OR:
-            opened = self.writer.opened(context)
-            self._truths.any_into(core, opened, context)
-            self._is_known(core, opened, context)
-        elif core.op is Op.RAW:
-            self._state_comparison(core.args[0], context)
-            if not _is_told_whole(core.args[0]):
-                self._is_known(core, self.writer.opened(context), context)
+        self._state(truth, True, context)
 
     def deny(self, truth: Node, context: Context) -> None:
         """Writes the lines by which a truth doesn't hold while the context does."""
-        core = in_core(truth)
-        if core is TRUE:
-            self.state(FALSE, context)
-        elif core.op is Op.OR:
-            for each in core.args:
-                self.deny(each, context)
-        elif core.op is Op.NOT:
-            self.state(core.args[0], context)
-        elif core.op is Op.CELL or core in context.cells:
-            self._narrow(core, "no", context)
-        elif core.op is Op.AND:
-            self._truths.all_into(core, self.writer.closed(context), context)
-            self._is_known(core, self.writer.closed(context), context)
-        elif core.op is Op.RAW:
-            self._deny_comparison(core.args[0], context)
-            if context.closed or not _is_told_whole(core.args[0]):
-                self._is_known(core, self.writer.closed(context), context)
+        self._state(truth, False, context)
 
     def cell_of(self, each: Node, context: Context) -> str:
         """The cell of an expression in a context, made where there is none yet."""
@@ -143,11 +108,13 @@ class Translation:
         else:
             self.writer.attach("same", self.cell_of(meaning, context), cell)
 
-    def _is_known(self, truth: Node, cell: str, context: Context) -> None:
-        """Takes in that a truth stands in a cell, where it has none there yet."""
-        if truth not in context.cells:
-            context.cells[truth] = cell
-            self.join(truth, cell, context)
+    def _is_known(self, truth: Node, holds: bool, context: Context) -> None:
+        """Takes in that a truth was stated or denied, which may have got a cell by then."""
+        if truth in context.cells:
+            self.writer.narrow(context.cells[truth], _word(holds), Plain.TRUTH, context)
+            return
+        cell = context.cells[truth] = self._known(holds, context)
+        self.join(truth, cell, context)
 
     def _make(self, each: Node, context: Context) -> None:
         core = in_core(each)
@@ -163,83 +130,113 @@ class Translation:
         else:
             self.define(each, context, self.writer.new_cell(each.kind))
 
-    def _narrow(self, each: Node, text: str, context: Context) -> None:
-        """States that an expression has a value, as written: of a user's cell the user's own."""
-        where = self.root if each.op is Op.CELL else context
-        self.writer.narrow(self.cell_of(each, where), text, each.kind, context)
-
-    def _state_comparison(self, each: Node, context: Context) -> None:
-        if each.op is Op.ALL_DIFFERENT:
-            self._truths.all_different(each, context)
-        elif each.op is Op.AMONG:
-            self._narrow_elements(each.args[0], each.entries, True, context)
-        elif each.op is Op.PAIR:
-            self._truths.link(each, True, context)
-        elif each.op is Op.LESS:
-            if not self._compared_with_constant(each, True, context):
-                self._attach("less", each, self.writer.opened(context), context)
+    def _state(self, truth: Node, holds: bool, context: Context) -> None:
+        core = in_core(truth)
+        if core.op is Op.NOT:
+            self._state(core.args[0], not holds, context)
+            return
+        said = core if holds else negated(core)
+        if said in context.stated:
+            return
+        context.stated.add(said)
+        where = self._place(core, context)
+        if said in (TRUE, FALSE):
+            if said is FALSE:
+                self.writer.narrow(YES, "no", Plain.TRUTH, context)
+        elif core.op is (Op.AND if holds else Op.OR):
+            for each in core.args:
+                self._state(each, holds, context)
+        elif core.op is Op.CELL or core in where.cells:
+            self._narrow(core, _word(holds), context)
+        elif core.op is Op.RAW:
+            self._state_comparison(core, holds, context)
+        elif where is context:
+            cell = self._known(holds, context)
+            (self._truths.any_into if holds else self._truths.all_into)(core, cell, context)
+            self._is_known(core, holds, context)
         else:
-            self._state_equal(each.args[0], each.args[1], context)
+            self._narrow(core, _word(holds), context)
 
-    def _deny_comparison(self, each: Node, context: Context) -> None:
-        closed = self.writer.closed
-        if each.op is Op.ALL_DIFFERENT:
-            self.deny(different(each), context)
-        elif each.op is Op.AMONG:
-            self._narrow_elements(each.args[0], each.entries, False, context)
+    def _place(self, each: Node, context: Context) -> Context:
+        """Where the cell of an expression is to stand of which something is stated: where it tells
+        nothing by itself, outside of the gate of a premise or an alternative."""
+        is_outside = context.outer is self.root and is_harmless(each)
+        return self.root if is_outside or each.op is Op.CELL else context
+
+    def _known(self, holds: bool, context: Context) -> str:
+        """A truth that is `yes`, or `no`, while the context holds."""
+        return self.writer.opened(context) if holds else self.writer.closed(context)
+
+    def _narrow(self, each: Node, text: str, context: Context) -> None:
+        """States that an expression has a value, as written."""
+        cell = self.cell_of(each, self._place(each, context))
+        self.writer.narrow(cell, text, each.kind, context)
+
+    def _state_comparison(self, core: Node, holds: bool, context: Context) -> None:
+        """States or denies a comparison, which has no cell where it is to stand."""
+        [each] = core.args
+        if each.op is Op.AMONG:
+            self._narrow_elements(each.args[0], each.entries, holds, context)
         elif each.op is Op.PAIR:
-            self._truths.link(each, False, context)
-        elif each.op is Op.LESS:
-            if not self._compared_with_constant(each, False, context):
-                self._attach("less", each, closed(context), context)
-        elif not self._unequal_to_constant(each, context):
-            self._attach("alike", each, closed(context), context)
-
-    def _attach(self, procedure: str, comparison: Node, truth: str, context: Context) -> None:
-        cells = [self.cell_of(arg, context) for arg in comparison.args]
-        self.writer.attach(procedure, *cells, truth)
+            self._truths.link(each, holds, context)
+        elif each.op is Op.ALL_DIFFERENT:
+            if holds:
+                self._truths.different_at_once(each, context)
+            self._state(different(each), holds, context)
+        elif not self._compared_with_constant(each, holds, context):
+            if self._place(core, context) is not context:
+                self._narrow(core, _word(holds), context)
+            elif each.op is Op.EQUAL and holds:
+                self._unite(each.args[0], each.args[1], context)
+                self._is_known(core, holds, context)
+            else:
+                cells = [self.cell_of(arg, context) for arg in each.args]
+                truth = self._known(holds, context)
+                self.writer.attach("less" if each.op is Op.LESS else "alike", *cells, truth)
+                self._is_known(core, holds, context)
 
     def _compared_with_constant(self, each: Node, holds: bool, context: Context) -> bool:
-        """States or denies `left < right` where one of them is a constant: as a range."""
+        """States or denies `==` or `<` where one side is a constant, as a value of the other;
+        whether that is so, and can be said."""
+        left, right = each.args
+        if Op.CONSTANT not in (left.op, right.op):
+            return False
+        if each.op is Op.LESS:
+            self._narrow_number(each, holds, context)
+            return True
+        other, value = (right, left.constant) if left.op is Op.CONSTANT else (left, right.constant)
+        if isinstance(other.kind, Domain):
+            self._narrow_elements(other, (value,), holds, context)
+        elif other.kind is Plain.TRUTH:
+            self._narrow(other, _word(bool(value) is holds), context)
+        elif holds:
+            self._narrow(other, self.vocabulary.literal(value, other.kind), context)
+        else:
+            return False
+        return True
+
+    def _narrow_number(self, each: Node, holds: bool, context: Context) -> None:
+        """States or denies `left < right`, where one of them is a constant: as a range."""
         left, right = each.args
         low, high = -MOST, MOST
         if right.op is Op.CONSTANT:
             number, other = int(right.constant), left
             low, high = (low, number - 1) if holds else (number, high)
-        elif left.op is Op.CONSTANT:
+        else:
             number, other = int(left.constant), right
             low, high = (number + 1, high) if holds else (low, number)
-        else:
-            return False
         if low > high:
             self.state(FALSE, context)
         else:
             self._narrow(other, span_text(low, high), context)
-        return True
 
-    def _state_equal(self, left: Node, right: Node, context: Context) -> None:
-        if left.op is Op.CONSTANT:
-            left, right = right, left
-        if right.op is Op.CONSTANT:
-            self._narrow(left, self.vocabulary.literal(right.constant, right.kind), context)
-        elif self.has_own_lines(left, context) and not self.has_own_lines(right, context):
+    def _unite(self, left: Node, right: Node, context: Context) -> None:
+        """States that two expressions are the same: one is defined into the cell of the other."""
+        if self.has_own_lines(left, context) and not self.has_own_lines(right, context):
             self.define(left, context, self.cell_of(right, context))
         else:
             cell = self.cell_of(left, context)
             self.define_as(right, context, cell)
-
-    def _unequal_to_constant(self, each: Node, context: Context) -> bool:
-        """States `left != right` where one is a constant element or truth: as a set."""
-        left, right = each.args
-        if left.op is Op.CONSTANT:
-            left, right = right, left
-        if right.op is not Op.CONSTANT or right.kind in (Plain.NUMBER, Plain.SYMBOL):
-            return False
-        if right.kind is Plain.TRUTH:
-            self._narrow(left, "no" if right.constant else "yes", context)
-        else:
-            self._narrow_elements(left, (right.constant,), False, context)
-        return True
 
     def _narrow_elements(
         self, each: Node, elements: tuple[object, ...], holds: bool, context: Context
@@ -252,7 +249,5 @@ class Translation:
             self.state(FALSE, context)
 
 
-def _is_told_whole(comparison: Node) -> bool:
-    """Whether what is compared tells all of the comparison, once that is stated."""
-    is_with_constant = any(arg.op is Op.CONSTANT for arg in comparison.args)
-    return comparison.op is Op.AMONG or (is_with_constant and comparison.op in (Op.LESS, Op.EQUAL))
+def _word(holds: bool) -> str:
+    return "yes" if holds else "no"

@@ -6,13 +6,14 @@ from propbench.model.context import Context
 from propbench.model.core import different, rows_of
 from propbench.model.kinds import Plain, domain_of
 from propbench.model.nodes import Node, Op, constant, node
+from propbench.model.relations import Relations
 from propbench.model.vocabulary import SIDES
 from propbench.model.writer import TRUTHS
 
 if TYPE_CHECKING:
     from propbench.model.translation import Translation
 
-_MOST_DIFFERENT = 9
+_MOST_DIFFERENT = 8
 
 
 class Truths:
@@ -21,6 +22,7 @@ class Truths:
     def __init__(self, translation: "Translation") -> None:
         self._all = translation
         self._writer = translation.writer
+        self._relations = Relations(translation.writer)
 
     def define(self, each: Node, cell: str, context: Context) -> None:
         """Has a cell hold a truth, which is in core operations."""
@@ -42,14 +44,13 @@ class Truths:
         """Has a cell tell whether one of these holds."""
         self._chain("or", each, cell, context)
 
-    def all_different(self, each: Node, context: Context) -> None:
-        """States that all differ: any two, and where the program can tell more from all at once,
-        that."""
+    def different_at_once(self, each: Node, context: Context) -> None:
+        """States that all differ, where the program can tell more from all at once than from any
+        two."""
         count = len(each.args)
         if 2 < count <= _MOST_DIFFERENT and self._writer.offers(f"different{count}"):
             cells = [self._all.cell_of(arg, context) for arg in each.args]
             self._writer.attach(f"different{count}", *cells)
-        self._all.state(different(each), context)
 
     def link(self, pair: Node, holds: bool, context: Context) -> None:
         """States that two are a pair of a relation, or none."""
@@ -60,9 +61,8 @@ class Truths:
             for right in second.elements
             if ((left, right) in pair.entries) is holds
         ]
-        relation = self._writer.relation(first, second, pairs)
-        cells = [self._all.cell_of(arg, context) for arg in pair.args]
-        self._writer.attach("link", *cells, by=relation)
+        left, right = (self._all.cell_of(arg, context) for arg in pair.args)
+        self._relations.link((first, second), pairs, (left, right))
 
     def _chain(self, procedure: str, each: Node, cell: str, context: Context) -> None:
         """A chain of truths, each joined to those before it, which have a cell too."""

@@ -31,11 +31,17 @@ class Writer:
         self._count = 0
         self._constants: dict[tuple[str, str], str] = {}
         self._relations: dict[object, str] = {}
+        self._alternatives: dict[int, Domain] = {}
 
     @property
     def position(self) -> int:
         """How many lines were written so far."""
         return len(self._log)
+
+    @property
+    def lines(self) -> list[str]:
+        """All lines that were written."""
+        return list(self._log)
 
     def taken(self) -> list[str]:
         """The lines that were written since the last call."""
@@ -167,6 +173,14 @@ class Writer:
         name, since = self.new_name(), self.position
         self.line(f"relation {name} {names.domain(first)} {names.domain(second)} = {written}")
         return self.made(name, since)
+
+    def alternatives(self, count: int) -> Domain:
+        """A domain of so many elements that a user never sees: `a1`, `a2` and so on."""
+        if count not in self._alternatives:
+            elements = tuple(f"a{number}" for number in range(1, count + 1))
+            made = self._alternatives[count] = self.vocabulary.own_domain(f"_of{count}", elements)
+            self.own_domain(made)
+        return self._alternatives[count]
 
     def own_domain(self, domain: Domain) -> None:
         """Declares a domain that a user never sees."""

@@ -4,16 +4,33 @@ A workbench has these as its methods. Each gives a result that prints well, is a
 it is complete, and has a certificate.
 """
 
-from collections.abc import Iterable, Mapping
+from collections.abc import Iterable, Iterator, Mapping
+from concurrent.futures import Executor
+from contextlib import contextmanager
+from typing import TypeVar
 
-from propbench.questions.asking import CellLike, Interrupted
+from propbench.questions.asking import CellLike, Interrupted, NoSuchName
+from propbench.questions.bench import Bench
 from propbench.questions.bounding import GREATEST, LEAST, Optimum, find_optimum
 from propbench.questions.certificate import Certificate
 from propbench.questions.checker import CertificateError
-from propbench.questions.clock import Progress
+from propbench.questions.changes import ToldValue, changed, resolved
+from propbench.questions.clock import Clock, Progress
+from propbench.questions.comparing import Differences, Snapshot, differences, snapshot_of
 from propbench.questions.conflicts import Conflicts, Repairs, find_conflicts, find_repairs
+from propbench.questions.critical import (
+    Critical,
+    NothingFits,
+    Slack,
+    find_critical,
+    find_slack,
+)
 from propbench.questions.model import Model, Plan, Point
 from propbench.questions.plans import Plans, find_plans
+from propbench.questions.scenarios import Scenario, Scenarios, find_scenarios, sweep
+from propbench.questions.sensitivity import Sensitivity, of_answers, of_optimum
+
+SomeBench = TypeVar("SomeBench", bound=Bench)
 
 
 class Questions:
@@ -33,30 +50,33 @@ class Questions:
     def conflicts(
         self,
         *,
+        keep: Iterable[str] = (),
         most: int = 100,
         seconds: float | None = None,
         progress: Progress | None = None,
     ) -> Conflicts:
         """All least sets of believed premises that can't all hold, `most` of them at the most.
 
-        The list is empty where everything fits. A conflict without any premise says that what
-        always holds can't hold.
+        Those that are to `keep` are taken as given, and stand in no conflict. The list is empty
+        where everything fits. A conflict without any premise says that what always holds can't.
         """
-        return find_conflicts(self.model, most, seconds, progress)
+        return find_conflicts(self.model, keep, most, seconds, progress)
 
     def repairs(
         self,
         weight: Mapping[str, float] | None = None,
         *,
+        keep: Iterable[str] = (),
         most: int = 100,
         seconds: float | None = None,
         progress: Progress | None = None,
     ) -> Repairs:
         """All least sets of believed premises to give up so that the others fit, cheapest first.
 
-        `weight` says what it costs to give up a premise, 1 where it says nothing of it.
+        `weight` says what it costs to give up a premise, 1 where it says nothing of it. Those that
+        are to `keep` are not given up.
         """
-        return find_repairs(self.model, weight or {}, most, seconds, progress)
+        return find_repairs(self.model, weight or {}, keep, most, seconds, progress)
 
     def least(
         self,
@@ -90,17 +110,131 @@ class Questions:
         each once, `most` of them at the most."""
         return find_plans(self.model, show, most, seconds, progress)
 
+    def slack(
+        self,
+        cell: CellLike,
+        *,
+        seconds: float | None = None,
+        progress: Progress | None = None,
+    ) -> Slack:
+        """How much room a cell has over all plans: its least and its greatest value, or all the
+        values that it has in some plan."""
+        return find_slack(self.model, cell, seconds, progress)
+
+    def critical(
+        self,
+        cell: CellLike,
+        end: str = LEAST,
+        *,
+        seconds: float | None = None,
+        progress: Progress | None = None,
+    ) -> Critical:
+        """The premises because of which a number can't be less than its least value in any plan,
+        or by `end="greatest"` more than its greatest: a least set of such premises."""
+        return find_critical(self.model, cell, end, seconds, progress)
+
+    def sensitivity(
+        self: Bench,
+        cell: CellLike,
+        of: str | None = None,
+        *,
+        seconds: float | None = None,
+        progress: Progress | None = None,
+    ) -> Sensitivity:
+        """What each believed premise is worth: the answer for a cell where that is left out, and
+        where each range that it tells is half as wide. By `of="least"` or `of="greatest"` it is
+        the least or greatest value in any plan that is asked for."""
+        if of is None:
+            return of_answers(self, cell, seconds, progress)
+        if of not in (LEAST, GREATEST):
+            raise ValueError(f"sensitivity is of {LEAST!r} or {GREATEST!r}, and not {of!r}")
+        return of_optimum(self.model, cell, of, seconds, progress)
+
+    def scenarios(
+        self: Bench,
+        rows: Mapping[str, Scenario],
+        columns: Iterable[CellLike],
+        *,
+        seconds: float | None = None,
+        progress: Progress | None = None,
+    ) -> Scenarios:
+        """A table of what-ifs. A row is named, and is a dict of what to `kick`, `bring` and `tell`
+        as in `what_if`; the columns are cells, and stand in it as answers."""
+        return find_scenarios(self, rows, columns, seconds, progress)
+
+    def sweep(
+        self: Bench,
+        scenarios: Mapping[str, Scenario] | Iterable[Scenario],
+        show: Iterable[CellLike],
+        executor: Executor | None = None,
+        *,
+        seconds: float | None = None,
+        progress: Progress | None = None,
+    ) -> Scenarios:
+        """The same table for many scenarios, asked side by side by an executor of
+        `concurrent.futures` (processes, or other machines); by threads, each with a program of its
+        own, where none is given. Scenarios without names are numbered from 1."""
+        return sweep(self, scenarios, show, executor, Clock(seconds, progress))
+
+    @contextmanager
+    def what_if(
+        self: SomeBench,
+        *,
+        kick: str | Iterable[str] = (),
+        bring: str | Iterable[str] = (),
+        tell: Iterable[ToldValue] = (),
+    ) -> Iterator[SomeBench]:
+        """Has the workbench answer for a while as if premises were kicked out or brought in, and
+        more were told: `with w.what_if(kick=["ana"], tell=[("guess", x, 3, 5)]): x.ask()`.
+
+        Behind the `with` the workbench is as it was, whatever was stated within.
+        """
+        change = changed(kick, bring, tell)
+        resolved(self.model, change)
+        kept = self._set_aside()
+        try:
+            for premise in change.kick:
+                self.kick(premise)
+            for premise in change.bring:
+                self.bring(premise)
+            for told, cell, *value in change.tell:
+                self.tell(str(told), self.cell(cell) if isinstance(cell, str) else cell, *value)
+            yield self
+        finally:
+            self._put_back(kept)
+
+    def snapshot(self: Bench) -> Snapshot:
+        """What is stated and answered now, to be compared later by `diff`. It can be pickled."""
+        return snapshot_of(self)
+
+    def diff(self: Bench, snapshot: Snapshot) -> Differences:
+        """In what the statements and answers differ from those of a snapshot, and because of what
+        premises."""
+        return differences(snapshot, snapshot_of(self))
+
+    def compare(self: Bench, other: Bench) -> Differences:
+        """In what the statements and answers of another workbench differ from those of this one."""
+        return differences(snapshot_of(self), snapshot_of(other))
+
 
 __all__ = [
     "Certificate",
     "CertificateError",
     "Conflicts",
+    "Critical",
+    "Differences",
     "Interrupted",
     "Model",
+    "NoSuchName",
+    "NothingFits",
     "Optimum",
     "Plan",
     "Plans",
     "Point",
     "Questions",
     "Repairs",
+    "Scenarios",
+    "Sensitivity",
+    "Slack",
+    "Snapshot",
 ]

@@ -4,7 +4,6 @@ from collections.abc import Callable, Collection, Iterable
 from typing import Protocol, TypeVar
 
 from propbench.nearby import near_names
-from propbench.questions.clock import Clock
 from propbench.questions.model import Model
 from propbench.questions.trial import Trial
 from propbench.showing import quoted
@@ -34,40 +33,43 @@ class Interrupted(KeyboardInterrupt):
         self.so_far = so_far
 
 
-def answered(
-    clock: Clock, trial: Trial, run: Callable[[], None], result: Callable[[], Result]
-) -> Result:
+def answered(run: Callable[[], None], result: Callable[[], Result]) -> Result:
     """The result of a question after its run, or as far as that came. Raises Interrupted."""
     try:
-        with trial:
-            run()
+        run()
     except KeyboardInterrupt:
         raise Interrupted(result()) from None
-    finally:
-        clock.end()
     return result()
 
 
+def tried(trial: Trial, run: Callable[[], None], result: Callable[[], Result]) -> Result:
+    """The same of a question that needs a trial, which ends with it."""
+    with trial:
+        try:
+            return answered(run, result)
+        finally:
+            trial.clock.end()
+
+
 def cell_named(model: Model, cell: CellLike) -> str:
-    """The name of a cell of the model. Raises KeyError for another."""
-    name = cell if isinstance(cell, str) else cell.name
+    """The name of a cell of the model. Raises NoSuchName, and TypeError for what is no cell."""
+    name = cell if isinstance(cell, str) else getattr(cell, "name", None)
+    if not isinstance(name, str):
+        raise TypeError(f"{cell!r} is no cell, nor the name of one")
     _demand(name, model.cells(), "cell")
     return name
 
 
 def premises_named(model: Model, names: Iterable[str]) -> list[str]:
-    """The names of premises of the model. Raises KeyError for another."""
+    """The names of premises of the model. Raises NoSuchName for another."""
     found, known = list(names), model.premises()
     for name in found:
         _demand(name, known, "premise")
     return found
 
 
-class NoSuchName(KeyError):
+class NoSuchName(ValueError):
     """There is no cell, or no premise, of that name."""
-
-    def __str__(self) -> str:
-        return str(self.args[0])
 
 
 def _demand(name: str, known: Collection[str], what: str) -> None:

@@ -3,7 +3,7 @@
 from collections.abc import Sequence
 from dataclasses import dataclass
 
-from propbench.questions.asking import CellLike, answered, cell_named
+from propbench.questions.asking import CellLike, cell_named, tried
 from propbench.questions.certificate import Certificate, Evidence
 from propbench.questions.checker import MOST
 from propbench.questions.clock import Clock, Progress
@@ -11,6 +11,7 @@ from propbench.questions.model import Model, Plan
 from propbench.questions.outcomes import Cannot, Fits, Fork
 from propbench.questions.rooms import Numbers
 from propbench.questions.shown import NOT_REFUTED, Shown
+from propbench.questions.searching import decided
 from propbench.questions.trial import Trial
 
 LEAST, GREATEST = "least", "greatest"
@@ -41,7 +42,11 @@ class Optimum(Shown):
     def headline(self) -> str:
         best = "The least" if self.sort == LEAST else "The greatest"
         if self.value is None:
-            says = "nothing fits" if self.proved else f"no plan was found, and {NOT_REFUTED} is one"
+            says = (
+                "nothing fits"
+                if self.proved
+                else f"no plan was found; that there is one is {NOT_REFUTED}"
+            )
             return f"{best} {self.cell}: {says}."
         if self.proved:
             return f"{best} {self.cell} is {self.value}:"
@@ -83,13 +88,20 @@ class Bounding:
         """A number beyond which nothing fits, None where none is known."""
         return None if self._low == -MOST else self._sign * self._low
 
+    @property
+    def beyond_value(self) -> Numbers | None:
+        """The values that are better than the best that was found, None where there are none."""
+        if self._best is None or self._best == -MOST:
+            return None
+        return self.beyond(self._best - 1)
+
     def beyond(self, most: int) -> Numbers:
         """The values up to one, seen from this end."""
         return Numbers(-MOST, most) if self._sign == 1 else Numbers(-most, MOST)
 
     def run(self) -> None:
         """Closes in on the optimum, until it is found or the time is over."""
-        first = self.trial.decide(self.premises)
+        first = decided(self.trial, self.premises)
         if isinstance(first, Cannot):
             self.proved, self.tree = True, first.tree
         if isinstance(first, Fits):
@@ -107,7 +119,7 @@ class Bounding:
     def _close_in(self, best: int) -> bool:
         """Tries whether there is a plan in the better half; whether that was found out in time."""
         most = best - 1 if best <= self._low else (self._low + best - 1) // 2
-        outcome = self.trial.decide(self.premises, [(self.cell, self.beyond(most))])
+        outcome = decided(self.trial, self.premises, [(self.cell, self.beyond(most))])
         if isinstance(outcome, Fits):
             self._find(outcome)
         elif isinstance(outcome, Cannot):
@@ -149,4 +161,4 @@ def find_optimum(
     name, clock = cell_named(model, cell), Clock(seconds, progress)
     trial = Trial(model, model.believed(), clock)
     bounding = Bounding(trial, model.believed(), name, sort)
-    return answered(clock, trial, bounding.run, bounding.result)
+    return tried(trial, bounding.run, bounding.result)

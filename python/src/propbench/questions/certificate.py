@@ -71,7 +71,7 @@ class Evidence:
     premises: Mapping[str, str]
     basis: list[str] = field(default_factory=list)
     rooms: dict[str, str] = field(default_factory=dict)
-    choices: list[tuple[str, list[str] | None]] = field(default_factory=list)
+    choices: list[tuple[str, str]] = field(default_factory=list)
     plans: list[dict[str, object]] = field(default_factory=list)
     trees: list[tuple[object, Tree]] = field(default_factory=list)
 
@@ -118,7 +118,6 @@ class Evidence:
         """The certificate of claims, each by its sort and what it says."""
         evidence = {
             "mark": self.mark,
-            "cells": list(self.cells.values()),
             "basis": self.basis,
             "rooms": self.rooms,
             "choices": self.choices,

@@ -1,11 +1,9 @@
-"""Checks a certificate: asks a program again whether a network has what is claimed of it.
+"""Checks a certificate, alone: python3 checker.py CERTIFICATE PROGRAM.
 
-This file reads no other part of the package: `python3 checker.py CERTIFICATE PROGRAM` is enough. A
-certificate has claims, evidence (plans, choices, trees of cases) and the base, the lines that make
-the network; what is asked is derived from the claims. A plan counts where it tells one value for
-each of the user's cells and the program settles. Nothing fits where the program says
-`contradiction` in each of some cases that cover everything.
-"""
+A certificate has claims on a network, evidence (plans, choices, trees of cases), and the lines that
+make it. What is asked is derived from the claims. A plan fits where it tells one value for each cell
+of the user's (whose names don't begin with `_`) and the program settles; nothing fits where the
+program says `contradiction` in each of some cases that cover everything."""
 
 import hashlib
 import json
@@ -14,15 +12,14 @@ import subprocess
 import sys
 from collections.abc import Callable, Iterable, Sequence
 from functools import partial
+from itertools import zip_longest
 from typing import Any
 
 HEAD, MOST, SIDES = "propbench certificate 1", 10**18, 8
 Room = Sequence[Any]  # what is left for a cell: the lowest and the highest number, or names
-Told = Sequence[Sequence[str]]  # cells, and what is told of each
-Names = Iterable[str]
 Wanted = Callable[[str], object]  # what is wanted of a reply
 CONTRADICTS: Wanted = re.compile("contradiction:").match
-CLAIMS = ("fits", "fails", "optimum", "conflicts", "plans_are", "answer")
+BESIDE = re.compile(".* = | unsettled$|^contradiction:.*")  # in a reply, beside the value
 
 
 class CertificateError(Exception):
@@ -35,14 +32,14 @@ def demand(holds: object, says: str) -> None:
 
 
 def room_of(value: str) -> Room:
-    """The values that a text leaves, as `3`, `3..5`, `red` or `{red blue}`."""
-    low, dots, high = value.partition("..")
+    """The values that a text or a reply leaves: `3`, `3..5`, `red`, `{red blue}`, `x = 3`."""
+    low, dots, high = (value := BESIDE.sub("", value)).partition("..")
     if not low.removeprefix("-").isdecimal():
         return value.strip("{}").split()
     return [int(low), int(high if dots else low)]
 
 
-def covers(parts: Names, room: Room) -> bool:
+def covers(parts: Iterable[str], room: Room) -> bool:
     """Whether each value of the room is among those that one of these texts leaves."""
     rooms = [[*room_of(part)] for part in parts]
     if not room or isinstance(room[0], str):
@@ -51,12 +48,6 @@ def covers(parts: Names, room: Room) -> bool:
     for first, last in sorted(rooms):
         low = max(low, last + 1) if first <= low else low
     return bool(low > room[1])
-
-
-def is_within(part: str, whole: Room, said: str) -> bool:
-    """Whether a reply to `ask` leaves a part alone, for a cell that may have all of the whole."""
-    value = said.partition(" = ")[2].removesuffix(" unsettled")
-    return covers([part], whole if value == "nothing" else room_of(value))
 
 
 def digits(cell: str, room: Room, mark: str) -> list[str]:
@@ -72,7 +63,7 @@ def digits(cell: str, room: Room, mark: str) -> list[str]:
     return [*made, f"attach same {total} {cell}"]
 
 
-def hitting(sets: Sequence[Names], out: frozenset[str] = frozenset()) -> list[set[str]]:
+def hitting(sets: Sequence[Any], out: frozenset[str] = frozenset()) -> list[set[str]]:
     """Sets that have a name of each of these sets, none that is out; each least one among them."""
     found: list[set[str]] = []
     for name in sorted({*sets[0]} - out) if sets else ():
@@ -82,31 +73,26 @@ def hitting(sets: Sequence[Names], out: frozenset[str] = frozenset()) -> list[se
 
 
 class Checker:
-    """The lines to send, with what is wanted of the reply to each."""
-
     def __init__(self, base: Sequence[str], evidence: dict[str, Any]) -> None:
-        self.asked: list[tuple[str, Wanted]] = []
-        self.inside, self.basis, self.mark = set[str](), {*evidence["basis"]}, evidence["mark"]
-        self.cells, self.plans = {*evidence["cells"]}, evidence["plans"]
-        self.trees = {json.dumps(key): tree for key, tree in evidence["trees"]}
+        self.asked: list[tuple[str, Wanted]] = []  # the lines to send, what is wanted of replies
         words = [line.split() for line in base]
-        demand(not any(w.startswith(self.mark) for line in words for w in line), "a mark is taken")
-        demand(not {w[0] for w in words} & {"limit", "settle", "ask"}, "the base asks")
+        self.basis, self.mark, self.plans = (evidence[key] for key in ("basis", "mark", "plans"))
+        self.trees = {json.dumps(key): tree for key, tree in evidence["trees"]}
+        demand(self.mark not in " ".join(base), "names of the base are taken for something else")
         kinds: dict[str, Room] = {"span": [-MOST, MOST], "truth": ["no", "yes"]}
         kinds |= {w[1]: w[2:] for w in words if w[0] == "domain"}
         self.rooms = {w[1]: kinds.get(w[2], ["any symbol"]) for w in words if w[0] == "cell"}
         self.say(*(line for line, w in zip(base, words) if w[0] != "choose"))
-        self.say(*(f"kick {name}" for name in {w[1]: 0 for w in words if w[0] == "tell"}))
+        self.premises = sorted({w[1] for w in words if w[0] == "tell"})
         self.believe(self.basis)
         for cell, part in evidence["rooms"].items():  # no choice is made yet: all plans lie within
-            whole, self.rooms[cell] = self.rooms[cell], room_of(part)
-            self.say(f"ask {cell}", wanted=partial(is_within, part, whole))
+            self.say(f"ask {cell}", wanted=partial(lambda p, s: covers([p], room_of(s)), part))
+            self.rooms[cell] = room_of(part)
         self.say(*(line for line, w in zip(base, words) if w[0] == "choose"))
         for n, (cell, parts) in enumerate(evidence["choices"]):
             room, name = self.rooms[cell], f"{self.mark}c{n}"
-            demand(not parts or covers(parts, room), f"a choice leaves out a value of {cell}")
-            made = [f"choose {name} {cell} {' or '.join(parts)}"] if parts else []
-            self.say(*made or digits(cell, room, name))
+            demand(not parts or covers(parts.split(" or "), room), f"a choice leaves out {cell}")
+            self.say(*[f"choose {name} {cell} {parts}"] if parts else digits(cell, room, name))
         for plan in self.plans:
             self.believe(plan["in"])
             self.settles([], plan["values"])
@@ -114,26 +100,23 @@ class Checker:
     def say(self, *lines: str, wanted: Wanted = "ok".__eq__) -> None:
         self.asked += [(line, wanted) for line in lines]
 
-    def believe(self, names: Names) -> None:
-        """Brings in these premises, and kicks all others out."""
-        wanted = {*names}
-        demand(wanted >= self.basis, "a premise of the basis is missing")
-        self.say(*(f"kick {name}" for name in sorted(self.inside - wanted)))
-        self.say(*(f"bring {name}" for name in sorted(wanted - self.inside)))
-        self.inside = wanted
+    def believe(self, names: Iterable[str]) -> None:
+        demand({*names}.issuperset(self.basis), "a premise of the basis is missing")
+        self.say(*(f"kick {name}" for name in self.premises), *(f"bring {name}" for name in names))
 
-    def tells(self, told: Told, line: str, wanted: Wanted) -> None:
+    def tell(self, told: Any, line: str, wanted: Wanted) -> None:
         """Wants this of the reply to a line after values are told, which are forgotten then."""
         self.say(*(f"tell {self.mark}{n} {cell} {value}" for n, (cell, value) in enumerate(told)))
         self.say(line, wanted=wanted)
         self.say(*(f"forget {self.mark}{n}" for n in range(len(told))))
 
-    def settles(self, told: Told, plan: dict[str, str]) -> None:
+    def settles(self, told: Any, plan: dict[str, str]) -> None:
         single = all(len({*room_of(value)}) == 1 for value in plan.values())
-        demand(single and {*plan} >= self.cells, "a plan without one value for each cell")
-        self.tells([*told, *plan.items()], "settle", "settled".__eq__)
+        cells = {cell for cell in self.rooms if cell[0] != "_"}
+        demand(single and {*plan} >= cells, "a plan without one value for each cell")
+        self.tell([*told, *plan.items()], "settle", "settled".__eq__)
 
-    def cases(self, tree: Any, told: Told, leaf: Callable[[Any, Told], None]) -> None:
+    def cases(self, tree: Any, told: Any, leaf: Callable[[Any, Any], None]) -> None:
         """Goes to the leaves of a tree, where the cases of each fork cover all that may be."""
         if not isinstance(tree, list):
             return leaf(tree, told)
@@ -142,49 +125,45 @@ class Checker:
         for part, below in tree[1]:
             self.cases(below, [*told, [tree[0], part]], leaf)
 
-    def fits(self, given: Names, told: Told) -> None:
+    def fits(self, given: Iterable[str], told: Any) -> None:
         """A plan of the evidence has these premises, and values among those that are told."""
         plans = [plan["values"] for plan in self.plans if {*given} <= {*plan["in"]}]
         found = any(all(covers([v], room_of(plan[c])) for c, v in told) for plan in plans)
         demand(found, f"no plan is given with {[*given]} {[*told]}")
 
-    def fails(self, given: Names, told: Told) -> None:
+    def fails(self, given: Iterable[str], told: Any) -> None:
         """Nothing fits with these premises within what is told."""
         self.believe(given)
         tree = self.trees.get(json.dumps([sorted(given), told]))
-        self.cases(tree, told, lambda _, path: self.tells(path, "settle", CONTRADICTS))
+        self.cases(tree, told, lambda _, path: self.tell(path, "settle", CONTRADICTS))
 
-    def optimum(self, sort: str, given: Names, cell: str, value: int, bound: int) -> None:
+    def optimum(self, sort: str, given: Any, cell: str, value: int, bound: int) -> None:
         """A plan has this value, and nothing fits where it is less, or greater, than the bound."""
         self.fits(given, [[cell, f"{value}"]])
         beyond = f"{-MOST}..{bound - 1}" if sort == "least" else f"{bound + 1}..{MOST}"
         self.fails(given, [[cell, beyond]])
 
-    def conflicts(
-        self, given: Names, told: Told, sets: Any, outs: Any, least: bool, complete: bool
-    ) -> None:
-        """Each of the sets fails and, where they are least, fits without any name. Without each of
-        the outs all fits, and not with a name of it back. Where that is complete, nothing else is.
-        """
-        for names in map(set[str], sets):
-            self.fails(names, told)
-            for name in names if least else ():
-                self.fits(names - {name}, told)
-        for out, name in ((out, name) for out in outs for name in out):
-            back = {*given}.difference(out) | {name}
-            demand(any({*names} <= back for names in sets), f"{name} need not be left out")
-        for out in [*outs, *(hitting(sets) if complete else ())]:
+    def conflicts(self, given: Any, keep: Any, told: Any, sets: Any, outs: Any, full: bool) -> None:
+        """Each set fails beside what is kept, and fits without any name of it. All fits without
+        each of the outs, and not with a name of it back. `full`: there are no others."""
+        for names in sets:
+            self.fails({*names, *keep}, told)
+            for name in names:
+                self.fits({*names, *keep} - {name}, told)
+        for out in [*outs, *(hitting(sets) if full else ())]:
             self.fits({*given}.difference(out), told)
             demand(not outs or any({*each} <= {*out} for each in outs), "a repair is left out")
+            for back in ({*given}.difference(out) | {name} for name in out if out in outs):
+                demand(any({*names} <= back for names in sets), f"{out} is no least repair")
 
-    def plans_are(self, given: Names, show: Names, plans: Any, tree: Any, complete: bool) -> None:
+    def plans_are(self, given: Any, show: Any, plans: Any, tree: Any, complete: bool) -> None:
         """Each leaf is a contradiction, or a plan with one value for each cell that is shown."""
         found = []
 
-        def leaf(plan: Any, told: Told) -> None:
+        def leaf(plan: Any, told: Any) -> None:
             if not isinstance(plan, dict):
                 demand(plan is None or not complete, "a case is left open")
-                return None if plan else self.tells(told, "settle", CONTRADICTS)
+                return None if plan else self.tell(told, "settle", CONTRADICTS)
             rooms = {**self.rooms, **{cell: room_of(part) for cell, part in told}}
             demand(all(len({*rooms[cell]}) == 1 for cell in show), "a case that may have two plans")
             self.settles(told, plan)
@@ -192,11 +171,13 @@ class Checker:
 
         self.believe(given)
         self.cases(tree, [], leaf)
-        demand(sorted(found) == sorted(plans), "the plans are not those of the cases")
+        demand(
+            sorted(found) == sorted(plans) and len(found) == len({*map(str, found)}), "wrong plans"
+        )
 
-    def answer(self, given: Names, told: Told, ask: str, said: str) -> None:
+    def answer(self, given: Iterable[str], told: Any, ask: str, said: str) -> None:
         self.believe(given)
-        self.tells(told, ask, said.__eq__)
+        self.tell(told, ask, said.__eq__)
 
 
 def check(lines: Sequence[str], program: str) -> bool:
@@ -205,17 +186,14 @@ def check(lines: Sequence[str], program: str) -> bool:
     demand(lines[0] == HEAD and lines[-1] == digest, "not as it was written")
     checker = Checker(lines[3:-1], json.loads(lines[2]))
     for sort, claim in json.loads(lines[1]):
-        demand(sort in CLAIMS, f"no claim is called {sort}")
+        demand(sort in "fits fails optimum conflicts plans_are answer".split(), "no such claim")
         getattr(checker, sort)(**claim)
     sent = "".join(f"{line}\n" for line, _ in checker.asked)
     ran = subprocess.run([program], input=sent, capture_output=True, encoding="utf-8")
-    said = ran.stdout.splitlines()
-    for (line, wanted), reply in zip(checker.asked, said):
-        demand(wanted(reply), f"{line} is answered: {reply}")
-    demand(len(said) == len(checker.asked), f"the program ended early: {ran.stderr}")
+    for (line, wanted), said in zip_longest(checker.asked, ran.stdout.splitlines()):
+        demand(wanted(said or ""), f"{line} is answered: {said or ran.stderr}")
     return True
 
 
 if __name__ == "__main__":
-    with open(sys.argv[1], encoding="utf-8") as file:
-        print(check(file.read().split("\n")[:-1], sys.argv[2]))
+    print(check(open(sys.argv[1], encoding="utf-8").read().split("\n")[:-1], sys.argv[2]))

@@ -25,18 +25,28 @@ class Clock:
         self._is_asked_for = progress is not None
         self._next = self._began + _FIRST
         self._told = False
+        self._text = "searching"
 
     def is_over(self) -> bool:
         """Whether the time is used up."""
         return self._until is not None and time.monotonic() >= self._until
 
+    def seconds_left(self) -> float | None:
+        """How many seconds are left, None where there is no end."""
+        return None if self._until is None else max(0.0, self._until - time.monotonic())
+
     def tell(self, text: str) -> None:
         """Tells of how far a question is, now and then."""
+        self._text = text
+        self.tick()
+
+    def tick(self) -> None:
+        """Tells now and then that it goes on."""
         now = time.monotonic()
         if self._is_asked_for or now >= self._next:
             self._next = now + _AGAIN
             self._told = True
-            self._progress(text)
+            self._progress(f"{self._text} ({now - self._began:.0f} s)")
 
     def end(self) -> None:
         """Tells that the question has come to its end."""

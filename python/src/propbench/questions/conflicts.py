@@ -2,13 +2,13 @@
 
 from collections.abc import Iterable, Iterator, Mapping, Sequence
 
-from propbench.questions.asking import answered, premises_named
+from propbench.questions.asking import premises_named, tried
 from propbench.questions.certificate import Certificate, Evidence
 from propbench.questions.clock import Clock, Progress
 from propbench.questions.exploring import Exploring
 from propbench.questions.hitting import bits_of
 from propbench.questions.model import Model
-from propbench.questions.shown import NOT_REFUTED, Shown, listed
+from propbench.questions.shown import NOT_REFUTED, Shown, listed, shortened
 from propbench.questions.trial import Trial
 
 
@@ -76,7 +76,7 @@ class Conflicts(Shown, list[Conflict]):
 
     def rows(self) -> Sequence[Sequence[object]]:
         return [
-            (str(number) if place == 0 else "", premise, self._texts[premise])
+            (str(number) if place == 0 else "", premise, shortened(self._texts[premise]))
             for number, conflict in enumerate(self, 1)
             for place, premise in enumerate(conflict)
         ]
@@ -109,10 +109,15 @@ class Repairs(Shown, list[Repair]):
 
 
 def find_conflicts(
-    model: Model, most: int, seconds: float | None, progress: Progress | None
+    model: Model,
+    keep: Iterable[str],
+    most: int,
+    seconds: float | None,
+    progress: Progress | None,
 ) -> Conflicts:
-    """The least sets of believed premises that can't all hold, so many at the most."""
-    explored = _explore(model, {}, seconds, progress)
+    """The least sets of believed premises that can't all hold beside those that are kept, so many
+    at the most."""
+    explored = _explore(model, {}, keep, Clock(seconds, progress))
 
     def run() -> None:
         while explored.step() and len(explored.conflicts) < most:
@@ -123,25 +128,27 @@ def find_conflicts(
         for refuted in explored.conflicts:
             found.append(Conflict(explored.names(refuted.mask)))
             found[-1].least = refuted.least
-        certificate = _certificate(explored, [], True)
+        certificate = _certificate(explored, [])
         return Conflicts(found, explored.complete, _texts(model), certificate)
 
-    return answered(explored.trial.clock, explored.trial, run, result)
+    return tried(explored.trial, run, result)
 
 
 def find_repairs(
     model: Model,
     weight: Mapping[str, float],
+    keep: Iterable[str],
     most: int,
     seconds: float | None,
     progress: Progress | None,
 ) -> Repairs:
-    """The least sets of believed premises without which the others have a plan, by their cost."""
+    """The least sets of believed premises without which the others have a plan, by their cost;
+    nothing is given up of what is kept."""
     premises_named(model, weight)
     for premise, value in weight.items():
         if not value >= 0:
             raise ValueError(f"the weight of {premise} is less than nothing: {value}")
-    explored = _explore(model, weight, seconds, progress)
+    explored = _explore(model, weight, keep, Clock(seconds, progress))
 
     def run() -> None:
         while explored.step() and len(explored.repairs) < most:
@@ -152,17 +159,18 @@ def find_repairs(
         for mask in explored.repairs:
             found.append(Repair(explored.names(mask)))
             found[-1].cost = explored.cost(mask)
-        certificate = _certificate(explored, explored.repairs, False)
+        certificate = _certificate(explored, explored.repairs)
         return Repairs(found, explored.complete, bool(explored.conflicts), certificate)
 
-    return answered(explored.trial.clock, explored.trial, run, result)
+    return tried(explored.trial, run, result)
 
 
 def _explore(
-    model: Model, weight: Mapping[str, float], seconds: float | None, progress: Progress | None
+    model: Model, weight: Mapping[str, float], keep: Iterable[str], clock: Clock
 ) -> Exploring:
-    clock = Clock(seconds, progress)
-    return Exploring(Trial(model, (), clock), model.believed(), weight)
+    believed = model.believed()
+    kept = set(premises_named(model, keep)) & set(believed)
+    return Exploring(Trial(model, kept, clock), believed, weight)
 
 
 def _tell(explored: Exploring) -> None:
@@ -174,32 +182,39 @@ def _texts(model: Model) -> dict[str, str]:
     return {premise: model.text(premise) for premise in model.premises()}
 
 
-def _certificate(explored: Exploring, outs: Sequence[int], are_conflicts: bool) -> Certificate:
-    """What shows the conflicts, and that each is least where these were asked for; or the repairs,
-    and that none of a repair can come back; and that there are no more where all were found."""
+def _certificate(explored: Exploring, outs: Sequence[int]) -> Certificate:
+    """What shows that the conflicts are least, and that these repairs are; and that there are no
+    more where all were found. Conflicts that may not be least are shown as what can't hold."""
     evidence = Evidence.of(explored.trial)
     for refuted in explored.conflicts:
-        evidence.add_tree(explored.names(refuted.mask), [], refuted.tree)
-    least = [refuted.mask for refuted in explored.conflicts if refuted.least and are_conflicts]
-    others = [refuted.mask for refuted in explored.conflicts if refuted.mask not in least]
+        evidence.add_tree((*explored.kept, *explored.names(refuted.mask)), [], refuted.tree)
+    least = [refuted.mask for refuted in explored.conflicts if refuted.least]
     needed = [mask & ~bit for mask in least for bit in bits_of(mask)]
-    needed += [explored.all & ~hit for hit in (explored.repairs if explored.complete else outs)]
+    needed += [explored.all & ~hit for hit in explored.repairs]
     for mask in needed:
         kept = next(kept for kept in explored.plans if kept.mask & mask == mask)
-        evidence.add_plan(explored.names(kept.mask), kept.fits)
+        evidence.add_plan((*explored.kept, *explored.names(kept.mask)), kept.fits)
+    is_sure = len(least) == len(explored.conflicts)
 
-    def claim(sets: Sequence[int], is_all: bool) -> tuple[str, dict[str, object]]:
-        said: dict[str, object] = {
-            "given": evidence.lines_of(explored.premises),
-            "told": [],
-            "sets": [evidence.lines_of(explored.names(mask)) for mask in sets],
-            "outs": [evidence.lines_of(explored.names(hit)) for hit in outs],
-            "least": are_conflicts and sets is least,
-            "complete": is_all and explored.complete,
-        }
-        return "conflicts", said
+    def lines(mask: int) -> list[str]:
+        return evidence.lines_of(explored.names(mask))
 
-    if not are_conflicts:
-        return evidence.certificate([claim(others, True)])
-    claims = [claim(least, True), *([claim(others, False)] if others else [])]
+    kept_lines = evidence.lines_of(explored.kept)
+    claim: dict[str, object] = {
+        "given": [*kept_lines, *lines(explored.all)],
+        "keep": kept_lines,
+        "told": [],
+        "sets": [lines(mask) for mask in least],
+        "outs": [lines(hit) for hit in outs] if is_sure else [],
+        "full": explored.complete,
+    }
+    claims: list[tuple[str, dict[str, object]]] = [("conflicts", claim)]
+    for refuted in explored.conflicts:
+        if not refuted.least:
+            claims.append(("fails", {"given": [*kept_lines, *lines(refuted.mask)], "told": []}))
+    if not is_sure:
+        claims += [
+            ("fits", {"given": [*kept_lines, *lines(explored.all & ~hit)], "told": []})
+            for hit in outs
+        ]
     return evidence.certificate(claims)

@@ -10,6 +10,7 @@ from dataclasses import dataclass
 
 from propbench.questions.hitting import Hitting, bits_of
 from propbench.questions.outcomes import Cannot, Fits, Fork, Open
+from propbench.questions.searching import decided
 from propbench.questions.trial import Case, Trial
 
 
@@ -41,11 +42,14 @@ class Exploring:
         weights: Mapping[str, float],
         told: Sequence[Case] = (),
     ) -> None:
-        """Those among these premises, in this order, within what is supposed."""
-        self.trial, self.premises, self._told = trial, premises, tuple(told)
-        self._bit = {premise: 1 << place for place, premise in enumerate(premises)}
-        self.all = (1 << len(premises)) - 1
-        self._hitting = Hitting([weights.get(premise, 1) for premise in premises])
+        """Those among these premises, in this order, within what is supposed. What the trial always
+        believes is none of them."""
+        self.trial, self._told = trial, tuple(told)
+        self.kept = tuple(trial.basis)
+        self.premises = [premise for premise in premises if premise not in self.kept]
+        self._bit = {premise: 1 << place for place, premise in enumerate(self.premises)}
+        self.all = (1 << len(self.premises)) - 1
+        self._hitting = Hitting([weights.get(premise, 1) for premise in self.premises])
         self.plans: list[Kept] = []
         self.conflicts: list[Refuted] = []
         self.repairs: list[int] = []
@@ -58,8 +62,8 @@ class Exploring:
         return tuple(premise for premise in self.premises if self._bit[premise] & mask)
 
     def mask(self, premises: Sequence[str]) -> int:
-        """The set of these premises."""
-        return sum(self._bit[premise] for premise in premises)
+        """The set of those among these premises that are not kept anyway."""
+        return sum(self._bit.get(premise, 0) for premise in premises)
 
     def cost(self, mask: int) -> float:
         """The sum of the weights of a set."""
@@ -89,15 +93,20 @@ class Exploring:
         for kept in self.plans:
             if kept.mask & mask == mask:
                 return kept
-        outcome = self.trial.decide(self.names(mask), self._told)
+        outcome = decided(self.trial, (*self.kept, *self.names(mask)), self._told)
         if isinstance(outcome, Cannot):
-            return Refuted(self.mask(self.trial.named(outcome)), outcome.tree, False)
+            return Refuted(self._named(outcome), outcome.tree, False)
         if isinstance(outcome, Fits):
             held = set(self.trial.model.held(outcome.plan))
             holding = self.mask([premise for premise in self.premises if premise in held])
             self.plans.append(Kept(mask | holding, outcome))
             return self.plans[-1]
         return outcome
+
+    def _named(self, outcome: Cannot) -> int:
+        """The premises that can't all hold, of those that may be given up."""
+        line = self.trial.line
+        return self.mask([premise for premise in self.premises if line[premise] in outcome.names])
 
     def shrunk(self, refuted: Refuted) -> Refuted:
         """A least conflict among these premises."""

@@ -2,16 +2,19 @@
 
 from collections.abc import Iterable, Sequence
 
-from propbench.questions.asking import CellLike, answered, cell_named
+from propbench.questions.asking import CellLike, cell_named, tried
 from propbench.questions.certificate import Certificate, Evidence, Tree, as_json, on_lines
 from propbench.questions.clock import Clock, Progress
 from propbench.questions.model import Model, Plan
 from propbench.questions.outcomes import Cannot, Fits, Open, Outcome
-from propbench.questions.rooms import Names, Room, around
+from propbench.questions.rooms import Names, Room, around, values_of
 from propbench.questions.shown import NOT_REFUTED, Shown
+from propbench.questions.searching import decided, decided_each
 from propbench.questions.trial import Case, Trial
 
 _OPEN = "open"
+# So many values of a cell are tried in one go.
+_AT_ONCE = 16
 
 
 class Plans(Shown, list[Plan]):
@@ -50,25 +53,25 @@ class Listing:
         self.trial, self.show, self.most = trial, list(show), most
         self.found: list[Fits] = []
         self.tree: Tree = _OPEN
-        self.complete = False
+        self.complete = self._has_open = False
 
     def run(self) -> None:
         """Goes through all cases, as long as there is time."""
-        self.complete = True
         self.tree = self._tree((), self._within(()))
+        self.complete = not self._has_open
 
     def _within(self, told: Sequence[Case]) -> Outcome:
         """What comes of a search within these cases."""
         if len(self.found) >= self.most or self.trial.clock.is_over():
             return Open("enough plans were found")
-        return self.trial.decide(self.trial.basis, told)
+        return decided(self.trial, self.trial.basis, told)
 
     def _tree(self, told: tuple[Case, ...], outcome: Outcome) -> Tree:
         """The tree of what lies within these cases, of which this is known."""
         if isinstance(outcome, Cannot):
             return as_json(outcome.tree)
-        if isinstance(outcome, Open):
-            self.complete = False
+        if isinstance(outcome, Open) or len(self.found) >= self.most:
+            self._has_open = True
             return _OPEN
         rooms = self.trial.known(told)
         cell = next((cell for cell in self.show if len(rooms[cell]) > 1), None)
@@ -80,34 +83,52 @@ class Listing:
 
     def _cases(self, told: tuple[Case, ...], cell: str, first: Fits) -> list[list[object]]:
         """The values of a cell, each with its tree, and what lies between; one plan is known."""
+        room = self.trial.known(told)[cell]
+        waiting = list(reversed(self._parts(told, cell, room, first)))
         cases: list[list[object]] = []
-        waiting: list[tuple[Room, Outcome | None]] = [(self.trial.known(told)[cell], first)]
         while waiting:
             part, known = waiting.pop()
             within = (*told, (cell, part))
             outcome = known or self._within(within)
             if isinstance(outcome, Fits) and len(part) > 1:
-                value = outcome.values[cell]
-                for each in reversed(around(part, value)):
-                    waiting.append((each, outcome if str(each) == value else None))
+                waiting += reversed(_around(cell, part, outcome))
             else:
                 cases.append([str(part), self._tree(within, outcome)])
         return cases
 
+    def _parts(
+        self, told: tuple[Case, ...], cell: str, room: Room, first: Fits
+    ) -> list[tuple[Room, Outcome | None]]:
+        """A room in parts, with what is known of each: all values where these are few, and few
+        enough to be wanted."""
+        if len(room) > min(_AT_ONCE, self.most - len(self.found)):
+            return _around(cell, room, first)
+        parts = values_of(room)
+        others = [part for part in parts if str(part) != first.values[cell]]
+        many = [(*told, (cell, part)) for part in others]
+        found = dict(zip(others, decided_each(self.trial, self.trial.basis, many)))
+        return [(part, found.get(part, first)) for part in parts]
+
     def result(self) -> Plans:
         """The plans that were found, in order."""
-        evidence = Evidence.of(self.trial)
-        claim: dict[str, object] = {
-            "given": evidence.lines_of(self.trial.basis),
-            "show": [self.trial.cell_line[cell] for cell in self.show],
-            "plans": [[fits.values[cell] for cell in self.show] for fits in self.found],
-            "tree": self.tree,
-            "complete": self.complete,
-        }
-        certificate = evidence.certificate([("plans_are", claim)])
         found = sorted(self.found, key=self._place)
         shown = ({cell: fits.plan[cell] for cell in self.show} for fits in found)
-        return Plans(self.show, shown, self.complete, certificate)
+        return Plans(self.show, shown, self.complete, self._certificate())
+
+    def _certificate(self) -> Certificate:
+        """What shows that these are plans; and that there are no others, or where there may be."""
+        evidence = Evidence.of(self.trial)
+        given = evidence.lines_of(self.trial.basis)
+        show = [self.trial.cell_line[cell] for cell in self.show]
+        plans = [[fits.values[cell] for cell in self.show] for fits in self.found]
+        if self.tree != _OPEN:
+            claim = {"given": given, "show": show, "plans": plans, "tree": self.tree}
+            return evidence.certificate([("plans_are", {**claim, "complete": self.complete})])
+        # (Ctrl-C has ended the search before there was a tree.)
+        for fits in self.found:
+            evidence.add_plan(self.trial.basis, fits)
+        told = [[list(each) for each in zip(show, plan)] for plan in plans]
+        return evidence.certificate([("fits", {"given": given, "told": each}) for each in told])
 
     def _place(self, fits: Fits) -> list[int]:
         """What plans are ordered by: each number, or the place of each name in its domain."""
@@ -116,6 +137,12 @@ class Listing:
             room, value = self.trial.rooms[cell], fits.values[cell]
             places.append(room.names.index(value) if isinstance(room, Names) else int(value))
         return places
+
+
+def _around(cell: str, room: Room, fits: Fits) -> list[tuple[Room, Outcome | None]]:
+    """A room in the value of a plan, with that plan, and what lies beside."""
+    value = fits.values[cell]
+    return [(part, fits if str(part) == value else None) for part in around(room, value)]
 
 
 def find_plans(
@@ -132,4 +159,4 @@ def find_plans(
     if names is None:
         names = [cell for cell in trial.cells if trial.rooms[cell] is not None]
     listing = Listing(trial, list(dict.fromkeys(names)), most)
-    return answered(clock, trial, listing.run, listing.result)
+    return tried(trial, listing.run, listing.result)

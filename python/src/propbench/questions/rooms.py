@@ -86,6 +86,13 @@ def digits_of(room: Room) -> int:
     return 0 if len(room) > _MOST_CHOSEN else next(n for n in range(8) if SIDES ** n >= len(room))
 
 
+def values_of(room: Room) -> list[Room]:
+    """Each value of a room by itself."""
+    if isinstance(room, Names):
+        return [Names((name,)) for name in room.names]
+    return [Numbers(number, number) for number in range(room.low, room.high + 1)]
+
+
 def halves(room: Room, held: Room) -> list[Room]:
     """The room in two parts, between the values that are held."""
     if isinstance(room, Numbers) and isinstance(held, Numbers):

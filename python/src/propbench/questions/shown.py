@@ -12,6 +12,8 @@ if TYPE_CHECKING:
     from propbench.questions.certificate import Certificate
 
 NOT_REFUTED = "not refuted"
+# A text in a row has so many letters at the most.
+_LONGEST = 60
 
 
 class Shown:
@@ -53,8 +55,9 @@ class Shown:
             f"<tr>{''.join(f'<td>{_escaped(value)}</td>' for value in row)}</tr>"
             for row in self.rows()
         )
-        head = f"<thead><tr>{heads}</tr></thead>" if rows else ""
-        return f"<p>{_escaped(self.headline())}</p><table>{head}<tbody>{rows}</tbody></table>"
+        told = f"<p>{_escaped(self.headline())}</p>"
+        head = f"<thead><tr>{heads}</tr></thead>"
+        return f"{told}<table>{head}<tbody>{rows}</tbody></table>" if rows else told
 
     def to_pandas(self) -> Any:
         """The table as a DataFrame. Raises ImportError where pandas isn't there."""
@@ -72,6 +75,11 @@ def said(value: object) -> str:
     if isinstance(value, tuple | list):
         return ", ".join(map(said, value))
     return "" if value is None else str(value)
+
+
+def shortened(text: str) -> str:
+    """A text that is no longer than a row of a table can show."""
+    return text if len(text) <= _LONGEST else f"{text[: _LONGEST - 3]}..."
 
 
 def listed(names: Sequence[str], joint: str = "and") -> str:

@@ -1,0 +1,7 @@
+"""Plans of tasks that people do: a thin layer over a workbench, which speaks in tasks and wishes."""
+
+from propbench.planning.calendar import Calendar
+from propbench.planning.project import Project
+from propbench.planning.tasks import Task
+
+__all__ = ["Calendar", "Project", "Task"]

@@ -1,0 +1,214 @@
+"""A project: tasks, people who do one thing at a time, and what is wished for."""
+
+from collections.abc import Iterable, Mapping, Sequence
+from datetime import date
+from typing import TYPE_CHECKING
+
+from propbench.model.cells import NumberCell
+from propbench.model.expressions import Truth, maximum, total
+from propbench.nearby import near_names
+from propbench.planning.calendar import Calendar
+from propbench.planning.tasks import Option, Task, Way, checked_ways, names_in
+from propbench.questions.model import Plan
+
+if TYPE_CHECKING:
+    from propbench.workbench import Workbench
+
+MOST_COST = 10**12
+
+
+class Project:
+    """Tasks over some days, of people who do one thing at a time.
+
+    Each fact has a premise of its own (`review takes 5`, `review after venue`, `ana away 5 to 10`),
+    so that questions speak of these; `facts` are those of the tasks, as wishes are not. Behind the
+    last task `end` is the day by which all is done, and `total_cost` what it costs.
+    """
+
+    def __init__(
+        self,
+        workbench: "Workbench",
+        days: int,
+        people: str | Sequence[str],
+        calendar: Calendar | None,
+    ) -> None:
+        """A project of a workbench, over the days from 0 to `days`."""
+        if days < 1:
+            raise ValueError(f"a plan has one day or more, and not {days}")
+        self.workbench, self.days, self.calendar = workbench, days, calendar
+        self.people = names_in(people)
+        self.tasks: dict[str, Task] = {}
+        self._away: list[tuple[str, int, int, str]] = []
+        self._facts: dict[str, None] = {}
+        self._end: NumberCell | None = None
+        self._total: NumberCell | None = None
+
+    @property
+    def facts(self) -> tuple[str, ...]:
+        """The premises that say what the tasks are: how long they take, what they cost, in which
+        order they come. `w.repairs(keep=p.facts)` gives up none of them."""
+        return tuple(self._facts)
+
+    def task(
+        self,
+        name: str,
+        days: int | None = None,
+        *,
+        cost: int = 0,
+        who: str | Sequence[str] = (),
+        after: Iterable[Task] = (),
+        options: Mapping[str, Option] | None = None,
+        under: str | None = None,
+    ) -> Task:
+        """A task that takes so many days and costs so much, or that is done in one of some ways:
+        `options={"hotel": dict(days=2, cost=4000), "uni": dict(days=5, cost=1500)}`, the one to be
+        tried first in front.
+
+        `who` does it, one person or all of several; `after` are tasks that have to be done before.
+        What it takes, and that it comes after these, is stated under premises with names such as
+        `review takes 5` and `review after venue`, or all of it `under` one. Raises ValueError where
+        there is such a task, no such person, or `end` or `total_cost` was asked for before.
+        """
+        people = self._checked(name, who)
+        ways = checked_ways(name, days, cost, options)
+        task = self._made(name, people, any(way.cost for way in ways.values()))
+        self.tasks[name] = task
+        if options is not None:
+            self._choose(task, ways)
+        else:
+            self._tell(under or f"{name} takes {days}", task.days, ways[""].days)
+            if task.cost is not None:
+                self._tell(under or f"{name} costs {cost}", task.cost, cost)
+        for other in after:
+            premise = under or f"{name} after {other.name}"
+            self.workbench.require(other.end <= task.start, under=premise)
+            self._facts[premise] = None
+        self._keep_apart(task)
+        return task
+
+    def away(
+        self, person: str, first: int | date, last: int | date, under: str | None = None
+    ) -> str:
+        """A person does nothing from the beginning of one day to the beginning of another; the
+        premise of that, which is named `ana away 5 to 10` where no name is given. Days are numbers,
+        or dates where the plan has a calendar."""
+        self._person(person)
+        begin, end = self.day(first), self.day(last)
+        if begin >= end:
+            raise ValueError(f"{person} can't be away from day {begin} to day {end}")
+        premise = under or f"{person} away {begin} to {end}"
+        self._away.append((person, begin, end, premise))
+        if not any(person in task.people for task in self.tasks.values()):
+            # (A premise under which nothing is stated yet would not be known.)
+            self.workbench.require(True, under=premise)
+        for task in self.tasks.values():
+            if person in task.people:
+                self._keep_off(task, begin, end, premise)
+        return premise
+
+    def done_by(self, day: int | date, under: str | None = None, task: Task | None = None) -> str:
+        """A task, or all, is done before the beginning of a day; the premise of that."""
+        last, what = self.day(day), "all" if task is None else task.name
+        premise = under or f"{what} done by {last}"
+        self.workbench.require((self.end if task is None else task.end) <= last, under=premise)
+        return premise
+
+    @property
+    def end(self) -> NumberCell:
+        """The day by which all is done. No task can be added once it was asked for."""
+        if self._end is None:
+            self._end = self.workbench.number("end", 0, self.days)
+            if self.tasks:
+                self._bound(self._end)
+        return self._end
+
+    @property
+    def total_cost(self) -> NumberCell:
+        """What all tasks cost. No task can be added once it was asked for."""
+        if self._total is None:
+            costs = [task.cost for task in self.tasks.values() if task.cost is not None]
+            self._total = self.workbench.number("total cost", 0, MOST_COST)
+            self.workbench.require(self._total == (total(costs) if costs else 0))
+        return self._total
+
+    def day(self, given: int | date) -> int:
+        """A day of the plan, by its number, or by a date where the plan has a calendar. Raises
+        ValueError for one that is none."""
+        if isinstance(given, int):
+            return given
+        if self.calendar is None:
+            raise ValueError(f"the plan has no calendar: say by number which day {given} is")
+        return self.calendar.day_of(given)
+
+    def date(self, day: int) -> date:
+        """The date of a day. Raises ValueError where the plan has no calendar."""
+        if self.calendar is None:
+            raise ValueError("the plan has no calendar: give w.plan a start")
+        return self.calendar.date_of(day)
+
+    def chart(self, plan: Plan | None = None, *, rooms: bool = True) -> str:
+        """A Gantt chart as SVG: of this plan, or of the first that ends soonest, and of the room
+        that each task has over all plans. Raises NothingFits where there is no plan."""
+        from propbench.planning.chart import chart_of
+
+        return chart_of(self, plan, rooms)
+
+    def _checked(self, name: str, who: str | Sequence[str]) -> tuple[str, ...]:
+        """The people of a new task."""
+        if name in self.tasks:
+            raise ValueError(f"there is a task {name!r}")
+        if self._end is not None or self._total is not None:
+            raise ValueError(f"{name}: add tasks before the end or the total cost is asked for")
+        people = names_in(who)
+        for person in people:
+            self._person(person)
+        return people
+
+    def _person(self, person: str) -> None:
+        if person not in self.people:
+            near = near_names(person, self.people)
+            hint = f" Did you mean {near[0]}?" if near else ""
+            raise ValueError(f"nobody in the plan is called {person!r}.{hint}")
+
+    def _made(self, name: str, people: tuple[str, ...], has_cost: bool) -> Task:
+        """The cells of a task, and that it ends when its days are over."""
+        number = self.workbench.number
+        start, end, days = (
+            number(f"{name} {what}", 0, self.days) for what in ("start", "end", "days")
+        )
+        cost = number(f"{name} cost", 0, MOST_COST) if has_cost else None
+        self.workbench.require(end == start + days)
+        return Task(name, people, start, end, days, cost)
+
+    def _tell(self, premise: str, cell: NumberCell, value: int) -> None:
+        self.workbench.tell(premise, cell, value)
+        self._facts[premise] = None
+
+    def _choose(self, task: Task, ways: Mapping[str, Way]) -> None:
+        def stated(way: Way) -> list[Truth]:
+            takes = task.days == way.days
+            return [takes] if task.cost is None else [takes, task.cost == way.cost]
+
+        self.workbench.choose(task.name, {name: stated(way) for name, way in ways.items()})
+
+    def _keep_apart(self, task: Task) -> None:
+        """Its people do one thing at a time, and nothing while they are away."""
+        for other in self.tasks.values():
+            if other is not task and set(other.people) & set(task.people):
+                apart = (other.end <= task.start) | (task.end <= other.start)
+                self.workbench.require(apart)
+        for person, begin, end, premise in self._away:
+            if person in task.people:
+                self._keep_off(task, begin, end, premise)
+
+    def _keep_off(self, task: Task, begin: int, end: int, premise: str) -> None:
+        self.workbench.require((task.end <= begin) | (task.start >= end), under=premise)
+
+    def _bound(self, end: NumberCell) -> None:
+        """The end is that of the last task; a person's days of work are a bound of it, which is so
+        anyway, and found sooner where it is said."""
+        self.workbench.require(end == maximum(*(task.end for task in self.tasks.values())))
+        for person in self.people:
+            work = [task.days for task in self.tasks.values() if person in task.people]
+            if len(work) > 1:
+                self.workbench.require(total(work) <= end)

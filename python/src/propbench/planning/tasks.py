@@ -1,0 +1,69 @@
+"""A task of a plan: when it starts and ends, how long it takes, what it costs, and who does it."""
+
+from collections.abc import Mapping, Sequence
+from dataclasses import dataclass
+
+from propbench.model.cells import NumberCell
+from propbench.model.expressions import Number
+
+# An alternative of a task: its days, and maybe its cost.
+Option = Mapping[str, int]
+
+
+@dataclass(frozen=True)
+class Way:
+    """How many days a task takes, and what it costs then."""
+
+    days: int
+    cost: int
+
+
+@dataclass(frozen=True, eq=False)
+class Task:
+    """A task. Its cells can be asked, and may stand in constraints as any others: it is done from
+    the beginning of the day `start` to the beginning of the day `end`, `days` later."""
+
+    name: str
+    people: tuple[str, ...]
+    start: NumberCell
+    end: NumberCell
+    days: NumberCell
+    cost: NumberCell | None
+
+    def before(self, other: "Task") -> Number:
+        """How many days there are between the end of this task and the start of another."""
+        return other.start - self.end
+
+    def __repr__(self) -> str:
+        who = f" by {' and '.join(self.people)}" if self.people else ""
+        return f"task {self.name}{who}"
+
+
+def checked_ways(
+    name: str, days: int | None, cost: int, options: Mapping[str, Option] | None
+) -> dict[str, Way]:
+    """The ways in which a task may be done, by name; the only one without. Raises ValueError where
+    there are none, or what is said of one is something else than its days and its cost."""
+    if (days is None) == (options is None):
+        raise ValueError(f"{name}: say how many days it takes, or what options there are")
+    if options is None:
+        return {"": _checked(name, {"days": days or 0, "cost": cost})}
+    if len(options) < 2:
+        raise ValueError(f"{name}: one option is no choice; say its days and its cost instead")
+    return {option: _checked(f"{name}, {option}", said) for option, said in options.items()}
+
+
+def _checked(name: str, said: Option) -> Way:
+    if not {"days"} <= set(said) <= {"days", "cost"}:
+        raise ValueError(
+            f"{name}: an option is told by its days and its cost: dict(days=2, cost=9)"
+        )
+    way = Way(said["days"], said.get("cost", 0))
+    if min(way.days, way.cost) < 0:
+        raise ValueError(f"{name}: neither days nor costs can be less than none")
+    return way
+
+
+def names_in(given: str | Sequence[str]) -> tuple[str, ...]:
+    """Names, in one text with spaces between them or one by one."""
+    return tuple(given.split()) if isinstance(given, str) else tuple(given)

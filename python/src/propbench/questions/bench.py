@@ -1,0 +1,49 @@
+"""What questions use of a workbench beside its model: what a user does with it."""
+
+from typing import Any, Protocol
+
+from propbench.questions.model import Model
+from propbench.replies import Value
+
+
+class AskedCell(Protocol):
+    """A cell that can be asked."""
+
+    @property
+    def name(self) -> str:
+        """The name that the user gave it."""
+        ...
+
+
+class Bench(Protocol):
+    """A workbench. What stands in for a cell, a value or an answer is the workbench's own."""
+
+    @property
+    def model(self) -> Model:
+        """The workbench as questions see it."""
+        ...
+
+    def kick(self, premise: str) -> None:
+        """A premise is no longer believed."""
+        ...
+
+    def bring(self, premise: str) -> None:
+        """A premise is believed again."""
+        ...
+
+    def tell(self, premise: str, cell: Any, value: Any, high: Any = None) -> None:
+        """States a value under a premise."""
+        ...
+
+    def cell(self, name: str) -> Any:
+        """The cell of this name."""
+        ...
+
+    def _set_aside(self) -> Any:
+        ...
+
+    def _put_back(self, kept: Any) -> None:
+        ...
+
+    def _read(self, cell: str, reply: Value, inside: tuple[str, ...]) -> Any:
+        ...

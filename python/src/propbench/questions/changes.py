@@ -1,0 +1,124 @@
+"""What is changed for a what-if: premises kicked out or brought in, and values told."""
+
+from collections.abc import Iterable, Mapping, Sequence
+from dataclasses import dataclass
+
+from propbench.nearby import near_names
+from propbench.questions.asking import cell_named, premises_named
+from propbench.questions.model import Model
+from propbench.showing import quoted
+
+# A premise, a cell or its name, and a value, or the ends of a range.
+ToldValue = Sequence[object]
+
+
+@dataclass(frozen=True)
+class Change:
+    """Premises to kick out and to bring in, and what to tell in addition."""
+
+    kick: tuple[str, ...] = ()
+    bring: tuple[str, ...] = ()
+    tell: tuple[tuple[object, ...], ...] = ()
+
+    @staticmethod
+    def of(said: "Change | Mapping[str, object]") -> "Change":
+        """The change that a dict tells, with what is to `kick`, `bring` and `tell`. Raises
+        TypeError where it has anything else."""
+        if isinstance(said, Change):
+            return said
+        for key in said:
+            if key not in ("kick", "bring", "tell"):
+                near = near_names(key, ("kick", "bring", "tell"))
+                hint = f" Did you mean {near[0]}?" if near else ""
+                raise TypeError(f"what-ifs kick, bring and tell, and don't {quoted(key)}.{hint}")
+        return changed(**said)  # type: ignore[arg-type]  # (looked at there)
+
+
+def changed(
+    kick: str | Iterable[str] = (),
+    bring: str | Iterable[str] = (),
+    tell: Iterable[ToldValue] = (),
+) -> Change:
+    """The change; a text stands for the one premise of that name. Raises TypeError and ValueError
+    where it has another form."""
+    told = tuple(tuple(each) for each in tell)
+    for each in told:
+        if len(each) not in (3, 4) or not isinstance(each[0], str):
+            raise ValueError(
+                f"what is told is a premise, a cell and a value, or its two ends: {each!r}"
+            )
+    return Change(_names(kick), _names(bring), told)
+
+
+def _names(given: str | Iterable[str]) -> tuple[str, ...]:
+    return (given,) if isinstance(given, str) else tuple(given)
+
+
+@dataclass(frozen=True)
+class Line:
+    """A statement of a what-if on a line: the premise, as the user calls it, the cell, the value."""
+
+    premise: str
+    cell: str
+    value: str
+
+
+@dataclass(frozen=True)
+class Resolved:
+    """A change, as lines make it, and which of the user's premises are believed then."""
+
+    believed: tuple[str, ...]
+    told: tuple[Line, ...]
+    lines: tuple[str, ...]
+
+
+def resolved(model: Model, change: Change) -> Resolved:
+    """The lines of a change. Raises NoSuchName for a premise or cell that isn't there, ValueError
+    and TypeError for a value that a cell can't have."""
+    kicked, brought = premises_named(model, change.kick), premises_named(model, change.bring)
+    told = []
+    for premise, cell, *value in change.tell:
+        name = cell_named(model, cell)  # type: ignore[arg-type]  # (looked at there)
+        told.append(Line(str(premise), model.cell_name(name), value_text(model, name, *value)))
+    out = set(kicked) - set(brought)
+    names = dict.fromkeys([*model.believed(), *brought, *(line.premise for line in told)])
+    believed = tuple(name for name in names if name not in out)
+    lines = [f"kick {model.line_name(name)}" for name in kicked if name in out]
+    lines += [f"bring {model.line_name(name)}" for name in brought]
+    lines += [f"tell {model.line_name(each.premise)} {each.cell} {each.value}" for each in told]
+    lines += [
+        f"bring {model.line_name(name)}"
+        for name in dict.fromkeys(each.premise for each in told)
+        if name not in out
+    ]
+    return Resolved(believed, tuple(told), tuple(lines))
+
+
+def value_text(model: Model, cell: str, value: object, high: object = None) -> str:
+    """A value, or the numbers up to another, as a line says it."""
+    candidates = model.candidates(cell)
+    is_number = candidates is None or isinstance(candidates, range)
+    if high is not None:
+        if not is_number or not isinstance(value, int) or not isinstance(high, int):
+            raise TypeError(f"from {value!r} to {high!r} there is nothing that {cell} can be")
+        return f"{value}..{high}" if value != high else str(value)
+    if isinstance(candidates, range) or candidates is None:
+        if isinstance(value, int | str):
+            return model.literal(cell, value)
+        raise TypeError(f"{value!r} is nothing that {cell} can be")
+    if isinstance(value, bool):
+        return model.literal(cell, value)
+    names = [value] if value in candidates else _several(value)
+    for name in names:
+        if name not in candidates:
+            near = near_names(str(name), candidates)
+            hint = f" Did you mean {near[0]}?" if near else ""
+            raise ValueError(f"{cell} can't be {quoted(str(name))}.{hint}")
+    written = " ".join(model.literal(cell, str(name)) for name in names)
+    return written if len(names) == 1 else f"{{{written}}}"
+
+
+def _several(value: object) -> list[object]:
+    if isinstance(value, str):
+        return list(value.split())
+    return list(value) if isinstance(value, Iterable) else [value]

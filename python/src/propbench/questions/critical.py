@@ -1,0 +1,180 @@
+"""How much room a cell has over all plans, and which premises leave it no more."""
+
+from collections.abc import Sequence
+from dataclasses import dataclass
+
+from propbench.questions.asking import CellLike, cell_named, tried
+from propbench.questions.bounding import GREATEST, LEAST, Bounding
+from propbench.questions.certificate import Certificate, Evidence
+from propbench.questions.clock import Clock, Progress
+from propbench.questions.conflicts import Premises
+from propbench.questions.exploring import Exploring, Refuted
+from propbench.questions.hitting import bits_of
+from propbench.questions.model import Model, Point
+from propbench.questions.plans import Listing
+from propbench.questions.rooms import Numbers
+from propbench.questions.shown import NOT_REFUTED, Shown, shortened
+from propbench.questions.trial import Trial
+
+
+@dataclass(frozen=True, repr=False)
+class Slack(Shown):
+    """The room of a cell over all plans: of a number from `low` to `high`, which plans have; of
+    another cell all `values` that plans have. `room` is how much that is beyond one value."""
+
+    cell: str
+    low: int | None
+    high: int | None
+    values: tuple[Point, ...]
+    complete: bool
+    _certificate: Certificate | None
+
+    @property
+    def room(self) -> int | None:
+        """How much a number may move, or how many other values there are; None where nothing
+        fits."""
+        if self.low is not None and self.high is not None:
+            return self.high - self.low
+        return len(self.values) - 1 if self.values else None
+
+    def headline(self) -> str:
+        if self.room is None:
+            return f"No plan was found for {self.cell}."
+        return f"Over all plans{'' if self.complete else f' (more is {NOT_REFUTED})'}:"
+
+    def heads(self) -> Sequence[str]:
+        ends = ("values",) if self.low is None else ("least", "greatest")
+        return ("cell", *ends, "room")
+
+    def rows(self) -> Sequence[Sequence[object]]:
+        if self.room is None:
+            return []
+        ends = (self.values,) if self.low is None else (self.low, self.high)
+        return [(self.cell, *ends, self.room)]
+
+
+class Critical(Shown, Premises):
+    """Premises that leave a cell no less than `value`, or no more: a least set of them, none of
+    which can be left out. Iterates over their names."""
+
+    cell: str
+    sort: str
+    value: int
+    texts: dict[str, str]
+
+    def headline(self) -> str:
+        than = "less" if self.sort == LEAST else "more"
+        if not self:
+            return f"{self.cell} can't be {than} than {self.value}, whatever is believed."
+        others = "" if self.complete else f" (that fewer would do is {NOT_REFUTED})"
+        return f"{self.cell} can't be {than} than {self.value} because of{others}:"
+
+    def heads(self) -> Sequence[str]:
+        return ("premise", "says")
+
+    def rows(self) -> Sequence[Sequence[object]]:
+        return [(premise, shortened(self.texts[premise])) for premise in self]
+
+    def __str__(self) -> str:
+        return Shown.__str__(self)
+
+    def __repr__(self) -> str:
+        return Shown.__str__(self)
+
+
+class NothingFits(ValueError):
+    """There is no plan, or none was found in time: so nothing can be said of one."""
+
+
+def find_slack(
+    model: Model, cell: CellLike, seconds: float | None, progress: Progress | None
+) -> Slack:
+    """The room of a cell over all plans with what is believed."""
+    name = cell_named(model, cell)
+    trial = Trial(model, model.believed(), Clock(seconds, progress))
+    if not isinstance(trial.rooms[name], Numbers):
+        return _slack_of_names(trial, name)
+    ends = [Bounding(trial, model.believed(), name, sort) for sort in (LEAST, GREATEST)]
+
+    def run() -> None:
+        for bounding in ends:
+            bounding.run()
+
+    def result() -> Slack:
+        evidence = Evidence.of(trial)
+        claims = [claim for bounding in ends if (claim := bounding.show(evidence))]
+        proved = all(bounding.proved for bounding in ends)
+        certificate = evidence.certificate(claims) if claims else None
+        return Slack(name, ends[0].value, ends[1].value, (), proved, certificate)
+
+    return tried(trial, run, result)
+
+
+def _slack_of_names(trial: Trial, cell: str) -> Slack:
+    listing = Listing(trial, [cell], len(trial.rooms[cell] or ""))
+
+    def result() -> Slack:
+        plans = listing.result()
+        values = tuple(plan[cell] for plan in plans)
+        return Slack(cell, None, None, values, plans.complete, plans.certificate)
+
+    return tried(trial, listing.run, result)
+
+
+def find_critical(
+    model: Model, cell: CellLike, sort: str, seconds: float | None, progress: Progress | None
+) -> Critical:
+    """Premises that leave a cell no less than its least value over all plans, or no more than its
+    greatest. Raises NothingFits where there is no plan."""
+    if sort not in (LEAST, GREATEST):
+        raise ValueError(f"the end is {LEAST!r} or {GREATEST!r}, and not {sort!r}")
+    name = cell_named(model, cell)
+    trial = Trial(model, (), Clock(seconds, progress))
+    bounding = Bounding(trial, model.believed(), name, sort)
+    found: list[tuple[Exploring, Refuted]] = []
+
+    def run() -> None:
+        bounding.run()
+        beyond = bounding.beyond_value
+        if not bounding.proved or beyond is None:
+            return
+        explored = Exploring(trial, model.believed(), {}, [(name, beyond)])
+        refuted = explored.try_out(explored.all)
+        if isinstance(refuted, Refuted):
+            found.append((explored, explored.shrunk(refuted)))
+
+    def result() -> Critical:
+        if not found or bounding.value is None:
+            raise NothingFits(f"there is no {sort} {name} to be explained: {bounding.result()}")
+        explored, refuted = found[0]
+        made = Critical(explored.names(refuted.mask))
+        made.cell, made.sort, made.value = name, sort, bounding.value
+        made.texts = {premise: model.text(premise) for premise in made}
+        made.complete = refuted.least
+        made._certificate = _certificate(bounding, explored, refuted)
+        return made
+
+    return tried(trial, run, result)
+
+
+def _certificate(bounding: Bounding, explored: Exploring, refuted: Refuted) -> Certificate:
+    """What shows that nothing beyond fits with these premises, and does without any one of them."""
+    evidence = Evidence.of(explored.trial)
+    told = [[evidence.cells[bounding.cell], str(bounding.beyond_value)]]
+    evidence.add_tree(explored.names(refuted.mask), told, refuted.tree)
+    for bit in bits_of(refuted.mask) if refuted.least else ():
+        mask = refuted.mask & ~bit
+        kept = next(kept for kept in explored.plans if kept.mask & mask == mask)
+        evidence.add_plan(explored.names(kept.mask), kept.fits)
+    names = evidence.lines_of(explored.names(refuted.mask))
+    claim: dict[str, object] = {
+        "given": evidence.lines_of(explored.premises),
+        "keep": [],
+        "told": told,
+        "sets": [names],
+        "outs": [],
+        "full": False,
+    }
+    least = ("conflicts", claim) if refuted.least else ("fails", {"given": names, "told": told})
+    best = bounding.show(evidence)
+    return evidence.certificate([least, *([best] if best else [])])

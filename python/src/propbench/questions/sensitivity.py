@@ -1,0 +1,140 @@
+"""What each premise is worth: what becomes of a cell where it is left out, or says half as much."""
+
+from collections.abc import Iterator, Sequence
+from dataclasses import dataclass
+from typing import Any
+
+from propbench.listing import told_by
+from propbench.questions.asking import CellLike, answered, cell_named, tried
+from propbench.questions.bench import Bench
+from propbench.questions.bounding import Bounding, Optimum
+from propbench.questions.certificate import Certificate, Evidence
+from propbench.questions.changes import Change
+from propbench.questions.checker import MOST
+from propbench.questions.clock import Clock, Progress
+from propbench.questions.model import Model
+from propbench.questions.scenarios import Asking, Row
+from propbench.questions.shown import Shown, shortened
+from propbench.questions.trial import Trial
+from propbench.values import Span, value_of
+
+# The row of the table of scenarios in which nothing is changed.
+_NOW = ("", "now")
+_OUT, _HALF = "left out", "halved"
+
+
+@dataclass(frozen=True)
+class Worth:
+    """A premise, what it says, and what is left for the cell without it, and where each range that
+    it tells is half as wide; None where that can't be asked."""
+
+    premise: str
+    says: str
+    left_out: object
+    halved: object = None
+
+
+class Sensitivity(Shown, list[Worth]):
+    """What each believed premise is worth to a cell, whose value now is `now`."""
+
+    def __init__(
+        self,
+        cell: str,
+        now: object,
+        found: Sequence[Worth],
+        complete: bool,
+        certificate: Certificate | None,
+    ) -> None:
+        super().__init__(found)
+        self.cell, self.now, self.complete = cell, now, complete
+        self._certificate = certificate
+
+    def headline(self) -> str:
+        return f"{self.cell} is {self.now}, and{'' if self.complete else ', as far as is known,'}:"
+
+    def heads(self) -> Sequence[str]:
+        return ("premise", "says", _OUT, _HALF)
+
+    def rows(self) -> Sequence[Sequence[object]]:
+        return [(each.premise, shortened(each.says), each.left_out, each.halved) for each in self]
+
+
+def of_answers(
+    bench: Bench, cell: CellLike, seconds: float | None, progress: Progress | None
+) -> Sensitivity:
+    """What becomes of the answer for a cell."""
+    model, name = bench.model, cell_named(bench.model, cell)
+    scenarios = {_NOW: Change()}
+    for premise in model.believed():
+        scenarios[premise, _OUT] = Change(kick=(premise,))
+        if halves := tuple(_halves(model, premise)):
+            scenarios[premise, _HALF] = Change(tell=halves)
+    clock = Clock(seconds, progress)
+    keys = {str(number): key for number, key in enumerate(scenarios)}
+    asking = Asking(bench, dict(zip(keys, scenarios.values())), [name], clock)
+
+    def result() -> Sensitivity:
+        table = asking.result()
+        rows = {keys[number]: row for number, row in table.items()}
+        values = {key: _value(row, name) for key, row in rows.items()}
+        worths = [
+            Worth(
+                premise,
+                model.text(premise),
+                values.get((premise, _OUT)),
+                values.get((premise, _HALF)),
+            )
+            for premise in model.believed()
+        ]
+        return Sensitivity(name, values.get(_NOW), worths, table.complete, table.certificate)
+
+    return answered(asking.here, result)
+
+
+def _value(row: Row, cell: str) -> Any:
+    return f"conflict: {row.conflict}" if row.conflict is not None else row[cell].value
+
+
+def _halves(model: Model, premise: str) -> Iterator[tuple[object, ...]]:
+    """What a premise tells of the user's numbers, with ranges that are half as wide."""
+    cells = {model.cell_name(cell): cell for cell in model.cells()}
+    for stated in told_by(model.base()).premises.get(model.line_name(premise), []):
+        held = value_of(stated.value, "span") if stated.value[-1:].isdigit() else None
+        if not isinstance(held, Span) or -MOST in (held.low, -held.high):
+            continue
+        if stated.cell in cells and held.low < held.high:
+            quarter = (held.high - held.low + 1) // 4
+            yield premise, cells[stated.cell], held.low + quarter, held.high - quarter
+
+
+def of_optimum(
+    model: Model, cell: CellLike, sort: str, seconds: float | None, progress: Progress | None
+) -> Sensitivity:
+    """What becomes of the least or greatest value of a cell in any plan."""
+    name, believed = cell_named(model, cell), list(model.believed())
+    trial = Trial(model, (), Clock(seconds, progress))
+    found: dict[str, Bounding] = {}
+
+    def run() -> None:
+        for premise in ("", *believed):
+            others = [each for each in believed if each != premise]
+            found[premise] = Bounding(trial, others, name, sort)
+            found[premise].run()
+
+    def result() -> Sensitivity:
+        evidence = Evidence.of(trial)
+        claims = [claim for each in found.values() if (claim := each.show(evidence))]
+        certificate = evidence.certificate(claims) if claims else None
+        values = {premise: _best(each.result()) for premise, each in found.items()}
+        worths = [Worth(each, model.text(each), values.get(each)) for each in believed]
+        proved = len(found) == len(believed) + 1 and all(each.proved for each in found.values())
+        return Sensitivity(name, values.get(""), worths, proved, certificate)
+
+    return tried(trial, run, result)
+
+
+def _best(optimum: Optimum) -> object:
+    """The best value, with a mark where it isn't proved to be that."""
+    if optimum.value is None:
+        return "nothing fits" if optimum.proved else "not known"
+    return optimum.value if optimum.proved else f"{optimum.value} (not proved)"

@@ -1,0 +1,236 @@
+"""Certificates check, and no spoilt one does."""
+
+import copy
+import hashlib
+import json
+import subprocess
+import sys
+from pathlib import Path
+from typing import Any
+
+import pytest
+from drawn_models import model_lines
+from hypothesis import given
+from hypothesis import strategies as st
+from lines_model import LineModel
+
+from propbench import Session
+from propbench.desk import main
+from propbench.questions import Certificate, CertificateError, Plan
+from propbench.questions import checker as checker_file
+
+# Three wishes of which two fit, and a sum that nobody can choose: day + length == end.
+WISHES = """cell day span
+cell length span
+cell end span
+fix day 0..40
+fix length 3..9
+fix end 0..60
+attach sum day length end
+cell early truth
+cell ten span
+fix ten 10
+attach less end ten early
+tell late day 5..40
+tell long length 7..9
+tell soon end 0..11
+tell morning early yes""".split(
+    "\n"
+)
+
+
+def certificates(model: LineModel) -> dict[str, Certificate]:
+    """A certificate of each sort."""
+    found = {"conflicts": model.conflicts().certificate, "repairs": model.repairs().certificate}
+    model.send("kick long", "kick morning")
+    found |= {
+        "least": model.least("end").certificate,
+        "greatest": model.greatest("day").certificate,
+        "critical": model.critical("end").certificate,
+        "slack": model.slack("day").certificate,
+        "plans": model.plans(["day", "length"]).certificate,
+        "plans of truths": model.plans(["early"]).certificate,
+    }
+    return found
+
+
+@pytest.fixture(scope="module")
+def found() -> dict[str, Certificate]:
+    with Session() as session:
+        return certificates(LineModel(session, WISHES))
+
+
+def signed(lines: list[str]) -> Certificate:
+    """A certificate of these lines, as if it had been written so."""
+    return Certificate((*lines, hashlib.sha256("\n".join(lines).encode()).hexdigest()))
+
+
+def spoilt(certificate: Certificate, claims: Any = None, evidence: Any = None) -> Certificate:
+    """The same with other claims or another evidence."""
+    head, said, shown, *base = certificate.lines[:-1]
+    told = said if claims is None else json.dumps(claims)
+    return signed([head, told, shown if evidence is None else json.dumps(evidence), *base])
+
+
+def parts(certificate: Certificate) -> tuple[list[Any], dict[str, Any]]:
+    """The claims and the evidence."""
+    return json.loads(certificate.lines[1]), json.loads(certificate.lines[2])
+
+
+def refused(certificate: Certificate) -> None:
+    with pytest.raises(CertificateError):
+        certificate.check()
+
+
+def test_each_checks(found: dict[str, Certificate], tmp_path: Path) -> None:
+    for name, certificate in found.items():
+        assert certificate.check() is True, name
+        path = tmp_path / "claim"
+        certificate.save(path)
+        assert path.read_text().split("\n")[:-1] == list(certificate.lines)
+        assert main(["check", str(path)]) == 0
+
+
+def test_the_checker_reads_nothing_else(found: dict[str, Certificate], tmp_path: Path) -> None:
+    with open(checker_file.__file__, encoding="utf-8") as file:
+        text = file.read()
+    assert text.count("\n") < 200 and "propbench." not in text
+    found["least"].save(tmp_path / "claim")
+    (tmp_path / "alone.py").write_text(text)
+    with Session() as session:
+        program = session.program
+    words = [sys.executable, "-I", str(tmp_path / "alone.py"), str(tmp_path / "claim"), program]
+    assert subprocess.run(words, capture_output=True, text=True).stdout == "True\n"
+
+
+def test_a_changed_line_shows(found: dict[str, Certificate], tmp_path: Path) -> None:
+    for name, certificate in found.items():
+        for number in range(len(certificate.lines)):
+            for changed in ("", certificate.lines[number].replace("0", "1") + " "):
+                lines = [*certificate.lines[:number], changed, *certificate.lines[number + 1 :]]
+                refused(Certificate(tuple(lines)))
+            refused(Certificate((*certificate.lines[:number], *certificate.lines[number + 1 :])))
+    path = tmp_path / "claim"
+    path.write_text("\n".join(found["least"].lines).replace("cell", "sell") + "\n")
+    assert main(["check", str(path)]) == 1
+
+
+def test_another_network_shows(found: dict[str, Certificate]) -> None:
+    certificate = found["least"]
+    assert certificate.check(base=["# a comment", *certificate.base])
+    with pytest.raises(CertificateError, match="another network"):
+        certificate.check(base=certificate.base[1:])
+    lines = [line.replace("fix length 3", "fix length 2") for line in certificate.lines[:-1]]
+    refused(signed(lines))
+
+
+def test_conflicts_with_a_premise_more_or_less(found: dict[str, Certificate]) -> None:
+    claims, _ = parts(found["conflicts"])
+    sets = claims[0][1]["sets"]
+    for number, names in enumerate(sets):
+        for other in [names[1:], names[:-1], sorted({*names, "late", "long", "soon", "morning"})]:
+            if other in sets:
+                continue
+            changed = copy.deepcopy(claims)
+            changed[0][1]["sets"][number] = other
+            refused(spoilt(found["conflicts"], changed))
+        changed = copy.deepcopy(claims)
+        del changed[0][1]["sets"][number]
+        refused(spoilt(found["conflicts"], changed))
+
+
+def test_repairs_with_a_premise_more_or_less(found: dict[str, Certificate]) -> None:
+    claims, _ = parts(found["repairs"])
+    outs = claims[0][1]["outs"]
+    for number, names in enumerate(outs):
+        for other in [names[1:], sorted({*names, "late", "long", "soon", "morning"})]:
+            changed = copy.deepcopy(claims)
+            changed[0][1]["outs"][number] = other
+            if other != names:
+                refused(spoilt(found["repairs"], changed))
+        changed = copy.deepcopy(claims)
+        del changed[0][1]["outs"][number]
+        refused(spoilt(found["repairs"], changed))
+
+
+def test_another_optimum(found: dict[str, Certificate]) -> None:
+    for name in ("least", "greatest", "slack"):
+        claims, _ = parts(found[name])
+        for by in (-1, 1):
+            for keys in (["value"], ["bound"], ["value", "bound"]):
+                changed = copy.deepcopy(claims)
+                for key in keys:
+                    changed[0][1][key] += by
+                weaker = keys == ["bound"] and by == (-1 if claims[0][1]["sort"] == "least" else 1)
+                if not weaker:
+                    refused(spoilt(found[name], changed))
+
+
+def test_plans_spoilt(found: dict[str, Certificate]) -> None:
+    claims, evidence = parts(found["plans"])
+    changed = copy.deepcopy(claims)
+    del changed[0][1]["plans"][0]
+    refused(spoilt(found["plans"], changed))
+    changed = copy.deepcopy(claims)
+    changed[0][1]["plans"][0][0] = "40"
+    refused(spoilt(found["plans"], changed))
+    tree = claims[0][1]["tree"]
+    for number in range(len(tree[1])):
+        changed = copy.deepcopy(claims)
+        del changed[0][1]["tree"][1][number]
+        refused(spoilt(found["plans"], changed))
+    changed = copy.deepcopy(claims)
+    changed[0][1]["tree"][1][0][1] = "open"
+    refused(spoilt(found["plans"], changed))
+    narrower = copy.deepcopy(evidence)
+    narrower["rooms"]["day"] = "0..1"
+    refused(spoilt(found["plans"], evidence=narrower))
+
+
+def test_plans_of_the_evidence_spoilt(found: dict[str, Certificate]) -> None:
+    for name in ("conflicts", "repairs", "least", "critical"):
+        _, evidence = parts(found[name])
+        assert evidence["plans"]
+        for plan in range(len(evidence["plans"])):
+            for cell in evidence["plans"][plan]["values"]:
+                changed = copy.deepcopy(evidence)
+                del changed["plans"][plan]["values"][cell]
+                refused(spoilt(found[name], evidence=changed))
+            changed = copy.deepcopy(evidence)
+            changed["plans"][plan]["values"]["end"] = "59"
+            refused(spoilt(found[name], evidence=changed))
+            changed["plans"][plan]["values"]["end"] = "0..60"
+            refused(spoilt(found[name], evidence=changed))
+
+
+def test_a_choice_that_leaves_out_a_value(found: dict[str, Certificate]) -> None:
+    """Plans exist with the value that the choice leaves out: so the claim would be a lie."""
+    claims = [["fails", {"given": ["late", "long"], "told": [["end", "0..12"]]}]]
+    evidence: dict[str, object] = {"basis": [], "mark": "_q", "plans": [], "trees": []}
+    evidence |= {"rooms": {"length": "3..9"}, "choices": [["length", "3 or 4 or 5"]]}
+    lines = [found["least"].lines[0], json.dumps(claims), json.dumps(evidence), *WISHES]
+    refused(signed(lines))
+
+
+@given(model_lines(), st.data())
+def test_random_values_spoilt(lines: list[str], data: st.DataObject) -> None:
+    """A plan of a random model with another value checks just where that is a plan too."""
+    with Session() as session:
+        model = LineModel(session, lines)
+        plan: Plan | None = next(model.all_plans(model.believed()), None)
+        if plan is None:
+            return
+        values = {cell: model.literal(cell, point) for cell, point in plan.items()}
+        cell = data.draw(st.sampled_from(model.cells()))
+        room = model.candidates(cell) or ()
+        other = data.draw(st.sampled_from([str(value) for value in room]))
+        changed: Plan = {**plan, cell: model.point(cell, other)}
+        evidence = {"in": model.believed(), "values": {**values, cell: other}}
+        shown = {"basis": [], "mark": "_q", "plans": [evidence], "trees": [], "rooms": {}}
+        claims = [["fits", {"given": model.believed(), "told": [[cell, other]]}]]
+        said = [checker_file.HEAD, json.dumps(claims), json.dumps({**shown, "choices": []})]
+        certificate = signed([*said, *model.base()])
+        if model.violated(changed, model.believed()) is None:
+            assert certificate.check()
+        elif not any(line.endswith("by 2") for line in lines):
+            refused(certificate)

@@ -1,0 +1,45 @@
+"""Sets that hit others come in order, each least one once, against trying all sets."""
+
+from hypothesis import given
+from hypothesis import strategies as st
+
+from propbench.questions.checker import hitting
+from propbench.questions.hitting import Hitting, bits_of
+
+
+def least_hitting(conflicts: list[int], count: int) -> set[int]:
+    """The least sets that hit all of these, by trying each."""
+    hits = [hit for hit in range(1 << count) if all(hit & conflict for conflict in conflicts)]
+    return {hit for hit in hits if not any(other != hit and other & hit == other for other in hits)}
+
+
+@given(
+    st.integers(1, 6).flatmap(
+        lambda count: st.tuples(
+            st.lists(st.sampled_from([0, 0.5, 1, 2, 5]), min_size=count, max_size=count),
+            st.lists(st.integers(0, (1 << count) - 1), max_size=6),
+        )
+    )
+)
+def test_each_least_set_comes_once_cheapest_first(drawn: tuple[list[float], list[int]]) -> None:
+    weights, conflicts = drawn
+    hits = Hitting(weights)
+    found: list[int] = []
+    left = list(conflicts)
+    while (hit := hits.next()) is not None:
+        assert hits.next() == hit
+        missed = [conflict for conflict in left if not conflict & hit]
+        if missed:
+            left.remove(missed[0])
+            hits.learn(missed[0])
+        else:
+            found.append(hit)
+            hits.finish(hit)
+    wanted = least_hitting(conflicts, len(weights))
+    assert set(found) == wanted and len(found) == len(wanted)
+    costs = [sum(weights[bit.bit_length() - 1] for bit in bits_of(hit)) for hit in found]
+    assert costs == sorted(costs)
+    named = [frozenset(str(bit) for bit in bits_of(conflict)) for conflict in conflicts]
+    mine = {frozenset(each) for each in hitting(named)}
+    assert {frozenset(str(bit) for bit in bits_of(hit)) for hit in wanted} <= mine
+    assert all(each & conflict for each in mine for conflict in named)

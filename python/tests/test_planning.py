@@ -1,0 +1,168 @@
+"""Projects hold against trying all starts of a few tasks, and say what is wrong in tasks."""
+
+from collections.abc import Iterator
+from dataclasses import dataclass
+from datetime import date
+from itertools import product
+from xml.etree import ElementTree
+
+import pytest
+from conftest import TIMES
+from hypothesis import given, settings
+from hypothesis import strategies as st
+
+from propbench import Workbench
+from propbench.planning import Calendar, Project, Task
+from propbench.questions import NothingFits
+
+DAYS = 6
+PEOPLE = ("ana", "ben")
+
+
+@dataclass(frozen=True)
+class Drawn:
+    """A task as it is drawn: its ways of days and cost, who does it, and the tasks before it."""
+
+    ways: tuple[tuple[int, int], ...]
+    who: str
+    after: tuple[int, ...]
+
+
+@st.composite
+def drawn_tasks(draw: st.DrawFn) -> list[Drawn]:
+    way = st.tuples(st.integers(0, 3), st.integers(0, 3))
+    made = []
+    for number in range(draw(st.integers(1, 3))):
+        ways = draw(st.lists(way, min_size=1, max_size=2))
+        after = [before for before in range(number) if draw(st.integers(0, 2)) == 0]
+        made.append(Drawn(tuple(ways), draw(st.sampled_from(PEOPLE)), tuple(after)))
+    return made
+
+
+def project_of(w: Workbench, drawn: list[Drawn], away: tuple[int, int]) -> Project:
+    p = w.plan(days=DAYS, people=PEOPLE)
+    made: list[Task] = []
+    for number, each in enumerate(drawn):
+        after = [made[before] for before in each.after]
+        if len(each.ways) == 1:
+            [(days, cost)] = each.ways
+            made.append(p.task(f"t{number}", days, cost=cost, who=each.who, after=after))
+        else:
+            options = {f"way {n}": dict(days=d, cost=c) for n, (d, c) in enumerate(each.ways)}
+            made.append(p.task(f"t{number}", who=each.who, after=after, options=options))
+    p.away("ana", *away, under="ana away")
+    return p
+
+
+def all_plans(drawn: list[Drawn], away: tuple[int, int] | None) -> Iterator[tuple[int, int]]:
+    """The end and the cost of each plan, by going through all starts and ways."""
+    for ways in product(*(each.ways for each in drawn)):
+        for starts in product(range(DAYS + 1), repeat=len(drawn)):
+            ends = [start + days for start, (days, _) in zip(starts, ways)]
+            if max(ends) <= DAYS and fits(drawn, starts, ends, away):
+                yield max(ends), sum(cost for _, cost in ways)
+
+
+def fits(
+    drawn: list[Drawn], starts: tuple[int, ...], ends: list[int], away: tuple[int, int] | None
+) -> bool:
+    for number, each in enumerate(drawn):
+        if any(ends[before] > starts[number] for before in each.after):
+            return False
+        for other in range(number):
+            if drawn[other].who == each.who:
+                if starts[number] < ends[other] and starts[other] < ends[number]:
+                    return False
+        if away and each.who == "ana" and ends[number] > away[0] and starts[number] < away[1]:
+            return False
+    return True
+
+
+@settings(max_examples=15 * TIMES)
+@given(drawn_tasks(), st.sampled_from([(0, 2), (1, 3), (2, 5), (4, 6)]))
+def test_best_plans_are_those_of_all(drawn: list[Drawn], away: tuple[int, int]) -> None:
+    with Workbench() as w:
+        p = project_of(w, drawn, away)
+        for known in (away, None):
+            plans = list(all_plans(drawn, known))
+            ends, costs = zip(*plans) if plans else ((), ())
+            for cell, values in ((p.end, ends), (p.total_cost, costs)):
+                for found, wanted in ((w.least(cell), min), (w.greatest(cell), max)):
+                    assert found.proved
+                    assert found.value == (wanted(values) if values else None)
+            w.kick("ana away")
+
+
+@pytest.fixture
+def p() -> Iterator[Project]:
+    with Workbench() as w:
+        p = w.plan(days=60, people="ana ben", start=date(2026, 3, 4), off="sat sun")
+        ways = {"hotel": dict(days=2, cost=4000), "uni": dict(days=5, cost=1500)}
+        venue = p.task("venue", who="ana", options=ways)
+        p.task("review", 5, who="ben", after=[venue], cost=10)
+        yield p
+
+
+def test_facts_are_premises(p: Project) -> None:
+    w = p.workbench
+    assert p.facts == ("review takes 5", "review costs 10", "review after venue")
+    assert set(w.critical(p.end)) == {"review takes 5", "review after venue"}
+    assert p.away("ana", 0, 3) == "ana away 0 to 3"
+    assert w.least(p.end).value == 10
+    assert p.done_by(9) == "all done by 9"
+    assert set(w.repairs(keep=p.facts)) == {
+        frozenset({"ana away 0 to 3"}),
+        frozenset({"all done by 9"}),
+    }
+    w.forget("review takes 5")
+    w.tell("review takes 4", p.tasks["review"].days, 4)
+    assert w.least(p.end).value == 9
+
+
+def test_what_is_wrong(p: Project) -> None:
+    with pytest.raises(ValueError, match="nobody in the plan is called 'anna'. Did you mean ana?"):
+        p.task("talk", 2, who="anna")
+    with pytest.raises(ValueError, match="there is a task 'venue'"):
+        p.task("venue", 2)
+    with pytest.raises(ValueError, match="say how many days"):
+        p.task("talk")
+    with pytest.raises(ValueError, match="told by its days and its cost"):
+        p.task("talk", options={"long": {"day": 2}, "short": {"days": 1}})
+    with pytest.raises(ValueError, match="can't be away"):
+        p.away("ana", 5, 5)
+    assert list(p.tasks) == ["venue", "review"]
+    assert p.total_cost.ask(over="all plans").low == 1510
+    with pytest.raises(ValueError, match="before the end or the total cost"):
+        p.task("talk", 2)
+
+
+def test_dates(p: Project) -> None:
+    calendar = Calendar.of(date(2026, 3, 7), "sat sun")
+    assert calendar.date_of(0) == date(2026, 3, 9) and calendar.date_of(5) == date(2026, 3, 16)
+    assert calendar.day_of(date(2026, 3, 14)) == 5 and calendar.day_of(date(2026, 3, 13)) == 4
+    holiday = Calendar.of(date(2026, 3, 9), ["sun", date(2026, 3, 10)])
+    assert [holiday.date_of(day).day for day in range(6)] == [9, 11, 12, 13, 14, 16]
+    assert p.date(3) == date(2026, 3, 9)
+    p.away("ana", date(2026, 3, 4), date(2026, 3, 9), under="away")
+    assert p.workbench.least(p.tasks["venue"].start).value == 3
+    for wrong in ("mon tue wed thu fri sat sun", "monday"):
+        with pytest.raises(ValueError):
+            Calendar.of(date(2026, 3, 7), wrong)
+    with pytest.raises(ValueError, match="after 2026-03-01"):
+        p.day(date(2026, 3, 1))
+
+
+def test_the_chart(p: Project) -> None:
+    w = p.workbench
+    strange = p.task("<b>&\x1b", 1, who="ben")
+    p.done_by(20, under="soon")
+    drawn = ElementTree.fromstring(p.chart())
+    texts = [each.text or "" for each in drawn.iter() if each.tag.endswith("text")]
+    assert "<b>&\\x1b (ben)" in texts and "04.03." in texts
+    titles = [each.text or "" for each in drawn.iter() if each.tag.endswith("title")]
+    assert titles[0] == "venue (ana): day 0 to 2, in any plan from 0 to 15"
+    plan = w.least(p.end).plan
+    assert plan is not None and len(ElementTree.fromstring(p.chart(plan, rooms=False))) > 10
+    w.tell("late", strange.start, 20)
+    with pytest.raises(NothingFits):
+        p.chart()

@@ -1,0 +1,58 @@
+"""The examples of the page on the workbench, and of its docstring, do what they say."""
+
+import re
+
+import pytest
+from conftest import REPOSITORY
+
+import propbench.workbench
+from propbench.overview import UNPROVED
+
+PAGE = REPOSITORY / "docs/WORKBENCH.md"
+MOST_BYTES = 8_000
+OUTPUT = "This prints"
+
+
+def examples(text: str) -> list[tuple[str, str]]:
+    """The blocks of code, each with what it prints; blocks without are joined to the next."""
+    found: list[tuple[str, str]] = []
+    code = ""
+    for before, block in re.findall(r"(.*)\n\n((?:    .*\n|\n(?=    ))+)", text):
+        lines = re.sub(r"^    ", "", block, flags=re.M)
+        if before == OUTPUT:
+            found.append((code, lines))
+            code = ""
+        else:
+            code += lines
+    return [*found, (code, "")] if code else found
+
+
+def test_the_page(
+    program: str, monkeypatch: pytest.MonkeyPatch, capsys: pytest.CaptureFixture[str]
+) -> None:
+    monkeypatch.setenv("PROPBENCH", program)
+    names: dict[str, object] = {}
+    found = examples(PAGE.read_text(encoding="utf-8"))
+    assert len(found) >= 6
+    for code, wanted in found:
+        exec(code, names)
+        assert capsys.readouterr().out.replace(f"{UNPROVED}\n", "") == wanted
+
+
+def test_it_is_short() -> None:
+    assert len(PAGE.read_bytes()) <= MOST_BYTES
+
+
+def test_the_docstring(
+    program: str, monkeypatch: pytest.MonkeyPatch, capsys: pytest.CaptureFixture[str]
+) -> None:
+    monkeypatch.setenv("PROPBENCH", program)
+    text = propbench.workbench.__doc__ or ""
+    code, wanted = re.findall(r"((?:    .*\n|\n(?=    ))+)", text)[0], []
+    lines = []
+    for line in re.sub(r"^    ", "", code, flags=re.M).split("\n"):
+        call, _, printed = line.partition("  # ")
+        lines.append(call)
+        wanted += [printed] if printed else []
+    exec("\n".join(lines), {})
+    assert capsys.readouterr().out.splitlines() == wanted and wanted
