@@ -20,6 +20,7 @@ from propbench.model.expressions import (
     total,
 )
 from propbench.program import ProgramEnded
+from propbench.questions import Certificate, CertificateError, Interrupted
 from propbench.refusals import (
     EmptyValue,
     IsAChoice,
@@ -60,12 +61,15 @@ from propbench.workbench import Workbench
 
 __all__ = [
     "Answer",
+    "Certificate",
+    "CertificateError",
     "Conflict",
     "Contradiction",
     "Done",
     "Elements",
     "EmptyValue",
     "Impossible",
+    "Interrupted",
     "IsAChoice",
     "LimitReached",
     "LineTooLong",
