@@ -1,4 +1,4 @@
-#!/usr/bin/env python3
+#!/usr/bin/python3
 """A planner's whole case: sixteen tasks of three people, eleven wishes, and what to do about them."""
 from propbench import Workbench
 

@@ -14,6 +14,8 @@ from case import Case, as_bytes
 TOP = os.path.dirname(os.path.dirname(os.path.realpath(__file__)))
 # Documents whose indented blocks are code, with the crate in which it stands.
 CODE = {"docs/HOSTING.md": "prop_host_tests", "docs/PRIMER.md": "prop_sets"}
+# Documents whose indented blocks are Python and what it prints, which python/tests runs.
+PYTHON = {"docs/WORKBENCH.md", "docs/QUESTIONS.md"}
 COMMANDS = """
 domain relation cell attach define fix tell choose kick bring forget limit ask why core settle
 worldview nogoods
@@ -69,8 +71,8 @@ def code_shown() -> Optional[str]:
 
 
 def cases() -> Iterator[Case]:
-    documents = sorted(glob.glob("docs/*.md", root_dir=TOP))
-    for document in ["README.md", *documents]:
+    documents = {"README.md", *glob.glob("docs/*.md", root_dir=TOP)} - PYTHON
+    for document in sorted(documents):
         sent, wanted = session(read(document))
         if sent:
             yield Case(f"documents: {document}", as_bytes(*sent), as_bytes(*wanted))

@@ -19,8 +19,8 @@ use Rattle.prop_workbench.proofs.NamedLaws.{shown_transcripts, shown_prefixes}
 use Rattle.prop_program.specs.declared.fault.Fault.{Fault}
 use Rattle.prop_program.specs.declared.chosen.Pick.{Pick}
 use Rattle.prop_program.specs.declared.chosen.Pick.TheVariants.{Fifo, Lifo, Mixed}
-use Rattle.prop_program.specs.Answering.{Stock, IsAnswered, IsAnsweredBy, IsAnsweredInPart, IsAnsweredInPartBy, IsWorked}
-use Rattle.prop_program.specs.Answering.{IsWorkedBy, IsWorkedInPart, IsWorkedInPartBy}
+use Rattle.prop_program.specs.Answering.{Stock, IsAnswered, IsAnsweredBy, IsAnsweredInPart, IsAnsweredInPartBy}
+use Rattle.prop_program.specs.Answering.{IsWorked, IsWorkedBy, IsWorkedInPart, IsWorkedInPartBy}
 
 -- before the session nothing is written
 pub nothing_yet : (stock : Stock) (left held : Option (List ℕ)) (limit : ℕ)
