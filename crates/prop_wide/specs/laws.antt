@@ -10,3 +10,6 @@ pub mod ChoiceLaws
 pub mod CountLaws
 pub mod WideLaws
 pub mod NarrowestLaws
+pub mod ExtremeNarrowest
+pub mod DistanceNarrowest
+pub mod QuotientNarrowest

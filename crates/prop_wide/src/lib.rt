@@ -1,8 +1,14 @@
 //! Rules of a host's own beside the kit's, for those who plan and measure.
 //!
-//! Each rule is its plain function, which is its formula; it is monotone, keeps kinds, and holds
-//! every related point (`Wide`). A number of which nothing is known may be any number in range, and
-//! where an answer would be all of these, nothing is answered.
+//! Each of the fifteen rules is its plain function, which is its formula; it is monotone, keeps
+//! kinds, and holds every related point (`Wide`). A number of which nothing is known may be any in
+//! range, and an answer of all these is nothing. The maximizer, the minimizer, the absoluter, the
+//! way back from each, and the quotienter answer the narrowest information that does; the others
+//! are claimed no narrower than sound (`Wide::narrowest`).
+//!
+//! The procedures are those that the specs list, each in a form that its rule has
+//! (`procedures_are_stated`), and the preludes' lines are those that the specs state
+//! (`prelude_is_stated`).
 #![tactic(auto)]
 
 pub mod choices;

@@ -1,5 +1,7 @@
-use Rattle.prop_wide.specs.laws.NarrowestLaws.{max_narrowest, max_back_narrowest, min_narrowest, min_back_narrowest}
-use Rattle.prop_wide.specs.laws.NarrowestLaws.{abs_narrowest, abs_back_narrowest, quotient_narrowest}
+use Rattle.prop_wide.specs.laws.DistanceNarrowest.{abs_narrowest, abs_back_narrowest}
+use Rattle.prop_wide.specs.laws.ExtremeNarrowest.{max_narrowest, max_back_narrowest, min_narrowest}
+use Rattle.prop_wide.specs.laws.ExtremeNarrowest.{min_back_narrowest}
+use Rattle.prop_wide.specs.laws.QuotientNarrowest.{quotient_narrowest}
 use Rattle.prop_wide.proofs.wide.Wide.narrowest.Goals as goal
 
 pub returns-clause-max : goal.returns-clause-max
