@@ -94,6 +94,10 @@ class Trial:
     ) -> None:
         self.session.close()
 
+    def close(self) -> None:
+        """Ends the session."""
+        self.session.close()
+
     def _begin(self) -> None:
         chosen = [line for line in self.base if line.split()[0] == "choose"]
         made = [line for line in self.base if line.split()[0] != "choose"]
@@ -156,6 +160,7 @@ class Trial:
         asks = self._asks
         sent = [line for lines, has_asks in looks for line in (*lines, *(asks if has_asks else ()))]
         replies = iter(self.session.send_all(sent))
+        self.session.drop_lines()
         found: list[Seen] = []
         for lines, has_asks in looks:
             end = [next(replies) for _ in lines][-1]
