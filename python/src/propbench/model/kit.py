@@ -11,10 +11,9 @@ WIDER = (
     "min",
     "abs",
     "if",
-    "quotient",
-    "remainder",
+    "divide",
     *(f"count{number}" for number in range(1, 9)),
-    *(f"different{number}" for number in range(2, 10)),
+    *(f"different{number}" for number in range(2, 9)),
 )
 
 

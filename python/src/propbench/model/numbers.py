@@ -185,23 +185,23 @@ class Numbers:
                 self._writer.attach("less", cell, edge, truth)
 
     def _division(self, each: Node, cell: str, context: Context) -> None:
-        """A quotient rounded down, or a remainder, within a gate that is open where the divisor is
-        not zero."""
-        is_quotient = each.op is Op.QUOTIENT
-        name = "quotient" if is_quotient else "remainder"
+        """A quotient rounded down, or what it leaves, and the other with it: within a gate that is
+        open where the divisor is not zero."""
         within = self._where_nonzero(each.args, context)
-        if self._writer.offers(name):
-            self._enter(each, cell, within, context)
-            self._writer.attach(name, *self._cells(each, within), within.cells[each])
-            return
-        other = node(Op.REMAINDER if is_quotient else Op.QUOTIENT, each.args)
-        if other not in context.cells:
-            context.cells[other] = self._writer.new_cell(Plain.NUMBER)
-            self._all.join(other, context.cells[other], context)
-        for one in (each, other):
+        quotient, remainder = (node(op, each.args) for op in (Op.QUOTIENT, Op.REMAINDER))
+        for one in (quotient, remainder):
+            if one not in context.cells:
+                context.cells[one] = self._writer.new_cell(Plain.NUMBER)
+                self._all.join(one, context.cells[one], context)
             self._enter(one, context.cells[one], within, context)
-        quotient, remainder = (each, other) if is_quotient else (other, each)
-        self._divide(quotient, remainder, within)
+        held, divisor = self._cells(each, within)
+        for one in (quotient, remainder):
+            self._writer.between(within.cells[one], *range_of(one), within)
+        if self._writer.offers("divide"):
+            found = within.cells[quotient], within.cells[remainder]
+            self._writer.attach("divide", held, divisor, *found)
+        else:
+            self._divide(quotient, remainder, within)
 
     def _where_nonzero(self, args: tuple[Node, ...], context: Context) -> Context:
         """The context where the divisor is not zero: the same, where that is stated there."""
@@ -231,8 +231,6 @@ class Numbers:
         held, divisor = self._all.cell_of(left, context), self._all.cell_of(right, context)
         self._writer.attach("product", context.cells[quotient], divisor, part)
         self._writer.attach("sum", part, context.cells[remainder], held)
-        for each in (quotient, remainder):
-            self._writer.between(context.cells[each], *range_of(each), context)
         # (of a constant divisor that says it all)
         if right.op is not Op.CONSTANT:
             for truth in _remainder_fits(remainder, right):

@@ -13,7 +13,7 @@ from propbench.model.writer import TRUTHS
 if TYPE_CHECKING:
     from propbench.model.translation import Translation
 
-_MOST_DIFFERENT = 9
+_MOST_DIFFERENT = 8
 
 
 class Truths:
