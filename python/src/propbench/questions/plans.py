@@ -157,8 +157,8 @@ def find_plans(
     symbols = [cell for cell in trial.cells if trial.rooms[cell] is None]
     if names is None:
         names = [cell for cell in trial.cells if cell not in symbols]
-    if set(names) & set(symbols):
+    for name in set(names) & set(symbols):
         trial.close()
-        raise ValueError(f"{symbols[0]} is for symbols, and these are too many to go through")
+        raise ValueError(f"{name} is for symbols, and these are too many to go through")
     listing = Listing(trial, list(dict.fromkeys(names)), most)
     return tried(trial, listing.run, listing.result)
