@@ -76,6 +76,7 @@ ROWS: dict[str, dict[str, object]] = {
     "late": {"bring": ["late"]},
     "guess": {"tell": [("guess", "y", 3), ("ben", "review", ["mon", "tue"])]},
     "both": {"kick": "short", "bring": "late", "tell": [("late", "x", 14, 20)]},
+    "told again": {"kick": "short", "tell": [("late", "x", 14, 20)]},
 }
 
 
