@@ -200,5 +200,5 @@ def test_ctrl_c_leaves_all_as_it_was() -> None:
             assert "not refuted" in str(caught.value)
         assert w.settle() and w.believed == ("a",)
         told: list[str] = []
-        found = w.least(holes[0], seconds=0.3, progress=told.append)
+        found = w.least(holes[0], seconds=3, progress=told.append)
         assert not found.proved and found.value is None and "not refuted" in str(found) and told
