@@ -6,6 +6,7 @@ import signal
 import threading
 from collections.abc import Callable, Iterator
 from concurrent.futures import Executor, Future, ProcessPoolExecutor
+from functools import partial
 from typing import Any
 
 import pytest
@@ -191,11 +192,12 @@ def test_ctrl_c_leaves_all_as_it_was() -> None:
             for other in holes[:i]:
                 w.require(one != other)
         w.tell("a", holes[0], 1, 5)
-        questions: list[Callable[[], object]] = [w.conflicts, w.repairs, w.plans]
-        for ask in [*questions, lambda: w.least(holes[0])]:
-            threading.Timer(0.5, os.kill, (os.getpid(), signal.SIGINT)).start()
+        questions: list[Callable[..., object]] = [w.conflicts, w.repairs, w.plans]
+        for ask in [*questions, partial(w.least, holes[0])]:
+            # (It is under way when it first tells of itself.)
+            timer = threading.Timer(0.2, os.kill, (os.getpid(), signal.SIGINT))
             with pytest.raises(Interrupted) as caught:
-                ask()
+                ask(progress=lambda _, t=timer: None if t.is_alive() else t.start())
             assert caught.value.so_far.complete is False  # type: ignore[attr-defined]
             assert "not refuted" in str(caught.value)
         assert w.settle() and w.believed == ("a",)
