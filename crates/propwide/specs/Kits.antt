@@ -1,0 +1,79 @@
+-- What the program comes with: the kit, the wider procedures, the excluders, and their preludes.
+use Rattle.std.specs.Prelude.{ℕ, List, ◌++◌, map}
+use Rattle.prop_lattice.specs.Points.{Point}
+use Rattle.prop_lattice.specs.declared.info.Info.{Info}
+use Rattle.prop_procedures.specs.declared.both.Both.{Both}
+use Rattle.prop_procedures.specs.declared.both.Both.TheVariants.{One, Two}
+use Rattle.prop_procedures.specs.declared.shape.Param.{Param}
+use Rattle.prop_procedures.specs.declared.shape.Shape.TheVariants.{Any}
+use Rattle.prop_procedures.specs.declared.shape.Need.TheVariants.{Nothing}
+use Rattle.prop_procedures.specs.Both.{either_of}
+use Rattle.prop_procedures.specs.Forms.{Form, form, library_of, related_in}
+use Rattle.prop_arith.specs.declared.kit.Kit.{Kit}
+use Rattle.prop_arith.specs.Kit.{in_order as kits, form_of}
+use Rattle.prop_arith.specs.Points.{Related as KitRelated}
+use Rattle.prop_arith.specs.Values.{value_of as kit_value}
+use Rattle.prop_arith.specs.Prelude.{prelude_lines as kit_lines}
+use Rattle.prop_wide.specs.declared.wide.Wide.{Wide}
+use Rattle.prop_wide.specs.Points.{Related as WideRelated}
+use Rattle.prop_wide.specs.Prelude.{prelude_lines as wide_lines, different_lines}
+use Rattle.prop_wide.specs.Procedures.{Named, in_order as named}
+use Rattle.prop_wide.specs.Values.{value_of as wide_value}
+use Rattle.prop_wide.specs.Wide.{out_of, need_of}
+use Rattle.prop_hall.specs.declared.excluder.Excluder.{Excluder}
+use Rattle.prop_hall.specs.Excluder.{in_order as excluders, ins_of, name_of}
+use Rattle.prop_hall.specs.Excluder.{Related as ExcluderRelated, value_of as excluder_value}
+use Rattle.prop_program.specs.Answering.{Stock, stocked}
+use Rattle.propwide.specs.declared.entries.Entry as entries
+
+-- a rule of the kit, a wider one or an excluder
+abbrev pub Mixed : Type 0
+Mixed = Both Kit (Both Wide Excluder)
+
+-- what such a rule answers, and the points that it relates
+abbrev pub answer_of : Mixed → Param → List Info → Info
+answer_of = either_of kit_value (either_of wide_value excluder_value)
+
+abbrev pub RelatedBy : Mixed → Param → List Point → Point → Type 0
+RelatedBy = either_of KitRelated (either_of WideRelated ExcluderRelated)
+
+-- a procedure's form, and its rule
+pub record Made : Type 0 where
+  pub form : Form
+  pub rule : Mixed
+
+-- the procedures of a rule of the kit, of a name and inputs of a wider rule, and of an excluder
+abbrev pub of_kit : Kit → Made
+of_kit rule = record { form = form_of rule; rule = One rule }
+
+abbrev pub of_wide : Named → Made
+of_wide p = record {
+  form = form p.name p.ins (out_of p.rule) (need_of p.rule);
+  rule = Two (One p.rule);
+}
+
+abbrev pub of_excluder : Excluder → Made
+of_excluder rule = record {
+  form = form (name_of rule) (ins_of rule) (Any 0) Nothing;
+  rule = Two (Two rule);
+}
+
+-- all of them, in order
+abbrev pub in_order : List Made
+in_order = map of_kit kits ++ (map of_wide named ++ map of_excluder excluders)
+
+-- the lines of the preludes, in order
+abbrev pub lines_in_order : List (List ℕ)
+lines_in_order = kit_lines ++ (wide_lines ++ different_lines)
+
+-- the procedures and the compounds of the preludes
+abbrev pub wide : Stock
+wide = stocked (library_of (λ p. p.form) (λ p. answer_of p.rule) in_order) lines_in_order
+
+-- the points that belong together at the procedure of this number
+abbrev pub wide_related : ℕ → Param → List Point → Point → Type 0
+wide_related = related_in (λ p. RelatedBy p.rule) in_order
+
+-- what a procedure is made of in the program
+abbrev pub shown : entries.Entry → Made
+shown e = record { form = form e.name.now e.ins.now e.out e.need; rule = e.rule }

@@ -1,0 +1,97 @@
+//! What the program comes with: what its procedures are made of, and the lines of its preludes.
+ghost use Rattle.std.specs.Prelude.{◌≡◌, IfOk, map};
+ghost use Rattle.prop_language.specs.Said.{words};
+ghost use Rattle.propwide.specs.Kits.{answer_of, in_order, lines_in_order, shown};
+
+use prop_arith::{KITS, Kit, PRELUDE};
+use prop_hall::{EXCLUDERS, Excluder};
+use prop_lattice::Info;
+use prop_procedures::{Both, Named, Need, Param, Shape};
+use prop_wide::{DIFFERENT, PRELUDE as WIDE_PRELUDE, PROCEDURES, Wide};
+use std::alloc::{AllocError, Global};
+
+/// A rule of the kit, a wider one or an excluder.
+pub type Mixed = Both<Kit, Both<Wide, Excluder>>;
+
+/// What a procedure is made of.
+#[derive(Drop)]
+pub struct Entry {
+    /// The name that a command uses.
+    pub name: &'static str,
+    /// The shapes of the inputs.
+    pub ins: &'static [Shape],
+    /// The shape of the output.
+    pub out: Shape,
+    /// The parameter that is needed.
+    pub need: Need,
+    /// What it means.
+    pub rule: Mixed,
+}
+
+/// The kit, then the wider procedures, then the excluders.
+pub fn entries(alloc: Global) -> Result<Vec<Entry>, AllocError>
+    ensures { IfOk result (λ made. map shown made.items ≡ in_order) }
+{
+    let mut made = Vec::new(alloc);
+    for rule in KITS {
+        made.push(Entry {
+            name: rule.name(),
+            ins: rule.ins(),
+            out: rule.out(),
+            need: rule.need(),
+            rule: Both::One(rule),
+        })?;
+    }
+    for (name, rule, ins) in PROCEDURES {
+        made.push(Entry {
+            name,
+            ins,
+            out: rule.out(),
+            need: rule.need(),
+            rule: Both::Two(Both::One(rule)),
+        })?;
+    }
+    for rule in EXCLUDERS {
+        made.push(Entry {
+            name: rule.name(),
+            ins: rule.ins(),
+            out: rule.out(),
+            need: rule.need(),
+            rule: Both::Two(Both::Two(rule)),
+        })?;
+    }
+    Ok(made)
+}
+
+/// The preludes of the kit, of the wider procedures and of the excluders, in this order.
+pub fn lines(alloc: Global) -> Result<Vec<&'static str>, AllocError>
+    ensures { IfOk result (λ all. words all.items ≡ lines_in_order) }
+{
+    let mut all = Vec::new(alloc);
+    all.extend_from_slice(&PRELUDE)?;
+    all.extend_from_slice(&WIDE_PRELUDE)?;
+    all.extend_from_slice(&DIFFERENT)?;
+    Ok(all)
+}
+
+/// What the rule answers to a parameter and arguments.
+pub fn answer(rule: &Mixed, param: &Param, args: &[Info]) -> Info
+    ensures { result ≡ answer_of rule.now param.now args.now }
+{
+    match rule {
+        Both::One(rule) => rule.run(param, args),
+        Both::Two(Both::One(rule)) => rule.run(param, args),
+        Both::Two(Both::Two(rule)) => rule.run(param, args),
+    }
+}
+
+/// The rule once more.
+pub fn copied(rule: &Mixed) -> Mixed
+    ensures { result ≡ rule.now }
+{
+    match rule {
+        Both::One(rule) => Both::One(*rule),
+        Both::Two(Both::One(rule)) => Both::Two(Both::One(*rule)),
+        Both::Two(Both::Two(rule)) => Both::Two(Both::Two(*rule)),
+    }
+}

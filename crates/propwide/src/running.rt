@@ -1,0 +1,66 @@
+//! A session with the program's procedures and preludes, over a reader and a writer.
+ghost use Rattle.std.specs.Prelude.{◌≡◌, IfOk, OnErr};
+ghost use Rattle.prop_engine.specs.Watched.{reader, writer, device, IsFresh, IsPassedOn};
+ghost use Rattle.prop_program.specs.Faults.{TellsDevices};
+ghost use Rattle.prop_program.specs.Answering.{IsAnswered, IsAnsweredInPart, IsWorked};
+ghost use Rattle.prop_program.specs.Answering.{IsWorkedInPart};
+ghost use Rattle.propwide.specs.Kits.{answer_of, wide, wide_related};
+ghost use Rattle.prop_cells.specs.Points.{AreSoundBy};
+
+use crate::entries::{answer, copied, entries, lines};
+use prop_lattice::Info;
+use prop_procedures::{Param, Procedure, Shape};
+use prop_program::{Fault, Options};
+use prop_workbench::{Counts, Devices};
+use smallvec::SmallVec;
+use std::alloc::Global;
+use std::io::{Read, Write};
+
+/// Makes the procedures, loads the preludes and runs a session with them.
+pub fn run<Rd: Read, W: Write>(
+    alloc: Global,
+    options: Options,
+    devices: &mut Devices<Rd, W>,
+) -> Result<Counts, Fault>
+    requires reader { IsFresh (reader devices.old) }
+    requires writer { IsPassedOn devices.old }
+    ensures ok { IfOk result (IsAnswered wide (Rd.remaining (device (reader devices.old)))
+        (W.contents (device (writer devices.old)))
+        (W.contents (device (writer devices.new))) options.limit) }
+    ensures err { OnErr result (IsAnsweredInPart wide (Rd.remaining (device (reader devices.old)))
+        (W.contents (device (writer devices.old)))
+        (W.contents (device (writer devices.new))) options.limit) }
+    // Each text is earned by steps that were taken, in the order that was chosen.
+    ensures earned { IfOk result (IsWorked wide options.order options.seed options.limit
+        (Rd.remaining (device (reader devices.old))) (W.contents (device (writer devices.old)))
+        (W.contents (device (writer devices.new)))) }
+    ensures earned_in_part { OnErr result (IsWorkedInPart wide options.order options.seed
+        options.limit
+        (Rd.remaining (device (reader devices.old))) (W.contents (device (writer devices.old)))
+        (W.contents (device (writer devices.new)))) }
+    ensures devices { TellsDevices result devices.old devices.new }
+    // So values that belong together and satisfy all that is believed lie in each answer.
+    ensures points { AreSoundBy wide.library wide_related }
+{
+    let prelude = lines(alloc)?;
+    let mut procedures = Vec::new(alloc);
+    for entry in entries(alloc)? {
+        let ins = SmallVec::<Shape, 8>::from_slice(alloc, entry.ins)?;
+        let rule = copied(&entry.rule);
+        let call = Box::new(
+            alloc,
+            move |param: &Param, args: &[Info]| -> Info
+                ensures { result ≡ answer_of rule param.now args.now }
+            { answer(&rule, param, args) },
+        )?;
+        procedures.push(Procedure::new(
+            entry.name,
+            ins,
+            entry.out,
+            entry.need,
+            entry.rule,
+            call,
+        ))?;
+    }
+    prop_program::run(alloc, procedures, &prelude, options, devices)
+}
