@@ -1,0 +1,127 @@
+-- The procedures that the program makes, one after another.
+use Rattle.std.proofs.Common.{◌≡◌, ◌∙◌, ℕ, zero, suc, ◌+◌, ◌<◌, ◌≤◌, ap, List, [], ◌∷◌, ◌++◌, length, map, take, get_or}
+use Rattle.std.proofs.Common.{refl, sym, subst, arith, All}
+use Rattle.std.proofs.lemmas.List.{append_assoc, take_more, take_all, map-append, length-map, get_or-map}
+use Rattle.std.proofs.lemmas.List.Elements.{All-head, All-tail, All-map, All-append}
+use Rattle.std.proofs.lemmas.Option.{none-some, same_Some}
+use Rattle.std.specs.Prelude.{Some, slice_get}
+use Rattle.prop_lattice.specs.declared.info.Info.{Info}
+use Rattle.prop_procedures.specs.declared.both.Both.{Both}
+use Rattle.prop_procedures.specs.declared.procedure.Procedure.{Procedure}
+use Rattle.prop_procedures.specs.declared.shape.Need.{Need}
+use Rattle.prop_procedures.specs.declared.shape.Param.{Param}
+use Rattle.prop_procedures.specs.declared.shape.Shape.{Shape}
+use Rattle.prop_procedures.specs.Both.{either_of}
+use Rattle.prop_procedures.specs.Forms.{Form, library_of, related_in, stored_rule}
+use Rattle.prop_procedures.specs.Kept.{stored_as}
+use Rattle.prop_procedures.specs.Rules.{IsSound}
+use Rattle.prop_procedures.specs.Stored.{Stored}
+use Rattle.prop_procedures.specs.laws.Both.{either_sound}
+use Rattle.prop_arith.specs.declared.kit.Kit.{Kit}
+use Rattle.prop_arith.specs.Kit.{in_order as kits, form_of, FormOf as KitForm}
+use Rattle.prop_arith.specs.Points.{Related as KitRelated}
+use Rattle.prop_arith.specs.Values.{value_of as kit_value}
+use Rattle.prop_arith.specs.laws.KitLaws.{kit_few, kit_formed, kit_sound}
+use Rattle.prop_wide.specs.declared.wide.Wide.{Wide}
+use Rattle.prop_wide.specs.Points.{Related as WideRelated}
+use Rattle.prop_wide.specs.Procedures.{Named, IsFormed as IsWideFormed, in_order as named}
+use Rattle.prop_wide.specs.Values.{value_of as wide_value}
+use Rattle.prop_wide.specs.Wide.{FormOf as WideForm}
+use Rattle.prop_wide.specs.laws.WideLaws.{wide_sound}
+use Rattle.prop_wide.proofs.procedures.procedures_are_stated.Answers.{returns-clause-formed}
+use Rattle.prop_hall.specs.declared.excluder.Excluder.{Excluder}
+use Rattle.prop_hall.specs.Excluder.{FormOf as ExcluderForm, in_order as excluders, ins_of}
+use Rattle.prop_hall.specs.Excluder.{Related as ExcluderRelated, value_of as excluder_value}
+use Rattle.prop_hall.specs.declared.excluder.Excluder.TheVariants.{One, Two, Three, Four, Five, Six, Seven}
+use Rattle.prop_hall.specs.laws.ExcluderLaws.{excluder_sound}
+use Rattle.prop_cells.specs.Points.{AreSoundBy}
+use Rattle.propwide.specs.Kits.{Mixed, Made, answer_of, RelatedBy, of_kit, of_wide, of_excluder, in_order, shown}
+use Rattle.propwide.specs.Kits.{wide, wide_related}
+use Rattle.propwide.specs.declared.entries.Entry.{Entry}
+
+-- the forms of a rule
+abbrev pub FormBy : Mixed → List Shape → Shape → Need → Type 0
+FormBy = either_of KitForm (either_of WideForm ExcluderForm)
+
+-- a procedure has one to eight inputs, in a form that its rule has
+pub record IsFormed (p : Made) : Type 0 where
+  pub some : 1 ≤ length p.form.ins
+  pub few : length p.form.ins ≤ 8
+  pub formed : FormBy p.rule p.form.ins p.form.out p.form.need
+
+kit_made : (rule : Kit) → IsFormed (of_kit rule)
+kit_made rule = record { some = (kit_few rule).0; few = (kit_few rule).1; formed = kit_formed rule }
+
+wide_made : (p : Named) → IsWideFormed p → IsFormed (of_wide p)
+wide_made p h = record { some = h.some; few = h.few; formed = (h.has_inputs, refl, refl) }
+
+excluder_made : (rule : Excluder) → IsFormed (of_excluder rule)
+excluder_made rule = record { some = few.0; few = few.1; formed = (refl, refl, refl) }
+  where
+    few_of : (rule : Excluder) → (1 ≤ length (ins_of rule)) × (length (ins_of rule) ≤ 8)
+    few_of One = (omega arith, omega arith)
+    few_of Two = (omega arith, omega arith)
+    few_of Three = (omega arith, omega arith)
+    few_of Four = (omega arith, omega arith)
+    few_of Five = (omega arith, omega arith)
+    few_of Six = (omega arith, omega arith)
+    few_of Seven = (omega arith, omega arith)
+    few : (1 ≤ length (ins_of rule)) × (length (ins_of rule) ≤ 8)
+    few = few_of rule
+
+pub all_formed : All IsFormed in_order
+all_formed = All-append IsFormed (map of_kit kits) (map of_wide named ++ map of_excluder excluders)
+    (All-map IsFormed of_kit kits (λ k d l. kit_made (get_or kits k d)))
+    (All-append IsFormed (map of_wide named) (map of_excluder excluders)
+    (All-map IsFormed of_wide named (λ k d l. wide_made (get_or named k d) (returns-clause-formed (record {}) k d l)))
+    (All-map IsFormed of_excluder excluders (λ k d l. excluder_made (get_or excluders k d))))
+
+-- what the program makes a procedure of is formed
+pub entry_formed : (items : List Entry) (i : ℕ) (d : Entry) → map shown items ≡ in_order → i < length items
+    → IsFormed (shown (get_or items i d))
+entry_formed items i d e l = subst IsFormed (get_or-map shown items i d (shown d) l)
+    (rw (← e) at all_formed i (shown d) (omega (arith, l, length-map items shown)))
+
+-- the procedure of what it is made of
+abbrev pub stored_made : Made → Stored
+stored_made = stored_rule (λ p. p.form) (λ p. answer_of p.rule)
+
+-- a procedure with the form and the value of an entry
+pub stored_is : {X : Type 0} {F : X → Type 0} {g : _} → (p : Procedure Mixed X F g) (e : Entry)
+    → p.name.now ≡ e.name.now → p.ins.items ≡ e.ins.now → p.out ≡ e.out → p.need ≡ e.need → p.rule ≡ e.rule
+    → stored_as answer_of p ≡ stored_made (shown e)
+stored_is p e n i o d r = rw (n, i, o, d, r) refl
+
+-- one more item is that of one more
+pub more : {A B C : Type 0} (f : A → C) (g : B → C) (items all : List A) (a : A) (bs : List B) (i : ℕ) (d : B)
+    (front : List C) → all ≡ items ++ a ∷ [] → i < length bs → f a ≡ g (get_or bs i d)
+    → map f items ≡ front ++ map g (take i bs) → map f all ≡ front ++ map g (take (i + 1) bs)
+more f g items all a bs i d front e l s h =
+    rw (e, map-append f items (a ∷ []), h, s, take_more bs i d l, map-append g (take i bs) (get_or bs i d ∷ []))
+    append_assoc front (map g (take i bs)) (g (get_or bs i d) ∷ [])
+
+-- where each had its turn, all are listed
+pub all_stored : (items : List Entry) (n : ℕ) → length items ≤ n → map shown items ≡ in_order
+    → map (λ e. stored_made (shown e)) (take n items) ≡ wide.library
+all_stored items n l e = ap (map (λ e. stored_made (shown e))) (take_all n items l) ∙ by items ∙ ap (map stored_made) e
+  where
+    by : (items : List Entry) → map (λ e. stored_made (shown e)) items ≡ map stored_made (map shown items)
+    by [] = refl
+    by (e ∷ rest) = ap (λ ps. stored_made (shown e) ∷ ps) (by rest)
+
+-- each rule's answers hold the points that it relates
+mixed_sound : (rule : Mixed) (ins : List Shape) (out : Shape) (need : Need) → FormBy rule ins out need
+    → IsSound (answer_of rule) (RelatedBy rule) ins out need
+mixed_sound = either_sound KitForm (either_of WideForm ExcluderForm) kit_value (either_of wide_value excluder_value)
+    KitRelated (either_of WideRelated ExcluderRelated) kit_sound
+    (either_sound WideForm ExcluderForm wide_value excluder_value WideRelated ExcluderRelated wide_sound excluder_sound)
+
+pub wide_is_sound : AreSoundBy wide.library wide_related
+wide_is_sound n p at = by in_order all_formed n p at
+  where
+    by : (made : List Made) → All IsFormed made → (n : ℕ) (p : Stored) → slice_get (map stored_made made) n ≡ Some p
+        → IsSound p.value (related_in (λ m. RelatedBy m.rule) made n) p.ins p.out p.need
+    by [] h n p at = absurd (none-some p at)
+    by (m ∷ rest) h zero p at = let same : stored_made m ≡ p = same_Some (stored_made m) p at in rw (← same)
+        (mixed_sound m.rule m.form.ins m.form.out m.form.need (All-head IsFormed m rest h).formed)
+    by (m ∷ rest) h (suc k) p at = by rest (All-tail IsFormed m rest h) k p at
