@@ -1,32 +1,41 @@
 -- Why a choice between values is refused, and what is made where it isn't.
-use Rattle.std.proofs.Common.{◌≡◌, ◌∙◌, ℕ, Bool, true, false, ◌||◌, List, [], ◌∷◌, All, Option, Some, None, Result, Ok}
+use Rattle.std.proofs.Common.{◌≡◌, ◌∙◌, ℕ, Bool, true, false, ◌||◌, List, [], ◌∷◌, ◌++◌, All, Option, Some, None}
+use Rattle.std.proofs.Common.{Result, Ok, ◌+◌, ◌<◌, ◌≤◌, length, map, set, subst, take, slice_index_or}
+use Rattle.std.specs.Bool.{then_some}
 use Rattle.std.proofs.Common.{Err, is_some, is_none, unwrap_or, ◌⊎◌, inl, inr, refl, sym, ap, arith}
 use Rattle.std.specs.Prelude.{⊤, OnOk, OnErr, IfErr}
 use Rattle.std.specs.List.{list_any}
 use Rattle.std.specs.Option.{option_map, option_map_or}
 use Rattle.std.specs.Result.{result_unwrap_or}
+use Rattle.std.proofs.lemmas.List.{map_more, map_push, take_all, take_more_set}
 use Rattle.std.proofs.lemmas.List.Elements.{All-cons, All-head, All-tail}
+use Rattle.std.proofs.lemmas.List.Folds.{list_any-append}
 use Rattle.prop_lattice.specs.declared.info.Info.TheVariants.{Nothing}
 use Rattle.prop_lattice.specs.declared.info.Kind.{Kind}
 use Rattle.prop_refusals.specs.declared.refusal.Refusal.{Refusal}
 use Rattle.prop_refusals.specs.declared.refusal.Refusal.TheVariants.{NotAName, NotANumber, NameTaken, NoSuchCell}
 use Rattle.prop_refusals.specs.declared.refusal.Refusal.TheVariants.{WrongKind, NotInTheDomain, EmptyValue, Memory}
 use Rattle.prop_refusals.specs.Refusals.{first_of, when}
-use Rattle.prop_premises.specs.Origins.{premise_number, is_choice}
+use Rattle.prop_premises.specs.Origins.{premise_number, is_choice, with_choice}
 use Rattle.prop_procedures.specs.Stored.{Stored}
 use Rattle.prop_procedures.specs.Fitting.{kind_at}
 use Rattle.prop_language.specs.Commands as commands
 use Rattle.prop_language.specs.Commands.{Value}
+use Rattle.prop_language.specs.declared.command.Value as declared
+use Rattle.prop_language.specs.Said.{value_of}
+use Rattle.prop_vocabulary.specs.declared.values.Meant as told
+use Rattle.prop_vocabulary.specs.Said.{meant_of}
 use Rattle.prop_vocabulary.specs.Values.{Meant, Known}
 use Rattle.prop_vocabulary.specs.Cells.{cell_named}
 use Rattle.prop_vocabulary.specs.Texts.{elements_of_kind}
 use Rattle.prop_vocabulary.specs.Vocabulary.{Vocabulary}
 use Rattle.prop_engine.specs.Answers.{Done, answer_done}
-use Rattle.prop_workbench.specs.inner.Choosing.{is_one_refused, values_refusal, meaning_of, Means, meanings_of}
-use Rattle.prop_workbench.specs.Effects.{chosen}
+use Rattle.prop_workbench.specs.inner.Choosing.{is_one_refused, values_refusal, meaning_of, Means, IsMeaning}
+use Rattle.prop_workbench.specs.inner.Choosing.{meanings_of, earlier}
+use Rattle.prop_workbench.specs.Effects.{effect, stated}
 use Rattle.prop_workbench.specs.Machine.{State}
 use Rattle.prop_workbench.specs.Refusing.{refusal_of, meaning_at, is_error, value_at, meants_at, both_meant}
-use Rattle.prop_workbench.specs.Refusing.{is_refused_at, choosing_limit_at}
+use Rattle.prop_workbench.specs.Refusing.{choosing_limit_at}
 use Rattle.prop_workbench.specs.Steps.{Obeys}
 use Rattle.prop_workbench.proofs.StepLemmas.{first_of-one, obeys, refuses_or_lacks}
 use Rattle.prop_workbench.proofs.ValueLemmas.{IsValueRefusal, value_refusal}
@@ -46,8 +55,7 @@ is_taken_in s name = is_some (premise_number s.premises name) || is_choice s.pre
 -- the rows of the refusals that a choice can meet
 abbrev choice_rows : Bool → Bool → Bool → Bool → Bool → Bool → Bool → Option Refusal → Option Refusal
 choice_rows name number taken missing wrong outside empty limit =
-    first_of (when NotAName name ∷ when NotANumber number ∷ when NameTaken taken ∷ None ∷ when NoSuchCell
-    (missing || false) ∷ None
+    first_of (when NotAName name ∷ when NotANumber number ∷ when NameTaken taken ∷ when NoSuchCell missing
     ∷ when WrongKind wrong ∷ when NotInTheDomain outside ∷ when EmptyValue empty ∷ None ∷ limit ∷ [])
 
 abbrev value_rows : Bool → Bool → Bool → Bool → Bool → Bool → Option Refusal
@@ -76,6 +84,10 @@ no_row false false false true outside empty limit h = cc
 no_row false false false false true empty limit h = cc
 no_row false false false false false true limit h = cc
 no_row false false false false false false limit h = first_of-one limit
+
+-- the value is refused so at the cell of the name
+abbrev is_refused_at : State → List ℕ → Refusal → Value → Bool
+is_refused_at s cell refusal value = option_map_or (is_error refusal) (value_at s cell value) false
 
 -- a value is refused so at the cell of the name
 one_refused : (s : State) (name : List ℕ) (refusal : Refusal) (values : List Value) (cell : ℕ) (kind : Kind)
@@ -218,6 +230,180 @@ values_mean words kind taken values h =
     (is_one_refused words kind EmptyValue values) h in
     all_mean words kind values x.0 x.1 x.3 x.4 x.5
 
+-- what the values mean is what they mean at a cell of the kind
+pub meanings_mean : (words : Vocabulary) (kind : Kind) (values : List Value) → All (Means words kind) values
+    → All (IsMeaning words kind) (meanings_of words kind values)
+meanings_mean words kind [] mean = λ k x l. absurd (omega (arith, l))
+meanings_mean words kind (value ∷ values) mean =
+    All-cons (IsMeaning words kind) (meaning_of words kind value) (meanings_of words kind values)
+    (value, All-head (Means words kind) value values mean)
+    (meanings_mean words kind values (All-tail (Means words kind) value values mean))
+
+-- the name is free
+pub free_name : (words : Vocabulary) (kind : Kind) (taken : Bool) (values : List Value)
+    → values_refusal words kind taken values ≡ None → taken ≡ false
+free_name words kind taken values h =
+    (rows_false (is_one_refused words kind NotAName values) (is_one_refused words kind NotANumber values) taken
+    (is_one_refused words kind WrongKind values) (is_one_refused words kind NotInTheDomain values)
+    (is_one_refused words kind EmptyValue values) h).2.0
+
+pub nobodys : (o : Option ℕ) (b : Bool) → (is_some o || b) ≡ false → (o ≡ None) × (b ≡ false)
+nobodys (Some p) b h = cc
+nobodys None b h = (refl, h)
+
+-- ---- one value after the other
+
+-- what one value more adds to the rows
+row_more : (name number taken wrong outside empty : Bool) (e : Refusal) → IsValueRefusal e →
+    value_rows (name || (is_error NotAName (Err e) || false)) (number || (is_error NotANumber (Err e) || false)) taken
+    (wrong || (is_error WrongKind (Err e) || false)) (outside || (is_error NotInTheDomain (Err e) || false))
+    (empty || (is_error EmptyValue (Err e) || false))
+    ≡ Some (earlier (value_rows name number taken wrong outside empty) e)
+row_more true number taken wrong outside empty e no_name = refl
+row_more true number taken wrong outside empty e no_number = refl
+row_more true number taken wrong outside empty e wrong_kind = refl
+row_more true number taken wrong outside empty e not_inside = refl
+row_more true number taken wrong outside empty e no_element = refl
+row_more false true taken wrong outside empty e no_name = refl
+row_more false true taken wrong outside empty e no_number = refl
+row_more false true taken wrong outside empty e wrong_kind = refl
+row_more false true taken wrong outside empty e not_inside = refl
+row_more false true taken wrong outside empty e no_element = refl
+row_more false false true wrong outside empty e no_name = refl
+row_more false false true wrong outside empty e no_number = refl
+row_more false false true wrong outside empty e wrong_kind = refl
+row_more false false true wrong outside empty e not_inside = refl
+row_more false false true wrong outside empty e no_element = refl
+row_more false false false true outside empty e no_name = refl
+row_more false false false true outside empty e no_number = refl
+row_more false false false true outside empty e wrong_kind = refl
+row_more false false false true outside empty e not_inside = refl
+row_more false false false true outside empty e no_element = refl
+row_more false false false false true empty e no_name = refl
+row_more false false false false true empty e no_number = refl
+row_more false false false false true empty e wrong_kind = refl
+row_more false false false false true empty e not_inside = refl
+row_more false false false false true empty e no_element = refl
+row_more false false false false false true e no_name = refl
+row_more false false false false false true e no_number = refl
+row_more false false false false false true e wrong_kind = refl
+row_more false false false false false true e not_inside = refl
+row_more false false false false false true e no_element = refl
+row_more false false false false false false e no_name = refl
+row_more false false false false false false e no_number = refl
+row_more false false false false false false e wrong_kind = refl
+row_more false false false false false false e not_inside = refl
+row_more false false false false false false e no_element = refl
+
+or_none_more : (b : Bool) → (b || false) ≡ b
+or_none_more true = refl
+or_none_more false = refl
+
+one_more : (words : Vocabulary) (kind : Kind) (refusal : Refusal) (values : List Value) (value : Value) →
+    is_one_refused words kind refusal (values ++ value ∷ [])
+    ≡ (is_one_refused words kind refusal values || (is_error refusal (meaning_at words kind value) || false))
+one_more words kind refusal values value =
+    list_any-append (λ v. is_error refusal (meaning_at words kind v)) values (value ∷ [])
+
+-- a value that is refused
+pub refused_more : (words : Vocabulary) (kind : Kind) (taken : Bool) (values : List Value) (value : Value) (e : Refusal)
+    → meaning_at words kind value ≡ Err e →
+    values_refusal words kind taken (values ++ value ∷ []) ≡ Some (earlier (values_refusal words kind taken values) e)
+refused_more words kind taken values value e said =
+    (λ i. value_rows (one_more words kind NotAName values value i) (one_more words kind NotANumber values value i) taken
+    (one_more words kind WrongKind values value i) (one_more words kind NotInTheDomain values value i)
+    (one_more words kind EmptyValue values value i))
+    ∙ (λ i. value_rows (is_one_refused words kind NotAName values || (is_error NotAName (said i) || false))
+    (is_one_refused words kind NotANumber values || (is_error NotANumber (said i) || false)) taken
+    (is_one_refused words kind WrongKind values || (is_error WrongKind (said i) || false))
+    (is_one_refused words kind NotInTheDomain values || (is_error NotInTheDomain (said i) || false))
+    (is_one_refused words kind EmptyValue values || (is_error EmptyValue (said i) || false)))
+    ∙ row_more (is_one_refused words kind NotAName values) (is_one_refused words kind NotANumber values) taken
+    (is_one_refused words kind WrongKind values) (is_one_refused words kind NotInTheDomain values)
+    (is_one_refused words kind EmptyValue values) e
+    (value_refusal kind (elements_of_kind words kind) value e said)
+
+-- a value that means something
+pub meant_more : (words : Vocabulary) (kind : Kind) (taken : Bool) (values : List Value) (value : Value) (meant : Meant)
+    → meaning_at words kind value ≡ Ok meant →
+    values_refusal words kind taken (values ++ value ∷ []) ≡ values_refusal words kind taken values
+meant_more words kind taken values value meant said =
+    λ i. value_rows (same NotAName i) (same NotANumber i) taken (same WrongKind i) (same NotInTheDomain i)
+    (same EmptyValue i)
+  where
+    same : (e : Refusal) → is_one_refused words kind e (values ++ value ∷ []) ≡ is_one_refused words kind e values
+    same e = one_more words kind e values value
+        ∙ ap (λ r. is_one_refused words kind e values || (is_error e r || false)) said
+        ∙ or_none_more (is_one_refused words kind e values)
+
+-- These values were looked at: this is what refuses them, and where nothing does, this is what they mean.
+pub record IsJudged (words : Vocabulary) (kind : Kind) (taken : Bool) (values : List Value) (first : Option Refusal)
+    (meants : List Meant) : Type 0 where
+  pub first_is : first ≡ values_refusal words kind taken values
+  pub meants_are : first ≡ None → meants ≡ meanings_of words kind values
+
+pub judged_none : (words : Vocabulary) (kind : Kind) (taken : Bool) (first : Option Refusal) (meants : List Meant)
+    → first ≡ then_some taken NameTaken → meants ≡ [] → IsJudged words kind taken [] first meants
+judged_none words kind true first meants e none = record { first_is = e; meants_are = λ h. none }
+judged_none words kind false first meants e none = record { first_is = e; meants_are = λ h. none }
+
+pub judged_refused : (words : Vocabulary) (kind : Kind) (taken : Bool) (values : List Value) (value : Value)
+    (first : Option Refusal) (meants : List Meant) (e now : Refusal) → IsJudged words kind taken values first meants
+    → meaning_at words kind value ≡ Err e → now ≡ earlier first e
+    → IsJudged words kind taken (values ++ value ∷ []) (Some now) meants
+judged_refused words kind taken values value first meants e now judged said is = record {
+  first_is = ap Some (is ∙ ap (λ f. earlier f e) judged.first_is)
+      ∙ sym (refused_more words kind taken values value e said);
+  meants_are = λ h. cc;
+}
+
+-- what is refused means nothing
+pub judged_past : (words : Vocabulary) (kind : Kind) (taken : Bool) (values : List Value) (now : Refusal)
+    (meants others : List Meant) → IsJudged words kind taken values (Some now) meants
+    → IsJudged words kind taken values (Some now) others
+judged_past words kind taken values now meants others judged = record {
+  first_is = judged.first_is;
+  meants_are = λ h. cc;
+}
+
+pub judged_meant : (words : Vocabulary) (kind : Kind) (taken : Bool) (values : List Value) (value : Value)
+    (first : Option Refusal) (meants : List Meant) (meant : Meant) → IsJudged words kind taken values first meants
+    → meaning_at words kind value ≡ Ok meant
+    → IsJudged words kind taken (values ++ value ∷ []) first (meants ++ meant ∷ [])
+judged_meant words kind taken values value first meants meant judged said = record {
+  first_is = judged.first_is ∙ sym (meant_more words kind taken values value meant said);
+  meants_are = λ h.
+      (λ i. judged.meants_are h i ++ meant ∷ [])
+      ∙ ap (λ m. meanings_of words kind values ++ m ∷ [])
+      (sym (ap (λ r. result_unwrap_or r (Known Nothing)) said))
+      ∙ sym (map_push (meaning_of words kind) values value);
+}
+
+-- the values up to a place, and the one there
+pub first_values : (values : List declared.Value) (i : ℕ) (value : declared.Value) → i < length values
+    → value ≡ slice_index_or values i value →
+    map value_of (take (i + 1) values) ≡ map value_of (take i values) ++ value_of value ∷ []
+first_values values i value l is =
+    map_more value_of values i value l ∙ (λ j. map value_of (take i values) ++ value_of (sym is j) ∷ [])
+
+pub all_judged : (words : Vocabulary) (kind : Kind) (taken : Bool) (values : List declared.Value)
+    (first : Option Refusal) (meants : List told.Meant) (k : ℕ) → length values ≤ k → k ≤ length values
+    → IsJudged words kind taken (map value_of (take k values)) first (map meant_of (take k meants))
+    → IsJudged words kind taken (map value_of values) first (map meant_of (take (length values) meants))
+all_judged words kind taken values first meants k l m judged =
+    let same : k ≡ length values = omega (arith, l, m) in
+    subst (λ n. IsJudged words kind taken (map value_of values) first (map meant_of (take n meants))) same
+    (subst (λ vs. IsJudged words kind taken (map value_of vs) first (map meant_of (take k meants)))
+    (take_all k values l) judged)
+
+-- what is meant at a place, behind what is meant before
+pub first_meants : (meants : List told.Meant) (i : ℕ) (meant : told.Meant) → i < length meants →
+    map meant_of (take (i + 1) (set meants i meant)) ≡ map meant_of (take i meants) ++ meant_of meant ∷ []
+first_meants meants i meant l = ap (map meant_of) (take_more_set meants i meant l)
+    ∙ map_push meant_of (take i meants) meant
+
+-- ---- the choice is made
+
 meants_are : (s : State) (name : List ℕ) (cell : ℕ) (kind : Kind) (values : List Value)
     → cell_named s.names name ≡ Some cell → kind ≡ (kind_at s.kinds cell).kind → All (Means s.words kind) values
     → meants_at s name values ≡ Some (meanings_of s.words kind values)
@@ -232,12 +418,17 @@ meants_are s name cell kind (value ∷ values) found is_kind mean =
 
 -- ---- the choice is made, or a limit refuses it
 
+-- the premises with the choice, and what is stated under its sides
+abbrev pub chosen : State → List ℕ → ℕ → List Value → List Meant → State
+chosen s name cell values meants =
+    stated s (with_choice s.premises name (length values)) (Some (length s.premises)) cell meants
+
 pub chosen_or_not : (library : List Stored) (s new : State) (choice name : List ℕ) (values : List Value) (cell : ℕ)
     (kind : Kind) (taken : Bool) → cell_named s.names name ≡ Some cell → kind ≡ (kind_at s.kinds cell).kind
     → taken ≡ is_taken_in s choice →
     values_refusal s.words kind taken values ≡ None → (r : Result ⊤ Refusal)
     → OnOk r (choosing_limit_at s (Some (meanings_of s.words kind values)) ≡ None)
-    → OnOk r (new ≡ chosen s choice cell (meanings_of s.words kind values)) →
+    → OnOk r (new ≡ chosen s choice cell values (meanings_of s.words kind values)) →
     IfErr r (λ e. (choosing_limit_at s (Some (meanings_of s.words kind values)) ≡ Some e) ⊎ (e ≡ Memory))
     → OnErr r (new ≡ s) → Obeys library s (choose choice name values) (answer_done r) new 0
 chosen_or_not library s new choice name values cell kind taken found is_kind is_taken none = by
@@ -259,13 +450,12 @@ chosen_or_not library s new choice name values cell kind taken found is_kind is_
         (ap (λ (t : Bool). values_refusal s.words kind t values) (sym is_taken) ∙ none)
         ∙ ap (choosing_limit_at s) meants
 
-    made : chosen s choice cell (meanings_of s.words kind values) ≡ chosen s choice
-        (unwrap_or (cell_named s.names name) 0) (unwrap_or (meants_at s name values) [])
+    made : chosen s choice cell values (meanings_of s.words kind values) ≡ effect library s (choose choice name values)
     made =
         let at : cell ≡ unwrap_or (cell_named s.names name) 0 = sym (ap (λ (o : Option ℕ). unwrap_or o 0) found) in
         let all : meanings_of s.words kind values ≡ unwrap_or (meants_at s name values) [] =
         sym (ap (λ (o : Option (List Meant)). unwrap_or o []) meants) in
-        λ i. chosen s choice (at i) (all i)
+        λ i. chosen s choice (at i) values (all i)
 
     stops : (e : Refusal) → (choosing_limit_at s (Some (meanings_of s.words kind values)) ≡ Some e) ⊎ (e ≡ Memory)
         → (refusal_of library s (choose choice name values) ≡ Some e) ⊎ (e ≡ Memory)
@@ -273,7 +463,7 @@ chosen_or_not library s new choice name values cell kind taken found is_kind is_
     stops e (inr m) = inr m
 
     by : (r : Result ⊤ Refusal) → OnOk r (choosing_limit_at s (Some (meanings_of s.words kind values)) ≡ None)
-        → OnOk r (new ≡ chosen s choice cell (meanings_of s.words kind values)) →
+        → OnOk r (new ≡ chosen s choice cell values (meanings_of s.words kind values)) →
         IfErr r (λ e. (choosing_limit_at s (Some (meanings_of s.words kind values)) ≡ Some e) ⊎ (e ≡ Memory))
         → OnErr r (new ≡ s) → Obeys library s (choose choice name values) (answer_done r) new 0
     by (Ok t) fits ok why same = obeys library s new (choose choice name values) Done 0 (refusal ∙ fits)

@@ -32,11 +32,11 @@ use Rattle.prop_vocabulary.specs.Values.{Meant, Known, Name, known, value_said, 
 use Rattle.prop_vocabulary.specs.Values.{ends_value, bounded_number, halves}
 use Rattle.prop_vocabulary.specs.Texts.{elements_of_kind}
 use Rattle.prop_workbench.specs.Machine.{State}
-use Rattle.prop_workbench.specs.Refusing.{refusal_of, stating_limit_at, meaning_at, is_error}
+use Rattle.prop_workbench.specs.Refusing.{refusal_of, stating_limit, stating_limit_at, meaning_at, is_error}
 use Rattle.prop_workbench.specs.inner.Refusing.{is_choice_told}
-use Rattle.prop_workbench.specs.Effects.{stated}
 use Rattle.prop_workbench.specs.inner.Effects.{stating, MayMean}
 use Rattle.prop_vocabulary.specs.Cells.{cell_named}
+use Rattle.prop_workbench.proofs.StepLemmas.{first_of-one}
 
 -- ---- the refusals of values
 
@@ -243,11 +243,11 @@ value_may_be k names value meant same few h = by k.kind refl value meant h
 -- the rows of the refusals that a statement can meet
 abbrev value_rows : Option (Result Meant Refusal) → Option ℕ → Bool → Option Refusal → Option Refusal
 value_rows said cell choice limit =
-    first_of (when NotAName (option_map_or (is_error NotAName) said false) ∷ when NotANumber
-    (option_map_or (is_error NotANumber) said false) ∷ None ∷ None ∷ when NoSuchCell (is_none cell || false) ∷ None
-    ∷ when WrongKind (option_map_or (is_error WrongKind) said false) ∷ when NotInTheDomain
-    (option_map_or (is_error NotInTheDomain) said false) ∷ when EmptyValue
-    (option_map_or (is_error EmptyValue) said false) ∷ when IsAChoice choice ∷ limit ∷ [])
+    first_of (when NotAName (option_map_or (is_error NotAName) said false || false) ∷ when NotANumber
+    (option_map_or (is_error NotANumber) said false || false) ∷ None ∷ when NoSuchCell (is_none cell)
+    ∷ when WrongKind (option_map_or (is_error WrongKind) said false || false) ∷ when NotInTheDomain
+    (option_map_or (is_error NotInTheDomain) said false || false) ∷ when EmptyValue
+    (option_map_or (is_error EmptyValue) said false || false) ∷ when IsAChoice choice ∷ limit ∷ [])
 
 by_rows : (library : List Stored) (s : State) (premise : Option (List ℕ)) (name : List ℕ) (value : Value) (cell : ℕ)
     → cell_named s.names name ≡ Some cell →
@@ -276,3 +276,31 @@ value_refused library s premise name value cell e found said =
     value_rows (Some r) (Some cell) (is_choice_told s premise) (stating_limit_at s premise (Some r))) said
     ∙ error_rows e cell (is_choice_told s premise) None
     (value_refusal (kind_at s.kinds cell).kind (elements_of_kind s.words (kind_at s.kinds cell).kind) value e said)
+
+accepted_rows : (library : List Stored) (s : State) (premise : Option (List ℕ)) (name : List ℕ) (value : Value)
+    (cell : ℕ) (meant : Meant) (told : Bool) → cell_named s.names name ≡ Some cell
+    → meaning_at s.words (kind_at s.kinds cell).kind value ≡ Ok meant → is_choice_told s premise ≡ told →
+    refusal_of library s (stating premise name value) ≡ value_rows (Some (Ok meant)) (Some cell) told
+    (stating_limit s premise meant)
+accepted_rows library s premise name value cell meant told found said is =
+    by_rows library s premise name value cell found
+    ∙ ap (λ (r : Result Meant Refusal).
+    value_rows (Some r) (Some cell) (is_choice_told s premise) (stating_limit_at s premise (Some r))) said
+    ∙ ap (λ t. value_rows (Some (Ok meant)) (Some cell) t (stating_limit s premise meant)) is
+
+-- where the name is a choice's, that refuses a value that means something
+pub teller_refused : (library : List Stored) (s : State) (premise : Option (List ℕ)) (name : List ℕ) (value : Value)
+    (cell : ℕ) (meant : Meant) → cell_named s.names name ≡ Some cell
+    → meaning_at s.words (kind_at s.kinds cell).kind value ≡ Ok meant → is_choice_told s premise ≡ true →
+    refusal_of library s (stating premise name value) ≡ Some IsAChoice
+teller_refused library s premise name value cell meant found said is =
+    accepted_rows library s premise name value cell meant true found said is
+
+-- else only the limits do
+pub value_accepted : (library : List Stored) (s : State) (premise : Option (List ℕ)) (name : List ℕ) (value : Value)
+    (cell : ℕ) (meant : Meant) → cell_named s.names name ≡ Some cell
+    → meaning_at s.words (kind_at s.kinds cell).kind value ≡ Ok meant → is_choice_told s premise ≡ false →
+    refusal_of library s (stating premise name value) ≡ stating_limit s premise meant
+value_accepted library s premise name value cell meant found said is =
+    accepted_rows library s premise name value cell meant false found said is
+    ∙ first_of-one (stating_limit s premise meant)

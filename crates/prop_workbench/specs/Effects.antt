@@ -1,10 +1,9 @@
 -- What a command that isn't refused does to the state.
 use Rattle.std.specs.Prelude.{ℕ, suc, List, [], ◌∷◌, ◌++◌, Option, Some, None, true, false, drop}
-use Rattle.std.specs.Prelude.{map, length, slice_get, unwrap_or}
-use Rattle.std.specs.Result.{result_unwrap_or}
-use Rattle.std.specs.Option.{option_map_or, option_and_then}
+use Rattle.std.specs.Prelude.{fold, map, length, slice_get, unwrap_or}
+use Rattle.std.specs.Option.{option_map, option_and_then}
 use Rattle.prop_lattice.specs.declared.info.Info.{Info}
-use Rattle.prop_lattice.specs.declared.info.Info.TheVariants.{Nothing, Sym}
+use Rattle.prop_lattice.specs.declared.info.Info.TheVariants.{Sym}
 use Rattle.prop_premises.specs.Origins.{Origin, premise_number, with_name, with_choice}
 use Rattle.prop_premises.specs.Origins.{with_belief_at}
 use Rattle.prop_procedures.specs.Flats.{cell_placed}
@@ -23,7 +22,7 @@ use Rattle.prop_cells.specs.Forgetting.{not_under}
 use Rattle.prop_nogoods.specs.Stores.{lacking}
 use Rattle.prop_vocabulary.specs.Vocabulary.{Vocabulary, symbol_number, with_domain, with_relation}
 use Rattle.prop_workbench.specs.Machine.{State}
-use Rattle.prop_workbench.specs.Refusing.{value_at, used, with_meant, meants_at}
+use Rattle.prop_workbench.specs.Refusing.{used, with_meant, meants_at}
 use Rattle.prop_vocabulary.specs.Cells.{cell_named, cells_named, with_cell_name}
 
 -- the cells that an instance reads: all but the last
@@ -64,65 +63,30 @@ abbrev pub info_meant : Vocabulary → Meant → Info
 info_meant words (Known info) = info
 info_meant words (Name symbol) = Sym (symbol_number words symbol)
 
--- what the value means at the cell with the name; nothing where it means nothing
-abbrev pub meant_at : State → List ℕ → Value → Meant
-meant_at s cell value = option_map_or (λ meant. result_unwrap_or meant (Known Nothing))
-    (value_at s cell value) (Known Nothing)
-
--- the information that the value says at the cell with the name
-abbrev pub info_at : State → List ℕ → Value → Info
-info_at s cell value = info_meant s.words (meant_at s cell value)
-
--- the vocabulary with the symbol that the value names, where it names one
-abbrev pub words_at : State → List ℕ → Value → Vocabulary
-words_at s cell value = with_meant s.words (meant_at s cell value)
-
 -- the number of the premise with the name: the next one where the name is new
 abbrev pub number_given : List Origin → List ℕ → ℕ
 number_given premises name = unwrap_or (premise_number premises name) (length premises)
 
--- the premises with the one of this name, or as they are
-abbrev pub with_told : List Origin → Option (List ℕ) → List Origin
-with_told premises None = premises
-with_told premises (Some name) = with_name premises name
+-- the statements of what is meant at a cell, in words that are known and new ones; the first stands
+-- under this premise, where there is one, and each further one under the next
+abbrev pub statements_of : Vocabulary → Option ℕ → ℕ → List Meant → List Statement
+statements_of words premise cell [] = []
+statements_of words premise cell (meant ∷ more) =
+    record { premise = premise; cell = cell; info = info_meant words meant } ∷ statements_of
+    (with_meant words meant) (option_map suc premise) cell more
 
--- the number of the premise with this name, or none
-abbrev pub premise_given : List Origin → Option (List ℕ) → Option ℕ
-premise_given premises None = None
-premise_given premises (Some name) = Some (number_given premises name)
-
--- one statement more, in a vocabulary that may have one symbol more
-abbrev pub stated : State → Option (List ℕ) → ℕ → Vocabulary → Info → State
-stated s premise cell words info = record s {
-  words = words;
-  premises = with_told s.premises premise;
-  statements = s.statements ++ record {
-    premise = premise_given s.premises premise;
-    cell = cell;
-    info = info;
-  } ∷ [];
+-- what is meant is stated so, where these are the premises then
+abbrev pub stated : State → List Origin → Option ℕ → ℕ → List Meant → State
+stated s premises first cell meants = record s {
+  words = fold with_meant s.words meants;
+  premises = premises;
+  statements = s.statements ++ statements_of s.words first cell meants;
 }
 
--- the statements of what each side says at a cell, where the first side has this number, and the
--- words as far as they are known then
-abbrev pub sides_stated : Vocabulary → ℕ → ℕ → List Meant → List Statement
-sides_stated words side cell [] = []
-sides_stated words side cell (meant ∷ more) =
-    record { premise = Some side; cell = cell; info = info_meant words meant } ∷ sides_stated
-    (with_meant words meant) (suc side) cell more
-
--- the vocabulary with the symbols that are named
-abbrev pub with_meants : Vocabulary → List Meant → Vocabulary
-with_meants words [] = words
-with_meants words (meant ∷ more) = with_meants (with_meant words meant) more
-
--- a choice more, between what is meant at a cell: each is stated under a side
-abbrev pub chosen : State → List ℕ → ℕ → List Meant → State
-chosen s name cell meants = record s {
-  words = with_meants s.words meants;
-  premises = with_choice s.premises name (length meants);
-  statements = s.statements ++ sides_stated s.words (length s.premises) cell meants;
-}
+-- what the values say is stated at the cell with the name
+abbrev pub states : State → List Origin → Option ℕ → List ℕ → List Value → State
+states s premises first cell values = stated s premises first
+    (unwrap_or (cell_named s.names cell) 0) (unwrap_or (meants_at s cell values) [])
 
 -- no statement under p, and no contradiction that was named with it
 abbrev pub forgetting : State → ℕ → State
@@ -144,14 +108,12 @@ effect library s (Command.Define name params steps) =
 effect library s (Command.Attach name cells by) =
     with_use library s (cells_named s.names cells)
     (used library s name (cells_named s.names cells) by)
-effect library s (Command.Fix cell value) =
-    stated s None (unwrap_or (cell_named s.names cell) 0) (words_at s cell value)
-    (info_at s cell value)
+effect library s (Command.Fix cell value) = states s s.premises None cell (value ∷ [])
 effect library s (Command.Tell premise cell value) =
-    stated s (Some premise) (unwrap_or (cell_named s.names cell) 0) (words_at s cell value)
-    (info_at s cell value)
+    states s (with_name s.premises premise) (Some (number_given s.premises premise)) cell
+    (value ∷ [])
 effect library s (Command.Choose name cell values) =
-    chosen s name (unwrap_or (cell_named s.names cell) 0) (unwrap_or (meants_at s cell values) [])
+    states s (with_choice s.premises name (length values)) (Some (length s.premises)) cell values
 effect library s (Command.Kick premise) =
     record s { premises = with_belief_at s.premises (number_given s.premises premise) false }
 effect library s (Command.Bring premise) =

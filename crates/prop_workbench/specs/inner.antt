@@ -7,3 +7,4 @@ pub mod Steps
 pub mod Sessions
 pub mod Choosing
 pub mod Shown
+pub mod Tellers

@@ -1,129 +1,101 @@
 //! The command that makes a choice.
-ghost use Rattle.std.specs.Prelude.{◌≡◌, ◌≤◌, ◌⊎◌, ℕ, None, Some, Ok, All, IfOk, IfErr, OnOk};
-ghost use Rattle.std.specs.Prelude.{OnErr, map, length};
+ghost use Rattle.std.specs.Prelude.{◌≡◌, ◌≤◌, ◌⊎◌, None, Some, IfOk, IfErr, OnOk, map, length};
+ghost use Rattle.std.specs.Prelude.{take};
 ghost use Rattle.prop_refusals.specs.declared.refusal.Refusal.TheVariants.{Memory};
 ghost use Rattle.prop_language.specs.Said.{value_of};
+ghost use Rattle.prop_vocabulary.specs.Said.{meant_of};
 ghost use Rattle.prop_vocabulary.specs.Vocabulary.{with_first_symbols};
-ghost use Rattle.prop_workbench.specs.inner.Choosing.{is_one_refused, values_refusal, meaning_of};
-ghost use Rattle.prop_workbench.specs.inner.Choosing.{Means, meanings_of, infos_meant};
-ghost use Rattle.prop_workbench.specs.Effects.{info_meant, with_meants};
-ghost use Rattle.prop_workbench.specs.Refusing.{meaning_at, is_error, with_meant, naming_limit};
+ghost use Rattle.prop_workbench.specs.inner.Choosing.{rank, earlier, values_refusal};
+ghost use Rattle.prop_workbench.specs.inner.Choosing.{meanings_of, infos_meant};
+ghost use Rattle.prop_workbench.specs.inner.Choosing.{with_meants};
 ghost use Rattle.prop_workbench.specs.Refusing.{all_naming_limit};
 ghost use Rattle.prop_compound.specs.Kinds.{IsKnown};
 
 use crate::session::Session;
-use crate::stating::meaning;
+use crate::stating::{info_of, meaning};
 use prop_compound::Value;
 use prop_lattice::{Info, Kind, Limit, Refusal};
 use prop_procedures::Rule;
 use prop_scheduler::{Order, state_sides};
 use prop_vocabulary::{Meant, Vocabulary};
-use std::alloc::Global;
+use std::alloc::AllocError;
 
-/// Whether the value is refused so at a cell of the kind.
-fn is_refused(words: &Vocabulary, kind: Kind, refusal: Refusal, value: &Value) -> bool
-    requires { IsKnown words.now kind }
-    ensures { result ≡ is_error refusal (meaning_at words.now kind (value_of value.now)) }
+/// As many as a choice has sides at most.
+const MOST_SIDES: usize = 8;
+
+/// The place of a refusal among those that the name of a choice and its values meet.
+fn rank(refusal: Refusal) -> u8
+    ensures { result ≡ rank refusal }
 {
-    match meaning(words, kind, value) {
-        Ok(_) => false,
-        Err(other) => other.number() == refusal.number(),
+    match refusal {
+        Refusal::NotAName => 0,
+        Refusal::NotANumber => 1,
+        Refusal::NameTaken => 2,
+        Refusal::WrongKind => 3,
+        Refusal::NotInTheDomain => 4,
+        _ => 5,
     }
 }
 
-/// Whether one of the values is refused so at a cell of the kind.
-fn is_one_refused(words: &Vocabulary, kind: Kind, refusal: Refusal, values: &[Value]) -> bool
-    requires { IsKnown words.now kind }
-    ensures { result ≡ is_one_refused words.now kind refusal (map value_of values.now) }
+/// Of what was met before, where there was anything, and what is met now, what comes first.
+fn earlier(before: Option<Refusal>, now: Refusal) -> Refusal
+    ensures { result ≡ earlier before now }
 {
-    for value in values {
-        if is_refused(words, kind, refusal, value) {
-            return true;
-        }
+    match before {
+        Some(before) if rank(before) <= rank(now) => before,
+        _ => now,
     }
-    false
 }
 
-/// Why a choice between the values at a cell of the kind is refused, whose name may be taken: the
-/// first refusal in the order of refusals.
-fn first_refusal(
+/// What each value means at a cell of the kind, in order and as far as there are values, or why a
+/// choice between them is refused, whose name may be taken: the first refusal in their order.
+fn meanings<'a>(
     words: &Vocabulary,
     kind: Kind,
     is_taken: bool,
-    values: &[Value],
-) -> Option<Refusal>
-    requires { IsKnown words.now kind }
-    ensures { result ≡ values_refusal words.now kind is_taken (map value_of values.now) }
-{
-    if is_one_refused(words, kind, Refusal::NotAName, values) {
-        Some(Refusal::NotAName)
-    } else if is_one_refused(words, kind, Refusal::NotANumber, values) {
-        Some(Refusal::NotANumber)
-    } else if is_taken {
-        Some(Refusal::NameTaken)
-    } else if is_one_refused(words, kind, Refusal::WrongKind, values) {
-        Some(Refusal::WrongKind)
-    } else if is_one_refused(words, kind, Refusal::NotInTheDomain, values) {
-        Some(Refusal::NotInTheDomain)
-    } else if is_one_refused(words, kind, Refusal::EmptyValue, values) {
-        Some(Refusal::EmptyValue)
-    } else {
-        None
-    }
-}
-
-/// The information that a value means; the symbol that it names is new or known.
-fn info_of(words: &mut Vocabulary, kind: Kind, value: &Value) -> Result<Info, Refusal>
-    requires known { IsKnown words.old kind }
-    requires means { Means words.old kind (value_of value.now) }
-    ensures info { IfOk result (λ i.
-        i ≡ info_meant words.old (meaning_of words.old kind (value_of value.now))) }
-    ensures words { OnOk result (words.new ≡ with_meant words.old
-        (meaning_of words.old kind (value_of value.now))) }
-    ensures fits { OnOk result (naming_limit words.old
-        (meaning_of words.old kind (value_of value.now)) ≡ None) }
+    values: &[Value<'a>],
+) -> Result<[Meant<'a>; MOST_SIDES], Refusal>
+    requires known { IsKnown words.now kind }
+    requires few { length values.now ≤ 8 }
+    ensures ok { IfOk result (λ meants. map meant_of (take (length values.now) meants)
+        ≡ meanings_of words.now kind (map value_of values.now)) }
+    ensures room { IfOk result (λ meants. length meants ≡ 8) }
+    ensures none { OnOk result
+        (values_refusal words.now kind is_taken (map value_of values.now) ≡ None) }
     ensures err { IfErr result (λ e.
-        (naming_limit words.old (meaning_of words.old kind (value_of value.now)) ≡ Some e)
-        ⊎ (e ≡ Memory)) }
-    ensures same { OnErr result (words.new ≡ words.old) }
+        values_refusal words.now kind is_taken (map value_of values.now) ≡ Some e) }
 {
-    match meaning(words, kind, value)? {
-        Meant::Known(info) => Ok(info),
-        Meant::Name(symbol) => Ok(Info::Sym(words.add_symbol(symbol)?)),
+    let mut first = is_taken.then_some(Refusal::NameTaken);
+    let mut meants = [Meant::Known(Info::Nothing); MOST_SIDES];
+    for (place, value) in values.iter().enumerate() {
+        match meaning(words, kind, value) {
+            Ok(meant) => meants[place] = meant,
+            Err(refusal) => first = Some(earlier(first, refusal)),
+        }
+    }
+    match first {
+        Some(refusal) => Err(refusal),
+        None => Ok(meants),
     }
 }
 
-/// The information that each value means, in order; the symbols that they name are new or known.
-fn infos_of(
-    alloc: Global,
-    words: &mut Vocabulary,
-    kind: Kind,
-    values: &[Value],
-) -> Result<Vec<Info>, Refusal>
-    requires known { IsKnown words.old kind }
-    requires mean { All (Means words.old kind) (map value_of values.now) }
+/// The informations that are meant, in order and as far as something is meant. The symbols that are
+/// named are new or known.
+fn infos_of(words: &mut Vocabulary, meants: &[Meant]) -> Result<[Info; MOST_SIDES], Refusal>
+    requires few { length meants.now ≤ 8 }
     ensures infos { IfOk result (λ infos.
-        infos.items ≡ infos_meant words.old
-        (meanings_of words.old kind (map value_of values.now))) }
-    ensures words { OnOk result (words.new ≡ with_meants words.old
-        (meanings_of words.old kind (map value_of values.now))) }
-    ensures fits { OnOk result (all_naming_limit words.old
-        (meanings_of words.old kind (map value_of values.now)) ≡ None) }
+        take (length meants.now) infos ≡ infos_meant words.old (map meant_of meants.now)) }
+    ensures words { OnOk result (words.new ≡ with_meants words.old (map meant_of meants.now)) }
+    ensures fits { OnOk result (all_naming_limit words.old (map meant_of meants.now) ≡ None) }
     ensures err { IfErr result (λ e.
-        (all_naming_limit words.old (meanings_of words.old kind (map value_of values.now)) ≡ Some e)
-        ⊎ (e ≡ Memory)) }
+        (all_naming_limit words.old (map meant_of meants.now) ≡ Some e) ⊎ (e ≡ Memory)) }
     ensures domains { words.new.domains ≡ words.old.domains }
     ensures back { with_first_symbols words.new (length words.old.symbols) ≡ words.old }
 {
-    let Ok(mut infos) = Vec::with_capacity(alloc, values.len()) else {
-        return Err(Refusal::Memory);
-    };
-    for value in values {
-        match info_of(words, kind, value) {
-            Ok(info) => match infos.push(info) {
-                Ok(()) => {}
-                Err(_) => return Err(Refusal::Memory),
-            },
+    let mut infos = [Info::Nothing; MOST_SIDES];
+    for (place, meant) in meants.iter().enumerate() {
+        match info_of(words, *meant) {
+            Ok(info) => infos[place] = info,
             Err(refusal) => return Err(refusal),
         }
     }
@@ -140,8 +112,9 @@ impl<R: Rule + Drop, O: Order + Drop> Session<R, O> {
     ghost use Rattle.prop_procedures.specs.Fitting.{kind_at};
     ghost use Rattle.prop_vocabulary.specs.Values.{Known};
     ghost use Rattle.prop_cells.specs.Sides.{sides_at};
-    ghost use Rattle.prop_workbench.specs.inner.Choosing.{Means, meanings_of};
-    ghost use Rattle.prop_workbench.specs.Effects.{chosen};
+    ghost use Rattle.prop_vocabulary.specs.Said.{meant_of};
+    ghost use Rattle.prop_workbench.specs.inner.Choosing.{IsMeaning};
+    ghost use Rattle.prop_workbench.specs.Effects.{stated};
     ghost use Rattle.prop_workbench.specs.inner.Effects.{MayMean};
     ghost use Rattle.prop_workbench.specs.Refusing.{choosing_limit, choosing_limit_at};
     ghost use Rattle.prop_workbench.specs.Sessions.{state_of, IsInOrder};
@@ -173,9 +146,9 @@ impl<R: Rule + Drop, O: Order + Drop> Session<R, O> {
             None => return Err(Refusal::NoSuchCell),
         };
         let kind = self.network.data().kind(cell).kind;
-        match first_refusal(&self.words, kind, is_taken, values) {
-            Some(refusal) => Err(refusal),
-            None => self.choose_said(choice, cell, kind, values),
+        match meanings(&self.words, kind, is_taken, values) {
+            Ok(meants) => self.choose_meant(choice, cell, &meants[..values.len()]),
+            Err(refusal) => Err(refusal),
         }
     }
 
@@ -184,46 +157,42 @@ impl<R: Rule + Drop, O: Order + Drop> Session<R, O> {
         ensures { result ≡ (is_some (premise_number self.now.search.premises name.now) || is_choice
             self.now.search.premises name.now) }
     {
-        let premises = self.search.premises();
-        premises.is_choice(name) || premises.find(name).is_ok()
+        !matches!(
+            self.search.premises().find(name),
+            Err(Refusal::NoSuchPremise)
+        )
     }
 
-    /// A choice with a new name between what the values say at a cell of the kind, each of which
-    /// means something there.
-    fn choose_said(
-        &mut self,
-        choice: &str,
-        cell: usize,
-        kind: Kind,
-        values: &[Value],
-    ) -> Result<(), Refusal>
+    /// A choice with a new name between what is meant at a cell, where there is room.
+    fn choose_meant(&mut self, choice: &str, cell: usize, meants: &[Meant]) -> Result<(), Refusal>
         requires sound { IsInOrder R.value_of self.old }
         requires cell { cell < length self.old.network.cells.kinds }
-        requires kind { kind ≡ (kind_at self.old.network.cells.kinds cell).kind }
-        requires mean { All (Means self.old.words kind) (map value_of values.now) }
+        requires mean { All
+            (IsMeaning self.old.words (kind_at self.old.network.cells.kinds cell).kind)
+            (map meant_of meants.now) }
         requires new { premise_number self.old.search.premises choice.now ≡ None }
         requires free { is_choice self.old.search.premises choice.now ≡ false }
-        requires some { 2 ≤ length values.now }
-        requires few { length values.now ≤ 8 }
+        requires some { 2 ≤ length meants.now }
+        requires few { length meants.now ≤ 8 }
         ensures keeps { Keeps R.value_of self.old self.new }
-        ensures fits { OnOk result (choosing_limit_at (state_of self.old)
-            (Some (meanings_of self.old.words kind (map value_of values.now))) ≡ None) }
-        ensures ok { OnOk result (state_of self.new ≡ chosen (state_of self.old) choice.now cell
-            (meanings_of self.old.words kind (map value_of values.now))) }
+        ensures fits { OnOk result
+            (choosing_limit_at (state_of self.old) (Some (map meant_of meants.now)) ≡ None) }
+        ensures ok { OnOk result (state_of self.new ≡ stated (state_of self.old)
+            (with_choice self.old.search.premises choice.now (length meants.now))
+            (Some (length self.old.search.premises)) cell (map meant_of meants.now)) }
         ensures err { IfErr result (λ e.
-            (choosing_limit_at (state_of self.old)
-            (Some (meanings_of self.old.words kind (map value_of values.now))) ≡ Some e)
+            (choosing_limit_at (state_of self.old) (Some (map meant_of meants.now)) ≡ Some e)
             ⊎ (e ≡ Memory)) }
         ensures err_same { OnErr result (state_of self.new ≡ state_of self.old) }
         ensures stirred { HasStirred self.old (self.old.search.list ++ 1 ∷ []) result self.new }
     {
-        match self.choosing_limit(values.len()) {
+        match self.choosing_limit(meants.len()) {
             Some(refusal) => return Err(refusal),
             None => {}
         }
         let count = self.words.symbol_count();
-        match infos_of(self.alloc, &mut self.words, kind, values) {
-            Ok(infos) => match self.choose_between(choice, cell, &infos) {
+        match infos_of(&mut self.words, meants) {
+            Ok(infos) => match self.choose_between(choice, cell, &infos[..meants.len()]) {
                 Ok(()) => Ok(()),
                 Err(refusal) => {
                     self.words.keep_symbols(count);
@@ -281,7 +250,7 @@ impl<R: Rule + Drop, O: Order + Drop> Session<R, O> {
     {
         let choice = match self.search.declare(choice, infos.len() as u8) {
             Ok(choice) => choice,
-            Err(refusal) => return Err(refusal),
+            Err(AllocError) => return Err(Refusal::Memory),
         };
         match state_sides(
             &mut self.network,

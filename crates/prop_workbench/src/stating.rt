@@ -1,11 +1,13 @@
 //! The commands that state what is known.
-ghost use Rattle.std.specs.Prelude.{◌≡◌, ◌<◌, ◌≤◌, ◌++◌, ◌∷◌, [], ℕ, ◌⊎◌, None, Some, Ok, Err};
-ghost use Rattle.std.specs.Prelude.{OnOk, OnErr, IfOk, IfErr, length};
+ghost use Rattle.std.specs.Prelude.{◌≡◌, ◌≤◌, ◌⊎◌, None, Some, Ok, Err, OnOk, OnErr, IfOk, IfErr};
+ghost use Rattle.std.specs.Prelude.{length};
 ghost use Rattle.prop_refusals.specs.declared.refusal.Refusal.TheVariants.{Memory};
 ghost use Rattle.prop_language.specs.Said.{value_of};
 ghost use Rattle.prop_vocabulary.specs.Said.{meant_of};
 ghost use Rattle.prop_vocabulary.specs.Texts.{elements_of_kind};
-ghost use Rattle.prop_workbench.specs.Refusing.{meaning_at};
+ghost use Rattle.prop_vocabulary.specs.Vocabulary.{with_first_symbols};
+ghost use Rattle.prop_workbench.specs.Effects.{info_meant};
+ghost use Rattle.prop_workbench.specs.Refusing.{meaning_at, with_meant, naming_limit};
 ghost use Rattle.prop_compound.specs.Kinds.{IsKnown};
 
 use crate::session::Session;
@@ -15,6 +17,7 @@ use prop_premises::Premise;
 use prop_procedures::Rule;
 use prop_scheduler::{Order, state};
 use prop_vocabulary::{Meant, Vocabulary, read_value};
+use std::alloc::AllocError;
 
 /// What a value means at a cell of a kind.
 pub(crate) fn meaning<'a>(
@@ -35,22 +38,48 @@ pub(crate) fn meaning<'a>(
     read_value(value, kind, domain)
 }
 
+/// The information that is meant. A symbol that is named is new or known.
+pub(crate) fn info_of(words: &mut Vocabulary, meant: Meant) -> Result<Info, Refusal>
+    ensures info { IfOk result (λ i. i ≡ info_meant words.old (meant_of meant)) }
+    ensures words { OnOk result (words.new ≡ with_meant words.old (meant_of meant)) }
+    ensures fits { OnOk result (naming_limit words.old (meant_of meant) ≡ None) }
+    ensures err { IfErr result (λ e. (naming_limit words.old (meant_of meant) ≡ Some e)
+        ⊎ (e ≡ Memory)) }
+    ensures same { OnErr result (words.new ≡ words.old) }
+{
+    match meant {
+        Meant::Known(info) => Ok(info),
+        Meant::Name(symbol) => Ok(Info::Sym(words.add_symbol(symbol)?)),
+    }
+}
+
+/// Under what a statement is made.
+#[derive(Clone, Copy)]
+pub(crate) enum Teller<'a> {
+    /// Under no premise.
+    Nobody,
+    /// Under a premise that there is.
+    Known(Premise),
+    /// Under a premise with a new name.
+    New(&'a str),
+}
+
 impl<R: Rule + Drop, O: Order + Drop> Session<R, O> {
-    ghost use Rattle.std.specs.Prelude.{◌≡◌, ◌<◌, ◌++◌, ◌∷◌, [], ◌⊎◌, ℕ, false, None, Some, OnOk};
-    ghost use Rattle.std.specs.Prelude.{OnErr, IfErr, length};
+    ghost use Rattle.std.specs.Prelude.{◌≡◌, ◌<◌, ◌++◌, ◌∷◌, [], ◌⊎◌, ℕ, true, false, None, Some};
+    ghost use Rattle.std.specs.Prelude.{OnOk, OnErr, IfOk, IfErr, length};
     ghost use Rattle.prop_refusals.specs.declared.refusal.Refusal.TheVariants.{Memory};
+    ghost use Rattle.prop_refusals.specs.declared.refusal.Limit.TheVariants as limits;
+    ghost use Rattle.prop_refusals.specs.Refusals.{most};
     ghost use Rattle.prop_premises.specs.Origins.{premise_number, is_choice, with_name};
     ghost use Rattle.prop_language.specs.Commands as commands;
     ghost use Rattle.prop_language.specs.Said.{value_of};
     ghost use Rattle.prop_procedures.specs.Fitting.{kind_at};
     ghost use Rattle.prop_cells.specs.Refusing.{state_refusal};
     ghost use Rattle.prop_workbench.specs.inner.Effects.{name_of, stating, MayMean};
-    ghost use Rattle.prop_workbench.specs.Effects.{stated, info_meant};
+    ghost use Rattle.prop_workbench.specs.inner.Tellers.{IsTeller, IsTold, stated_by, teller_limit};
+    ghost use Rattle.prop_workbench.specs.inner.Tellers.{stating_limit_by};
     ghost use Rattle.prop_vocabulary.specs.Said.{meant_of};
-    ghost use Rattle.prop_vocabulary.specs.Values.{Known, Name};
-    ghost use Rattle.prop_vocabulary.specs.Vocabulary.{with_symbol, symbol_number};
-    ghost use Rattle.prop_workbench.specs.Refusing.{telling_limit, statement_limit, stating_limit};
-    ghost use Rattle.prop_workbench.specs.Refusing.{with_meant};
+    ghost use Rattle.prop_vocabulary.specs.Values.{Known};
     ghost use Rattle.prop_workbench.specs.inner.Refusing.{is_choice_told};
     ghost use Rattle.prop_workbench.specs.Sessions.{state_of, IsInOrder};
     ghost use Rattle.prop_workbench.specs.inner.Sessions.{Keeps};
@@ -80,84 +109,62 @@ impl<R: Rule + Drop, O: Order + Drop> Session<R, O> {
             Ok(meant) => meant,
             Err(refusal) => return Err(refusal),
         };
-        if self.is_choice(premise) {
-            return Err(Refusal::IsAChoice);
-        }
-        self.state_meant(premise, cell, meant)
+        let teller = match self.teller(premise) {
+            Ok(teller) => teller,
+            Err(refusal) => return Err(refusal),
+        };
+        self.state_meant(teller, cell, meant)
     }
 
-    /// Whether the name is that of a choice, where there is one.
-    fn is_choice(&self, premise: Option<&str>) -> bool
-        ensures { result ≡ is_choice_told (state_of self.now) (name_of premise.entry) }
+    /// Whom the name of a premise stands for, where one is given. `IsAChoice` where a choice has
+    /// it.
+    fn teller<'a>(&self, premise: Option<&'a str>) -> Result<Teller<'a>, Refusal>
+        ensures ok { IfOk result (λ t.
+            IsTeller self.now.search.premises (name_of premise.entry) t) }
+        ensures told { OnOk result
+            (is_choice_told (state_of self.now) (name_of premise.entry) ≡ false) }
+        ensures err { IfErr result (λ e. e ≡ Refusal.IsAChoice) }
+        ensures choice { OnErr result
+            (is_choice_told (state_of self.now) (name_of premise.entry) ≡ true) }
     {
-        match premise {
-            Some(name) => self.search.premises().is_choice(name),
-            None => false,
+        let name = match premise {
+            Some(name) => name,
+            None => return Ok(Teller::Nobody),
+        };
+        match self.search.premises().find(name) {
+            Ok(known) => Ok(Teller::Known(known)),
+            Err(Refusal::NoSuchPremise) => Ok(Teller::New(name)),
+            Err(_) => Err(Refusal::IsAChoice),
         }
     }
 
-    /// States what a value means at a cell. A symbol that it names is new or known.
-    fn state_meant(
-        &mut self,
-        premise: Option<&str>,
-        cell: usize,
-        meant: Meant,
-    ) -> Result<(), Refusal>
+    /// States what a value means at a cell, where there is room.
+    fn state_meant(&mut self, teller: Teller, cell: usize, meant: Meant) -> Result<(), Refusal>
         requires sound { IsInOrder R.value_of self.old }
-        requires told { is_choice_told (state_of self.old) (name_of premise) ≡ false }
+        requires told { IsTold self.old.search.premises teller }
         requires cell { cell < length self.old.network.cells.kinds }
         requires may { MayMean (kind_at self.old.network.cells.kinds cell) (meant_of meant) }
         ensures keeps { Keeps R.value_of self.old self.new }
-        ensures fits { OnOk result (stating_limit (state_of self.old) (name_of premise.entry)
-            (meant_of meant.entry) ≡ None) }
-        ensures ok { OnOk result (state_of self.new ≡ stated (state_of self.old)
-            (name_of premise.entry) cell (with_meant self.old.words (meant_of meant.entry))
-            (info_meant self.old.words (meant_of meant.entry))) }
+        ensures fits { OnOk result (stating_limit_by (state_of self.old) teller (meant_of meant)
+            ≡ None) }
+        ensures ok { OnOk result (state_of self.new ≡ stated_by (state_of self.old) teller cell
+            (meant_of meant)) }
         ensures err { IfErr result (λ e.
-            (stating_limit (state_of self.old) (name_of premise.entry) (meant_of meant.entry) ≡ Some
-            e) ⊎ (e ≡ Memory)) }
-        ensures err_same { OnErr result (state_of self.new ≡ state_of self.old) }
-        ensures stirred { HasStirred self.old self.old.search.list result self.new }
-    {
-        match meant {
-            Meant::Known(info) => self.state_said(premise, cell, info),
-            Meant::Name(symbol) => self.state_symbol(premise, cell, symbol),
-        }
-    }
-
-    /// States that a cell is the symbol with a name, which may be new.
-    fn state_symbol(
-        &mut self,
-        premise: Option<&str>,
-        cell: usize,
-        symbol: &str,
-    ) -> Result<(), Refusal>
-        requires sound { IsInOrder R.value_of self.old }
-        requires told { is_choice_told (state_of self.old) (name_of premise) ≡ false }
-        requires cell { cell < length self.old.network.cells.kinds }
-        requires may { (kind_at self.old.network.cells.kinds cell).kind ≡ Kind.Symbol }
-        ensures keeps { Keeps R.value_of self.old self.new }
-        ensures fits { OnOk result (stating_limit (state_of self.old) (name_of premise.entry)
-            (Name symbol.now) ≡ None) }
-        ensures ok { OnOk result (state_of self.new ≡ stated (state_of self.old)
-            (name_of premise.entry) cell (with_symbol self.old.words symbol.now)
-            (Info.Sym (symbol_number self.old.words symbol.now))) }
-        ensures err { IfErr result (λ e.
-            (stating_limit (state_of self.old) (name_of premise.entry) (Name symbol.now) ≡ Some e)
+            (stating_limit_by (state_of self.old) teller (meant_of meant) ≡ Some e)
             ⊎ (e ≡ Memory)) }
         ensures err_same { OnErr result (state_of self.new ≡ state_of self.old) }
         ensures stirred { HasStirred self.old self.old.search.list result self.new }
     {
-        match self.statement_limit(premise) {
+        match self.statement_limit(teller) {
             Some(refusal) => return Err(refusal),
             None => {}
         }
         let count = self.words.symbol_count();
-        let number = match self.words.add_symbol(symbol) {
-            Ok(number) => number,
+        let info = match info_of(&mut self.words, meant) {
+            Ok(info) => info,
             Err(refusal) => return Err(refusal),
         };
-        match self.state_said(premise, cell, Info::Sym(number)) {
+        match self.state_told(teller, cell, info) {
             Ok(()) => Ok(()),
             Err(refusal) => {
                 self.words.keep_symbols(count);
@@ -166,16 +173,13 @@ impl<R: Rule + Drop, O: Order + Drop> Session<R, O> {
         }
     }
 
-    /// Why one more statement is refused, under the premise with a name or under none.
-    fn statement_limit(&self, premise: Option<&str>) -> Option<Refusal>
-        requires sound { IsInOrder R.value_of self.now }
-        requires told { is_choice_told (state_of self.now) (name_of premise) ≡ false }
-        ensures { result ≡ statement_limit (state_of self.now) (name_of premise.entry) }
+    /// Why one more statement is refused: there are as many premises as there can be and it needs
+    /// a new one, or as many statements.
+    fn statement_limit(&self, teller: Teller) -> Option<Refusal>
+        ensures { result ≡ teller_limit (state_of self.now) teller }
     {
-        match premise {
-            Some(name)
-                if self.search.premises().find(name).is_err()
-                    && self.search.premises().len() >= Limit::Premises.most() => {
+        match teller {
+            Teller::New(_) if self.search.premises().len() >= Limit::Premises.most() => {
                 Some(Refusal::LimitReached(Limit::Premises))
             }
             _ if self.network.data().statement_count() >= Limit::Statements.most() => {
@@ -185,48 +189,25 @@ impl<R: Rule + Drop, O: Order + Drop> Session<R, O> {
         }
     }
 
-    /// Makes a statement under the premise with a name, which may be new, or under none.
-    fn state_said(&mut self, premise: Option<&str>, cell: usize, info: Info) -> Result<(), Refusal>
+    /// Makes a statement for which there is room.
+    fn state_told(&mut self, teller: Teller, cell: usize, info: Info) -> Result<(), Refusal>
         requires sound { IsInOrder R.value_of self.old }
-        requires told { is_choice_told (state_of self.old) (name_of premise) ≡ false }
+        requires told { IsTold self.old.search.premises teller }
         requires cell { cell < length self.old.network.cells.kinds }
         requires may { MayMean (kind_at self.old.network.cells.kinds cell) (Known info) }
+        requires fits { teller_limit (state_of self.old) teller ≡ None }
         ensures keeps { Keeps R.value_of self.old self.new }
         ensures words { self.new.words ≡ self.old.words }
-        ensures fits { OnOk result (statement_limit (state_of self.old)
-            (name_of premise.entry) ≡ None) }
-        ensures ok { OnOk result (state_of self.new ≡ stated (state_of self.old)
-            (name_of premise.entry) cell self.old.words info) }
-        ensures err { IfErr result (λ e.
-            (statement_limit (state_of self.old) (name_of premise.entry) ≡ Some e) ⊎ (e ≡ Memory)) }
+        ensures ok { OnOk result (state_of self.new ≡ stated_by (state_of self.old) teller cell
+            (Known info)) }
+        ensures err { IfErr result (λ e. e ≡ Memory) }
         ensures err_same { OnErr result (state_of self.new ≡ state_of self.old) }
         ensures stirred { HasStirred self.old self.old.search.list result self.new }
     {
-        match premise {
-            Some(premise) => self.state_told(premise, cell, info),
-            None => self.state(None, cell, info),
-        }
-    }
-
-    /// Makes a statement under the premise with a name, which may be new.
-    fn state_told(&mut self, premise: &str, cell: usize, info: Info) -> Result<(), Refusal>
-        requires sound { IsInOrder R.value_of self.old }
-        requires told { is_choice self.old.search.premises premise.now ≡ false }
-        requires cell { cell < length self.old.network.cells.kinds }
-        requires may { MayMean (kind_at self.old.network.cells.kinds cell) (Known info) }
-        ensures keeps { Keeps R.value_of self.old self.new }
-        ensures words { self.new.words ≡ self.old.words }
-        ensures fits { OnOk result (telling_limit (state_of self.old) premise.now ≡ None) }
-        ensures ok { OnOk result (state_of self.new ≡ stated (state_of self.old) (Some premise.now)
-            cell self.old.words info) }
-        ensures err { IfErr result (λ e. (telling_limit (state_of self.old) premise.now ≡ Some e)
-            ⊎ (e ≡ Memory)) }
-        ensures err_same { OnErr result (state_of self.new ≡ state_of self.old) }
-        ensures stirred { HasStirred self.old self.old.search.list result self.new }
-    {
-        match self.search.premises().find(premise) {
-            Ok(known) => self.state(Some(known), cell, info),
-            Err(_) => self.state_under_new(premise, cell, info),
+        match teller {
+            Teller::Nobody => self.state(None, cell, info),
+            Teller::Known(premise) => self.state(Some(premise), cell, info),
+            Teller::New(name) => self.state_under_new(name, cell, info),
         }
     }
 
@@ -234,18 +215,17 @@ impl<R: Rule + Drop, O: Order + Drop> Session<R, O> {
     fn state(&mut self, premise: Option<Premise>, cell: usize, info: Info) -> Result<(), Refusal>
         requires sound { IsInOrder R.value_of self.old }
         requires cell { cell < length self.old.network.cells.kinds }
+        requires fits { state_refusal self.old.network.cells cell info ≡ None }
         requires known { (p : ℕ) → premise ≡ Some p → p < length self.old.search.premises }
         ensures keeps { Keeps R.value_of self.old self.new }
         ensures words { self.new.words ≡ self.old.words }
-        ensures fits { OnOk result (state_refusal self.old.network.cells cell info ≡ None) }
         ensures ok { OnOk result (state_of self.new
             ≡ record (state_of
             self.old) {
               statements = (state_of self.old).statements
                   ++ record { premise = premise; cell = cell; info = info } ∷ [];
             }) }
-        ensures err { IfErr result (λ e. (state_refusal self.old.network.cells cell info ≡ Some e)
-            ⊎ (e ≡ Memory)) }
+        ensures err { IfErr result (λ e. e ≡ Memory) }
         ensures err_same { OnErr result (state_of self.new ≡ state_of self.old) }
         ensures stirred { HasStirred self.old self.old.search.list result self.new }
     {
@@ -264,12 +244,12 @@ impl<R: Rule + Drop, O: Order + Drop> Session<R, O> {
     fn state_under_new(&mut self, name: &str, cell: usize, info: Info) -> Result<(), Refusal>
         requires sound { IsInOrder R.value_of self.old }
         requires told { is_choice self.old.search.premises name.now ≡ false }
-        requires cell { cell < length self.old.network.cells.kinds }
-        requires may { MayMean (kind_at self.old.network.cells.kinds cell) (Known info) }
         requires new { premise_number self.old.search.premises name.now ≡ None }
+        requires room { length self.old.search.premises < most limits.Premises }
+        requires cell { cell < length self.old.network.cells.kinds }
+        requires fits { state_refusal self.old.network.cells cell info ≡ None }
         ensures keeps { Keeps R.value_of self.old self.new }
         ensures words { self.new.words ≡ self.old.words }
-        ensures fits { OnOk result (telling_limit (state_of self.old) name.now ≡ None) }
         ensures ok { OnOk result (state_of self.new
             ≡ record (state_of self.old) {
               premises = with_name (state_of self.old).premises name.now;
@@ -281,14 +261,13 @@ impl<R: Rule + Drop, O: Order + Drop> Session<R, O> {
                     info = info;
                   } ∷ [];
             }) }
-        ensures err { IfErr result (λ e. (telling_limit (state_of self.old) name.now ≡ Some e)
-            ⊎ (e ≡ Memory)) }
+        ensures err { IfErr result (λ e. e ≡ Memory) }
         ensures err_same { OnErr result (state_of self.new ≡ state_of self.old) }
         ensures stirred { HasStirred self.old self.old.search.list result self.new }
     {
-        let premise = match self.search.intern(name) {
+        let premise = match self.search.add_premise(name) {
             Ok(premise) => premise,
-            Err(refusal) => return Err(refusal),
+            Err(AllocError) => return Err(Refusal::Memory),
         };
         match state(
             &mut self.network,

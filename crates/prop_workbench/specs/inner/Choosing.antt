@@ -1,5 +1,7 @@
 -- The values of a choice: what refuses them at a cell of a kind, and what they say there.
-use Rattle.std.specs.Prelude.{◌≡◌, Bool, List, [], ◌∷◌, Option, Ok, map}
+use Rattle.std.specs.Prelude.{◌≡◌, ℕ, Bool, List, [], ◌∷◌, Option, Some, None, Ok, fold, map}
+use Rattle.std.specs.Prelude.{nat_le}
+use Rattle.std.specs.Prelude.{if◌then◌else◌}
 use Rattle.std.specs.List.{list_any}
 use Rattle.std.specs.Result.{result_unwrap_or}
 use Rattle.prop_lattice.specs.declared.info.Info.{Info}
@@ -15,6 +17,20 @@ use Rattle.prop_vocabulary.specs.Values.{Meant, Known}
 use Rattle.prop_vocabulary.specs.Vocabulary.{Vocabulary}
 use Rattle.prop_workbench.specs.Refusing.{meaning_at, is_error, with_meant}
 use Rattle.prop_workbench.specs.Effects.{info_meant}
+
+-- the place of a refusal among those that the name of a choice and its values meet
+abbrev pub rank : Refusal → ℕ
+rank NotAName = 0
+rank NotANumber = 1
+rank NameTaken = 2
+rank WrongKind = 3
+rank NotInTheDomain = 4
+rank refusal = 5
+
+-- what comes first, of what was met before and what is met now
+abbrev pub earlier : Option Refusal → Refusal → Refusal
+earlier None now = now
+earlier (Some before) now = if nat_le (rank before) (rank now) then before else now
 
 -- one of the values is refused so at a cell of the kind
 abbrev pub is_one_refused : Vocabulary → Kind → Refusal → List Value → Bool
@@ -43,8 +59,16 @@ meaning_of words kind value = result_unwrap_or (meaning_at words kind value) (Kn
 abbrev pub Means : Vocabulary → Kind → Value → Type 0
 Means words kind value = meaning_at words kind value ≡ Ok (meaning_of words kind value)
 
+-- some value means it at a cell of the kind
+abbrev pub IsMeaning : Vocabulary → Kind → Meant → Type 0
+IsMeaning words kind meant = (value : Value) × (meaning_at words kind value ≡ Ok meant)
+
 abbrev pub meanings_of : Vocabulary → Kind → List Value → List Meant
 meanings_of words kind values = map (meaning_of words kind) values
+
+-- the vocabulary with the symbols that are named
+abbrev pub with_meants : Vocabulary → List Meant → Vocabulary
+with_meants words meants = fold with_meant words meants
 
 -- the information that each meaning is, the symbols being numbered in order
 abbrev pub infos_meant : Vocabulary → List Meant → List Info

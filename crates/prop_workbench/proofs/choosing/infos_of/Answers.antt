@@ -1,71 +1,55 @@
-use Rattle.std.proofs.Common.{◌∷◌, [], ◌++◌, ◌+◌, refl, drop, map}
-use Rattle.prop_language.specs.Said.{value_of}
-use Rattle.prop_workbench.specs.inner.Choosing.{meaning_of, meanings_of}
-use Rattle.prop_workbench.proofs.ChoosingLemmas.{IsOnTheWay, at_start, one_on, known_same, mean_here, rest_here}
-use Rattle.prop_workbench.proofs.ChoosingLemmas.{same_meaning}
+use Rattle.std.proofs.Common.{◌≡◌, ◌∙◌, ◌<◌, ◌++◌, ◌+◌, ◌∷◌, [], sym, refl, drop, map, length, set, take, arith}
+use Rattle.std.proofs.Common.{append-nil}
+use Rattle.std.proofs.lemmas.List.{length-set, take_more_set}
+use Rattle.prop_vocabulary.specs.Said.{meant_of}
+use Rattle.prop_workbench.proofs.ChoosingLemmas.{IsOnTheWay, at_start, one_on, rest_here, all_told}
 use Rattle.prop_workbench.proofs.choosing.infos_of.Goals as goal
 
-pub loop-value-init : goal.loop-value-init
-loop-value-init c = at_start c.args.words.now c.in-Ok.infos.items
-    (meanings_of c.args.words.now c.args.kind (map value_of c.args.values.now)) c.in-Ok.ensures.items
+pub loop-place-init : goal.loop-place-init
+loop-place-init c = record {
+  way = at_start c.args.words.now [] (map meant_of c.args.meants.now) refl;
+  room = refl;
+  within = omega arith;
+}
 
-pub info_of-requires-clause-known : goal.info_of-requires-clause-known
-info_of-requires-clause-known c = known_same c.args.words.now c.loop-value.words c.args.kind
-    c.loop-value.invariant.domains c.requires.known
-
-pub info_of-requires-clause-means : goal.info_of-requires-clause-means
-info_of-requires-clause-means c =
-    mean_here c.args.words.now c.loop-value.words c.args.kind c.args.values.now c.loop-value.value-index
-    c.value-item.result c.loop-value.invariant.domains c.requires.mean c.loop-value-test.true c.value-item.is
-
-pub loop-value-preserved : goal.loop-value-preserved
-loop-value-preserved c =
+pub loop-place-preserved : goal.loop-place-preserved
+loop-place-preserved c =
     let words = c.args.words.now in
-    let now = c.loop-value.words in
-    let kind = c.args.kind in
-    let all = meanings_of words kind (map value_of c.args.values.now) in
-    let here = same_meaning words now kind (value_of c.value-item.result) c.loop-value.invariant.domains in
-    one_on words now c.info_of.new.words c.loop-value.infos.items c.push.new.self.items c.in-Ok-info_of.info all
-    (meanings_of words kind (map value_of (drop (c.loop-value.value-index + 1) c.args.values.now)))
-    (meaning_of words kind (value_of c.value-item.result))
-    (rest_here (λ rest. IsOnTheWay words now c.loop-value.infos.items all (meanings_of words kind (map value_of rest)))
-    c.args.values.now c.loop-value.value-index c.value-item.result c.loop-value-test.true c.value-item.is
-    c.loop-value.invariant)
-    (rw here at c.in-Ok-info_of.ensures.fits) (rw here at c.in-Ok-info_of.ensures.words)
-    (rw here at c.in-Ok-info_of.ensures.info) c.in-Ok-push.ensures.items
+    let now = c.loop-place.words in
+    let all = map meant_of c.args.meants.now in
+    let infos = c.loop-place.infos in
+    let k = c.loop-place.place in
+    let one = c.in-Ok.info in
+    let before = c.loop-place.invariant in
+    let below : k < length infos = omega (arith, before.room, c.loop-place-test.true, c.requires.few) in
+    record {
+      way = one_on words now c.info_of.new.words (take k infos) (take (k + 1) (set infos k one)) one all
+          (map meant_of (drop (k + 1) c.args.meants.now)) (meant_of c.index-meants-place.result)
+          (rest_here (λ rest. IsOnTheWay words now (take k infos) all (map meant_of rest)) c.args.meants.now k
+          c.index-meants-place.result c.loop-place-test.true c.index-meants-place.is before.way)
+          c.in-Ok.ensures.fits c.in-Ok.ensures.words c.in-Ok.ensures.info (take_more_set infos k one below);
+      room = length-set infos k one ∙ before.room;
+      within = omega (arith, c.loop-place-test.true);
+    }
 
--- ---- an information more for which there is no memory
+-- behind the last nothing is to come
+done : (c : goal.After-loop-place) → IsOnTheWay c.args.words.now c.loop-place.words
+    (take (length c.args.meants.now) c.loop-place.infos) (map meant_of c.args.meants.now) []
+done c = all_told c.args.words.now c.loop-place.words c.loop-place.infos c.args.meants.now c.loop-place.place
+    (omega (arith, c.loop-place-test.false)) c.loop-place.invariant.within c.loop-place.invariant.way
 
-pub returns-in-Err-push-clause-domains : goal.returns-in-Err-push-clause-domains
-returns-in-Err-push-clause-domains c =
-    let words = c.args.words.now in
-    let now = c.loop-value.words in
-    let kind = c.args.kind in
-    let all = meanings_of words kind (map value_of c.args.values.now) in
-    let here = same_meaning words now kind (value_of c.value-item.result) c.loop-value.invariant.domains in
-    (one_on words now c.info_of.new.words c.loop-value.infos.items
-    (c.loop-value.infos.items ++ c.in-Ok-info_of.info ∷ []) c.in-Ok-info_of.info all
-    (meanings_of words kind (map value_of (drop (c.loop-value.value-index + 1) c.args.values.now)))
-    (meaning_of words kind (value_of c.value-item.result))
-    (rest_here (λ rest. IsOnTheWay words now c.loop-value.infos.items all (meanings_of words kind (map value_of rest)))
-    c.args.values.now c.loop-value.value-index c.value-item.result c.loop-value-test.true c.value-item.is
-    c.loop-value.invariant)
-    (rw here at c.in-Ok-info_of.ensures.fits) (rw here at c.in-Ok-info_of.ensures.words)
-    (rw here at c.in-Ok-info_of.ensures.info) refl).domains
+pub returns-clause-infos : goal.returns-clause-infos
+returns-clause-infos c =
+    sym (append-nil (take (length c.args.meants.now) c.loop-place.infos)) ∙ (done c).told
 
-pub returns-in-Err-push-clause-back : goal.returns-in-Err-push-clause-back
-returns-in-Err-push-clause-back c =
-    let words = c.args.words.now in
-    let now = c.loop-value.words in
-    let kind = c.args.kind in
-    let all = meanings_of words kind (map value_of c.args.values.now) in
-    let here = same_meaning words now kind (value_of c.value-item.result) c.loop-value.invariant.domains in
-    (one_on words now c.info_of.new.words c.loop-value.infos.items
-    (c.loop-value.infos.items ++ c.in-Ok-info_of.info ∷ []) c.in-Ok-info_of.info all
-    (meanings_of words kind (map value_of (drop (c.loop-value.value-index + 1) c.args.values.now)))
-    (meaning_of words kind (value_of c.value-item.result))
-    (rest_here (λ rest. IsOnTheWay words now c.loop-value.infos.items all (meanings_of words kind (map value_of rest)))
-    c.args.values.now c.loop-value.value-index c.value-item.result c.loop-value-test.true c.value-item.is
-    c.loop-value.invariant)
-    (rw here at c.in-Ok-info_of.ensures.fits) (rw here at c.in-Ok-info_of.ensures.words)
-    (rw here at c.in-Ok-info_of.ensures.info) refl).back
+pub returns-clause-words : goal.returns-clause-words
+returns-clause-words c = (done c).numbered
+
+pub returns-clause-fits : goal.returns-clause-fits
+returns-clause-fits c = (done c).limit
+
+pub returns-clause-domains : goal.returns-clause-domains
+returns-clause-domains c = (done c).domains
+
+pub returns-clause-back : goal.returns-clause-back
+returns-clause-back c = (done c).back

@@ -1,5 +1,5 @@
-use Rattle.std.proofs.Common.{◌≡◌, ◌<◌, Ok, Err, refl, sym, length}
-use Rattle.prop_refusals.specs.declared.refusal.Refusal.TheVariants.{NoSuchCell, IsAChoice}
+use Rattle.std.proofs.Common.{◌≡◌, ◌∙◌, ◌<◌, Some, Ok, Err, inl, refl, sym, ap, length}
+use Rattle.prop_refusals.specs.declared.refusal.Refusal.TheVariants.{NoSuchCell}
 use Rattle.prop_procedures.specs.Kept.{stored_of}
 use Rattle.prop_procedures.specs.Stored.{span_kind}
 use Rattle.prop_procedures.specs.Fitting.{kind_at}
@@ -10,8 +10,9 @@ use Rattle.prop_workbench.specs.Refusing.{meaning_at}
 use Rattle.prop_workbench.specs.Sessions.{state_of}
 use Rattle.prop_vocabulary.proofs.CellLookups.{of_named}
 use Rattle.prop_vocabulary.specs.Texts.{elements_of_kind}
-use Rattle.prop_workbench.proofs.StepLemmas.{refuses}
-use Rattle.prop_workbench.proofs.ValueLemmas.{value_refused, value_may_be}
+use Rattle.prop_workbench.proofs.StepLemmas.{refuses, refuses_or_lacks}
+use Rattle.prop_workbench.proofs.TellerLemmas.{teller_told, stated_or_not}
+use Rattle.prop_workbench.proofs.ValueLemmas.{value_refused, teller_refused, value_may_be}
 use Rattle.prop_workbench.proofs.WakingLemmas.{left_stating}
 use Rattle.prop_workbench.proofs.session.Session.say.Goals as goal
 
@@ -44,6 +45,38 @@ state_meant-requires-clause-may g c =
     (meant_of c.in-Ok.meant)
     (c.requires.sound.sized c.in-Some.cell span_kind below).1 few said
 
+pub state_meant-requires-clause-told : goal.state_meant-requires-clause-told
+state_meant-requires-clause-told g c =
+    teller_told c.args.self.now.search.premises (name_of c.args.premise) c.in-Ok-teller.teller
+    c.in-Ok-teller.ensures.ok
+
+pub returns-in-Err-teller-clause-step : goal.returns-in-Err-teller-clause-step
+returns-in-Err-teller-clause-step g c =
+    let s = c.args.self.now in
+    let library = stored_of g.R.Rule.value_of s.network.library in
+    let kind : kind_at s.network.cells.kinds c.in-Some.cell ≡ c.kind-kind.result =
+    sym (rw c.data.ensures at c.kind-kind.ensures) in
+    let said : meaning_at s.words (kind_at s.network.cells.kinds c.in-Some.cell).kind (value_of c.args.value.now) ≡ Ok
+    (meant_of c.in-Ok.meant) = rw (← kind) at c.in-Ok.ensures.ok in
+    refuses_or_lacks library (state_of s) (state_of s)
+    (stating (name_of c.args.premise) c.args.name.now (value_of c.args.value.now)) c.in-Err-teller.refusal
+    (inl (teller_refused library (state_of s) (name_of c.args.premise) c.args.name.now (value_of c.args.value.now)
+    c.in-Some.cell (meant_of c.in-Ok.meant) (sym c.in-Some.ensures.number) said c.in-Err-teller.ensures.choice
+    ∙ ap Some (sym c.in-Err-teller.ensures.err))) refl
+
+pub returns-clause-step : goal.returns-clause-step
+returns-clause-step g c =
+    let s = c.args.self.now in
+    let library = stored_of g.R.Rule.value_of s.network.library in
+    let kind : kind_at s.network.cells.kinds c.in-Some.cell ≡ c.kind-kind.result =
+    sym (rw c.data.ensures at c.kind-kind.ensures) in
+    let said : meaning_at s.words (kind_at s.network.cells.kinds c.in-Some.cell).kind (value_of c.args.value.now) ≡ Ok
+    (meant_of c.in-Ok.meant) = rw (← kind) at c.in-Ok.ensures.ok in
+    stated_or_not library (state_of s) (name_of c.args.premise) c.args.name.now (value_of c.args.value.now)
+    c.in-Some.cell (meant_of c.in-Ok.meant) (sym c.in-Some.ensures.number) said c.in-Ok-teller.teller
+    (state_of c.state_meant.new.self) c.in-Ok-teller.ensures.ok c.in-Ok-teller.ensures.told c.state_meant.result
+    c.state_meant.ensures.fits c.state_meant.ensures.ok c.state_meant.ensures.err c.state_meant.ensures.err_same
+
 pub returns-in-None-clause-wakes : goal.returns-in-None-clause-wakes
 returns-in-None-clause-wakes g c =
     let s = c.args.self.now in
@@ -54,10 +87,11 @@ returns-in-Err-clause-wakes g c =
     let s = c.args.self.now in
     left_stating s s (name_of c.args.premise) c.args.name.now (value_of c.args.value.now) (Err c.in-Err.refusal) refl
 
-pub returns-then-is_choice-clause-wakes : goal.returns-then-is_choice-clause-wakes
-returns-then-is_choice-clause-wakes g c =
+pub returns-in-Err-teller-clause-wakes : goal.returns-in-Err-teller-clause-wakes
+returns-in-Err-teller-clause-wakes g c =
     let s = c.args.self.now in
-    left_stating s s (name_of c.args.premise) c.args.name.now (value_of c.args.value.now) (Err IsAChoice) refl
+    left_stating s s (name_of c.args.premise) c.args.name.now (value_of c.args.value.now) (Err c.in-Err-teller.refusal)
+    refl
 
 pub returns-clause-wakes : goal.returns-clause-wakes
 returns-clause-wakes g c =

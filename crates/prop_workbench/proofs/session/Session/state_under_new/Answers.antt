@@ -15,7 +15,7 @@ use Rattle.prop_workbench.proofs.session.Session.state_under_new.Goals as goal
 -- ---- the name is refused
 
 pub returns-in-Err-clause-keeps : goal.returns-in-Err-clause-keeps
-returns-in-Err-clause-keeps g c = same_keeps g.R.Rule.value_of c.args.self.now c.intern.new.self c.requires.sound
+returns-in-Err-clause-keeps g c = same_keeps g.R.Rule.value_of c.args.self.now c.add_premise.new.self c.requires.sound
     c.in-Err.ensures.err
 
 -- ---- the statement is made
@@ -24,28 +24,28 @@ pub state-requires-clause-under_way : goal.state-requires-clause-under_way
 state-requires-clause-under_way g c =
     let s = c.args.self.now in
     let library = stored_of g.R.Rule.value_of s.network.library in
-    rw c.worldview.ensures.same (named_at_work library s.search c.intern.new.self c.args.name.now s.network.cells
+    rw c.worldview.ensures.same (named_at_work library s.search c.add_premise.new.self c.args.name.now s.network.cells
     s.agenda c.requires.sound.at_work c.requires.new c.in-Ok.ensures.ok c.worldview.ensures.stand
-    (c.intern.ensures.search (problem_of library s.network.cells))).under_way
+    (c.add_premise.ensures.search (problem_of library s.network.cells))).under_way
 
 pub state-requires-clause-watched : goal.state-requires-clause-watched
 state-requires-clause-watched g c =
     let s = c.args.self.now in
     let library = stored_of g.R.Rule.value_of s.network.library in
-    rw c.worldview.ensures.same (named_at_work library s.search c.intern.new.self c.args.name.now s.network.cells
+    rw c.worldview.ensures.same (named_at_work library s.search c.add_premise.new.self c.args.name.now s.network.cells
     s.agenda c.requires.sound.at_work c.requires.new c.in-Ok.ensures.ok c.worldview.ensures.stand
-    (c.intern.ensures.search (problem_of library s.network.cells))).watched
+    (c.add_premise.ensures.search (problem_of library s.network.cells))).watched
 
 pub returns-in-Ok-state-clause-keeps : goal.returns-in-Ok-state-clause-keeps
 returns-in-Ok-state-clause-keeps g c =
     let s = c.args.self.now in
     let name = c.args.name.now in
-    let new = c.intern.new.self in
+    let new = c.add_premise.new.self in
     let library = stored_of g.R.Rule.value_of s.network.library in
     let sound = c.requires.sound in
     let made : new ≡ interned s.search name = c.in-Ok.ensures.ok in
     let named = named_at_work library s.search new name s.network.cells s.agenda sound.at_work c.requires.new made
-    c.worldview.ensures.stand (c.intern.ensures.search (problem_of library s.network.cells)) in
+    c.worldview.ensures.stand (c.add_premise.ensures.search (problem_of library s.network.cells)) in
     let statement : Statement = record { premise = Some c.in-Ok.premise; cell = c.args.cell; info = c.args.info } in
     let rest = c.in-Ok-state.ensures.ok.rest in
     let kinds : c.state.new.network.cells.kinds ≡ s.network.cells.kinds =
@@ -85,7 +85,7 @@ returns-in-Err-clause-stirred g c = λ i. record (work_of c.args.self.now) { sea
 pub returns-in-Ok-state-clause-stirred : goal.returns-in-Ok-state-clause-stirred
 returns-in-Ok-state-clause-stirred g c =
     let s = c.args.self.now in
-    let new = c.intern.new.self in
+    let new = c.add_premise.new.self in
     let d = s.network.cells in
     let work = c.requires.sound.at_work in
     let made : new ≡ interned s.search c.args.name.now = c.in-Ok.ensures.ok in

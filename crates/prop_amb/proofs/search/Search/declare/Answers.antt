@@ -3,7 +3,7 @@ use Rattle.prop_premises.specs.Origins.{choices_of}
 use Rattle.prop_premises.proofs.ChangeLemmas.{length-with_choice}
 use Rattle.prop_amb.specs.contracts.search.Search.{the_view}
 use Rattle.prop_amb.proofs.LastChoiceLaws.{stand_declared, search_stays}
-use Rattle.prop_amb.proofs.search.Search.add_choice.Goals as goal
+use Rattle.prop_amb.proofs.search.Search.declare.Goals as goal
 
 pub invariant_of-self-2 : goal.invariant_of-self-2
 invariant_of-self-2 c = (
