@@ -32,8 +32,8 @@ use Rattle.prop_vocabulary.specs.Values.{Meant, Known, Name, known, value_said, 
 use Rattle.prop_vocabulary.specs.Values.{ends_value, bounded_number, halves}
 use Rattle.prop_vocabulary.specs.Texts.{elements_of_kind}
 use Rattle.prop_workbench.specs.Machine.{State}
-use Rattle.prop_workbench.specs.Refusing.{refusal_of, stating_limit, stating_limit_at, meaning_at, is_error}
-use Rattle.prop_workbench.specs.inner.Refusing.{is_choice_told}
+use Rattle.prop_workbench.specs.Refusing.{refusal_of, stating_limit_at, meaning_at, is_error}
+use Rattle.prop_workbench.specs.inner.Refusing.{is_choice_told, stating_limit}
 use Rattle.prop_workbench.specs.inner.Effects.{stating, MayMean}
 use Rattle.prop_vocabulary.specs.Cells.{cell_named}
 use Rattle.prop_workbench.proofs.StepLemmas.{first_of-one}

@@ -58,16 +58,6 @@ given_by words By.Nothing = None
 given_by words (By.Number k) = option_map params.Scale k
 given_by words (By.Relation name) = option_map params.Rows (relation_named words name)
 
--- there are as many premises as there can be and the name is of a new one, or as many statements
-abbrev pub telling_limit : State → List ℕ → Option Refusal
-telling_limit s premise =
-    first_of (
-    when (LimitReached Premises) (is_none (premise_number s.premises premise) && nat_le
-    (most Premises) (length s.premises))
-    ∷ when (LimitReached Statements) (nat_le (most Statements) (length s.statements))
-    ∷ []
-    )
-
 -- the vocabulary with the symbol that is named
 abbrev pub with_meant : Vocabulary → Meant → Vocabulary
 with_meant words (Known info) = words
@@ -78,26 +68,29 @@ abbrev pub both_meant : Option (Result Meant Refusal) → Option (List Meant) �
 both_meant (Some (Ok meant)) (Some more) = Some (meant ∷ more)
 both_meant first more = None
 
--- the same, and under no premise only the statements count
+-- there are as many premises as there can be and the name is of a new one, or as many statements;
+-- under no premise only the statements count
 abbrev pub statement_limit : State → Option (List ℕ) → Option Refusal
 statement_limit s None = when (LimitReached Statements)
     (nat_le (most Statements) (length s.statements))
-statement_limit s (Some premise) = telling_limit s premise
+statement_limit s (Some premise) =
+    first_of (
+    when (LimitReached Premises) (is_none (premise_number s.premises premise) && nat_le
+    (most Premises) (length s.premises))
+    ∷ when (LimitReached Statements) (nat_le (most Statements) (length s.statements))
+    ∷ []
+    )
 
 -- a value that names a new symbol is refused where there are as many as there can be
 abbrev pub naming_limit : Vocabulary → Meant → Option Refusal
 naming_limit words (Name symbol) = symbol_refusal words symbol
 naming_limit words (Known info) = None
 
--- why what is meant is not stated
-abbrev pub stating_limit : State → Option (List ℕ) → Meant → Option Refusal
-stating_limit s premise meant =
-    first_of (statement_limit s premise ∷ naming_limit s.words meant ∷ [])
-
--- the same, where a cell has the name and the value means something there
+-- why what is meant is not stated, where a cell has the name and the value means something there
 abbrev pub stating_limit_at : State → Option (List ℕ) → Option (Result Meant Refusal)
     → Option Refusal
-stating_limit_at s premise (Some (Ok meant)) = stating_limit s premise meant
+stating_limit_at s premise (Some (Ok meant)) =
+    first_of (statement_limit s premise ∷ naming_limit s.words meant ∷ [])
 stating_limit_at s premise meant = None
 
 -- there are too many premises for so many sides, as many choices as there can be, or too many
