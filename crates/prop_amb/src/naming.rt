@@ -28,9 +28,7 @@ impl Search {
             → IsSearch problem self.new }
     {
         let count = self.premises.len();
-        let Ok(premise) = self.premises.intern(name) else {
-            return Err(AllocError);
-        };
+        let premise = self.premises.add(name)?;
         match self.worldview.believe(premise) {
             Ok(()) => {
                 self.from = 0;
@@ -82,9 +80,7 @@ impl Search {
         let alloc = *self.list.allocator();
         self.list.reserve(1)?;
         self.reasons.reserve(1)?;
-        let Ok(choice) = self.premises.hypothetical(name, sides) else {
-            return Err(AllocError);
-        };
+        let choice = self.premises.add_choice(name, sides)?;
         self.list.push(1)?;
         self.reasons.push(Reasons::none(alloc))?;
         Ok(choice)

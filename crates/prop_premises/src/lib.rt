@@ -6,9 +6,9 @@
 //! the side that a list takes (`Worldview`).
 //!
 //! A name is numbered when it first appears and keeps its number. A choice's sides, two to eight,
-//! have the next numbers in a row, and are no premises of the user's. `kick` and `bring` change one
-//! belief of the user's and nothing else. A refusal is the one that applies, and changes nothing
-//! (`Premises`).
+//! have the next numbers in a row, and are no premises of the user's. `find` tells whose a name is;
+//! who adds one has looked whether it is new and there is room. `kick` and `bring` change one
+//! belief of the user's and nothing else (`Premises`).
 #![tactic(auto)]
 
 pub mod choice;

@@ -1,6 +1,6 @@
-use Rattle.std.proofs.Common.{◌≡◌, ◌∙◌, ◌++◌, ◌∷◌, [], ap, length, unwrap_or}
+use Rattle.std.proofs.Common.{◌≡◌, ◌∙◌, ◌++◌, ◌∷◌, [], None, ap}
 use Rattle.prop_numbers.specs.Sets.{set_of}
-use Rattle.prop_premises.specs.Origins.{choices_of, believed_in}
+use Rattle.prop_premises.specs.Origins.{choices_of, believed_in, premise_number}
 use Rattle.prop_premises.proofs.ChoiceLemmas.{choices_of-with_name}
 use Rattle.prop_premises.proofs.ChangeLemmas.{is_start-with_name}
 use Rattle.prop_amb.specs.contracts.search.Search.{the_view}
@@ -10,41 +10,37 @@ use Rattle.prop_amb.proofs.FromLaws.{none_below_zero}
 use Rattle.prop_amb.proofs.search.Search.add_premise.Goals as goal
 
 pub back-requires : goal.back-requires
-back-requires c = rw c.in-Ok.ensures.ok
+back-requires c = rw c.in_ok-premise.ensures.ok
     (is_start-with_name c.self.inside.premises c.args.name.now c.len-count.result c.len-count.ensures.len)
 
-number : (c : goal.After-self-1) → c.in-Ok.premise ≡ length c.self.inside.premises
-number c = c.in-Ok.ensures.number
-    ∙ ap (λ o. unwrap_or o (length c.self.inside.premises)) (rw (← c.self.view_is) at c.requires.new)
-
 -- what was believed has smaller numbers
-believed_last : (c : goal.After-self-1) → c.believe.new.self ≡ c.self.inside.worldview ++ c.in-Ok.premise ∷ []
+believed_last : (c : goal.After-self-1) → c.believe.new.self ≡ c.self.inside.worldview ++ c.in_ok-premise.premise ∷ []
 believed_last c =
-    let known = c.in-Ok.ensures in
-    c.in-Ok-believe.ensures.last
-    (interned_below (the_view c.self.inside) c.args.name.now c.intern.new.self c.in-Ok.premise
-    c.self.invariant.0 (rw (← c.self.view_is) at c.requires.new) known.ok (number c))
+    let known = c.in_ok-premise.ensures in
+    c.in-Ok.ensures.last
+    (interned_below (the_view c.self.inside) c.args.name.now c.add.new.self c.in_ok-premise.premise
+    c.self.invariant.0 (rw (← c.self.view_is) at c.requires.new) known.ok known.number)
 
-pub invariant_of-self-in-Ok-believe : goal.invariant_of-self-in-Ok-believe
-invariant_of-self-in-Ok-believe c =
-    let known = c.in-Ok.ensures in (
-      rw (believed_last c) (interned_stand (the_view c.self.inside) c.args.name.now c.intern.new.self
-          c.in-Ok.premise c.self.invariant.0 (rw (← c.self.view_is) at c.requires.new) known.ok (number c)
+pub invariant_of-self-in-Ok : goal.invariant_of-self-in-Ok
+invariant_of-self-in-Ok c =
+    let known = c.in_ok-premise.ensures in (
+      rw (believed_last c) (interned_stand (the_view c.self.inside) c.args.name.now c.add.new.self
+          c.in_ok-premise.premise c.self.invariant.0 (rw (← c.self.view_is) at c.requires.new) known.ok known.number
           (rw (← c.self.view_is) at c.requires.room)),
       none_below_zero c.self.inside.store (set_of c.believe.new.self),
     )
 
-pub returns-in-Ok-believe-clause-ok : goal.returns-in-Ok-believe-clause-ok
-returns-in-Ok-believe-clause-ok c =
-    let known = c.in-Ok.ensures in
+pub returns-in-Ok-clause-ok : goal.returns-in-Ok-clause-ok
+returns-in-Ok-clause-ok c =
+    let known = c.in_ok-premise.ensures in
     rw (believed_last c)
-    (interned_new_is (the_view c.self.inside) c.args.self.now c.args.name.now c.intern.new.self c.in-Ok.premise
-    c.self.view_is (rw (← c.self.view_is) at c.requires.new) known.ok (number c))
+    (interned_new_is (the_view c.self.inside) c.args.self.now c.args.name.now c.add.new.self c.in_ok-premise.premise
+    c.self.view_is (rw (← c.self.view_is) at c.requires.new) known.ok known.number)
 
-pub returns-in-Ok-believe-clause-search : goal.returns-in-Ok-believe-clause-search
-returns-in-Ok-believe-clause-search c problem h =
-    let now = c.in-Ok.ensures.ok in
-    search_believing problem (the_view c.self.inside) c.intern.new.self c.believe.new.self
+pub returns-in-Ok-clause-search : goal.returns-in-Ok-clause-search
+returns-in-Ok-clause-search c problem h =
+    let now = c.in_ok-premise.ensures.ok in
+    search_believing problem (the_view c.self.inside) c.add.new.self c.believe.new.self
     (ap choices_of now ∙ choices_of-with_name c.self.inside.premises c.args.name.now)
     (λ p b. ap (λ os. believed_in os p) now ∙ believed_in-kept c.self.inside.premises c.args.name.now p b)
     (rw (← c.self.view_is) at h)
