@@ -56,12 +56,12 @@ pub fn alert_shifted<R: Rule + Drop>(
     ensures room { agenda.new.room ≡ agenda.old.room }
     ensures cells { agenda.new.cells ≡ agenda.old.cells }
 {
-    for cell in 0..network.cells() {
-        if network.shifted(cell, before, after) {
-            agenda.alert_all(network.readers(cell));
-            agenda.alert_all(network.writers(cell));
-            agenda.watch(cell);
-        }
+    let mut next = network.next_shifted(0, before, after);
+    while let Some(cell) = next {
+        agenda.alert_all(network.readers(cell));
+        agenda.alert_all(network.writers(cell));
+        agenda.watch(cell);
+        next = network.next_shifted(cell + 1, before, after);
     }
 }
 
@@ -92,10 +92,10 @@ pub fn alert_grown<R: Rule + Drop>(
     ensures room { agenda.new.room ≡ agenda.old.room }
     ensures cells { agenda.new.cells ≡ agenda.old.cells }
 {
-    for cell in 0..network.cells() {
-        if network.shifted(cell, before, after) {
-            agenda.alert_all(network.readers(cell));
-            agenda.watch(cell);
-        }
+    let mut next = network.next_shifted(0, before, after);
+    while let Some(cell) = next {
+        agenda.alert_all(network.readers(cell));
+        agenda.watch(cell);
+        next = network.next_shifted(cell + 1, before, after);
     }
 }
