@@ -17,7 +17,7 @@ use crate::host::Host;
 use prop_arith::{KITS, Kit};
 use prop_cells::Network;
 use prop_lattice::Info;
-use prop_procedures::{Both, Library, Need, Param, Procedure, Rule, Shape};
+use prop_procedures::{Both, Library, Named, Need, Param, Procedure, Rule, Shape};
 use prop_scheduler::{Fifo, Order};
 use prop_workbench::{Reply, Session};
 use smallvec::SmallVec;

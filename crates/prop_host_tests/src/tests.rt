@@ -9,7 +9,7 @@ use crate::session::replies;
 use prop_arith::{KITS, Kit};
 use prop_lattice::{Info, Kind, Span};
 use prop_procedures::fitting::{are_right, span_kinded};
-use prop_procedures::{Both, Kinded, Library, Need, Param, Procedure, Rule, Shape};
+use prop_procedures::{Both, Kinded, Library, Named, Need, Param, Procedure, Rule, Shape};
 use prop_workbench::Reply;
 use smallvec::SmallVec;
 use std::alloc::AllocError;
