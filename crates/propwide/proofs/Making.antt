@@ -4,6 +4,7 @@ use Rattle.std.proofs.Common.{refl, sym, subst, arith, All}
 use Rattle.std.proofs.lemmas.List.{append_assoc, take_more, take_all, map-append, length-map, get_or-map}
 use Rattle.std.proofs.lemmas.List.Elements.{All-head, All-tail, All-map, All-append}
 use Rattle.std.proofs.lemmas.Option.{none-some, same_Some}
+use Rattle.std.specs.Borrow.{Bor}
 use Rattle.std.specs.Prelude.{Some, slice_get}
 use Rattle.prop_lattice.specs.declared.info.Info.{Info}
 use Rattle.prop_procedures.specs.declared.both.Both.{Both}
@@ -81,6 +82,10 @@ pub entry_formed : (items : List Entry) (i : ℕ) (d : Entry) → map shown item
     → IsFormed (shown (get_or items i d))
 entry_formed items i d e l = subst IsFormed (get_or-map shown items i d (shown d) l)
     (rw (← e) at all_formed i (shown d) (omega (arith, l, length-map items shown)))
+
+-- what a row of the table is made into
+abbrev pub of_row : Bor (List ℕ) × Wide × Bor (List Shape) → Made
+of_row row = of_wide (record { name = row.0.now; rule = row.1; ins = row.2.now })
 
 -- the procedure of what it is made of
 abbrev pub stored_made : Made → Stored

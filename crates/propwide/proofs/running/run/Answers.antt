@@ -1,0 +1,147 @@
+use Rattle.std.proofs.Common.{◌∙◌, [], arith, sym, subst}
+use Rattle.std.proofs.lemmas.Result.{err_from_is_err_and}
+use Rattle.prop_program.specs.Faults.{TellsDevices}
+use Rattle.prop_program.proofs.Devices.{told_first}
+use Rattle.prop_program.proofs.Starts.{nothing_yet, nothing_worked}
+use Rattle.prop_engine.proofs.Io.{on_err}
+use Rattle.prop_procedures.specs.inner.Kept.{AllMean-push}
+use Rattle.prop_procedures.specs.Kept.{stored_as}
+use Rattle.propwide.specs.Kits.{answer_of, shown}
+use Rattle.propwide.proofs.Making.{stored_made, stored_is, more, all_stored, entry_formed, wide_is_sound}
+use Rattle.propwide.proofs.running.run.Goals as goal
+
+pub returns-in_err-prelude-clause-err : goal.returns-in_err-prelude-clause-err
+returns-in_err-prelude-clause-err g c = on_err _ _ (nothing_yet _ _ _ _)
+
+pub returns-in_err-prelude-clause-earned_in_part : goal.returns-in_err-prelude-clause-earned_in_part
+returns-in_err-prelude-clause-earned_in_part g c =
+    on_err _ _ (nothing_worked _ c.args.options.order c.args.options.seed c.args.options.limit _ _)
+
+pub returns-in_err-prelude-clause-points : goal.returns-in_err-prelude-clause-points
+returns-in_err-prelude-clause-points g c = wide_is_sound
+
+pub returns-in_err-prelude-clause-devices : goal.returns-in_err-prelude-clause-devices
+returns-in_err-prelude-clause-devices g c =
+    let p = err_from_is_err_and c.from_residual.result c.from_residual.ensures.1 in
+    subst (λ r. TellsDevices r c.args.devices.now c.args.devices.now) (sym p.1)
+    (told_first p.0 c.args.devices.now p.2 c.requires.reader c.requires.writer)
+
+pub returns-in_err-entries-clause-err : goal.returns-in_err-entries-clause-err
+returns-in_err-entries-clause-err g c = on_err _ _ (nothing_yet _ _ _ _)
+
+pub returns-in_err-entries-clause-earned_in_part : goal.returns-in_err-entries-clause-earned_in_part
+returns-in_err-entries-clause-earned_in_part g c =
+    on_err _ _ (nothing_worked _ c.args.options.order c.args.options.seed c.args.options.limit _ _)
+
+pub returns-in_err-entries-clause-points : goal.returns-in_err-entries-clause-points
+returns-in_err-entries-clause-points g c = wide_is_sound
+
+pub returns-in_err-entries-clause-devices : goal.returns-in_err-entries-clause-devices
+returns-in_err-entries-clause-devices g c =
+    let p = err_from_is_err_and c.from_residual-in_err-entries.result c.from_residual-in_err-entries.ensures.1 in
+    subst (λ r. TellsDevices r c.args.devices.now c.args.devices.now) (sym p.1)
+    (told_first p.0 c.args.devices.now p.2 c.requires.reader c.requires.writer)
+
+pub returns-in_err-ins-clause-err : goal.returns-in_err-ins-clause-err
+returns-in_err-ins-clause-err g c = on_err _ _ (nothing_yet _ _ _ _)
+
+pub returns-in_err-ins-clause-earned_in_part : goal.returns-in_err-ins-clause-earned_in_part
+returns-in_err-ins-clause-earned_in_part g c =
+    on_err _ _ (nothing_worked _ c.args.options.order c.args.options.seed c.args.options.limit _ _)
+
+pub returns-in_err-ins-clause-points : goal.returns-in_err-ins-clause-points
+returns-in_err-ins-clause-points g c = wide_is_sound
+
+pub returns-in_err-ins-clause-devices : goal.returns-in_err-ins-clause-devices
+returns-in_err-ins-clause-devices g c =
+    let p = err_from_is_err_and c.from_residual-in_err-ins.result c.from_residual-in_err-ins.ensures.1 in
+    subst (λ r. TellsDevices r c.args.devices.now c.args.devices.now) (sym p.1)
+    (told_first p.0 c.args.devices.now p.2 c.requires.reader c.requires.writer)
+
+pub returns-in_err-call-clause-err : goal.returns-in_err-call-clause-err
+returns-in_err-call-clause-err g c = on_err _ _ (nothing_yet _ _ _ _)
+
+pub returns-in_err-call-clause-earned_in_part : goal.returns-in_err-call-clause-earned_in_part
+returns-in_err-call-clause-earned_in_part g c =
+    on_err _ _ (nothing_worked _ c.args.options.order c.args.options.seed c.args.options.limit _ _)
+
+pub returns-in_err-call-clause-points : goal.returns-in_err-call-clause-points
+returns-in_err-call-clause-points g c = wide_is_sound
+
+pub returns-in_err-call-clause-devices : goal.returns-in_err-call-clause-devices
+returns-in_err-call-clause-devices g c =
+    let p = err_from_is_err_and c.from_residual-in_err-call.result c.from_residual-in_err-call.ensures.1 in
+    subst (λ r. TellsDevices r c.args.devices.now c.args.devices.now) (sym p.1)
+    (told_first p.0 c.args.devices.now p.2 c.requires.reader c.requires.writer)
+
+pub returns-in_err-push-clause-err : goal.returns-in_err-push-clause-err
+returns-in_err-push-clause-err g c = on_err _ _ (nothing_yet _ _ _ _)
+
+pub returns-in_err-push-clause-earned_in_part : goal.returns-in_err-push-clause-earned_in_part
+returns-in_err-push-clause-earned_in_part g c =
+    on_err _ _ (nothing_worked _ c.args.options.order c.args.options.seed c.args.options.limit _ _)
+
+pub returns-in_err-push-clause-points : goal.returns-in_err-push-clause-points
+returns-in_err-push-clause-points g c = wide_is_sound
+
+pub returns-in_err-push-clause-devices : goal.returns-in_err-push-clause-devices
+returns-in_err-push-clause-devices g c =
+    let p = err_from_is_err_and c.from_residual-in_err-push.result c.from_residual-in_err-push.ensures.1 in
+    subst (λ r. TellsDevices r c.args.devices.now c.args.devices.now) (sym p.1)
+    (told_first p.0 c.args.devices.now p.2 c.requires.reader c.requires.writer)
+
+pub new-requires-in-loop-entry-clause-some_inputs : goal.new-requires-in-loop-entry-clause-some_inputs
+new-requires-in-loop-entry-clause-some_inputs g c = rw c.in_ok-ins.ensures.ok
+    (entry_formed _ _ _ c.in_ok-entries.ensures c.loop-entry-test.true).some
+
+pub new-requires-in-loop-entry-clause-few_inputs : goal.new-requires-in-loop-entry-clause-few_inputs
+new-requires-in-loop-entry-clause-few_inputs g c = rw c.in_ok-ins.ensures.ok
+    (entry_formed _ _ _ c.in_ok-entries.ensures c.loop-entry-test.true).few
+
+pub new-requires-in-loop-entry-clause-formed : goal.new-requires-in-loop-entry-clause-formed
+new-requires-in-loop-entry-clause-formed g c = rw c.in_ok-ins.ensures.ok
+    (entry_formed _ _ _ c.in_ok-entries.ensures c.loop-entry-test.true).formed
+
+pub loop-entry-preserved : goal.loop-entry-preserved
+loop-entry-preserved g c =
+    let p = c.new-in-loop-entry.ensures in
+    let stored = stored_is c.new-in-loop-entry.result _ p.name (p.ins ∙ c.in_ok-ins.ensures.ok) p.out p.need p.rule
+    in record {
+      means = AllMean-push answer_of _ _ _ c.in_ok-push.ensures.items c.loop-entry.invariant.means p.means;
+      listed = more (stored_as answer_of) (λ e. stored_made (shown e)) _ _ _ _ _ _ [] c.in_ok-push.ensures.items
+          c.loop-entry-test.true stored c.loop-entry.invariant.listed;
+    }
+
+pub run-requires-clause-means : goal.run-requires-clause-means
+run-requires-clause-means g c = c.loop-entry.invariant.means
+
+pub returns-clause-ok : goal.returns-clause-ok
+returns-clause-ok g c =
+    let past = c.loop-entry-test.false in
+    let listed = c.loop-entry.invariant.listed
+    ∙ all_stored _ c.loop-entry.entry-index (omega (arith, past)) c.in_ok-entries.ensures in
+    rw (← listed, ← c.in_ok-prelude.ensures) c.run.ensures.ok
+
+pub returns-clause-err : goal.returns-clause-err
+returns-clause-err g c =
+    let past = c.loop-entry-test.false in
+    let listed = c.loop-entry.invariant.listed
+    ∙ all_stored _ c.loop-entry.entry-index (omega (arith, past)) c.in_ok-entries.ensures in
+    rw (← listed, ← c.in_ok-prelude.ensures) c.run.ensures.err
+
+pub returns-clause-earned : goal.returns-clause-earned
+returns-clause-earned g c =
+    let past = c.loop-entry-test.false in
+    let listed = c.loop-entry.invariant.listed
+    ∙ all_stored _ c.loop-entry.entry-index (omega (arith, past)) c.in_ok-entries.ensures in
+    rw (← listed, ← c.in_ok-prelude.ensures) c.run.ensures.earned
+
+pub returns-clause-earned_in_part : goal.returns-clause-earned_in_part
+returns-clause-earned_in_part g c =
+    let past = c.loop-entry-test.false in
+    let listed = c.loop-entry.invariant.listed
+    ∙ all_stored _ c.loop-entry.entry-index (omega (arith, past)) c.in_ok-entries.ensures in
+    rw (← listed, ← c.in_ok-prelude.ensures) c.run.ensures.earned_in_part
+
+pub returns-clause-points : goal.returns-clause-points
+returns-clause-points g c = wide_is_sound
