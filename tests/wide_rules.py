@@ -14,14 +14,16 @@ import os
 import re
 import sys
 from dataclasses import dataclass
-from itertools import product
+from itertools import chain, islice, product
 from random import Random
 from typing import Any, Callable, Iterable, Iterator, Optional, Union
 
 import rules
-from case import Case
+from case import Case, Check
 
 TOP = os.path.dirname(os.path.dirname(os.path.realpath(__file__)))
+PROGRAM = f"{TOP}/crates/propwide/out/propwide"
+STEP = 10
 BOUND = 10**18
 
 Point = Union[int, str]
@@ -372,12 +374,28 @@ def examples() -> Iterator[Case]:
         yield example(name, cells, stated, answer)
 
 
-def cases() -> Iterator[Case]:
+def enumerated() -> Iterator[Case]:
     for rule in RULES:
         yield from rule.cases()
     for compound in COMPOUNDS:
         yield from compound.cases()
+
+
+def cases() -> Iterator[Case]:
+    yield from enumerated()
     yield from examples()
+
+
+def over_propwide(case: Case) -> Check:
+    """The case over propwide, whichever program it is looked at with."""
+    look: Callable[[str], Optional[str]] = case.wrong
+    return Check(case.name, lambda _: look(PROGRAM))
+
+
+def built() -> Iterator[Check]:
+    """The page's examples over propwide, where it is built, and one of each STEP other cases."""
+    if os.path.exists(PROGRAM):
+        yield from map(over_propwide, chain(examples(), islice(enumerated(), 0, None, STEP)))
 
 
 def main(words: list[str]) -> int:
