@@ -8,12 +8,15 @@ use Rattle.std.specs.Borrow.{Bor}
 use Rattle.std.specs.Prelude.{Some, slice_get}
 use Rattle.prop_lattice.specs.declared.info.Info.{Info}
 use Rattle.prop_procedures.specs.declared.both.Both.{Both}
+use Rattle.prop_procedures.specs.declared.both.Both.TheVariants as boths
 use Rattle.prop_procedures.specs.declared.procedure.Procedure.{Procedure}
+use Rattle.prop_procedures.specs.declared.shape.Need.TheVariants as needs
+use Rattle.prop_procedures.specs.declared.shape.Shape.TheVariants.{Any}
 use Rattle.prop_procedures.specs.declared.shape.Need.{Need}
 use Rattle.prop_procedures.specs.declared.shape.Param.{Param}
 use Rattle.prop_procedures.specs.declared.shape.Shape.{Shape}
 use Rattle.prop_procedures.specs.Both.{either_of}
-use Rattle.prop_procedures.specs.Forms.{Form, library_of, related_in, stored_rule}
+use Rattle.prop_procedures.specs.Forms.{Form, form, library_of, related_in, stored_rule}
 use Rattle.prop_procedures.specs.Kept.{stored_as}
 use Rattle.prop_procedures.specs.Rules.{IsSound}
 use Rattle.prop_procedures.specs.Stored.{Stored}
@@ -27,11 +30,11 @@ use Rattle.prop_wide.specs.declared.wide.Wide.{Wide}
 use Rattle.prop_wide.specs.Points.{Related as WideRelated}
 use Rattle.prop_wide.specs.Procedures.{Named, IsFormed as IsWideFormed, in_order as named}
 use Rattle.prop_wide.specs.Values.{value_of as wide_value}
-use Rattle.prop_wide.specs.Wide.{FormOf as WideForm}
+use Rattle.prop_wide.specs.Wide.{FormOf as WideForm, need_of, out_of}
 use Rattle.prop_wide.specs.laws.WideLaws.{wide_sound}
-use Rattle.prop_wide.proofs.procedures.procedures_are_stated.Answers.{returns-clause-formed}
+use Rattle.prop_wide.proofs.Tables.{all_from}
 use Rattle.prop_hall.specs.declared.excluder.Excluder.{Excluder}
-use Rattle.prop_hall.specs.Excluder.{FormOf as ExcluderForm, in_order as excluders, ins_of}
+use Rattle.prop_hall.specs.Excluder.{FormOf as ExcluderForm, in_order as excluders, ins_of, name_of}
 use Rattle.prop_hall.specs.Excluder.{Related as ExcluderRelated, value_of as excluder_value}
 use Rattle.prop_hall.specs.declared.excluder.Excluder.TheVariants.{One, Two, Three, Four, Five, Six, Seven}
 use Rattle.prop_hall.specs.laws.ExcluderLaws.{excluder_sound}
@@ -56,6 +59,40 @@ kit_made rule = record { some = (kit_few rule).0; few = (kit_few rule).1; formed
 wide_made : (p : Named) → IsWideFormed p → IsFormed (of_wide p)
 wide_made p h = record { some = h.some; few = h.few; formed = (h.has_inputs, refl, refl) }
 
+wides_formed : All IsWideFormed named
+wides_formed = all_from IsWideFormed named (
+    (record { has_inputs = refl; some = omega arith; few = omega arith },
+    (record { has_inputs = refl; some = omega arith; few = omega arith },
+    (record { has_inputs = refl; some = omega arith; few = omega arith },
+    (record { has_inputs = refl; some = omega arith; few = omega arith },
+    (record { has_inputs = refl; some = omega arith; few = omega arith },
+    (record { has_inputs = refl; some = omega arith; few = omega arith },
+    (record { has_inputs = refl; some = omega arith; few = omega arith },
+    (record { has_inputs = refl; some = omega arith; few = omega arith },
+    (record { has_inputs = refl; some = omega arith; few = omega arith },
+    (record { has_inputs = refl; some = omega arith; few = omega arith },
+    (record { has_inputs = refl; some = omega arith; few = omega arith },
+    (record { has_inputs = refl; some = omega arith; few = omega arith },
+    (record { has_inputs = refl; some = omega arith; few = omega arith },
+    (record { has_inputs = refl; some = omega arith; few = omega arith },
+    (record { has_inputs = refl; some = omega arith; few = omega arith },
+    (record { has_inputs = refl; some = omega arith; few = omega arith },
+    (record { has_inputs = (refl, refl); some = omega arith; few = omega arith },
+    (record { has_inputs = (refl, refl); some = omega arith; few = omega arith },
+    (record { has_inputs = (refl, refl); some = omega arith; few = omega arith },
+    (record { has_inputs = (refl, refl); some = omega arith; few = omega arith },
+    (record { has_inputs = (refl, refl); some = omega arith; few = omega arith },
+    (record { has_inputs = (refl, refl); some = omega arith; few = omega arith },
+    (record { has_inputs = (refl, refl); some = omega arith; few = omega arith },
+    (record { has_inputs = (refl, refl); some = omega arith; few = omega arith },
+    (record { has_inputs = refl; some = omega arith; few = omega arith },
+    (record { has_inputs = refl; some = omega arith; few = omega arith },
+    (record { has_inputs = refl; some = omega arith; few = omega arith },
+    (record { has_inputs = refl; some = omega arith; few = omega arith },
+    (record { has_inputs = refl; some = omega arith; few = omega arith },
+    tt)))))))))))))))))))))))))))))
+    )
+
 excluder_made : (rule : Excluder) → IsFormed (of_excluder rule)
 excluder_made rule = record { some = few.0; few = few.1; formed = (refl, refl, refl) }
   where
@@ -74,14 +111,33 @@ pub all_formed : All IsFormed in_order
 all_formed = All-append IsFormed (map of_kit kits) (map of_wide named ++ map of_excluder excluders)
     (All-map IsFormed of_kit kits (λ k d l. kit_made (get_or kits k d)))
     (All-append IsFormed (map of_wide named) (map of_excluder excluders)
-    (All-map IsFormed of_wide named (λ k d l. wide_made (get_or named k d) (returns-clause-formed (record {}) k d l)))
+    (All-map IsFormed of_wide named (λ k d l. wide_made (get_or named k d) (wides_formed k d l)))
     (All-map IsFormed of_excluder excluders (λ k d l. excluder_made (get_or excluders k d))))
 
 -- what the program makes a procedure of is formed
 pub entry_formed : (items : List Entry) (i : ℕ) (d : Entry) → map shown items ≡ in_order → i < length items
     → IsFormed (shown (get_or items i d))
 entry_formed items i d e l = subst IsFormed (get_or-map shown items i d (shown d) l)
-    (rw (← e) at all_formed i (shown d) (omega (arith, l, length-map items shown)))
+    (subst (All IsFormed) (sym e) all_formed i (shown d) (omega (arith, l, length-map items shown)))
+
+-- of these parts a procedure is made
+abbrev pub made_of : List ℕ → List Shape → Shape → Need → Mixed → Made
+made_of name ins out need rule = record { form = form name ins out need; rule = rule }
+
+pub kit_shown : {n : List ℕ} {i : List Shape} {o : Shape} {d : Need} → (rule : Kit) → n ≡ (form_of rule).name
+    → i ≡ (form_of rule).ins → o ≡ (form_of rule).out → d ≡ (form_of rule).need
+    → made_of n i o d (boths.One rule) ≡ of_kit rule
+kit_shown rule n i o d = rw (n, i, o, d) refl
+
+pub wide_shown : {o : Shape} {d : Need} → (n : List ℕ) (i : List Shape) (rule : Wide) → o ≡ out_of rule
+    → d ≡ need_of rule
+    → made_of n i o d (boths.Two (boths.One rule)) ≡ of_wide (record { name = n; rule = rule; ins = i })
+wide_shown n i rule o d = rw (o, d) refl
+
+pub excluder_shown : {n : List ℕ} {i : List Shape} {o : Shape} {d : Need} → (rule : Excluder) → n ≡ name_of rule
+    → i ≡ ins_of rule → o ≡ Any 0 → d ≡ needs.Nothing
+    → made_of n i o d (boths.Two (boths.Two rule)) ≡ of_excluder rule
+excluder_shown rule n i o d = rw (n, i, o, d) refl
 
 -- what a row of the table is made into
 abbrev pub of_row : Bor (List ℕ) × Wide × Bor (List Shape) → Made
@@ -103,7 +159,7 @@ pub more : {A B C : Type 0} (f : A → C) (g : B → C) (items all : List A) (a 
     → map f items ≡ front ++ map g (take i bs) → map f all ≡ front ++ map g (take (i + 1) bs)
 more f g items all a bs i d front e l s h =
     rw (e, map-append f items (a ∷ []), h, s, take_more bs i d l, map-append g (take i bs) (get_or bs i d ∷ []))
-    append_assoc front (map g (take i bs)) (g (get_or bs i d) ∷ [])
+    (append_assoc front (map g (take i bs)) (g (get_or bs i d) ∷ []))
 
 -- where each had its turn, all are listed
 pub all_stored : (items : List Entry) (n : ℕ) → length items ≤ n → map shown items ≡ in_order

@@ -43,8 +43,9 @@ pub fn run<Rd: Read, W: Write>(
     ensures points { AreSoundBy wide.library wide_related }
 {
     let prelude = lines(alloc)?;
+    let made = entries(alloc)?;
     let mut procedures = Vec::new(alloc);
-    for entry in entries(alloc)? {
+    for entry in &made {
         let ins = SmallVec::<Shape, 8>::from_slice(alloc, entry.ins)?;
         let rule = copied(&entry.rule);
         let call = Box::new(
@@ -58,7 +59,7 @@ pub fn run<Rd: Read, W: Write>(
             ins,
             entry.out,
             entry.need,
-            entry.rule,
+            copied(&entry.rule),
             call,
         ))?;
     }

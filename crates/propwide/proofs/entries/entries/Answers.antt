@@ -3,17 +3,18 @@ use Rattle.std.proofs.lemmas.List.{append-nil, append_assoc, take_all}
 use Rattle.prop_arith.specs.Kit.{in_order as kits}
 use Rattle.prop_wide.specs.Procedures.{in_order as named}
 use Rattle.prop_hall.specs.Excluder.{in_order as excluders}
+use Rattle.prop_wide.specs.declared.procedures.TheConstants.{PROCEDURES}
 use Rattle.propwide.specs.Kits.{of_kit, of_wide, of_excluder, shown}
-use Rattle.propwide.proofs.Making.{more, of_row}
+use Rattle.propwide.proofs.Making.{more, of_row, kit_shown, wide_shown, excluder_shown}
 use Rattle.propwide.proofs.entries.entries.Goals as goal
 
 pub loop-rule-init : goal.loop-rule-init
-loop-rule-init c = record { listed = refl; }
+loop-rule-init c = record { listed = ap (map shown) c.new-made.ensures.items; }
 
 pub loop-rule-preserved : goal.loop-rule-preserved
 loop-rule-preserved c = record {
   listed = more shown of_kit _ _ _ _ _ _ [] c.in_ok-push.ensures.items c.loop-rule-test.true
-      (rw (c.name.ensures, c.ins.ensures, c.out.ensures, c.need.ensures) refl) c.loop-rule.invariant.listed;
+      (kit_shown _ c.name.ensures c.ins.ensures c.out.ensures c.need.ensures) c.loop-rule.invariant.listed;
 }
 
 pub loop-name-init : goal.loop-name-init
@@ -27,7 +28,7 @@ loop-name-init c =
 pub loop-name-preserved : goal.loop-name-preserved
 loop-name-preserved c = record {
   listed = more shown of_row _ _ _ _ _ _ (map of_kit kits) c.in_ok-push-2.ensures.items c.loop-name-test.true
-      (rw (c.out-2.ensures, c.need-2.ensures) refl) c.loop-name.invariant.listed;
+      (wide_shown _ _ _ c.out-in-loop-name.ensures c.need-in-loop-name.ensures) c.loop-name.invariant.listed;
 }
 
 pub loop-rule-2-init : goal.loop-rule-2-init
@@ -35,14 +36,15 @@ loop-rule-2-init c =
     let past = c.loop-name-test.false in record {
       listed = c.loop-name.invariant.listed
           ∙ ap (λ rows. map of_kit kits ++ map of_row rows)
-          (take_all c.loop-name.name-index c.loop-name.name-items (omega (arith, past)))
+          (take_all c.loop-name.name-index PROCEDURES (omega (arith, past)))
           ∙ sym (append-nil (map of_kit kits ++ map of_wide named));
     }
 
 pub loop-rule-2-preserved : goal.loop-rule-2-preserved
 loop-rule-2-preserved c = record {
   listed = more shown of_excluder _ _ _ _ _ _ (map of_kit kits ++ map of_wide named) c.in_ok-push-3.ensures.items
-      c.loop-rule-2-test.true (rw (c.name-2.ensures, c.ins-2.ensures, c.out-3.ensures, c.need-3.ensures) refl)
+      c.loop-rule-2-test.true (excluder_shown _ c.name-in-loop-rule-2.ensures c.ins-in-loop-rule-2.ensures
+      c.out-in-loop-rule-2.ensures c.need-in-loop-rule-2.ensures)
       c.loop-rule-2.invariant.listed;
 }
 
@@ -50,5 +52,5 @@ pub returns : goal.returns
 returns c =
     let past = c.loop-rule-2-test.false in c.loop-rule-2.invariant.listed
     ∙ ap (λ rules. (map of_kit kits ++ map of_wide named) ++ map of_excluder rules)
-    (take_all c.loop-rule-2.rule-index-2 excluders (omega (arith, past)))
+    (take_all c.loop-rule-2.rule-index excluders (omega (arith, past)))
     ∙ append_assoc (map of_kit kits) (map of_wide named) (map of_excluder excluders)

@@ -18,5 +18,5 @@ invariant-loop-name l = record {
 abbrev pub invariant-loop-rule-2 : goal.invariant-loop-rule-2
 invariant-loop-rule-2 l = record {
   listed : map shown l.made.items
-      ≡ (map of_kit kits ++ map of_wide named) ++ map of_excluder (take l.rule-index-2 l.rule-items-2);
+      ≡ (map of_kit kits ++ map of_wide named) ++ map of_excluder (take l.rule-index l.rule-items);
 }

@@ -6,16 +6,21 @@ use Rattle.prop_program.proofs.Starts.{nothing_yet, nothing_worked}
 use Rattle.prop_engine.proofs.Io.{on_err}
 use Rattle.prop_procedures.specs.inner.Kept.{AllMean-push}
 use Rattle.prop_procedures.specs.Kept.{stored_as}
-use Rattle.propwide.specs.Kits.{answer_of, shown}
+use Rattle.prop_engine.specs.Watched.{device, reader, writer}
+use Rattle.propwide.specs.Kits.{answer_of, shown, wide}
 use Rattle.propwide.proofs.Making.{stored_made, stored_is, more, all_stored, entry_formed, wide_is_sound}
 use Rattle.propwide.proofs.running.run.Goals as goal
 
 pub returns-in_err-prelude-clause-err : goal.returns-in_err-prelude-clause-err
-returns-in_err-prelude-clause-err g c = on_err _ _ (nothing_yet _ _ _ _)
+returns-in_err-prelude-clause-err g c = on_err _ _ (nothing_yet wide (g.Rd.Read.remaining (device (reader c.args.devices.now)))
+    (g.W.Write.contents (device (writer c.args.devices.now)))
+    c.args.options.limit)
 
 pub returns-in_err-prelude-clause-earned_in_part : goal.returns-in_err-prelude-clause-earned_in_part
 returns-in_err-prelude-clause-earned_in_part g c =
-    on_err _ _ (nothing_worked _ c.args.options.order c.args.options.seed c.args.options.limit _ _)
+    on_err _ _ (nothing_worked wide c.args.options.order c.args.options.seed c.args.options.limit
+    (g.Rd.Read.remaining (device (reader c.args.devices.now)))
+    (g.W.Write.contents (device (writer c.args.devices.now))))
 
 pub returns-in_err-prelude-clause-points : goal.returns-in_err-prelude-clause-points
 returns-in_err-prelude-clause-points g c = wide_is_sound
@@ -26,28 +31,36 @@ returns-in_err-prelude-clause-devices g c =
     subst (λ r. TellsDevices r c.args.devices.now c.args.devices.now) (sym p.1)
     (told_first p.0 c.args.devices.now p.2 c.requires.reader c.requires.writer)
 
-pub returns-in_err-entries-clause-err : goal.returns-in_err-entries-clause-err
-returns-in_err-entries-clause-err g c = on_err _ _ (nothing_yet _ _ _ _)
+pub returns-in_err-made-clause-err : goal.returns-in_err-made-clause-err
+returns-in_err-made-clause-err g c = on_err _ _ (nothing_yet wide (g.Rd.Read.remaining (device (reader c.args.devices.now)))
+    (g.W.Write.contents (device (writer c.args.devices.now)))
+    c.args.options.limit)
 
-pub returns-in_err-entries-clause-earned_in_part : goal.returns-in_err-entries-clause-earned_in_part
-returns-in_err-entries-clause-earned_in_part g c =
-    on_err _ _ (nothing_worked _ c.args.options.order c.args.options.seed c.args.options.limit _ _)
+pub returns-in_err-made-clause-earned_in_part : goal.returns-in_err-made-clause-earned_in_part
+returns-in_err-made-clause-earned_in_part g c =
+    on_err _ _ (nothing_worked wide c.args.options.order c.args.options.seed c.args.options.limit
+    (g.Rd.Read.remaining (device (reader c.args.devices.now)))
+    (g.W.Write.contents (device (writer c.args.devices.now))))
 
-pub returns-in_err-entries-clause-points : goal.returns-in_err-entries-clause-points
-returns-in_err-entries-clause-points g c = wide_is_sound
+pub returns-in_err-made-clause-points : goal.returns-in_err-made-clause-points
+returns-in_err-made-clause-points g c = wide_is_sound
 
-pub returns-in_err-entries-clause-devices : goal.returns-in_err-entries-clause-devices
-returns-in_err-entries-clause-devices g c =
-    let p = err_from_is_err_and c.from_residual-in_err-entries.result c.from_residual-in_err-entries.ensures.1 in
+pub returns-in_err-made-clause-devices : goal.returns-in_err-made-clause-devices
+returns-in_err-made-clause-devices g c =
+    let p = err_from_is_err_and c.from_residual-in_err-made.result c.from_residual-in_err-made.ensures.1 in
     subst (λ r. TellsDevices r c.args.devices.now c.args.devices.now) (sym p.1)
     (told_first p.0 c.args.devices.now p.2 c.requires.reader c.requires.writer)
 
 pub returns-in_err-ins-clause-err : goal.returns-in_err-ins-clause-err
-returns-in_err-ins-clause-err g c = on_err _ _ (nothing_yet _ _ _ _)
+returns-in_err-ins-clause-err g c = on_err _ _ (nothing_yet wide (g.Rd.Read.remaining (device (reader c.args.devices.now)))
+    (g.W.Write.contents (device (writer c.args.devices.now)))
+    c.args.options.limit)
 
 pub returns-in_err-ins-clause-earned_in_part : goal.returns-in_err-ins-clause-earned_in_part
 returns-in_err-ins-clause-earned_in_part g c =
-    on_err _ _ (nothing_worked _ c.args.options.order c.args.options.seed c.args.options.limit _ _)
+    on_err _ _ (nothing_worked wide c.args.options.order c.args.options.seed c.args.options.limit
+    (g.Rd.Read.remaining (device (reader c.args.devices.now)))
+    (g.W.Write.contents (device (writer c.args.devices.now))))
 
 pub returns-in_err-ins-clause-points : goal.returns-in_err-ins-clause-points
 returns-in_err-ins-clause-points g c = wide_is_sound
@@ -59,11 +72,15 @@ returns-in_err-ins-clause-devices g c =
     (told_first p.0 c.args.devices.now p.2 c.requires.reader c.requires.writer)
 
 pub returns-in_err-call-clause-err : goal.returns-in_err-call-clause-err
-returns-in_err-call-clause-err g c = on_err _ _ (nothing_yet _ _ _ _)
+returns-in_err-call-clause-err g c = on_err _ _ (nothing_yet wide (g.Rd.Read.remaining (device (reader c.args.devices.now)))
+    (g.W.Write.contents (device (writer c.args.devices.now)))
+    c.args.options.limit)
 
 pub returns-in_err-call-clause-earned_in_part : goal.returns-in_err-call-clause-earned_in_part
 returns-in_err-call-clause-earned_in_part g c =
-    on_err _ _ (nothing_worked _ c.args.options.order c.args.options.seed c.args.options.limit _ _)
+    on_err _ _ (nothing_worked wide c.args.options.order c.args.options.seed c.args.options.limit
+    (g.Rd.Read.remaining (device (reader c.args.devices.now)))
+    (g.W.Write.contents (device (writer c.args.devices.now))))
 
 pub returns-in_err-call-clause-points : goal.returns-in_err-call-clause-points
 returns-in_err-call-clause-points g c = wide_is_sound
@@ -75,11 +92,15 @@ returns-in_err-call-clause-devices g c =
     (told_first p.0 c.args.devices.now p.2 c.requires.reader c.requires.writer)
 
 pub returns-in_err-push-clause-err : goal.returns-in_err-push-clause-err
-returns-in_err-push-clause-err g c = on_err _ _ (nothing_yet _ _ _ _)
+returns-in_err-push-clause-err g c = on_err _ _ (nothing_yet wide (g.Rd.Read.remaining (device (reader c.args.devices.now)))
+    (g.W.Write.contents (device (writer c.args.devices.now)))
+    c.args.options.limit)
 
 pub returns-in_err-push-clause-earned_in_part : goal.returns-in_err-push-clause-earned_in_part
 returns-in_err-push-clause-earned_in_part g c =
-    on_err _ _ (nothing_worked _ c.args.options.order c.args.options.seed c.args.options.limit _ _)
+    on_err _ _ (nothing_worked wide c.args.options.order c.args.options.seed c.args.options.limit
+    (g.Rd.Read.remaining (device (reader c.args.devices.now)))
+    (g.W.Write.contents (device (writer c.args.devices.now))))
 
 pub returns-in_err-push-clause-points : goal.returns-in_err-push-clause-points
 returns-in_err-push-clause-points g c = wide_is_sound
@@ -92,15 +113,15 @@ returns-in_err-push-clause-devices g c =
 
 pub new-requires-in-loop-entry-clause-some_inputs : goal.new-requires-in-loop-entry-clause-some_inputs
 new-requires-in-loop-entry-clause-some_inputs g c = rw c.in_ok-ins.ensures.ok
-    (entry_formed _ _ _ c.in_ok-entries.ensures c.loop-entry-test.true).some
+    (entry_formed _ _ _ c.in_ok-made.ensures c.loop-entry-test.true).some
 
 pub new-requires-in-loop-entry-clause-few_inputs : goal.new-requires-in-loop-entry-clause-few_inputs
 new-requires-in-loop-entry-clause-few_inputs g c = rw c.in_ok-ins.ensures.ok
-    (entry_formed _ _ _ c.in_ok-entries.ensures c.loop-entry-test.true).few
+    (entry_formed _ _ _ c.in_ok-made.ensures c.loop-entry-test.true).few
 
 pub new-requires-in-loop-entry-clause-formed : goal.new-requires-in-loop-entry-clause-formed
 new-requires-in-loop-entry-clause-formed g c = rw c.in_ok-ins.ensures.ok
-    (entry_formed _ _ _ c.in_ok-entries.ensures c.loop-entry-test.true).formed
+    (entry_formed _ _ _ c.in_ok-made.ensures c.loop-entry-test.true).formed
 
 pub loop-entry-preserved : goal.loop-entry-preserved
 loop-entry-preserved g c =
@@ -119,28 +140,28 @@ pub returns-clause-ok : goal.returns-clause-ok
 returns-clause-ok g c =
     let past = c.loop-entry-test.false in
     let listed = c.loop-entry.invariant.listed
-    ∙ all_stored _ c.loop-entry.entry-index (omega (arith, past)) c.in_ok-entries.ensures in
+    ∙ all_stored _ c.loop-entry.entry-index (omega (arith, past)) c.in_ok-made.ensures in
     rw (← listed, ← c.in_ok-prelude.ensures) c.run.ensures.ok
 
 pub returns-clause-err : goal.returns-clause-err
 returns-clause-err g c =
     let past = c.loop-entry-test.false in
     let listed = c.loop-entry.invariant.listed
-    ∙ all_stored _ c.loop-entry.entry-index (omega (arith, past)) c.in_ok-entries.ensures in
+    ∙ all_stored _ c.loop-entry.entry-index (omega (arith, past)) c.in_ok-made.ensures in
     rw (← listed, ← c.in_ok-prelude.ensures) c.run.ensures.err
 
 pub returns-clause-earned : goal.returns-clause-earned
 returns-clause-earned g c =
     let past = c.loop-entry-test.false in
     let listed = c.loop-entry.invariant.listed
-    ∙ all_stored _ c.loop-entry.entry-index (omega (arith, past)) c.in_ok-entries.ensures in
+    ∙ all_stored _ c.loop-entry.entry-index (omega (arith, past)) c.in_ok-made.ensures in
     rw (← listed, ← c.in_ok-prelude.ensures) c.run.ensures.earned
 
 pub returns-clause-earned_in_part : goal.returns-clause-earned_in_part
 returns-clause-earned_in_part g c =
     let past = c.loop-entry-test.false in
     let listed = c.loop-entry.invariant.listed
-    ∙ all_stored _ c.loop-entry.entry-index (omega (arith, past)) c.in_ok-entries.ensures in
+    ∙ all_stored _ c.loop-entry.entry-index (omega (arith, past)) c.in_ok-made.ensures in
     rw (← listed, ← c.in_ok-prelude.ensures) c.run.ensures.earned_in_part
 
 pub returns-clause-points : goal.returns-clause-points
