@@ -143,6 +143,12 @@ excluder_shown rule n i o d = rw (n, i, o, d) refl
 abbrev pub of_row : Bor (List ℕ) × Wide × Bor (List Shape) → Made
 of_row row = of_wide (record { name = row.0.now; rule = row.1; ins = row.2.now })
 
+-- the rows are made into what the specification lists
+pub rows_are : (rows : List (Bor (List ℕ) × Wide × Bor (List Shape)))
+    → map of_row rows ≡ map of_wide (map (λ p. record { name = p.0.now; rule = p.1; ins = p.2.now }) rows)
+rows_are [] = refl
+rows_are (r ∷ rest) = ap (λ ms. of_row r ∷ ms) (rows_are rest)
+
 -- the procedure of what it is made of
 abbrev pub stored_made : Made → Stored
 stored_made = stored_rule (λ p. p.form) (λ p. answer_of p.rule)

@@ -30,9 +30,13 @@ use Rattle.propwide.specs.declared.entries.Entry as entries
 abbrev pub Mixed : Type 0
 Mixed = Both Kit (Both Wide Excluder)
 
--- what such a rule answers, and the points that it relates
+-- what a rule beside the kit's answers
+abbrev pub wider_of : Both Wide Excluder → Param → List Info → Info
+wider_of = either_of wide_value excluder_value
+
+-- what a rule answers, and the points that it relates
 abbrev pub answer_of : Mixed → Param → List Info → Info
-answer_of = either_of kit_value (either_of wide_value excluder_value)
+answer_of = either_of kit_value wider_of
 
 abbrev pub RelatedBy : Mixed → Param → List Point → Point → Type 0
 RelatedBy = either_of KitRelated (either_of WideRelated ExcluderRelated)

@@ -1,13 +1,13 @@
 //! What the program comes with: what its procedures are made of, and the lines of its preludes.
 ghost use Rattle.std.specs.Prelude.{◌≡◌, IfOk, map};
 ghost use Rattle.prop_language.specs.Said.{words};
-ghost use Rattle.propwide.specs.Kits.{answer_of, in_order, lines_in_order, shown};
+ghost use Rattle.propwide.specs.Kits.{answer_of, in_order, lines_in_order, shown, wider_of};
 
 use prop_arith::{KITS, Kit, PRELUDE};
 use prop_hall::{EXCLUDERS, Excluder};
 use prop_lattice::Info;
 use prop_procedures::{Both, Named, Need, Param, Shape};
-use prop_wide::{DIFFERENT, PRELUDE as WIDE_PRELUDE, PROCEDURES, Wide};
+use prop_wide::{DIFFERENT, PRELUDE as WIDE_PRELUDE, PROCEDURES, Wide, procedures_are_stated};
 use std::alloc::{AllocError, Global};
 
 /// A rule of the kit, a wider one or an excluder.
@@ -32,6 +32,8 @@ pub struct Entry {
 pub fn entries(alloc: Global) -> Result<Vec<Entry>, AllocError>
     ensures { IfOk result (λ made. map shown made.items ≡ in_order) }
 {
+    // (so that the table is the one that is stated)
+    procedures_are_stated();
     let mut made = Vec::new(alloc);
     for rule in KITS {
         made.push(Entry {
@@ -80,8 +82,17 @@ pub fn answer(rule: &Mixed, param: &Param, args: &[Info]) -> Info
 {
     match rule {
         Both::One(rule) => rule.run(param, args),
-        Both::Two(Both::One(rule)) => rule.run(param, args),
-        Both::Two(Both::Two(rule)) => rule.run(param, args),
+        Both::Two(rule) => wider(rule, param, args),
+    }
+}
+
+/// What a rule beside the kit's answers to a parameter and arguments.
+fn wider(rule: &Both<Wide, Excluder>, param: &Param, args: &[Info]) -> Info
+    ensures { result ≡ wider_of rule.now param.now args.now }
+{
+    match rule {
+        Both::One(rule) => rule.run(param, args),
+        Both::Two(rule) => rule.run(param, args),
     }
 }
 

@@ -1,11 +1,11 @@
-use Rattle.std.proofs.Common.{◌∙◌, ◌++◌, [], ap, arith, map, refl, sym}
+use Rattle.std.proofs.Common.{◌≡◌, ◌∙◌, ◌++◌, [], ap, arith, map, refl, subst, sym}
 use Rattle.std.proofs.lemmas.List.{append-nil, append_assoc, take_all}
 use Rattle.prop_arith.specs.Kit.{in_order as kits}
 use Rattle.prop_wide.specs.Procedures.{in_order as named}
 use Rattle.prop_hall.specs.Excluder.{in_order as excluders}
 use Rattle.prop_wide.specs.declared.procedures.TheConstants.{PROCEDURES}
 use Rattle.propwide.specs.Kits.{of_kit, of_wide, of_excluder, shown}
-use Rattle.propwide.proofs.Making.{more, of_row, kit_shown, wide_shown, excluder_shown}
+use Rattle.propwide.proofs.Making.{more, of_row, rows_are, kit_shown, wide_shown, excluder_shown}
 use Rattle.propwide.proofs.entries.entries.Goals as goal
 
 pub loop-rule-init : goal.loop-rule-init
@@ -34,9 +34,10 @@ loop-name-preserved c = record {
 pub loop-rule-2-init : goal.loop-rule-2-init
 loop-rule-2-init c =
     let past = c.loop-name-test.false in record {
-      listed = c.loop-name.invariant.listed
-          ∙ ap (λ rows. map of_kit kits ++ map of_row rows)
-          (take_all c.loop-name.name-index PROCEDURES (omega (arith, past)))
+      listed = subst (λ rows. map shown c.loop-name.made.items ≡ map of_kit kits ++ map of_row rows)
+          (take_all c.loop-name.name-index _ (omega (arith, past))) c.loop-name.invariant.listed
+          ∙ ap (λ ms. map of_kit kits ++ ms)
+          (rows_are PROCEDURES ∙ ap (map of_wide) c.procedures_are_stated.ensures.stated)
           ∙ sym (append-nil (map of_kit kits ++ map of_wide named));
     }
 

@@ -1,4 +1,4 @@
-use Rattle.std.proofs.Common.{◌∙◌, [], arith, sym, subst}
+use Rattle.std.proofs.Common.{◌∙◌, [], ap, arith, get_or, map, sym, subst}
 use Rattle.std.proofs.lemmas.Result.{err_from_is_err_and}
 use Rattle.prop_program.specs.Faults.{TellsDevices}
 use Rattle.prop_program.proofs.Devices.{told_first}
@@ -113,24 +113,29 @@ returns-in_err-push-clause-devices g c =
 
 pub new-requires-in-loop-entry-clause-some_inputs : goal.new-requires-in-loop-entry-clause-some_inputs
 new-requires-in-loop-entry-clause-some_inputs g c = rw c.in_ok-ins.ensures.ok
-    (entry_formed _ _ _ c.in_ok-made.ensures c.loop-entry-test.true).some
+    (entry_formed _ _ _ (ap (map shown) c.deref-entry-items.ensures.value ∙ c.in_ok-made.ensures)
+    c.loop-entry-test.true).some
 
 pub new-requires-in-loop-entry-clause-few_inputs : goal.new-requires-in-loop-entry-clause-few_inputs
 new-requires-in-loop-entry-clause-few_inputs g c = rw c.in_ok-ins.ensures.ok
-    (entry_formed _ _ _ c.in_ok-made.ensures c.loop-entry-test.true).few
+    (entry_formed _ _ _ (ap (map shown) c.deref-entry-items.ensures.value ∙ c.in_ok-made.ensures)
+    c.loop-entry-test.true).few
 
 pub new-requires-in-loop-entry-clause-formed : goal.new-requires-in-loop-entry-clause-formed
 new-requires-in-loop-entry-clause-formed g c = rw c.in_ok-ins.ensures.ok
-    (entry_formed _ _ _ c.in_ok-made.ensures c.loop-entry-test.true).formed
+    (entry_formed _ _ _ (ap (map shown) c.deref-entry-items.ensures.value ∙ c.in_ok-made.ensures)
+    c.loop-entry-test.true).formed
 
 pub loop-entry-preserved : goal.loop-entry-preserved
 loop-entry-preserved g c =
     let p = c.new-in-loop-entry.ensures in
-    let stored = stored_is c.new-in-loop-entry.result _ p.name (p.ins ∙ c.in_ok-ins.ensures.ok) p.out p.need p.rule
-    in record {
+    record {
       means = AllMean-push answer_of _ _ _ c.in_ok-push.ensures.items c.loop-entry.invariant.means p.means;
       listed = more (stored_as answer_of) (λ e. stored_made (shown e)) _ _ _ _ _ _ [] c.in_ok-push.ensures.items
-          c.loop-entry-test.true stored c.loop-entry.invariant.listed;
+          c.loop-entry-test.true
+          (stored_is c.new-in-loop-entry.result (get_or c.deref-entry-items.result.now c.loop-entry.entry-index _) p.name
+          (p.ins ∙ c.in_ok-ins.ensures.ok) p.out p.need (p.rule ∙ c.copied.ensures))
+          c.loop-entry.invariant.listed;
     }
 
 pub run-requires-clause-means : goal.run-requires-clause-means
@@ -140,28 +145,32 @@ pub returns-clause-ok : goal.returns-clause-ok
 returns-clause-ok g c =
     let past = c.loop-entry-test.false in
     let listed = c.loop-entry.invariant.listed
-    ∙ all_stored _ c.loop-entry.entry-index (omega (arith, past)) c.in_ok-made.ensures in
+    ∙ all_stored _ c.loop-entry.entry-index (omega (arith, past))
+    (ap (map shown) c.deref-entry-items.ensures.value ∙ c.in_ok-made.ensures) in
     rw (← listed, ← c.in_ok-prelude.ensures) c.run.ensures.ok
 
 pub returns-clause-err : goal.returns-clause-err
 returns-clause-err g c =
     let past = c.loop-entry-test.false in
     let listed = c.loop-entry.invariant.listed
-    ∙ all_stored _ c.loop-entry.entry-index (omega (arith, past)) c.in_ok-made.ensures in
+    ∙ all_stored _ c.loop-entry.entry-index (omega (arith, past))
+    (ap (map shown) c.deref-entry-items.ensures.value ∙ c.in_ok-made.ensures) in
     rw (← listed, ← c.in_ok-prelude.ensures) c.run.ensures.err
 
 pub returns-clause-earned : goal.returns-clause-earned
 returns-clause-earned g c =
     let past = c.loop-entry-test.false in
     let listed = c.loop-entry.invariant.listed
-    ∙ all_stored _ c.loop-entry.entry-index (omega (arith, past)) c.in_ok-made.ensures in
+    ∙ all_stored _ c.loop-entry.entry-index (omega (arith, past))
+    (ap (map shown) c.deref-entry-items.ensures.value ∙ c.in_ok-made.ensures) in
     rw (← listed, ← c.in_ok-prelude.ensures) c.run.ensures.earned
 
 pub returns-clause-earned_in_part : goal.returns-clause-earned_in_part
 returns-clause-earned_in_part g c =
     let past = c.loop-entry-test.false in
     let listed = c.loop-entry.invariant.listed
-    ∙ all_stored _ c.loop-entry.entry-index (omega (arith, past)) c.in_ok-made.ensures in
+    ∙ all_stored _ c.loop-entry.entry-index (omega (arith, past))
+    (ap (map shown) c.deref-entry-items.ensures.value ∙ c.in_ok-made.ensures) in
     rw (← listed, ← c.in_ok-prelude.ensures) c.run.ensures.earned_in_part
 
 pub returns-clause-points : goal.returns-clause-points
