@@ -39,6 +39,7 @@ use Rattle.prop_hall.specs.Excluder.{Related as ExcluderRelated, value_of as exc
 use Rattle.prop_hall.specs.declared.excluder.Excluder.TheVariants.{One, Two, Three, Four, Five, Six, Seven}
 use Rattle.prop_hall.specs.laws.ExcluderLaws.{excluder_sound}
 use Rattle.prop_cells.specs.Points.{AreSoundBy}
+use Rattle.prop_program.specs.Answering.{Stock, stocked}
 use Rattle.propwide.specs.Kits.{Mixed, Made, answer_of, RelatedBy, of_kit, of_wide, of_excluder, in_order, shown}
 use Rattle.propwide.specs.Kits.{wide, wide_related}
 use Rattle.propwide.specs.declared.entries.Entry.{Entry}
@@ -60,37 +61,94 @@ wide_made : (p : Named) → IsWideFormed p → IsFormed (of_wide p)
 wide_made p h = record { some = h.some; few = h.few; formed = (h.has_inputs, refl, refl) }
 
 wides_formed : All IsWideFormed named
-wides_formed = all_from IsWideFormed named (
-    (record { has_inputs = refl; some = omega arith; few = omega arith },
-    (record { has_inputs = refl; some = omega arith; few = omega arith },
-    (record { has_inputs = refl; some = omega arith; few = omega arith },
-    (record { has_inputs = refl; some = omega arith; few = omega arith },
-    (record { has_inputs = refl; some = omega arith; few = omega arith },
-    (record { has_inputs = refl; some = omega arith; few = omega arith },
-    (record { has_inputs = refl; some = omega arith; few = omega arith },
-    (record { has_inputs = refl; some = omega arith; few = omega arith },
-    (record { has_inputs = refl; some = omega arith; few = omega arith },
-    (record { has_inputs = refl; some = omega arith; few = omega arith },
-    (record { has_inputs = refl; some = omega arith; few = omega arith },
-    (record { has_inputs = refl; some = omega arith; few = omega arith },
-    (record { has_inputs = refl; some = omega arith; few = omega arith },
-    (record { has_inputs = refl; some = omega arith; few = omega arith },
-    (record { has_inputs = refl; some = omega arith; few = omega arith },
-    (record { has_inputs = refl; some = omega arith; few = omega arith },
-    (record { has_inputs = (refl, refl); some = omega arith; few = omega arith },
-    (record { has_inputs = (refl, refl); some = omega arith; few = omega arith },
-    (record { has_inputs = (refl, refl); some = omega arith; few = omega arith },
-    (record { has_inputs = (refl, refl); some = omega arith; few = omega arith },
-    (record { has_inputs = (refl, refl); some = omega arith; few = omega arith },
-    (record { has_inputs = (refl, refl); some = omega arith; few = omega arith },
-    (record { has_inputs = (refl, refl); some = omega arith; few = omega arith },
-    (record { has_inputs = (refl, refl); some = omega arith; few = omega arith },
-    (record { has_inputs = refl; some = omega arith; few = omega arith },
-    (record { has_inputs = refl; some = omega arith; few = omega arith },
-    (record { has_inputs = refl; some = omega arith; few = omega arith },
-    (record { has_inputs = refl; some = omega arith; few = omega arith },
-    (record { has_inputs = refl; some = omega arith; few = omega arith },
-    tt)))))))))))))))))))))))))))))
+wides_formed = all_from IsWideFormed named ((
+  record { has_inputs = refl; some = omega arith; few = omega arith },
+  (
+    record { has_inputs = refl; some = omega arith; few = omega arith },
+    (
+      record { has_inputs = refl; some = omega arith; few = omega arith },
+      (
+        record { has_inputs = refl; some = omega arith; few = omega arith },
+        (
+          record { has_inputs = refl; some = omega arith; few = omega arith },
+          (
+            record { has_inputs = refl; some = omega arith; few = omega arith },
+            (
+              record { has_inputs = refl; some = omega arith; few = omega arith },
+              (
+                record { has_inputs = refl; some = omega arith; few = omega arith },
+                (
+                  record { has_inputs = refl; some = omega arith; few = omega arith },
+                  (
+                    record { has_inputs = refl; some = omega arith; few = omega arith },
+                    (
+                      record { has_inputs = refl; some = omega arith; few = omega arith },
+                      (
+                        record { has_inputs = refl; some = omega arith; few = omega arith },
+                        (
+                          record { has_inputs = refl; some = omega arith; few = omega arith },
+                          (
+                            record { has_inputs = refl; some = omega arith; few = omega arith },
+                            (
+                              record { has_inputs = refl; some = omega arith; few = omega arith },
+                              (
+                                record { has_inputs = refl; some = omega arith; few = omega arith },
+                                (
+                                  record { has_inputs = (refl, refl); some = omega arith; few = omega arith },
+                                  (
+                                    record { has_inputs = (refl, refl); some = omega arith; few = omega arith },
+                                    (
+                                      record { has_inputs = (refl, refl); some = omega arith; few = omega arith },
+                                      (
+                                        record { has_inputs = (refl, refl); some = omega arith; few = omega arith },
+                                        (
+                                          record { has_inputs = (refl, refl); some = omega arith; few = omega arith },
+                                          (
+                                            record { has_inputs = (refl, refl); some = omega arith; few = omega arith },
+                                            (
+                                              record { has_inputs = (refl, refl); some = omega arith; few = omega arith },
+                                              (
+                                                record { has_inputs = (refl, refl); some = omega arith; few = omega arith },
+                                                (
+                                                  record { has_inputs = refl; some = omega arith; few = omega arith },
+                                                  (
+                                                    record { has_inputs = refl; some = omega arith; few = omega arith },
+                                                    (
+                                                      record { has_inputs = refl; some = omega arith; few = omega arith },
+                                                      (
+                                                        record { has_inputs = refl; some = omega arith; few = omega arith },
+                                                        (
+                                                          record { has_inputs = refl; some = omega arith; few = omega arith },
+                                                          tt,
+                                                        ),
+                                                      ),
+                                                    ),
+                                                  ),
+                                                ),
+                                              ),
+                                            ),
+                                          ),
+                                        ),
+                                      ),
+                                    ),
+                                  ),
+                                ),
+                              ),
+                            ),
+                          ),
+                        ),
+                      ),
+                    ),
+                  ),
+                ),
+              ),
+            ),
+          ),
+        ),
+      ),
+    ),
+  ),
+)
     )
 
 excluder_made : (rule : Excluder) → IsFormed (of_excluder rule)
@@ -104,6 +162,7 @@ excluder_made rule = record { some = few.0; few = few.1; formed = (refl, refl, r
     few_of Five = (omega arith, omega arith)
     few_of Six = (omega arith, omega arith)
     few_of Seven = (omega arith, omega arith)
+
     few : (1 ≤ length (ins_of rule)) × (length (ins_of rule) ≤ 8)
     few = few_of rule
 
@@ -149,6 +208,15 @@ pub rows_are : (rows : List (Bor (List ℕ) × Wide × Bor (List Shape)))
 rows_are [] = refl
 rows_are (r ∷ rest) = ap (λ ms. of_row r ∷ ms) (rows_are rest)
 
+-- where each row had its turn, what the specification lists is made
+pub from_rows : (items : List Entry) (front : List Made) (i : ℕ)
+    (rows : List (Bor (List ℕ) × Wide × Bor (List Shape))) (stated : List Named)
+    → map shown items ≡ front ++ map of_row (take i rows) → length rows ≤ i
+    → map (λ p. record { name = p.0.now; rule = p.1; ins = p.2.now }) rows ≡ stated
+    → map shown items ≡ front ++ map of_wide stated
+from_rows items front i rows stated h l s = h ∙ ap (λ rs. front ++ map of_row rs) (take_all i rows l)
+    ∙ ap (λ ms. front ++ ms) (rows_are rows ∙ ap (map of_wide) s)
+
 -- the procedure of what it is made of
 abbrev pub stored_made : Made → Stored
 stored_made = stored_rule (λ p. p.form) (λ p. answer_of p.rule)
@@ -175,6 +243,12 @@ all_stored items n l e = ap (map (λ e. stored_made (shown e))) (take_all n item
     by : (items : List Entry) → map (λ e. stored_made (shown e)) items ≡ map stored_made (map shown items)
     by [] = refl
     by (e ∷ rest) = ap (λ ps. stored_made (shown e) ∷ ps) (by rest)
+
+-- what holds of one stock holds of the same, put otherwise
+pub with_stock : (P : Stock → Type 0) (library known : List Stored) (prelude lines : List (List ℕ)) → library ≡ known
+    → prelude ≡ lines → P (stocked library prelude) → P (stocked known lines)
+with_stock P library known prelude lines l p h =
+    subst (λ k. P (stocked k lines)) l (subst (λ q. P (stocked library q)) p h)
 
 -- each rule's answers hold the points that it relates
 mixed_sound : (rule : Mixed) (ins : List Shape) (out : Shape) (need : Need) → FormBy rule ins out need

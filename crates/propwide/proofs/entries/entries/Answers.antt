@@ -5,11 +5,11 @@ use Rattle.prop_wide.specs.Procedures.{in_order as named}
 use Rattle.prop_hall.specs.Excluder.{in_order as excluders}
 use Rattle.prop_wide.specs.declared.procedures.TheConstants.{PROCEDURES}
 use Rattle.propwide.specs.Kits.{of_kit, of_wide, of_excluder, shown}
-use Rattle.propwide.proofs.Making.{more, of_row, rows_are, kit_shown, wide_shown, excluder_shown}
+use Rattle.propwide.proofs.Making.{more, of_row, from_rows, kit_shown, wide_shown, excluder_shown}
 use Rattle.propwide.proofs.entries.entries.Goals as goal
 
 pub loop-rule-init : goal.loop-rule-init
-loop-rule-init c = record { listed = ap (map shown) c.new-made.ensures.items; }
+loop-rule-init c = record { listed = ap (map shown) c.new-made.ensures.items }
 
 pub loop-rule-preserved : goal.loop-rule-preserved
 loop-rule-preserved c = record {
@@ -34,10 +34,8 @@ loop-name-preserved c = record {
 pub loop-rule-2-init : goal.loop-rule-2-init
 loop-rule-2-init c =
     let past = c.loop-name-test.false in record {
-      listed = subst (λ rows. map shown c.loop-name.made.items ≡ map of_kit kits ++ map of_row rows)
-          (take_all c.loop-name.name-index _ (omega (arith, past))) c.loop-name.invariant.listed
-          ∙ ap (λ ms. map of_kit kits ++ ms)
-          (rows_are PROCEDURES ∙ ap (map of_wide) c.procedures_are_stated.ensures.stated)
+      listed = from_rows c.loop-name.made.items (map of_kit kits) c.loop-name.name-index _ _ c.loop-name.invariant.listed
+          (omega (arith, past)) c.procedures_are_stated.ensures.stated
           ∙ sym (append-nil (map of_kit kits ++ map of_wide named));
     }
 

@@ -1,5 +1,8 @@
 use Rattle.std.proofs.Common.{◌∙◌, [], ap, arith, get_or, map, sym, subst}
 use Rattle.std.proofs.lemmas.Result.{err_from_is_err_and}
+use Rattle.std.specs.Prelude.{IfOk, OnErr}
+use Rattle.prop_language.specs.Said.{words}
+use Rattle.prop_program.specs.Answering.{IsAnswered, IsAnsweredInPart, IsWorked, IsWorkedInPart}
 use Rattle.prop_program.specs.Faults.{TellsDevices}
 use Rattle.prop_program.proofs.Devices.{told_first}
 use Rattle.prop_program.proofs.Starts.{nothing_yet, nothing_worked}
@@ -8,7 +11,7 @@ use Rattle.prop_procedures.specs.inner.Kept.{AllMean-push}
 use Rattle.prop_procedures.specs.Kept.{stored_as}
 use Rattle.prop_engine.specs.Watched.{device, reader, writer}
 use Rattle.propwide.specs.Kits.{answer_of, shown, wide}
-use Rattle.propwide.proofs.Making.{stored_made, stored_is, more, all_stored, entry_formed, wide_is_sound}
+use Rattle.propwide.proofs.Making.{stored_made, stored_is, more, all_stored, entry_formed, wide_is_sound, with_stock}
 use Rattle.propwide.proofs.running.run.Goals as goal
 
 pub returns-in_err-prelude-clause-err : goal.returns-in_err-prelude-clause-err
@@ -122,7 +125,7 @@ new-requires-in-loop-entry-clause-few_inputs g c = rw c.in_ok-ins.ensures.ok
     c.loop-entry-test.true).few
 
 pub new-requires-in-loop-entry-clause-formed : goal.new-requires-in-loop-entry-clause-formed
-new-requires-in-loop-entry-clause-formed g c = rw c.in_ok-ins.ensures.ok
+new-requires-in-loop-entry-clause-formed g c = rw (c.in_ok-ins.ensures.ok, c.copied.ensures)
     (entry_formed _ _ _ (ap (map shown) c.deref-entry-items.ensures.value ∙ c.in_ok-made.ensures)
     c.loop-entry-test.true).formed
 
@@ -144,34 +147,44 @@ run-requires-clause-means g c = c.loop-entry.invariant.means
 pub returns-clause-ok : goal.returns-clause-ok
 returns-clause-ok g c =
     let past = c.loop-entry-test.false in
-    let listed = c.loop-entry.invariant.listed
-    ∙ all_stored _ c.loop-entry.entry-index (omega (arith, past))
+    let listed = c.loop-entry.invariant.listed ∙ all_stored _ c.loop-entry.entry-index (omega (arith, past))
     (ap (map shown) c.deref-entry-items.ensures.value ∙ c.in_ok-made.ensures) in
-    rw (← listed, ← c.in_ok-prelude.ensures) c.run.ensures.ok
+    with_stock (λ s. IfOk c.run.result (IsAnswered s (g.Rd.Read.remaining (device (reader c.args.devices.now)))
+    (g.W.Write.contents (device (writer c.args.devices.now)))
+    (g.W.Write.contents (device (writer c.run.new.devices))) c.args.options.limit)) _ _ _ _ listed
+    (ap words c.deref.ensures.value ∙ c.in_ok-prelude.ensures) c.run.ensures.ok
 
 pub returns-clause-err : goal.returns-clause-err
 returns-clause-err g c =
     let past = c.loop-entry-test.false in
-    let listed = c.loop-entry.invariant.listed
-    ∙ all_stored _ c.loop-entry.entry-index (omega (arith, past))
+    let listed = c.loop-entry.invariant.listed ∙ all_stored _ c.loop-entry.entry-index (omega (arith, past))
     (ap (map shown) c.deref-entry-items.ensures.value ∙ c.in_ok-made.ensures) in
-    rw (← listed, ← c.in_ok-prelude.ensures) c.run.ensures.err
+    with_stock (λ s. OnErr c.run.result (IsAnsweredInPart s (g.Rd.Read.remaining (device (reader c.args.devices.now)))
+    (g.W.Write.contents (device (writer c.args.devices.now)))
+    (g.W.Write.contents (device (writer c.run.new.devices))) c.args.options.limit)) _ _ _ _ listed
+    (ap words c.deref.ensures.value ∙ c.in_ok-prelude.ensures) c.run.ensures.err
 
 pub returns-clause-earned : goal.returns-clause-earned
 returns-clause-earned g c =
     let past = c.loop-entry-test.false in
-    let listed = c.loop-entry.invariant.listed
-    ∙ all_stored _ c.loop-entry.entry-index (omega (arith, past))
+    let listed = c.loop-entry.invariant.listed ∙ all_stored _ c.loop-entry.entry-index (omega (arith, past))
     (ap (map shown) c.deref-entry-items.ensures.value ∙ c.in_ok-made.ensures) in
-    rw (← listed, ← c.in_ok-prelude.ensures) c.run.ensures.earned
+    with_stock (λ s. IfOk c.run.result (IsWorked s c.args.options.order c.args.options.seed c.args.options.limit
+    (g.Rd.Read.remaining (device (reader c.args.devices.now)))
+    (g.W.Write.contents (device (writer c.args.devices.now)))
+    (g.W.Write.contents (device (writer c.run.new.devices))))) _ _ _ _ listed
+    (ap words c.deref.ensures.value ∙ c.in_ok-prelude.ensures) c.run.ensures.earned
 
 pub returns-clause-earned_in_part : goal.returns-clause-earned_in_part
 returns-clause-earned_in_part g c =
     let past = c.loop-entry-test.false in
-    let listed = c.loop-entry.invariant.listed
-    ∙ all_stored _ c.loop-entry.entry-index (omega (arith, past))
+    let listed = c.loop-entry.invariant.listed ∙ all_stored _ c.loop-entry.entry-index (omega (arith, past))
     (ap (map shown) c.deref-entry-items.ensures.value ∙ c.in_ok-made.ensures) in
-    rw (← listed, ← c.in_ok-prelude.ensures) c.run.ensures.earned_in_part
+    with_stock (λ s. OnErr c.run.result (IsWorkedInPart s c.args.options.order c.args.options.seed c.args.options.limit
+    (g.Rd.Read.remaining (device (reader c.args.devices.now)))
+    (g.W.Write.contents (device (writer c.args.devices.now)))
+    (g.W.Write.contents (device (writer c.run.new.devices))))) _ _ _ _ listed
+    (ap words c.deref.ensures.value ∙ c.in_ok-prelude.ensures) c.run.ensures.earned_in_part
 
 pub returns-clause-points : goal.returns-clause-points
 returns-clause-points g c = wide_is_sound
