@@ -111,8 +111,10 @@ def test_a_changed_line_shows(found: dict[str, Certificate], tmp_path: Path) -> 
                 refused(Certificate(tuple(lines)))
             refused(Certificate((*certificate.lines[:number], *certificate.lines[number + 1 :])))
     path = tmp_path / "claim"
-    path.write_text("\n".join(found["least"].lines).replace("cell", "sell") + "\n")
-    assert main(["check", str(path)]) == 1
+    text = "\n".join(found["least"].lines) + "\n"
+    for spoiled in (text.replace("cell", "sell"), text[1:], text.partition("\n")[2], text[:-2]):
+        path.write_text(spoiled)
+        assert main(["check", str(path)]) == 1
 
 
 def test_another_network_shows(found: dict[str, Certificate], tmp_path: Path) -> None:
