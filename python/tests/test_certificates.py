@@ -10,7 +10,8 @@ from typing import Any
 
 import pytest
 from drawn_models import model_lines
-from hypothesis import given
+from conftest import TIMES
+from hypothesis import given, settings
 from hypothesis import strategies as st
 from lines_model import LineModel
 
@@ -221,6 +222,7 @@ def test_a_choice_that_leaves_out_a_value(found: dict[str, Certificate]) -> None
     refused(signed(lines))
 
 
+@settings(max_examples=30 * TIMES)
 @given(model_lines(), st.data())
 def test_random_values_spoilt(lines: list[str], data: st.DataObject) -> None:
     """A plan of a random model with another value checks just where that is a plan too."""
