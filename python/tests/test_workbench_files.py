@@ -20,6 +20,7 @@ from modelling import (
 )
 
 from propbench import (
+    NotAWorkbench,
     Refused,
     Session,
     Workbench,
@@ -30,7 +31,6 @@ from propbench import (
     minimum,
 )
 from propbench.model.events import Required
-from propbench.model.saving import NotAWorkbench
 from propbench.model.script import Script
 
 

@@ -19,6 +19,7 @@ from propbench.model.expressions import (
     pairs,
     total,
 )
+from propbench.model.saving import NotAWorkbench
 from propbench.program import ProgramEnded
 from propbench.refusals import (
     EmptyValue,
@@ -78,6 +79,7 @@ __all__ = [
     "NoSuchRelation",
     "Nogoods",
     "NotAName",
+    "NotAWorkbench",
     "NotANumberInRange",
     "NotInTheDomain",
     "NotSettled",
