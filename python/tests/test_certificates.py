@@ -111,15 +111,24 @@ def test_a_changed_line_shows(found: dict[str, Certificate], tmp_path: Path) -> 
                 refused(Certificate(tuple(lines)))
             refused(Certificate((*certificate.lines[:number], *certificate.lines[number + 1 :])))
     path = tmp_path / "claim"
-    path.write_text("\n".join(found["least"].lines).replace("cell", "sell") + "\n")
-    assert main(["check", str(path)]) == 1
+    text = "\n".join(found["least"].lines) + "\n"
+    for spoiled in (text.replace("cell", "sell"), text[1:], text.partition("\n")[2], text[:-2]):
+        path.write_text(spoiled)
+        assert main(["check", str(path)]) == 1
 
 
-def test_another_network_shows(found: dict[str, Certificate]) -> None:
+def test_another_network_shows(found: dict[str, Certificate], tmp_path: Path) -> None:
     certificate = found["least"]
     assert certificate.check(base=["# a comment", *certificate.base])
     with pytest.raises(CertificateError, match="another network"):
         certificate.check(base=certificate.base[1:])
+    (tmp_path / "saved").write_text("\n".join(["#: a note", *certificate.base, ""]))
+    certificate.save(tmp_path / "claim")
+    assert certificate.check(base=tmp_path / "saved")
+    words = ["check", str(tmp_path / "claim"), "--base", str(tmp_path / "saved")]
+    assert main(words) == 0
+    (tmp_path / "saved").write_text("\n".join(certificate.base[1:]))
+    assert main(words) == 1
     lines = [line.replace("fix length 3", "fix length 2") for line in certificate.lines[:-1]]
     refused(signed(lines))
 

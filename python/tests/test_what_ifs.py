@@ -6,6 +6,7 @@ import signal
 import threading
 from collections.abc import Callable, Iterator
 from concurrent.futures import Executor, Future, ProcessPoolExecutor
+from functools import partial
 from typing import Any
 
 import pytest
@@ -76,6 +77,7 @@ ROWS: dict[str, dict[str, object]] = {
     "late": {"bring": ["late"]},
     "guess": {"tell": [("guess", "y", 3), ("ben", "review", ["mon", "tue"])]},
     "both": {"kick": "short", "bring": "late", "tell": [("late", "x", 14, 20)]},
+    "told again": {"kick": "short", "tell": [("late", "x", 14, 20)]},
 }
 
 
@@ -146,6 +148,7 @@ def test_what_differs(w: Workbench) -> None:
     assert set(found) == {"premise ana", "premise new", "x", "y", "the end"}
     assert found["x"].before == "5..7" and found["x"].now == "3" and found["x"].why == ("new",)
     assert found["premise new"].before == "not there"
+    assert w.diff(yesterday).certificate.check()
     w.bring("late")
     [conflict] = [each for each in w.diff(yesterday) if each.what == "what is believed"]
     assert conflict.before == "fits" and set(conflict.why) == {"short", "late"}
@@ -190,14 +193,15 @@ def test_ctrl_c_leaves_all_as_it_was() -> None:
             for other in holes[:i]:
                 w.require(one != other)
         w.tell("a", holes[0], 1, 5)
-        questions: list[Callable[[], object]] = [w.conflicts, w.repairs, w.plans]
-        for ask in [*questions, lambda: w.least(holes[0])]:
-            threading.Timer(0.5, os.kill, (os.getpid(), signal.SIGINT)).start()
+        questions: list[Callable[..., object]] = [w.conflicts, w.repairs, w.plans]
+        for ask in [*questions, partial(w.least, holes[0])]:
+            # (It is under way when it first tells of itself.)
+            timer = threading.Timer(0.2, os.kill, (os.getpid(), signal.SIGINT))
             with pytest.raises(Interrupted) as caught:
-                ask()
+                ask(progress=lambda _, t=timer: None if t.is_alive() else t.start())
             assert caught.value.so_far.complete is False  # type: ignore[attr-defined]
             assert "not refuted" in str(caught.value)
         assert w.settle() and w.believed == ("a",)
         told: list[str] = []
-        found = w.least(holes[0], seconds=0.3, progress=told.append)
+        found = w.least(holes[0], seconds=3, progress=told.append)
         assert not found.proved and found.value is None and "not refuted" in str(found) and told

@@ -21,6 +21,7 @@ from propbench.model.expressions import (
 )
 from propbench.model.saving import NotAWorkbench
 from propbench.program import ProgramEnded
+from propbench.questions import Certificate, CertificateError, Interrupted
 from propbench.refusals import (
     EmptyValue,
     IsAChoice,
@@ -61,12 +62,15 @@ from propbench.workbench import Workbench
 
 __all__ = [
     "Answer",
+    "Certificate",
+    "CertificateError",
     "Conflict",
     "Contradiction",
     "Done",
     "Elements",
     "EmptyValue",
     "Impossible",
+    "Interrupted",
     "IsAChoice",
     "LimitReached",
     "LineTooLong",

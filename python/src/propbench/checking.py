@@ -6,15 +6,20 @@ was found by many questions, and the program is asked what shows that.
 """
 
 import json
+import re
 from collections.abc import Iterator, Mapping
 from dataclasses import dataclass
 
 from propbench.finding import find_program
 from propbench.overview import UNPROVED
-from propbench.questions.certificate import check_lines
+from propbench.questions.certificate import check_base, check_lines
 from propbench.questions.checker import HEAD, CertificateError
 from propbench.running import Way, report
 from propbench.showing import printable, quoted
+
+
+# What a certificate ends with, whatever is wrong with it otherwise.
+_CHECKSUM = re.compile(r"\n[0-9a-f]{64}\s*$")
 
 
 class NoReport(Exception):
@@ -58,14 +63,17 @@ def _listed(value: object) -> list[dict[str, object]]:
     return [_named(each) for each in value]
 
 
-def check_file(path: str, program: str | None) -> int:
+def check_file(path: str, program: str | None, base: str | None = None) -> int:
     """Whether a fresh session tells what the report tells, or what the certificate claims: 0, or 1
-    where it doesn't, with what differs. Raises OSError, NoReport where the file is neither, and as
+    where it doesn't, with what differs. The network of a certificate has to be made of the lines of
+    the file `base`, where one is given. Raises OSError, NoReport where the file is neither, and as
     `Session` does."""
     with open(path, encoding="utf-8") as file:
         text = file.read()
-    if text.startswith(HEAD):
-        return _check_certificate(text, program)
+    if text.startswith(HEAD) or _CHECKSUM.search(text):
+        return _check_certificate(text.removesuffix("\n").split("\n"), program, base)
+    if base is not None:
+        raise NoReport(f"{printable(path)}: no certificate, whose base could be compared")
     try:
         said = _named(json.loads(text))
         told, name, lines, way = told_in(said), str(said["file"]), said["lines"], said["way"]
@@ -93,11 +101,13 @@ def check_file(path: str, program: str | None) -> int:
     return 1 if found else 0
 
 
-def _check_certificate(text: str, program: str | None) -> int:
+def _check_certificate(lines: list[str], program: str | None, base: str | None) -> int:
     """The same for a certificate."""
     found = find_program(program)
     try:
-        check_lines(text.removesuffix("\n").split("\n"), found.path)
+        if base is not None:
+            check_base(lines, base)
+        check_lines(lines, found.path)
     except CertificateError as error:
         print(printable(f"The certificate doesn't hold: {error}"))
         return 1

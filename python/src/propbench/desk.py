@@ -66,6 +66,9 @@ def parser() -> argparse.ArgumentParser:
     check.add_argument(
         "file", metavar="FILE", help="what `propdesk run --json` wrote, or a saved certificate"
     )
+    check.add_argument(
+        "--base", metavar="FILE", help="the saved workbench that the certificate has to be of"
+    )
     for each in (run, shell, check):
         each.add_argument("--program", metavar="PATH", help="the program that answers")
     for each in (run, shell):
@@ -108,7 +111,7 @@ def main(words: Sequence[str] | None = None) -> int:
 
 def _done(options: argparse.Namespace) -> int:
     if options.command == "check":
-        return check_file(options.file, options.program)
+        return check_file(options.file, options.program, options.base)
     begin = {"order": options.order, "seed": options.seed, "limit": options.limit}
     if options.command == "shell":
         from propbench.shell import run_shell

@@ -225,6 +225,11 @@ class Session:
             raise
         return batch.replies
 
+    def drop_lines(self) -> None:
+        """Lets go of the lines that were carried out, for a session that asks very much and is never
+        begun anew: `lines` has those from now on, and a `replay` carries out no others."""
+        self._talk.lines.clear()
+
     def _begin(self) -> None:
         self._talk = Conversation(self._command, self._first_limit, self._found.builds)
         self._runner = Runner(self._talk)

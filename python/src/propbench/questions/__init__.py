@@ -185,7 +185,8 @@ class Questions:
         tell: Iterable[ToldValue] = (),
     ) -> Iterator[SomeBench]:
         """Has the workbench answer for a while as if premises were kicked out or brought in, and
-        more were told: `with w.what_if(kick=["ana"], tell=[("guess", x, 3, 5)]): x.ask()`.
+        more were told: `with w.what_if(kick=["ana"], tell=[("guess", x, 3, 5)]): x.ask()`. What is
+        told counts, also under a premise that is kicked out otherwise.
 
         Behind the `with` the workbench is as it was, whatever was stated within.
         """
@@ -199,6 +200,8 @@ class Questions:
                 self.bring(premise)
             for told, cell, *value in change.tell:
                 self.tell(str(told), self.cell(cell) if isinstance(cell, str) else cell, *value)
+                if told not in change.kick:
+                    self.bring(str(told))
             yield self
         finally:
             self._put_back(kept)

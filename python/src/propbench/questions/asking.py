@@ -43,7 +43,7 @@ def answered(run: Callable[[], None], result: Callable[[], Result]) -> Result:
 
 
 def tried(trial: Trial, run: Callable[[], None], result: Callable[[], Result]) -> Result:
-    """The same of a question that needs a trial, which ends with it."""
+    """The same of a question that is asked in a trial, which ends with it."""
     with trial:
         try:
             return answered(run, result)

@@ -65,10 +65,9 @@ class Bounding:
     """The search for an optimum with some premises: its bounds as far as they are known."""
 
     def __init__(self, trial: Trial, premises: Sequence[str], cell: str, sort: str) -> None:
-        """That of a cell for numbers. Raises ValueError for another."""
+        """That of a cell for numbers."""
         room = trial.rooms[cell]
-        if not isinstance(room, Numbers):
-            raise ValueError(f"{cell} is not for numbers, and only of these one is the {sort}")
+        assert isinstance(room, Numbers)
         self.trial, self.premises, self.cell, self.sort = trial, list(premises), cell, sort
         # (Seen from the other end, the greatest of the numbers is the least.)
         self._sign = 1 if sort == LEAST else -1
@@ -160,5 +159,14 @@ def find_optimum(
     """The least or greatest value of a cell in any plan with what is believed."""
     name, clock = cell_named(model, cell), Clock(seconds, progress)
     trial = Trial(model, model.believed(), clock)
-    bounding = Bounding(trial, model.believed(), name, sort)
+    bounding = bounding_in(trial, model.believed(), name, sort)
     return tried(trial, bounding.run, bounding.result)
+
+
+def bounding_in(trial: Trial, premises: Sequence[str], cell: str, sort: str) -> Bounding:
+    """A search for an optimum in a trial, which ends where the cell is not for numbers; that raises
+    ValueError."""
+    if not isinstance(trial.rooms[cell], Numbers):
+        trial.close()
+        raise ValueError(f"{cell} is not for numbers, and only of these one is the {sort}")
+    return Bounding(trial, premises, cell, sort)

@@ -30,22 +30,34 @@ class Certificate:
         return self.lines[3:-1]
 
     def check(
-        self, program: str | os.PathLike[str] | None = None, base: Sequence[str] | None = None
+        self,
+        program: str | os.PathLike[str] | None = None,
+        base: str | os.PathLike[str] | Sequence[str] | None = None,
     ) -> bool:
         """True where a fresh session of the program answers so that the claims hold.
 
-        The program is the one given, or the one that is found. Where a base is given, the network
-        has to be made of these lines. Raises CertificateError where something differs, and
-        NoProgram.
+        The program is the one given, or the one that is found. Where a base is given, lines or the
+        file that a workbench was saved to, the network has to be made of these lines. Raises
+        CertificateError where something differs, OSError and NoProgram.
         """
-        if base is not None and _said(base) != _said(self.base):
-            raise CertificateError("the certificate is of another network")
+        if base is not None:
+            check_base(self.lines, base)
         return check_lines(self.lines, find_program(program).path)
 
     def save(self, path: str | os.PathLike[str]) -> None:
         """Writes the certificate into a file, for `propdesk check`. Raises OSError."""
         with open(path, "w", encoding="utf-8", newline="\n") as file:
             file.writelines(f"{line}\n" for line in self.lines)
+
+
+def check_base(lines: Sequence[str], base: str | os.PathLike[str] | Sequence[str]) -> None:
+    """Raises CertificateError where the network of a certificate is not made of these lines, or
+    those of a file, and OSError."""
+    if isinstance(base, str | os.PathLike):
+        with open(base, encoding="utf-8") as file:
+            base = file.read().split("\n")
+    if _said(base) != _said(lines[3:-1]):
+        raise CertificateError("the certificate is of another network")
 
 
 def _said(lines: Iterable[str]) -> list[str]:

@@ -4,7 +4,7 @@ from collections.abc import Sequence
 from dataclasses import dataclass
 
 from propbench.questions.asking import CellLike, cell_named, tried
-from propbench.questions.bounding import GREATEST, LEAST, Bounding
+from propbench.questions.bounding import GREATEST, LEAST, Bounding, bounding_in
 from propbench.questions.certificate import Certificate, Evidence
 from propbench.questions.clock import Clock, Progress
 from propbench.questions.conflicts import Premises
@@ -130,7 +130,7 @@ def find_critical(
         raise ValueError(f"the end is {LEAST!r} or {GREATEST!r}, and not {sort!r}")
     name = cell_named(model, cell)
     trial = Trial(model, (), Clock(seconds, progress))
-    bounding = Bounding(trial, model.believed(), name, sort)
+    bounding = bounding_in(trial, model.believed(), name, sort)
     found: list[tuple[Exploring, Refuted]] = []
 
     def run() -> None:

@@ -46,10 +46,7 @@ class Listing:
     """The search for all plans: the tree of cases, as far as it has grown."""
 
     def __init__(self, trial: Trial, show: Sequence[str], most: int) -> None:
-        """Over these cells, so many at the most. Raises ValueError for a cell for symbols."""
-        for cell in show:
-            if trial.rooms[cell] is None:
-                raise ValueError(f"{cell} is for symbols, and these are too many to go through")
+        """Over these cells, none of which is for symbols, so many at the most."""
         self.trial, self.show, self.most = trial, list(show), most
         self.found: list[Fits] = []
         self.tree: Tree = _OPEN
@@ -152,11 +149,16 @@ def find_plans(
     seconds: float | None,
     progress: Progress | None,
 ) -> Plans:
-    """All plans with what is believed, over these cells, or over all but those for symbols."""
+    """All plans with what is believed, over these cells, or over all but those for symbols. Raises
+    ValueError for one of these."""
     clock = Clock(seconds, progress)
     names = None if show is None else [cell_named(model, cell) for cell in show]
     trial = Trial(model, model.believed(), clock)
+    symbols = [cell for cell in trial.cells if trial.rooms[cell] is None]
     if names is None:
-        names = [cell for cell in trial.cells if trial.rooms[cell] is not None]
+        names = [cell for cell in trial.cells if cell not in symbols]
+    for name in set(names) & set(symbols):
+        trial.close()
+        raise ValueError(f"{name} is for symbols, and these are too many to go through")
     listing = Listing(trial, list(dict.fromkeys(names)), most)
     return tried(trial, listing.run, listing.result)

@@ -7,7 +7,7 @@ from typing import Any
 from propbench.listing import told_by
 from propbench.questions.asking import CellLike, answered, cell_named, tried
 from propbench.questions.bench import Bench
-from propbench.questions.bounding import Bounding, Optimum
+from propbench.questions.bounding import Bounding, Optimum, bounding_in
 from propbench.questions.certificate import Certificate, Evidence
 from propbench.questions.changes import Change
 from propbench.questions.checker import MOST
@@ -118,7 +118,7 @@ def of_optimum(
     def run() -> None:
         for premise in ("", *believed):
             others = [each for each in believed if each != premise]
-            found[premise] = Bounding(trial, others, name, sort)
+            found[premise] = bounding_in(trial, others, name, sort)
             found[premise].run()
 
     def result() -> Sensitivity:

@@ -44,7 +44,8 @@ class Shown:
 
     def __str__(self) -> str:
         rows = [[said(value) for value in row] for row in self.rows()]
-        return "\n".join([self.headline(), *([table(self.heads(), rows, "  ")] if rows else [])])
+        told = printable(self.headline())
+        return "\n".join([told, *([table(self.heads(), rows, "  ")] if rows else [])])
 
     def __repr__(self) -> str:
         return str(self)

@@ -28,15 +28,11 @@ from propbench.words import is_silent
 # A run takes so many steps before the clock is looked at, and the trial has so many choices and
 # premises of its own at most.
 _STEPS, _CHOICES, _CASES = 20_000, 64, 2000
-# No more cases lie within one another.
-_DEEPEST = 300
+# Of the cells that have more than one value, this part is covered before the next look.
+_PART = 3
 
 # A cell of the user's, and what it is supposed to be.
 Case = tuple[str, Room]
-
-
-# Of the cells that have more than one value, this part is covered before the next look.
-_PART = 3
 # What is seen of the network: what is left for each of the user's cells, or no values.
 Seen = dict[str, Held] | Settled | Unsettled | Contradiction
 
@@ -60,7 +56,6 @@ class Trial:
         self.premises = list(model.premises())
         self.cells = list(model.cells())
         self.line = {premise: model.line_name(premise) for premise in self.premises}
-        self.user = {line: premise for premise, line in self.line.items()}
         self.cell_line = {cell: model.cell_name(cell) for cell in self.cells}
         self.basis = [premise for premise in self.premises if premise in set(basis)]
         # The choices that were made, each a cell of a line and its sides, "" for digits.
@@ -92,6 +87,10 @@ class Trial:
         error: BaseException | None,
         trace: TracebackType | None,
     ) -> None:
+        self.close()
+
+    def close(self) -> None:
+        """Ends the session."""
         self.session.close()
 
     def _begin(self) -> None:
@@ -112,14 +111,15 @@ class Trial:
         )
         self._inside = set(brought)
         end = len(replies) - len(chosen)
-        kinds = self.session.known.cells
-        self.whole: dict[str, Room | None] = {}
-        self.rooms: dict[str, Room | None] = {}
-        for cell, reply in zip(self.cells, replies[end - len(self._asks) : end]):
-            kind = kinds[self.cell_line[cell]]
-            whole = whole_room(None if kind == "span" else self._elements(cell), kind)
-            self.whole[cell] = whole
-            self.rooms[cell] = room_left(held_in(reply), whole)
+        held = self._values(replies[end - len(self._asks) : end])
+        # All that a cell may have, and what is left of that whatever the choices take.
+        self.whole = {cell: self._whole(cell) for cell in self.cells}
+        self.rooms = {cell: room_left(held[cell], self.whole[cell]) for cell in self.cells}
+
+    def _whole(self, cell: str) -> Room | None:
+        """All values that a cell may have; None for a symbol."""
+        kind = self.session.known.cells[self.cell_line[cell]]
+        return whole_room(None if kind == "span" else self._elements(cell), kind)
 
     def _elements(self, cell: str) -> list[str] | None:
         """The names of a cell's elements on lines, None for a symbol."""
@@ -156,6 +156,7 @@ class Trial:
         asks = self._asks
         sent = [line for lines, has_asks in looks for line in (*lines, *(asks if has_asks else ()))]
         replies = iter(self.session.send_all(sent))
+        self.session.drop_lines()
         found: list[Seen] = []
         for lines, has_asks in looks:
             end = [next(replies) for _ in lines][-1]
@@ -166,7 +167,7 @@ class Trial:
 
     def _values(self, replies: Sequence[Reply]) -> dict[str, Held]:
         """What is left for each of the user's cells, on the list of sides that is believed."""
-        return {cell: held_in(reply) for cell, reply in zip(self.cells, replies)}
+        return {cell: _held_in(reply) for cell, reply in zip(self.cells, replies)}
 
     def cases_of(self, told: Iterable[Case]) -> list[str]:
         """The premises under which cases are told."""
@@ -258,7 +259,7 @@ class Trial:
         return {**rooms, **dict(told)}
 
 
-def held_in(reply: Reply) -> Held:
+def _held_in(reply: Reply) -> Held:
     return reply.value if isinstance(reply, Value) else Nothing()
 
 
