@@ -10,7 +10,8 @@ from typing import Any
 
 import pytest
 from drawn_models import model_lines
-from hypothesis import given
+from conftest import TIMES
+from hypothesis import given, settings
 from hypothesis import strategies as st
 from lines_model import LineModel
 
@@ -111,8 +112,10 @@ def test_a_changed_line_shows(found: dict[str, Certificate], tmp_path: Path) -> 
                 refused(Certificate(tuple(lines)))
             refused(Certificate((*certificate.lines[:number], *certificate.lines[number + 1 :])))
     path = tmp_path / "claim"
-    path.write_text("\n".join(found["least"].lines).replace("cell", "sell") + "\n")
-    assert main(["check", str(path)]) == 1
+    text = "\n".join(found["least"].lines) + "\n"
+    for spoiled in (text.replace("cell", "sell"), text[1:], text.partition("\n")[2], text[:-2]):
+        path.write_text(spoiled)
+        assert main(["check", str(path)]) == 1
 
 
 def test_another_network_shows(found: dict[str, Certificate], tmp_path: Path) -> None:
@@ -219,6 +222,7 @@ def test_a_choice_that_leaves_out_a_value(found: dict[str, Certificate]) -> None
     refused(signed(lines))
 
 
+@settings(max_examples=30 * TIMES)
 @given(model_lines(), st.data())
 def test_random_values_spoilt(lines: list[str], data: st.DataObject) -> None:
     """A plan of a random model with another value checks just where that is a plan too."""

@@ -30,7 +30,7 @@ def fitting(model: LineModel) -> dict[frozenset[str], bool]:
     return {some: any(some <= held for held in holding) for some in subsets(model.believed())}
 
 
-@settings(max_examples=40 * TIMES)
+@settings(max_examples=30 * TIMES)
 @given(model_lines(conflicting=True))
 def test_conflicts_and_repairs_are_all_there_are(lines: list[str]) -> None:
     with Session() as session:
@@ -56,7 +56,7 @@ def test_conflicts_and_repairs_are_all_there_are(lines: list[str]) -> None:
         assert found.certificate.check() and mended.certificate.check()
 
 
-@settings(max_examples=40 * TIMES)
+@settings(max_examples=30 * TIMES)
 @given(model_lines(), st.data())
 def test_bounds_are_those_of_all_plans(lines: list[str], data: st.DataObject) -> None:
     with Session() as session:
@@ -74,7 +74,7 @@ def test_bounds_are_those_of_all_plans(lines: list[str], data: st.DataObject) ->
                 assert found.certificate.check()
 
 
-@settings(max_examples=40 * TIMES)
+@settings(max_examples=30 * TIMES)
 @given(model_lines(), st.data())
 def test_plans_are_all_there_are(lines: list[str], data: st.DataObject) -> None:
     with Session() as session:

@@ -55,13 +55,34 @@ def test_what_nothing_fits_is_said() -> None:
         assert w.repairs() == [frozenset()]
         w.require(x > 20)
         assert w.conflicts() == [frozenset()] and w.repairs() == []
-        assert str(w.conflicts()) == "What always holds can't hold, whatever is believed."
+        assert str(w.conflicts()) == "What always holds can't hold, whatever else is believed."
         assert str(w.repairs()).startswith("There is no repair")
         best = w.least(x)
         assert best.value is None and best.proved and best.certificate.check()
         assert str(best) == "The least x: nothing fits." and w.plans() == []
         assert str(w.plans()) == "Nothing fits." and w.plans().certificate.check()
         assert w.conflicts().certificate.check() and w.repairs().certificate.check()
+
+
+def test_what_is_kept_is_in_no_conflict() -> None:
+    with Workbench() as w:
+        x = w.number("x", 0, 9)
+        for name, low, high in (("a", 0, 3), ("b", 2, 5), ("c", 4, 9), ("d", 7, 9)):
+            w.tell(name, x, low, high)
+        assert {*map(frozenset, w.conflicts())} == {
+            frozenset("ac"),
+            frozenset("ad"),
+            frozenset("bd"),
+        }
+        kept = w.conflicts(keep=["a"])
+        assert kept == [{"c"}, {"d"}] and kept.complete and kept.certificate.check()
+        mended = w.repairs(keep=["a"])
+        assert mended == [{"c", "d"}] and mended.certificate.check()
+        assert w.conflicts(keep=["a", "c"]) == [frozenset()] and w.repairs(keep=["a", "c"]) == []
+        assert str(w.conflicts(keep="ac")).startswith("What always holds with what is kept can't")
+        assert (
+            w.conflicts(keep="ac").certificate.check() and w.repairs(keep="ac").certificate.check()
+        )
 
 
 def test_what_is_wrong_is_told() -> None:

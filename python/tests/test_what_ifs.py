@@ -148,6 +148,7 @@ def test_what_differs(w: Workbench) -> None:
     assert set(found) == {"premise ana", "premise new", "x", "y", "the end"}
     assert found["x"].before == "5..7" and found["x"].now == "3" and found["x"].why == ("new",)
     assert found["premise new"].before == "not there"
+    assert w.diff(yesterday).certificate.check()
     w.bring("late")
     [conflict] = [each for each in w.diff(yesterday) if each.what == "what is believed"]
     assert conflict.before == "fits" and set(conflict.why) == {"short", "late"}

@@ -263,6 +263,7 @@ def _wrong(w: Workbench) -> dict[str, Any]:
         ("x + 10**18 + 10**19", ValueError, "10000000000000000000 lies beyond 10^18"),
         ("t & 1", TypeError, "write True or False"),
         ("x ** -1", TypeError, "a constant whole number from 0: -1"),
+        ("x == '3'", TypeError, "'3' is no whole number"),
         ("list(x)", TypeError, "one value, not several"),
         ("d == 'sun'", ValueError, "'sun' is no element of day (mon tue)"),
         ("d == 3", TypeError, "3 is not an element of day"),

@@ -19,8 +19,19 @@ from modelling import (
     truths,
 )
 
-from propbench import Refused, Session, Workbench
-from propbench.model.saving import NotAWorkbench
+from propbench import (
+    NotAWorkbench,
+    Refused,
+    Session,
+    Workbench,
+    all_different,
+    count,
+    if_else,
+    maximum,
+    minimum,
+)
+from propbench.model.events import Required
+from propbench.model.script import Script
 
 
 def stated(program: str, recipes: list[Recipe]) -> Bench:
@@ -184,3 +195,29 @@ def test_a_line_refused_leaves_nothing(program: str) -> None:
         w.require(x <= 3)
         assert x.ask().high == 3
         assert w.number("y", 0, 3).ask().high == 3
+
+
+WIDER = {"max", "min", "abs", "if", "divide", "count3", "different3"}
+
+
+def test_the_wider_kit_is_used_where_it_is_there(program: str) -> None:
+    """The lines as they would be for a program that has it: by its compounds' order of cells."""
+    with Workbench(program) as w:
+        x, y, t = w.number("x", 0, 9), w.number("y", 1, 9), w.truth("t")
+        stated = [
+            (maximum(x, y) == 5, ["attach max x y _1"]),
+            (minimum(x, y, 7) == 5, ["attach min y _3 _2", "attach min x _2 _1"]),
+            (abs(x - y) == 5, ["attach abs _2 _1"]),
+            (if_else(t, x, y) == 5, ["attach if t x y _1"]),
+            (x // y == 5, ["attach divide x y _1 _2"]),
+            (x % y == 5, ["attach divide x y _2 _1"]),
+            (count(t, x == 1, y == 1) == 2, ["attach count3 t _2 _4 _1"]),
+            (all_different(x, y, 5), ["attach different3 x y _1"]),
+        ]
+        events, vocabulary = w._network.events, w._network.vocabulary
+        for constraint, wanted in stated:
+            script = Script(vocabulary, lambda name: True)
+            for event in events:
+                script.lines_of(event)
+            lines = script.lines_of(Required(constraint.node, None))
+            assert [line for line in lines if line.split()[1] in WIDER] == wanted

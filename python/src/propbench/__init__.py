@@ -19,6 +19,7 @@ from propbench.model.expressions import (
     pairs,
     total,
 )
+from propbench.model.saving import NotAWorkbench
 from propbench.program import ProgramEnded
 from propbench.questions import Certificate, CertificateError, Interrupted
 from propbench.refusals import (
@@ -82,6 +83,7 @@ __all__ = [
     "NoSuchRelation",
     "Nogoods",
     "NotAName",
+    "NotAWorkbench",
     "NotANumberInRange",
     "NotInTheDomain",
     "NotSettled",

@@ -6,6 +6,7 @@ was found by many questions, and the program is asked what shows that.
 """
 
 import json
+import re
 from collections.abc import Iterator, Mapping
 from dataclasses import dataclass
 
@@ -15,6 +16,10 @@ from propbench.questions.certificate import check_base, check_lines
 from propbench.questions.checker import HEAD, CertificateError
 from propbench.running import Way, report
 from propbench.showing import printable, quoted
+
+
+# What a certificate ends with, whatever is wrong with it otherwise.
+_CHECKSUM = re.compile(r"\n[0-9a-f]{64}\s*$")
 
 
 class NoReport(Exception):
@@ -65,7 +70,7 @@ def check_file(path: str, program: str | None, base: str | None = None) -> int:
     `Session` does."""
     with open(path, encoding="utf-8") as file:
         text = file.read()
-    if text.startswith(HEAD):
+    if text.startswith(HEAD) or _CHECKSUM.search(text):
         return _check_certificate(text.removesuffix("\n").split("\n"), program, base)
     if base is not None:
         raise NoReport(f"{printable(path)}: no certificate, whose base could be compared")

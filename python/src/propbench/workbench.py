@@ -53,7 +53,19 @@ SomeCell = TypeVar("SomeCell", bound=Cell)
 
 
 class Workbench(Questions):
-    """A network of cells with constraints, some of them under premises, and what follows."""
+    """A network of cells with constraints, some of them under premises, and what follows.
+
+    Cells come from `number`, `truth`, `element` (of a `domain`) and `symbol`. What holds between
+    them is stated by `require`, values by `fix` and `tell`, alternatives by `choose`. With
+    `under=` a statement belongs to a premise, which `kick` takes out, `bring` takes in again, and
+    `forget` removes. Of a cell one asks `x.ask()`, `x.why()` and `x.core()`; `table` and `show`
+    tell of several. Where what is believed can't all hold, a question raises Conflict.
+
+    Questions that take many asks are methods too: `conflicts`, `repairs`, `least`, `greatest`,
+    `plans`, `what_if` and others. `save` and `load` keep a workbench in a file.
+
+    Each statement is carried out at once, or refused as a whole by ValueError or TypeError.
+    """
 
     def __init__(
         self,
@@ -400,7 +412,7 @@ class Workbench(Questions):
         """What the cell may be in some plan, whatever the choices take."""
         found = over_all_plans(self, cell, seconds)
         if found is None:
-            [conflict] = self.conflicts(most=1)
+            conflict = next(iter(self.conflicts(most=1)), ())
             says = {name: self._network.premises.text(name) for name in conflict}
             raise Conflict(tuple(says), says)
         value, is_settled = found
@@ -422,8 +434,9 @@ class Workbench(Questions):
         kept = map(names.text, shrunk(self.session, believed, found.premises))
         says = {name: self._network.premises.text(name) for name in kept}
         notes = beyond(self._network, list(says))
-        if not says:
-            notes += [f"not all of this: {'; '.join(texts)}" for texts in [always(self._network)]]
+        texts = [] if says else always(self._network)
+        if texts:
+            notes.append(f"not all of this: {'; '.join(texts)}")
         return Conflict(tuple(says), says, tuple(notes))
 
     def _declared(

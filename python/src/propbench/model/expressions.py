@@ -6,7 +6,8 @@ names of elements and symbols.
 """
 
 from collections.abc import Iterable, Mapping
-from typing import NoReturn, TypeVar, cast, overload
+from operator import index
+from typing import NoReturn, SupportsIndex, TypeVar, cast, overload
 
 from propbench.model.kinds import MOST, Domain, Kind, Plain, Point, kind_text
 from propbench.model.meaning import value_of
@@ -244,13 +245,14 @@ def point_of(value: object, kind: Kind) -> Point:
 
 
 def _checked_number(value: object) -> int:
-    if isinstance(value, bool) or not isinstance(value, int):
-        if isinstance(value, float):
-            raise TypeError(f"numbers are whole, and {value!r} is written with a point")
+    if isinstance(value, float):
+        raise TypeError(f"numbers are whole, and {value!r} is written with a point")
+    if isinstance(value, bool) or not isinstance(value, SupportsIndex):
         raise TypeError(f"{value!r} is no whole number")
-    if abs(value) > MOST:
-        raise ValueError(f"{value} lies beyond 10^18 either way")
-    return int(value)
+    number = index(value)
+    if abs(number) > MOST:
+        raise ValueError(f"{number} lies beyond 10^18 either way")
+    return number
 
 
 def _checked_element(value: str, domain: Domain) -> str:

@@ -190,9 +190,7 @@ class Translation:
                 self._unite(each.args[0], each.args[1], context)
                 self._is_known(core, holds, context)
             else:
-                cells = [self.cell_of(arg, context) for arg in each.args]
-                truth = self._known(holds, context)
-                self.writer.attach("less" if each.op is Op.LESS else "alike", *cells, truth)
+                self._truths.compare(each, self._known(holds, context), context)
                 self._is_known(core, holds, context)
 
     def _compared_with_constant(self, each: Node, holds: bool, context: Context) -> bool:

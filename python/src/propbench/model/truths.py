@@ -34,7 +34,7 @@ class Truths:
             self.any_into(each, cell, context)
         else:
             assert each.op is Op.RAW
-            self._compare(each.args[0], cell, context)
+            self._define_comparison(each.args[0], cell, context)
 
     def all_into(self, each: Node, cell: str, context: Context) -> None:
         """Has a cell tell whether all of these hold."""
@@ -43,6 +43,15 @@ class Truths:
     def any_into(self, each: Node, cell: str, context: Context) -> None:
         """Has a cell tell whether one of these holds."""
         self._chain("or", each, cell, context)
+
+    def compare(self, each: Node, truth: str, context: Context) -> None:
+        """Has a cell tell whether two are the same, or the first is less."""
+        cells = [self._all.cell_of(arg, context) for arg in each.args]
+        if each.op is Op.EQUAL and each.args[0].kind is Plain.TRUTH:
+            # (of what isn't known to be one of both no `parter` tells that it differs)
+            for known in cells:
+                self._writer.narrow(known, TRUTHS, Plain.TRUTH, context)
+        self._writer.attach("less" if each.op is Op.LESS else "alike", *cells, truth)
 
     def different_at_once(self, each: Node, context: Context) -> None:
         """States that all differ, where the program can tell more from all at once than from any
@@ -81,7 +90,7 @@ class Truths:
                 self._all.join(part, made, context)
             before = context.cells[part]
 
-    def _compare(self, each: Node, cell: str, context: Context) -> None:
+    def _define_comparison(self, each: Node, cell: str, context: Context) -> None:
         if each.op is Op.ALL_DIFFERENT:
             self._all.define_as(different(each), context, cell)
         elif each.op is Op.AMONG:
@@ -89,12 +98,7 @@ class Truths:
         elif each.op is Op.PAIR:
             self._pair(each, cell, context)
         else:
-            cells = [self._all.cell_of(arg, context) for arg in each.args]
-            if each.op is Op.EQUAL and each.args[0].kind is Plain.TRUTH:
-                # (what isn't known to be one of both is not told that it differs)
-                for known in cells:
-                    self._writer.narrow(known, TRUTHS, Plain.TRUTH, context)
-            self._writer.attach("less" if each.op is Op.LESS else "alike", *cells, cell)
+            self.compare(each, cell, context)
 
     def _among(self, each: Node, cell: str, context: Context) -> None:
         """One of some elements: by a relation to a domain of `in` and `out`."""

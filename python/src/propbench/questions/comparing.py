@@ -1,24 +1,27 @@
 """What differs between two states of a workbench, or between two workbenches, and why."""
 
-from collections.abc import Mapping, Sequence
+from collections.abc import Iterable, Mapping, Sequence
 from dataclasses import dataclass
 from typing import Any
 
 from propbench.questions.bench import Bench
-from propbench.questions.scenarios import Asking, Row
+from propbench.questions.certificate import Certificate
 from propbench.questions.clock import Clock
+from propbench.questions.scenarios import Asking
 from propbench.questions.shown import Shown, listed, said, shortened
 
 
 @dataclass(frozen=True)
 class Snapshot:
     """What a workbench stated and answered at a time: for each premise what it says and whether it
-    is believed, for each cell the answer; or the premises of a conflict. It can be pickled."""
+    is believed, for each cell the answer; or the premises of a conflict. It can be pickled. The
+    certificate is of the answers, or the conflict."""
 
     says: Mapping[str, str]
     believed: frozenset[str]
     answers: Mapping[str, Any]
     conflict: tuple[str, ...] | None
+    certificate: Certificate
 
 
 @dataclass(frozen=True)
@@ -32,10 +35,14 @@ class Difference:
 
 
 class Differences(Shown, list[Difference]):
-    """What differs: first what was stated, then what follows for the cells."""
+    """What differs: first what was stated, then what follows for the cells. The certificate is of
+    the answers now."""
 
     complete = True
-    _certificate = None
+
+    def __init__(self, found: Iterable[Difference], certificate: Certificate) -> None:
+        super().__init__(found)
+        self._certificate = certificate
 
     def headline(self) -> str:
         if not self:
@@ -56,10 +63,11 @@ def snapshot_of(bench: Bench) -> Snapshot:
     model = bench.model
     asking = Asking(bench, {"now": {}}, model.cells(), Clock(None, None))
     asking.here()
-    row: Row = asking.result()["now"]
+    table = asking.result()
+    row = table["now"]
     says = {premise: model.text(premise) for premise in model.premises()}
     conflict = None if row.conflict is None else row.conflict.names
-    return Snapshot(says, frozenset(model.believed()), dict(row), conflict)
+    return Snapshot(says, frozenset(model.believed()), dict(row), conflict, table.certificate)
 
 
 def differences(before: Snapshot, now: Snapshot) -> Differences:
@@ -78,7 +86,7 @@ def differences(before: Snapshot, now: Snapshot) -> Differences:
         values = _value(old), _value(new)
         if values[0] != values[1]:
             found.append(Difference(cell, *values, new.because if new else ()))
-    return Differences(found)
+    return Differences(found, now.certificate)
 
 
 def _state(snapshot: Snapshot, premise: str) -> str:

@@ -56,18 +56,20 @@ class Conflicts(Shown, list[Conflict]):
         found: Iterable[Conflict],
         complete: bool,
         texts: Mapping[str, str],
+        kept: Sequence[str],
         certificate: Certificate,
     ) -> None:
         super().__init__(found)
         self.complete = complete
         self._texts = texts
+        self._given = _given(kept)
         self._certificate = certificate
 
     def headline(self) -> str:
         if self.complete and not self:
             return "No conflict: all that is believed fits together."
         if self.complete and not self[0]:
-            return "What always holds can't hold, whatever is believed."
+            return f"{self._given.capitalize()} can't hold, whatever else is believed."
         number = f"{len(self)} conflict{'' if len(self) == 1 else 's'}"
         return f"{number}, {'no others' if self.complete else f'others are {NOT_REFUTED}'}:"
 
@@ -86,16 +88,16 @@ class Repairs(Shown, list[Repair]):
     """Repairs of what is believed, the cheapest first; all there are where it is `complete`."""
 
     def __init__(
-        self, found: Iterable[Repair], complete: bool, has_conflict: bool, certificate: Certificate
+        self, found: Iterable[Repair], complete: bool, kept: Sequence[str], certificate: Certificate
     ) -> None:
         super().__init__(found)
         self.complete = complete
-        self._has_conflict = has_conflict
+        self._given = _given(kept)
         self._certificate = certificate
 
     def headline(self) -> str:
         if self.complete and not self:
-            return "There is no repair: what always holds can't hold, whatever is believed."
+            return f"There is no repair: {self._given} can't hold, whatever else is believed."
         if self.complete and not self[0]:
             return "Nothing has to be given up: all that is believed fits together."
         number = f"{len(self)} repair{'' if len(self) == 1 else 's'}"
@@ -106,6 +108,11 @@ class Repairs(Shown, list[Repair]):
 
     def rows(self) -> Sequence[Sequence[object]]:
         return [(f"{repair.cost:g}", str(repair)) for repair in self]
+
+
+def _given(kept: Sequence[str]) -> str:
+    """What is not to be given up, in a sentence."""
+    return "what always holds" if not kept else "what always holds with what is kept"
 
 
 def find_conflicts(
@@ -129,7 +136,7 @@ def find_conflicts(
             found.append(Conflict(explored.names(refuted.mask)))
             found[-1].least = refuted.least
         certificate = _certificate(explored, [])
-        return Conflicts(found, explored.complete, _texts(model), certificate)
+        return Conflicts(found, explored.complete, _texts(model), explored.kept, certificate)
 
     return tried(explored.trial, run, result)
 
@@ -160,7 +167,7 @@ def find_repairs(
             found.append(Repair(explored.names(mask)))
             found[-1].cost = explored.cost(mask)
         certificate = _certificate(explored, explored.repairs)
-        return Repairs(found, explored.complete, bool(explored.conflicts), certificate)
+        return Repairs(found, explored.complete, explored.kept, certificate)
 
     return tried(explored.trial, run, result)
 

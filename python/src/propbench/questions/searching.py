@@ -49,12 +49,13 @@ def _plan_in(trial: Trial, premises: Sequence[str], seen: Seen) -> Fits | None:
 
 
 def _searched(trial: Trial, premises: tuple[str, ...], told: tuple[Case, ...]) -> Outcome:
-    while True:
+    while not trial.clock.is_over():
+        trial.clock.tick()
         seen = trial.look(premises, told)
         if isinstance(seen, Contradiction):
             return Cannot(frozenset(seen.premises), None)
         if not isinstance(seen, dict):
-            return Open("there was no time for more")
+            break
         loose = [cell for cell, held in seen.items() if single(held) is None]
         if not loose:
             fits = _plan_in(trial, premises, seen)
@@ -62,6 +63,7 @@ def _searched(trial: Trial, premises: tuple[str, ...], told: tuple[Case, ...]) -
         if not trial.cover_some(loose):
             corner = _plan_in(trial, premises, trial.look_at_corner(premises, told, seen))
             return corner or _forked(trial, premises, told, _halved(trial, loose, seen, told))
+    return Open("there was no time for more")
 
 
 def _halved(

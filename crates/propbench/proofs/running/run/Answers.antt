@@ -15,25 +15,25 @@ use Rattle.prop_program.proofs.Starts.{nothing_yet, nothing_worked}
 use Rattle.propbench.proofs.running.run.Goals as goal
 
 pub returns-in_err-ins-clause-err : goal.returns-in_err-ins-clause-err
-returns-in_err-ins-clause-err g c = on_err _ _ (nothing_yet _ _ _ _)
+returns-in_err-ins-clause-err g c = on_err _ _ (nothing_yet kit _ _ _)
 
 pub returns-in_err-ins-clause-earned_in_part : goal.returns-in_err-ins-clause-earned_in_part
 returns-in_err-ins-clause-earned_in_part g c =
-    on_err _ _ (nothing_worked _ c.args.options.order c.args.options.seed c.args.options.limit _ _)
+    on_err _ _ (nothing_worked kit c.args.options.order c.args.options.seed c.args.options.limit _ _)
 
 pub returns-in_err-call-clause-err : goal.returns-in_err-call-clause-err
-returns-in_err-call-clause-err g c = on_err _ _ (nothing_yet _ _ _ _)
+returns-in_err-call-clause-err g c = on_err _ _ (nothing_yet kit _ _ _)
 
 pub returns-in_err-call-clause-earned_in_part : goal.returns-in_err-call-clause-earned_in_part
 returns-in_err-call-clause-earned_in_part g c =
-    on_err _ _ (nothing_worked _ c.args.options.order c.args.options.seed c.args.options.limit _ _)
+    on_err _ _ (nothing_worked kit c.args.options.order c.args.options.seed c.args.options.limit _ _)
 
 pub returns-in_err-push-clause-err : goal.returns-in_err-push-clause-err
-returns-in_err-push-clause-err g c = on_err _ _ (nothing_yet _ _ _ _)
+returns-in_err-push-clause-err g c = on_err _ _ (nothing_yet kit _ _ _)
 
 pub returns-in_err-push-clause-earned_in_part : goal.returns-in_err-push-clause-earned_in_part
 returns-in_err-push-clause-earned_in_part g c =
-    on_err _ _ (nothing_worked _ c.args.options.order c.args.options.seed c.args.options.limit _ _)
+    on_err _ _ (nothing_worked kit c.args.options.order c.args.options.seed c.args.options.limit _ _)
 
 pub new-requires-in-loop-rule-clause-some_inputs : goal.new-requires-in-loop-rule-clause-some_inputs
 new-requires-in-loop-rule-clause-some_inputs g c = rw (c.in_ok-ins.ensures.ok, c.ins.ensures) (kit_few _).0
