@@ -1,6 +1,6 @@
 -- The procedures that the program makes, one after another.
 use Rattle.std.proofs.Common.{◌≡◌, ◌∙◌, ℕ, zero, suc, ◌+◌, ◌<◌, ◌≤◌, ap, List, [], ◌∷◌, ◌++◌, length, map, take, get_or}
-use Rattle.std.proofs.Common.{refl, sym, subst, arith, All}
+use Rattle.std.proofs.Common.{refl, sym, subst, arith, All, lit≤}
 use Rattle.std.proofs.lemmas.List.{append_assoc, take_more, take_all, map-append, length-map, get_or-map}
 use Rattle.std.proofs.lemmas.List.Elements.{All-head, All-tail, All-map, All-append}
 use Rattle.std.proofs.lemmas.Option.{none-some, same_Some}
@@ -61,64 +61,64 @@ wide_made : (p : Named) → IsWideFormed p → IsFormed (of_wide p)
 wide_made p h = record { some = h.some; few = h.few; formed = (h.has_inputs, refl, refl) }
 
 wides_formed : All IsWideFormed named
-wides_formed = all_from IsWideFormed named ((
-  record { has_inputs = refl; some = omega arith; few = omega arith },
+wides_formed = all_from IsWideFormed named (
+  record { has_inputs = refl; some = lit≤ tt; few = lit≤ tt },
   (
-    record { has_inputs = refl; some = omega arith; few = omega arith },
+    record { has_inputs = refl; some = lit≤ tt; few = lit≤ tt },
     (
-      record { has_inputs = refl; some = omega arith; few = omega arith },
+      record { has_inputs = refl; some = lit≤ tt; few = lit≤ tt },
       (
-        record { has_inputs = refl; some = omega arith; few = omega arith },
+        record { has_inputs = refl; some = lit≤ tt; few = lit≤ tt },
         (
-          record { has_inputs = refl; some = omega arith; few = omega arith },
+          record { has_inputs = refl; some = lit≤ tt; few = lit≤ tt },
           (
-            record { has_inputs = refl; some = omega arith; few = omega arith },
+            record { has_inputs = refl; some = lit≤ tt; few = lit≤ tt },
             (
-              record { has_inputs = refl; some = omega arith; few = omega arith },
+              record { has_inputs = refl; some = lit≤ tt; few = lit≤ tt },
               (
-                record { has_inputs = refl; some = omega arith; few = omega arith },
+                record { has_inputs = refl; some = lit≤ tt; few = lit≤ tt },
                 (
-                  record { has_inputs = refl; some = omega arith; few = omega arith },
+                  record { has_inputs = refl; some = lit≤ tt; few = lit≤ tt },
                   (
-                    record { has_inputs = refl; some = omega arith; few = omega arith },
+                    record { has_inputs = refl; some = lit≤ tt; few = lit≤ tt },
                     (
-                      record { has_inputs = refl; some = omega arith; few = omega arith },
+                      record { has_inputs = refl; some = lit≤ tt; few = lit≤ tt },
                       (
-                        record { has_inputs = refl; some = omega arith; few = omega arith },
+                        record { has_inputs = refl; some = lit≤ tt; few = lit≤ tt },
                         (
-                          record { has_inputs = refl; some = omega arith; few = omega arith },
+                          record { has_inputs = refl; some = lit≤ tt; few = lit≤ tt },
                           (
-                            record { has_inputs = refl; some = omega arith; few = omega arith },
+                            record { has_inputs = refl; some = lit≤ tt; few = lit≤ tt },
                             (
-                              record { has_inputs = refl; some = omega arith; few = omega arith },
+                              record { has_inputs = refl; some = lit≤ tt; few = lit≤ tt },
                               (
-                                record { has_inputs = refl; some = omega arith; few = omega arith },
+                                record { has_inputs = refl; some = lit≤ tt; few = lit≤ tt },
                                 (
-                                  record { has_inputs = (refl, refl); some = omega arith; few = omega arith },
+                                  record { has_inputs = (refl, refl); some = lit≤ tt; few = lit≤ tt },
                                   (
-                                    record { has_inputs = (refl, refl); some = omega arith; few = omega arith },
+                                    record { has_inputs = (refl, refl); some = lit≤ tt; few = lit≤ tt },
                                     (
-                                      record { has_inputs = (refl, refl); some = omega arith; few = omega arith },
+                                      record { has_inputs = (refl, refl); some = lit≤ tt; few = lit≤ tt },
                                       (
-                                        record { has_inputs = (refl, refl); some = omega arith; few = omega arith },
+                                        record { has_inputs = (refl, refl); some = lit≤ tt; few = lit≤ tt },
                                         (
-                                          record { has_inputs = (refl, refl); some = omega arith; few = omega arith },
+                                          record { has_inputs = (refl, refl); some = lit≤ tt; few = lit≤ tt },
                                           (
-                                            record { has_inputs = (refl, refl); some = omega arith; few = omega arith },
+                                            record { has_inputs = (refl, refl); some = lit≤ tt; few = lit≤ tt },
                                             (
-                                              record { has_inputs = (refl, refl); some = omega arith; few = omega arith },
+                                              record { has_inputs = (refl, refl); some = lit≤ tt; few = lit≤ tt },
                                               (
-                                                record { has_inputs = (refl, refl); some = omega arith; few = omega arith },
+                                                record { has_inputs = (refl, refl); some = lit≤ tt; few = lit≤ tt },
                                                 (
-                                                  record { has_inputs = refl; some = omega arith; few = omega arith },
+                                                  record { has_inputs = refl; some = lit≤ tt; few = lit≤ tt },
                                                   (
-                                                    record { has_inputs = refl; some = omega arith; few = omega arith },
+                                                    record { has_inputs = refl; some = lit≤ tt; few = lit≤ tt },
                                                     (
-                                                      record { has_inputs = refl; some = omega arith; few = omega arith },
+                                                      record { has_inputs = refl; some = lit≤ tt; few = lit≤ tt },
                                                       (
-                                                        record { has_inputs = refl; some = omega arith; few = omega arith },
+                                                        record { has_inputs = refl; some = lit≤ tt; few = lit≤ tt },
                                                         (
-                                                          record { has_inputs = refl; some = omega arith; few = omega arith },
+                                                          record { has_inputs = refl; some = lit≤ tt; few = lit≤ tt },
                                                           tt,
                                                         ),
                                                       ),
@@ -149,7 +149,6 @@ wides_formed = all_from IsWideFormed named ((
     ),
   ),
 )
-    )
 
 excluder_made : (rule : Excluder) → IsFormed (of_excluder rule)
 excluder_made rule = record { some = few.0; few = few.1; formed = (refl, refl, refl) }

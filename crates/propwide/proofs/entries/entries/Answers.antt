@@ -34,8 +34,8 @@ loop-name-preserved c = record {
 pub loop-rule-2-init : goal.loop-rule-2-init
 loop-rule-2-init c =
     let past = c.loop-name-test.false in record {
-      listed = from_rows c.loop-name.made.items (map of_kit kits) c.loop-name.name-index _ _ c.loop-name.invariant.listed
-          (omega (arith, past)) c.procedures_are_stated.ensures.stated
+      listed = from_rows c.loop-name.made.items (map of_kit kits) c.loop-name.name-index _ _
+          c.loop-name.invariant.listed (omega (arith, past)) c.procedures_are_stated.ensures.stated
           ∙ sym (append-nil (map of_kit kits ++ map of_wide named));
     }
 

@@ -15,7 +15,8 @@ use Rattle.propwide.proofs.Making.{stored_made, stored_is, more, all_stored, ent
 use Rattle.propwide.proofs.running.run.Goals as goal
 
 pub returns-in_err-prelude-clause-err : goal.returns-in_err-prelude-clause-err
-returns-in_err-prelude-clause-err g c = on_err _ _ (nothing_yet wide (g.Rd.Read.remaining (device (reader c.args.devices.now)))
+returns-in_err-prelude-clause-err g c =
+    on_err _ _ (nothing_yet wide (g.Rd.Read.remaining (device (reader c.args.devices.now)))
     (g.W.Write.contents (device (writer c.args.devices.now)))
     c.args.options.limit)
 
@@ -35,7 +36,8 @@ returns-in_err-prelude-clause-devices g c =
     (told_first p.0 c.args.devices.now p.2 c.requires.reader c.requires.writer)
 
 pub returns-in_err-made-clause-err : goal.returns-in_err-made-clause-err
-returns-in_err-made-clause-err g c = on_err _ _ (nothing_yet wide (g.Rd.Read.remaining (device (reader c.args.devices.now)))
+returns-in_err-made-clause-err g c =
+    on_err _ _ (nothing_yet wide (g.Rd.Read.remaining (device (reader c.args.devices.now)))
     (g.W.Write.contents (device (writer c.args.devices.now)))
     c.args.options.limit)
 
@@ -55,7 +57,8 @@ returns-in_err-made-clause-devices g c =
     (told_first p.0 c.args.devices.now p.2 c.requires.reader c.requires.writer)
 
 pub returns-in_err-ins-clause-err : goal.returns-in_err-ins-clause-err
-returns-in_err-ins-clause-err g c = on_err _ _ (nothing_yet wide (g.Rd.Read.remaining (device (reader c.args.devices.now)))
+returns-in_err-ins-clause-err g c =
+    on_err _ _ (nothing_yet wide (g.Rd.Read.remaining (device (reader c.args.devices.now)))
     (g.W.Write.contents (device (writer c.args.devices.now)))
     c.args.options.limit)
 
@@ -75,7 +78,8 @@ returns-in_err-ins-clause-devices g c =
     (told_first p.0 c.args.devices.now p.2 c.requires.reader c.requires.writer)
 
 pub returns-in_err-call-clause-err : goal.returns-in_err-call-clause-err
-returns-in_err-call-clause-err g c = on_err _ _ (nothing_yet wide (g.Rd.Read.remaining (device (reader c.args.devices.now)))
+returns-in_err-call-clause-err g c =
+    on_err _ _ (nothing_yet wide (g.Rd.Read.remaining (device (reader c.args.devices.now)))
     (g.W.Write.contents (device (writer c.args.devices.now)))
     c.args.options.limit)
 
@@ -95,7 +99,8 @@ returns-in_err-call-clause-devices g c =
     (told_first p.0 c.args.devices.now p.2 c.requires.reader c.requires.writer)
 
 pub returns-in_err-push-clause-err : goal.returns-in_err-push-clause-err
-returns-in_err-push-clause-err g c = on_err _ _ (nothing_yet wide (g.Rd.Read.remaining (device (reader c.args.devices.now)))
+returns-in_err-push-clause-err g c =
+    on_err _ _ (nothing_yet wide (g.Rd.Read.remaining (device (reader c.args.devices.now)))
     (g.W.Write.contents (device (writer c.args.devices.now)))
     c.args.options.limit)
 
@@ -136,8 +141,8 @@ loop-entry-preserved g c =
       means = AllMean-push answer_of _ _ _ c.in_ok-push.ensures.items c.loop-entry.invariant.means p.means;
       listed = more (stored_as answer_of) (λ e. stored_made (shown e)) _ _ _ _ _ _ [] c.in_ok-push.ensures.items
           c.loop-entry-test.true
-          (stored_is c.new-in-loop-entry.result (get_or c.deref-entry-items.result.now c.loop-entry.entry-index _) p.name
-          (p.ins ∙ c.in_ok-ins.ensures.ok) p.out p.need (p.rule ∙ c.copied.ensures))
+          (stored_is c.new-in-loop-entry.result (get_or c.deref-entry-items.result.now c.loop-entry.entry-index _)
+          p.name (p.ins ∙ c.in_ok-ins.ensures.ok) p.out p.need (p.rule ∙ c.copied.ensures))
           c.loop-entry.invariant.listed;
     }
 
