@@ -128,7 +128,7 @@ all_merged y others count known past m =
     (each_selected (λ s. Below (told_by y s) known) others (λ c l. m.each c (omega (arith, l, past))))))
 
 -- how many of them there are, as the code computes it
-pub count_is : (n : ℕ) → n < 8 → 1 * 2 ^ n % 2 ^ 64 ≡ 2 ^ n
+pub count_is : (n : ℕ) → n < 9 → 1 * 2 ^ n % 2 ^ 64 ≡ 2 ^ n
 count_is n few =
     let below : n < 64 = omega (arith, few) in
     let within : 2 ^ n < 2 ^ 64 = pow-lt below in

@@ -1,6 +1,5 @@
 pub mod SelectedLemmas
 pub mod ExcludeLemmas
-pub mod PlaceLemmas
 pub mod WideLemmas
 pub mod CountLemmas
 pub mod HallLemmas

@@ -228,7 +228,7 @@ each_number : (ps : List ℕ) → Each (λ i. ⊤) ps
 each_number [] = tt
 each_number (p ∷ ps) = (tt, each_number ps)
 
-left_held : (y : sets.Elements) (ss : List sets.Elements) (j : ℕ) → length ss < 8 → IsLeft y ss j
+left_held : (y : sets.Elements) (ss : List sets.Elements) (j : ℕ) → length ss < 9 → IsLeft y ss j
     → Holds (excluded_of (Set y) (map Set ss)) (Element j)
 left_held y ss j few l =
     let points = l.1 in

@@ -113,7 +113,7 @@ each_number : (ps : List ℤ) → Each (λ i. ⊤) ps
 each_number [] = tt
 each_number (p ∷ ps) = (tt, each_number ps)
 
-left_held : (y : spans.Span) (ss : List spans.Span) (v : ℤ) → length ss < 8 → IsLeftNumber y ss v
+left_held : (y : spans.Span) (ss : List spans.Span) (v : ℤ) → length ss < 9 → IsLeftNumber y ss v
     → Holds (excluded_of (Span y) (map Span ss)) (Number v)
 left_held y ss v few l =
     let points = l.1 in

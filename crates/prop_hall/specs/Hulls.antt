@@ -1,6 +1,6 @@
 -- What several informations all say, and an information without the points of another.
-use Rattle.std.specs.Prelude.{ℕ, ℤ, pos, ◌+ℤ◌, ◌-ℤ◌, int_le, Bool, ◌==◌, ◌&&◌, if◌then◌else◌}
-use Rattle.std.specs.Prelude.{List, [], ◌∷◌, bit_and, bit_or}
+use Rattle.std.specs.Prelude.{ℕ, ◌-◌, ◌^◌, ℤ, pos, ◌+ℤ◌, ◌-ℤ◌, int_le, Bool, ◌==◌, ◌&&◌}
+use Rattle.std.specs.Prelude.{if◌then◌else◌, List, [], ◌∷◌, bit_and, bit_or}
 use Rattle.std.specs.Int.{w64, bit_not, int_max, int_min}
 use Rattle.prop_lattice.specs.Ends.{span_from, elements_from}
 use Rattle.prop_lattice.specs.Rank.{rank_of}
@@ -28,6 +28,10 @@ hull_of (a ∷ rest) = hull_of_two a (hull_of rest)
 -- how many points an information leaves, for nothing one more than for any span
 abbrev pub points_in : Info → ℕ
 points_in a = rank_of kinds.Span 0 a
+
+-- all elements of a domain that has so many
+abbrev pub all_of : ℕ → Info
+all_of size = elements_from (2 ^ size - 1)
 
 -- ---- without some points
 

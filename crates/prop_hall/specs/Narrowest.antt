@@ -23,10 +23,10 @@ IsLeftNumber y others v = Holds (Span y) (Number v) × (points : List ℤ)
 
 -- of sets, no information that holds all such elements says more
 abbrev pub ExcludedIsNarrowest : Type 0
-ExcludedIsNarrowest = (y : sets.Elements) (others : List sets.Elements) → length others < 8
+ExcludedIsNarrowest = (y : sets.Elements) (others : List sets.Elements) → length others < 9
     → IsNarrowest (IsLeft y others) (excluded_of (Set y) (map Set others))
 
 -- of spans, no information that holds all such numbers says more
 abbrev pub ExcludedSpanIsNarrowest : Type 0
-ExcludedSpanIsNarrowest = (y : spans.Span) (others : List spans.Span) → length others < 8
+ExcludedSpanIsNarrowest = (y : spans.Span) (others : List spans.Span) → length others < 9
     → numbers.IsNarrowest (IsLeftNumber y others) (excluded_of (Span y) (map Span others))

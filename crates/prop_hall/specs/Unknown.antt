@@ -12,5 +12,5 @@ is_known a = true
 
 -- without the others of which nothing is known the answer is the same
 abbrev pub UnknownSaysNothing : Type 0
-UnknownSaysNothing = (y : Info) (others : List Info) → length others < 8
+UnknownSaysNothing = (y : Info) (others : List Info) → length others < 9
     → excluded_of y (filter is_known others) ≡ excluded_of y others

@@ -1,3 +1,2 @@
 pub mod Selected
-pub mod Places
 pub mod Idle

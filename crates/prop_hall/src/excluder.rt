@@ -1,20 +1,20 @@
 //! The rules of excluding: their names, their forms and what they answer.
 ghost use Rattle.std.specs.Prelude.{◌≡◌, ◌<◌};
-ghost use Rattle.std.specs.List.{list_all};
-ghost use Rattle.prop_hall.specs.inner.Places.{is_place};
-ghost use Rattle.prop_hall.specs.Excluder.{FormOf, Related, in_order, ins_of, name_of, others_of};
-ghost use Rattle.prop_hall.specs.Excluder.{value_of};
+ghost use Rattle.prop_hall.specs.Excluder.{FormOf, Related, in_order, ins_of, name_of, need_of};
+ghost use Rattle.prop_hall.specs.Excluder.{among, beside, others_of, out_of, value_of};
 ghost use Rattle.prop_hall.specs.laws.ExcluderLaws.{excluder_monotone, excluder_keeps_kind};
 ghost use Rattle.prop_hall.specs.laws.ExcluderLaws.{excluder_sound};
-ghost use Rattle.prop_procedures.specs.declared.shape.Shape.TheVariants.{Any};
-ghost use Rattle.prop_procedures.specs.declared.shape.Need.TheVariants as needs;
 
 use crate::excluding::exclude;
+use crate::hulls::all_of;
 use prop_lattice::Info;
 use prop_procedures::{Need, Param, Rule, Shape};
 
 /// The rules by how many others there are: from y and the others to y, which differs from each of
 /// them, as they do from each other. All places are of one kind, whichever that is.
+///
+/// With eight others there is no input left for y. That rule is for elements alone, since these are
+/// few: it takes a relation, whose first domain says which elements y may be.
 #[derive(Clone, Copy, Debug, PartialEq, Eq)]
 pub enum Excluder {
     /// From y and one other.
@@ -31,10 +31,12 @@ pub enum Excluder {
     Six,
     /// From y and seven others, which with y are as many inputs as a procedure can have.
     Seven,
+    /// From eight others, of the first domain of a relation.
+    Eight,
 }
 
 /// The rules, each once, by how many others there are.
-pub const EXCLUDERS: [Excluder; 7] = [
+pub const EXCLUDERS: [Excluder; 8] = [
     Excluder::One,
     Excluder::Two,
     Excluder::Three,
@@ -42,23 +44,36 @@ pub const EXCLUDERS: [Excluder; 7] = [
     Excluder::Five,
     Excluder::Six,
     Excluder::Seven,
+    Excluder::Eight,
 ];
 
-/// The shapes of y and of as many others as there can be.
+/// The shapes of y and of as many others as can stand beside it.
 static PLACES: [Shape; 8] = [Shape::Any(0); 8];
 
-/// Whether the shape is that of a place of the rules.
-fn is_place(shape: Shape) -> bool
-    ensures { result ≡ is_place shape }
+/// The shapes of others that leave no place for y.
+static SIDES: [Shape; 8] = [Shape::From; 8];
+
+/// What so many others tell of y, the first argument.
+fn beside(many: usize, args: &[Info]) -> Info
+    requires { many < 8 }
+    ensures { result ≡ beside many args.now }
 {
-    matches!(&shape, Shape::Any(0))
+    match args {
+        [y, others @ ..] if others.len() == many => exclude(*y, others),
+        _ => Info::Nothing,
+    }
 }
 
-/// Whether all shapes are.
-fn are_places(shapes: &[Shape]) -> bool
-    ensures { result ≡ list_all is_place shapes.now }
+/// What eight others tell of an element of their domain.
+fn among(param: &Param, others: &[Info]) -> Info
+    ensures { result ≡ among param.now others.now }
 {
-    shapes.iter().all(|shape| is_place(*shape))
+    match param {
+        Param::Rows(relation) if others.len() == 8 => {
+            exclude(all_of(relation.from().size), others)
+        }
+        _ => Info::Nothing,
+    }
 }
 
 impl Excluder {
@@ -74,13 +89,14 @@ impl Excluder {
             Excluder::Five => "excluder5",
             Excluder::Six => "excluder6",
             Excluder::Seven => "excluder7",
+            Excluder::Eight => "excluder8",
         }
     }
 
     /// How many others there are.
     pub fn others(self) -> usize
         ensures value { result ≡ others_of self }
-        ensures few { result < 8 }
+        ensures few { result < 9 }
     {
         match self {
             Excluder::One => 1,
@@ -90,37 +106,47 @@ impl Excluder {
             Excluder::Five => 5,
             Excluder::Six => 6,
             Excluder::Seven => 7,
+            Excluder::Eight => 8,
         }
     }
 
-    /// The shapes of its inputs: y, and then the others.
+    /// The shapes of its inputs: y, and then the others, of which eight stand alone.
     pub fn ins(self) -> &'static [Shape]
         ensures { result.now ≡ ins_of self }
     {
-        &PLACES[..self.others() + 1]
+        match self {
+            Excluder::Eight => &SIDES,
+            _ => &PLACES[..self.others() + 1],
+        }
     }
 
     /// The shape of its output, which is y.
     pub fn out(self) -> Shape
-        ensures { result ≡ Any 0 }
+        ensures { result ≡ out_of self }
     {
-        Shape::Any(0)
+        match self {
+            Excluder::Eight => Shape::From,
+            _ => Shape::Any(0),
+        }
     }
 
-    /// It needs no parameter.
+    /// The parameter that it needs: a relation beside eight others.
     pub fn need(self) -> Need
-        ensures { result ≡ needs.Nothing }
+        ensures { result ≡ need_of self }
     {
-        Need::Nothing
+        match self {
+            Excluder::Eight => Need::Rows,
+            _ => Need::Nothing,
+        }
     }
 
     /// What the rule answers, `Info::Nothing` where the arguments are not as many as its inputs.
-    pub fn run(self, _param: &Param, args: &[Info]) -> Info
-        ensures { (param : Param) → result ≡ value_of self param args.now }
+    pub fn run(self, param: &Param, args: &[Info]) -> Info
+        ensures { result ≡ value_of self param.now args.now }
     {
-        match args {
-            [y, others @ ..] if others.len() == self.others() => exclude(*y, others),
-            _ => Info::Nothing,
+        match self {
+            Excluder::Eight => among(param, args),
+            _ => beside(self.others(), args),
         }
     }
 
@@ -137,10 +163,8 @@ impl Rule for Excluder {
 
     ghost related = { Related };
 
-    #[tactic(auto, using(crate::proofs::PlaceLemmas::places_are))]
     fn has_form(&self, ins: &[Shape], out: Shape, need: Need) -> bool {
-        let many = ins.len() == self.others() + 1;
-        many && are_places(ins) && is_place(out) && need == Need::Nothing
+        ins == self.ins() && out == self.out() && need == self.need()
     }
 
     ghost monotone = { excluder_monotone };

@@ -19,7 +19,7 @@ struct Selection {
 
 /// Those of the others whose bits are set in `chosen`, the first by the lowest bit.
 fn select(others: &[Info], chosen: u64) -> Selection
-    requires { length others.now < 8 }
+    requires { length others.now < 9 }
     ensures members { result.members ≡ length (selected others.now chosen) }
     ensures hull { result.hull ≡ hull_of (selected others.now chosen) }
 {
@@ -55,7 +55,7 @@ fn told(selection: Selection, y: Info) -> Info
 /// The others, as bits, that leave more points than there are others: no selection with one of them
 /// says anything.
 fn wide_among(others: &[Info]) -> u64
-    requires { length others.now < 8 }
+    requires { length others.now < 9 }
     ensures { AreIdle others.now result }
 {
     let many = others.len() as u64;
@@ -69,9 +69,9 @@ fn wide_among(others: &[Info]) -> u64
 }
 
 /// What is known of `y`, which differs from each of the others, where these all differ from each
-/// other too: what all selections of the others say of it. There are at most seven others.
+/// other too: what all selections of the others say of it. There are at most eight others.
 pub fn exclude(y: Info, others: &[Info]) -> Info
-    requires { length others.now < 8 }
+    requires { length others.now < 9 }
     ensures { result ≡ excluded_of y others.now }
 {
     let wide = wide_among(others);

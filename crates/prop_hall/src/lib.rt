@@ -6,8 +6,9 @@
 //! different elements of sets, or different numbers of spans, leave (`exclude_is_narrowest`).
 //! Others of which nothing is known make no difference (`unknown_says_nothing`).
 //!
-//! The rules `Excluder` answer it for one to seven others, in any kind. They are monotone, keep
-//! kinds, and hold each point that differs from different points. Nothing here takes memory.
+//! The rules `Excluder` answer it for one to seven others, in any kind, and for eight among the
+//! elements of a domain. They are monotone, keep kinds, and hold each point that differs from
+//! different points. Nothing here takes memory.
 #![tactic(auto)]
 
 pub mod excluder;

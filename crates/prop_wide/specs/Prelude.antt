@@ -22,6 +22,12 @@ prelude_lines =
     codes
     "define remainder x y r = local q span ; divide x y q r" ∷
     codes
+    "define euclid_divide x y q r = local d span ; local e span ; local f span ; local p span ; abs y d ; quotienter x d e ; product e d p ; product q y p ; abs q f ; abs e f ; sum p r x ; remainderer d r ; divisor_back r d d" ∷
+    codes
+    "define euclid_quotient x y q = local r span ; euclid_divide x y q r" ∷
+    codes
+    "define euclid_remainder x y r = local q span ; euclid_divide x y q r" ∷
+    codes
     "define count1 a n = counter1 a n ; count_back1 n a" ∷
     codes
     "define count2 a b n = counter2 a b n ; count_back2 n b a ; count_back2 n a b" ∷
@@ -121,6 +127,8 @@ different_lines =
     codes
     "define different8 a b c d e f g h = excluder7 a b c d e f g h a ; excluder7 b a c d e f g h b ; excluder7 c a b d e f g h c ; excluder7 d a b c e f g h d ; excluder7 e a b c d f g h e ; excluder7 f a b c d e g h f ; excluder7 g a b c d e f h g ; excluder7 h a b c d e f g h" ∷
     codes
+    "define different9 a b c d e f g h i = excluder8 b c d e f g h i a by * ; excluder8 a c d e f g h i b by * ; excluder8 a b d e f g h i c by * ; excluder8 a b c e f g h i d by * ; excluder8 a b c d f g h i e by * ; excluder8 a b c d e g h i f by * ; excluder8 a b c d e f h i g by * ; excluder8 a b c d e f g i h by * ; excluder8 a b c d e f g h i by *" ∷
+    codes
     "define soft_different2 t a b = local a1 like a ; local b1 like b ; gate t a a1 ; gate t b b1 ; different2 a1 b1" ∷
     codes
     "define soft_different3 t a b c = local a1 like a ; local b1 like b ; local c1 like c ; gate t a a1 ; gate t b b1 ; gate t c c1 ; different3 a1 b1 c1" ∷
@@ -134,6 +142,8 @@ different_lines =
     "define soft_different7 t a b c d e f g = local a1 like a ; local b1 like b ; local c1 like c ; local d1 like d ; local e1 like e ; local f1 like f ; local g1 like g ; gate t a a1 ; gate t b b1 ; gate t c c1 ; gate t d d1 ; gate t e e1 ; gate t f f1 ; gate t g g1 ; different7 a1 b1 c1 d1 e1 f1 g1" ∷
     codes
     "define soft_different8 t a b c d e f g h = local a1 like a ; local b1 like b ; local c1 like c ; local d1 like d ; local e1 like e ; local f1 like f ; local g1 like g ; local h1 like h ; gate t a a1 ; gate t b b1 ; gate t c c1 ; gate t d d1 ; gate t e e1 ; gate t f f1 ; gate t g g1 ; gate t h h1 ; different8 a1 b1 c1 d1 e1 f1 g1 h1" ∷
+    codes
+    "define soft_different9 t a b c d e f g h i = local a1 like a ; local b1 like b ; local c1 like c ; local d1 like d ; local e1 like e ; local f1 like f ; local g1 like g ; local h1 like h ; local i1 like i ; gate t a a1 ; gate t b b1 ; gate t c c1 ; gate t d d1 ; gate t e e1 ; gate t f f1 ; gate t g g1 ; gate t h h1 ; gate t i i1 ; different9 a1 b1 c1 d1 e1 f1 g1 h1 i1 by *" ∷
     []
 
 -- the program's own lines are these

@@ -3,7 +3,7 @@ ghost use Rattle.prop_wide.specs.Prelude.{PreludeIsStated, DifferentIsStated};
 
 /// The definitions over the kit's procedures, its prelude and these, a line of the workbench's
 /// language each, in order.
-pub const PRELUDE: [&'static str; 48] = [
+pub const PRELUDE: [&'static str; 51] = [
     "define max x y z = maximizer x y z ; max_back z y x ; max_back z x y",
     "define min x y z = minimizer x y z ; min_back z y x ; min_back z x y",
     "define abs x y = absoluter x y ; abs_back y x x",
@@ -12,6 +12,9 @@ pub const PRELUDE: [&'static str; 48] = [
     "define divide x y q r = local p span ; quotienter x y q ; product q y p ; sum p r x ; remainderer y r ; divisor_back r y y",
     "define quotient x y q = local r span ; divide x y q r",
     "define remainder x y r = local q span ; divide x y q r",
+    "define euclid_divide x y q r = local d span ; local e span ; local f span ; local p span ; abs y d ; quotienter x d e ; product e d p ; product q y p ; abs q f ; abs e f ; sum p r x ; remainderer d r ; divisor_back r d d",
+    "define euclid_quotient x y q = local r span ; euclid_divide x y q r",
+    "define euclid_remainder x y r = local q span ; euclid_divide x y q r",
     "define count1 a n = counter1 a n ; count_back1 n a",
     "define count2 a b n = counter2 a b n ; count_back2 n b a ; count_back2 n a b",
     "define count3 a b c n = counter3 a b c n ; count_back3 n b c a ; count_back3 n a c b ; count_back3 n a b c",
@@ -56,7 +59,7 @@ pub const PRELUDE: [&'static str; 48] = [
 
 /// The definitions over those and the procedures `excluder1` to `excluder7`, which tell what is
 /// left of a value that differs from others.
-pub const DIFFERENT: [&'static str; 14] = [
+pub const DIFFERENT: [&'static str; 16] = [
     "define different2 a b = excluder1 a b a ; excluder1 b a b",
     "define different3 a b c = excluder2 a b c a ; excluder2 b a c b ; excluder2 c a b c",
     "define different4 a b c d = excluder3 a b c d a ; excluder3 b a c d b ; excluder3 c a b d c ; excluder3 d a b c d",
@@ -64,6 +67,7 @@ pub const DIFFERENT: [&'static str; 14] = [
     "define different6 a b c d e f = excluder5 a b c d e f a ; excluder5 b a c d e f b ; excluder5 c a b d e f c ; excluder5 d a b c e f d ; excluder5 e a b c d f e ; excluder5 f a b c d e f",
     "define different7 a b c d e f g = excluder6 a b c d e f g a ; excluder6 b a c d e f g b ; excluder6 c a b d e f g c ; excluder6 d a b c e f g d ; excluder6 e a b c d f g e ; excluder6 f a b c d e g f ; excluder6 g a b c d e f g",
     "define different8 a b c d e f g h = excluder7 a b c d e f g h a ; excluder7 b a c d e f g h b ; excluder7 c a b d e f g h c ; excluder7 d a b c e f g h d ; excluder7 e a b c d f g h e ; excluder7 f a b c d e g h f ; excluder7 g a b c d e f h g ; excluder7 h a b c d e f g h",
+    "define different9 a b c d e f g h i = excluder8 b c d e f g h i a by * ; excluder8 a c d e f g h i b by * ; excluder8 a b d e f g h i c by * ; excluder8 a b c e f g h i d by * ; excluder8 a b c d f g h i e by * ; excluder8 a b c d e g h i f by * ; excluder8 a b c d e f h i g by * ; excluder8 a b c d e f g i h by * ; excluder8 a b c d e f g h i by *",
     "define soft_different2 t a b = local a1 like a ; local b1 like b ; gate t a a1 ; gate t b b1 ; different2 a1 b1",
     "define soft_different3 t a b c = local a1 like a ; local b1 like b ; local c1 like c ; gate t a a1 ; gate t b b1 ; gate t c c1 ; different3 a1 b1 c1",
     "define soft_different4 t a b c d = local a1 like a ; local b1 like b ; local c1 like c ; local d1 like d ; gate t a a1 ; gate t b b1 ; gate t c c1 ; gate t d d1 ; different4 a1 b1 c1 d1",
@@ -71,6 +75,7 @@ pub const DIFFERENT: [&'static str; 14] = [
     "define soft_different6 t a b c d e f = local a1 like a ; local b1 like b ; local c1 like c ; local d1 like d ; local e1 like e ; local f1 like f ; gate t a a1 ; gate t b b1 ; gate t c c1 ; gate t d d1 ; gate t e e1 ; gate t f f1 ; different6 a1 b1 c1 d1 e1 f1",
     "define soft_different7 t a b c d e f g = local a1 like a ; local b1 like b ; local c1 like c ; local d1 like d ; local e1 like e ; local f1 like f ; local g1 like g ; gate t a a1 ; gate t b b1 ; gate t c c1 ; gate t d d1 ; gate t e e1 ; gate t f f1 ; gate t g g1 ; different7 a1 b1 c1 d1 e1 f1 g1",
     "define soft_different8 t a b c d e f g h = local a1 like a ; local b1 like b ; local c1 like c ; local d1 like d ; local e1 like e ; local f1 like f ; local g1 like g ; local h1 like h ; gate t a a1 ; gate t b b1 ; gate t c c1 ; gate t d d1 ; gate t e e1 ; gate t f f1 ; gate t g g1 ; gate t h h1 ; different8 a1 b1 c1 d1 e1 f1 g1 h1",
+    "define soft_different9 t a b c d e f g h i = local a1 like a ; local b1 like b ; local c1 like c ; local d1 like d ; local e1 like e ; local f1 like f ; local g1 like g ; local h1 like h ; local i1 like i ; gate t a a1 ; gate t b b1 ; gate t c c1 ; gate t d d1 ; gate t e e1 ; gate t f f1 ; gate t g g1 ; gate t h h1 ; gate t i i1 ; different9 a1 b1 c1 d1 e1 f1 g1 h1 i1 by *",
 ];
 
 /// The lines are those that the specification states.

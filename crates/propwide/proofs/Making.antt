@@ -10,8 +10,6 @@ use Rattle.prop_lattice.specs.declared.info.Info.{Info}
 use Rattle.prop_procedures.specs.declared.both.Both.{Both}
 use Rattle.prop_procedures.specs.declared.both.Both.TheVariants as boths
 use Rattle.prop_procedures.specs.declared.procedure.Procedure.{Procedure}
-use Rattle.prop_procedures.specs.declared.shape.Need.TheVariants as needs
-use Rattle.prop_procedures.specs.declared.shape.Shape.TheVariants.{Any}
 use Rattle.prop_procedures.specs.declared.shape.Need.{Need}
 use Rattle.prop_procedures.specs.declared.shape.Param.{Param}
 use Rattle.prop_procedures.specs.declared.shape.Shape.{Shape}
@@ -35,8 +33,9 @@ use Rattle.prop_wide.specs.laws.WideLaws.{wide_sound}
 use Rattle.prop_wide.proofs.Tables.{all_from}
 use Rattle.prop_hall.specs.declared.excluder.Excluder.{Excluder}
 use Rattle.prop_hall.specs.Excluder.{FormOf as ExcluderForm, in_order as excluders, ins_of, name_of}
+use Rattle.prop_hall.specs.Excluder.{need_of as excluder_need, out_of as excluder_out}
 use Rattle.prop_hall.specs.Excluder.{Related as ExcluderRelated, value_of as excluder_value}
-use Rattle.prop_hall.specs.declared.excluder.Excluder.TheVariants.{One, Two, Three, Four, Five, Six, Seven}
+use Rattle.prop_hall.specs.declared.excluder.Excluder.TheVariants.{One, Two, Three, Four, Five, Six, Seven, Eight}
 use Rattle.prop_hall.specs.laws.ExcluderLaws.{excluder_sound}
 use Rattle.prop_cells.specs.Points.{AreSoundBy}
 use Rattle.prop_program.specs.Answering.{Stock, stocked}
@@ -161,6 +160,7 @@ excluder_made rule = record { some = few.0; few = few.1; formed = (refl, refl, r
     few_of Five = (omega arith, omega arith)
     few_of Six = (omega arith, omega arith)
     few_of Seven = (omega arith, omega arith)
+    few_of Eight = (omega arith, omega arith)
 
     few : (1 ≤ length (ins_of rule)) × (length (ins_of rule) ≤ 8)
     few = few_of rule
@@ -193,7 +193,7 @@ pub wide_shown : {o : Shape} {d : Need} → (n : List ℕ) (i : List Shape) (rul
 wide_shown n i rule o d = rw (o, d) refl
 
 pub excluder_shown : {n : List ℕ} {i : List Shape} {o : Shape} {d : Need} → (rule : Excluder) → n ≡ name_of rule
-    → i ≡ ins_of rule → o ≡ Any 0 → d ≡ needs.Nothing
+    → i ≡ ins_of rule → o ≡ excluder_out rule → d ≡ excluder_need rule
     → made_of n i o d (boths.Two (boths.Two rule)) ≡ of_excluder rule
 excluder_shown rule n i o d = rw (n, i, o, d) refl
 

@@ -5,8 +5,6 @@ use Rattle.prop_lattice.specs.declared.info.Info.{Info}
 use Rattle.prop_procedures.specs.declared.both.Both.{Both}
 use Rattle.prop_procedures.specs.declared.both.Both.TheVariants.{One, Two}
 use Rattle.prop_procedures.specs.declared.shape.Param.{Param}
-use Rattle.prop_procedures.specs.declared.shape.Shape.TheVariants.{Any}
-use Rattle.prop_procedures.specs.declared.shape.Need.TheVariants.{Nothing}
 use Rattle.prop_procedures.specs.Both.{either_of}
 use Rattle.prop_procedures.specs.Forms.{Form, form, library_of, related_in}
 use Rattle.prop_arith.specs.declared.kit.Kit.{Kit}
@@ -22,6 +20,7 @@ use Rattle.prop_wide.specs.Values.{value_of as wide_value}
 use Rattle.prop_wide.specs.Wide.{out_of, need_of}
 use Rattle.prop_hall.specs.declared.excluder.Excluder.{Excluder}
 use Rattle.prop_hall.specs.Excluder.{in_order as excluders, ins_of, name_of}
+use Rattle.prop_hall.specs.Excluder.{need_of as excluder_need, out_of as excluder_out}
 use Rattle.prop_hall.specs.Excluder.{Related as ExcluderRelated, value_of as excluder_value}
 use Rattle.prop_program.specs.Answering.{Stock, stocked}
 use Rattle.propwide.specs.declared.entries.Entry as entries
@@ -58,7 +57,7 @@ of_wide p = record {
 
 abbrev pub of_excluder : Excluder → Made
 of_excluder rule = record {
-  form = form (name_of rule) (ins_of rule) (Any 0) Nothing;
+  form = form (name_of rule) (ins_of rule) (excluder_out rule) (excluder_need rule);
   rule = Two (Two rule);
 }
 
